@@ -115,6 +115,15 @@ takes_node os r t xs n ns f r' t' e o x s l h g w =
     ∙ ap (λ fs. f ∷ fs) (append_assoc (row_flats os r') (records_left os t') (flats os ns)))
     texts.1 h g w
 
+-- the next node, where it is kept by itself
+pub takes_plain : (os : List ℕ) (xs : List Node) (n : Node) (ns : List Node) (f : Flat) → xs ≡ n ∷ ns → seen_nodes os n ≡ f ∷ []
+    → WalkParts os no_row no_records xs → Takes os no_row no_records xs (f ∷ []) no_row no_records ns
+takes_plain os xs n ns f x s w =
+    let texts : HaveOctets os (n ∷ ns) = subst (HaveOctets os) x w.texts in
+    takes os no_row no_records xs (f ∷ []) no_row no_records ns
+    (ap (flats os) x ∙ ap (λ fs. fs ++ flats os ns) s)
+    texts.1 w.row w.records w
+
 -- a walk goes into a row, or into structs
 pub enters_row : (os : List ℕ) (r : KeptRow) (t : RecordsLeft) (n : Node) (row : KeptRow) → n ≡ kept.Row row → r ≡ without_first 1 row → HasOctets os n → records_left os t ≡ []
     → HasRow os r × (row_flats os r ++ records_left os t ≡ after_first os n)

@@ -6,7 +6,7 @@ ghost use Rattle.nd_value.specs.Names.{AreThere};
 ghost use Rattle.nd_flat.specs.Building.{HasHome, home_tree};
 ghost use Rattle.nd_flat.specs.Renumbered.{renumbered_fitting};
 
-use crate::{FlatGraph, Given, Walk};
+use crate::{FlatGraph, Given, PlainWalk, Walk};
 use nd_base::Memory;
 use nd_types::{Side, Tie};
 use nd_value::{Graph, Home};
@@ -82,6 +82,15 @@ impl Fit {
         ensures conforms { IsFit self.now }
     {
         self.graph.walk(home)
+    }
+
+    /// The same walk, as one that gives nodes that are kept one by one. Takes no memory.
+    #[inline(always)]
+    pub fn plain_walk(&self, home: Home) -> PlainWalk<'_>
+        requires there { HasHome self.now.graph home }
+        ensures walk { result ≡ more (home_tree self.now.graph home) none }
+    {
+        self.graph.plain_walk(home)
     }
 
     /// The same with its cells renumbered: `numbers` are the new numbers by the old ones, from 0, and `cells` the old numbers in the

@@ -2,9 +2,9 @@
 ghost use Rattle.std.specs.Prelude.{◌≡◌, ◌<◌, suc, length, slice_get, get_or, IfOk};
 ghost use Rattle.nd_value.specs.Tree.{more, none};
 
-use crate::Walk;
 use crate::node::Node;
 use crate::rebuilt::{cells, roots};
+use crate::{PlainWalk, Walk};
 use nd_base::{Memory, Octets};
 use nd_types::TypeId;
 use nd_value::{Graph, Home};
@@ -77,6 +77,20 @@ impl FlatGraph {
         let span = span_of(self.roots.as_slice(), self.cells.as_slice(), home);
         let nodes = self.nodes.as_slice();
         Walk::over(
+            &nodes[span.from..span.from + span.len],
+            self.octets.as_slice(),
+        )
+    }
+
+    /// The same walk, as one that gives nodes that are kept one by one. Takes no memory.
+    #[inline(always)]
+    pub fn plain_walk(&self, home: Home) -> PlainWalk<'_>
+        requires { HasHome self.now home }
+        ensures { result ≡ more (home_tree self.now home) none }
+    {
+        let span = span_of(self.roots.as_slice(), self.cells.as_slice(), home);
+        let nodes = self.nodes.as_slice();
+        PlainWalk::over(
             &nodes[span.from..span.from + span.len],
             self.octets.as_slice(),
         )

@@ -94,7 +94,6 @@ fresh_search code k g x due s n f same t few = record {
         (let t0 = ap length f.turns in
         let p0 : unmarked s.placed.items ≡ n + 1 = ap unmarked f.placed ∙ all_unmarked (n + 1) in omega (arith, t0, p0, same, few));
     room = ap length f.placed ∙ blanks {X = Bool} false (n + 1) ∙ ap (λ m. m + 1) same;
-    empty = f.names;
     known = f.known code;
   };
 }
@@ -104,7 +103,7 @@ fresh_search code k g x due s n f same t few = record {
 all_done : (code : List Instr) (g : Graph) (stands : List ℕ) (ts : List (Home × ℕ)) (ns : List ℕ) → Turned code g stands [] ts ns → (ts ≡ []) × (ns ≡ [])
 all_done code g stands ts ns none_left = (refl, refl)
 
-pub homes_over : (code : List Instr) (k : ℕ) (g : Graph) (x : Stream) (s : Search) → IsSearched code k g x [] s → s.pending.items ≡ [] → ArePipes code k g x x.pipes s
+pub homes_over : (code : List Instr) (k : ℕ) (g : Graph) (x : Stream) (s : Search) → IsSearched code k g x [] s → s.count.names.items ≡ [] → ArePipes code k g x x.pipes s
 homes_over code k g x s r p =
     let (e, d) = all_done code g r.stands r.rest r.rest_names (subst (λ ps. Turned code g r.stands (cells_due (pending_names ps) ++ []) r.rest r.rest_names) p r.turned) in
     let homes : turn_pairs s.turns.items ≡ x.homes = sym (append-nil (turn_pairs s.turns.items)) ∙ ap (λ l. turn_pairs s.turns.items ++ l) (sym e) ∙ r.turns in

@@ -187,7 +187,6 @@ module _ (p : Plan) (k : ℕ) (f : Fitting) where
                 room =
                     room_left p.code k f.graph (turn_pairs s.turns.items) (turn_pair turn ∷ rest b.stream known) (x.homes ++ x.pipes) s.turns.items s.count.at refl a.turns
                     (all_append (IsCounted p.code k f.graph) x.homes x.pipes b.stream.searchable.homes b.stream.searchable.pipes) a.counted.at (omega (arith, few, c, d));
-                empty = a.counted.empty;
                 known = a.counted.known;
                 names = x.names;
                 numbers = a.numbers;
@@ -213,14 +212,13 @@ module _ (p : Plan) (k : ℕ) (f : Fitting) where
                 numbers =
                     subst (λ ns. IsNumbered (length f.graph.cells) ns new.numbers.items new.named) (ap (λ us. x.names ++ cells_of us) none ∙ append-nil x.names)
                     (t.numbers x.names a.numbers);
-                pending = none_pending new.pending.items (t.pending ∙ ap₂ (λ us vs. us ++ vs) none (ap pending_names a.pending));
+                pending = none_pending new.count.names.items (t.pending ∙ ap₂ (λ us vs. us ++ vs) none (ap pending_names a.pending));
                 counted = record {
                   at =
                       t.at ∙ ap (λ n. pieces_end n (counted_turn p.code k f.graph (turn_pair turn))) a.counted.at
                       ∙ sym (count_more p.code k f.graph s.turns.items new.turns.items turn t.turns);
                   few = omega (arith, one_more, same_marks, few);
                   room = ap length t.placed ∙ a.counted.room;
-                  empty = t.empty;
                   known = t.known;
                 };
               } in

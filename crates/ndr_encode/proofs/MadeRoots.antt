@@ -43,11 +43,11 @@ pub record RootsLeft (p : Plan) (k : ℕ) (f : Fitting) (i : ℕ) (s : Search) (
   pub left : ℕ
   pub all : i + left ≡ before_pipes (root_list (setting f h.operation))
   pub searched : IsSearched p.code k f.graph (stream_of f h.operation h.steps) (root_items (setting f h.operation) i left) s
-  pub pending : s.pending.items ≡ []
+  pub pending : s.count.names.items ≡ []
 
 abbrev pub RootsSoFar : Plan → ℕ → Fitting → Search → ℕ → Search → Type 0
 RootsSoFar p k f old i s =
-    (h : HasStream p k f) → old.pending.items ≡ []
+    (h : HasStream p k f) → old.count.names.items ≡ []
     → IsSearched p.code k f.graph (stream_of f h.operation h.steps) (root_items (setting f h.operation) 0 (before_pipes (root_list (setting f h.operation)))) old
     → RootsLeft p k f i s h
 
@@ -135,7 +135,7 @@ module _ (p : Plan) (k : ℕ) (f : Fitting) (tied : p.tie ≡ f.interface) (firs
             (stream_of f b.stream.operation b.stream.steps, root_items (setting f b.stream.operation) (suc i) (root_here b.stream known).others, b.stream.searchable, searched_mid b.stream known)
 
         -- and the referents after it
-        pub root_went : (new : Search) → StillSearched p.code k f.graph mid new → new.pending.items ≡ [] → RootsSoFar p k f old (i + 1) new
+        pub root_went : (new : Search) → StillSearched p.code k f.graph mid new → new.count.names.items ≡ [] → RootsSoFar p k f old (i + 1) new
         root_went new still over h none searched =
             let l : RootsLeft p k f i s h = so_far h none searched in
             let n : HasNextRoot p f h.operation i l.left at = root_here h l in

@@ -1,7 +1,6 @@
 -- Cells that are numbered one after the other.
-use Rattle.std.proofs.Common.{◌≡◌, ℕ, ◌+◌, ◌<◌, ◌≤◌, zero, suc, List, [], ◌∷◌, ◌++◌, length, refl, ap, sym, ◌∙◌, subst, arith, take, get_or, append_assoc, Option, Some, None}
-use Rattle.std.specs.Prelude.{slice_index_or, IfSome, option_to_list}
-use Rattle.std.proofs.lemmas.List.{length-append}
+use Rattle.std.proofs.Common.{◌≡◌, ℕ, ◌+◌, ◌-◌, ◌<◌, ◌≤◌, zero, suc, List, [], ◌∷◌, ◌++◌, length, refl, ap, sym, ◌∙◌, subst, arith, take, get_or, append_assoc}
+use Rattle.std.specs.Prelude.{slice_index_or, drop, reverse}
 use Rattle.ndr_output.specs.declared.count.Named.{Named}
 use Rattle.ndr_output.specs.Counting.{names_of}
 use Rattle.ndr_turns.specs.Turned.{cells_of}
@@ -36,17 +35,41 @@ numbered_more n names ds i d numbers named l x =
     subst (λ u. IsNumbered n u numbers named)
     (append_assoc names (cells_of (names_of (take i ds))) ((slice_index_or ds i d).cell.0 ∷ []) ∙ ap (λ u. names ++ u) (sym (take_more ds i d l))) x
 
--- the only name, taken away
-pub popped_alone : (old new : List Named) (r : Option Named) → length old ≡ 1 → old ≡ new ++ option_to_list r → IfSome r (λ d. old ≡ d ∷ [])
-popped_alone old new None one e = tt
-popped_alone old [] (Some d) one e = e
-popped_alone old (x ∷ xs) (Some d) one e =
-    let long : length old ≡ suc (length (xs ++ d ∷ [])) = ap length e in
-    let more : length (xs ++ d ∷ []) ≡ length xs + 1 = length-append xs (d ∷ []) in absurd (omega (arith, one, long, more))
+-- a list that is turned around from a place on: no name is after it, or one
+pub turned_none : (xs : List Named) (i : ℕ) → length xs ≡ i → xs ≡ take i xs ++ reverse (drop i xs)
+turned_none [] zero l = refl
+turned_none [] (suc i) l = refl
+turned_none (x ∷ xs) zero l = absurd (omega (arith, l))
+turned_none (x ∷ xs) (suc i) l = ap (λ u. x ∷ u) (turned_none xs i (omega (arith, l)))
 
-pub popped_empty : (old new : List Named) (r : Option Named) → length old ≡ 1 → old ≡ new ++ option_to_list r → IfSome r (λ d. new ≡ [])
-popped_empty old new None one e = tt
-popped_empty old [] (Some d) one e = refl
-popped_empty old (x ∷ xs) (Some d) one e =
-    let long : length old ≡ suc (length (xs ++ d ∷ [])) = ap length e in
-    let more : length (xs ++ d ∷ []) ≡ length xs + 1 = length-append xs (d ∷ []) in absurd (omega (arith, one, long, more))
+pub turned_one : (xs : List Named) (i : ℕ) → length xs ≡ i + 1 → xs ≡ take i xs ++ reverse (drop i xs)
+turned_one [] i l = absurd (omega (arith, l))
+turned_one (x ∷ []) zero l = refl
+turned_one (x ∷ (y ∷ ys)) zero l = absurd (omega (arith, l))
+turned_one (x ∷ xs) (suc i) l = ap (λ u. x ∷ u) (turned_one xs i (omega (arith, l)))
+
+pub none_after : (xs : List Named) (i : ℕ) → length xs ≡ i → drop i xs ≡ []
+none_after [] zero l = refl
+none_after [] (suc i) l = refl
+none_after (x ∷ xs) zero l = absurd (omega (arith, l))
+none_after (x ∷ xs) (suc i) l = none_after xs i (omega (arith, l))
+
+pub one_after : (xs : List Named) (i : ℕ) (d : Named) → length xs ≡ i + 1 → drop i xs ≡ slice_index_or xs i d ∷ []
+one_after [] i d l = absurd (omega (arith, l))
+one_after (x ∷ []) zero d l = refl
+one_after (x ∷ (y ∷ ys)) zero d l = absurd (omega (arith, l))
+one_after (x ∷ xs) (suc i) d l = one_after xs i d (omega (arith, l))
+
+-- all that is after a place
+take_whole : (xs : List Named) → take (length xs) xs ≡ xs
+take_whole [] = refl
+take_whole (x ∷ xs) = ap (λ u. x ∷ u) (take_whole xs)
+
+take_none : (n : ℕ) → take {A = Named} n [] ≡ []
+take_none zero = refl
+take_none (suc n) = refl
+
+pub rest_whole : (xs : List Named) (i : ℕ) → take (length xs - i) (drop i xs) ≡ drop i xs
+rest_whole xs zero = ap (λ n. take n xs) (let e : length xs - 0 ≡ length xs = omega arith in e) ∙ take_whole xs
+rest_whole [] (suc i) = take_none (0 - suc i)
+rest_whole (x ∷ xs) (suc i) = ap (λ n. take n (drop i xs)) (let e : suc (length xs) - suc i ≡ length xs - i = omega arith in e) ∙ rest_whole xs i

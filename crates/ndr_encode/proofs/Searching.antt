@@ -1,7 +1,7 @@
 -- One home more of a search.
 -- `xs` is what is pending, the next first, `u` is the turn of a home.
-use Rattle.std.proofs.Common.{◌≡◌, inl, inr, ℕ, ◌+◌, ◌*◌, ◌^◌, ◌<◌, ◌≤◌, zero, suc, Bool, true, false, List, [], ◌∷◌, ◌++◌, length, Option, Some, None, refl, ap, sym, ◌∙◌, subst, arith, append_assoc, append-nil}
-use Rattle.std.specs.Prelude.{eqb, cond, get_or, set, reverse}
+use Rattle.std.proofs.Common.{◌≡◌, inl, inr, ℕ, ◌+◌, ◌*◌, ◌^◌, ◌<◌, ◌≤◌, zero, suc, Bool, true, false, List, [], ◌∷◌, ◌++◌, length, Option, Some, None, refl, ap, ap₂, sym, ◌∙◌, subst, arith, append_assoc, append-nil}
+use Rattle.std.specs.Prelude.{eqb, cond, get_or, set, take, drop, reverse}
 use Rattle.std.specs.List.{AllByRecursion, slice_get}
 use Rattle.std.proofs.lemmas.Option.{same_Some}
 use Rattle.std.proofs.lemmas.List.{reverse-append, reverse-reverse, length-append}
@@ -38,6 +38,13 @@ use Rattle.ndr_encode.specs.Search.{AreWithin, IsNumbered, unmarked, unplaced, p
 -- the last that was kept is the next
 pub pend_popped : (old new : List Named) (d : Named) → old ≡ new ++ d ∷ [] → pending_names old ≡ (d.cell.0, d.run) ∷ pending_names new
 pend_popped old new d e = ap pending_names e ∙ ap names_of (reverse-append new (d ∷ []))
+
+-- lists with a first item
+first_of : {A : Type 0} (x y : A) (xs ys : List A) → x ∷ xs ≡ y ∷ ys → x ≡ y
+first_of x y xs ys e = ap (λ l. elim l as (λ _. _) [ [] ↦ x | ◌∷◌ z (zs → h) ↦ z ]) e
+
+others_of : {A : Type 0} (x y : A) (xs ys : List A) → x ∷ xs ≡ y ∷ ys → xs ≡ ys
+others_of x y xs ys e = ap (drop 1) e
 
 names_joined : (xs ys : List Named) → names_of (xs ++ ys) ≡ names_of xs ++ names_of ys
 names_joined [] ys = refl
@@ -251,16 +258,15 @@ module _ (code : List Instr) (k : ℕ) (g : Graph) (x : Stream) (y : IsSearchabl
     pub later_names : List ℕ
     pub stands : List ℕ
     pub names : List ℕ
-    pub turned : Turned code g stands (cells_due (run_names code u.start (value_at g u.home)) ++ (cells_due (pending_names s.pending.items) ++ due)) later later_names
+    pub turned : Turned code g stands (cells_due (run_names code u.start (value_at g u.home)) ++ (cells_due (pending_names s.count.names.items) ++ due)) later later_names
     pub turns : turn_pairs s.turns.items ++ (turn_pair u ∷ later) ≡ x.homes
     pub named : names ++ (cells_of (run_names code u.start (value_at g u.home)) ++ later_names) ≡ x.names
     pub numbers : IsNumbered (length g.cells) names s.numbers.items s.named
     pub marks : (c : ℕ) → get_or s.placed.items c false ≡ has stands c
-    pub pending : AreCells g (pending_names s.pending.items)
+    pub pending : AreCells g (pending_names s.count.names.items)
     pub at : s.count.at ≡ pieces_end 0 (counted_turns code k g (turn_pairs s.turns.items))
     pub few : suc (length s.turns.items) + unmarked s.placed.items + (length due + length x.pipes) ≤ length g.roots + length g.cells + 1
     pub room : length s.placed.items ≡ length g.cells + 1
-    pub empty : s.count.names.items ≡ []
     pub known : AreKnown code s.known
 
   module _ (due : List Item) (u : Turn) (s : Search) (r : Ready due u s) where
@@ -282,7 +288,6 @@ module _ (code : List Instr) (k : ℕ) (g : Graph) (x : Stream) (y : IsSearchabl
           few_cells = y.few_cells;
           counted = its_count;
           room = room_left code k g (turn_pairs s.turns.items) (turn_pair u ∷ r.later) x.homes s.turns.items s.count.at refl r.turns y.homes r.at (omega (arith, a, b, d));
-          empty = r.empty;
           known = r.known;
           names = r.names;
           numbers = r.numbers;
@@ -291,10 +296,10 @@ module _ (code : List Instr) (k : ℕ) (g : Graph) (x : Stream) (y : IsSearchabl
     pub ready_after : (new : Search) → IsTaken code k g u s new → IsSearched code k g x due new
     ready_after new t =
         let P : List (ℕ × ℕ) = pieces_names (counted_turn code k g (turn_pair u)) in
-        let Q : List (ℕ × ℕ) = pending_names s.pending.items in
+        let Q : List (ℕ × ℕ) = pending_names s.count.names.items in
         let R : List (ℕ × ℕ) = run_names code u.start (value_at g u.home) in
         let same : P ≡ R = its_names in
-        let items : cells_due (pending_names new.pending.items) ++ due ≡ cells_due R ++ (cells_due Q ++ due) =
+        let items : cells_due (pending_names new.count.names.items) ++ due ≡ cells_due R ++ (cells_due Q ++ due) =
         ap (λ l. cells_due l ++ due) (t.pending ∙ ap (λ l. l ++ Q) same) ∙ ap (λ l. l ++ due) (due_joined R Q) ∙ append_assoc (cells_due R) (cells_due Q) due in
         let one_more : length new.turns.items ≡ suc (length s.turns.items) = ap length t.turns ∙ length-append s.turns.items (u ∷ []) ∙ omega arith in
         let unmarked_same : unmarked new.placed.items ≡ unmarked s.placed.items = ap unmarked t.placed in
@@ -314,34 +319,33 @@ module _ (code : List Instr) (k : ℕ) (g : Graph) (x : Stream) (y : IsSearchabl
             at = t.at ∙ ap (λ n. pieces_end n (counted_turn code k g (turn_pair u))) r.at ∙ sym (count_more code k g s.turns.items new.turns.items u t.turns);
             few = omega (arith, one_more, unmarked_same, a);
             room = ap length t.placed ∙ r.room;
-            empty = t.empty;
             known = t.known;
           };
         }
 
   -- the next pending cell that has no turn yet is ready
   module _ (due : List Item) (old mid : Search) (s : IsSearched code k g x due old) (d : Named)
-      (left : unplaced old.placed.items (pending_names old.pending.items) ≡ (d.cell.0, d.run) ∷ pending_names mid.pending.items)
+      (left : unplaced old.placed.items (pending_names old.count.names.items) ≡ (d.cell.0, d.run) ∷ pending_names mid.count.names.items)
       (placed_is : mid.placed.items ≡ set old.placed.items d.cell.0 true) (turns_same : mid.turns.items ≡ old.turns.items)
       (numbers_same : mid.numbers.items ≡ old.numbers.items) (named_same : mid.named ≡ old.named) (at_same : mid.count.at ≡ old.count.at)
-      (names_same : mid.count.names.items ≡ old.count.names.items) (known : AreKnown code mid.known) where
+      (known : AreKnown code mid.known) where
     abbrev c : ℕ
     c = d.cell.0
 
     Q : List (ℕ × ℕ)
-    Q = pending_names mid.pending.items
+    Q = pending_names mid.count.names.items
 
     no_mark : get_or old.placed.items c false ≡ false
-    no_mark = first_unplaced code g old.placed.items (pending_names old.pending.items) (pending_names mid.pending.items) (c, d.run) left
+    no_mark = first_unplaced code g old.placed.items (pending_names old.count.names.items) (pending_names mid.count.names.items) (c, d.run) left
 
-    cells : AreCells g ((c, d.run) ∷ pending_names mid.pending.items)
-    cells = subst (AreCells g) left (cells_left code g old.placed.items (pending_names old.pending.items) s.pending)
+    cells : AreCells g ((c, d.run) ∷ pending_names mid.count.names.items)
+    cells = subst (AreCells g) left (cells_left code g old.placed.items (pending_names old.count.names.items) s.pending)
 
-    next : CellTurn code g s.stands c d.run (cells_due (pending_names mid.pending.items) ++ due) s.rest s.rest_names
+    next : CellTurn code g s.stands c d.run (cells_due (pending_names mid.count.names.items) ++ due) s.rest s.rest_names
     next =
-        cell_next code g s.stands c d.run (cells_due (pending_names mid.pending.items) ++ due) s.rest s.rest_names (sym (s.marks c) ∙ no_mark)
+        cell_next code g s.stands c d.run (cells_due (pending_names mid.count.names.items) ++ due) s.rest s.rest_names (sym (s.marks c) ∙ no_mark)
         (subst (λ l. Turned code g s.stands (cells_due l ++ due) s.rest s.rest_names) left
-        (passed_over code g old.placed.items s.stands s.marks (pending_names old.pending.items) due s.rest s.rest_names s.turned))
+        (passed_over code g old.placed.items s.stands s.marks (pending_names old.count.names.items) due s.rest s.rest_names s.turned))
 
     in_room : c < length old.placed.items
     in_room = let a = cells.0.1 in let b : length old.placed.items ≡ length g.cells + 1 = s.counted.room in omega (arith, a, b)
@@ -366,7 +370,6 @@ module _ (code : List Instr) (k : ℕ) (g : Graph) (x : Stream) (y : IsSearchabl
           at = at_same ∙ s.counted.at ∙ sym (ap (λ ts. pieces_end 0 (counted_turns code k g (turn_pairs ts))) turns_same);
           few = omega (arith, fewer, marked, l, a);
           room = ap length placed_is ∙ set_room old.placed.items c ∙ s.counted.room;
-          empty = names_same ∙ s.counted.empty;
           known = known;
         }
 
@@ -377,10 +380,10 @@ module _ (code : List Instr) (k : ℕ) (g : Graph) (x : Stream) (y : IsSearchabl
         omega (arith, fewer, marked)
 
   -- nothing that is pending is left to take a turn
-  pub none_left_pending : (due : List Item) (old new : Search) → IsSearched code k g x due old → unplaced old.placed.items (pending_names old.pending.items) ≡ [] → new.pending.items ≡ []
-      → new.turns ≡ old.turns → new.numbers ≡ old.numbers → new.named ≡ old.named → new.placed ≡ old.placed → new.count ≡ old.count → AreKnown code new.known → IsSearched code k g x due new
-  none_left_pending due old new s none empty turns_same numbers_same named_same placed_same count_same known =
-      let no_names : pending_names new.pending.items ≡ [] = ap pending_names empty in
+  pub none_left_pending : (due : List Item) (old new : Search) → IsSearched code k g x due old → unplaced old.placed.items (pending_names old.count.names.items) ≡ [] → new.count.names.items ≡ []
+      → new.turns ≡ old.turns → new.numbers ≡ old.numbers → new.named ≡ old.named → new.placed ≡ old.placed → new.count.at ≡ old.count.at → AreKnown code new.known → IsSearched code k g x due new
+  none_left_pending due old new s none empty turns_same numbers_same named_same placed_same at_same known =
+      let no_names : pending_names new.count.names.items ≡ [] = ap pending_names empty in
       record {
         rest = s.rest;
         rest_names = s.rest_names;
@@ -388,7 +391,7 @@ module _ (code : List Instr) (k : ℕ) (g : Graph) (x : Stream) (y : IsSearchabl
         names = s.names;
         turned =
             subst (λ l. Turned code g s.stands (cells_due l ++ due) s.rest s.rest_names) (none ∙ sym no_names)
-            (passed_over code g old.placed.items s.stands s.marks (pending_names old.pending.items) due s.rest s.rest_names s.turned);
+            (passed_over code g old.placed.items s.stands s.marks (pending_names old.count.names.items) due s.rest s.rest_names s.turned);
         turns = ap (λ ts. turn_pairs ts.items ++ s.rest) turns_same ∙ s.turns;
         named = s.named;
         numbers = subst (λ v. IsNumbered (length g.cells) s.names new.numbers.items v) (sym named_same) (subst (λ v. IsNumbered (length g.cells) s.names v.items old.named) (sym numbers_same) s.numbers);
@@ -399,19 +402,18 @@ module _ (code : List Instr) (k : ℕ) (g : Graph) (x : Stream) (y : IsSearchabl
             let a : length new.turns.items ≡ length old.turns.items = ap (λ ts. length ts.items) turns_same in
             let b : unmarked new.placed.items ≡ unmarked old.placed.items = ap (λ bs. unmarked bs.items) placed_same in
             record {
-              at = ap (λ q. q.at) count_same ∙ s.counted.at ∙ sym (ap (λ ts. pieces_end 0 (counted_turns code k g (turn_pairs ts.items))) turns_same);
+              at = at_same ∙ s.counted.at ∙ sym (ap (λ ts. pieces_end 0 (counted_turns code k g (turn_pairs ts.items))) turns_same);
               few = omega (arith, few, a, b);
               room = ap (λ bs. length bs.items) placed_same ∙ s.counted.room;
-              empty = ap (λ q. q.names.items) count_same ∙ s.counted.empty;
               known = known;
             };
       }
 
   -- a root is ready
-  pub root_ready : (i a : ℕ) (due : List Item) (old : Search) → IsSearched code k g x (root_due i a ∷ due) old → old.pending.items ≡ []
+  pub root_ready : (i a : ℕ) (due : List Item) (old : Search) → IsSearched code k g x (root_due i a ∷ due) old → old.count.names.items ≡ []
       → Ready due (record { home = home.Root i; start = a }) old
   root_ready i a due old s none =
-      let empty : pending_names old.pending.items ≡ [] = ap pending_names none in
+      let empty : pending_names old.count.names.items ≡ [] = ap pending_names none in
       let next : RootTurn code g s.stands i a due s.rest s.rest_names =
       root_next code g s.stands i a due s.rest s.rest_names (subst (λ l. Turned code g s.stands (cells_due l ++ (root_due i a ∷ due)) s.rest s.rest_names) empty s.turned) in
       let b = s.counted.few in
@@ -429,13 +431,12 @@ module _ (code : List Instr) (k : ℕ) (g : Graph) (x : Stream) (y : IsSearchabl
         at = s.counted.at;
         few = omega (arith, b);
         room = s.counted.room;
-        empty = s.counted.empty;
         known = s.counted.known;
       }
 
   -- the referent of a root in its place is ready
-  module _ (i a : ℕ) (due : List Item) (old : Search) (s : IsSearched code k g x (direct_due i a ∷ due) old) (none : old.pending.items ≡ []) where
-    pub no_names : pending_names old.pending.items ≡ []
+  module _ (i a : ℕ) (due : List Item) (old : Search) (s : IsSearched code k g x (direct_due i a ∷ due) old) (none : old.count.names.items ≡ []) where
+    pub no_names : pending_names old.count.names.items ≡ []
     no_names = ap pending_names none
 
     abbrev pub direct : DirectTurn code g s.stands i a due s.rest s.rest_names
@@ -454,11 +455,11 @@ module _ (code : List Instr) (k : ℕ) (g : Graph) (x : Stream) (y : IsSearchabl
     pub direct_within : (0 < direct.cell) × (direct.cell ≤ length g.cells)
     direct_within = (all_right (IsCounted code k g) (turn_pairs old.turns.items) (D ∷ direct.later) (subst (AllByRecursion (IsCounted code k g)) (sym direct_here) y.homes)).0.there
 
-    pub direct_ready : (mid : Search) (cell : CellId) → cell.0 ≡ direct.cell → mid.placed.items ≡ set old.placed.items cell.0 true → mid.turns.items ≡ old.turns.items → mid.pending.items ≡ old.pending.items
-        → mid.count.at ≡ old.count.at → mid.count.names.items ≡ old.count.names.items → AreKnown code mid.known
+    pub direct_ready : (mid : Search) (cell : CellId) → cell.0 ≡ direct.cell → mid.placed.items ≡ set old.placed.items cell.0 true → mid.turns.items ≡ old.turns.items → mid.count.names.items ≡ old.count.names.items
+        → mid.count.at ≡ old.count.at → AreKnown code mid.known
         → ((names : List ℕ) → IsNumbered (length g.cells) names old.numbers.items old.named → IsNumbered (length g.cells) (names ++ cell.0 ∷ []) mid.numbers.items mid.named)
         → Ready due (record { home = home.Cell cell; start = a }) mid
-    direct_ready mid cell is placed_is turns_same pending_same at_same names_same known numbers =
+    direct_ready mid cell is placed_is turns_same pending_same at_same known numbers =
         let c : ℕ = cell.0 in
         let room : length old.placed.items ≡ length g.cells + 1 = s.counted.room in
         let within = direct_within.1 in
@@ -469,7 +470,7 @@ module _ (code : List Instr) (k : ℕ) (g : Graph) (x : Stream) (y : IsSearchabl
         let marked : unmarked mid.placed.items ≡ unmarked (set old.placed.items c true) = ap unmarked placed_is in
         let l : length mid.turns.items ≡ length old.turns.items = ap length turns_same in
         let b = s.counted.few in
-        let empty : pending_names mid.pending.items ≡ [] = ap pending_names pending_same ∙ no_names in
+        let empty : pending_names mid.count.names.items ≡ [] = ap pending_names pending_same ∙ no_names in
         record {
           later = direct.later;
           later_names = direct.names;
@@ -490,7 +491,6 @@ module _ (code : List Instr) (k : ℕ) (g : Graph) (x : Stream) (y : IsSearchabl
           at = at_same ∙ s.counted.at ∙ sym (ap (λ ts. pieces_end 0 (counted_turns code k g (turn_pairs ts))) turns_same);
           few = omega (arith, fewer, marked, l, b);
           room = ap length placed_is ∙ set_room old.placed.items c ∙ room;
-          empty = names_same ∙ s.counted.empty;
           known = known;
         }
 
@@ -522,9 +522,46 @@ unplaced_room code g marks xs ys y e a h = first_within (length marks) (unplaced
 
 -- ## What was counted
 
-pub counted_names : (at end : ℕ) (old new : List Named) (ps : List Piece) → count_whole end (names_of new) [] ≡ count_whole at (names_of old) (ps ++ []) → old ≡ [] → names_of new ≡ pieces_names ps
-counted_names at end old new ps e none =
-    sym (append-nil (names_of new)) ∙ ap (λ w. w.names) e ∙ ap (λ l. names_of l ++ pieces_names (ps ++ [])) none ∙ ap pieces_names (append-nil ps)
+pub counted_names : (at end : ℕ) (old new : List Named) (ps : List Piece) → count_whole end (names_of new) [] ≡ count_whole at (names_of old) (ps ++ [])
+    → names_of new ≡ names_of old ++ pieces_names ps
+counted_names at end old new ps e = sym (append-nil (names_of new)) ∙ ap (λ w. w.names) e ∙ ap (λ l. names_of old ++ pieces_names l) (append-nil ps)
+
+-- those that were named before, n of them, and those that were added
+named_before : (old new : List Named) (added : List (ℕ × ℕ)) → names_of new ≡ names_of old ++ added → names_of (take (length old) new) ≡ names_of old
+named_before [] new added e = refl
+named_before (x ∷ xs) [] added e = cc
+named_before (x ∷ xs) (y ∷ ys) added e = ap₂ (λ u us. u ∷ us) (first_of _ _ _ _ e) (named_before xs ys added (others_of _ _ _ _ e))
+
+named_after : (old new : List Named) (added : List (ℕ × ℕ)) → names_of new ≡ names_of old ++ added → names_of (drop (length old) new) ≡ added
+named_after [] new added e = e
+named_after (x ∷ xs) [] added e = cc
+named_after (x ∷ xs) (y ∷ ys) added e = named_after xs ys added (others_of _ _ _ _ e)
+
+not_fewer : (old new : List Named) (added : List (ℕ × ℕ)) → names_of new ≡ names_of old ++ added → length old ≤ length new
+not_fewer [] new added e = omega arith
+not_fewer (x ∷ xs) [] added e = cc
+not_fewer (x ∷ xs) (y ∷ ys) added e = let h = not_fewer xs ys added (others_of _ _ _ _ e) in omega (arith, h)
+
+pub named_added : (n : ℕ) (old new : List Named) (added : List (ℕ × ℕ)) → n ≡ length old → names_of new ≡ names_of old ++ added → names_of (drop n new) ≡ added
+named_added n old new added l e = ap (λ m. names_of (drop m new)) l ∙ named_after old new added e
+
+pub named_room : (n : ℕ) (old new : List Named) (added : List (ℕ × ℕ)) → n ≡ length old → names_of new ≡ names_of old ++ added → n ≤ length new
+named_room n old new added l e = let h = not_fewer old new added e in omega (arith, l, h)
+
+same_pending : (xs ys : List Named) → names_of xs ≡ names_of ys → pending_names xs ≡ pending_names ys
+same_pending [] [] e = refl
+same_pending [] (y ∷ ys) e = cc
+same_pending (x ∷ xs) [] e = cc
+same_pending (x ∷ xs) (y ∷ ys) e =
+    ap names_of (reverse-append (x ∷ []) xs) ∙ names_joined (reverse xs) (x ∷ []) ∙ ap₂ (λ us u. us ++ u ∷ []) (same_pending xs ys (others_of _ _ _ _ e)) (first_of _ _ _ _ e)
+    ∙ sym (ap names_of (reverse-append (y ∷ []) ys) ∙ names_joined (reverse ys) (y ∷ []))
+
+-- what was added is pending before the others, the first one last
+pub pend_turned : (n : ℕ) (old mid new : List Named) (added : List (ℕ × ℕ)) → n ≡ length old → names_of mid ≡ names_of old ++ added → new ≡ take n mid ++ reverse (drop n mid)
+    → pending_names new ≡ added ++ pending_names old
+pend_turned n old mid new added l e h =
+    pend_more (take n mid) new (drop n mid) h
+    ∙ ap₂ (λ us vs. us ++ vs) (named_added n old mid added l e) (ap (λ m. pending_names (take m mid)) l ∙ same_pending (take (length old) mid) old (named_before old mid added e))
 
 pub counted_end : (at end : ℕ) (old new : List Named) (ps : List Piece) → count_whole end (names_of new) [] ≡ count_whole at (names_of old) (ps ++ []) → end ≡ pieces_end at ps
 counted_end at end old new ps e = ap (λ w. w.end) e ∙ ap (pieces_end at) (append-nil ps)

@@ -70,7 +70,6 @@ pub record AreCounted (code : List Instr) (k : ℕ) (g : Graph) (left : ℕ) (s 
   pub at : s.count.at ≡ pieces_end 0 (counted_turns code k g (turn_pairs s.turns.items))
   pub few : length s.turns.items + unmarked s.placed.items + left ≤ length g.roots + length g.cells + 1
   pub room : length s.placed.items ≡ length g.cells + 1
-  pub empty : s.count.names.items ≡ []
   pub known : AreKnown code s.known
 
 -- Some homes have had their turn, and the others have theirs by what is pending and then due.
@@ -79,19 +78,19 @@ pub record IsSearched (code : List Instr) (k : ℕ) (g : Graph) (x : Stream) (du
   pub rest_names : List ℕ
   pub stands : List ℕ
   pub names : List ℕ
-  pub turned : Turned code g stands (cells_due (pending_names s.pending.items) ++ due) rest rest_names
+  pub turned : Turned code g stands (cells_due (pending_names s.count.names.items) ++ due) rest rest_names
   pub turns : turn_pairs s.turns.items ++ rest ≡ x.homes
   pub named : names ++ rest_names ≡ x.names
   pub numbers : IsNumbered (length g.cells) names s.numbers.items s.named
   pub marks : (c : ℕ) → get_or s.placed.items c false ≡ has stands c
-  pub pending : AreCells g (pending_names s.pending.items)
+  pub pending : AreCells g (pending_names s.count.names.items)
   pub counted : AreCounted code k g (length due + length x.pipes) s
 
 -- All homes before the pipes have had their turn, and some pipes.
 pub record ArePipes (code : List Instr) (k : ℕ) (g : Graph) (x : Stream) (rest : List (Home × ℕ)) (s : Search) : Type 0 where
   pub turns : turn_pairs s.turns.items ++ rest ≡ x.homes ++ x.pipes
   pub numbers : IsNumbered (length g.cells) x.names s.numbers.items s.named
-  pub pending : s.pending.items ≡ []
+  pub pending : s.count.names.items ≡ []
   pub counted : AreCounted code k g (length rest) s
 
 -- a home took its turn
@@ -99,9 +98,8 @@ pub record IsTaken (code : List Instr) (k : ℕ) (g : Graph) (turn : Turn) (old 
   pub turns : new.turns.items ≡ old.turns.items ++ turn ∷ []
   pub placed : new.placed.items ≡ old.placed.items
   pub at : new.count.at ≡ pieces_end old.count.at (counted_turn code k g (turn_pair turn))
-  pub empty : new.count.names.items ≡ []
   pub known : AreKnown code new.known
-  pub pending : pending_names new.pending.items ≡ pieces_names (counted_turn code k g (turn_pair turn)) ++ pending_names old.pending.items
+  pub pending : pending_names new.count.names.items ≡ pieces_names (counted_turn code k g (turn_pair turn)) ++ pending_names old.count.names.items
   pub numbers : (names : List ℕ) → IsNumbered (length g.cells) names old.numbers.items old.named
       → IsNumbered (length g.cells) (names ++ cells_of (pieces_names (counted_turn code k g (turn_pair turn)))) new.numbers.items new.named
 
@@ -110,7 +108,6 @@ pub record CanTake (code : List Instr) (k : ℕ) (g : Graph) (turn : Turn) (s : 
   pub few_cells : length g.cells < 2 ^ 32
   pub counted : IsCounted code k g (turn_pair turn)
   pub room : s.count.at + 2 ^ 67 < 2 ^ 128
-  pub empty : s.count.names.items ≡ []
   pub known : AreKnown code s.known
   pub names : List ℕ
   pub numbers : IsNumbered (length g.cells) names s.numbers.items s.named
@@ -121,9 +118,8 @@ pub record IsFresh (n : ℕ) (s : Search) : Type 0 where
   pub numbers : s.numbers.items ≡ replicate (n + 1) 0
   pub named : s.named ≡ 0
   pub placed : s.placed.items ≡ replicate (n + 1) false
-  pub pending : s.pending.items ≡ []
+  pub pending : s.count.names.items ≡ []
   pub at : s.count.at ≡ 0
-  pub names : s.count.names.items ≡ []
   pub known : (code : List Instr) → AreKnown code s.known
 
 -- a search for some stream has come so far, and some items are due
@@ -159,12 +155,12 @@ pub record CanItem (code : List Instr) (k : ℕ) (g : Graph) (item : Item) (s : 
   pub due : List Item
   pub searchable : IsSearchable code k g stream
   pub searched : IsSearched code k g stream (item ∷ due) s
-  pub pending : s.pending.items ≡ []
+  pub pending : s.count.names.items ≡ []
 
 -- it took its turn
 abbrev pub ItemTaken : List Instr → ℕ → Graph → Item → Search → Search → Type 0
 ItemTaken code k g item old new =
-    (x : Stream) (due : List Item) → IsSearchable code k g x → old.pending.items ≡ [] → IsSearched code k g x (item ∷ due) old → IsSearched code k g x due new
+    (x : Stream) (due : List Item) → IsSearchable code k g x → old.count.names.items ≡ [] → IsSearched code k g x (item ∷ due) old → IsSearched code k g x due new
 
 -- a root is next, and nothing is pending
 pub record CanRoot (code : List Instr) (k : ℕ) (g : Graph) (i : ℕ) (first : Option Instr) (s : Search) : Type 0 where
@@ -174,9 +170,9 @@ pub record CanRoot (code : List Instr) (k : ℕ) (g : Graph) (i : ℕ) (first : 
   pub is_item : root_by i first ≡ item ∷ []
   pub searchable : IsSearchable code k g stream
   pub searched : IsSearched code k g stream (item ∷ due) s
-  pub pending : s.pending.items ≡ []
+  pub pending : s.count.names.items ≡ []
 
 -- it took its turn
 abbrev pub RootTaken : List Instr → ℕ → Graph → ℕ → Option Instr → Search → Search → Type 0
 RootTaken code k g i first old new =
-    (x : Stream) (due : List Item) (item : Item) → root_by i first ≡ item ∷ [] → IsSearchable code k g x → old.pending.items ≡ [] → IsSearched code k g x (item ∷ due) old → IsSearched code k g x due new
+    (x : Stream) (due : List Item) (item : Item) → root_by i first ≡ item ∷ [] → IsSearchable code k g x → old.count.names.items ≡ [] → IsSearched code k g x (item ∷ due) old → IsSearched code k g x due new

@@ -1,10 +1,9 @@
 // The numbers of cells in the order in which they are named.
-ghost use Rattle.std.specs.Prelude.{◌≡◌, ℕ, ◌+◌, ◌<◌, ◌≤◌, ◌^◌, List, [], ◌∷◌, ◌++◌, reverse, OnOk, IfSome, IfNone};
+ghost use Rattle.std.specs.Prelude.{◌≡◌, ℕ, ◌+◌, ◌<◌, ◌≤◌, ◌^◌, List, [], ◌∷◌, ◌++◌, length, take, drop, reverse};
 ghost use Rattle.ndr_output.specs.Counting.{names_of};
 ghost use Rattle.ndr_turns.specs.Turned.{cells_of};
 ghost use Rattle.ndr_encode.specs.Search.{IsNumbered, AreWithin};
 
-use nd_base::{Memory, push};
 use nd_value::CellId;
 use ndr_output::Named;
 
@@ -34,76 +33,56 @@ fn number_all(cells: &[Named], numbers: &mut Vec<u32>, named: &mut u32)
     }
 }
 
-// What was named is pending, the first one last.
+// The names from a place on are turned around: the first one is the last.
 #[inline(always)]
-fn make_pending(names: &mut Vec<Named>, pending: &mut Vec<Named>) -> Result<(), Memory>
-    ensures names { OnOk result (names.new.items ≡ []) }
-    ensures pending { OnOk result (pending.new.items ≡ pending.old.items ++ reverse names.old.items) }
+fn turn_around(before: usize, names: &mut Vec<Named>)
+    requires { before ≤ length names.old.items }
+    ensures { names.new.items ≡ take before names.old.items ++ reverse (drop before names.old.items) }
 {
-    while let Some(named) = names.pop() {
-        let Ok(()) = push(pending, named) else {
-            return Err(Memory);
-        };
+    names.as_mut_slice()[before..].reverse();
+}
+
+// Any names from a place on have the next numbers, each cell unless it has one, and are turned around.
+#[inline(never)]
+fn settle_all(before: usize, names: &mut Vec<Named>, numbers: &mut Vec<u32>, named: &mut u32)
+    requires within { before ≤ length names.old.items }
+    requires cells { (n : ℕ) × (ns : List ℕ) × (n < 2 ^ 32) × AreWithin n (cells_of (names_of (drop before names.old.items))) × IsNumbered n ns numbers.old.items named.old }
+    ensures names { names.new.items ≡ take before names.old.items ++ reverse (drop before names.old.items) }
+    ensures numbers { (n : ℕ) (ns : List ℕ) → AreWithin n (cells_of (names_of (drop before names.old.items))) → IsNumbered n ns numbers.old.items named.old
+        → IsNumbered n (ns ++ cells_of (names_of (drop before names.old.items))) numbers.new.items named.new }
+{
+    number_all(&names.as_slice()[before..], numbers, named);
+    turn_around(before, names);
+}
+
+// The only name from a place on.
+#[inline(always)]
+fn settle_one(before: usize, names: &Vec<Named>, numbers: &mut Vec<u32>, named: &mut u32)
+    requires one { length names.now.items ≡ before + 1 }
+    requires cells { (n : ℕ) × (ns : List ℕ) × (n < 2 ^ 32) × AreWithin n (cells_of (names_of (drop before names.now.items))) × IsNumbered n ns numbers.old.items named.old }
+    ensures numbers { (n : ℕ) (ns : List ℕ) → AreWithin n (cells_of (names_of (drop before names.now.items))) → IsNumbered n ns numbers.old.items named.old
+        → IsNumbered n (ns ++ cells_of (names_of (drop before names.now.items))) numbers.new.items named.new }
+{
+    number(names[before].cell, numbers, named);
+}
+
+// The names from a place on have the next numbers, each cell unless it has one, and are pending: they are turned around, the first one last. There is a way of its own for one
+// name, as many homes have.
+#[inline(always)]
+pub(crate) fn settle(before: usize, names: &mut Vec<Named>, numbers: &mut Vec<u32>, named: &mut u32)
+    requires within { before ≤ length names.old.items }
+    requires cells { (n : ℕ) × (ns : List ℕ) × (n < 2 ^ 32) × AreWithin n (cells_of (names_of (drop before names.old.items))) × IsNumbered n ns numbers.old.items named.old }
+    ensures names { names.new.items ≡ take before names.old.items ++ reverse (drop before names.old.items) }
+    ensures numbers { (n : ℕ) (ns : List ℕ) → AreWithin n (cells_of (names_of (drop before names.old.items))) → IsNumbered n ns numbers.old.items named.old
+        → IsNumbered n (ns ++ cells_of (names_of (drop before names.old.items))) numbers.new.items named.new }
+{
+    let added = names.len() - before;
+    if added == 0 {
+        return;
     }
-    Ok(())
-}
-
-// Any names have the next numbers, each cell unless it has one, and are pending, the first one last.
-#[inline(always)]
-fn settle_all(
-    names: &mut Vec<Named>,
-    numbers: &mut Vec<u32>,
-    named: &mut u32,
-    pending: &mut Vec<Named>,
-) -> Result<(), Memory>
-    requires { (n : ℕ) × (ns : List ℕ) × (n < 2 ^ 32) × AreWithin n (cells_of (names_of names.old.items)) × IsNumbered n ns numbers.old.items named.old }
-    ensures names { OnOk result (names.new.items ≡ []) }
-    ensures pending { OnOk result (pending.new.items ≡ pending.old.items ++ reverse names.old.items) }
-    ensures numbers { OnOk result ((n : ℕ) (ns : List ℕ) → AreWithin n (cells_of (names_of names.old.items)) → IsNumbered n ns numbers.old.items named.old
-        → IsNumbered n (ns ++ cells_of (names_of names.old.items)) numbers.new.items named.new) }
-{
-    number_all(names.as_slice(), numbers, named);
-    make_pending(names, pending)?;
-    Ok(())
-}
-
-// The only name, taken away, if there is one alone.
-#[inline(always)]
-fn only_name(names: &mut Vec<Named>) -> Option<Named>
-    ensures one { IfSome result (λ d. names.old.items ≡ d ∷ []) }
-    ensures taken { IfSome result (λ d. names.new.items ≡ []) }
-    ensures stays { IfNone result (names.new ≡ names.old) }
-{
-    if names.len() != 1 {
-        return None;
+    if added == 1 {
+        settle_one(before, names, numbers, named);
+        return;
     }
-    let Some(one) = names.pop() else {
-        unreachable!()
-    };
-    Some(one)
-}
-
-// The same, with a way of its own for one name, as many homes have.
-#[inline(always)]
-pub(crate) fn settle(
-    names: &mut Vec<Named>,
-    numbers: &mut Vec<u32>,
-    named: &mut u32,
-    pending: &mut Vec<Named>,
-) -> Result<(), Memory>
-    requires { (n : ℕ) × (ns : List ℕ) × (n < 2 ^ 32) × AreWithin n (cells_of (names_of names.old.items)) × IsNumbered n ns numbers.old.items named.old }
-    ensures names { OnOk result (names.new.items ≡ []) }
-    ensures pending { OnOk result (pending.new.items ≡ pending.old.items ++ reverse names.old.items) }
-    ensures numbers { OnOk result ((n : ℕ) (ns : List ℕ) → AreWithin n (cells_of (names_of names.old.items)) → IsNumbered n ns numbers.old.items named.old
-        → IsNumbered n (ns ++ cells_of (names_of names.old.items)) numbers.new.items named.new) }
-{
-    let Some(one) = only_name(names) else {
-        settle_all(names, numbers, named, pending)?;
-        return Ok(());
-    };
-    number(one.cell, numbers, named);
-    let Ok(()) = push(pending, one) else {
-        return Err(Memory);
-    };
-    Ok(())
+    settle_all(before, names, numbers, named);
 }

@@ -19,15 +19,14 @@ use ndr_structs::Known;
 use ndr_written::Frames;
 use std::alloc::Global;
 
-// How far the search has come: the turns so far, the numbers of the cells that are named and how many these are, the cells that have their turn, and the referents that are
-// pending, the next one last.
+// How far the search has come: the turns so far, the numbers of the cells that are named and how many these are, the cells that have their turn, and the octets so far. The
+// names that are kept with these are the referents that are pending, the next one last.
 #[derive(Drop)]
 pub(crate) struct Search {
     pub(crate) turns: Vec<Turn>,
     pub(crate) numbers: Vec<u32>,
     pub(crate) named: u32,
     pub(crate) placed: Vec<bool>,
-    pub(crate) pending: Vec<Named>,
     pub(crate) known: Known,
     pub(crate) frames: Frames,
     pub(crate) count: Count,
@@ -43,7 +42,6 @@ pub(crate) fn begin(alloc: Global, cells: usize, roots: usize) -> Result<Search,
         numbers: vec![in alloc; 0; cells + 1]?,
         named: 0,
         placed: vec![in alloc; false; cells + 1]?,
-        pending: Vec::new(alloc),
         known: Known::new(),
         frames: Frames::new(),
         count: Count {
@@ -68,6 +66,7 @@ pub(crate) fn take_turn(
     let Ok(()) = push(&mut search.turns, turn) else {
         return Err(Memory);
     };
+    let before = search.count.names.len();
     write_home(
         code,
         0,
@@ -79,11 +78,11 @@ pub(crate) fn take_turn(
         &mut search.count,
     )?;
     settle(
+        before,
         &mut search.count.names,
         &mut search.numbers,
         &mut search.named,
-        &mut search.pending,
-    )?;
+    );
     Ok(())
 }
 
@@ -118,9 +117,9 @@ fn next_referent(search: &mut Search, code: &[Instr], chunk: u32, fit: &Fit) -> 
     requires { CanSearch code.now chunk fit.now.graph search.old }
     ensures searched { OnOk result (StillSearched code.now chunk fit.now.graph search.old search.new) }
     ensures more { IfOk result (λ more. more ≡ true → unmarked search.new.placed.items < unmarked search.old.placed.items) }
-    ensures over { IfOk result (λ more. more ≡ false → (search.new.pending.items ≡ []) × (unmarked search.new.placed.items ≤ unmarked search.old.placed.items)) }
+    ensures over { IfOk result (λ more. more ≡ false → (search.new.count.names.items ≡ []) × (unmarked search.new.placed.items ≤ unmarked search.old.placed.items)) }
 {
-    let Some(named) = next_unplaced(search.placed.as_slice(), &mut search.pending) else {
+    let Some(named) = next_unplaced(search.placed.as_slice(), &mut search.count.names) else {
         return Ok(false);
     };
     mark(named.cell, &mut search.placed);
@@ -141,7 +140,7 @@ pub(crate) fn referents(
 ) -> Result<(), Memory>
     requires { CanSearch code.now chunk fit.now.graph search.old }
     ensures searched { OnOk result (StillSearched code.now chunk fit.now.graph search.old search.new) }
-    ensures over { OnOk result (search.new.pending.items ≡ []) }
+    ensures over { OnOk result (search.new.count.names.items ≡ []) }
 {
     let mut more = true;
     while more {

@@ -19,7 +19,7 @@ use ndr_code::Instr;
 use ndr_elements::write_array;
 use ndr_output::Output;
 use ndr_structs::Known;
-use ndr_writer::{Run, write_run, write_struct};
+use ndr_writer::{Run, write_plain_struct, write_run, write_struct};
 use ndr_written::Frames;
 
 /// Writes a home by its run, with a maximum count before it where the run begins with one. `chunk` is the greatest count of a chunk, and `known` what is known of runs of the same
@@ -64,7 +64,7 @@ fn write_known<O: Output>(turn: Turn, fit: &Fit, known: &Known, out: &mut O) -> 
     let Some(of) = known.struct_at(turn.start) else {
         return Ok(false);
     };
-    write_struct(of, &mut fit.walk(turn.home), out)?;
+    write_plain_struct(of, fit.plain_walk(turn.home), out)?;
     Ok(true)
 }
 

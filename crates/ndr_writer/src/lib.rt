@@ -5,8 +5,10 @@ mod arrays;
 mod lookups;
 mod nodes;
 mod numbers;
+mod plain;
 mod structs;
 mod writing;
 
+pub use plain::write_plain_struct;
 pub use structs::write_struct;
 pub use writing::{Run, write_run};

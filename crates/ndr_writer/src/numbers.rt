@@ -36,7 +36,7 @@ fn write_octet<O: Output>(prim: Prim, value: i128, out: &mut O)
 
 // A number with its gap. The widths are told apart first, so that each has code of its own.
 #[inline(always)]
-fn write_number<O: Output>(prim: Prim, value: i128, out: &mut O)
+pub(crate) fn write_number<O: Output>(prim: Prim, value: i128, out: &mut O)
     requires { (qs : List Piece) × Able O.can out.old (number_pieces prim value ++ qs) }
     ensures { (qs : List Piece) → Moves O.can O.whole out.old out.new (number_pieces prim value ++ qs) qs }
 {

@@ -28,7 +28,7 @@ fn write_other_align<O: Output>(to: u8, out: &mut O)
 
 // The gap before a struct.
 #[inline(always)]
-fn write_align<O: Output>(to: u8, out: &mut O)
+pub(crate) fn write_align<O: Output>(to: u8, out: &mut O)
     requires { (qs : List Piece) × Able O.can out.old (gap_pieces to ++ qs) }
     ensures { (qs : List Piece) → Moves O.can O.whole out.old out.new (gap_pieces to ++ qs) qs }
 {
@@ -62,7 +62,7 @@ fn write_member<O: Output>(member: &Member, walk: &mut Walk<'_>, out: &mut O) ->
 
 // The next nodes as members.
 #[inline(always)]
-fn write_members<O: Output>(
+pub(crate) fn write_members<O: Output>(
     members: &[Member],
     walk: &mut Walk<'_>,
     out: &mut O,

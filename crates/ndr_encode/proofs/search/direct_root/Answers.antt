@@ -42,7 +42,7 @@ take_turn-requires c =
     let e = cell_found c.direct_cell.result c.in-Some.cell _ _ c.in-Some.is c.direct_cell.ensures (direct_named c.args.code.now c.args.chunk g r.stream r.searchable c.args.root c.args.run r.due old r.searched r.pending) in
     let (low, high) = direct_within c.args.code.now c.args.chunk g r.stream r.searchable c.args.root c.args.run r.due old r.searched r.pending in
     ready_can c.args.code.now c.args.chunk g r.stream r.searchable r.due _ _
-    (direct_ready c.args.code.now c.args.chunk g r.stream r.searchable c.args.root c.args.run r.due old r.searched r.pending _ c.in-Some.cell e c.mark.ensures refl refl refl refl r.searched.counted.known
+    (direct_ready c.args.code.now c.args.chunk g r.stream r.searchable c.args.root c.args.run r.due old r.searched r.pending _ c.in-Some.cell e c.mark.ensures refl refl refl r.searched.counted.known
     (λ names z. c.number.ensures (length g.cells) names (subst (λ n. 0 < n) (sym e) low) (subst (λ n. n ≤ length g.cells) (sym e) high) z))
 
 pub returns : goal.returns
@@ -52,5 +52,5 @@ returns c x due y none s =
     let e = cell_found c.direct_cell.result c.in-Some.cell _ _ c.in-Some.is c.direct_cell.ensures (direct_named c.args.code.now c.args.chunk g x y c.args.root c.args.run due old s none) in
     let (low, high) = direct_within c.args.code.now c.args.chunk g x y c.args.root c.args.run due old s none in
     ready_after c.args.code.now c.args.chunk g x y due _ _
-    (direct_ready c.args.code.now c.args.chunk g x y c.args.root c.args.run due old s none _ c.in-Some.cell e c.mark.ensures refl refl refl refl s.counted.known
+    (direct_ready c.args.code.now c.args.chunk g x y c.args.root c.args.run due old s none _ c.in-Some.cell e c.mark.ensures refl refl refl s.counted.known
     (λ names z. c.number.ensures (length g.cells) names (subst (λ n. 0 < n) (sym e) low) (subst (λ n. n ≤ length g.cells) (sym e) high) z)) _ c.in_ok-take_turn.ensures

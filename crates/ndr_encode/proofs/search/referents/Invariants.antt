@@ -6,7 +6,7 @@ use Rattle.ndr_encode.proofs.search.referents.Given as goal
 abbrev pub invariant-loop-more : goal.invariant-loop-more
 invariant-loop-more l = record {
   searched : StillSearched l.code l.chunk l.fit.graph l.initial.search l.search;
-  over : l.more ≡ false → l.search.pending.items ≡ [];
+  over : l.more ≡ false → l.search.count.names.items ≡ [];
 }
 
 abbrev pub decreases-loop-more : goal.decreases-loop-more

@@ -1,0 +1,32 @@
+use Rattle.std.proofs.Common.{ap, ap₂, ◌∙◌, ◌+◌, ◌-◌, subst, sym, take, drop, List, ℕ}
+use Rattle.nd_value.specs.declared.value.Graph.{Graph}
+use Rattle.nd_value.specs.Tree.{unflat, more, none}
+use Rattle.nd_flat.specs.declared.node.Node.{Node}
+use Rattle.nd_flat.specs.FlatForm.{WalkParts, flats, no_row}
+use Rattle.nd_flat.specs.Records.{no_records}
+use Rattle.nd_flat.specs.Building.{HasHome, home_tree}
+use Rattle.nd_flat.specs.Store.{HasSpan}
+use Rattle.nd_flat.proofs.Kept.{walk_parts, walk_seen, has_span, part_is}
+use Rattle.nd_flat.proofs.flat.FlatGraph.plain_walk.Goals as goal
+
+pub over-requires : goal.over-requires
+over-requires c =
+    let s = c.self.inside in
+    let there : HasSpan s.roots.items s.cells.items c.args.home =
+    has_span s.octets s.nodes.items s.roots.items s.cells.items c.args.home (subst (λ (g : Graph). HasHome g c.args.home) (sym c.self.view_is) c.requires) in
+    let e = part_is s.nodes.items s.roots.items s.cells.items c.args.home c.as_slice-nodes.result.now c.as_slice.result.now c.as_slice-2.result.now c.span_of-span.result
+    c.as_slice-nodes.ensures.value c.as_slice.ensures.value c.as_slice-2.ensures.value c.span_of-span.ensures in
+    subst (λ (os : List ℕ). WalkParts os no_row no_records (take (c.span_of-span.result.from + c.span_of-span.result.len - c.span_of-span.result.from) (drop c.span_of-span.result.from c.as_slice-nodes.result.now))) (sym c.as_slice-3.ensures)
+    (subst (λ (ns : List Node). WalkParts s.octets no_row no_records ns) (sym e) (walk_parts s.octets s.nodes.items s.roots.items s.cells.items c.args.home c.self.invariant there))
+
+pub returns : goal.returns
+returns c =
+    let s = c.self.inside in
+    let there : HasSpan s.roots.items s.cells.items c.args.home =
+    has_span s.octets s.nodes.items s.roots.items s.cells.items c.args.home (subst (λ (g : Graph). HasHome g c.args.home) (sym c.self.view_is) c.requires) in
+    let e = part_is s.nodes.items s.roots.items s.cells.items c.args.home c.as_slice-nodes.result.now c.as_slice.result.now c.as_slice-2.result.now c.span_of-span.result
+    c.as_slice-nodes.ensures.value c.as_slice.ensures.value c.as_slice-2.ensures.value c.span_of-span.ensures in
+    c.over.ensures
+    ∙ ap₂ (λ (os : List ℕ) (ns : List Node). unflat (flats os ns)) c.as_slice-3.ensures e
+    ∙ walk_seen s.octets s.nodes.items s.roots.items s.cells.items c.args.home c.self.invariant there
+    ∙ ap (λ (g : Graph). more (home_tree g c.args.home) none) c.self.view_is

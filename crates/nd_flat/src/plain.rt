@@ -1,0 +1,125 @@
+// Walks over nodes that are kept one by one.
+ghost use Rattle.std.specs.Prelude.{◌≡◌, ℕ, List, [], ◌∷◌, IfSome, IfNone};
+ghost use Rattle.nd_value.specs.Tree as tree;
+ghost use Rattle.nd_value.specs.Tree.{flat, unflat};
+ghost use Rattle.nd_value.specs.Seen.{cell_number};
+ghost use Rattle.nd_flat.specs.FlatForm.{seen_nodes, left_flats, num_flat, no_row, WalkParts};
+ghost use Rattle.nd_flat.specs.Records.{no_records};
+
+use crate::Walk;
+use crate::node::Node;
+use nd_value::CellId;
+use std::marker::Model;
+
+/// A walk over the nodes of values, depth first, that gives structs, numbers and pointers as they are kept one by one. Where anything else comes it
+/// does not move, and `walk` goes on. It has no state but the nodes that are left, so that short values are walked over fast. Contracts see the values
+/// that are left, as those of a walk do. It takes no memory.
+#[derive(Drop)]
+pub struct PlainWalk<'a> {
+    nodes: &'a [Node],
+    octets: &'a [u8],
+}
+
+impl<'a> Model for PlainWalk<'a> {
+    ghost use Rattle.nd_value.specs.Tree.{Trees, unflat};
+    ghost use Rattle.nd_flat.specs.Forest.{forest_code, IsForest};
+
+    ghost Value = { Trees };
+
+    ghost coded = { forest_code };
+
+    ghost use Rattle.nd_flat.specs.FlatForm.{left_flats, no_row, WalkParts};
+    ghost use Rattle.nd_flat.specs.Records.{no_records};
+
+    ghost view = { λ w. unflat (left_flats w.octets.now no_row no_records w.nodes.now) };
+
+    ghost invariant = { λ w. WalkParts w.octets.now no_row no_records w.nodes.now };
+}
+
+impl<'a> PlainWalk<'a> {
+    #[inline(always)]
+    pub(crate) fn over(nodes: &'a [Node], octets: &'a [u8]) -> PlainWalk<'a>
+        requires { WalkParts octets.now no_row no_records nodes.now }
+        ensures { result ≡ unflat (left_flats octets.now no_row no_records nodes.now) }
+    {
+        PlainWalk { nodes, octets }
+    }
+
+    /// The number of members of a struct, where it comes next as a node of its own. None says nothing of what comes next, and the walk has not moved. Takes no memory.
+    #[inline(always)]
+    pub fn members(&mut self) -> Option<u32>
+        ensures some { IfSome result (λ k. flat self.old ≡ (tree.Rec, k) ∷ flat self.new) }
+        ensures none { IfNone result (self.new ≡ self.old) }
+    {
+        let (first, rest) = self.nodes.split_first()?;
+        let members = members_in(first)?;
+        self.nodes = rest;
+        Some(members)
+    }
+
+    /// The next number, where one comes next as a node of its own. None says nothing of what comes next, and the walk has not moved. Takes no memory.
+    #[inline(always)]
+    pub fn number(&mut self) -> Option<i128>
+        ensures some { IfSome result (λ z. flat self.old ≡ num_flat z ∷ flat self.new) }
+        ensures none { IfNone result (self.new ≡ self.old) }
+    {
+        let (first, rest) = self.nodes.split_first()?;
+        let number = number_in(first)?;
+        self.nodes = rest;
+        Some(number)
+    }
+
+    /// What the next node names, where it is a pointer. None says that no pointer comes next, and the walk has not moved. Takes no memory.
+    #[inline(always)]
+    pub fn pointer(&mut self) -> Option<Option<CellId>>
+        ensures some { IfSome result (λ c. flat self.old ≡ (tree.Ptr (cell_number c), 0) ∷ flat self.new) }
+        ensures none { IfNone result (self.new ≡ self.old) }
+    {
+        let (first, rest) = self.nodes.split_first()?;
+        let pointer = pointer_in(first)?;
+        self.nodes = rest;
+        Some(pointer)
+    }
+
+    /// A walk over what is left. Takes no memory.
+    pub fn walk(self) -> Walk<'a>
+        ensures { result ≡ self.entry }
+    {
+        Walk::over(self.nodes, self.octets)
+    }
+}
+
+// The number of members of a node that is a struct kept by itself.
+#[inline(always)]
+fn members_in(node: &Node) -> Option<u32>
+    ensures { IfSome result (λ k. (os : List ℕ) → seen_nodes os node.now ≡ (tree.Rec, k) ∷ []) }
+{
+    match node {
+        Node::Rec(count) => Some(*count),
+        _ => None,
+    }
+}
+
+// The number that a node is.
+#[inline(always)]
+fn number_in(node: &Node) -> Option<i128>
+    ensures { IfSome result (λ z. (os : List ℕ) → seen_nodes os node.now ≡ num_flat z ∷ []) }
+{
+    match node {
+        Node::Num(number) => Some(i128::from(*number)),
+        Node::Negative(number) => Some(-1 - i128::from(*number)),
+        _ => None,
+    }
+}
+
+// What a node that is a pointer names.
+#[inline(always)]
+fn pointer_in(node: &Node) -> Option<Option<CellId>>
+    ensures { IfSome result (λ c. (os : List ℕ) → seen_nodes os node.now ≡ (tree.Ptr (cell_number c), 0) ∷ []) }
+{
+    match node {
+        Node::Ptr(cell) => Some(Some(*cell)),
+        Node::Null => Some(None),
+        _ => None,
+    }
+}
