@@ -1,3 +1,6 @@
+pub mod FieldTables
+pub mod LengthTables
+pub mod Measured
 pub mod Runs
 pub mod TypeRuns
 pub mod SideRuns

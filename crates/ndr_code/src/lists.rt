@@ -1,8 +1,13 @@
 // The lists of a plan. Contracts see each of them as a list.
-ghost use Rattle.std.specs.Prelude.{◌≡◌, ◌++◌, [], ◌∷◌, length, slice_get, OnOk, OnErr, IfErr, IfSome, IfNone};
+ghost use Rattle.std.specs.Prelude.{◌≡◌, ◌<◌, ◌≤◌, ◌+◌, ◌^◌, ◌++◌, [], ◌∷◌, length, slice_get, Some, None, OnOk, OnErr, IfErr, IfSome, IfNone};
+ghost use Rattle.ndr_code.specs.declared.instr.Instr.TheVariants as op;
+ghost use Rattle.ndr_code.specs.Fields.{AreFields, field_of};
+ghost use Rattle.ndr_code.specs.Lengths.{HasFields};
 
-use crate::Instr;
-use nd_base::{Memory, Name};
+use crate::fields::{Field, field_at};
+use crate::lengths::{Lengths, length_of, look_lengths_up};
+use crate::{ADDRESS_LIMIT, Instr};
+use nd_base::{Memory, Name, push};
 use nd_types::{Numbers, Side, TypeId};
 use std::alloc::Global;
 use std::marker::Model;
@@ -32,10 +37,14 @@ pub struct EnumList {
     pub values: Numbers,
 }
 
-/// The instructions of a plan, by address.
+/// The instructions of a plan, by address, and what was looked up in them.
 #[derive(Drop)]
 pub struct Code {
     items: Vec<Instr>,
+    // the members of structs by the addresses of their calls, as far as they were looked up
+    fields: Vec<Option<Field>>,
+    // the lengths of structs by their addresses, as far as they were looked up
+    lengths: Vec<Option<Lengths>>,
 }
 
 impl Model for Code {
@@ -45,6 +54,11 @@ impl Model for Code {
     ghost Value = { List Instr };
 
     ghost view = { λ o. o.items.items };
+
+    ghost use Rattle.ndr_code.specs.Fields.{AreFields};
+    ghost use Rattle.ndr_code.specs.Lengths.{AreLengths};
+
+    ghost invariant = { λ o. AreFields o.items.items o.fields.items × AreLengths o.items.items o.lengths.items };
 }
 
 impl Code {
@@ -53,6 +67,8 @@ impl Code {
         ensures ok { OnOk result (self.new ≡ self.old ++ run.now) }
         ensures err { OnErr result (self.new ≡ self.old) }
     {
+        self.fields.clear();
+        self.lengths.clear();
         self.items.extend_from_slice(run)?;
         Ok(())
     }
@@ -63,10 +79,81 @@ impl Code {
     {
         Code {
             items: Vec::new(alloc),
+            fields: Vec::new(alloc),
+            lengths: Vec::new(alloc),
         }
     }
 
+    /// Looks the members and the lengths of all structs up, as far as memory has room for them, so that `field` and `struct_len` have them at hand.
+    pub fn look_up(&mut self)
+        ensures { self.new ≡ self.old }
+    {
+        self.fields.clear();
+        self.lengths.clear();
+        let _fields = look_fields_up(self.items.as_slice(), &mut self.fields);
+        if self.items.len() > ADDRESS_LIMIT as usize {
+            return;
+        }
+        let code = self.items.as_slice();
+        let _lengths = look_lengths_up(code, self.fields.as_slice(), &mut self.lengths);
+    }
+
+    /// How many octets the members of the struct at an address have from a place on, 64 at most, if they are numbers and unique and reference pointers. None where they are anything
+    /// else, or more octets, or where a gap goes to another multiple than 1, 2, 4 or 8. Takes no memory.
+    #[inline(always)]
+    pub fn struct_len(&self, pc: usize, at: u32, members: u32) -> Option<u32>
+        requires short { length self.now < 2 ^ 32 }
+        requires here { slice_get self.now pc ≡ Some (op.Record members) }
+        ensures fields { IfSome result (λ len. HasFields self.now (pc + 1) at members len) }
+        ensures few { IfSome result (λ len. len ≤ 64) }
+    {
+        let Some(lengths) = lengths_entry(self.lengths.as_slice(), pc) else {
+            return self.measured(pc, at, members);
+        };
+        let Some(lengths) = lengths else {
+            return None;
+        };
+        match at % 8 {
+            0 => Some(u32::from(lengths.at_eight)),
+            4 => Some(u32::from(lengths.after_four)),
+            _ => self.measured(pc, at, members),
+        }
+    }
+
+    // The same, by a pass over the members.
+    #[inline(never)]
+    fn measured(&self, pc: usize, at: u32, members: u32) -> Option<u32>
+        requires short { length self.now < 2 ^ 32 }
+        requires here { slice_get self.now pc ≡ Some (op.Record members) }
+        ensures fields { IfSome result (λ len. HasFields self.now (pc + 1) at members len) }
+        ensures few { IfSome result (λ len. len ≤ 64) }
+    {
+        let code = self.items.as_slice();
+        length_of(code, self.fields.as_slice(), pc + 1, at % 8, members)
+    }
+
+    /// The member that is called at an address, if it is a number or a unique or reference pointer, or a gap and one of these. Takes no memory.
+    #[inline(always)]
+    pub fn field(&self, at: usize) -> Option<Field>
+        ensures { result ≡ field_of self.now at }
+    {
+        match entry(self.fields.as_slice(), at) {
+            Some(field) => field,
+            None => field_at(self.items.as_slice(), at),
+        }
+    }
+
+    /// The instruction at an address. Takes no memory.
+    #[inline(always)]
+    pub fn at(&self, at: usize) -> Instr
+        requires { at < length self.now }
+        ensures { slice_get self.now at ≡ Some result }
+    {
+        self.items[at]
+    }
+
     /// The items. Takes no memory.
+    #[inline(always)]
     pub fn as_slice(&self) -> &[Instr]
         ensures { result.now ≡ self.now }
     {
@@ -81,12 +168,47 @@ impl Code {
     }
 
     /// The item at a place, from 0, or None past the last. Takes no memory.
+    #[inline(always)]
     pub fn get(&self, at: usize) -> Option<&Instr>
         ensures some { IfSome result (λ item. slice_get self.now at ≡ Some item.now) }
         ensures none { IfNone result (slice_get self.now at ≡ None) }
     {
         self.items.get(at)
     }
+}
+
+// An entry of a table of members.
+#[inline(always)]
+pub(crate) fn entry(fields: &[Option<Field>], at: usize) -> Option<Option<Field>>
+    ensures { IfSome result (λ field. slice_get fields.now at ≡ Some field) }
+{
+    match fields.get(at) {
+        Some(field) => Some(*field),
+        None => None,
+    }
+}
+
+// An entry of a table of lengths.
+#[inline(always)]
+fn lengths_entry(lengths: &[Option<Lengths>], at: usize) -> Option<Option<Lengths>>
+    ensures { IfSome result (λ l. slice_get lengths.now at ≡ Some l) }
+{
+    match lengths.get(at) {
+        Some(entry) => Some(*entry),
+        None => None,
+    }
+}
+
+// Puts the member that is called at each address into an empty list.
+#[tactic(auto, using(crate::proofs::FieldTables::fields_none, crate::proofs::FieldTables::fields_more))]
+fn look_fields_up(code: &[Instr], fields: &mut Vec<Option<Field>>) -> Result<(), Memory>
+    requires none { fields.old.items ≡ [] }
+    ensures { AreFields code.now fields.new.items }
+{
+    for at in 0..code.len() {
+        push(fields, field_at(code, at))?;
+    }
+    Ok(())
 }
 
 /// The places of all sides of all operations: for each side its roots that are no pipes in their order, its agreements, its pipes.

@@ -1,6 +1,6 @@
 -- Faults that are handed on.
 -- `e` is the fault, `r` what is answered.
-use Rattle.std.proofs.Common.{◌≡◌, ℕ, List, ◌++◌, length, Result, Ok, Err, IsErrAnd, sym, subst}
+use Rattle.std.proofs.Common.{◌≡◌, ℕ, List, ◌++◌, length, Option, Result, Ok, Err, IsErrAnd, sym, subst}
 use Rattle.nd_base.specs.declared.octets.Order.{Order}
 use Rattle.nd_base.specs.Over.{SourceSeen}
 use Rattle.nd_value.specs.declared.item.Item.{Item}
@@ -9,18 +9,25 @@ use Rattle.nd_grammar.specs.declared.reason.Reason.TheVariants as reason
 use Rattle.nd_grammar.specs.LegalSide.{IsLegalSide}
 use Rattle.ndr_state.specs.declared.fault.DecodeFault.{DecodeFault}
 use Rattle.ndr_state.specs.declared.fault.DecodeFault.TheVariants as fault
+use Rattle.ndr_state.specs.declared.machine.Owed.{Owed}
 use Rattle.ndr_verdict.specs.Verdict.{DecodingSeen}
 use Rattle.ndr_stream.specs.Calls.{CutOff}
 use Rattle.ndr_kept.specs.declared.stream.Stream.{Stream}
 use Rattle.ndr_stream.specs.Report.{the_head, the_stream}
 use Rattle.ndr_stream.proofs.Heads.{cut_stream, refused_stream}
-use Rattle.ndr_decode.specs.Streaming.{FaultOf, Reads}
+use Rattle.ndr_decode.specs.Streaming.{FaultOf, Reads, ReadsTaking}
 
 -- what is right of a fault is right of the answer that hands it on
 pub reads_fault : (w : Setting) (side : IsLegalSide w) (order : Order) (fetched : List ℕ) (noted : List Item) (cells n : ℕ) (source : SourceSeen) (t : DecodingSeen) (y : Stream)
     (r : Result (Unit {0}) DecodeFault) (e : DecodeFault) → IsErrAnd r (λ z. z ≡ e) → FaultOf the_head w order fetched noted cells source t e → Reads w side order fetched noted cells n source t y r
 reads_fault w side order fetched noted cells n source t y (Ok u) e is x = absurd is
 reads_fault w side order fetched noted cells n source t y (Err z) e is x = subst (λ (f : DecodeFault). FaultOf the_head w order fetched noted cells source t f) (sym is) x
+
+pub taking_fault : (w : Setting) (side : IsLegalSide w) (order : Order) (fetched : List ℕ) (noted : List Item) (cells n : ℕ) (source : SourceSeen) (t : DecodingSeen) (y : Stream)
+    (r : Result (Option Owed) DecodeFault) (e : DecodeFault) → IsErrAnd r (λ z. z ≡ e) → FaultOf the_head w order fetched noted cells source t e
+    → ReadsTaking w side order fetched noted cells n source t y r
+taking_fault w side order fetched noted cells n source t y (Ok q) e is x = absurd is
+taking_fault w side order fetched noted cells n source t y (Err z) e is x = subst (λ (f : DecodeFault). FaultOf the_head w order fetched noted cells source t f) (sym is) x
 
 -- out of memory, where reading was cut off
 pub memory_fault : (w : Setting) (order : Order) (fetched : List ℕ) (noted : List Item) (cells : ℕ) (source : SourceSeen) (t : DecodingSeen) (e : DecodeFault) → e ≡ fault.Memory

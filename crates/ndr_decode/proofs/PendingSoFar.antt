@@ -1,7 +1,7 @@
 -- The loop over the pending referents: what was read so far.
--- `x` is what was kept of the stream before the loop, `y` before a turn, `y'` the same without the next of the pending referents, `o` that referent, `z` after it
--- was read; 0, 1 and 2 number what was seen before the loop, before the turn and after it.
-use Rattle.std.proofs.Common.{◌≡◌, ◌≤◌, ℕ, ◌+◌, Bool, List, [], ◌∷◌, ◌++◌, length, Option, Result, Ok, Err, IsErrAnd, refl, sym, ap, ◌∙◌, subst}
+-- `x` is what was kept of the stream before the loop, `y` before a turn, with `q`, if it was taken from it, `y'` the same without the next of the pending referents,
+-- `o` that referent, `z` after it was read; 0, 1 and 2 number what was seen before the loop, before the turn and after it.
+use Rattle.std.proofs.Common.{◌≡◌, ◌≤◌, ℕ, ◌+◌, Bool, List, [], ◌∷◌, ◌++◌, length, Option, None, Result, Ok, Err, IsErrAnd, refl, sym, ap, subst}
 use Rattle.std.specs.List.{AllByRecursion}
 use Rattle.nd_base.specs.declared.octets.Order.{Order}
 use Rattle.nd_base.specs.declared.TheConstants.{STREAM_LIMIT}
@@ -20,18 +20,16 @@ use Rattle.ndr_state.specs.declared.fault.DecodeFault.{DecodeFault}
 use Rattle.ndr_state.specs.declared.fault.DecodeFault.TheVariants as fault
 use Rattle.ndr_state.specs.declared.machine.Machine.{Machine}
 use Rattle.ndr_state.specs.declared.machine.Owed.{Owed}
-use Rattle.ndr_state.specs.declared.machine.Wanted.{Wanted}
-use Rattle.ndr_steps.specs.Steps as steps
 use Rattle.ndr_verdict.specs.Verdict.{DecodingSeen, decoding_seen}
 use Rattle.ndr_stream.specs.Between.{Agrees, Between}
 use Rattle.ndr_stream.specs.Calls.{Follows, Took}
 use Rattle.ndr_kept.specs.declared.stream.Stream.{Stream}
-use Rattle.ndr_kept.specs.Seen.{between_of, pending_in}
+use Rattle.ndr_kept.specs.Seen.{pending_in}
 use Rattle.ndr_stream.specs.Report.{the_head}
-use Rattle.ndr_decode.specs.Streaming.{FaultOf, IsAtReferent, IsStreaming, PendingReads, ReferentReads, Stands, WentOn, cells_of}
-use Rattle.ndr_decode.proofs.PendingTurns.{HasNext, KeepsRest, kept_by, none_due, same_rest, stands_next}
+use Rattle.ndr_decode.specs.Streaming.{FaultOf, IsAtReferent, IsStreaming, PendingReads, ReferentReads, Stands, WentOn, WentOnTaking, cells_of, with_next, with_taken}
+use Rattle.ndr_decode.proofs.PendingTurns.{HasNext, none_due, stands_next}
 use Rattle.ndr_decode.proofs.Placed.{types_length}
-use Rattle.ndr_decode.proofs.Standing.{cut_off_here, then_fault, then_went, went_nowhere}
+use Rattle.ndr_decode.proofs.Standing.{cut_off_here, then_fault, then_went_taking, went_nowhere}
 
 -- ## The list of those that are pending
 
@@ -67,22 +65,24 @@ followed l0 l1 l2 e1 e2 f0 f1 f2 g0 g1 g2 k0 k1 k2 = record {
 }
 
 -- what was read so far
-abbrev pub SoFar : Plan → Order → Stream → SourceSeen → DecodingSeen → Stream → Type 0
-SoFar plan order x source t y =
+abbrev pub SoFar : Plan → Order → Stream → SourceSeen → DecodingSeen → Option Owed → Stream → Type 0
+SoFar plan order x source t q y =
     (w : Setting) (side : IsLegalSide w) (fetched : List ℕ) (noted : List Item) (direct : ℕ) (s : Reading) (seen : List EntryAt) (ps : List Pending) (n : ℕ) → w.table ≡ plan.tie.types
-    → Stands w side order fetched noted direct x s seen ps n → WentOn w side order fetched noted (cells_of x) source t y n
+    → Stands w side order fetched noted direct x s seen ps n → WentOnTaking w side order fetched noted (cells_of x) source t q y n
 
-pub so_far_none : (plan : Plan) (order : Order) (x : Stream) (l : Option (List ℕ)) (e : Bool) (f : ℕ) (g : Logged) (k : ℕ) → SoFar plan order x (source_by l l e f f) (decoding_seen g g k k) x
+pub so_far_none : (plan : Plan) (order : Order) (x : Stream) (l : Option (List ℕ)) (e : Bool) (f : ℕ) (g : Logged) (k : ℕ) → SoFar plan order x (source_by l l e f f) (decoding_seen g g k k) None x
 so_far_none plan order x l e f g k w side fetched noted direct s seen ps n table st =
     went_nowhere l e (record { before = f; now = f }) g k w side order fetched noted direct x s seen ps n st
 
-module _ (plan : Plan) (order : Order) (x y : Stream) (l0 l1 : Option (List ℕ)) (e1 : Bool) (f0 f1 : ℕ) (g0 g1 : Logged) (k0 k1 : ℕ)
-    (so_far : SoFar plan order x (source_by l0 l1 e1 f0 f1) (decoding_seen g0 g1 k0 k1) y) where
-  -- what is kept is right for some octets
-  pub still_streaming : IsStreaming plan order x → IsStreaming plan order y
-  still_streaming i =
-      let g : WentOn i.w i.side order i.fetched i.noted (cells_of x) (source_by l0 l1 e1 f0 f1) (decoding_seen g0 g1 k0 k1) y i.n =
+module _ (plan : Plan) (order : Order) (x : Stream) (q : Option Owed) (y : Stream) (l0 l1 : Option (List ℕ)) (e1 : Bool) (f0 f1 : ℕ) (g0 g1 : Logged) (k0 k1 : ℕ)
+    (so_far : SoFar plan order x (source_by l0 l1 e1 f0 f1) (decoding_seen g0 g1 k0 k1) q y) where
+  -- the next of the pending referents is due
+  pub next_due : (y' : Stream) (o : Owed) → y'.machine ≡ y.machine → with_next o y' ≡ with_taken q y → IsStreaming plan order x → IsAtReferent plan order o y'
+  next_due y' o m e i =
+      let g : WentOnTaking i.w i.side order i.fetched i.noted (cells_of x) (source_by l0 l1 e1 f0 f1) (decoding_seen g0 g1 k0 k1) q y i.n =
       so_far i.w i.side i.fetched i.noted i.direct i.s i.seen i.ps i.n i.table i.stands in
+      let next : HasNext i.w i.side order (i.fetched ++ g.octets) (i.noted ++ g.items) g.direct q y g.s g.seen i.n o y' g.ps =
+      stands_next i.w i.side order (i.fetched ++ g.octets) (i.noted ++ g.items) g.direct q y g.s g.seen i.n g.ps g.stands y' m o e in
       record {
         w = i.w;
         side = i.side;
@@ -92,41 +92,17 @@ module _ (plan : Plan) (order : Order) (x y : Stream) (l0 l1 : Option (List ℕ)
         direct = g.direct;
         s = g.s;
         seen = g.seen;
-        ps = g.ps;
-        n = i.n;
-        stands = g.stands;
-      }
-
-  -- the next of the pending referents is due
-  pub next_due : (y' : Stream) (o : Owed) → KeepsRest y y' → y.todo.items ≡ y'.todo.items ++ o ∷ [] → IsStreaming plan order x → IsAtReferent plan order o y'
-  next_due y' o keeps e i =
-      let now : IsStreaming plan order y = still_streaming i in
-      let next : HasNext now.w now.side order now.fetched now.noted now.direct y now.s now.seen now.n o y' now.ps =
-      stands_next now.w now.side order now.fetched now.noted now.direct y now.s now.seen now.n now.ps now.stands y' keeps o e in
-      record {
-        w = now.w;
-        side = now.side;
-        table = now.table;
-        fetched = now.fetched;
-        noted = now.noted;
-        direct = now.direct;
-        s = now.s;
-        seen = now.seen;
         p = next.p;
         ps = next.others;
-        n = now.n;
+        n = i.n;
         stands = next.stands;
       }
 
   -- none is left
-  pub none_left : (y' : Stream) → KeepsRest y y' → y.todo.items ≡ [] → y'.todo.items ≡ [] → (u : Unit {0})
+  pub none_left : (y' : Stream) → y'.machine ≡ y.machine → with_taken None y' ≡ with_taken q y → y'.todo.items ≡ [] → (u : Unit {0})
       → PendingReads plan order x (source_by l0 l1 e1 f0 f1) (decoding_seen g0 g1 k0 k1) y' (Ok u)
-  none_left y' keeps none none' u w side fetched noted direct s seen ps n table st =
-      let g : WentOn w side order fetched noted (cells_of x) (source_by l0 l1 e1 f0 f1) (decoding_seen g0 g1 k0 k1) y n = so_far w side fetched noted direct s seen ps n table st in
-      let pending : pending_in y.wanted.items y.todo.items ≡ pending_in y'.wanted.items y'.todo.items =
-      ap (pending_in y.wanted.items) (none ∙ sym none') ∙ ap (λ (ws : List Wanted). pending_in ws y'.todo.items) (sym keeps.wanted) in
-      let same : between_of y ≡ between_of y' =
-      same_rest y y' keeps (pending_in y.wanted.items y.todo.items) ∙ ap (λ (os : List steps.Owed). kept_by y'.machine os y'.roots.items y'.cells.items) pending in
+  none_left y' same e none u w side fetched noted direct s seen ps n table st =
+      let g : WentOnTaking w side order fetched noted (cells_of x) (source_by l0 l1 e1 f0 f1) (decoding_seen g0 g1 k0 k1) q y n = so_far w side fetched noted direct s seen ps n table st in
       let now : WentOn w side order fetched noted (cells_of x) (source_by l0 l1 e1 f0 f1) (decoding_seen g0 g1 k0 k1) y' n = record {
         octets = g.octets;
         items = g.items;
@@ -135,25 +111,25 @@ module _ (plan : Plan) (order : Order) (x y : Stream) (l0 l1 : Option (List ℕ)
         seen = g.seen;
         ps = g.ps;
         stands = record {
-          agrees = subst (λ (b : Between). Agrees w side order (fetched ++ g.octets) (noted ++ g.items) g.direct b g.s g.seen g.ps n) same g.stands.agrees;
-          within = subst (λ (m : Machine). m.at ≤ STREAM_LIMIT) (sym keeps.machine) g.stands.within;
-          whole = subst (λ (m : Machine). CanClose m.builder) (sym keeps.machine) g.stands.whole;
+          agrees = subst (λ (b : Between). Agrees w side order (fetched ++ g.octets) (noted ++ g.items) g.direct b g.s g.seen g.ps n) (sym e) g.stands.agrees;
+          within = subst (λ (m : Machine). m.at ≤ STREAM_LIMIT) (sym same) g.stands.within;
+          whole = subst (λ (m : Machine). CanClose m.builder) (sym same) g.stands.whole;
         };
-        took = subst (λ (m : Machine). Took (source_by l0 l1 e1 f0 f1) (decoding_seen g0 g1 k0 k1) (cells_of x) g.octets g.items (length m.builder.graph.cells)) (sym keeps.machine) g.took;
+        took = subst (λ (m : Machine). Took (source_by l0 l1 e1 f0 f1) (decoding_seen g0 g1 k0 k1) (cells_of x) g.octets g.items (length m.builder.graph.cells)) (sym same) g.took;
       } in
-      (now, none_due w side order (fetched ++ g.octets) (noted ++ g.items) g.direct y g.s g.seen n g.ps g.stands none)
+      (now, none_due w side order (fetched ++ g.octets) (noted ++ g.items) g.direct None y' g.s g.seen n g.ps now.stands (ap (pending_in y'.wanted.items) none))
 
   module _ (later : f0 ≤ f1) where
     -- memory failed between two turns
     pub given_up : (z : Stream) → PendingReads plan order x (source_by l0 l1 e1 f0 f1) (decoding_seen g0 g1 k0 k1) z (Err fault.Memory)
     given_up z w side fetched noted direct s seen ps n table st =
-        let g : WentOn w side order fetched noted (cells_of x) (source_by l0 l1 e1 f0 f1) (decoding_seen g0 g1 k0 k1) y n = so_far w side fetched noted direct s seen ps n table st in
+        let g : WentOnTaking w side order fetched noted (cells_of x) (source_by l0 l1 e1 f0 f1) (decoding_seen g0 g1 k0 k1) q y n = so_far w side fetched noted direct s seen ps n table st in
         let idle : SourceSeen = source_by l1 l1 e1 f1 f1 in
         let follow : Follows (source_by l0 l1 e1 f0 f1) idle (source_by l0 l1 e1 f0 f1) (decoding_seen g0 g1 k0 k1) (decoding_seen g1 g1 k1 k1) (decoding_seen g0 g1 k0 k1) =
         followed l0 l1 l1 e1 e1 f0 f1 f1 g0 g1 g1 k0 k1 k1 in
         then_fault w side order fetched noted (cells_of x) (source_by l0 l1 e1 f0 f1) idle (source_by l0 l1 e1 f0 f1) (decoding_seen g0 g1 k0 k1) (decoding_seen g1 g1 k1 k1)
         (decoding_seen g0 g1 k0 k1) follow g.octets g.items (cells_of y) g.took the_head later refl fault.Memory
-        (cut_off_here l1 e1 (record { before = f1; now = f1 }) g1 k1 w side order (fetched ++ g.octets) (noted ++ g.items) g.direct (between_of y) g.s g.seen g.ps n (cells_of y)
+        (cut_off_here l1 e1 (record { before = f1; now = f1 }) g1 k1 w side order (fetched ++ g.octets) (noted ++ g.items) g.direct (with_taken q y) g.s g.seen g.ps n (cells_of y)
         (sym (types_length y.machine.builder)) g.stands.agrees)
 
     -- ## A turn
@@ -171,29 +147,29 @@ module _ (plan : Plan) (order : Order) (x y : Stream) (l0 l1 : Option (List ℕ)
       follow : Follows first second both (decoding_seen g0 g1 k0 k1) (decoding_seen g1 g2 k1 k2) (decoding_seen g0 g2 k0 k2)
       follow = followed l0 l1 l2 e1 e2 f0 f1 f2 g0 g1 g2 k0 k1 k2
 
-      pub so_far_more : {y' : Stream} (z : Stream) (o : Owed) (u : Unit {0}) → ReferentReads plan order o y' second (decoding_seen g1 g2 k1 k2) z (Ok u) → KeepsRest y y'
-          → y.todo.items ≡ y'.todo.items ++ o ∷ [] → SoFar plan order x both (decoding_seen g0 g2 k0 k2) z
-      so_far_more {y'} z o u reads keeps e w side fetched noted direct s seen ps n table st =
-          let g : WentOn w side order fetched noted (cells_of x) first (decoding_seen g0 g1 k0 k1) y n = so_far w side fetched noted direct s seen ps n table st in
-          let next : HasNext w side order (fetched ++ g.octets) (noted ++ g.items) g.direct y g.s g.seen n o y' g.ps =
-          stands_next w side order (fetched ++ g.octets) (noted ++ g.items) g.direct y g.s g.seen n g.ps g.stands y' keeps o e in
-          let went : WentOn w side order (fetched ++ g.octets) (noted ++ g.items) (cells_of y') second (decoding_seen g1 g2 k1 k2) z n =
+      pub so_far_more : {y' : Stream} (z : Stream) (o : Owed) (q' : Option Owed) → ReferentReads plan order o y' second (decoding_seen g1 g2 k1 k2) z (Ok q') → y'.machine ≡ y.machine
+          → with_next o y' ≡ with_taken q y → SoFar plan order x both (decoding_seen g0 g2 k0 k2) q' z
+      so_far_more {y'} z o q' reads same e w side fetched noted direct s seen ps n table st =
+          let g : WentOnTaking w side order fetched noted (cells_of x) first (decoding_seen g0 g1 k0 k1) q y n = so_far w side fetched noted direct s seen ps n table st in
+          let next : HasNext w side order (fetched ++ g.octets) (noted ++ g.items) g.direct q y g.s g.seen n o y' g.ps =
+          stands_next w side order (fetched ++ g.octets) (noted ++ g.items) g.direct q y g.s g.seen n g.ps g.stands y' same o e in
+          let went : WentOnTaking w side order (fetched ++ g.octets) (noted ++ g.items) (cells_of y') second (decoding_seen g1 g2 k1 k2) q' z n =
           reads w side (fetched ++ g.octets) (noted ++ g.items) g.direct g.s g.seen next.p next.others n table next.stands in
-          then_went w side order fetched noted (cells_of x) first second both (decoding_seen g0 g1 k0 k1) (decoding_seen g1 g2 k1 k2) (decoding_seen g0 g2 k0 k2) follow g.octets g.items
-          (cells_of y) g.took z n
-          (subst (λ (m : Machine). WentOn w side order (fetched ++ g.octets) (noted ++ g.items) (length m.builder.graph.cells) second (decoding_seen g1 g2 k1 k2) z n) keeps.machine went)
+          then_went_taking w side order fetched noted (cells_of x) first second both (decoding_seen g0 g1 k0 k1) (decoding_seen g1 g2 k1 k2) (decoding_seen g0 g2 k0 k2) follow g.octets g.items
+          (cells_of y) g.took q' z n
+          (subst (λ (m : Machine). WentOnTaking w side order (fetched ++ g.octets) (noted ++ g.items) (length m.builder.graph.cells) second (decoding_seen g1 g2 k1 k2) q' z n) same went)
 
-      pub fault_then : {y' : Stream} (z : Stream) (o : Owed) (e : DecodeFault) → ReferentReads plan order o y' second (decoding_seen g1 g2 k1 k2) z (Err e) → KeepsRest y y'
-          → y.todo.items ≡ y'.todo.items ++ o ∷ [] → PendingReads plan order x both (decoding_seen g0 g2 k0 k2) z (Err e)
-      fault_then {y'} z o e reads keeps is w side fetched noted direct s seen ps n table st =
-          let g : WentOn w side order fetched noted (cells_of x) first (decoding_seen g0 g1 k0 k1) y n = so_far w side fetched noted direct s seen ps n table st in
-          let next : HasNext w side order (fetched ++ g.octets) (noted ++ g.items) g.direct y g.s g.seen n o y' g.ps =
-          stands_next w side order (fetched ++ g.octets) (noted ++ g.items) g.direct y g.s g.seen n g.ps g.stands y' keeps o is in
-          let fails : FaultOf the_head w order (fetched ++ g.octets) (noted ++ g.items) (cells_of y') second (decoding_seen g1 g2 k1 k2) e =
+      pub fault_then : {y' : Stream} (z : Stream) (o : Owed) (f : DecodeFault) → ReferentReads plan order o y' second (decoding_seen g1 g2 k1 k2) z (Err f) → y'.machine ≡ y.machine
+          → with_next o y' ≡ with_taken q y → PendingReads plan order x both (decoding_seen g0 g2 k0 k2) z (Err f)
+      fault_then {y'} z o f reads same e w side fetched noted direct s seen ps n table st =
+          let g : WentOnTaking w side order fetched noted (cells_of x) first (decoding_seen g0 g1 k0 k1) q y n = so_far w side fetched noted direct s seen ps n table st in
+          let next : HasNext w side order (fetched ++ g.octets) (noted ++ g.items) g.direct q y g.s g.seen n o y' g.ps =
+          stands_next w side order (fetched ++ g.octets) (noted ++ g.items) g.direct q y g.s g.seen n g.ps g.stands y' same o e in
+          let fails : FaultOf the_head w order (fetched ++ g.octets) (noted ++ g.items) (cells_of y') second (decoding_seen g1 g2 k1 k2) f =
           reads w side (fetched ++ g.octets) (noted ++ g.items) g.direct g.s g.seen next.p next.others n table next.stands in
           then_fault w side order fetched noted (cells_of x) first second both (decoding_seen g0 g1 k0 k1) (decoding_seen g1 g2 k1 k2) (decoding_seen g0 g2 k0 k2) follow g.octets g.items
-          (cells_of y) g.took the_head later refl e
-          (subst (λ (m : Machine). FaultOf the_head w order (fetched ++ g.octets) (noted ++ g.items) (length m.builder.graph.cells) second (decoding_seen g1 g2 k1 k2) e) keeps.machine fails)
+          (cells_of y) g.took the_head later refl f
+          (subst (λ (m : Machine). FaultOf the_head w order (fetched ++ g.octets) (noted ++ g.items) (length m.builder.graph.cells) second (decoding_seen g1 g2 k1 k2) f) same fails)
 
 -- what is right of a fault is right of the answer that hands it on
 pub pending_fault : (plan : Plan) (order : Order) (x : Stream) (source : SourceSeen) (t : DecodingSeen) (y : Stream) (r : Result (Unit {0}) DecodeFault) (e : DecodeFault) → IsErrAnd r (λ z. z ≡ e)

@@ -1,7 +1,7 @@
 -- What reading the next of the pending referents owes and comes to, by the code of a plan.
 -- `o` is the referent as code has it, `x` what was kept before it, `c` its cell, `s1` the stream when its home was open, `s2` after its value, `s3` after its cell
 -- was kept, `s4` after its pointers became pending.
-use Rattle.std.proofs.Common.{◌≡◌, ◌≤◌, ℕ, ◌+◌, ◌*◌, List, ◌∷◌, ◌++◌, length, map, take, drop, Some, None, Result, Ok, Err, OnOk, IfErr, sym, ap, ◌∙◌, subst, arith}
+use Rattle.std.proofs.Common.{◌≡◌, ◌≤◌, ℕ, ◌+◌, ◌*◌, List, ◌∷◌, ◌++◌, length, map, take, drop, Option, Some, None, Result, Ok, Err, OnOk, sym, ap, ◌∙◌, subst, arith}
 use Rattle.nd_base.specs.declared.octets.Order.{Order}
 use Rattle.nd_base.specs.declared.TheConstants.{STREAM_LIMIT}
 use Rattle.nd_base.specs.Over.{SourceSeen}
@@ -34,9 +34,9 @@ use Rattle.ndr_stream.specs.Between.{Opens, home_target, kept_at}
 use Rattle.ndr_stream.specs.Tests.{AllAgree}
 use Rattle.ndr_stream.proofs.FineTypes.{usable_fine}
 use Rattle.ndr_kept.specs.declared.stream.Stream.{Stream}
-use Rattle.ndr_kept.specs.Seen.{CellEnds, HasOwn, IsCleared, KeepsAll, KeepsHomes, between_of, pending_in}
+use Rattle.ndr_kept.specs.Seen.{CellEnds, HasOwn, IsCleared, KeepsAll, KeepsHomes, between_of, pending_in, pending_with}
 use Rattle.ndr_stream.specs.Report.{the_head}
-use Rattle.ndr_decode.specs.Streaming.{FaultOf, HomeWhole, Reads, StandsWith, cells_of, purpose_of, with_next}
+use Rattle.ndr_decode.specs.Streaming.{FaultOf, HomeWhole, StandsWith, WentOnTaking, cells_of, purpose_of, with_next}
 use Rattle.ndr_decode.specs.Tried.{AreTried}
 use Rattle.ndr_decode.proofs.AtRoots.{code_is, legal_is, planned_is}
 use Rattle.ndr_decode.proofs.HomeComes.{decoding_of}
@@ -128,16 +128,14 @@ module _ (plan : Plan) (order : Order) (o : Owed) (x : Stream) (c : CellId) (som
   -- all was read
   pub settled : {s2 s3 : Stream} (s4 : Stream) (k : Kept) → CellEnds c.0 k s2 s3 → HasOwn s2.machine k → KeepsAll x s2 → outside s2.machine ≡ outside s1.machine
       → AllAgree k (owed_of x.wanted.items o).agreements → (source : SourceSeen) (notes : NotesSeen)
-      → EndsWhole plan.values order plan.code s1.machine.home (state_of s1.machine) source notes (state_of s2.machine) → (r : Result (Unit {0}) DecodeFault)
-      → OnOk r (pending_in s4.wanted.items s4.todo.items ≡ (state_of s3.machine).fresh ++ pending_in s3.wanted.items s3.todo.items) → OnOk r (IsCleared s3.machine s4.machine)
-      → KeepsHomes s3 s4 → IfErr r (λ e. e ≡ fault.Memory) → (w : Setting) (side : IsLegalSide w) (fetched : List ℕ) (noted : List Item) (direct : ℕ) (s : Reading) (seen : List EntryAt)
+      → EndsWhole plan.values order plan.code s1.machine.home (state_of s1.machine) source notes (state_of s2.machine) → (q : Option Owed)
+      → pending_with q s4.wanted.items s4.todo.items ≡ (state_of s3.machine).fresh ++ pending_in s3.wanted.items s3.todo.items → IsCleared s3.machine s4.machine
+      → KeepsHomes s3 s4 → (w : Setting) (side : IsLegalSide w) (fetched : List ℕ) (noted : List Item) (direct : ℕ) (s : Reading) (seen : List EntryAt)
       (p : Pending) (ps : List Pending) (n : ℕ) → w.table ≡ plan.tie.types → StandsWith w side order fetched noted direct o x s seen p ps n
-      → Reads w side order fetched noted (cells_of x) n source (decoding_of notes) s4 r
-  settled {s2} {s3} s4 k kept own keeps out agree source notes ends (Ok u) pending cleared homes memory w side fetched noted direct s seen p ps n table st =
+      → WentOnTaking w side order fetched noted (cells_of x) source (decoding_of notes) q s4 n
+  settled {s2} {s3} s4 k kept own keeps out agree source notes ends q pending cleared homes w side fetched noted direct s seen p ps n table st =
       referent_done w side order fetched noted direct o x s seen p ps n st c some unread source (decoding_of notes) s1 s2 builder opens.cells keeps out
-      (is_whole w side fetched noted direct s seen p ps n table st source notes s2.machine ends) s3 s4 k own kept agree pending cleared homes
-  settled {s2} {s3} s4 k kept own keeps out agree source notes ends (Err e) pending cleared homes memory w side fetched noted direct s seen p ps n table st =
-      cut_then w side fetched noted direct s seen p ps n table st source notes s2.machine ends e memory
+      (is_whole w side fetched noted direct s seen p ps n table st source notes s2.machine ends) s3 s4 k own kept agree q pending cleared homes
 
   -- and the graph is for what it was for
   pub same_then : {s2 s3 : Stream} (s4 : Stream) (k : Kept) → CellEnds c.0 k s2 s3 → outside s2.machine ≡ outside s1.machine → (r : Result (Unit {0}) DecodeFault)

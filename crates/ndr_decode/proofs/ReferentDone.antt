@@ -36,9 +36,9 @@ use Rattle.ndr_stream.specs.Tests.{AllAgree}
 use Rattle.ndr_stream.proofs.ReferentEnds as law
 use Rattle.ndr_kept.specs.declared.stream.Stream.{Stream}
 use Rattle.ndr_kept.specs.Ends.{HomeRan}
-use Rattle.ndr_kept.specs.Seen.{CellEnds, HasOwn, IsCleared, KeepsAll, KeepsHomes, between_of, pending_in}
+use Rattle.ndr_kept.specs.Seen.{CellEnds, HasOwn, IsCleared, KeepsAll, KeepsHomes, between_of, pending_in, pending_with}
 use Rattle.ndr_kept.proofs.GraphEnds.{cell_ends}
-use Rattle.ndr_decode.specs.Streaming.{HomeWhole, StandsWith, WentOn, cells_of, with_next}
+use Rattle.ndr_decode.specs.Streaming.{HomeWhole, StandsWith, WentOnTaking, cells_of, with_next, with_taken}
 use Rattle.ndr_decode.proofs.OwedReads.{agreements_are, cell_is, class_is}
 use Rattle.ndr_decode.proofs.Placed.{can_close, kept_of, ran, took_by, types_length}
 use Rattle.ndr_decode.proofs.ReferentReads.{cell_there, its_usable}
@@ -100,8 +100,8 @@ module _ (w : Setting) (side : IsLegalSide w) (order : Order) (fetched : List �
     is_kept : CellKept c.0 k x.cells.items s3.cells.items
     is_kept = subst (λ (l : List (Option Kept)). CellKept c.0 k l s3.cells.items) keeps.cells ends.kept
 
-    module _ (agree : AllAgree k (owed_of x.wanted.items o).agreements)
-        (pending : pending_in s4.wanted.items s4.todo.items ≡ (state_of s3.machine).fresh ++ pending_in s3.wanted.items s3.todo.items)
+    module _ (agree : AllAgree k (owed_of x.wanted.items o).agreements) (q : Option Owed)
+        (pending : pending_with q s4.wanted.items s4.todo.items ≡ (state_of s3.machine).fresh ++ pending_in s3.wanted.items s3.todo.items)
         (cleared : IsCleared s3.machine s4.machine) (homes : KeepsHomes s3 s4) where
       same_machine : s3.machine ≡ m
       same_machine = ends.others.machine
@@ -113,14 +113,14 @@ module _ (w : Setting) (side : IsLegalSide w) (order : Order) (fetched : List �
       built : s4.machine.builder ≡ m.builder
       built = cleared.builder ∙ ap (λ (q : Machine). q.builder) same_machine
 
-      now_pending : pending_in s4.wanted.items s4.todo.items ≡ (state_of m).fresh ++ pending_in x.wanted.items x.todo.items
+      now_pending : pending_with q s4.wanted.items s4.todo.items ≡ (state_of m).fresh ++ pending_in x.wanted.items x.todo.items
       now_pending =
           pending ∙ ap (λ (q : Machine). (state_of q).fresh ++ pending_in s3.wanted.items s3.todo.items) same_machine
           ∙ ap (λ (l : List steps.Owed). (state_of m).fresh ++ l) others
 
-      is_now : between_of s4 ≡ cell_read (between_of x) (state_of m) x.roots.items s3.cells.items (closed m.builder)
+      is_now : with_taken q s4 ≡ cell_read (between_of x) (state_of m) x.roots.items s3.cells.items (closed m.builder)
       is_now =
-          ap (λ u. kept_by u (pending_in s4.wanted.items s4.todo.items) s4.machine.builder s4.machine.referents s4.roots.items s4.cells.items)
+          ap (λ u. kept_by u (pending_with q s4.wanted.items s4.todo.items) s4.machine.builder s4.machine.referents s4.roots.items s4.cells.items)
           (cleared.at ∙ ap (λ (q : Machine). q.at) same_machine)
           ∙ ap (λ u. kept_by m.at u s4.machine.builder s4.machine.referents s4.roots.items s4.cells.items) now_pending
           ∙ ap (λ u. kept_by m.at ((state_of m).fresh ++ pending_in x.wanted.items x.todo.items) u s4.machine.referents s4.roots.items s4.cells.items) built
@@ -133,7 +133,7 @@ module _ (w : Setting) (side : IsLegalSide w) (order : Order) (fetched : List �
       all_agree : AllAgree k p.agreements
       all_agree = subst (AllAgree k) (agreements_are w side order fetched noted direct o x s seen p ps n st) agree
 
-      pub referent_done : WentOn w side order fetched noted (cells_of x) source t s4 n
+      pub referent_done : WentOnTaking w side order fetched noted (cells_of x) source t q s4 n
       referent_done =
           let (then, so, qs, agrees) =
           law.ends w side order fetched noted direct (with_next o x) s seen p ps n ag c.0 is_cell new hw.octets hw.all (noted ++ hw.items) (state_of m) hw.is hw.needed k kept all_agree

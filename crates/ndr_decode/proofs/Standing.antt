@@ -37,7 +37,8 @@ use Rattle.ndr_stream.proofs.StreamGrows.{head_goes}
 use Rattle.ndr_kept.specs.declared.stream.Stream.{Stream}
 use Rattle.ndr_state.specs.declared.fault.DecodeFault.{DecodeFault}
 use Rattle.ndr_state.specs.declared.fault.DecodeFault.TheVariants as fault
-use Rattle.ndr_decode.specs.Streaming.{FaultOf, Stands, WentOn, cells_of}
+use Rattle.ndr_state.specs.declared.machine.Owed.{Owed}
+use Rattle.ndr_decode.specs.Streaming.{FaultOf, Stands, StandsTaking, WentOn, WentOnTaking, cells_of}
 
 -- ## Nothing is read
 
@@ -160,18 +161,21 @@ not_cut a f m place why e t = go (int_eq a.wanted (first_found a.attr f)) (place
 -- what a call comes to after another one that went on
 module _ (w : Setting) (side : IsLegalSide w) (order : Order) (fetched : List ℕ) (noted : List Item) (n0 : ℕ) (a b c : SourceSeen) (s t u : DecodingSeen) (f : Follows a b c s t u)
     (octets : List ℕ) (xs : List Item) (n1 : ℕ) (took : Took a s n0 octets xs n1) where
-  abbrev pub then_went : (x : Stream) (n : ℕ) → WentOn w side order (fetched ++ octets) (noted ++ xs) n1 b t x n → WentOn w side order fetched noted n0 c u x n
-  then_went x n g = record {
+  abbrev pub then_went_taking : (q : Option Owed) (x : Stream) (n : ℕ) → WentOnTaking w side order (fetched ++ octets) (noted ++ xs) n1 b t q x n → WentOnTaking w side order fetched noted n0 c u q x n
+  then_went_taking q x n g = record {
     octets = octets ++ g.octets;
     items = xs ++ g.items;
     direct = g.direct;
     s = g.s;
     seen = g.seen;
     ps = g.ps;
-    stands = subst (λ (z : List ℕ). Stands w side order z (noted ++ (xs ++ g.items)) g.direct x g.s g.seen g.ps n) (append_assoc fetched octets g.octets)
-        (subst (λ (z : List Item). Stands w side order ((fetched ++ octets) ++ g.octets) z g.direct x g.s g.seen g.ps n) (append_assoc noted xs g.items) g.stands);
+    stands = subst (λ (z : List ℕ). StandsTaking w side order z (noted ++ (xs ++ g.items)) g.direct q x g.s g.seen g.ps n) (append_assoc fetched octets g.octets)
+        (subst (λ (z : List Item). StandsTaking w side order ((fetched ++ octets) ++ g.octets) z g.direct q x g.s g.seen g.ps n) (append_assoc noted xs g.items) g.stands);
     took = took_twice a b c s t u f n0 n1 (cells_of x) octets g.octets xs g.items took g.took;
   }
+
+  abbrev pub then_went : (x : Stream) (n : ℕ) → WentOn w side order (fetched ++ octets) (noted ++ xs) n1 b t x n → WentOn w side order fetched noted n0 c u x n
+  then_went x n g = then_went_taking None x n g
 
   -- a fault, where the source's count of faults had not fallen before
   pub then_fault : (reach : Extent) → c.faults.before ≤ b.faults.before → c.faults.now ≡ b.faults.now → (e : DecodeFault) → FaultOf reach w order (fetched ++ octets) (noted ++ xs) n1 b t e → FaultOf reach w order fetched noted n0 c u e

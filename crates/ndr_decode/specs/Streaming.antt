@@ -1,7 +1,7 @@
 -- What a call of the decoder comes to, over the roots and referents of a stream.
 -- `reach` is what is read of a stream, `plan` is a plan, `w` a setting of its interface, `fetched` are the octets that were fetched and `noted` the items that were noted before the call, `x` is what
 -- is kept of the stream after it, `source` and `t` are what was seen of the source, the log and the steps over it, `n` is how many cells there were.
-use Rattle.std.specs.Prelude.{◌≡◌, ◌≤◌, ℕ, suc, List, [], ◌∷◌, ◌++◌, length, Option, Some, Result, Ok, Err}
+use Rattle.std.specs.Prelude.{◌≡◌, ◌≤◌, ℕ, suc, List, [], ◌∷◌, ◌++◌, length, Option, Some, None, Result, Ok, Err}
 use Rattle.std.specs.List.{slice_get}
 use Rattle.nd_base.specs.declared.octets.Order.{Order}
 use Rattle.nd_base.specs.declared.TheConstants.{STREAM_LIMIT}
@@ -25,7 +25,6 @@ use Rattle.ndr_reading.specs.Around.{going}
 use Rattle.ndr_code.specs.Code.{root_by}
 use Rattle.ndr_code.specs.declared.instr.Instr.{Instr}
 use Rattle.ndr_code.specs.declared.plan.Plan.{Plan}
-use Rattle.ndr_state.specs.Seen.{owed_of}
 use Rattle.ndr_state.specs.declared.machine.Owed as code
 use Rattle.ndr_state.specs.declared.fault.DecodeFault.{DecodeFault}
 use Rattle.ndr_state.specs.declared.fault.DecodeFault.TheVariants as fault
@@ -36,7 +35,7 @@ use Rattle.ndr_stream.specs.Between.{Agrees, AreNeeded, Between}
 use Rattle.ndr_stream.specs.Calls.{Took, Refused, CutOff, Unread}
 use Rattle.ndr_stream.specs.Report.{Extent, the_head}
 use Rattle.ndr_kept.specs.declared.stream.Stream.{Stream}
-use Rattle.ndr_kept.specs.Seen.{between_of}
+use Rattle.ndr_kept.specs.Seen.{between_of, pending_with}
 use Rattle.ndr_decode.specs.declared.roots.Found.{Found}
 use Rattle.nd_flat.specs.Building.{Building, CanClose, closed}
 
@@ -54,11 +53,28 @@ pub record Purpose : Type 0 where
 abbrev pub purpose_of : Stream → Purpose
 purpose_of x = let b : Building = x.machine.builder in record { op = b.op; side = b.side; interface = b.interface; given = b.given }
 
--- What is kept of the stream is right: so many roots that are no pipes are left, and these pointers are due.
-pub record Stands (w : Setting) (side : IsLegalSide w) (order : Order) (fetched : List ℕ) (noted : List Item) (direct : ℕ) (x : Stream) (s : Reading) (seen : List EntryAt) (ps : List Pending) (n : ℕ) : Type 0 where
-  pub agrees : Agrees w side order fetched noted direct (between_of x) s seen ps n
+-- what is kept of the stream, with the next of the pending referents, if it was taken from those that are kept
+abbrev pub with_taken : Option code.Owed → Stream → Between
+with_taken q x =
+    let b : Between = between_of x in
+    record { at = b.at; pending = pending_with q x.wanted.items x.todo.items; cells = b.cells; numbers = b.numbers; roots = b.roots; read = b.read; graph = b.graph }
+
+abbrev pub with_next : code.Owed → Stream → Between
+with_next o x = with_taken (Some o) x
+
+-- What is kept of the stream is right, with the referent that was taken: so many roots that are no pipes are left, and these pointers are due.
+pub record StandsTaking (w : Setting) (side : IsLegalSide w) (order : Order) (fetched : List ℕ) (noted : List Item) (direct : ℕ) (q : Option code.Owed) (x : Stream) (s : Reading) (seen : List EntryAt) (ps : List Pending) (n : ℕ) : Type 0 where
+  pub agrees : Agrees w side order fetched noted direct (with_taken q x) s seen ps n
   pub within : x.machine.at ≤ STREAM_LIMIT
   pub whole : CanClose x.machine.builder
+
+-- none was taken
+abbrev pub Stands : (w : Setting) → IsLegalSide w → Order → List ℕ → List Item → ℕ → Stream → Reading → List EntryAt → List Pending → ℕ → Type 0
+Stands w side order fetched noted direct x s seen ps n = StandsTaking w side order fetched noted direct None x s seen ps n
+
+-- this one was taken
+abbrev pub StandsWith : (w : Setting) → IsLegalSide w → Order → List ℕ → List Item → ℕ → code.Owed → Stream → Reading → List EntryAt → Pending → List Pending → ℕ → Type 0
+StandsWith w side order fetched noted direct o x s seen p ps n = StandsTaking w side order fetched noted direct (Some o) x s seen (p ∷ ps) n
 
 -- No referent is due, and the next root begins with this instruction.
 pub record IsAtRoot (plan : Plan) (order : Order) (x : Stream) (i : Instr) : Type 0 where
@@ -75,18 +91,6 @@ pub record IsAtRoot (plan : Plan) (order : Order) (x : Stream) (i : Instr) : Typ
   pub r : Root
   pub there : slice_get (root_list w) (length s.roots) ≡ Some r
   pub instr : i ≡ root_by w.table r.of (type_at w.table r.of)
-
--- what is kept of the stream, and the next of the pending referents, which was taken from those that are kept
-abbrev pub with_next : code.Owed → Stream → Between
-with_next o x =
-    let b : Between = between_of x in
-    record { at = b.at; pending = owed_of x.wanted.items o ∷ b.pending; cells = b.cells; numbers = b.numbers; roots = b.roots; read = b.read; graph = b.graph }
-
--- The same is right with the next of the pending referents.
-pub record StandsWith (w : Setting) (side : IsLegalSide w) (order : Order) (fetched : List ℕ) (noted : List Item) (direct : ℕ) (o : code.Owed) (x : Stream) (s : Reading) (seen : List EntryAt) (p : Pending) (ps : List Pending) (n : ℕ) : Type 0 where
-  pub agrees : Agrees w side order fetched noted direct (with_next o x) s seen (p ∷ ps) n
-  pub within : x.machine.at ≤ STREAM_LIMIT
-  pub whole : CanClose x.machine.builder
 
 -- The next of the pending referents is due.
 pub record IsAtReferent (plan : Plan) (order : Order) (o : code.Owed) (x : Stream) : Type 0 where
@@ -129,16 +133,19 @@ pub record HomeWhole (order : Order) (table : Table) (h : Home) (own direct : �
   pub took : Took source t cells octets items (length s.cells)
   pub within : s.at ≤ STREAM_LIMIT
 
--- It went on over so many octets more, and what is kept is right after them, with so many roots left.
-pub record WentOn (w : Setting) (side : IsLegalSide w) (order : Order) (fetched : List ℕ) (noted : List Item) (cells : ℕ) (source : SourceSeen) (t : DecodingSeen) (x : Stream) (n : ℕ) : Type 0 where
+-- It went on over so many octets more, and what is kept is right after them, with the referent that was taken, and so many roots left.
+pub record WentOnTaking (w : Setting) (side : IsLegalSide w) (order : Order) (fetched : List ℕ) (noted : List Item) (cells : ℕ) (source : SourceSeen) (t : DecodingSeen) (q : Option code.Owed) (x : Stream) (n : ℕ) : Type 0 where
   pub octets : List ℕ
   pub items : List Item
   pub direct : ℕ
   pub s : Reading
   pub seen : List EntryAt
   pub ps : List Pending
-  pub stands : Stands w side order (fetched ++ octets) (noted ++ items) direct x s seen ps n
+  pub stands : StandsTaking w side order (fetched ++ octets) (noted ++ items) direct q x s seen ps n
   pub took : Took source t cells octets items (cells_of x)
+
+abbrev pub WentOn : (w : Setting) → IsLegalSide w → Order → List ℕ → List Item → ℕ → SourceSeen → DecodingSeen → Stream → ℕ → Type 0
+WentOn w side order fetched noted cells source t x n = WentOnTaking w side order fetched noted cells source t None x n
 
 -- It read the stream to its end, whose graph is built.
 pub record WasRead (w : Setting) (order : Order) (fetched : List ℕ) (noted : List Item) (cells : ℕ) (source : SourceSeen) (t : DecodingSeen) (x : Stream) : Type 0 where
@@ -159,10 +166,15 @@ FaultOf reach w order fetched noted cells source t (fault.Bad place why) = Refus
 FaultOf reach w order fetched noted cells source t fault.ReadFault = Unread reach w order fetched noted cells source t × HasRisen source.faults
 FaultOf reach w order fetched noted cells source t fault.Memory = CutOff reach w order fetched noted cells source t
 
--- a root, or a referent, and its agreements
+-- a root, and its agreements
 abbrev pub Reads : (w : Setting) → IsLegalSide w → Order → List ℕ → List Item → ℕ → ℕ → SourceSeen → DecodingSeen → Stream → Result (Unit {0}) DecodeFault → Type 0
 Reads w side order fetched noted cells n source t x (Ok u) = WentOn w side order fetched noted cells source t x n
 Reads w side order fetched noted cells n source t x (Err e) = FaultOf the_head w order fetched noted cells source t e
+
+-- a referent, and the agreements of its pointer, which may give the next of those that are pending
+abbrev pub ReadsTaking : (w : Setting) → IsLegalSide w → Order → List ℕ → List Item → ℕ → ℕ → SourceSeen → DecodingSeen → Stream → Result (Option code.Owed) DecodeFault → Type 0
+ReadsTaking w side order fetched noted cells n source t x (Ok q) = WentOnTaking w side order fetched noted cells source t q x n
+ReadsTaking w side order fetched noted cells n source t x (Err e) = FaultOf the_head w order fetched noted cells source t e
 
 -- It went on until nothing was pending.
 abbrev pub WentThrough : (w : Setting) → IsLegalSide w → Order → List ℕ → List Item → ℕ → SourceSeen → DecodingSeen → Stream → ℕ → Type 0
@@ -184,10 +196,10 @@ RootReads plan order i x source t y result =
     → Reads w side order fetched noted (cells_of x) n source t y result
 
 -- the next of the pending referents
-abbrev pub ReferentReads : Plan → Order → code.Owed → Stream → SourceSeen → DecodingSeen → Stream → Result (Unit {0}) DecodeFault → Type 0
+abbrev pub ReferentReads : Plan → Order → code.Owed → Stream → SourceSeen → DecodingSeen → Stream → Result (Option code.Owed) DecodeFault → Type 0
 ReferentReads plan order o x source t y result =
     (w : Setting) (side : IsLegalSide w) (fetched : List ℕ) (noted : List Item) (direct : ℕ) (s : Reading) (seen : List EntryAt) (p : Pending) (ps : List Pending) (n : ℕ) → w.table ≡ plan.tie.types
-    → StandsWith w side order fetched noted direct o x s seen p ps n → Reads w side order fetched noted (cells_of x) n source t y result
+    → StandsWith w side order fetched noted direct o x s seen p ps n → ReadsTaking w side order fetched noted (cells_of x) n source t y result
 
 -- all that is pending
 abbrev pub PendingReads : Plan → Order → Stream → SourceSeen → DecodingSeen → Stream → Result (Unit {0}) DecodeFault → Type 0

@@ -34,7 +34,7 @@ pub fn read_home<S: Source, L: Ledger>(
 {
     run(
         order,
-        plan.code.as_slice(),
+        &plan.code,
         &plan.values,
         machine,
         intake,

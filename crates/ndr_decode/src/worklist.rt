@@ -1,11 +1,11 @@
 // Pending referents.
-ghost use Rattle.std.specs.Prelude.{◌≡◌, ◌≤◌, ◌+◌, Some, None, length, map, OnOk};
+ghost use Rattle.std.specs.Prelude.{◌≡◌, ◌≤◌, ◌+◌, Some, None, [], length, map, OnOk, IfOk, IfSome, IfNone};
 ghost use Rattle.nd_base.specs.Over.{source_seen};
 ghost use Rattle.nd_types.specs.declared.types.Class.TheVariants.{Full};
 ghost use Rattle.ndr_state.specs.Seen.{agreement_of, owed_of};
 ghost use Rattle.ndr_verdict.specs.Verdict.{decoding_seen};
 ghost use Rattle.ndr_stream.specs.Between.{kept_at};
-ghost use Rattle.ndr_decode.specs.Streaming.{IsAtReferent, IsStreaming, PendingReads, ReferentReads, purpose_of};
+ghost use Rattle.ndr_decode.specs.Streaming.{IsAtReferent, IsStreaming, PendingReads, ReferentReads, purpose_of, with_taken};
 ghost use Rattle.ndr_decode.specs.Tried.{AreTried};
 
 use crate::homes::read_home;
@@ -35,17 +35,34 @@ pub(crate) fn read_pending<S: Source, L: Ledger>(
     ensures same { OnOk result (purpose_of stream.new ≡ purpose_of stream.old) }
     ensures later { S.Source.faults source.old ≤ S.Source.faults source.new }
 {
+    let mut next = None;
     // No stream within the limit has so many referents.
     for _turn in 0..u64::MAX {
-        let Some(owed) = stream.todo.pop() else {
+        let Some(owed) = take_next(next, stream) else {
             return Ok(());
         };
-        read_owed(plan, order, owed, stream, intake, source, items, steps)?;
+        next = read_owed(plan, order, owed, stream, intake, source, items, steps)?;
     }
     Err(DecodeFault::Memory)
 }
 
-// The referent of a pointer that was taken from those that are pending, if it was not read yet, and the pointer's agreements. A null pointer has none.
+// The next of the pending referents: the one that was given, if one was.
+#[inline(always)]
+fn take_next(given: Option<Owed>, stream: &mut Stream) -> Option<Owed>
+    requires within { IfSome given (λ o. o.from + o.len ≤ length stream.old.wanted.items) }
+    ensures same { with_taken result stream.new ≡ with_taken given stream.old }
+    ensures machine { stream.new.machine ≡ stream.old.machine }
+    ensures within { IfSome result (λ o. o.from + o.len ≤ length stream.new.wanted.items) }
+    ensures none { IfNone result (stream.new.todo.items ≡ []) }
+{
+    match given {
+        Some(owed) => Some(owed),
+        None => stream.todo.pop(),
+    }
+}
+
+// The referent of a pointer that was taken from those that are pending, if it was not read yet, and the pointer's agreements. A null pointer has none. It may give
+// the next of those that are pending.
 #[inline(always)]
 fn read_owed<S: Source, L: Ledger>(
     plan: &Plan,
@@ -56,20 +73,22 @@ fn read_owed<S: Source, L: Ledger>(
     source: &mut S,
     items: &mut ItemLog,
     steps: &mut Steps<L>,
-) -> Result<(), DecodeFault>
+) -> Result<Option<Owed>, DecodeFault>
     requires next { IsAtReferent plan.now order owed stream.old }
     requires within { owed.from + owed.len ≤ length stream.old.wanted.items }
     ensures reads { ReferentReads plan.now order owed stream.old (source_seen S.Source.left S.Source.ended S.Source.faults source.old source.new)
         (decoding_seen items.old items.new (L.number steps.old) (L.number steps.new)) stream.new result }
+    ensures given { IfOk result (λ q. IfSome q (λ o. o.from + o.len ≤ length stream.new.wanted.items)) }
     ensures same { OnOk result (purpose_of stream.new ≡ purpose_of stream.old) }
     ensures later { S.Source.faults source.old ≤ S.Source.faults source.new }
 {
     let Some(cell) = owed.cell else {
-        return Ok(());
+        return Ok(None);
     };
     if let Class::Full = owed.class {
         if let Some(kept) = stream.kept_cell(cell) {
-            return try_all(stream.wanted.as_slice(), owed, kept);
+            try_all(stream.wanted.as_slice(), owed, kept)?;
+            return Ok(None);
         }
     }
     read_referent(
@@ -89,13 +108,14 @@ fn read_referent<S: Source, L: Ledger>(
     source: &mut S,
     items: &mut ItemLog,
     steps: &mut Steps<L>,
-) -> Result<(), DecodeFault>
+) -> Result<Option<Owed>, DecodeFault>
     requires next { IsAtReferent plan.now order owed stream.old }
     requires within { owed.from + owed.len ≤ length stream.old.wanted.items }
     requires cell { owed.cell ≡ Some cell }
     requires unread { owed.class ≡ Full → kept_at stream.old.cells.items cell.0 ≡ None }
     ensures reads { ReferentReads plan.now order owed stream.old (source_seen S.Source.left S.Source.ended S.Source.faults source.old source.new)
         (decoding_seen items.old items.new (L.number steps.old) (L.number steps.new)) stream.new result }
+    ensures given { IfOk result (λ q. IfSome q (λ o. o.from + o.len ≤ length stream.new.wanted.items)) }
     ensures same { OnOk result (purpose_of stream.new ≡ purpose_of stream.old) }
     ensures later { S.Source.faults source.old ≤ S.Source.faults source.new }
 {
@@ -111,13 +131,13 @@ fn read_referent<S: Source, L: Ledger>(
     )?;
     if owed.len == 0 {
         stream.pass_cell(cell)?;
-        stream.settle_ahead(source.ahead())?;
-        return Ok(());
+        let next = stream.settle_ahead(source.ahead())?;
+        return Ok(next);
     }
     let kept = stream.end_cell(cell)?;
     try_all(stream.wanted.as_slice(), owed, kept)?;
     stream.settle()?;
-    Ok(())
+    Ok(None)
 }
 
 // Tries the agreements of a pointer in its referent.

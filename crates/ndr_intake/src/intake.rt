@@ -1,13 +1,13 @@
 // Octets that are fetched as they are wanted.
-ghost use Rattle.std.specs.Prelude.{◌≡◌, ℕ, ◌+◌, ◌<◌, ◌≤◌, ◌^◌, [], length, true, false, Option, List, IfOk, IfErr, OnErr, IsErrOf};
-ghost use Rattle.std.specs.Io.KnownBytes.{Consumes, IsAtEnd};
-ghost use Rattle.nd_base.specs.Over.{source_seen};
+ghost use Rattle.std.specs.Prelude.{◌≡◌, ℕ, ◌+◌, ◌<◌, ◌≤◌, ◌^◌, [], ◌++◌, length, take, true, false, Option, List, IfOk, IfErr, OnOk, OnErr, IsErrOf};
+ghost use Rattle.std.specs.Io.KnownBytes.{Consumes, IsAtEnd, Keeps};
+ghost use Rattle.nd_base.specs.Over.{source_seen, HasRisen};
 ghost use Rattle.nd_base.specs.declared.TheConstants.{STREAM_LIMIT};
 ghost use Rattle.ndr_intake.specs.declared.intake.IntakeFault.TheVariants.{TooLong};
 ghost use Rattle.ndr_intake.specs.Intake.{IsItemFault, IsGapFault, IsFailed};
 
 use crate::PIECE;
-use nd_base::{Memory, STREAM_LIMIT, Source};
+use nd_base::{Memory, ReadFailed, STREAM_LIMIT, Source};
 use std::alloc::Global;
 use std::marker::Model;
 use thiserror::Error;
@@ -30,22 +30,23 @@ pub enum IntakeFault {
 }
 
 /// The octets of the gap or primitive that is due, fetched from a source. Contracts see those that it holds: after any call exactly those that
-/// the call fetched. It keeps a buffer for a piece, and room for as many octets as it ever held; a claimed count alone takes no memory.
+/// the call fetched. It keeps a buffer, with room for as many octets as it ever held and a piece; a claimed count alone takes no memory.
 #[derive(Drop)]
 pub struct Intake {
-    piece: Vec<u8>,
-    held: Vec<u8>,
+    buffer: Vec<u8>,
+    // how many of the buffer are held, from its front
+    len: usize,
 }
 
 impl Model for Intake {
-    ghost use Rattle.std.specs.Prelude.{true, false, OnErr, List, ℕ, ◌≡◌, length};
+    ghost use Rattle.std.specs.Prelude.{List, ℕ, ◌≤◌, length, take};
     ghost use Rattle.ndr_intake.specs.declared.TheConstants.{PIECE};
 
     ghost Value = { List ℕ };
 
-    ghost view = { λ i. i.held.items };
+    ghost view = { λ i. take i.len i.buffer.items };
 
-    ghost invariant = { λ i. length i.piece.items ≡ PIECE };
+    ghost invariant = { λ i. (i.len ≤ length i.buffer.items) × (PIECE ≤ length i.buffer.items) };
 }
 
 impl Intake {
@@ -53,11 +54,8 @@ impl Intake {
     pub fn new(alloc: Global) -> Result<Intake, Memory>
         ensures { IfOk result (λ i. i ≡ []) }
     {
-        let piece = vec![in alloc; 0u8; PIECE as usize]?;
-        Ok(Intake {
-            piece,
-            held: Vec::new(alloc),
-        })
+        let buffer = vec![in alloc; 0u8; PIECE as usize]?;
+        Ok(Intake { buffer, len: 0 })
     }
 
     /// The octets that it holds. Takes no memory.
@@ -65,7 +63,7 @@ impl Intake {
     pub fn octets(&self) -> &[u8]
         ensures { result.now ≡ self.now }
     {
-        self.held.as_slice()
+        &self.buffer[..self.len]
     }
 
     /// Fetches the octets of a gap, which begins at a place of the stream. A gap is never too long. What was held before is gone.
@@ -81,8 +79,8 @@ impl Intake {
         ensures fault { IfErr result (IsGapFault (source_seen S.Source.left S.Source.ended S.Source.faults source.old source.new) at count self.new) }
         ensures later { S.Source.faults source.old ≤ S.Source.faults source.new }
     {
-        self.held.clear();
-        fetch(source, &mut self.piece, &mut self.held, at, count)
+        self.len = 0;
+        self.fetch(source, at, count)
     }
 
     /// Fetches the octets of a primitive, which begins at a place of the stream, as `gap` does. `TooLong` is answered exactly if they would end
@@ -102,118 +100,129 @@ impl Intake {
         ensures fault { IfErr result (IsItemFault (source_seen S.Source.left S.Source.ended S.Source.faults source.old source.new) at count self.new) }
         ensures later { S.Source.faults source.old ≤ S.Source.faults source.new }
     {
-        self.held.clear();
+        self.len = 0;
         if STREAM_LIMIT - at < count {
             return Err(IntakeFault::TooLong);
         }
-        fetch(source, &mut self.piece, &mut self.held, at, count)
+        self.fetch(source, at, count)
     }
 
-    /// Fetches so many octets, a piece at most, if the source has them at hand, and says whether it did. Else, and at `Memory`, nothing is taken. What was
-    /// held before is gone; if the octets came, they are held. It takes memory for the octets before they are taken.
+    /// Fetches so many octets, a piece at most, if the source has them at hand, and says whether it did. Else nothing is taken. What was held before is gone;
+    /// if the octets came, they are held. Takes no memory.
     #[inline(always)]
-    pub fn at_hand<S: Source>(&mut self, source: &mut S, count: u32) -> Result<bool, Memory>
+    pub fn at_hand<S: Source>(&mut self, source: &mut S, count: u32) -> bool
         requires small { count ≤ PIECE }
-        ensures octets { IfOk result (λ came. came ≡ true → Consumes (S.Source.left source.old) (S.Source.left source.new) self.new) }
-        ensures all { IfOk result (λ came. came ≡ true → length self.new ≡ count) }
-        ensures nothing { IfOk result (λ came. came ≡ false → S.Source.left source.new ≡ S.Source.left source.old) }
-        ensures ended { IfOk result (λ came. came ≡ false → S.Source.ended source.new ≡ S.Source.ended source.old) }
-        ensures memory { OnErr result (source.new ≡ source.old) }
+        ensures octets { result ≡ true → Consumes (S.Source.left source.old) (S.Source.left source.new) self.new }
+        ensures all { result ≡ true → length self.new ≡ count }
+        ensures nothing { result ≡ false → S.Source.left source.new ≡ S.Source.left source.old }
+        ensures ended { result ≡ false → S.Source.ended source.new ≡ S.Source.ended source.old }
         ensures faults { S.Source.faults source.new ≡ S.Source.faults source.old }
     {
-        self.held.clear();
-        take_at_hand(source, &mut self.piece, &mut self.held, count as usize)
+        self.len = 0;
+        if !fill_front(source, &mut self.buffer, count as usize) {
+            return false;
+        }
+        self.len = count as usize;
+        true
+    }
+
+    // Fetches so many octets, piece by piece.
+    #[inline(always)]
+    fn fetch<S: Source>(&mut self, source: &mut S, at: u32, count: u32) -> Result<(), IntakeFault>
+        requires none { self.old ≡ [] }
+        requires small { at + count < 2 ^ 32 }
+        ensures octets { Consumes (S.Source.left source.old) (S.Source.left source.new) self.new }
+        ensures all { IfOk result (λ _. length self.new ≡ count) }
+        ensures fault { IfErr result (IsGapFault (source_seen S.Source.left S.Source.ended S.Source.faults source.old source.new) at count self.new) }
+        ensures later { S.Source.faults source.old ≤ S.Source.faults source.new }
+    {
+        let mut lacking = count;
+        while lacking > 0 {
+            let came = self.fetch_some(source, lacking)?;
+            if came == 0 {
+                return Err(IntakeFault::Truncated {
+                    place: at + (count - lacking),
+                });
+            }
+            lacking -= came;
+        }
+        Ok(())
+    }
+
+    // Fetches some octets more, a piece and so many at most: none only if the source has ended.
+    #[tactic(auto, using(crate::proofs::Taken::more_taken))]
+    #[inline(always)]
+    fn fetch_some<S: Source>(&mut self, source: &mut S, most: u32) -> Result<u32, IntakeFault>
+        requires some { 0 < most }
+        ensures octets { (start : Option (List ℕ)) → Consumes start (S.Source.left source.old) self.old → Consumes start (S.Source.left source.new) self.new }
+        ensures count { IfOk result (λ n. length self.new ≡ length self.old + n) }
+        ensures bound { IfOk result (λ n. n ≤ most) }
+        ensures end { IfOk result (λ n. n ≡ 0 → (S.Source.ended source.new ≡ true) × IsAtEnd (S.Source.left source.new)) }
+        ensures fault { IfErr result (IsFailed (source_seen S.Source.left S.Source.ended S.Source.faults source.old source.new)) }
+        ensures same { OnErr result (self.new ≡ self.old) }
+        ensures later { S.Source.faults source.old ≤ S.Source.faults source.new }
+    {
+        let room = PIECE.min(most) as usize;
+        if make_room(&mut self.buffer, self.len, room).is_err() {
+            return Err(IntakeFault::Memory);
+        }
+        let Ok(came) = fetch_behind(source, &mut self.buffer, self.len, room) else {
+            return Err(IntakeFault::ReadFault);
+        };
+        self.len += came;
+        Ok(came as u32)
     }
 }
 
-// Fetches so many octets, piece by piece.
+// Makes a buffer so long that it has room for so many octets after the first `len`.
 #[inline(always)]
-fn fetch<S: Source>(
-    source: &mut S,
-    piece: &mut [u8],
-    held: &mut Vec<u8>,
-    at: u32,
-    count: u32,
-) -> Result<(), IntakeFault>
-    requires none { held.old.items ≡ [] }
-    requires room { 0 < length piece.old }
-    requires small { at + count < 2 ^ 32 }
-    ensures octets { Consumes (S.Source.left source.old) (S.Source.left source.new) held.new.items }
-    ensures all { IfOk result (λ _. length held.new.items ≡ count) }
-    ensures fault { IfErr result (IsGapFault (source_seen S.Source.left S.Source.ended S.Source.faults source.old source.new) at count held.new.items) }
-    ensures later { S.Source.faults source.old ≤ S.Source.faults source.new }
-    ensures wide { length piece.new ≡ length piece.old }
+fn make_room(buffer: &mut Vec<u8>, len: usize, room: usize) -> Result<(), Memory>
+    requires within { len ≤ length buffer.old.items }
+    requires small { room ≤ PIECE }
+    ensures front { take len buffer.new.items ≡ take len buffer.old.items }
+    ensures room { OnOk result (len + room ≤ length buffer.new.items) }
+    ensures longer { length buffer.old.items ≤ length buffer.new.items }
 {
-    let mut lacking = count;
-    while lacking > 0 {
-        let came = fetch_some(source, piece, held, lacking)?;
-        if came == 0 {
-            return Err(IntakeFault::Truncated {
-                place: at + (count - lacking),
-            });
-        }
-        lacking -= came;
+    if buffer.len() - len < room {
+        buffer.resize(len + room, 0)?;
     }
     Ok(())
 }
 
-// Fetches some octets more, a piece and so many at most: none only if the source has ended.
-#[tactic(auto, using(crate::proofs::Taken::more_taken))]
+// Fetches so many octets at most to after the first `len` of a buffer, and reports how many came.
 #[inline(always)]
-fn fetch_some<S: Source>(
+fn fetch_behind<S: Source>(
     source: &mut S,
-    piece: &mut [u8],
-    held: &mut Vec<u8>,
-    most: u32,
-) -> Result<u32, IntakeFault>
-    requires some { 0 < most }
-    requires room { 0 < length piece.old }
-    ensures octets { (start : Option (List ℕ)) → Consumes start (S.Source.left source.old) held.old.items → Consumes start (S.Source.left source.new) held.new.items }
-    ensures count { IfOk result (λ n. length held.new.items ≡ length held.old.items + n) }
-    ensures bound { IfOk result (λ n. n ≤ most) }
+    buffer: &mut [u8],
+    len: usize,
+    room: usize,
+) -> Result<usize, ReadFailed>
+    requires within { len + room ≤ length buffer.old }
+    requires some { 0 < room }
+    ensures came { IfOk result (λ n. (os : List ℕ) × ((length os ≡ n) × (Consumes (S.Source.left source.old) (S.Source.left source.new) os × (take (len + n) buffer.new ≡ take len buffer.old ++ os)))) }
+    ensures bound { IfOk result (λ n. n ≤ room) }
     ensures end { IfOk result (λ n. n ≡ 0 → (S.Source.ended source.new ≡ true) × IsAtEnd (S.Source.left source.new)) }
-    ensures fault { IfErr result (IsFailed (source_seen S.Source.left S.Source.ended S.Source.faults source.old source.new)) }
-    ensures same { OnErr result (held.new.items ≡ held.old.items) }
+    ensures nothing { OnErr result (Keeps (S.Source.left source.old) (S.Source.left source.new)) }
+    ensures same { OnErr result (take len buffer.new ≡ take len buffer.old) }
+    ensures failed { OnErr result (HasRisen (source_seen S.Source.left S.Source.ended S.Source.faults source.old source.new).faults) }
     ensures later { S.Source.faults source.old ≤ S.Source.faults source.new }
-    ensures wide { length piece.new ≡ length piece.old }
+    ensures wide { length buffer.new ≡ length buffer.old }
 {
-    let room = piece.len().min(most as usize);
-    if held.reserve(room).is_err() {
-        return Err(IntakeFault::Memory);
+    match source.fetch(&mut buffer[len..len + room]) {
+        Ok(came) => Ok(came),
+        Err(failed) => Err(failed),
     }
-    let Ok(came) = source.fetch(&mut piece[..room]) else {
-        return Err(IntakeFault::ReadFault);
-    };
-    let Ok(()) = held.extend_from_slice(&piece[..came]) else {
-        unreachable!();
-    };
-    Ok(came as u32)
 }
 
-// So many octets, if the source has them at hand.
+// Fills the front of a buffer with so many octets, if the source has them at hand, and says whether it did.
 #[inline(always)]
-fn take_at_hand<S: Source>(
-    source: &mut S,
-    piece: &mut [u8],
-    held: &mut Vec<u8>,
-    count: usize,
-) -> Result<bool, Memory>
-    requires none { held.old.items ≡ [] }
-    requires room { count ≤ length piece.old }
-    ensures octets { IfOk result (λ came. came ≡ true → Consumes (S.Source.left source.old) (S.Source.left source.new) held.new.items) }
-    ensures all { IfOk result (λ came. came ≡ true → length held.new.items ≡ count) }
-    ensures nothing { IfOk result (λ came. came ≡ false → S.Source.left source.new ≡ S.Source.left source.old) }
-    ensures ended { IfOk result (λ came. came ≡ false → S.Source.ended source.new ≡ S.Source.ended source.old) }
-    ensures memory { OnErr result (source.new ≡ source.old) }
+fn fill_front<S: Source>(source: &mut S, buffer: &mut [u8], count: usize) -> bool
+    requires within { count ≤ length buffer.old }
+    ensures octets { result ≡ true → Consumes (S.Source.left source.old) (S.Source.left source.new) (take count buffer.new) }
+    ensures nothing { result ≡ false → S.Source.left source.new ≡ S.Source.left source.old }
+    ensures ended { result ≡ false → S.Source.ended source.new ≡ S.Source.ended source.old }
     ensures faults { S.Source.faults source.new ≡ S.Source.faults source.old }
-    ensures wide { length piece.new ≡ length piece.old }
+    ensures wide { length buffer.new ≡ length buffer.old }
 {
-    held.reserve(count)?;
-    if !source.fill(&mut piece[..count]) {
-        return Ok(false);
-    }
-    let Ok(()) = held.extend_from_slice(&piece[..count]) else {
-        unreachable!();
-    };
-    Ok(true)
+    source.fill(&mut buffer[..count])
 }

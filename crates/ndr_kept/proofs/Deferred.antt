@@ -1,16 +1,17 @@
 -- Pending referents and their agreements, which are kept beside those of the others.
-use Rattle.std.proofs.Common.{◌≡◌, ◌≤◌, ◌<◌, ℕ, ◌+◌, ◌-◌, zero, suc, List, [], ◌∷◌, ◌++◌, length, Some, refl, ap, ap₂, sym, ◌∙◌, subst, arith, map, take, drop, length-append}
+use Rattle.std.proofs.Common.{◌≡◌, ◌≤◌, ◌<◌, ℕ, ◌+◌, ◌-◌, zero, suc, List, [], ◌∷◌, ◌++◌, length, Option, Some, refl, ap, ap₂, sym, ◌∙◌, subst, arith, map, take, drop, length-append}
 use Rattle.std.specs.Prelude.{reverse, slice_get, slice_index_or, slice_range}
 use Rattle.std.specs.List.{AllByRecursion}
 use Rattle.std.proofs.lemmas.List.{reverse-append}
 use Rattle.std.proofs.lemmas.Option.{same_Some}
 use Rattle.nd_value.specs.Agreement.{Agreement}
 use Rattle.nd_value.specs.Seen.{cell_number}
+use Rattle.nd_value.specs.declared.value.CellId.{CellId}
 use Rattle.ndr_steps.specs.Steps.{Owed}
 use Rattle.ndr_state.specs.declared.machine.Owed as code
 use Rattle.ndr_state.specs.declared.machine.Wanted.{Wanted}
 use Rattle.ndr_state.specs.Seen.{agreement_of, owed_of}
-use Rattle.ndr_kept.specs.Seen.{pending_in}
+use Rattle.ndr_kept.specs.Seen.{AreSpans, pending_in}
 
 take_in : {X : Type 0} (n : ℕ) (xs ys : List X) → n ≤ length xs → take n (xs ++ ys) ≡ take n xs
 take_in zero xs ys l = refl
@@ -180,3 +181,23 @@ module _ (ws us : List Wanted) (fresh fresh' todo todo' : List code.Owed) (o : c
   one_within a =
       let l : o.from + o.len ≤ length ws = omega (arith, no_agreements) in
       subst (AllByRecursion (λ (p : code.Owed). p.from + p.len ≤ length ws)) (sym put) (all_in (λ (p : code.Owed). p.from + p.len ≤ length ws) todo (o ∷ []) a (l, tt))
+
+-- the only one
+only_is : (fresh : List code.Owed) (o : code.Owed) → length fresh < 2 → slice_get fresh 0 ≡ Some o → fresh ≡ o ∷ []
+only_is [] o l e = cc
+only_is (x ∷ []) o l e = ap (λ u. u ∷ []) (same_Some x o e)
+only_is (x ∷ y ∷ ys) o l e = absurd (omega (arith, l))
+
+abbrev pub made : code.Owed → Option CellId → List Agreement → Owed
+made o c ags = record { class = o.class; to = o.to.0; run = o.run; cell = cell_number c; agreements = ags }
+
+-- the only one, as it is given: it has no agreements
+pub only_given : (ws us : List Wanted) (fresh os : List code.Owed) (o : code.Owed) (c : Option CellId) → length fresh < 2 → AreSpans [] fresh → slice_get fresh 0 ≡ Some o → c ≡ o.cell
+    → made o c [] ∷ pending_in ws os ≡ map (owed_of us) fresh ++ pending_in ws os
+only_given ws us fresh os o c few spans there cell =
+    let is : fresh ≡ o ∷ [] = only_is fresh o few there in
+    let within : o.from + o.len ≤ 0 = (subst (AreSpans []) is spans).0 in
+    let none : o.len ≡ 0 = omega (arith, within) in
+    ap (λ u. made o u [] ∷ pending_in ws os) cell
+    ∙ ap (λ n. made o o.cell (map agreement_of (take n (drop o.from us))) ∷ pending_in ws os) (sym none)
+    ∙ sym (ap (λ xs. map (owed_of us) xs ++ pending_in ws os) is)

@@ -1,6 +1,6 @@
 -- What contracts see of a stream that is being decoded.
 -- `x` is a stream, `m` its machine.
-use Rattle.std.specs.Prelude.{◌≡◌, ◌≤◌, ℕ, ◌+◌, length, List, [], ◌∷◌, ◌++◌, map, reverse, Some, None}
+use Rattle.std.specs.Prelude.{◌≡◌, ◌≤◌, ℕ, ◌+◌, length, List, [], ◌∷◌, ◌++◌, map, reverse, Option, Some, None}
 use Rattle.std.specs.List.{AllByRecursion}
 use Rattle.nd_value.specs.Seen.{cell_number}
 use Rattle.nd_value.specs.declared.value.CellId.{CellId}
@@ -20,6 +20,11 @@ use Rattle.ndr_kept.specs.declared.stream.Stream.{Stream}
 -- the pending referents, from the next on, with the agreements of their pointers
 abbrev pub pending_in : List Wanted → List code.Owed → List Owed
 pending_in ws os = map (owed_of ws) (reverse os)
+
+-- the same after the one that was taken from them or given, if one was
+abbrev pub pending_with : Option code.Owed → List Wanted → List code.Owed → List Owed
+pending_with None ws os = pending_in ws os
+pending_with (Some o) ws os = owed_of ws o ∷ pending_in ws os
 
 -- the agreements of each of them are among those
 abbrev pub AreSpans : List Wanted → List code.Owed → Type 0

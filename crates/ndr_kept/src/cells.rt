@@ -1,9 +1,9 @@
 // What is kept of cells, in little room.
-ghost use Rattle.std.specs.Prelude.{◌≡◌, ◌<◌, ◌^◌, ◌++◌, ℕ, [], List, length, map, slice_get, Some, true, OnOk, IfOk};
+ghost use Rattle.std.specs.Prelude.{◌≡◌, ◌<◌, ◌^◌, ℕ, [], length, slice_get, Some, true, OnOk, IfOk, IfSome};
 ghost use Rattle.std.specs.List.{AllByRecursion};
-ghost use Rattle.ndr_stream.specs.declared.kept.Kept.{Kept};
 ghost use Rattle.ndr_stream.specs.Between.{CellKept, or_none};
-ghost use Rattle.ndr_kept.specs.Entries.{IsListed, IsPut, entry_seen, plain};
+ghost use Rattle.ndr_kept.specs.declared.cells.Lists.{Lists};
+ghost use Rattle.ndr_kept.specs.Entries.{HasGrown, IsListed, IsPut, counts_kept, entry_seen, plain, said_at};
 
 use nd_base::{Memory, push};
 use nd_value::CellId;
@@ -19,20 +19,39 @@ pub enum CellEntry {
     Unread,
     // No agreement speaks of its first node, and no maximum count is before it.
     Plain,
-    // It has this number in the list.
+    // It has this number in the list of counts.
+    Counted(u32),
+    // It has this number in the list of all others.
     Listed(u32),
 }
 
-/// What is kept of the cells that were read. Contracts see a list of it, by their numbers less one. A cell takes eight octets, and one that an agreement may
-/// speak of an item of a list more.
+/// What is kept of a string, or of an array, whose counts are side by side: they, and the place of its actual count. The maximum count is before its value, eight octets before
+/// that place.
+#[derive(Clone, Copy, Drop)]
+pub struct Counts {
+    pub max: u32,
+    pub offset: u32,
+    pub actual: u32,
+    pub place: u32,
+}
+
+// What is kept of the cells that are not plain.
+#[derive(Drop)]
+pub struct Lists {
+    pub counted: Vec<Counts>,
+    pub listed: Vec<Kept>,
+}
+
+/// What is kept of the cells that were read. Contracts see a list of it, by their numbers less one. A cell takes eight octets, one that an agreement may speak of
+/// an item of a list more, of which counts side by side take sixteen octets.
 #[derive(Drop)]
 pub struct KeptCells {
     entries: Vec<CellEntry>,
-    listed: Vec<Kept>,
+    lists: Lists,
 }
 
 impl Model for KeptCells {
-    ghost use Rattle.std.specs.Prelude.{length, map};
+    ghost use Rattle.std.specs.Prelude.{map};
     ghost use Rattle.std.specs.List.{AllByRecursion};
     ghost use Rattle.ndr_kept.specs.Cells.{CellsSeen};
 
@@ -40,9 +59,9 @@ impl Model for KeptCells {
 
     ghost use Rattle.ndr_kept.specs.Entries.{IsListed, entry_seen};
 
-    ghost view = { λ c. record { items = map (entry_seen c.listed.items) c.entries.items } };
+    ghost view = { λ c. record { items = map (entry_seen c.lists) c.entries.items } };
 
-    ghost invariant = { λ c. AllByRecursion (IsListed (length c.listed.items)) c.entries.items };
+    ghost invariant = { λ c. AllByRecursion (IsListed c.lists) c.entries.items };
 }
 
 impl KeptCells {
@@ -52,7 +71,10 @@ impl KeptCells {
     {
         KeptCells {
             entries: Vec::new(alloc),
-            listed: Vec::new(alloc),
+            lists: Lists {
+                counted: Vec::new(alloc),
+                listed: Vec::new(alloc),
+            },
         }
     }
 
@@ -62,7 +84,7 @@ impl KeptCells {
         ensures { result ≡ or_none (slice_get self.now.items at) }
     {
         match self.entries.as_slice().get(at) {
-            Some(entry) => found(self.listed.as_slice(), *entry),
+            Some(entry) => found(&self.lists, *entry),
             None => None,
         }
     }
@@ -90,7 +112,7 @@ impl KeptCells {
         requires there { 0 < cell.0 }
         ensures kept { OnOk result (CellKept cell.0 kept self.old.items self.new.items) }
     {
-        let entry = entry_of(&mut self.listed, kept)?;
+        let entry = entry_of(&mut self.lists, kept)?;
         put(&mut self.entries, cell.0 as usize - 1, entry)?;
         Ok(())
     }
@@ -104,33 +126,65 @@ impl KeptCells {
         put(&mut self.entries, cell.0 as usize - 1, CellEntry::Plain)?;
         Ok(())
     }
+
+    /// Keeps of a cell that was read the counts of its first node, as `keep` does.
+    #[inline(always)]
+    pub fn keep_counts(&mut self, cell: CellId, counts: Counts) -> Result<(), Memory>
+        requires there { 0 < cell.0 }
+        ensures kept { OnOk result (CellKept cell.0 (counts_kept counts) self.old.items self.new.items) }
+    {
+        let counted = count(&mut self.lists, counts)?;
+        put(&mut self.entries, cell.0 as usize - 1, counted)?;
+        Ok(())
+    }
 }
 
 // What an entry says.
-#[inline(always)]
-fn found(listed: &[Kept], entry: CellEntry) -> Option<Kept>
-    ensures { result ≡ entry_seen listed.now entry }
+fn found(lists: &Lists, entry: CellEntry) -> Option<Kept>
+    ensures { result ≡ entry_seen lists.now entry }
 {
     match entry {
         CellEntry::Unread => None,
         CellEntry::Plain => Some(PLAIN),
-        CellEntry::Listed(number) => match listed.get(number as usize) {
+        CellEntry::Counted(number) => match lists.counted.as_slice().get(number as usize) {
+            Some(counts) => Some(kept_counts(*counts)),
+            None => None,
+        },
+        CellEntry::Listed(number) => match lists.listed.as_slice().get(number as usize) {
             Some(kept) => Some(*kept),
             None => None,
         },
     }
 }
 
+// What counts say.
+fn kept_counts(counts: Counts) -> Kept
+    ensures { result ≡ counts_kept counts }
+{
+    Kept {
+        first: First::Counted {
+            max: counts.max,
+            offset: counts.offset,
+            actual: counts.actual,
+            place: Some(counts.place),
+        },
+        max_at: Some(counts.place.saturating_sub(8)),
+    }
+}
+
 // The entry of a cell of which this is kept; it is listed, unless it is plain.
-fn entry_of(listed: &mut Vec<Kept>, kept: Kept) -> Result<CellEntry, Memory>
-    ensures grown { (more : List Kept) × (listed.new.items ≡ listed.old.items ++ more) }
-    ensures seen { IfOk result (λ e. entry_seen listed.new.items e ≡ Some kept) }
-    ensures within { IfOk result (λ e. IsListed (length listed.new.items) e) }
+fn entry_of(lists: &mut Lists, kept: Kept) -> Result<CellEntry, Memory>
+    ensures grown { HasGrown lists.old lists.new }
+    ensures seen { IfOk result (λ e. entry_seen lists.new e ≡ Some kept) }
+    ensures within { IfOk result (λ e. IsListed lists.new e) }
 {
     if is_plain(kept) {
         return Ok(CellEntry::Plain);
     }
-    list(listed, kept)
+    match counts_of(kept.first, kept.max_at) {
+        Some(counts) => count(lists, counts),
+        None => list(lists, kept),
+    }
 }
 
 // Whether no agreement speaks of the first node of a home, and no maximum count is before it.
@@ -152,18 +206,64 @@ fn is_plain(kept: Kept) -> bool
     }
 }
 
-// Lists what is kept of a cell.
-fn list(listed: &mut Vec<Kept>, kept: Kept) -> Result<CellEntry, Memory>
-    ensures grown { (more : List Kept) × (listed.new.items ≡ listed.old.items ++ more) }
-    ensures seen { IfOk result (λ e. entry_seen listed.new.items e ≡ Some kept) }
-    ensures within { IfOk result (λ e. IsListed (length listed.new.items) e) }
+/// The counts of a home with this first node and the maximum count at this place before it, if they are side by side.
+#[inline(always)]
+pub(crate) fn counts_of(first: First, max_at: Option<u32>) -> Option<Counts>
+    ensures { IfSome result (λ n. ((counts_kept n).first ≡ first) × ((counts_kept n).max_at ≡ max_at)) }
 {
-    let number = listed.as_slice().len();
+    let First::Counted {
+        max,
+        offset,
+        actual,
+        place: Some(place),
+    } = first
+    else {
+        return None;
+    };
+    let Some(max_at) = max_at else {
+        return None;
+    };
+    if max_at != place.saturating_sub(8) {
+        return None;
+    }
+    Some(Counts {
+        max,
+        offset,
+        actual,
+        place,
+    })
+}
+
+// Lists the counts of a cell.
+#[inline(always)]
+fn count(lists: &mut Lists, counts: Counts) -> Result<CellEntry, Memory>
+    ensures grown { HasGrown lists.old lists.new }
+    ensures seen { IfOk result (λ e. entry_seen lists.new e ≡ Some (counts_kept counts)) }
+    ensures within { IfOk result (λ e. IsListed lists.new e) }
+{
+    let number = lists.counted.as_slice().len();
     // No memory has room for so many.
     if number >= 4_294_967_296 {
         return Err(Memory);
     }
-    let Ok(()) = listed.push(kept) else {
+    let Ok(()) = push(&mut lists.counted, counts) else {
+        return Err(Memory);
+    };
+    Ok(CellEntry::Counted(number as u32))
+}
+
+// Lists what is kept of a cell.
+fn list(lists: &mut Lists, kept: Kept) -> Result<CellEntry, Memory>
+    ensures grown { HasGrown lists.old lists.new }
+    ensures seen { IfOk result (λ e. entry_seen lists.new e ≡ Some kept) }
+    ensures within { IfOk result (λ e. IsListed lists.new e) }
+{
+    let number = lists.listed.as_slice().len();
+    // No memory has room for so many.
+    if number >= 4_294_967_296 {
+        return Err(Memory);
+    }
+    let Ok(()) = push(&mut lists.listed, kept) else {
         return Err(Memory);
     };
     Ok(CellEntry::Listed(number as u32))
@@ -174,7 +274,7 @@ fn list(listed: &mut Vec<Kept>, kept: Kept) -> Result<CellEntry, Memory>
 fn put(entries: &mut Vec<CellEntry>, at: usize, entry: CellEntry) -> Result<(), Memory>
     requires small { at < 2 ^ 32 }
     ensures put { OnOk result (IsPut at entry entries.old.items entries.new.items) }
-    ensures within { (n : ℕ) → AllByRecursion (IsListed n) entries.old.items → IsListed n entry → AllByRecursion (IsListed n) entries.new.items }
+    ensures within { (l : Lists) → AllByRecursion (IsListed l) entries.old.items → IsListed l entry → AllByRecursion (IsListed l) entries.new.items }
 {
     if at == entries.as_slice().len() {
         push(entries, entry)?;
@@ -188,7 +288,7 @@ fn put(entries: &mut Vec<CellEntry>, at: usize, entry: CellEntry) -> Result<(), 
 fn put_apart(entries: &mut Vec<CellEntry>, at: usize, entry: CellEntry) -> Result<(), Memory>
     requires small { at < 2 ^ 32 }
     ensures put { OnOk result (IsPut at entry entries.old.items entries.new.items) }
-    ensures within { (n : ℕ) → AllByRecursion (IsListed n) entries.old.items → IsListed n entry → AllByRecursion (IsListed n) entries.new.items }
+    ensures within { (l : Lists) → AllByRecursion (IsListed l) entries.old.items → IsListed l entry → AllByRecursion (IsListed l) entries.new.items }
 {
     reach(entries, at)?;
     entries[at] = entry;
@@ -199,8 +299,8 @@ fn put_apart(entries: &mut Vec<CellEntry>, at: usize, entry: CellEntry) -> Resul
 fn reach(entries: &mut Vec<CellEntry>, at: usize) -> Result<(), Memory>
     requires small { at < 2 ^ 32 }
     ensures long { OnOk result (at < length entries.new.items) }
-    ensures same { (ks : List Kept) (i : ℕ) → or_none (slice_get (map (entry_seen ks) entries.new.items) i) ≡ or_none (slice_get (map (entry_seen ks) entries.old.items) i) }
-    ensures within { (n : ℕ) → AllByRecursion (IsListed n) entries.old.items → AllByRecursion (IsListed n) entries.new.items }
+    ensures same { (l : Lists) (i : ℕ) → said_at l entries.new.items i ≡ said_at l entries.old.items i }
+    ensures within { (l : Lists) → AllByRecursion (IsListed l) entries.old.items → AllByRecursion (IsListed l) entries.new.items }
 {
     for _next in entries.as_slice().len()..at + 1 {
         let Ok(()) = push(entries, CellEntry::Unread) else {

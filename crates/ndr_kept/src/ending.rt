@@ -1,11 +1,12 @@
 // Where homes end.
 ghost use Rattle.std.specs.Prelude.{◌≡◌, ◌<◌, OnOk, IfOk, IfErr};
 ghost use Rattle.ndr_state.specs.declared.fault.DecodeFault.TheVariants as fault;
-ghost use Rattle.ndr_kept.specs.Entries.{plain};
+ghost use Rattle.ndr_kept.specs.Entries.{counts_kept, plain};
 ghost use Rattle.ndr_kept.specs.Seen.{CellEnds, CellPassed, HasOwn, ReferenceEnds, RootEnds};
 
 use crate::Stream;
-use crate::looking::{is_plain_home, kept_home, named_cell};
+use crate::cells::Counts;
+use crate::looking::{home_counts, is_plain_home, kept_home, named_cell};
 use nd_base::Memory;
 use nd_value::CellId;
 use ndr_state::DecodeFault;
@@ -49,6 +50,9 @@ impl Stream {
         if is_plain_home(&self.machine) {
             return self.pass_plain(cell);
         }
+        if let Some(counts) = home_counts(&self.machine) {
+            return self.pass_counted(cell, counts);
+        }
         self.pass_other(cell)
     }
 
@@ -63,7 +67,18 @@ impl Stream {
         Ok(())
     }
 
-    // The same where something of it may have to be.
+    // The same where its counts are all that has to be.
+    #[inline(always)]
+    fn pass_counted(&mut self, cell: CellId, counts: Counts) -> Result<(), Memory>
+        requires there { 0 < cell.0 }
+        requires own { HasOwn self.old.machine (counts_kept counts) }
+        ensures ends { OnOk result (CellPassed cell.0 self.old self.new) }
+    {
+        self.cells.keep_counts(cell, counts)?;
+        Ok(())
+    }
+
+    // The same where something else of it may have to be.
     #[inline(never)]
     fn pass_other(&mut self, cell: CellId) -> Result<(), Memory>
         requires there { 0 < cell.0 }

@@ -1,13 +1,14 @@
 // What is kept of homes.
-ghost use Rattle.std.specs.Prelude.{◌≡◌, ◌<◌, List, map, OnOk, true};
+ghost use Rattle.std.specs.Prelude.{◌≡◌, ◌<◌, List, map, OnOk, IfSome, true};
 ghost use Rattle.nd_value.specs.Seen.{cell_number};
 ghost use Rattle.ndr_state.specs.Seen.{owed_of};
 ghost use Rattle.ndr_state.specs.declared.machine.Wanted.{Wanted};
 ghost use Rattle.ndr_stream.specs.Between.{CellKept, kept_at, named_by};
-ghost use Rattle.ndr_kept.specs.Entries.{plain};
+ghost use Rattle.ndr_kept.specs.Entries.{counts_kept, plain};
 ghost use Rattle.ndr_kept.specs.Seen.{HasOwn, KeepsOthers};
 
 use crate::Stream;
+use crate::cells::{Counts, counts_of};
 use nd_base::Memory;
 use nd_value::CellId;
 use ndr_state::{Machine, Owed};
@@ -37,6 +38,17 @@ pub(crate) fn is_plain_home(machine: &Machine) -> bool
     match machine.own {
         Some(First::Other) => machine.max_at.is_none(),
         _ => false,
+    }
+}
+
+// The counts of the home that was read, if they are side by side.
+#[inline(always)]
+pub(crate) fn home_counts(machine: &Machine) -> Option<Counts>
+    ensures { IfSome result (λ n. HasOwn machine.now (counts_kept n)) }
+{
+    match machine.own {
+        Some(first) => counts_of(first, machine.max_at),
+        None => None,
     }
 }
 

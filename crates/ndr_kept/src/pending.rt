@@ -1,11 +1,14 @@
 // Pending referents.
-ghost use Rattle.std.specs.Prelude.{◌≡◌, ◌≤◌, ◌<◌, ◌+◌, ◌++◌, ◌∷◌, [], length, reverse, OnOk};
+ghost use Rattle.std.specs.Prelude.{◌≡◌, ◌≤◌, ◌<◌, ◌+◌, ◌++◌, ◌∷◌, [], List, length, map, reverse, OnOk, IfOk, IfSome};
 ghost use Rattle.ndr_state.specs.Seen.{owed_of, state_of};
-ghost use Rattle.ndr_kept.specs.Seen.{AreSpans, IsCleared, KeepsHomes, pending_in};
+ghost use Rattle.ndr_kept.specs.Seen.{AreSpans, IsCleared, KeepsHomes, pending_in, pending_with};
+ghost use Rattle.ndr_state.specs.declared.machine.Owed.{Owed};
+ghost use Rattle.ndr_state.specs.declared.machine.Wanted.{Wanted};
 
 use crate::Stream;
 use crate::room::make_room;
 use nd_base::{Memory, push};
+use nd_value::CellId;
 use ndr_state::{Machine, Owed, Wanted};
 use std::mem;
 
@@ -24,30 +27,49 @@ impl Stream {
         self.settle_all()
     }
 
-    /// Does what `settle` does. Where the list of what is kept of cells is full, it first makes room for what so many octets at hand will give, if memory has it.
+    /// Does what `settle` does, but the pointer of a home that has one at most, and no agreements, does not become pending: it is given, and it is the next one.
+    /// Where the list of what is kept of cells is full, it first makes room for what so many octets at hand will give, if memory has it.
     #[inline(always)]
-    pub fn settle_ahead(&mut self, ahead: usize) -> Result<(), Memory>
-        ensures pending { OnOk result (pending_in self.new.wanted.items self.new.todo.items ≡ (state_of self.old.machine).fresh ++ pending_in self.old.wanted.items self.old.todo.items) }
+    pub fn settle_ahead(&mut self, ahead: usize) -> Result<Option<Owed>, Memory>
+        ensures pending { IfOk result (λ q. pending_with q self.new.wanted.items self.new.todo.items ≡ (state_of self.old.machine).fresh ++ pending_in self.old.wanted.items self.old.todo.items) }
+        ensures within { IfOk result (λ q. IfSome q (λ o. o.from + o.len ≤ length self.new.wanted.items)) }
         ensures cleared { OnOk result (IsCleared self.old.machine self.new.machine) }
         ensures homes { KeepsHomes self.old self.new }
     {
         if self.cells.is_full() {
-            return self.settle_with_room(ahead);
+            make_room(&mut self.machine, &mut self.cells, ahead);
         }
-        self.settle()
+        self.settle_or_give()
     }
 
-    // The same where that list is full.
-    #[cold]
-    #[inline(never)]
-    fn settle_with_room(&mut self, ahead: usize) -> Result<(), Memory>
-        ensures pending { OnOk result (pending_in self.new.wanted.items self.new.todo.items ≡ (state_of self.old.machine).fresh ++ pending_in self.old.wanted.items self.old.todo.items) }
+    // The same without room.
+    #[inline(always)]
+    fn settle_or_give(&mut self) -> Result<Option<Owed>, Memory>
+        ensures pending { IfOk result (λ q. pending_with q self.new.wanted.items self.new.todo.items ≡ (state_of self.old.machine).fresh ++ pending_in self.old.wanted.items self.old.todo.items) }
+        ensures within { IfOk result (λ q. IfSome q (λ o. o.from + o.len ≤ length self.new.wanted.items)) }
         ensures cleared { OnOk result (IsCleared self.old.machine self.new.machine) }
         ensures homes { KeepsHomes self.old self.new }
     {
-        make_room(&mut self.machine, &mut self.cells, ahead);
-        self.settle()?;
-        Ok(())
+        if self.machine.fresh.as_slice().len() < 2 && self.machine.wanted.as_slice().len() == 0 {
+            return Ok(self.give_one());
+        }
+        self.settle_all()?;
+        Ok(None)
+    }
+
+    // The pointer of a home that has one at most, and no agreements.
+    #[inline(always)]
+    fn give_one(&mut self) -> Option<Owed>
+        requires few { length self.old.machine.fresh.items < 2 }
+        requires none { self.old.machine.wanted.items ≡ [] }
+        ensures pending { pending_with result self.new.wanted.items self.new.todo.items ≡ (state_of self.old.machine).fresh ++ pending_in self.old.wanted.items self.old.todo.items }
+        ensures within { IfSome result (λ o. o.from + o.len ≤ length self.new.wanted.items) }
+        ensures cleared { IsCleared self.old.machine self.new.machine }
+        ensures homes { KeepsHomes self.old self.new }
+    {
+        let given = only_one(self.machine.fresh.as_slice());
+        self.machine.fresh.clear();
+        given
     }
 
     // The pointer of a home that has one at most, and no agreements, becomes the next of the pending referents.
@@ -97,6 +119,38 @@ impl Stream {
             &mut self.machine.fresh,
         );
         forget(&mut self.machine);
+    }
+}
+
+// The only one of pointers that have no agreements, if there is one. Its parts are read one by one, as they were written.
+#[inline(always)]
+fn only_one(fresh: &[Owed]) -> Option<Owed>
+    requires few { length fresh.now < 2 }
+    requires none { AreSpans [] fresh.now }
+    ensures pending { (ws us : List Wanted) (os : List Owed) → pending_with result ws os ≡ map (owed_of us) fresh.now ++ pending_in ws os }
+    ensures within { IfSome result (λ o. o.from + o.len ≡ 0) }
+{
+    let Some(owed) = fresh.first() else {
+        return None;
+    };
+    Some(Owed {
+        class: owed.class,
+        to: owed.to,
+        run: owed.run,
+        cell: same_cell(&owed.cell),
+        from: 0,
+        len: 0,
+    })
+}
+
+// The cell that a pointer names.
+#[inline(always)]
+fn same_cell(cell: &Option<CellId>) -> Option<CellId>
+    ensures { result ≡ cell.now }
+{
+    match cell {
+        Some(cell) => Some(*cell),
+        None => None,
     }
 }
 

@@ -24,8 +24,8 @@ use Rattle.ndr_runs.specs.Reaching.{Reaches, IsSafe, begins}
 use Rattle.ndr_runs.specs.Rows.{HasLeft, with_fewer}
 use Rattle.ndr_runs.specs.Records.{Slot, records_len, record_flats, record_items, records_read}
 use Rattle.ndr_runs.proofs.RecordSteps.{records_come}
-use Rattle.ndr_state.specs.declared.fault.DecodeFault.{DecodeFault}
-use Rattle.ndr_state.specs.declared.fault.DecodeFault.TheVariants as fault
+use Rattle.ndr_leaps.specs.declared.fault.LeapFault.{LeapFault}
+use Rattle.ndr_leaps.specs.declared.fault.LeapFault.TheVariants as leap
 use Rattle.ndr_state.specs.declared.machine.Machine.{Machine}
 use Rattle.ndr_state.specs.Seen.{state_of}
 use Rattle.ndr_state.specs.Notes.{ticks}
@@ -120,12 +120,12 @@ count_fits code m ps count len n safe found wide =
 
 -- ## Where memory failed
 
-handed_on : (r : Result Bool DecodeFault) (e : DecodeFault) → IsErrAnd r (λ y. y ≡ e) → r ≡ Err e
+handed_on : (r : Result Bool LeapFault) (e : LeapFault) → IsErrAnd r (λ y. y ≡ e) → r ≡ Err e
 handed_on (Ok t) e h = absurd h
 handed_on (Err y) e h = ap Err h
 
 pub given_up : (values : List EnumList) (order : Order) (code : List Instr) (h : Home) (s s1 : State) (source : SourceSeen) (os : List ℕ) (steps steps_now : ℕ)
-    (r : Result Bool DecodeFault) (e : DecodeFault) → IsErrAnd r (λ y. y ≡ e) → e ≡ fault.Memory → AreOctets os → Consumes source.left source.left_now os → steps_now ≤ steps
+    (r : Result Bool LeapFault) (e : LeapFault) → IsErrAnd r (λ y. y ≡ e) → e ≡ leap.Memory → AreOctets os → Consumes source.left source.left_now os → steps_now ≤ steps
     → Leaps values order code h s source steps steps_now s1 r
 given_up values order code h s s1 source os steps steps_now r e err memory octets left counted =
     subst (Leaps values order code h s source steps steps_now s1) (sym (handed_on r e err ∙ ap Err memory)) (record {

@@ -16,8 +16,9 @@ use Rattle.ndr_steps.specs.StepItems.{step_items}
 use Rattle.ndr_steps.specs.Good.{HasOctets}
 use Rattle.ndr_runs.specs.Reaching.{Reaches, begins, steps_to}
 use Rattle.ndr_runs.proofs.Joining.{joined}
-use Rattle.ndr_state.specs.declared.fault.DecodeFault.{DecodeFault}
-use Rattle.ndr_state.specs.declared.fault.DecodeFault.TheVariants as fault
+use Rattle.ndr_leaps.specs.declared.fault.LeapFault.{LeapFault}
+use Rattle.ndr_leaps.specs.declared.fault.LeapFault.TheVariants as leap
+use Rattle.ndr_leaps.specs.Faults.{reason_of}
 use Rattle.ndr_state.specs.Notes.{ticks}
 use Rattle.ndr_leaps.specs.Leaps.{Leapt, GivesUp, Refuses}
 use Rattle.ndr_leaps.specs.Strings.{HasCome, GoesFar}
@@ -90,11 +91,10 @@ module _ (values : List EnumList) (order : Order) (code : List Instr) (h : Home)
       }
 
   -- some steps, and then what goes far
-  pub far_on : First → (r : Result (Unit {0}) DecodeFault) → GoesFar values order code h s1 (source l1 l2 e2 f1 f2) k1 k2 s2 r → GoesFar values order code h s0 (source l0 l2 e2 f0 f2) k0 k2 s2 r
+  pub far_on : First → (r : Result (Unit {0}) LeapFault) → GoesFar values order code h s1 (source l1 l2 e2 f1 f2) k1 k2 s2 r → GoesFar values order code h s0 (source l0 l2 e2 f0 f2) k0 k2 s2 r
   far_on a (Ok u) b = leapt_on a b
-  far_on a (Err (fault.Bad place why)) b = refuses_on place why a b
-  far_on a (Err fault.ReadFault) b = absurd b
-  far_on a (Err fault.Memory) b = gives_up_on a b
+  far_on a (Err (leap.Bad place why)) b = refuses_on place (reason_of why) a b
+  far_on a (Err leap.Memory) b = gives_up_on a b
 
 -- ## One step, or none
 

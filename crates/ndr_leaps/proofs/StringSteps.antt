@@ -20,8 +20,8 @@ use Rattle.ndr_steps.specs.Steps.{State, Phase, begun, gap_read, goes, step, wan
 use Rattle.ndr_steps.specs.StepItems.{gap_items, next_item, hoist_items}
 use Rattle.ndr_steps.specs.Good.{HasOctets}
 use Rattle.ndr_runs.specs.Reaching.{Reaches, IsSafe, begins, steps_to}
-use Rattle.ndr_state.specs.declared.fault.DecodeFault.{DecodeFault}
-use Rattle.ndr_state.specs.declared.fault.DecodeFault.TheVariants as fault
+use Rattle.ndr_leaps.specs.declared.fault.LeapFault.{LeapFault}
+use Rattle.ndr_leaps.specs.declared.fault.LeapFault.TheVariants as leap
 use Rattle.ndr_state.specs.declared.machine.Machine.{Machine}
 use Rattle.ndr_state.specs.Seen.{state_of}
 use Rattle.ndr_state.specs.Notes.{ticks}
@@ -180,18 +180,17 @@ module _ (values : List EnumList) (order : Order) (code : List Instr) (h : Home)
     text_there : slice_get code s1.pc ≡ Some (op.Text bound)
     text_there = ap (λ (s : State). slice_get code s.pc) is ∙ ahead.reads
 
-    far : (r : Result (Unit {0}) DecodeFault) → ReadsText order bound s1 (source l1 l2 e2 f1 f2) k1 k2 s2 r → GoesFar values order code h s0 (source l0 l2 e2 f0 f2) k0 k2 s2 r
+    far : (r : Result (Unit {0}) LeapFault) → ReadsText order bound s1 (source l1 l2 e2 f1 f2) k1 k2 s2 r → GoesFar values order code h s0 (source l0 l2 e2 f0 f2) k0 k2 s2 r
     far r later = far_on values order code h l0 l1 l2 e e2 f0 f1 f2 k0 k1 k2 s0 s1 s2 (hoisted k0 k1 s1 counted is) r (later values code h text_there)
 
     pub string_leapt : (u : Unit {0}) → ReadsText order bound s1 (source l1 l2 e2 f1 f2) k1 k2 s2 (Ok u) → Leapt values order code h s0 (source l0 l2 e2 f0 f2) k0 k2 s2
     string_leapt u later = far (Ok u) later
 
-    failed : (x : DecodeFault) → GoesFar values order code h s0 (source l0 l2 e2 f0 f2) k0 k2 s2 (Err x) → Leaps values order code h s0 (source l0 l2 e2 f0 f2) k0 k2 s2 (Err x)
-    failed (fault.Bad place why) f = f
-    failed fault.ReadFault f = absurd f
-    failed fault.Memory f = f
+    failed : (x : LeapFault) → GoesFar values order code h s0 (source l0 l2 e2 f0 f2) k0 k2 s2 (Err x) → Leaps values order code h s0 (source l0 l2 e2 f0 f2) k0 k2 s2 (Err x)
+    failed (leap.Bad place why) f = f
+    failed leap.Memory f = f
 
-    pub string_failed : (x : DecodeFault) (r : Result Bool DecodeFault) → ReadsText order bound s1 (source l1 l2 e2 f1 f2) k1 k2 s2 (Err x) → IsErrAnd r (λ y. y ≡ x)
+    pub string_failed : (x : LeapFault) (r : Result Bool LeapFault) → ReadsText order bound s1 (source l1 l2 e2 f1 f2) k1 k2 s2 (Err x) → IsErrAnd r (λ y. y ≡ x)
         → Leaps values order code h s0 (source l0 l2 e2 f0 f2) k0 k2 s2 r
     string_failed x (Ok b) later is_err = absurd is_err
     string_failed x (Err y) later is_err =

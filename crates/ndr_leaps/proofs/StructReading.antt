@@ -22,43 +22,16 @@ use Rattle.ndr_steps.specs.Steps.{State, with_node, jumped}
 use Rattle.ndr_runs.specs.Reaching.{Reaches, IsSafe, begins}
 use Rattle.ndr_runs.proofs.RowSteps.{length_taken, length_left, taken_and_left}
 use Rattle.ndr_state.specs.Notes.{ticks}
-use Rattle.ndr_state.specs.declared.fault.DecodeFault.{DecodeFault}
-use Rattle.ndr_state.specs.declared.fault.DecodeFault.TheVariants as fault
+use Rattle.ndr_leaps.specs.declared.fault.LeapFault.{LeapFault}
+use Rattle.ndr_leaps.specs.declared.fault.LeapFault.TheVariants as leap
 use Rattle.ndr_leaps.specs.Leaps.{Leaps, LeapsOrGivesUp}
-use Rattle.ndr_leaps.specs.declared.fields.Form.{Form}
-use Rattle.ndr_leaps.specs.declared.fields.Form.TheVariants as form
-use Rattle.ndr_leaps.specs.declared.fields.Field.{Field}
-use Rattle.ndr_leaps.specs.Structs.{cells_with, field_called, field_of, form_read, is_null, run_of, field_len, HasFields, field_read, at_address, within, IsLevel, IsInside, IsOver, IsStopped, StructRead}
+use Rattle.ndr_code.specs.declared.fields.Form.{Form}
+use Rattle.ndr_code.specs.declared.fields.Form.TheVariants as form
+use Rattle.ndr_code.specs.declared.fields.Field.{Field}
+use Rattle.ndr_code.specs.Lengths.{field_len, HasFields}
+use Rattle.ndr_leaps.specs.Structs.{cells_with, form_read, is_null, field_read, at_address, within, IsLevel, IsInside, IsOver, IsStopped, StructRead}
+use Rattle.ndr_code.specs.Fields.{field_called, field_of, run_of}
 use Rattle.ndr_leaps.proofs.StructSteps.{struct_begun, field_came, struct_ended}
-
--- ## The length of a struct
-
--- `next` is the address of the next member, `len` how many octets those before it have
-abbrev pub IsMeasured : List Instr → ℕ → ℕ → ℕ → ℕ → ℕ → ℕ → Type 0
-IsMeasured code pc at members next left len = (rest : ℕ) → HasFields code next (at + len) left rest → HasFields code pc at members (len + rest)
-
-pub measured_none : (code : List Instr) (pc at members : ℕ) → IsMeasured code pc at members pc members 0
-measured_none code pc at members rest h =
-    let at_is : at + 0 ≡ at = omega arith in
-    let len_is : rest ≡ 0 + rest = omega arith in
-    subst (λ k. HasFields code pc at members k) len_is (subst (λ k. HasFields code pc k members rest) at_is h)
-
-pub measured_more : (code : List Instr) (pc at members next left len len1 : ℕ) (f : Field) → IsMeasured code pc at members next left len → 0 < left → field_of code next ≡ Some f
-    → len1 ≡ len + field_len (at + len) f → IsMeasured code pc at members (next + 1) (left - 1) len1
-measured_more code pc at members next zero len len1 f m some e len_is rest h = absurd (omega (arith, some))
-measured_more code pc at members next (suc n) len len1 f m some e len_is rest h =
-    let place : at + len1 ≡ at + len + field_len (at + len) f = omega (arith, len_is) in
-    let sum : len + (field_len (at + len) f + rest) ≡ len1 + rest = omega (arith, len_is) in
-    let less : suc n - 1 ≡ n = omega arith in
-    subst (λ k. HasFields code pc at members k) sum
-    (m (field_len (at + len) f + rest) (f, (rest, (e, (refl, subst (λ k. HasFields code (next + 1) k n rest) place (subst (λ k. HasFields code (next + 1) (at + len1) k rest) less h))))))
-
-pub measured_whole : (code : List Instr) (pc at members next left len : ℕ) → IsMeasured code pc at members next left len → left ≡ 0 → slice_get code next ≡ Some op.Close
-    → HasFields code pc at members len
-measured_whole code pc at members next zero len m none there =
-    let len_is : len + 0 ≡ len = omega arith in
-    subst (λ k. HasFields code pc at members k) len_is (m 0 (there, refl))
-measured_whole code pc at members next (suc n) len m none there = absurd (omega (arith, none))
 
 -- ## Reading it
 
@@ -294,7 +267,7 @@ module _ (values : List EnumList) (order : Order) (code : List Instr) (h : Home)
   leaps_on true x = x
   leaps_on false x = x
 
-  pub leap_stopped : (e : Memory) (r : Result Bool DecodeFault) → LeapsOrGivesUp values order code h s0 source steps steps_now s1 (Err e) → IsErrAnd r (λ y. y ≡ fault.Memory)
+  pub leap_stopped : (e : Memory) (r : Result Bool LeapFault) → LeapsOrGivesUp values order code h s0 source steps steps_now s1 (Err e) → IsErrAnd r (λ y. y ≡ leap.Memory)
       → Leaps values order code h s0 source steps steps_now s1 r
   leap_stopped e (Ok b) x is = absurd is
   leap_stopped e (Err y) x is = subst (λ z. Leaps values order code h s0 source steps steps_now s1 (Err z)) (sym is) x

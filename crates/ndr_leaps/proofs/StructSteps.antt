@@ -27,16 +27,19 @@ use Rattle.ndr_steps.specs.declared.first.First.TheVariants as first
 use Rattle.ndr_steps.specs.declared.first.Member.{Member}
 use Rattle.ndr_steps.specs.declared.frame.Frame.{Frame}
 use Rattle.ndr_steps.specs.declared.frame.Frame.TheVariants as frame
-use Rattle.ndr_steps.specs.Steps.{State, begun, goes, number_step, pointer_step, prim_of, done_after, with_node, with_members, jumped, owing, new_cell}
+use Rattle.ndr_steps.specs.Steps.{State, begun, goes, number_step, pointer_step, done_after, with_node, with_members, jumped, owing, new_cell}
+use Rattle.ndr_code.specs.Fields.{prim_of}
 use Rattle.ndr_steps.specs.StepItems.{gap_items, item_here, step_items}
 use Rattle.ndr_runs.specs.Reaching.{Reaches, begins, steps_to}
 use Rattle.ndr_runs.proofs.RowSteps.{length_taken, length_left, taken_and_left}
 use Rattle.ndr_runs.proofs.RecordSteps.{front_taken}
 use Rattle.ndr_state.specs.Notes.{ticks}
-use Rattle.ndr_leaps.specs.declared.fields.Form.{Form}
-use Rattle.ndr_leaps.specs.declared.fields.Form.TheVariants as form
-use Rattle.ndr_leaps.specs.declared.fields.Field.{Field}
-use Rattle.ndr_leaps.specs.Structs.{pointer_form, form_of, run_of, gap_of, is_end, field_with, form_run, field_by, field_called, field_of, form_width, field_len, is_null, pointer_read, form_read, moved, at_address, field_read, within, IsInside, IsOver}
+use Rattle.ndr_code.specs.declared.fields.Form.{Form}
+use Rattle.ndr_code.specs.declared.fields.Form.TheVariants as form
+use Rattle.ndr_code.specs.declared.fields.Field.{Field}
+use Rattle.ndr_code.specs.Lengths.{form_width, field_len}
+use Rattle.ndr_leaps.specs.Structs.{is_null, pointer_read, form_read, moved, at_address, field_read, within, IsInside, IsOver}
+use Rattle.ndr_code.specs.Fields.{pointer_form, form_of, run_of, gap_of, is_end, field_with, form_run, field_by, field_called, field_of}
 
 -- ## What is at an address
 

@@ -18,12 +18,13 @@ use Rattle.ndr_code.specs.declared.lists.EnumList.{EnumList}
 use Rattle.ndr_steps.specs.Steps.{State, Outcome, Phase, begun, offset_read, count_read, goes, refused, step, wants, past, done_after, with_node, text_by, text_want, text_done, limit_of}
 use Rattle.ndr_steps.specs.StepItems.{step_items, text_items}
 use Rattle.ndr_steps.specs.Good.{HasOctets}
-use Rattle.ndr_state.specs.declared.fault.DecodeFault.{DecodeFault}
-use Rattle.ndr_state.specs.declared.fault.DecodeFault.TheVariants as fault
-use Rattle.ndr_state.specs.Seen.{Does}
+use Rattle.ndr_leaps.specs.declared.fault.LeapFault.{LeapFault}
+use Rattle.ndr_leaps.specs.declared.fault.LeapFault.TheVariants as leap
+use Rattle.ndr_leaps.specs.declared.fault.TextReason.TheVariants as why
+use Rattle.ndr_leaps.specs.Faults.{reason_of}
 use Rattle.ndr_state.specs.Notes.{ticks}
 use Rattle.ndr_leaps.specs.Leaps.{Refuses}
-use Rattle.ndr_leaps.specs.Strings.{HasCome, CountCame, ReadsText}
+use Rattle.ndr_leaps.specs.Strings.{HasCome, CountCame, ReadsText, TextDoes}
 use Rattle.ndr_leaps.proofs.Going.{source, far_on, not_far, one_step, refused_here, given_up}
 
 module _ (order : Order) (bound : ℕ) (l0 l1 : Option (List ℕ)) (e : Bool) (f0 f1 : ℕ) (s0 : State) where
@@ -46,7 +47,7 @@ module _ (order : Order) (bound : ℕ) (l0 l1 : Option (List ℕ)) (e : Bool) (f
         ap (λ (p : Phase). text_by values order came.os p (limit_of bound s0) s0) first
         ∙ ap (λ (k : ℕ). if eqb k 0 then goes (past 4 (offset_read 0) s0) else refused s0.at reason.TextOffset) came.number
 
-    pub offset_refused : (k : ℕ) (s1 : State) → (n ≡ 0 → ⊥) → ReadsText order bound s0 Src k k s1 (Err (fault.Bad s0.at reason.TextOffset))
+    pub offset_refused : (k : ℕ) (s1 : State) → (n ≡ 0 → ⊥) → ReadsText order bound s0 Src k k s1 (Err (leap.Bad s0.at why.TextOffset))
     offset_refused k s1 other values code h there =
         refused_here values order code h l0 l1 e f0 f1 k k s0 s1 (op.Text bound) came.os there came.came (four values) s0.at reason.TextOffset
         (offset_step values ∙ ap (λ (b : Bool). if b then goes (past 4 (offset_read 0) s0) else refused s0.at reason.TextOffset) (ne_eqb n 0 other)) refl
@@ -54,7 +55,7 @@ module _ (order : Order) (bound : ℕ) (l0 l1 : Option (List ℕ)) (e : Bool) (f
     offset_ticks : (h : Home) → ticks (step_items order h came.os (op.Text bound) s0) ≡ 1
     offset_ticks h = ap (λ (p : Phase). ticks (text_items order h came.os p s0)) first
 
-    pub offset_passed : (l2 : Option (List ℕ)) (e2 : Bool) (f2 k0 k1 k2 : ℕ) (s1 s2 : State) (r : Result (Unit {0}) DecodeFault) → n ≡ 0 → k1 ≡ k0 + 1 → s1 ≡ past 4 (offset_read 0) s0
+    pub offset_passed : (l2 : Option (List ℕ)) (e2 : Bool) (f2 k0 k1 k2 : ℕ) (s1 s2 : State) (r : Result (Unit {0}) LeapFault) → n ≡ 0 → k1 ≡ k0 + 1 → s1 ≡ past 4 (offset_read 0) s0
         → ReadsText order bound s1 (source l1 l2 e2 f1 f2) k1 k2 s2 r → ReadsText order bound s0 (source l0 l2 e2 f0 f2) k0 k2 s2 r
     offset_passed l2 e2 f2 k0 k1 k2 s1 s2 r none counted is later values code h there =
         let t : ticks (step_items order h came.os (op.Text bound) s0) ≡ 1 = offset_ticks h in
@@ -82,15 +83,15 @@ module _ (order : Order) (bound : ℕ) (l0 l1 : Option (List ℕ)) (e : Bool) (f
     actual_step values =
         ap (λ (p : Phase). text_by values order came.os p (limit_of bound s0) s0) second ∙ ap (λ (k : ℕ). counted_by (eqb k 0) (ltb limit k) k) came.number
 
-    refuses : (k : ℕ) (s1 : State) (why : Reason) → ((values : List EnumList) → step values order came.os (op.Text bound) s0 ≡ refused s0.at why)
-        → (values : List EnumList) (code : List Instr) (h : Home) → slice_get code s0.pc ≡ Some (op.Text bound) → Refuses values order code h s0 Src k k s1 s0.at why
-    refuses k s1 why is values code h there =
-        refused_here values order code h l0 l1 e f0 f1 k k s0 s1 (op.Text bound) came.os there came.came (four_more values) s0.at why (is values) refl
+    refuses : (k : ℕ) (s1 : State) (because : Reason) → ((values : List EnumList) → step values order came.os (op.Text bound) s0 ≡ refused s0.at because)
+        → (values : List EnumList) (code : List Instr) (h : Home) → slice_get code s0.pc ≡ Some (op.Text bound) → Refuses values order code h s0 Src k k s1 s0.at because
+    refuses k s1 because is values code h there =
+        refused_here values order code h l0 l1 e f0 f1 k k s0 s1 (op.Text bound) came.os there came.came (four_more values) s0.at because (is values) refl
 
-    pub actual_empty : (k : ℕ) (s1 : State) → n ≡ 0 → ReadsText order bound s0 Src k k s1 (Err (fault.Bad s0.at reason.TextEmpty))
+    pub actual_empty : (k : ℕ) (s1 : State) → n ≡ 0 → ReadsText order bound s0 Src k k s1 (Err (leap.Bad s0.at why.TextEmpty))
     actual_empty k s1 none = refuses k s1 reason.TextEmpty (λ values. actual_step values ∙ ap (λ (b : Bool). counted_by b (ltb limit n) n) (eq-eqb n 0 none))
 
-    pub actual_past : (k : ℕ) (s1 : State) → (n ≡ 0 → ⊥) → limit < n → ReadsText order bound s0 Src k k s1 (Err (fault.Bad s0.at reason.PastBound))
+    pub actual_past : (k : ℕ) (s1 : State) → (n ≡ 0 → ⊥) → limit < n → ReadsText order bound s0 Src k k s1 (Err (leap.Bad s0.at why.PastBound))
     actual_past k s1 some over =
         refuses k s1 reason.PastBound
         (λ values. actual_step values ∙ ap (λ (b : Bool). counted_by b (ltb limit n) n) (ne_eqb n 0 some) ∙ ap (λ (b : Bool). counted_by false b n) (lt-ltb limit n over))
@@ -98,7 +99,7 @@ module _ (order : Order) (bound : ℕ) (l0 l1 : Option (List ℕ)) (e : Bool) (f
     actual_ticks : (h : Home) → ticks (step_items order h came.os (op.Text bound) s0) ≡ 1
     actual_ticks h = ap (λ (p : Phase). ticks (text_items order h came.os p s0)) second
 
-    pub actual_passed : (l2 : Option (List ℕ)) (e2 : Bool) (f2 k0 k1 k2 : ℕ) (s1 s2 : State) (r : Result (Unit {0}) DecodeFault) → (n ≡ 0 → ⊥) → n ≤ limit → k1 ≡ k0 + 1
+    pub actual_passed : (l2 : Option (List ℕ)) (e2 : Bool) (f2 k0 k1 k2 : ℕ) (s1 s2 : State) (r : Result (Unit {0}) LeapFault) → (n ≡ 0 → ⊥) → n ≤ limit → k1 ≡ k0 + 1
         → s1 ≡ past 4 (count_read (n - 1)) s0 → ReadsText order bound s1 (source l1 l2 e2 f1 f2) k1 k2 s2 r → ReadsText order bound s0 (source l0 l2 e2 f0 f2) k0 k2 s2 r
     actual_passed l2 e2 f2 k0 k1 k2 s1 s2 r some few counted is later values code h there =
         let t : ticks (step_items order h came.os (op.Text bound) s0) ≡ 1 = actual_ticks h in
@@ -136,18 +137,17 @@ module _ (order : Order) (bound : ℕ) (l0 l1 : Option (List ℕ)) (e : Bool) (f
     same_cells None s1 does = let same : done_after (length os) (with_node (tree.Text (limit_of bound s0) (take (length os - 1) os), 0) (Some (s0.at - 4)) s0) ≡ s1 = cc in ap (λ (s : State). s.cells) (sym same)
     same_cells (Some x) s1 does = absurd (let no : refused x.0 x.1 ≡ goes s1 = does in cc)
 
-    pub octets_read : (k0 k1 : ℕ) (s1 : State) (u v : Unit {0}) → k1 ≡ k0 + 1 → Does done (Ok v) s1 → ReadsText order bound s0 Src k0 k1 s1 (Ok u)
+    pub octets_read : (k0 k1 : ℕ) (s1 : State) (u v : Unit {0}) → k1 ≡ k0 + 1 → TextDoes done (Ok v) s1 → ReadsText order bound s0 Src k0 k1 s1 (Ok u)
     octets_read k0 k1 s1 u v counted does values code h there =
         let t : ticks (step_items order h os (op.Text bound) s0) ≡ 1 = octets_ticks h in
         let cells : length s1.cells ≡ length s0.cells = ap length (same_cells (text_refusal s0.at os) s1 does) in
         one_step values order code h l0 l1 e f0 f1 k0 k1 s0 s1 (op.Text bound) os there came (all_of_them values) (octets_step values ∙ does) (omega (arith, t, cells, counted))
 
-    octets_fault : (k : ℕ) (s1 : State) (x : DecodeFault) → Does done (Err x) s1 → ReadsText order bound s0 Src k k s1 (Err x)
-    octets_fault k s1 (fault.Bad place why) does values code h there =
-        refused_here values order code h l0 l1 e f0 f1 k k s0 s1 (op.Text bound) os there came (all_of_them values) place why (octets_step values ∙ does) refl
-    octets_fault k s1 fault.ReadFault does values code h there = absurd does
-    octets_fault k s1 fault.Memory does values code h there = given_up values order code h l0 l1 e f0 f1 k k s0 s1 os came refl
+    octets_fault : (k : ℕ) (s1 : State) (x : LeapFault) → TextDoes done (Err x) s1 → ReadsText order bound s0 Src k k s1 (Err x)
+    octets_fault k s1 (leap.Bad place because) does values code h there =
+        refused_here values order code h l0 l1 e f0 f1 k k s0 s1 (op.Text bound) os there came (all_of_them values) place (reason_of because) (octets_step values ∙ does) refl
+    octets_fault k s1 leap.Memory does values code h there = given_up values order code h l0 l1 e f0 f1 k k s0 s1 os came refl
 
-    pub octets_failed : (k : ℕ) (s1 : State) (x : DecodeFault) (r : Result (Unit {0}) DecodeFault) → Does done (Err x) s1 → IsErrAnd r (λ y. y ≡ x) → ReadsText order bound s0 Src k k s1 r
+    pub octets_failed : (k : ℕ) (s1 : State) (x : LeapFault) (r : Result (Unit {0}) LeapFault) → TextDoes done (Err x) s1 → IsErrAnd r (λ y. y ≡ x) → ReadsText order bound s0 Src k k s1 r
     octets_failed k s1 x (Ok u) does is = absurd is
     octets_failed k s1 x (Err y) does is = subst (λ z. ReadsText order bound s0 Src k k s1 (Err z)) (sym is) (octets_fault k s1 x does)

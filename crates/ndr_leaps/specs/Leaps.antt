@@ -14,8 +14,9 @@ use Rattle.ndr_code.specs.declared.lists.EnumList.{EnumList}
 use Rattle.ndr_steps.specs.Steps.{State, refused, step, wants}
 use Rattle.ndr_steps.specs.Good.{HasOctets}
 use Rattle.ndr_runs.specs.Reaching.{Reaches}
-use Rattle.ndr_state.specs.declared.fault.DecodeFault.{DecodeFault}
-use Rattle.ndr_state.specs.declared.fault.DecodeFault.TheVariants as fault
+use Rattle.ndr_leaps.specs.declared.fault.LeapFault.{LeapFault}
+use Rattle.ndr_leaps.specs.declared.fault.LeapFault.TheVariants as leap
+use Rattle.ndr_leaps.specs.Faults.{reason_of}
 use Rattle.ndr_state.specs.Notes.{ticks}
 
 module _ (values : List EnumList) (order : Order) (code : List Instr) (h : Home) (s0 : State) (source : SourceSeen) (steps steps_now : ℕ) (s1 : State) where
@@ -60,12 +61,11 @@ module _ (values : List EnumList) (order : Order) (code : List Instr) (h : Home)
     pub refusal : step values order os i s ≡ refused place why
 
   -- whether steps were taken
-  abbrev pub Leaps : Result Bool DecodeFault → Type 0
+  abbrev pub Leaps : Result Bool LeapFault → Type 0
   Leaps (Ok true) = Leapt
   Leaps (Ok false) = Stays
-  Leaps (Err (fault.Bad place why)) = Refuses place why
-  Leaps (Err fault.Memory) = GivesUp
-  Leaps (Err fault.ReadFault) = ⊥
+  Leaps (Err (leap.Bad place why)) = Refuses place (reason_of why)
+  Leaps (Err leap.Memory) = GivesUp
 
   -- the same where nothing but memory can fail
   abbrev pub LeapsOrGivesUp : Result Bool Memory → Type 0

@@ -1,3 +1,4 @@
+pub mod Faults
 pub mod Leaps
 pub mod Elements
 pub mod Strings

@@ -11,9 +11,10 @@ use Rattle.ndr_code.specs.declared.instr.Instr.{Instr}
 use Rattle.ndr_code.specs.declared.instr.Instr.TheVariants as op
 use Rattle.ndr_code.specs.declared.lists.EnumList.{EnumList}
 use Rattle.ndr_steps.specs.declared.frame.Frame.TheVariants as frame
-use Rattle.ndr_steps.specs.Steps.{State, begun, jumped, past, with_max}
-use Rattle.ndr_state.specs.declared.fault.DecodeFault.{DecodeFault}
-use Rattle.ndr_state.specs.declared.fault.DecodeFault.TheVariants as fault
+use Rattle.ndr_steps.specs.Steps.{State, Outcome, begun, goes, jumped, past, refused, with_max}
+use Rattle.ndr_leaps.specs.declared.fault.LeapFault.{LeapFault}
+use Rattle.ndr_leaps.specs.declared.fault.LeapFault.TheVariants as leap
+use Rattle.ndr_leaps.specs.Faults.{reason_of}
 use Rattle.ndr_leaps.specs.Leaps.{Leapt, GivesUp, Refuses}
 
 -- ## Octets
@@ -61,13 +62,18 @@ max_read gap max run s = jumped (run + 1) (past 4 begun (with_max max (past gap 
 -- ## What comes of a string
 
 -- some of its steps were taken, or none; memory failed; or its octets are refused
-abbrev pub GoesFar : List EnumList → Order → List Instr → Home → State → SourceSeen → ℕ → ℕ → State → Result (Unit {0}) DecodeFault → Type 0
+abbrev pub GoesFar : List EnumList → Order → List Instr → Home → State → SourceSeen → ℕ → ℕ → State → Result (Unit {0}) LeapFault → Type 0
 GoesFar values order code h s0 source steps steps_now s1 (Ok u) = Leapt values order code h s0 source steps steps_now s1
-GoesFar values order code h s0 source steps steps_now s1 (Err (fault.Bad place why)) = Refuses values order code h s0 source steps steps_now s1 place why
-GoesFar values order code h s0 source steps steps_now s1 (Err fault.Memory) = GivesUp values order code h s0 source steps steps_now s1
-GoesFar values order code h s0 source steps steps_now s1 (Err fault.ReadFault) = ⊥
+GoesFar values order code h s0 source steps steps_now s1 (Err (leap.Bad place why)) = Refuses values order code h s0 source steps steps_now s1 place (reason_of why)
+GoesFar values order code h s0 source steps steps_now s1 (Err leap.Memory) = GivesUp values order code h s0 source steps steps_now s1
 
 -- the same, whatever the code, where it has this `text`
-abbrev pub ReadsText : Order → ℕ → State → SourceSeen → ℕ → ℕ → State → Result (Unit {0}) DecodeFault → Type 0
+abbrev pub ReadsText : Order → ℕ → State → SourceSeen → ℕ → ℕ → State → Result (Unit {0}) LeapFault → Type 0
 ReadsText order bound s0 source steps steps_now s1 r =
     (values : List EnumList) (code : List Instr) (h : Home) → slice_get code s0.pc ≡ Some (op.Text bound) → GoesFar values order code h s0 source steps steps_now s1 r
+
+-- the octets of a string were read, or are refused; out of memory says nothing
+abbrev pub TextDoes : Outcome → Result (Unit {0}) LeapFault → State → Type 0
+TextDoes o (Ok u) s = o ≡ goes s
+TextDoes o (Err (leap.Bad place why)) s = o ≡ refused place (reason_of why)
+TextDoes o (Err leap.Memory) s = Unit {0}

@@ -1,97 +1,30 @@
 -- Structs of numbers and of unique and reference pointers, read in one go.
 -- `code` is that of a plan, `pc` an address, `i` what is at an address, `at` a place, `f` a member, `s` a state, `os` octets.
-use Rattle.std.specs.Prelude.{◌≡◌, ◌≤◌, ℕ, ◌+◌, zero, suc, Bool, true, false, eqb, List, [], ◌∷◌, ◌++◌, length, drop, slice_get, Option, Some, None, Result, Ok, Err}
+use Rattle.std.specs.Prelude.{◌≡◌, ◌≤◌, ℕ, ◌+◌, Bool, true, false, eqb, List, [], ◌∷◌, ◌++◌, length, drop, Option, Some, None, Result, Ok, Err}
 use Rattle.nd_base.specs.declared.octets.Memory.{Memory}
 use Rattle.nd_base.specs.declared.octets.Order.{Order}
 use Rattle.nd_types.specs.declared.types.Class.{Class}
-use Rattle.nd_types.specs.declared.types.Class.TheVariants.{Ref, Unique, Full}
+use Rattle.nd_types.specs.declared.types.Class.TheVariants.{Unique}
 use Rattle.nd_types.specs.declared.types.TypeId.{TypeId}
 use Rattle.nd_types.specs.Number.{unsigned, value_of_octets}
-use Rattle.nd_types.specs.Table.{width}
 use Rattle.nd_value.specs.declared.item.Home.{Home}
 use Rattle.nd_value.specs.declared.item.Item.{Item}
 use Rattle.nd_value.specs.Tree as tree
 use Rattle.nd_value.specs.Tree.{Flat}
 use Rattle.nd_grammar.specs.Entry.{gap}
 use Rattle.ndr_code.specs.declared.instr.Instr.{Instr}
-use Rattle.ndr_code.specs.declared.instr.Instr.TheVariants as op
 use Rattle.ndr_code.specs.declared.lists.EnumList.{EnumList}
 use Rattle.ndr_steps.specs.declared.first.First.{First}
 use Rattle.ndr_steps.specs.declared.first.First.TheVariants as first
 use Rattle.ndr_steps.specs.declared.first.Member.{Member}
 use Rattle.ndr_steps.specs.declared.frame.Frame.{Frame}
 use Rattle.ndr_steps.specs.declared.frame.Frame.TheVariants as frame
-use Rattle.ndr_steps.specs.Steps.{State, Owed, begun, prim_of, firsts_by}
+use Rattle.ndr_steps.specs.Steps.{State, Owed, begun, firsts_by}
+use Rattle.ndr_code.specs.declared.fields.Form.{Form}
+use Rattle.ndr_code.specs.declared.fields.Form.TheVariants as form
+use Rattle.ndr_code.specs.declared.fields.Field.{Field}
 use Rattle.ndr_runs.specs.Reaching.{Reaches}
 use Rattle.ndr_state.specs.Notes.{ticks}
-use Rattle.ndr_leaps.specs.declared.fields.Form.{Form}
-use Rattle.ndr_leaps.specs.declared.fields.Form.TheVariants as form
-use Rattle.ndr_leaps.specs.declared.fields.Field.{Field}
-
--- ## The members
-
--- a pointer that is not full
-abbrev pub pointer_form : Class → TypeId → ℕ → Option Form
-pointer_form Full to run = None
-pointer_form class to run = Some (form.Pointer class to run)
-
--- a number or such a pointer
-abbrev pub form_of : Option Instr → Option Form
-form_of (Some (op.Num of)) = Some (form.Number (prim_of of.0))
-form_of (Some (op.Pointer class to run)) = pointer_form class to run
-form_of i = None
-
--- the run that is called
-abbrev pub run_of : Option Instr → Option ℕ
-run_of (Some (op.Call run)) = Some run
-run_of i = None
-
--- the multiple that a gap goes to
-abbrev pub gap_of : Option Instr → Option ℕ
-gap_of (Some (op.Align to)) = Some to
-gap_of i = None
-
--- the end of a run
-abbrev pub is_end : Option Instr → Bool
-is_end (Some op.Ret) = true
-is_end i = false
-
-abbrev pub field_with : ℕ → Bool → Option Form → Option Field
-field_with to true (Some f) = Some (record { to = to; form = f })
-field_with to ends f = None
-
--- a number or a pointer and the end of its run, after a gap to this multiple
-abbrev pub form_run : List Instr → ℕ → ℕ → Option Field
-form_run code pc to = field_with to (is_end (slice_get code (pc + 1))) (form_of (slice_get code pc))
-
--- the run of a member, which begins with a gap or with its number or pointer
-abbrev pub field_by : List Instr → ℕ → Option ℕ → Option Field
-field_by code run (Some to) = form_run code (run + 1) to
-field_by code run None = form_run code run 1
-
-abbrev pub field_called : List Instr → Option ℕ → Option Field
-field_called code (Some run) = field_by code run (gap_of (slice_get code run))
-field_called code None = None
-
--- the member that is called at an address
-abbrev pub field_of : List Instr → ℕ → Option Field
-field_of code pc = field_called code (run_of (slice_get code pc))
-
--- ## The octets
-
-abbrev pub form_width : Form → ℕ
-form_width (form.Number p) = width p
-form_width (form.Pointer class to run) = 4
-
--- how many octets a member has at a place, with its gap
-abbrev pub field_len : ℕ → Field → ℕ
-field_len at f = gap at f.to + form_width f.form
-
--- so many members, which have so many octets from a place on, and a `close` after the last
-abbrev pub HasFields : List Instr → ℕ → ℕ → ℕ → ℕ → Type 0
-HasFields code pc at zero len = (slice_get code pc ≡ Some op.Close) × (len ≡ 0)
-HasFields code pc at (suc n) len =
-    (f : Field) × ((rest : ℕ) × ((field_of code pc ≡ Some f) × ((len ≡ field_len at f + rest) × HasFields code (pc + 1) (at + field_len at f) n rest)))
 
 -- ## The state
 

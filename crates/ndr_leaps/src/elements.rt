@@ -8,7 +8,7 @@ ghost use Rattle.ndr_leaps.specs.Elements.{AreElements, HaveRoom};
 use crate::members::members_at;
 use nd_base::STREAM_LIMIT;
 use nd_flat::Members;
-use ndr_code::Instr;
+use ndr_code::{Code, Instr};
 use ndr_intake::PIECE;
 use ndr_state::Machine;
 use ndr_steps::Frame;
@@ -23,7 +23,7 @@ pub struct Elements {
 
 /// The elements that may be taken in one go at a `record` of so many members, two at least: as many as are left of an array whose elements are all structs
 /// of the same numbers, and as a piece and the limit of a stream have room for. None anywhere else. Takes no memory.
-pub fn elements_here(machine: &Machine, code: &[Instr], members: u32) -> Option<Elements>
+pub fn elements_here(machine: &Machine, code: &Code, members: u32) -> Option<Elements>
     requires here { slice_get code.now machine.now.pc ≡ Some (op.Record members) }
     requires code { machine.now.pc < 2 ^ 32 }
     ensures whole { IfSome result (λ e. IsMembers e.members) }
@@ -50,7 +50,7 @@ fn is_level(machine: &Machine) -> bool
 }
 
 // Whether the run of elements is a struct at `pc`, after a gap to multiples of so much.
-fn is_run(code: &[Instr], run: usize, pc: usize, to: usize) -> bool
+fn is_run(code: &Code, run: usize, pc: usize, to: usize) -> bool
     requires fits { run < 2 ^ 32 }
     ensures { result ≡ true → ((run ≡ pc) × (to ≡ 1)) ⊎ ((run + 1 ≡ pc) × (slice_get code.now run ≡ Some (op.Align to))) }
 {
@@ -61,7 +61,7 @@ fn is_run(code: &[Instr], run: usize, pc: usize, to: usize) -> bool
 }
 
 // Whether an `align` to so many octets is at an address.
-fn is_align(code: &[Instr], at: usize, wide: usize) -> bool
+fn is_align(code: &Code, at: usize, wide: usize) -> bool
     ensures { result ≡ true → slice_get code.now at ≡ Some (op.Align wide) }
 {
     match code.get(at) {

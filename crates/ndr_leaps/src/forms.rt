@@ -3,14 +3,15 @@ ghost use Rattle.std.specs.Prelude.{◌≡◌, ◌<◌, ◌≤◌, ◌^◌, ◌+
 ghost use Rattle.nd_value.specs.Seen.{cell_number};
 ghost use Rattle.nd_flat.specs.FlatForm.{flat_seen, IsKeepable};
 ghost use Rattle.ndr_state.specs.Seen.{outside, state_of};
-ghost use Rattle.ndr_leaps.specs.Structs.{form_read, form_width, is_null, owed_with, pointer_read, with_part};
+ghost use Rattle.ndr_code.specs.Lengths.{form_width};
+ghost use Rattle.ndr_leaps.specs.Structs.{form_read, is_null, owed_with, pointer_read, with_part};
 ghost use Rattle.nd_value.specs.Tree as tree;
 
-use crate::fields::Form;
 use nd_base::{Ledger, Memory, Order, Steps, push};
 use nd_flat::Seen;
 use nd_types::{Class, TypeId};
 use nd_value::CellId;
+use ndr_code::Form;
 use ndr_state::{Machine, Owed, read_count, read_value};
 
 /// The node of a number or a pointer by its octets; a pointer's referent is pending. A new cell is counted. Out of memory is the only refusal; then

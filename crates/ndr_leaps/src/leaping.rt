@@ -8,13 +8,15 @@ ghost use Rattle.ndr_runs.specs.Reaching.{IsSafe, Reaches};
 ghost use Rattle.ndr_state.specs.Seen.{outside, state_of};
 ghost use Rattle.ndr_leaps.specs.Leaps.{Leaps};
 
+use crate::LeapFault;
 use crate::records::leap_records;
+use crate::room::make_room;
 use crate::strings::leap_string;
 use crate::structs::leap_struct;
 use nd_base::{Ledger, Order, Source, Steps};
-use ndr_code::{EnumLists, Instr};
+use ndr_code::{Code, EnumLists, Form, Instr};
 use ndr_intake::Intake;
-use ndr_state::{DecodeFault, Machine};
+use ndr_state::Machine;
 use ndr_steps::Frame;
 
 /// Takes the steps of a struct of numbers and pointers, of such structs that are elements of an array, or of a string in one go, if the source has their
@@ -26,13 +28,13 @@ use ndr_steps::Frame;
 pub fn leap<S: Source, L: Ledger>(
     machine: &mut Machine,
     order: Order,
-    code: &[Instr],
+    code: &Code,
     instr: Instr,
     values: &EnumLists,
     intake: &mut Intake,
     source: &mut S,
     steps: &mut Steps<L>,
-) -> Result<bool, DecodeFault>
+) -> Result<bool, LeapFault>
     requires short { length code.now < 2 ^ 32 }
     requires here { slice_get code.now machine.old.pc ≡ Some instr }
     requires safe { (fetched : List ℕ) (noted : List Item) (s : State) → Reaches values.now order code.now machine.old.home (state_of machine.old) fetched noted s → IsSafe code.now s }
@@ -54,13 +56,13 @@ pub fn leap<S: Source, L: Ledger>(
 fn leap_record<S: Source, L: Ledger>(
     machine: &mut Machine,
     order: Order,
-    code: &[Instr],
+    code: &Code,
     members: u32,
     values: &EnumLists,
     intake: &mut Intake,
     source: &mut S,
     steps: &mut Steps<L>,
-) -> Result<bool, DecodeFault>
+) -> Result<bool, LeapFault>
     requires short { length code.now < 2 ^ 32 }
     requires here { slice_get code.now machine.old.pc ≡ Some (op.Record members) }
     requires safe { (fetched : List ℕ) (noted : List Item) (s : State) → Reaches values.now order code.now machine.old.home (state_of machine.old) fetched noted s → IsSafe code.now s }
@@ -79,13 +81,13 @@ fn leap_record<S: Source, L: Ledger>(
 fn leap_elements<S: Source, L: Ledger>(
     machine: &mut Machine,
     order: Order,
-    code: &[Instr],
+    code: &Code,
     members: u32,
     values: &EnumLists,
     intake: &mut Intake,
     source: &mut S,
     steps: &mut Steps<L>,
-) -> Result<bool, DecodeFault>
+) -> Result<bool, LeapFault>
     requires short { length code.now < 2 ^ 32 }
     requires here { slice_get code.now machine.old.pc ≡ Some (op.Record members) }
     requires safe { (fetched : List ℕ) (noted : List Item) (s : State) → Reaches values.now order code.now machine.old.home (state_of machine.old) fetched noted s → IsSafe code.now s }
@@ -95,10 +97,42 @@ fn leap_elements<S: Source, L: Ledger>(
 {
     match machine.top {
         Frame::Elements {
-            left: _,
+            left,
             run: _,
             back: _,
-        } => leap_records(machine, order, code, members, values, intake, source, steps),
+        } => {
+            if begins_with_pointer(machine, code) {
+                if is_full(machine) {
+                    make_room(machine, left, source.ahead());
+                }
+                return Ok(false);
+            }
+            leap_records(machine, order, code, members, values, intake, source, steps)
+        }
         Frame::Home | Frame::Record { back: _, first: _ } => Ok(false),
+    }
+}
+
+// Whether the list of the referents that are pending since the home's beginning is moved when it grows.
+#[inline(always)]
+fn is_full(machine: &Machine) -> bool {
+    machine.fresh.len() == machine.fresh.capacity()
+}
+
+// Whether the first member of the struct at whose `record` the machine is is a pointer: then its elements are taken one by one.
+#[inline(always)]
+fn begins_with_pointer(machine: &Machine, code: &Code) -> bool
+    requires code { machine.now.pc < 2 ^ 32 }
+{
+    let Some(field) = code.field(machine.pc + 1) else {
+        return false;
+    };
+    match field.form {
+        Form::Pointer {
+            class: _,
+            to: _,
+            run: _,
+        } => true,
+        Form::Number(_) => false,
     }
 }

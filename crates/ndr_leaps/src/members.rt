@@ -8,13 +8,12 @@ ghost use Rattle.ndr_leaps.specs.Elements.{slot_of, slots_of};
 
 use nd_flat::{MOST_MEMBERS, Members};
 use nd_types::Prim;
-use ndr_code::Instr;
+use ndr_code::{Code, Instr, prim_of};
 use ndr_prim::width_of;
-use ndr_state::prim_of;
 
 /// The members of a struct of so many numbers whose calls begin at an address, if each number comes after a gap to a multiple of its width and the struct
 /// ends its run. None for any other struct, and for more members than `nd_flat` keeps side by side. Takes no memory.
-pub fn members_at(code: &[Instr], at: usize, count: u32) -> Option<Members>
+pub fn members_at(code: &Code, at: usize, count: u32) -> Option<Members>
     requires code { at < 2 ^ 32 + 1 }
     ensures whole { IfSome result (λ m. IsMembers m) }
     ensures slots { IfSome result (λ m. AreSlots code.now at (slots_of (members_of m))) }
@@ -31,7 +30,7 @@ pub fn members_at(code: &[Instr], at: usize, count: u32) -> Option<Members>
 
 // So many members whose calls begin at an address.
 #[tactic(auto, using(crate::proofs::Slots::found_none, crate::proofs::Slots::found_more, crate::proofs::Slots::members_count))]
-fn members_from(code: &[Instr], at: usize, count: usize) -> Option<Members>
+fn members_from(code: &Code, at: usize, count: usize) -> Option<Members>
     requires code { at < 2 ^ 32 + 1 }
     requires few { count < MOST_MEMBERS + 1 }
     ensures whole { IfSome result (λ m. IsMembers m) }
@@ -47,7 +46,7 @@ fn members_from(code: &[Instr], at: usize, count: usize) -> Option<Members>
 }
 
 // Whether a struct ends at an address, and with it its run.
-fn is_end(code: &[Instr], at: usize) -> bool
+fn is_end(code: &Code, at: usize) -> bool
     requires fits { at < 2 ^ 33 }
     ensures closes { result ≡ true → slice_get code.now at ≡ Some op.Close }
     ensures ends { result ≡ true → slice_get code.now (at + 1) ≡ Some op.Ret }
@@ -56,21 +55,21 @@ fn is_end(code: &[Instr], at: usize) -> bool
 }
 
 // Whether a `close` is at an address.
-fn is_close(code: &[Instr], at: usize) -> bool
+fn is_close(code: &Code, at: usize) -> bool
     ensures { result ≡ true → slice_get code.now at ≡ Some op.Close }
 {
     matches!(code.get(at), Some(Instr::Close))
 }
 
 // Whether a `ret` is at an address.
-fn is_ret(code: &[Instr], at: usize) -> bool
+fn is_ret(code: &Code, at: usize) -> bool
     ensures { result ≡ true → slice_get code.now at ≡ Some op.Ret }
 {
     matches!(code.get(at), Some(Instr::Ret))
 }
 
 // The number that a call is of, which comes after a gap to a multiple of its width.
-fn member_at(code: &[Instr], at: usize) -> Option<Prim>
+fn member_at(code: &Code, at: usize) -> Option<Prim>
     ensures { IfSome result (λ p. CallsSlot code.now at (slot_of p)) }
 {
     let Some(Instr::Call { run }) = code.get(at) else {
@@ -80,7 +79,7 @@ fn member_at(code: &[Instr], at: usize) -> Option<Prim>
 }
 
 // The number of a run, which comes after a gap to a multiple of its width.
-fn member_run(code: &[Instr], run: u32) -> Option<Prim>
+fn member_run(code: &Code, run: u32) -> Option<Prim>
     ensures { IfSome result (λ p. IsSlotRun code.now run (slot_of p)) }
 {
     let run = run as usize;
@@ -97,7 +96,7 @@ fn member_run(code: &[Instr], run: u32) -> Option<Prim>
 }
 
 // A number that is at an address and ends its run.
-fn number_at(code: &[Instr], at: usize) -> Option<Prim>
+fn number_at(code: &Code, at: usize) -> Option<Prim>
     requires fits { at < 2 ^ 33 }
     ensures { IfSome result (λ p. IsNumberAt code.now at p) }
 {

@@ -9,30 +9,32 @@ ghost use Rattle.ndr_steps.specs.Steps.{State, goes};
 ghost use Rattle.ndr_runs.specs.Reaching.{IsSafe, Reaches};
 ghost use Rattle.ndr_runs.specs.Records.{records_read};
 ghost use Rattle.ndr_runs.specs.Rows.{HasLeft, with_fewer};
-ghost use Rattle.ndr_state.specs.Seen.{Does, outside, state_of};
-ghost use Rattle.ndr_state.specs.declared.fault.DecodeFault.TheVariants as fault;
+ghost use Rattle.ndr_state.specs.Seen.{outside, state_of};
+ghost use Rattle.ndr_leaps.specs.Strings.{TextDoes};
+ghost use Rattle.ndr_leaps.specs.declared.fault.LeapFault.TheVariants as leap;
 ghost use Rattle.ndr_leaps.specs.Leaps.{Leaps};
 
+use crate::LeapFault;
 use crate::elements::{Elements, elements_here};
 use crate::octets::are_octets;
 use nd_base::{Ledger, Memory, Order, Source, Steps};
 use nd_flat::{Builder, Records};
-use ndr_code::{EnumLists, Instr};
+use ndr_code::{Code, EnumLists, Instr};
 use ndr_intake::Intake;
-use ndr_state::{DecodeFault, Machine, Phase};
+use ndr_state::{Machine, Phase};
 use ndr_steps::Frame;
 
 /// Structs of numbers that are elements of an array, as many as a piece has room for, but not one alone.
 pub fn leap_records<S: Source, L: Ledger>(
     machine: &mut Machine,
     order: Order,
-    code: &[Instr],
+    code: &Code,
     members: u32,
     values: &EnumLists,
     intake: &mut Intake,
     source: &mut S,
     steps: &mut Steps<L>,
-) -> Result<bool, DecodeFault>
+) -> Result<bool, LeapFault>
     requires short { length code.now < 2 ^ 32 }
     requires here { slice_get code.now machine.old.pc ≡ Some (op.Record members) }
     requires safe { (fetched : List ℕ) (noted : List Item) (s : State) → Reaches values.now order code.now machine.old.home (state_of machine.old) fetched noted s → IsSafe code.now s }
@@ -43,7 +45,7 @@ pub fn leap_records<S: Source, L: Ledger>(
     let Some(elements) = elements_here(machine, code, members) else {
         return Ok(false);
     };
-    if !intake.at_hand(source, elements.len)? {
+    if !intake.at_hand(source, elements.len) {
         return Ok(false);
     }
     are_octets(intake.octets());
@@ -61,7 +63,7 @@ fn read_elements<L: Ledger>(
     octets: &[u8],
     ahead: usize,
     steps: &mut Steps<L>,
-) -> Result<(), DecodeFault>
+) -> Result<(), LeapFault>
     requires whole { IsMembers elements.now.members }
     requires some { 0 < elements.now.count }
     requires wide { length octets.now ≡ records_len (members_of elements.now.members) elements.now.count }
@@ -69,10 +71,10 @@ fn read_elements<L: Ledger>(
     requires code { machine.old.pc < 2 ^ 32 }
     requires fits { machine.old.at + length octets.now < 2 ^ 32 }
     requires few { machine.old.count + (elements.now.count + elements.now.count * elements.now.members.len) < 2 ^ 32 }
-    ensures does { Does (goes (records_read (machine.old.pc + 2 + elements.now.members.len) (machine.old.at + length octets.now)
+    ensures does { TextDoes (goes (records_read (machine.old.pc + 2 + elements.now.members.len) (machine.old.at + length octets.now)
         (records_flats order (members_of elements.now.members) elements.now.count octets.now)
         (with_fewer (elements.now.count - 1) machine.old.top) (state_of machine.old))) result (state_of machine.new) }
-    ensures memory { IfErr result (λ e. e ≡ fault.Memory) }
+    ensures memory { IfErr result (λ e. e ≡ leap.Memory) }
     ensures ticks { OnOk result (L.number steps.new ≡ L.number steps.old + elements.now.count * elements.now.members.len) }
     ensures idle { OnErr result (steps.new ≡ steps.old) }
     ensures outside { OnOk result (outside machine.new ≡ outside machine.old) }

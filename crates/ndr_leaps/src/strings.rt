@@ -7,16 +7,16 @@ ghost use Rattle.ndr_steps.specs.Steps.{State};
 ghost use Rattle.ndr_runs.specs.Reaching.{IsSafe, Reaches};
 ghost use Rattle.ndr_state.specs.Seen.{outside, state_of};
 ghost use Rattle.ndr_leaps.specs.Leaps.{Leaps};
-ghost use Rattle.ndr_leaps.specs.Strings.{CountCame, MaxCame, IsAtString, max_read, ReadsText};
+ghost use Rattle.ndr_leaps.specs.Strings.{CountCame, MaxCame, IsAtString, max_read, ReadsText, TextDoes};
 
 use crate::octets::at_hand;
-use crate::refused_text;
+use crate::zeros::refused_at;
+use crate::{LeapFault, TextReason};
 use nd_base::{Ledger, Order, STREAM_LIMIT, Source, Steps};
 use nd_flat::Seen;
-use nd_grammar::Reason;
-use ndr_code::{EnumLists, Instr};
+use ndr_code::{Code, EnumLists, Instr};
 use ndr_intake::Intake;
-use ndr_state::{DecodeFault, Machine, Phase, gap_before, read_count};
+use ndr_state::{Machine, Phase, gap_before, read_count};
 use ndr_steps::Frame;
 
 /// A string whose maximum count is in front of it.
@@ -24,12 +24,12 @@ use ndr_steps::Frame;
 pub fn leap_string<S: Source, L: Ledger>(
     machine: &mut Machine,
     order: Order,
-    code: &[Instr],
+    code: &Code,
     values: &EnumLists,
     intake: &mut Intake,
     source: &mut S,
     steps: &mut Steps<L>,
-) -> Result<bool, DecodeFault>
+) -> Result<bool, LeapFault>
     requires short { length code.now < 2 ^ 32 }
     requires here { slice_get code.now machine.old.pc ≡ Some op.Hoist }
     requires safe { (fetched : List ℕ) (noted : List Item) (s : State) → Reaches values.now order code.now machine.old.home (state_of machine.old) fetched noted s → IsSafe code.now s }
@@ -68,7 +68,7 @@ struct Ahead {
 
 // The string at whose `hoist` the machine is, if it is a home of its own.
 #[inline(always)]
-fn string_ahead(machine: &Machine, code: &[Instr]) -> Option<Ahead>
+fn string_ahead(machine: &Machine, code: &Code) -> Option<Ahead>
     requires code { machine.now.pc < 2 ^ 32 }
     requires within { machine.now.at ≤ STREAM_LIMIT }
     ensures { IfSome result (λ a. IsAtString code.now 512 a.run a.bound (state_of machine.now)) }
@@ -102,7 +102,7 @@ fn begins_home(machine: &Machine) -> bool
 
 // Whether a gap to a multiple of four octets is at an address.
 #[inline(always)]
-fn is_aligned(code: &[Instr], at: usize) -> bool
+fn is_aligned(code: &Code, at: usize) -> bool
     ensures { result ≡ true → slice_get code.now at ≡ Some (op.Align 4) }
 {
     match code.get(at) {
@@ -175,7 +175,7 @@ fn leap_offset<S: Source, L: Ledger>(
     bound: u32,
     source: &mut S,
     steps: &mut Steps<L>,
-) -> Result<(), DecodeFault>
+) -> Result<(), LeapFault>
     requires first { (state_of machine.old).phase ≡ begun }
     requires code { machine.old.pc < 2 ^ 32 }
     requires within { machine.old.at + 400 ≤ STREAM_LIMIT }
@@ -188,9 +188,9 @@ fn leap_offset<S: Source, L: Ledger>(
         return Ok(());
     };
     if offset != 0 {
-        return Err(DecodeFault::Bad {
+        return Err(LeapFault::Bad {
             place: machine.at,
-            reason: Reason::TextOffset,
+            why: TextReason::TextOffset,
         });
     }
     pass_count(machine, Phase::OffsetRead(0));
@@ -206,7 +206,7 @@ fn leap_actual<S: Source, L: Ledger>(
     bound: u32,
     source: &mut S,
     steps: &mut Steps<L>,
-) -> Result<(), DecodeFault>
+) -> Result<(), LeapFault>
     requires offset { (state_of machine.old).phase ≡ offset_read 0 }
     requires code { machine.old.pc < 2 ^ 32 }
     requires within { machine.old.at + 300 ≤ STREAM_LIMIT }
@@ -220,15 +220,15 @@ fn leap_actual<S: Source, L: Ledger>(
     };
     let limit = limit(machine, bound);
     if count == 0 {
-        return Err(DecodeFault::Bad {
+        return Err(LeapFault::Bad {
             place: machine.at,
-            reason: Reason::TextEmpty,
+            why: TextReason::TextEmpty,
         });
     }
     if limit < count {
-        return Err(DecodeFault::Bad {
+        return Err(LeapFault::Bad {
             place: machine.at,
-            reason: Reason::PastBound,
+            why: TextReason::PastBound,
         });
     }
     pass_count(machine, Phase::CountRead(count - 1));
@@ -245,7 +245,7 @@ fn leap_octets<S: Source, L: Ledger>(
     bound: u32,
     source: &mut S,
     steps: &mut Steps<L>,
-) -> Result<(), DecodeFault>
+) -> Result<(), LeapFault>
     requires some { 0 < count }
     requires counted { (state_of machine.old).phase ≡ count_read (count - 1) }
     requires code { machine.old.pc < 2 ^ 32 }
@@ -269,6 +269,29 @@ fn leap_octets<S: Source, L: Ledger>(
     if count > SHORT {
         return Ok(());
     }
+    leap_short(machine, order, count, bound, source, steps)
+}
+
+// The same of no more than `SHORT`. It is apart, so that the room for them is not cleared where they are fewer.
+#[inline(never)]
+fn leap_short<S: Source, L: Ledger>(
+    machine: &mut Machine,
+    order: Order,
+    count: u32,
+    bound: u32,
+    source: &mut S,
+    steps: &mut Steps<L>,
+) -> Result<(), LeapFault>
+    requires some { 0 < count }
+    requires short { count ≤ 256 }
+    requires counted { (state_of machine.old).phase ≡ count_read (count - 1) }
+    requires code { machine.old.pc < 2 ^ 32 }
+    requires within { machine.old.at + 256 ≤ STREAM_LIMIT }
+    requires few { machine.old.count + 1 < 2 ^ 32 }
+    ensures reads { ReadsText order bound (state_of machine.old) (source_seen S.Source.left S.Source.ended S.Source.faults source.old source.new) (L.number steps.old) (L.number steps.new) (state_of machine.new) result }
+    ensures outside { OnOk result (outside machine.new ≡ outside machine.old) }
+    ensures faults { S.Source.faults source.new ≡ S.Source.faults source.old }
+{
     let mut octets = [0; SHORT as usize];
     leap_text(
         machine,
@@ -289,7 +312,7 @@ fn leap_text<S: Source, L: Ledger>(
     text: &mut [u8],
     source: &mut S,
     steps: &mut Steps<L>,
-) -> Result<(), DecodeFault>
+) -> Result<(), LeapFault>
     requires some { 0 < length text.old }
     requires counted { (state_of machine.old).phase ≡ count_read (length text.old - 1) }
     requires code { machine.old.pc < 2 ^ 32 }
@@ -309,23 +332,23 @@ fn leap_text<S: Source, L: Ledger>(
 
 // The octets of a string with its terminator.
 #[inline(always)]
-fn add_text(machine: &mut Machine, bound: u32, octets: &[u8]) -> Result<(), DecodeFault>
+fn add_text(machine: &mut Machine, bound: u32, octets: &[u8]) -> Result<(), LeapFault>
     requires some { 0 < length octets.now }
     requires code { machine.old.pc < 2 ^ 32 }
     requires within { machine.old.at + length octets.now < 2 ^ 32 }
     requires few { machine.old.count + 1 < 2 ^ 32 }
-    ensures does { Does (text_done (text_refusal machine.old.at octets.now) (limit_of bound (state_of machine.old)) octets.now (state_of machine.old)) result (state_of machine.new) }
+    ensures does { TextDoes (text_done (text_refusal machine.old.at octets.now) (limit_of bound (state_of machine.old)) octets.now (state_of machine.old)) result (state_of machine.new) }
     ensures outside { OnOk result (outside machine.new ≡ outside machine.old) }
 {
-    if let Some((place, reason)) = refused_text(machine.at, octets) {
-        return Err(DecodeFault::Bad { place, reason });
+    if let Some((place, why)) = refused_at(machine.at, octets) {
+        return Err(LeapFault::Bad { place, why });
     }
     let len = octets.len();
     let node = Seen::Text {
         max: limit(machine, bound),
         octets: &octets[..len - 1],
     };
-    machine.add(&node, Some(machine.at.saturating_sub(4)))?;
+    machine.add_node(&node, Some(machine.at.saturating_sub(4)))?;
     machine.pass(len as u32);
     Ok(())
 }
@@ -342,5 +365,5 @@ ghost use Rattle.nd_base.specs.declared.TheConstants.{STREAM_LIMIT};
 ghost use Rattle.nd_grammar.specs.Refusal.{text_refusal};
 ghost use Rattle.ndr_steps.specs.declared.frame.Frame.TheVariants as frame;
 ghost use Rattle.ndr_steps.specs.Steps.{begun, offset_read, count_read, past, text_done, limit_of};
-ghost use Rattle.ndr_state.specs.Seen.{Does, phase_of};
+ghost use Rattle.ndr_state.specs.Seen.{phase_of};
 ghost use Rattle.ndr_state.specs.declared.machine.Phase.TheVariants as phase;

@@ -11,15 +11,17 @@ ghost use Rattle.ndr_runs.specs.Reaching.{IsSafe, Reaches};
 ghost use Rattle.ndr_state.specs.Seen.{outside, state_of};
 ghost use Rattle.ndr_leaps.specs.Leaps.{Leaps, LeapsOrGivesUp};
 ghost use Rattle.ndr_leaps.specs.declared.structs.TheConstants.{MOST};
-ghost use Rattle.ndr_leaps.specs.Structs.{HasFields, IsLevel, StructRead, field_len, field_read};
+ghost use Rattle.ndr_code.specs.Lengths.{HasFields, field_len};
+ghost use Rattle.ndr_leaps.specs.Structs.{IsLevel, StructRead, field_read};
 
-use crate::fields::{Field, field_at, form_width, gap_to};
+use crate::LeapFault;
+use crate::fields::gap_to;
 use crate::forms::take_form;
 use crate::octets::at_hand;
 use nd_base::{Ledger, Memory, Order, STREAM_LIMIT, Source, Steps};
 use nd_flat::Seen;
-use ndr_code::{EnumLists, Instr};
-use ndr_state::{DecodeFault, Machine};
+use ndr_code::{Code, EnumLists, Field, form_width};
+use ndr_state::Machine;
 use ndr_steps::Frame;
 
 /// A struct of numbers and of unique and reference pointers, up to its `close`.
@@ -27,12 +29,12 @@ use ndr_steps::Frame;
 pub fn leap_struct<S: Source, L: Ledger>(
     machine: &mut Machine,
     order: Order,
-    code: &[Instr],
+    code: &Code,
     members: u32,
     values: &EnumLists,
     source: &mut S,
     steps: &mut Steps<L>,
-) -> Result<bool, DecodeFault>
+) -> Result<bool, LeapFault>
     requires short { length code.now < 2 ^ 32 }
     requires here { slice_get code.now machine.old.pc ≡ Some (op.Record members) }
     requires safe { (fetched : List ℕ) (noted : List Item) (s : State) → Reaches values.now order code.now machine.old.home (state_of machine.old) fetched noted s → IsSafe code.now s }
@@ -49,7 +51,7 @@ pub fn leap_struct<S: Source, L: Ledger>(
 fn try_struct<S: Source, L: Ledger>(
     machine: &mut Machine,
     order: Order,
-    code: &[Instr],
+    code: &Code,
     members: u32,
     values: &EnumLists,
     source: &mut S,
@@ -65,7 +67,7 @@ fn try_struct<S: Source, L: Ledger>(
     if !is_level(machine) || STREAM_LIMIT - machine.at < MOST {
         return Ok(false);
     }
-    let Some(len) = fields_len(code, machine.pc + 1, machine.at, members) else {
+    let Some(len) = code.struct_len(machine.pc, machine.at, members) else {
         return Ok(false);
     };
     let mut buffer = [0; MOST as usize];
@@ -98,49 +100,12 @@ fn is_level(machine: &Machine) -> bool
     }
 }
 
-// How many octets so many members have from a place on, `MOST` at most, if they are numbers and unique and reference pointers and a `close` follows.
-#[inline(always)]
-fn fields_len(code: &[Instr], pc: usize, at: u32, members: u32) -> Option<u32>
-    requires code { length code.now < 2 ^ 32 }
-    requires pc { pc ≤ 2 ^ 32 }
-    requires within { at ≤ STREAM_LIMIT }
-    ensures fields { IfSome result (λ len. HasFields code.now pc at members len) }
-    ensures few { IfSome result (λ len. len ≤ MOST) }
-{
-    let mut len = 0;
-    let mut left = members;
-    let mut next = pc;
-    while left > 0 {
-        let Some(field) = field_at(code, next) else {
-            return None;
-        };
-        len += gap_to(at + len, field.to) + form_width(field.form);
-        if len > MOST {
-            return None;
-        }
-        next += 1;
-        left -= 1;
-    }
-    if !is_close(code, next) {
-        return None;
-    }
-    Some(len)
-}
-
-// Whether a `close` is at an address.
-#[inline(always)]
-fn is_close(code: &[Instr], at: usize) -> bool
-    ensures { result ≡ true → slice_get code.now at ≡ Some op.Close }
-{
-    matches!(code.get(at), Some(Instr::Close))
-}
-
 // A struct whose octets have come. Out of memory is the only refusal; then nothing is known of the machine.
 #[inline(always)]
 fn read_struct<L: Ledger>(
     machine: &mut Machine,
     order: Order,
-    code: &[Instr],
+    code: &Code,
     members: u32,
     values: &EnumLists,
     octets: &[u8],
@@ -161,7 +126,7 @@ fn read_struct<L: Ledger>(
     let mut from = 0;
     let mut left = members;
     while left > 0 {
-        let Some(field) = field_at(code, machine.pc) else {
+        let Some(field) = code.field(machine.pc) else {
             unreachable!()
         };
         let gap = gap_to(machine.at, field.to);

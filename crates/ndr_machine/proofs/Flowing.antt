@@ -24,7 +24,7 @@ use Rattle.ndr_state.specs.declared.fault.Progress.TheVariants as progress
 use Rattle.ndr_state.specs.declared.machine.Machine.{Machine}
 use Rattle.ndr_state.specs.Seen.{state_of, Comes}
 use Rattle.ndr_state.specs.Notes.{notes_seen, Noted}
-use Rattle.ndr_machine.specs.Parts.{flows, FlowComes}
+use Rattle.ndr_machine.specs.Parts.{flows, quick, FlowComes}
 use Rattle.ndr_machine.specs.Reaching.{Turns}
 use Rattle.ndr_machine.proofs.Handing.{Leaves, back_leaves, call_leaves, close_leaves, quiet_end}
 use Rattle.ndr_machine.proofs.Looping.{AllSafe}
@@ -57,6 +57,12 @@ flow_leaves values order op.Close s e = close_leaves s.top s
 flow_leaves values order (op.Call run) s e = call_leaves s.top run s
 flow_leaves values order (op.Align n) s e = refl
 flow_leaves values order _ s e = absurd (let no : false ≡ true = e in cc)
+
+-- a quick step is one of these
+pub quick_flows : (i : Instr) (at : ℕ) → quick i at ≡ true → flows i at ≡ true
+quick_flows op.Ret at e = refl
+quick_flows (op.Align n) at e = e
+quick_flows _ at e = absurd (let no : false ≡ true = e in cc)
 
 module _ (values : List EnumList) (order : Order) (code : List Instr) (h : Home) (m : Machine) (source : SourceSeen) (i : Instr) (there : slice_get code m.pc ≡ Some i)
     (left : Consumes source.left source.left_now []) (log : Logged) (steps : ℕ) (m1 : Machine) where

@@ -14,9 +14,11 @@ use Rattle.ndr_code.specs.declared.instr.Instr.{Instr}
 use Rattle.ndr_code.specs.declared.lists.EnumList.{EnumList}
 use Rattle.ndr_steps.specs.Steps.{State, refused}
 use Rattle.ndr_runs.specs.Reaching.{Reaches, IsSafe, begins}
+use Rattle.ndr_leaps.specs.declared.fault.LeapFault.{LeapFault}
+use Rattle.ndr_leaps.specs.declared.fault.LeapFault.TheVariants as leap
+use Rattle.ndr_leaps.specs.Faults.{reason_of, fault_of}
 use Rattle.ndr_leaps.specs.Leaps.{Leapt, Stays, GivesUp, Refuses, Leaps}
 use Rattle.ndr_state.specs.declared.fault.DecodeFault.{DecodeFault}
-use Rattle.ndr_state.specs.declared.fault.DecodeFault.TheVariants as fault
 use Rattle.ndr_state.specs.declared.fault.Progress.{Progress}
 use Rattle.ndr_state.specs.declared.fault.Progress.TheVariants as progress
 use Rattle.ndr_state.specs.Notes.{notes_seen}
@@ -89,16 +91,15 @@ module _ (values : List EnumList) (order : Order) (code : List Instr) (h : Home)
     (l.wanted, (l.refusal, (sym (nothing_kept l.noted g quiet), l.counted))),
   )
 
-  faulty : (c c' : ℕ) → g.keeps ≡ false → AllSafe values order code h s0 → (e : DecodeFault) → Leaps values order code h s0 src k k' s1 (Err e)
-      → EndsFault values order code h s0 src (notes_seen g g k k' c c') s1 e
-  faulty c c' quiet safe (fault.Bad place why) l =
-      refused_end c c' place why quiet (subst IsOwnRefusal l.refusal (step_own values order l.os l.i l.s)) l
-  faulty c c' quiet safe fault.ReadFault l = absurd l
-  faulty c c' quiet safe fault.Memory l = gave_up c c' quiet safe l
+  faulty : (c c' : ℕ) → g.keeps ≡ false → AllSafe values order code h s0 → (e : LeapFault) → Leaps values order code h s0 src k k' s1 (Err e)
+      → EndsFault values order code h s0 src (notes_seen g g k k' c c') s1 (fault_of e)
+  faulty c c' quiet safe (leap.Bad place why) l =
+      refused_end c c' place (reason_of why) quiet (subst IsOwnRefusal l.refusal (step_own values order l.os l.i l.s)) l
+  faulty c c' quiet safe leap.Memory l = gave_up c c' quiet safe l
 
   -- a turn that ends with the fault
-  pub leap_failed : (c c' : ℕ) → g.keeps ≡ false → AllSafe values order code h s0 → (e : DecodeFault) (r : Result Progress DecodeFault)
-      → Leaps values order code h s0 src k k' s1 (Err e) → IsErrAnd r (λ y. y ≡ e) → Turns values order code h s0 src (notes_seen g g k k' c c') s1 r
+  pub leap_failed : (c c' : ℕ) → g.keeps ≡ false → AllSafe values order code h s0 → (e : LeapFault) (r : Result Progress DecodeFault)
+      → Leaps values order code h s0 src k k' s1 (Err e) → IsErrAnd r (λ y. y ≡ fault_of e) → Turns values order code h s0 src (notes_seen g g k k' c c') s1 r
   leap_failed c c' quiet safe e (Ok p) l is = absurd is
   leap_failed c c' quiet safe e (Err y) l is =
       subst (λ x. EndsFault values order code h s0 src (notes_seen g g k k' c c') s1 x) (sym is) (faulty c c' quiet safe e l)

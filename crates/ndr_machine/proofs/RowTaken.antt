@@ -21,7 +21,8 @@ use Rattle.ndr_intake.specs.declared.intake.IntakeFault.{IntakeFault}
 use Rattle.ndr_intake.specs.declared.intake.IntakeFault.TheVariants as intake
 use Rattle.ndr_intake.specs.declared.TheConstants.{PIECE}
 use Rattle.ndr_intake.specs.Intake.{IsItemFault}
-use Rattle.ndr_steps.specs.Steps.{State, goes, item_of, prim_of}
+use Rattle.ndr_steps.specs.Steps.{State, goes, item_of}
+use Rattle.ndr_code.specs.Fields.{prim_of}
 use Rattle.ndr_runs.specs.Rows.{IsInRow, row_items, row_read}
 use Rattle.ndr_state.specs.declared.fault.DecodeFault.{DecodeFault}
 use Rattle.ndr_state.specs.declared.fault.DecodeFault.TheVariants as fault

@@ -22,7 +22,8 @@ use Rattle.ndr_code.specs.declared.instr.Instr.TheVariants as op
 use Rattle.ndr_code.specs.declared.lists.EnumList.{EnumList}
 use Rattle.ndr_steps.specs.declared.frame.Frame.{Frame}
 use Rattle.ndr_steps.specs.declared.frame.Frame.TheVariants as frame
-use Rattle.ndr_steps.specs.Steps.{State, goes, wants, item_of, prim_of}
+use Rattle.ndr_steps.specs.Steps.{State, goes, wants, item_of}
+use Rattle.ndr_code.specs.Fields.{prim_of}
 use Rattle.ndr_steps.specs.StepItems.{item_here}
 use Rattle.ndr_steps.specs.Good.{IsCut}
 use Rattle.ndr_runs.specs.Reaching.{Reaches, IsSafe, begins}

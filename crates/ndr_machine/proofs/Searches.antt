@@ -14,7 +14,8 @@ use Rattle.nd_types.specs.declared.types.Primitive.TheVariants.{Short}
 use Rattle.nd_grammar.specs.Refusal.{is_enumerator as is_one_of}
 use Rattle.ndr_code.specs.declared.lists.EnumList.{EnumList}
 use Rattle.ndr_code.specs.Lines.{enumerators}
-use Rattle.ndr_steps.specs.Steps.{form_by, prim_of}
+use Rattle.ndr_steps.specs.Steps.{form_by}
+use Rattle.ndr_code.specs.Fields.{prim_of}
 
 -- ## Lists from a place on
 

@@ -65,6 +65,12 @@ flows (op.Call run) at = true
 flows (op.Align n) at = eqb (gap at n) 0
 flows _ at = false
 
+-- whether it ends a run, or is a gap that is empty
+abbrev pub quick : Instr → ℕ → Bool
+quick op.Ret at = true
+quick (op.Align n) at = eqb (gap at n) 0
+quick _ at = false
+
 abbrev pub actual_read : ℕ → ℕ → ℕ → ℕ → State → Outcome
 actual_read o c limit run s =
     if ltb limit (o + c) then refused s.at reason.PastBound else goes (elements c run (with_node (tree.Arr limit o, c) (Some s.at) (past 4 begun s)))

@@ -7,8 +7,7 @@ ghost use Rattle.ndr_code.specs.Lines.{enumerators};
 ghost use Rattle.ndr_steps.specs.Steps.{form_by};
 
 use nd_types::{Numbers, Prim, TypeId};
-use ndr_code::EnumLists;
-use ndr_state::prim_of;
+use ndr_code::{EnumLists, prim_of};
 
 // Whether a number is a value of a type: any is if the type is not enumerated.
 pub(crate) fn is_enumerator(values: &EnumLists, of: TypeId, value: i128) -> bool

@@ -17,15 +17,15 @@ use nd_base::{Ledger, Memory, Order, STREAM_LIMIT, Steps};
 use nd_flat::{Builder, Row};
 use nd_types::{Prim, TypeId};
 use nd_value::{ItemKind, ItemLog};
-use ndr_code::Instr;
+use ndr_code::{Code, Instr};
 use ndr_intake::PIECE;
 use ndr_prim::{read_num, width_of};
-use ndr_state::{DecodeFault, Machine, Phase, prim_of};
+use ndr_state::{DecodeFault, Machine, Phase};
 use ndr_steps::Frame;
 
 /// How many numbers may be read in one go at a `num`: as many elements as are left of an array whose elements are all of this primitive, and as a
 /// piece and the limit of a stream have room for; one anywhere else. Takes no memory.
-pub fn row_len(machine: &Machine, code: &[Instr], prim: Prim) -> u32
+pub fn row_len(machine: &Machine, code: &Code, prim: Prim) -> u32
     requires code { machine.now.pc < 2 ^ 32 }
     ensures some { 0 < result }
     ensures piece { result * width prim ≤ PIECE }
@@ -177,7 +177,7 @@ fn fewer_left(fewer: u32, top: Frame) -> Frame
 }
 
 // Whether the elements of a run are numbers so wide, and `pc` is the address of their `num`: after the first of them none has a gap.
-fn is_row(code: &[Instr], run: usize, pc: usize, prim: Prim) -> bool
+fn is_row(code: &Code, run: usize, pc: usize, prim: Prim) -> bool
     requires { pc < 2 ^ 32 }
     ensures { result ≡ true → IsNumberRun code.now run pc prim }
 {
@@ -192,14 +192,14 @@ fn is_row(code: &[Instr], run: usize, pc: usize, prim: Prim) -> bool
 }
 
 // Whether a `ret` is at an address.
-fn is_ret(code: &[Instr], at: usize) -> bool
+fn is_ret(code: &Code, at: usize) -> bool
     ensures { result ≡ true → slice_get code.now at ≡ Some op.Ret }
 {
     matches!(code.get(at), Some(Instr::Ret))
 }
 
 // Whether an `align` to so many octets is at an address.
-fn is_align(code: &[Instr], at: usize, wide: usize) -> bool
+fn is_align(code: &Code, at: usize, wide: usize) -> bool
     ensures { result ≡ true → slice_get code.now at ≡ Some (op.Align wide) }
 {
     match code.get(at) {

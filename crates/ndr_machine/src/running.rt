@@ -1,5 +1,5 @@
 // The value of a home, from its first octet to its last.
-ghost use Rattle.std.specs.Prelude.{◌≡◌, ◌<◌, ◌≤◌, ◌^◌, ◌%◌, ◌*◌, ◌/◌, ◌+◌, ◌-◌, ℕ, true, false, List, Some, length, take, slice_get, OnOk, OnErr, IfOk, IfErr};
+ghost use Rattle.std.specs.Prelude.{◌≡◌, ◌<◌, ◌≤◌, ◌^◌, ◌%◌, ◌*◌, ◌/◌, ◌+◌, ◌-◌, ℕ, true, false, List, Some, length, take, slice_get, OnOk, OnErr, IfOk, IfErr, Ok};
 ghost use Rattle.std.specs.Io.KnownBytes.{Consumes};
 ghost use Rattle.nd_base.specs.Over.{source_seen};
 ghost use Rattle.nd_base.specs.declared.TheConstants.{STREAM_LIMIT};
@@ -8,7 +8,8 @@ ghost use Rattle.nd_types.specs.Table.{width};
 ghost use Rattle.nd_value.specs.declared.item.Item.{Item};
 ghost use Rattle.ndr_intake.specs.declared.TheConstants.{PIECE};
 ghost use Rattle.ndr_code.specs.declared.instr.Instr.TheVariants as op;
-ghost use Rattle.ndr_steps.specs.Steps.{State, IsInner, prim_of, wants};
+ghost use Rattle.ndr_steps.specs.Steps.{State, IsInner, wants};
+ghost use Rattle.ndr_code.specs.Fields.{prim_of};
 ghost use Rattle.ndr_steps.specs.declared.frame.Frame.TheVariants as frame;
 ghost use Rattle.ndr_state.specs.Seen.{state_of, outside};
 ghost use Rattle.ndr_state.specs.Notes.{notes_seen};
@@ -17,20 +18,20 @@ ghost use Rattle.ndr_runs.specs.Rows.{IsInRow};
 ghost use Rattle.ndr_leaps.specs.Leaps.{Leaps};
 ghost use Rattle.ndr_state.specs.declared.fault.DecodeFault.TheVariants as fault;
 ghost use Rattle.ndr_machine.specs.Notes.{RowNoted};
-ghost use Rattle.ndr_machine.specs.Parts.{flows};
+ghost use Rattle.ndr_machine.specs.Parts.{quick};
 ghost use Rattle.ndr_machine.specs.Reaching.{Ends, Turns, Fetches, stream_answer};
 
 use crate::rows::{note_row, read_row, row_len};
-use crate::steps::{Want, is_flow, is_quick, take_flow, take_step, wanted};
+use crate::steps::{Want, is_flow, is_quick, pass_quick, take_flow, take_step, wanted};
 use nd_base::{Ledger, Order, STREAM_LIMIT, Source, Steps};
 use nd_grammar::Reason;
 use nd_types::{Prim, TypeId};
 use nd_value::ItemLog;
-use ndr_code::{EnumLists, Instr};
+use ndr_code::{Code, EnumLists, Instr, prim_of};
 use ndr_intake::{Intake, IntakeFault};
-use ndr_leaps::{gap_to, leap};
+use ndr_leaps::{LeapFault, gap_to, leap};
 use ndr_prim::width_of;
-use ndr_state::{DecodeFault, Machine, Progress, prim_of};
+use ndr_state::{DecodeFault, Machine, Progress};
 use ndr_steps::Frame;
 
 /// Reads the value of a home from the instruction at which the machine is. Each state that the code can reach from here must be safe.
@@ -42,7 +43,7 @@ use ndr_steps::Frame;
 #[inline(always)]
 pub fn run<S: Source, L: Ledger>(
     order: Order,
-    code: &[Instr],
+    code: &Code,
     values: &EnumLists,
     machine: &mut Machine,
     intake: &mut Intake,
@@ -56,7 +57,7 @@ pub fn run<S: Source, L: Ledger>(
     ensures outside { OnOk result (outside machine.new ≡ outside machine.old) }
     ensures later { S.Source.faults source.old ≤ S.Source.faults source.new }
 {
-    let instr = code[machine.pc];
+    let instr = code.at(machine.pc);
     match take_lead(
         machine, order, code, instr, values, intake, source, items, steps,
     ) {
@@ -71,7 +72,7 @@ pub fn run<S: Source, L: Ledger>(
 fn take_lead<S: Source, L: Ledger>(
     machine: &mut Machine,
     order: Order,
-    code: &[Instr],
+    code: &Code,
     instr: Instr,
     values: &EnumLists,
     intake: &mut Intake,
@@ -87,9 +88,10 @@ fn take_lead<S: Source, L: Ledger>(
     ensures later { S.Source.faults source.old ≤ S.Source.faults source.new }
 {
     if is_empty_gap(machine, instr) {
-        return take_quick(
+        let progress = take_quick(
             machine, order, code, instr, values, intake, source, items, steps,
         );
+        return Ok(progress);
     }
     Ok(Progress::More)
 }
@@ -97,7 +99,7 @@ fn take_lead<S: Source, L: Ledger>(
 // Whether the instruction is a gap that is empty.
 #[inline(always)]
 fn is_empty_gap(machine: &Machine, instr: Instr) -> bool
-    ensures { result ≡ true → flows instr machine.now.at ≡ true }
+    ensures { result ≡ true → quick instr machine.now.at ≡ true }
 {
     match instr {
         Instr::Align { to } => gap_to(machine.at, to) == 0,
@@ -109,7 +111,7 @@ fn is_empty_gap(machine: &Machine, instr: Instr) -> bool
 #[inline(always)]
 fn run_first<S: Source, L: Ledger>(
     order: Order,
-    code: &[Instr],
+    code: &Code,
     values: &EnumLists,
     machine: &mut Machine,
     intake: &mut Intake,
@@ -123,7 +125,7 @@ fn run_first<S: Source, L: Ledger>(
     ensures outside { OnOk result (outside machine.new ≡ outside machine.old) }
     ensures later { S.Source.faults source.old ≤ S.Source.faults source.new }
 {
-    let instr = code[machine.pc];
+    let instr = code.at(machine.pc);
     match take_first(
         machine, order, code, instr, values, intake, source, items, steps,
     ) {
@@ -138,7 +140,7 @@ fn run_first<S: Source, L: Ledger>(
 fn take_first<S: Source, L: Ledger>(
     machine: &mut Machine,
     order: Order,
-    code: &[Instr],
+    code: &Code,
     instr: Instr,
     values: &EnumLists,
     intake: &mut Intake,
@@ -167,7 +169,7 @@ fn take_first<S: Source, L: Ledger>(
 
 // Whether the machine is at the end of the value of its home.
 #[inline(always)]
-fn is_over(machine: &Machine, code: &[Instr]) -> bool
+fn is_over(machine: &Machine, code: &Code) -> bool
     ensures ends { result ≡ true → slice_get code.now machine.now.pc ≡ Some op.Ret }
     ensures home { result ≡ true → machine.now.top ≡ frame.Home }
 {
@@ -186,7 +188,7 @@ fn is_over(machine: &Machine, code: &[Instr]) -> bool
 #[inline(never)]
 fn run_on<S: Source, L: Ledger>(
     order: Order,
-    code: &[Instr],
+    code: &Code,
     values: &EnumLists,
     machine: &mut Machine,
     intake: &mut Intake,
@@ -202,8 +204,16 @@ fn run_on<S: Source, L: Ledger>(
 {
     // No stream within the limit has so many turns.
     for _turn in 0..u64::MAX {
-        let instr = code[machine.pc];
-        match take_turn(
+        let instr = code.at(machine.pc);
+        if is_quick(machine, instr) {
+            match take_quick(
+                machine, order, code, instr, values, intake, source, items, steps,
+            ) {
+                Progress::More => continue,
+                Progress::Whole => return Ok(()),
+            }
+        }
+        match take_some(
             machine, order, code, instr, values, intake, source, items, steps,
         ) {
             Ok(Progress::More) => {}
@@ -214,59 +224,28 @@ fn run_on<S: Source, L: Ledger>(
     Err(DecodeFault::Memory)
 }
 
-// The end of a run or an empty gap; steps that are taken in one go, where there are such; else one step, or a row of numbers.
-#[inline(always)]
-fn take_turn<S: Source, L: Ledger>(
-    machine: &mut Machine,
-    order: Order,
-    code: &[Instr],
-    instr: Instr,
-    values: &EnumLists,
-    intake: &mut Intake,
-    source: &mut S,
-    items: &mut ItemLog,
-    steps: &mut Steps<L>,
-) -> Result<Progress, DecodeFault>
-    requires short { length code.now < 2 ^ 32 }
-    requires here { slice_get code.now machine.old.pc ≡ Some instr }
-    requires safe { (fetched : List ℕ) (noted : List Item) (s : State) → Reaches values.now order code.now machine.old.home (state_of machine.old) fetched noted s → IsSafe code.now s }
-    ensures turns { Turns values.now order code.now machine.old.home (state_of machine.old) (source_seen S.Source.left S.Source.ended S.Source.faults source.old source.new) (notes_seen items.old items.new (L.number steps.old) (L.number steps.new) machine.old.cells machine.new.cells) (state_of machine.new) result }
-    ensures outside { OnOk result (outside machine.new ≡ outside machine.old) }
-    ensures later { S.Source.faults source.old ≤ S.Source.faults source.new }
-{
-    if is_quick(machine, instr) {
-        return take_quick(
-            machine, order, code, instr, values, intake, source, items, steps,
-        );
-    }
-    take_some(
-        machine, order, code, instr, values, intake, source, items, steps,
-    )
-}
-
-// A step that reads and notes nothing.
+// The end of a run, or an empty gap. It reads and notes nothing.
 #[inline(always)]
 fn take_quick<S: Source, L: Ledger>(
     machine: &mut Machine,
     order: Order,
-    code: &[Instr],
+    code: &Code,
     instr: Instr,
     values: &EnumLists,
     intake: &mut Intake,
     source: &mut S,
     items: &mut ItemLog,
     steps: &mut Steps<L>,
-) -> Result<Progress, DecodeFault>
+) -> Progress
     requires short { length code.now < 2 ^ 32 }
     requires here { slice_get code.now machine.old.pc ≡ Some instr }
     requires safe { (fetched : List ℕ) (noted : List Item) (s : State) → Reaches values.now order code.now machine.old.home (state_of machine.old) fetched noted s → IsSafe code.now s }
-    requires flow { flows instr machine.old.at ≡ true }
-    ensures turns { Turns values.now order code.now machine.old.home (state_of machine.old) (source_seen S.Source.left S.Source.ended S.Source.faults source.old source.new) (notes_seen items.old items.new (L.number steps.old) (L.number steps.new) machine.old.cells machine.new.cells) (state_of machine.new) result }
-    ensures outside { OnOk result (outside machine.new ≡ outside machine.old) }
+    requires quick { quick instr machine.old.at ≡ true }
+    ensures turns { Turns values.now order code.now machine.old.home (state_of machine.old) (source_seen S.Source.left S.Source.ended S.Source.faults source.old source.new) (notes_seen items.old items.new (L.number steps.old) (L.number steps.new) machine.old.cells machine.new.cells) (state_of machine.new) (Ok result) }
+    ensures outside { outside machine.new ≡ outside machine.old }
     ensures later { S.Source.faults source.old ≤ S.Source.faults source.new }
 {
-    let progress = take_flow(machine, instr)?;
-    Ok(progress)
+    pass_quick(machine, instr)
 }
 
 // Steps that are taken in one go, where there are such; else one step, or a row of numbers.
@@ -274,7 +253,7 @@ fn take_quick<S: Source, L: Ledger>(
 fn take_some<S: Source, L: Ledger>(
     machine: &mut Machine,
     order: Order,
-    code: &[Instr],
+    code: &Code,
     instr: Instr,
     values: &EnumLists,
     intake: &mut Intake,
@@ -295,9 +274,7 @@ fn take_some<S: Source, L: Ledger>(
     if leapt {
         return Ok(Progress::More);
     }
-    take_next(
-        machine, order, code, instr, values, intake, source, items, steps,
-    )
+    take_next(machine, order, code, values, intake, source, items, steps)
 }
 
 // Takes steps in one go, if the log keeps nothing and there are such steps, and says whether it did.
@@ -305,14 +282,14 @@ fn take_some<S: Source, L: Ledger>(
 fn try_leap<S: Source, L: Ledger>(
     machine: &mut Machine,
     order: Order,
-    code: &[Instr],
+    code: &Code,
     instr: Instr,
     values: &EnumLists,
     intake: &mut Intake,
     source: &mut S,
     items: &ItemLog,
     steps: &mut Steps<L>,
-) -> Result<bool, DecodeFault>
+) -> Result<bool, LeapFault>
     requires short { length code.now < 2 ^ 32 }
     requires here { slice_get code.now machine.old.pc ≡ Some instr }
     requires safe { (fetched : List ℕ) (noted : List Item) (s : State) → Reaches values.now order code.now machine.old.home (state_of machine.old) fetched noted s → IsSafe code.now s }
@@ -333,8 +310,7 @@ fn try_leap<S: Source, L: Ledger>(
 fn take_next<S: Source, L: Ledger>(
     machine: &mut Machine,
     order: Order,
-    code: &[Instr],
-    instr: Instr,
+    code: &Code,
     values: &EnumLists,
     intake: &mut Intake,
     source: &mut S,
@@ -342,12 +318,12 @@ fn take_next<S: Source, L: Ledger>(
     steps: &mut Steps<L>,
 ) -> Result<Progress, DecodeFault>
     requires short { length code.now < 2 ^ 32 }
-    requires here { slice_get code.now machine.old.pc ≡ Some instr }
     requires safe { (fetched : List ℕ) (noted : List Item) (s : State) → Reaches values.now order code.now machine.old.home (state_of machine.old) fetched noted s → IsSafe code.now s }
     ensures turns { Turns values.now order code.now machine.old.home (state_of machine.old) (source_seen S.Source.left S.Source.ended S.Source.faults source.old source.new) (notes_seen items.old items.new (L.number steps.old) (L.number steps.new) machine.old.cells machine.new.cells) (state_of machine.new) result }
     ensures outside { OnOk result (outside machine.new ≡ outside machine.old) }
     ensures later { S.Source.faults source.old ≤ S.Source.faults source.new }
 {
+    let instr = code.at(machine.pc);
     if is_flow(machine, instr) {
         let progress = take_flow(machine, instr)?;
         return Ok(progress);
@@ -373,7 +349,7 @@ fn take_next<S: Source, L: Ledger>(
 fn take_one<S: Source, L: Ledger>(
     machine: &mut Machine,
     order: Order,
-    code: &[Instr],
+    code: &Code,
     instr: Instr,
     values: &EnumLists,
     intake: &mut Intake,
@@ -426,7 +402,7 @@ fn are_octets(octets: &[u8])
 fn take_row<S: Source, L: Ledger>(
     machine: &mut Machine,
     order: Order,
-    code: &[Instr],
+    code: &Code,
     values: &EnumLists,
     of: TypeId,
     count: u32,

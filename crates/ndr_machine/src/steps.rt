@@ -4,7 +4,7 @@ ghost use Rattle.ndr_code.specs.declared.instr.Instr.TheVariants as op;
 ghost use Rattle.ndr_steps.specs.Steps.{IsInner, step, wants, text_want, hoist_want, limit_of};
 ghost use Rattle.ndr_state.specs.Seen.{state_of, phase_of, Comes, Does, outside};
 ghost use Rattle.ndr_machine.specs.Wanting.{Wants, IsFewGap};
-ghost use Rattle.ndr_machine.specs.Parts.{HasWanted, arm_tried, reads, flows, Acts, ActNoted, FlowComes};
+ghost use Rattle.ndr_machine.specs.Parts.{HasWanted, arm_tried, reads, flows, quick, Acts, ActNoted, FlowComes};
 ghost use Rattle.ndr_steps.specs.StepItems.{arm_items, step_items};
 ghost use Rattle.ndr_state.specs.Notes.{Noted, notes_seen};
 
@@ -18,10 +18,10 @@ use crate::unions::{arm, tag};
 use nd_base::{Ledger, Memory, Order, Steps};
 use nd_grammar::Reason;
 use nd_value::ItemLog;
-use ndr_code::{EnumLists, Instr};
+use ndr_code::{EnumLists, Instr, prim_of};
 use ndr_leaps::gap_to;
 use ndr_prim::width_of;
-use ndr_state::{DecodeFault, Machine, Phase, Progress, gap_before, prim_of};
+use ndr_state::{DecodeFault, Machine, Phase, Progress, gap_before};
 
 /// What octets a step wants: those of a gap, or of a primitive.
 #[derive(Clone, Copy, Debug, PartialEq, Eq)]
@@ -119,7 +119,7 @@ pub fn is_flow(machine: &Machine, instr: Instr) -> bool
 /// Whether the step is one of those that are taken first: it ends a run, or is a gap that is empty. Takes no memory.
 #[inline(always)]
 pub fn is_quick(machine: &Machine, instr: Instr) -> bool
-    ensures { result ≡ true → flows instr machine.now.at ≡ true }
+    ensures { result ≡ quick instr machine.now.at }
 {
     match instr {
         Instr::Ret => true,
@@ -128,7 +128,26 @@ pub fn is_quick(machine: &Machine, instr: Instr) -> bool
     }
 }
 
-/// What such a step does. It takes memory at the beginning of a struct and of a member, and out of memory is the only refusal; then nothing is known of the
+/// What such a step does. Takes no memory.
+#[inline(always)]
+pub fn pass_quick(machine: &mut Machine, instr: Instr) -> Progress
+    requires quick { quick instr machine.old.at ≡ true }
+    requires code { machine.old.pc < 2 ^ 32 }
+    requires fits { machine.old.at + 8 < 2 ^ 32 }
+    ensures does { FlowComes instr (state_of machine.old) result (state_of machine.new) }
+    ensures outside { outside machine.new ≡ outside machine.old }
+{
+    match instr {
+        Instr::Ret => machine.ret(),
+        Instr::Align { to: _ } => {
+            machine.pass(0);
+            Progress::More
+        }
+        _ => unreachable!(),
+    }
+}
+
+/// What a step does that reads and notes nothing. It takes memory at the beginning of a struct and of a member, and out of memory is the only refusal; then nothing is known of the
 /// machine.
 #[inline(always)]
 pub fn take_flow(machine: &mut Machine, instr: Instr) -> Result<Progress, Memory>

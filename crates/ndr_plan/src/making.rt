@@ -191,10 +191,11 @@ fn plan_of(parts: Parts, values: EnumLists, interface: &Interface) -> Result<Pla
     ensures { IfOk result (λ plan. plan.tie ≡ interface.now) }
 {
     let Parts {
-        code,
+        mut code,
         entries,
         sides,
     } = parts;
+    code.look_up();
     if code.len() > ADDRESS_LIMIT as usize {
         return Err(Memory);
     }

@@ -25,7 +25,8 @@ use Rattle.ndr_steps.specs.declared.first.First.TheVariants as first
 use Rattle.ndr_steps.specs.declared.first.Member.{Member}
 use Rattle.ndr_steps.specs.declared.frame.Frame.{Frame}
 use Rattle.ndr_steps.specs.declared.frame.Frame.TheVariants as frame
-use Rattle.ndr_steps.specs.Steps.{State, begun, goes, number_step, prim_of, own_by, firsts_by, first_of}
+use Rattle.ndr_steps.specs.Steps.{State, begun, goes, number_step, own_by, firsts_by, first_of}
+use Rattle.ndr_code.specs.Fields.{prim_of}
 use Rattle.ndr_steps.specs.StepItems.{gap_items, item_here, step_items}
 use Rattle.ndr_runs.specs.Reaching.{Reaches, begins, steps_to}
 use Rattle.ndr_runs.specs.Records.{Slot, IsNumberAt, IsSlotRun, AreSlots, IsNumberRecord, IsAmongElements, slots_len, slot_octets, after_slot, slot_flats, slot_items, record_read, records_read, IsRecordRun, next_place, after_record, records_len, record_flats, record_items, EndsWithin, slots_came, records_came}

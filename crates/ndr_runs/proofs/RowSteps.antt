@@ -23,7 +23,8 @@ use Rattle.ndr_code.specs.declared.instr.Instr.TheVariants as op
 use Rattle.ndr_code.specs.declared.lists.EnumList.{EnumList}
 use Rattle.ndr_steps.specs.declared.frame.Frame.{Frame}
 use Rattle.ndr_steps.specs.declared.frame.Frame.TheVariants as frame
-use Rattle.ndr_steps.specs.Steps.{State, begun, goes, number_step, prim_of, done_after, back_to, with_node, with_frames, jumped, own_by, firsts_by, first_of}
+use Rattle.ndr_steps.specs.Steps.{State, begun, goes, number_step, done_after, back_to, with_node, with_frames, jumped, own_by, firsts_by, first_of}
+use Rattle.ndr_code.specs.Fields.{prim_of}
 use Rattle.ndr_steps.specs.StepItems.{item_here, step_items}
 use Rattle.ndr_runs.specs.Reaching.{Reaches, begins, steps_to}
 use Rattle.ndr_runs.specs.Rows.{with_row, with_fewer, row_read, row_passed, row_items, IsNumberRun, IsInRow}

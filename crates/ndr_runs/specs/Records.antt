@@ -17,7 +17,8 @@ use Rattle.ndr_code.specs.declared.instr.Instr.TheVariants as op
 use Rattle.ndr_code.specs.declared.lists.EnumList.{EnumList}
 use Rattle.ndr_steps.specs.declared.frame.Frame.{Frame}
 use Rattle.ndr_steps.specs.declared.frame.Frame.TheVariants as frame
-use Rattle.ndr_steps.specs.Steps.{State, begun, prim_of, wants}
+use Rattle.ndr_steps.specs.Steps.{State, begun, wants}
+use Rattle.ndr_code.specs.Fields.{prim_of}
 use Rattle.ndr_steps.specs.StepItems.{gap_items, item_here}
 use Rattle.ndr_steps.specs.Good.{IsCut}
 use Rattle.ndr_runs.specs.Reaching.{Reaches}

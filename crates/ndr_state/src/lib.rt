@@ -11,4 +11,4 @@ mod starting;
 
 pub use fault::{DecodeFault, Progress};
 pub use machine::{Machine, Owed, Phase, Wanted};
-pub use octets::{gap_before, prim_of, read_count, read_value};
+pub use octets::{gap_before, read_count, read_value};

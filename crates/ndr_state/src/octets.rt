@@ -5,7 +5,6 @@ ghost use Rattle.nd_types.specs.declared.types.Primitive.TheVariants.{Long};
 ghost use Rattle.nd_types.specs.Table.{width};
 ghost use Rattle.nd_flat.specs.FlatForm.{IsKeepableNumber};
 ghost use Rattle.nd_grammar.specs.Entry.{gap};
-ghost use Rattle.ndr_steps.specs.Steps.{prim_of as primitive_of};
 
 use byteorder::{BigEndian, ByteOrder, LittleEndian};
 use nd_base::Order;
@@ -79,24 +78,4 @@ pub fn gap_before(at: u32, to: u8) -> u32
         return 0;
     }
     (to - at % to) % to
-}
-
-/// The primitive of a type's number. Takes no memory.
-#[inline(always)]
-pub fn prim_of(of: u32) -> Prim
-    ensures { result ≡ primitive_of of }
-{
-    match of {
-        0 => Prim::Boolean,
-        1 => Prim::Char,
-        2 => Prim::Byte,
-        3 => Prim::Small,
-        4 => Prim::UnsignedSmall,
-        5 => Prim::Short,
-        6 => Prim::UnsignedShort,
-        7 => Prim::Long,
-        8 => Prim::UnsignedLong,
-        9 => Prim::Hyper,
-        _ => Prim::UnsignedHyper,
-    }
 }

@@ -33,7 +33,8 @@ use Rattle.ndr_reading.specs.Around.{Around, going, stopped, finish, nodes_aroun
 use Rattle.ndr_reading.specs.Points.{Point, TagForm, hoisting, counting, called, due, opened, offset_read as at_offset, text_offset, text_counted, tagged, between, checking, has, read_at, held}
 use Rattle.ndr_reading.proofs.Fetched.{long_refused, cut_refused}
 use Rattle.ndr_steps.specs.Spots.{IsFine, IsFormed, IsPlanned, Spot, FitsAt, ChecksLeft, no_check, at_member, AtEnd, at_ret, at_void, rest_run, body_run}
-use Rattle.ndr_steps.specs.Steps.{State, begun, gap_read, offset_read, count_read, Want, no_octets, gap_of, item_of, wants, hoist_want, text_want, tag_form, prim_of}
+use Rattle.ndr_steps.specs.Steps.{State, begun, gap_read, offset_read, count_read, Want, no_octets, gap_of, item_of, wants, hoist_want, text_want, tag_form}
+use Rattle.ndr_code.specs.Fields.{prim_of}
 use Rattle.ndr_steps.specs.Good.{Good, IsCut, IsTooLong, phase_at}
 use Rattle.ndr_steps.proofs.Passing.{no_less}
 use Rattle.ndr_steps.proofs.Adding.{Stops}

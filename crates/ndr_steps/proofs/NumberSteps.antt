@@ -33,7 +33,8 @@ use Rattle.ndr_reading.proofs.Continuing.{passed, refused as stops_at, after_gap
 use Rattle.ndr_reading.proofs.FromPoint.{due_opens}
 use Rattle.ndr_reading.proofs.HomePointers.{of_context}
 use Rattle.ndr_steps.specs.Spots.{IsFine, IsDue, body_run, at_ret}
-use Rattle.ndr_steps.specs.Steps.{State, Outcome, goes, refused, begun, done_after, with_node, number_step, prim_of}
+use Rattle.ndr_steps.specs.Steps.{State, Outcome, goes, refused, begun, done_after, with_node, number_step}
+use Rattle.ndr_code.specs.Fields.{prim_of}
 use Rattle.ndr_steps.specs.Good.{Told, IsRight, owed}
 use Rattle.ndr_steps.specs.StepItems.{item_here, next_item, gap_items, number_items}
 use Rattle.ndr_steps.proofs.Passing.{items_it, gap_noted, onward, no_less, silent, told_passed, judged, taken_it, lies_it}

@@ -45,7 +45,8 @@ use Rattle.ndr_steps.specs.declared.first.Member.{Member}
 use Rattle.ndr_steps.specs.declared.frame.Frame.{Frame}
 use Rattle.ndr_steps.specs.declared.frame.Frame.TheVariants as frame
 use Rattle.ndr_steps.specs.Spots.{IsFine, IsDue, IsFormed, IsPlanned, IsStruct, InsideAt, Spot, FitsAt, Fits, ChecksLeft, no_check, at_member, own_tests_of, AtEnd, at_ret, at_void, rest_run, body_run, types_of, IsShaped}
-use Rattle.ndr_steps.specs.Steps.{State, Outcome, goes, refused, whole, begun, gap_read, offset_read, count_read, wants, item_of, text_want, hoist_want, hoist_by, step, next, number_step, vary_by, text_by, limit_of, tag_step, tag_form, pointer_step, back_to, prim_of, check_in, close_of, jumped}
+use Rattle.ndr_steps.specs.Steps.{State, Outcome, goes, refused, whole, begun, gap_read, offset_read, count_read, wants, item_of, text_want, hoist_want, hoist_by, step, next, number_step, vary_by, text_by, limit_of, tag_step, tag_form, pointer_step, back_to, check_in, close_of, jumped}
+use Rattle.ndr_code.specs.Fields.{prim_of}
 use Rattle.ndr_steps.specs.StepItems.{step_items, number_items, vary_items, text_items, hoist_items, tag_items, arm_items}
 use Rattle.ndr_steps.specs.Good.{Told, Kept, Good, IsRight, HasOctets, Holds, HasRegisters, OwnAt, BeginAt, members_at, owed, phase_at, half_at, unread_at}
 use Rattle.ndr_steps.proofs.Arriving.{Within, KeptAll, KeptOwn, parts_of}

@@ -43,7 +43,8 @@ use Rattle.ndr_reading.proofs.FromPoint.{tag_known}
 use Rattle.ndr_reading.proofs.HomePointers.{of_union}
 use Rattle.ndr_steps.specs.declared.frame.Frame.TheVariants as frame
 use Rattle.ndr_steps.specs.Spots.{IsFine, IsPlanned, ArmsLeft, in_union, at_void}
-use Rattle.ndr_steps.specs.Steps.{State, Outcome, goes, refused, begun, next, past, with_node, with_tag, arm_taken, tag_step, tag_form, form_by, prim_of, tag_at}
+use Rattle.ndr_steps.specs.Steps.{State, Outcome, goes, refused, begun, next, past, with_node, with_tag, arm_taken, tag_step, tag_form, form_by, tag_at}
+use Rattle.ndr_code.specs.Fields.{prim_of}
 use Rattle.ndr_steps.specs.Good.{Told, Good, HeldTag, IsRight, owed, members_around}
 use Rattle.ndr_steps.specs.StepItems.{item_here, tag_items, arm_items}
 use Rattle.ndr_steps.proofs.Passing.{items_it, own_items, onward, no_less, later_node, told_counted, told_longer, judged, taken_it, other_eqb', Change, Lies}

@@ -13,7 +13,8 @@ use Rattle.nd_value.specs.declared.item.ItemKind.{ItemKind}
 use Rattle.nd_value.specs.declared.item.ItemKind.TheVariants as item
 use Rattle.ndr_code.specs.declared.instr.Instr.{Instr}
 use Rattle.ndr_code.specs.declared.instr.Instr.TheVariants as op
-use Rattle.ndr_steps.specs.Steps.{State, Phase, gap_read, offset_read, count_read, prim_of}
+use Rattle.ndr_steps.specs.Steps.{State, Phase, gap_read, offset_read, count_read}
+use Rattle.ndr_code.specs.Fields.{prim_of}
 
 abbrev pub item_here : Home → ℕ → ItemKind → ℕ → ℤ → ℕ → Item
 item_here h at kind len value node = record { at = at; len = len; kind = kind; home = h; node = node; value = value }

@@ -10,6 +10,7 @@ use Rattle.nd_types.specs.declared.types.Attr.TheVariants as attr
 use Rattle.nd_types.specs.declared.types.Class.{Class}
 use Rattle.nd_types.specs.declared.types.Class.TheVariants.{Ref, Unique, Full}
 use Rattle.nd_types.specs.declared.types.Primitive.{Primitive}
+use Rattle.ndr_code.specs.Fields.{prim_of}
 use Rattle.nd_types.specs.declared.types.Primitive.TheVariants.{Boolean, Char, Byte, Small, UnsignedSmall, Short, UnsignedShort, Long, UnsignedLong, Hyper, UnsignedHyper}
 use Rattle.nd_types.specs.declared.types.TypeId.{TypeId}
 use Rattle.nd_types.specs.Number.{unsigned, value_of_octets}
@@ -104,21 +105,6 @@ pub data Outcome : Type 0 where
   whole : (s : State) → Outcome
 
 -- ## What a step wants
-
--- the primitive of a type's number
-abbrev pub prim_of : ℕ → Primitive
-prim_of n =
-    cond (eqb n 0) Boolean (
-    cond (eqb n 1) Char (
-    cond (eqb n 2) Byte (
-    cond (eqb n 3) Small (
-    cond (eqb n 4) UnsignedSmall (
-    cond (eqb n 5) Short (
-    cond (eqb n 6) UnsignedShort (
-    cond (eqb n 7) Long (
-    cond (eqb n 8) UnsignedLong (
-    cond (eqb n 9) Hyper (
-    UnsignedHyper))))))))))
 
 -- how a tag of a type is carried: an enumerated one as a short
 abbrev pub form_by : ℕ → Option (List ℤ) → TagForm

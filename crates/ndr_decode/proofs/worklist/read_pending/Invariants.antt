@@ -1,4 +1,4 @@
-use Rattle.std.proofs.Common.{◌≡◌, ◌≤◌}
+use Rattle.std.proofs.Common.{◌≡◌, ◌≤◌, ◌+◌, length, IfSome}
 use Rattle.nd_base.specs.Over.{source_seen}
 use Rattle.ndr_verdict.specs.Verdict.{decoding_seen}
 use Rattle.ndr_decode.specs.Streaming.{purpose_of}
@@ -8,5 +8,6 @@ use Rattle.ndr_decode.proofs.worklist.read_pending.Given as goal
 abbrev pub invariant-loop-turn : goal.invariant-loop-turn
 invariant-loop-turn g l =
     SoFar l.plan l.order l.initial.stream (source_seen g.S.Source.left g.S.Source.ended g.S.Source.faults l.initial.source l.source)
-    (decoding_seen l.initial.items l.items (g.L.Ledger.number l.initial.steps) (g.L.Ledger.number l.steps)) l.stream
-    × ((purpose_of l.stream ≡ purpose_of l.initial.stream) × (g.S.Source.faults l.initial.source ≤ g.S.Source.faults l.source))
+    (decoding_seen l.initial.items l.items (g.L.Ledger.number l.initial.steps) (g.L.Ledger.number l.steps)) l.next l.stream
+    × (IfSome l.next (λ o. o.from + o.len ≤ length l.stream.wanted.items)
+    × ((purpose_of l.stream ≡ purpose_of l.initial.stream) × (g.S.Source.faults l.initial.source ≤ g.S.Source.faults l.source)))

@@ -3,7 +3,9 @@ use Rattle.nd_grammar.specs.Entry.{gap}
 use Rattle.ndr_code.specs.declared.instr.Instr.TheVariants as op
 use Rattle.ndr_steps.specs.Steps.{State}
 use Rattle.ndr_state.specs.Seen.{state_of}
-use Rattle.ndr_leaps.specs.Structs.{at_address, field_len, field_of, form_width}
+use Rattle.ndr_code.specs.Lengths.{field_len, form_width}
+use Rattle.ndr_leaps.specs.Structs.{at_address}
+use Rattle.ndr_code.specs.Fields.{field_of}
 use Rattle.ndr_leaps.proofs.StructReading.{address_short, field_fits, field_on, field_stopped, memory_stops, pc_here, reading_begun, reading_over, safe_first, some_field, stopped_first}
 use Rattle.ndr_leaps.proofs.structs.read_struct.Goals as goal
 
@@ -37,19 +39,11 @@ loop-left-init g c =
       c.in_ok-add_node.ensures.outside,
     )
 
-pub field_at-requires-clause-pc : goal.field_at-requires-clause-pc
-field_at-requires-clause-pc g c =
-    let l = c.loop-left in
-    let below : l.machine.pc < 2 ^ 32 =
-    pc_here c.args.values.now c.args.order c.args.code.now c.args.machine.now.home (state_of c.args.machine.now) (g.L.Ledger.number c.args.steps.now) c.args.octets.now
-    l.from l.left (g.L.Ledger.number l.steps) (state_of l.machine) l.invariant.0 c.requires.short in
-    omega (arith, below)
-
 pub unreachable-requires : goal.unreachable-requires
 unreachable-requires g c =
     let l = c.loop-left in
     some_field c.args.values.now c.args.order c.args.code.now c.args.machine.now.home (state_of c.args.machine.now) (g.L.Ledger.number c.args.steps.now) c.args.octets.now
-    l.from l.left (g.L.Ledger.number l.steps) (state_of l.machine) l.invariant.0 c.loop-left-test.true (sym c.field_at.ensures ∙ c.in_default.is)
+    l.from l.left (g.L.Ledger.number l.steps) (state_of l.machine) l.invariant.0 c.loop-left-test.true (sym c.field.ensures ∙ c.in_default.is)
 
 pub slice_bounds-take_field-end : goal.slice_bounds-take_field-end
 slice_bounds-take_field-end g c =
@@ -59,7 +53,7 @@ slice_bounds-take_field-end g c =
     let wide : c.form_width.result ≡ form_width f.form = c.form_width.ensures.is in
     let fits : l.from + field_len l.machine.at f ≤ length c.args.octets.now =
     (field_fits c.args.values.now c.args.order c.args.code.now c.args.machine.now.home (state_of c.args.machine.now) (g.L.Ledger.number c.args.steps.now) c.args.octets.now
-    l.from l.left (g.L.Ledger.number l.steps) (state_of l.machine) f l.invariant.0 c.loop-left-test.true (sym c.field_at.ensures ∙ c.in-Some.is)).0 in
+    l.from l.left (g.L.Ledger.number l.steps) (state_of l.machine) f l.invariant.0 c.loop-left-test.true (sym c.field.ensures ∙ c.in-Some.is)).0 in
     let ends : l.from + (c.gap_to-gap.result + c.form_width.result) ≤ length c.args.octets.now = omega (arith, fits, a_gap, wide) in
     ends
 
@@ -81,7 +75,7 @@ returns-in_err-take_field-clause-read g c =
     c.from_residual-in_err-take_field.ensures.1
     (field_stopped c.args.values.now c.args.order c.args.code.now c.args.machine.now.home (state_of c.args.machine.now) (g.L.Ledger.number c.args.steps.now) c.args.octets.now
     l.from (l.from + (c.gap_to-gap.result + c.form_width.result)) l.left (g.L.Ledger.number l.steps) (g.L.Ledger.number c.take_field.new.steps) (state_of l.machine) f l.invariant.0
-    c.loop-left-test.true (sym c.field_at.ensures ∙ c.in-Some.is) c.requires.octets ends c.in_err-take_field.ensures.idle)
+    c.loop-left-test.true (sym c.field.ensures ∙ c.in-Some.is) c.requires.octets ends c.in_err-take_field.ensures.idle)
 
 pub loop-left-preserved : goal.loop-left-preserved
 loop-left-preserved g c =
@@ -92,7 +86,7 @@ loop-left-preserved g c =
     let ends : l.from + (c.gap_to-gap.result + c.form_width.result) ≡ l.from + field_len l.machine.at f = omega (arith, a_gap, wide) in (
       field_on c.args.values.now c.args.order c.args.code.now c.args.machine.now.home (state_of c.args.machine.now) (g.L.Ledger.number c.args.steps.now) c.args.octets.now
           l.from (l.from + (c.gap_to-gap.result + c.form_width.result)) l.left (g.L.Ledger.number l.steps) (g.L.Ledger.number c.take_field.new.steps) (state_of l.machine)
-          (state_of c.take_field.new.machine) f l.invariant.0 c.loop-left-test.true (sym c.field_at.ensures ∙ c.in-Some.is) c.requires.octets ends
+          (state_of c.take_field.new.machine) f l.invariant.0 c.loop-left-test.true (sym c.field.ensures ∙ c.in-Some.is) c.requires.octets ends
           c.in_ok-take_field.ensures.ok c.in_ok-take_field.ensures.counted,
       c.in_ok-take_field.ensures.outside ∙ l.invariant.1,
     )

@@ -1,27 +1,14 @@
-use Rattle.std.proofs.Common.{◌≡◌, ◌<◌, ◌≤◌, ◌^◌, ◌+◌, ◌∙◌, ℕ, arith, rules, length, Some}
+use Rattle.std.proofs.Common.{◌≤◌, arith, rules}
 use Rattle.nd_base.specs.declared.TheConstants.{STREAM_LIMIT}
 use Rattle.nd_base.specs.Over.{source_seen}
-use Rattle.ndr_code.specs.declared.instr.Instr.TheVariants as op
 use Rattle.ndr_state.specs.Seen.{state_of}
 use Rattle.ndr_leaps.specs.Strings.{HasCome}
-use Rattle.ndr_leaps.proofs.StructReading.{address_short, safe_first, struct_stopped}
+use Rattle.ndr_leaps.proofs.StructReading.{safe_first, struct_stopped}
 use Rattle.ndr_leaps.proofs.structs.try_struct.Goals as goal
 
 pub overflow_sub-machine : goal.overflow_sub-machine
 overflow_sub-machine g c =
     let below : c.args.machine.now.at ≤ STREAM_LIMIT = (safe_first c.requires.safe).within in
-    omega (arith, below)
-
-pub overflow_add-machine : goal.overflow_add-machine
-overflow_add-machine g c =
-    let m = c.args.machine.now in
-    let below : m.pc < 2 ^ 32 = address_short c.args.code.now m.pc (op.Record c.args.members) c.requires.here c.requires.short in
-    omega (arith, below)
-
-pub fields_len-requires-clause-pc : goal.fields_len-requires-clause-pc
-fields_len-requires-clause-pc g c =
-    let m = c.args.machine.now in
-    let below : m.pc < 2 ^ 32 = address_short c.args.code.now m.pc (op.Record c.args.members) c.requires.here c.requires.short in
     omega (arith, below)
 
 pub returns-in_err-read_struct-clause-leaps : goal.returns-in_err-read_struct-clause-leaps

@@ -1,7 +1,6 @@
-use Rattle.std.proofs.Common.{◌≡◌, ◌<◌, [], Ok, OnOk, ap, length, ◌∙◌, subst, le_trans, rules}
-use Rattle.std.proofs.lemmas.Option.{slice_get-get_or, slice_get_within}
+use Rattle.std.proofs.Common.{◌≡◌, [], Ok, OnOk, ap, ◌∙◌, subst, le_trans}
+use Rattle.std.proofs.lemmas.Option.{slice_get_within}
 use Rattle.nd_base.specs.Over.{source_seen}
-use Rattle.ndr_code.specs.declared.instr.Instr.TheVariants as op
 use Rattle.ndr_runs.specs.Reaching.{IsSafe, begins}
 use Rattle.ndr_state.specs.declared.fault.Progress.TheVariants as progress
 use Rattle.ndr_state.specs.Notes.{notes_seen}
@@ -11,21 +10,10 @@ use Rattle.ndr_machine.proofs.Leaping.{ends_after}
 use Rattle.ndr_machine.proofs.Looping.{stays_on, still_safe}
 use Rattle.ndr_machine.proofs.running.run.Goals as goal
 
-pub bounds-code-machine : goal.bounds-code-machine
-bounds-code-machine g c =
+pub at-instr-requires : goal.at-instr-requires
+at-instr-requires g c =
     let safe : IsSafe c.args.code.now (state_of c.args.machine.now) = c.requires.safe [] [] (state_of c.args.machine.now) begins in
     slice_get_within c.args.code.now c.args.machine.now.pc safe.i safe.there
-
-pub offset_bounds-code-machine : goal.offset_bounds-code-machine
-offset_bounds-code-machine g c =
-    let safe : IsSafe c.args.code.now (state_of c.args.machine.now) = c.requires.safe [] [] (state_of c.args.machine.now) begins in
-    let within : c.args.machine.now.pc < length c.args.code.now = slice_get_within c.args.code.now c.args.machine.now.pc safe.i safe.there in
-    search rules
-
-pub take_lead-requires-clause-here : goal.take_lead-requires-clause-here
-take_lead-requires-clause-here g c =
-    let safe : IsSafe c.args.code.now (state_of c.args.machine.now) = c.requires.safe [] [] (state_of c.args.machine.now) begins in
-    slice_get-get_or c.args.code.now c.args.machine.now.pc op.Void (slice_get_within c.args.code.now c.args.machine.now.pc safe.i safe.there)
 
 pub run_first-requires-clause-safe : goal.run_first-requires-clause-safe
 run_first-requires-clause-safe g c =

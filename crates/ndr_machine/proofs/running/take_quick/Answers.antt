@@ -4,33 +4,21 @@ use Rattle.nd_base.specs.declared.TheConstants.{STREAM_LIMIT}
 use Rattle.nd_base.specs.Over.{source_seen}
 use Rattle.ndr_runs.specs.Reaching.{IsSafe, begins}
 use Rattle.ndr_state.specs.Seen.{state_of}
-use Rattle.ndr_machine.proofs.Taking.{address_fits, count_fits}
-use Rattle.ndr_machine.proofs.Flowing.{flow_stopped, flow_taken}
+use Rattle.ndr_machine.proofs.Taking.{address_fits}
+use Rattle.ndr_machine.proofs.Flowing.{flow_taken, quick_flows}
 use Rattle.ndr_machine.proofs.running.take_quick.Goals as goal
 
-pub take_flow-requires-clause-code : goal.take_flow-requires-clause-code
-take_flow-requires-clause-code g c = address_fits c.args.code.now c.args.machine.now.pc c.args.instr c.requires.here c.requires.short
+pub pass_quick-requires-clause-code : goal.pass_quick-requires-clause-code
+pass_quick-requires-clause-code g c = address_fits c.args.code.now c.args.machine.now.pc c.args.instr c.requires.here c.requires.short
 
-pub take_flow-requires-clause-few : goal.take_flow-requires-clause-few
-take_flow-requires-clause-few g c =
-    let m = c.args.machine.now in
-    let few = count_fits c.args.code.now m (c.requires.safe [] [] (state_of m) begins) in omega (arith, few)
-
-pub take_flow-requires-clause-fits : goal.take_flow-requires-clause-fits
-take_flow-requires-clause-fits g c =
+pub pass_quick-requires-clause-fits : goal.pass_quick-requires-clause-fits
+pass_quick-requires-clause-fits g c =
     let safe : IsSafe c.args.code.now (state_of c.args.machine.now) = c.requires.safe [] [] (state_of c.args.machine.now) begins in
     let within : c.args.machine.now.at ≤ STREAM_LIMIT = safe.within in omega (arith, within)
-
-pub returns-in_err-progress-clause-turns : goal.returns-in_err-progress-clause-turns
-returns-in_err-progress-clause-turns g c =
-    let m = c.args.machine.now in
-    flow_stopped c.args.values.now c.args.order c.args.code.now m.home m (source_seen g.S.Source.left g.S.Source.ended g.S.Source.faults c.args.source.now c.args.source.now) c.args.instr
-    c.requires.here (Consumes-nil (g.S.Source.left c.args.source.now)) c.args.items.now (g.L.Ledger.number c.args.steps.now) c.take_flow.new.machine
-    c.from_residual.result c.from_residual.ensures.1
 
 pub returns-clause-turns : goal.returns-clause-turns
 returns-clause-turns g c =
     let m = c.args.machine.now in
     flow_taken c.args.values.now c.args.order c.args.code.now m.home m (source_seen g.S.Source.left g.S.Source.ended g.S.Source.faults c.args.source.now c.args.source.now) c.args.instr
-    c.requires.here (Consumes-nil (g.S.Source.left c.args.source.now)) c.args.items.now (g.L.Ledger.number c.args.steps.now) c.take_flow.new.machine
-    c.in_ok-progress.progress c.requires.flow c.requires.safe c.in_ok-progress.ensures.does
+    c.requires.here (Consumes-nil (g.S.Source.left c.args.source.now)) c.args.items.now (g.L.Ledger.number c.args.steps.now) c.pass_quick.new.machine
+    c.pass_quick.result (quick_flows c.args.instr m.at c.requires.quick) c.requires.safe c.pass_quick.ensures.does

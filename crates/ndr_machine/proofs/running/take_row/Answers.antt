@@ -4,7 +4,8 @@ use Rattle.nd_types.specs.declared.types.Primitive.{Primitive}
 use Rattle.nd_types.specs.Number.{AreOctets}
 use Rattle.nd_types.specs.Table.{width}
 use Rattle.ndr_code.specs.declared.instr.Instr.TheVariants as op
-use Rattle.ndr_steps.specs.Steps.{goes, item_of, prim_of}
+use Rattle.ndr_steps.specs.Steps.{goes, item_of}
+use Rattle.ndr_code.specs.Fields.{prim_of}
 use Rattle.ndr_runs.specs.Reaching.{begins}
 use Rattle.ndr_runs.specs.Rows.{row_read}
 use Rattle.ndr_state.specs.declared.fault.DecodeFault.{DecodeFault}

@@ -1,9 +1,7 @@
-use Rattle.std.proofs.Common.{false, true, Ok, ap, ◌∙◌, subst}
-use Rattle.std.specs.Prelude.{slice_get}
+use Rattle.std.proofs.Common.{false, true, Ok, ap, subst}
 use Rattle.nd_base.specs.Over.{source_seen}
-use Rattle.ndr_leaps.specs.Leaps.{Leaps, Stays}
-use Rattle.ndr_state.specs.Seen.{state_of, outside}
-use Rattle.ndr_steps.specs.Steps.{State}
+use Rattle.ndr_leaps.specs.Leaps.{Leaps}
+use Rattle.ndr_state.specs.Seen.{state_of}
 use Rattle.ndr_machine.proofs.Leaping.{leapt_moves, stays_moves, leap_failed, turned_after}
 use Rattle.ndr_machine.proofs.Looping.{still_safe}
 use Rattle.ndr_machine.proofs.running.take_some.Goals as goal
@@ -24,16 +22,6 @@ returns-then-leapt-clause-turns g c =
     c.args.items.now (state_of c.try_leap.new.machine) m.cells c.try_leap.new.machine.cells (c.in_ok-leapt.ensures.quiet c.if-leapt.true)
     (subst (λ b. Leaps c.args.values.now c.args.order c.args.code.now m.home (state_of m) source (g.L.Ledger.number c.args.steps.now) (g.L.Ledger.number c.try_leap.new.steps)
     (state_of c.try_leap.new.machine) (Ok b)) c.if-leapt.true c.in_ok-leapt.ensures.leaps)
-
-pub take_next-requires-clause-here : goal.take_next-requires-clause-here
-take_next-requires-clause-here g c =
-    let m = c.args.machine.now in
-    let source = source_seen g.S.Source.left g.S.Source.ended g.S.Source.faults c.args.source.now c.try_leap.new.source in
-    let stays : Stays c.args.values.now c.args.order c.args.code.now m.home (state_of m) source (g.L.Ledger.number c.args.steps.now) (g.L.Ledger.number c.try_leap.new.steps)
-    (state_of c.try_leap.new.machine) =
-    subst (λ b. Leaps c.args.values.now c.args.order c.args.code.now m.home (state_of m) source (g.L.Ledger.number c.args.steps.now) (g.L.Ledger.number c.try_leap.new.steps)
-    (state_of c.try_leap.new.machine) (Ok b)) c.if-leapt.false c.in_ok-leapt.ensures.leaps in
-    ap (λ (s : State). slice_get c.args.code.now s.pc) stays.state ∙ c.requires.here
 
 pub take_next-requires-clause-safe : goal.take_next-requires-clause-safe
 take_next-requires-clause-safe g c =

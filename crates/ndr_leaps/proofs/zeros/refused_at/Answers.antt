@@ -1,6 +1,6 @@
 use Rattle.std.proofs.Common.{arith}
 use Rattle.ndr_leaps.proofs.FirstZeros.{refused_before, refused_unended, not_refused}
-use Rattle.ndr_leaps.proofs.zeros.refused_text.Goals as goal
+use Rattle.ndr_leaps.proofs.zeros.refused_at.Goals as goal
 
 pub returns-then-zero-last : goal.returns-then-zero-last
 returns-then-zero-last c = refused_before c.args.at c.find_zero-zero.result c.args.octets.now c.find_zero-zero.ensures.is (omega arith)
