@@ -20,13 +20,13 @@ struct Least {
     encode: Duration,
 }
 
-/// Says how long the fastest of so many rounds takes for each: a copy of the octets, decoding, the preparing of a work, and encoding by it.
+/// Says how long the fastest of so many rounds takes for each: decoding, the preparing of a work, encoding by it, and a copy of the octets.
 pub(crate) fn measured(
     rt: &HostRuntime,
     plan: &Plan,
     op: u32,
     rounds: u32,
-    octets: &Octets,
+    octets: Octets,
 ) -> io::Result<()>
     requires known { op < length plan.now.tie.operations }
 {
@@ -36,9 +36,11 @@ pub(crate) fn measured(
         prepare: Duration::MAX,
         encode: Duration::MAX,
     };
-    for _ in 0..rounds {
-        round(rt, plan, op, octets, &mut least)?;
-    }
+    let octets = decode_often(rt, plan, op, rounds, octets, &mut least)?;
+    let mut source = PlainSource::new(octets);
+    let fit = decoded(rt, plan, op, &mut source)?;
+    let octets = source.into_octets();
+    encode_often(rt, plan, &fit, rounds, octets.as_slice(), &mut least)?;
     println!(rt;
         "{} octets, copy {} ns, decode {} ns, prepare {} ns, encode {} ns",
         octets.as_slice().len(),
@@ -49,41 +51,75 @@ pub(crate) fn measured(
     )
 }
 
-// One round.
-fn round(
+// Decodes the same octets so many times, and gives them back.
+fn decode_often(
     rt: &HostRuntime,
     plan: &Plan,
     op: u32,
-    octets: &Octets,
+    rounds: u32,
+    octets: Octets,
     least: &mut Least,
-) -> io::Result<()>
+) -> io::Result<Octets>
     requires known { op < length plan.now.tie.operations }
 {
+    let mut octets = octets;
+    for _ in 0..rounds {
+        let mut source = PlainSource::new(octets);
+        let start = Instant::now(rt)?;
+        let _fit = decoded(rt, plan, op, &mut source)?;
+        least.decode = least.decode.min(start.elapsed(rt)?);
+        octets = source.into_octets();
+    }
+    Ok(octets)
+}
+
+// Prepares a work for a graph so many times, and encodes by it.
+fn encode_often(
+    rt: &HostRuntime,
+    plan: &Plan,
+    fit: &Fit,
+    rounds: u32,
+    octets: &[u8],
+    least: &mut Least,
+) -> io::Result<()>
+    requires tied { plan.now.tie ≡ fit.now.interface }
+{
+    for _ in 0..rounds {
+        encode_once(rt, plan, fit, octets, least)?;
+    }
+    Ok(())
+}
+
+// The same once; then it copies octets to where they were encoded, if there is room for them.
+fn encode_once(
+    rt: &HostRuntime,
+    plan: &Plan,
+    fit: &Fit,
+    octets: &[u8],
+    least: &mut Least,
+) -> io::Result<()>
+    requires tied { plan.now.tie ≡ fit.now.interface }
+{
     let start = Instant::now(rt)?;
-    let copy = copied(rt, octets)?;
-    least.copy = least.copy.min(start.elapsed(rt)?);
-    let start = Instant::now(rt)?;
-    let fit = decoded(rt, plan, op, &mut PlainSource::new(copy))?;
-    least.decode = least.decode.min(start.elapsed(rt)?);
-    let start = Instant::now(rt)?;
-    let Ok(mut work) = Work::for_graph(rt.alloc(), plan, &fit, 1) else {
+    let Ok(mut work) = Work::for_graph(rt.alloc(), plan, fit, 1) else {
         return Err(io::Error::from(io::ErrorKind::InvalidData));
     };
     least.prepare = least.prepare.min(start.elapsed(rt)?);
     let mut out = vec![in rt.alloc(); 0u8; work.length() as usize]?;
     let start = Instant::now(rt)?;
-    encode_with(&mut work, plan, &fit, Order::Little, out.as_mut_slice());
+    encode_with(&mut work, plan, fit, Order::Little, out.as_mut_slice());
     least.encode = least.encode.min(start.elapsed(rt)?);
+    let start = Instant::now(rt)?;
+    copy(octets, out.as_mut_slice());
+    least.copy = least.copy.min(start.elapsed(rt)?);
     Ok(())
 }
 
-// A copy of octets.
-fn copied(rt: &HostRuntime, octets: &Octets) -> io::Result<Octets> {
-    let mut copy = Octets::new(rt.alloc());
-    if copy.append(octets.as_slice()).is_err() {
-        return Err(io::Error::from(io::ErrorKind::OutOfMemory));
+// Copies octets to where as many are.
+fn copy(octets: &[u8], to: &mut [u8]) {
+    if octets.len() == to.len() {
+        to.copy_from_slice(octets);
     }
-    Ok(copy)
 }
 
 /// The graph that the octets of a source represent, in little order.
