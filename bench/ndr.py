@@ -4,8 +4,9 @@ memory of decoding beyond that of an empty run, where the octets come straight f
 
     bench/ndr.py                 builds the program if it is not there, and measures it
     bench/ndr.py --program PATH  measures another program
-    bench/ndr.py --runs N        the least time of so many rounds (default 5)
-    bench/ndr.py --libndr PATH   runs this program too, which measures Samba's libndr on the same works, and says how many times as long ours takes
+    bench/ndr.py --runs N        so many rounds in each run of the program (default 60; the first ones are slower)
+    bench/ndr.py --turns N       so many runs, of which each time is the least (default 8)
+    bench/ndr.py --libndr PATH   runs this program too, in turns with the other, which measures Samba's libndr on the same works, and says how many times as long ours takes
     bench/ndr.py --octets DIR    writes the octets of the works to files of this folder and ends
 
 The works are a conformant array of 1,000,000 longs, one of 500,000 structs of a byte, a hyper and a short, 200,000 unique pointers to strings of 12 octets, 16,777,208 bytes,
@@ -109,11 +110,19 @@ def times(line):
     return [int(ns) for ns in re.search(r"copy (\d+) ns, decode (\d+) ns, prepare (\d+) ns, encode (\d+) ns", line).groups()]
 
 
-def of_libndr(program):
-    """What libndr takes: nanoseconds an item by the work and `decode` or `encode`."""
-    told = subprocess.run([program], check=True, stdout=subprocess.PIPE, text=True).stdout
-    found = re.findall(r"^\S+ +(\w+) +(decode|encode) .*?([0-9.]+) ns/item", told, flags=re.MULTILINE)
-    return {(name, side): float(ns) for name, side, ns in found}
+def of_libndr(program, least):
+    """What libndr takes at the least, with what it took before: nanoseconds an item by the work and `decode` or `encode`."""
+    shown = subprocess.run([program], check=True, stdout=subprocess.PIPE, text=True).stdout
+    seen = set()
+    for name, side, ns in re.findall(r"^\S+ +(\w+) +(decode|encode) .*?([0-9.]+) ns/item", shown, flags=re.MULTILINE):
+        if (name, side) not in seen:  # a work may come again at a smaller size
+            seen.add((name, side))
+            least[name, side] = min(float(ns), least.get((name, side), float(ns)))
+
+
+def lesser(some, others):
+    """The lesser of two times of each kind."""
+    return [min(pair) for pair in zip(some, others)] if others else some
 
 
 def beside(name, items, decode, prepare, encode, theirs):
@@ -126,7 +135,8 @@ def beside(name, items, decode, prepare, encode, theirs):
 def main():
     parser = argparse.ArgumentParser(description=__doc__, formatter_class=argparse.RawDescriptionHelpFormatter)
     parser.add_argument("--program", default=PROGRAM)
-    parser.add_argument("--runs", type=int, default=5)
+    parser.add_argument("--runs", type=int, default=60)
+    parser.add_argument("--turns", type=int, default=8)
     parser.add_argument("--libndr")
     parser.add_argument("--octets")
     words = parser.parse_args()
@@ -138,16 +148,21 @@ def main():
     if words.program == PROGRAM:
         built()
     status = 0
-    theirs = of_libndr(words.libndr) if words.libndr else {}
+    theirs, ours = {}, {}
     with tempfile.TemporaryDirectory() as folder:
         with open(os.path.join(folder, "bn.idl"), "w") as file:
             file.write(IDL)
+        for _ in range(words.turns):
+            if words.libndr:
+                of_libndr(words.libndr, theirs)
+            for name, make, op, items, _ in WORKS:
+                for size in items // 2, items:
+                    ours[name, size] = lesser(times(run(words.program, folder, op, words.runs, make(size))[0]), ours.get((name, size)))
         for name, make, op, items, most in WORKS:
-            small = times(run(words.program, folder, op, words.runs, make(items // 2))[0])
-            copy, decode, prepare, encode = large = times(run(words.program, folder, op, words.runs, make(items))[0])
+            small, (copy, decode, prepare, encode) = ours[name, items // 2], ours[name, items]
             _, empty = run(words.program, folder, op, 0, make(1))
             _, peak = run(words.program, folder, op, 0, make(items))
-            growth = sum(large[1:]) / sum(small[1:])
+            growth = (decode + prepare + encode) / sum(small[1:])
             memory = (peak - empty) / items
             bad = growth > MOST_GROWTH or (most is not None and memory > most)
             status = 1 if bad else status
