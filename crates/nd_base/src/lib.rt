@@ -7,6 +7,7 @@ mod asked;
 mod calls;
 mod files;
 mod ledger;
+mod lent;
 mod memory;
 mod number;
 mod octets;
@@ -21,6 +22,7 @@ pub mod text;
 
 pub use files::MemFiles;
 pub use ledger::{Counted, Ledger, Steps, Uncounted};
+pub use lent::LentSource;
 pub use memory::{MemSink, MemSource};
 pub use octets::{Memory, Name, Octets, Order, Place};
 pub use outside::{FileFault, Files, ReadFailed, Sink, Source, WriteFailed};
