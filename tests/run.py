@@ -272,7 +272,7 @@ def main() -> int:
     if asked.program:
         cases = [case for case in cases if not getattr(case, "runs_script", False)]
     program = os.path.abspath(asked.program or ROOT / "bin" / "dceidl")
-    trouble = None if asked.program else build(program)
+    trouble = None if asked.program or not any(map(needs_program, cases)) else build(program)
     if trouble is not None:
         print(f"FAILED: bin/dceidl could not run, so each case that needs it fails\n{trouble}", flush=True)
     passed = failed = 0
