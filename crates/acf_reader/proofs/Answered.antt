@@ -9,8 +9,8 @@ use Rattle.phrases.specs.Verdict.{whole_read}
 use Rattle.phrases.proofs.Exact.{Exact, front}
 use Rattle.phrases.proofs.Sequences.{stops}
 use Rattle.idl_grammar.specs.Answers.{is_banned, named}
-use Rattle.idl_tokens.specs.declared.fault.SyntaxFault.{SyntaxFault}
-use Rattle.idl_tokens.specs.declared.fault.SyntaxFault.TheVariants as errors
+use Rattle.idl_grammar.specs.declared.fault.SyntaxFault.{SyntaxFault}
+use Rattle.idl_grammar.specs.declared.fault.SyntaxFault.TheVariants as errors
 use Rattle.idl_tokens.specs.Refused.{IsWithin, IsNamed}
 use Rattle.acf_reader.specs.declared.tree.Acf.{Acf}
 use Rattle.acf_reader.specs.Tree as tree

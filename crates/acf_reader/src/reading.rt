@@ -13,9 +13,10 @@ ghost use Rattle.acf_reader.specs.Tree as tree;
 use crate::body::acf;
 use crate::lexemes::lexemes;
 use crate::tree::Acf;
+use idl_grammar::SyntaxFault;
 use idl_lexer::Tokens;
+use idl_tokens::fault_of;
 use idl_tokens::parser::Parser;
-use idl_tokens::{SyntaxFault, fault_of};
 use phrases::Refusal;
 use std::alloc::Global;
 

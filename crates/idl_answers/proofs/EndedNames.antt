@@ -6,10 +6,10 @@ use Rattle.std.proofs.lemmas.List.Folds.{list_all-append}
 use Rattle.phrases.proofs.Sequences.{both}
 use Rattle.idl_grammar.specs.declared.words.Spelling.{Spelling}
 use Rattle.idl_grammar.specs.Tree.{Tree}
-use Rattle.idl_names.specs.Ended.{Ended, ended}
+use Rattle.idl_scope.specs.Ended.{Ended, ended}
 use Rattle.idl_names.specs.Files.{IsFile}
 use Rattle.idl_names.specs.Sources.{Source}
-use Rattle.idl_names.specs.Steps.{Step, attribute_steps, imports_of, declaration_steps}
+use Rattle.idl_scope.specs.Steps.{Step, attribute_steps, imports_of, declaration_steps}
 use Rattle.idl_names.specs.Walk as walk
 use Rattle.idl_names.specs.Walk.{State, Due, Pass, Load, End, Done, Walk, IsResolved, all_of, load_of}
 use Rattle.idl_answers.proofs.TreeNames.{tree_named, file_named}

@@ -1,7 +1,7 @@
 -- Instances of the laws.
 use Rattle.std.proofs.Common.{◌≡◌, ℕ, true, arith, refl, codes, List, [], ◌∷◌, ◌++◌, Option, Some, None}
 use Rattle.nd_base.specs.declared.octets.Place.{Place}
-use Rattle.idl_names.specs.declared.name_fault.NameFault.TheVariants as fault
+use Rattle.idl_scope.specs.declared.name_fault.NameFault.TheVariants as fault
 use Rattle.idl_names.specs.Decided.{is_decided, has_memory, FailsAs}
 use Rattle.idl_names.specs.Sources.{source}
 use Rattle.idl_names.specs.Walk as walk

@@ -4,8 +4,8 @@ use Rattle.std.specs.List.{list_any}
 use Rattle.std.proofs.lemmas.List.Folds.{list_any-append}
 use Rattle.phrases.proofs.Parts.{clash}
 use Rattle.idl_grammar.specs.Tree.{Tree}
-use Rattle.idl_names.specs.Ended.{Ended, ended}
-use Rattle.idl_names.specs.Steps.{attribute_steps, imports_of, declaration_steps}
+use Rattle.idl_scope.specs.Ended.{Ended, ended}
+use Rattle.idl_scope.specs.Steps.{attribute_steps, imports_of, declaration_steps}
 use Rattle.idl_names.specs.Files.{IsFile}
 use Rattle.idl_names.specs.Sources.{Source}
 use Rattle.idl_names.specs.Walk as walk

@@ -13,7 +13,7 @@ use Rattle.idl_grammar.specs.Tree.{Tree}
 use Rattle.idl_grammar.specs.Answers.{Answers, file_answer}
 use Rattle.idl_grammar.proofs.FileLaws.{file_answered}
 use Rattle.idl_grammar.proofs.RealTokens.{lexemes_real}
-use Rattle.idl_tokens.specs.declared.fault.SyntaxFault.TheVariants as syntax
+use Rattle.idl_grammar.specs.declared.fault.SyntaxFault.TheVariants as syntax
 use Rattle.idl_names.specs.Files.{IsRead}
 use Rattle.idl_answers.specs.Read.{HasAnswer, IsReadAs, AsFile, AsNoFile, AsUncut}
 

@@ -17,7 +17,7 @@ use Rattle.idl_grammar.specs.Tree as tree
 use Rattle.idl_grammar.specs.Grammar.{declarator, declarators, type_spec, some_members, members, some_cases, cases, some_arms, arms, arm, parameter, parameters, export, file}
 use Rattle.idl_grammar.proofs.Formed.{lexemes_formed}
 use Rattle.idl_tokens.proofs.Basics.{name_is_word}
-use Rattle.idl_names.specs.Steps.{parameters_of}
+use Rattle.idl_scope.specs.Steps.{parameters_of}
 use Rattle.idl_names.specs.Files.{IsFile}
 
 -- ## The names of a tree

@@ -1,7 +1,7 @@
 -- What each main file comes to, with what it imports.
 use Rattle.std.specs.Prelude.{◌≡◌, ℕ, true, List, Option}
 use Rattle.idl_grammar.specs.Tree.{Tree}
-use Rattle.idl_names.specs.declared.name_fault.NameFault.{NameFault}
+use Rattle.idl_scope.specs.declared.name_fault.NameFault.{NameFault}
 use Rattle.idl_names.specs.Decided.{is_decided}
 use Rattle.idl_names.specs.Sources.{Source}
 use Rattle.idl_names.specs.Walk.{State, Stopped, IsResolved, IsRefused}

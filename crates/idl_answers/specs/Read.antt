@@ -6,7 +6,7 @@ use Rattle.idl_lexer.specs.declared.tokens.LexKind.{LexKind}
 use Rattle.idl_lexer.specs.Verdict.{IsVerdict, Refused}
 use Rattle.idl_grammar.specs.Answers.{Answers}
 use Rattle.idl_grammar.specs.Tree.{Tree}
-use Rattle.idl_tokens.specs.declared.fault.SyntaxFault.{SyntaxFault}
+use Rattle.idl_grammar.specs.declared.fault.SyntaxFault.{SyntaxFault}
 use Rattle.idl_names.specs.Files.{IsFile, IsNoFile}
 
 -- Tokens are a tree of a grammar, or have a first fault.

@@ -7,7 +7,7 @@ ghost use Rattle.nd_base.specs.declared.octets.Place.{Place};
 ghost use Rattle.idl_lexer.specs.Verdict.{HasVerdict};
 ghost use Rattle.idl_grammar.specs.Grammar.{file};
 ghost use Rattle.idl_grammar.specs.Tree.{Tree};
-ghost use Rattle.idl_names.specs.declared.name_fault.NameFault.TheVariants.{Absent, Failed};
+ghost use Rattle.idl_scope.specs.declared.name_fault.NameFault.TheVariants.{Absent, Failed};
 ghost use Rattle.idl_names.specs.Decided.{is_decided, HasEnding, has_memory, FailsAs, HasToldEnding};
 ghost use Rattle.idl_names.specs.Files.{IsFile};
 ghost use Rattle.idl_names.specs.Sources.{Source, source};

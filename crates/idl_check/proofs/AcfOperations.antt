@@ -10,8 +10,8 @@ use Rattle.nd_base.specs.declared.octets.Memory.{Memory}
 use Rattle.idl_grammar.specs.declared.words.Spelling.{Spelling}
 use Rattle.idl_grammar.specs.Tree.{Export}
 use Rattle.idl_grammar.specs.Tree as idl
-use Rattle.idl_names.specs.Tables.{found, put}
-use Rattle.idl_names.specs.Steps.{parameters_of}
+use Rattle.idl_scope.specs.Tables.{found, put}
+use Rattle.idl_scope.specs.Steps.{parameters_of}
 use Rattle.idl_check.specs.AcfRules.{parameters_if, parameters_found}
 use Rattle.idl_check.specs.SeenAcf.{parameters_in, operation_name, number_if, number_of, AreOperations}
 

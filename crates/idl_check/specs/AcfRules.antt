@@ -8,8 +8,8 @@ use Rattle.std.specs.Str.{bytes_eq}
 use Rattle.idl_grammar.specs.declared.words.Spelling.{Spelling}
 use Rattle.idl_grammar.specs.Tree.{Export, Tree}
 use Rattle.idl_grammar.specs.Tree as idl
-use Rattle.idl_names.specs.Known.{Known, meaning_in, is_type}
-use Rattle.idl_names.specs.Steps.{parameters_of}
+use Rattle.idl_scope.specs.Known.{Known, meaning_in, is_type}
+use Rattle.idl_scope.specs.Steps.{parameters_of}
 use Rattle.acf_reader.specs.declared.tree.HandleType.{HandleType}
 use Rattle.acf_reader.specs.declared.tree.HandleType.TheVariants as handle
 use Rattle.acf_reader.specs.declared.tree.AttributeKind.{AttributeKind}

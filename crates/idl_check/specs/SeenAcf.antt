@@ -4,8 +4,8 @@ use Rattle.std.specs.Str.{bytes_eq}
 use Rattle.idl_grammar.specs.declared.words.Spelling.{Spelling}
 use Rattle.idl_grammar.specs.Tree.{Export}
 use Rattle.idl_grammar.specs.Tree as idl
-use Rattle.idl_names.specs.Tables.{found}
-use Rattle.idl_names.specs.Steps.{parameters_of}
+use Rattle.idl_scope.specs.Tables.{found}
+use Rattle.idl_scope.specs.Steps.{parameters_of}
 use Rattle.nd_types.specs.declared.interface.Interface.{Interface}
 use Rattle.acf_reader.specs.declared.tree.AttributeKind.{AttributeKind}
 use Rattle.acf_reader.specs.Tree.{Acf}

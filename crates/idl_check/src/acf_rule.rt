@@ -5,7 +5,7 @@ ghost use Rattle.std.specs.Prelude.{◌≡◌, ◌||◌, Some, map, option_map, 
 ghost use Rattle.std.specs.List.{flat_map, list_any};
 ghost use Rattle.idl_grammar.specs.Tree as idl;
 ghost use Rattle.idl_grammar.specs.Seen as of_idl;
-ghost use Rattle.idl_names.specs.Seen.{seen_files, known_in};
+ghost use Rattle.idl_scope.specs.Seen.{seen_files, known_in};
 ghost use Rattle.acf_reader.specs.Seen.{seen_parameter, seen_element, seen_acf};
 ghost use Rattle.idl_language.specs.World.{World};
 ghost use Rattle.idl_language.specs.Checked.{world_of};
@@ -25,7 +25,7 @@ use idl_grammar as idl;
 use idl_grammar::{Identifier, Tree};
 use idl_language::{Breach, Finder};
 use idl_meaning::main_tree;
-use idl_names::Scope;
+use idl_scope::Scope;
 use nd_base::{Memory, Place};
 use std::alloc::Global;
 

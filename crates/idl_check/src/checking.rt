@@ -5,10 +5,11 @@ ghost use Rattle.idl_language.specs.Checked.{world_of};
 ghost use Rattle.idl_check.specs.SeenAcf.{AnswersBeside};
 
 use crate::acf_rule::acf_breach;
+use crate::interface::interface_of;
 use acf_reader::Acf;
 use idl_language::RuleFault;
-use idl_names::Scope;
 use idl_rules::broken;
+use idl_scope::Scope;
 use nd_types::Interface;
 use std::alloc::Global;
 
@@ -23,7 +24,7 @@ use std::alloc::Global;
 pub fn check(alloc: Global, scope: &Scope, acf: Option<&Acf>) -> Result<Interface, RuleFault>
     ensures { AnswersBeside (world_of scope.now) (option_map (λ f. seen_acf f.now) acf.entry) result }
 {
-    let interface = idl_rules::check(alloc, scope)?;
+    let interface = interface_of(alloc, scope)?;
     let Some(acf) = acf else {
         return Ok(interface);
     };

@@ -1,13 +1,15 @@
-//! The rules of IDL with the one on attribute configuration files (C706, chapter 4).
+//! The interface that files mean which break no rule, the one on attribute configuration files among them (C706, chapter 4).
 #![tactic(auto)]
 
 mod acf_names;
 mod acf_places;
 mod acf_rule;
 mod checking;
+mod interface;
 pub mod laws;
 
 pub use acf_rule::ACF_FILE;
 pub use checking::check;
 pub use idl_language::RuleFault;
 pub use idl_listing::interface_listing;
+pub use interface::interface_of;

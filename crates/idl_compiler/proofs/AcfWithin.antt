@@ -9,8 +9,8 @@ use Rattle.phrases.proofs.Within.{mark_within}
 use Rattle.idl_lexer.specs.Lexed.{Lexed}
 use Rattle.idl_grammar.specs.Symbols as symbol
 use Rattle.idl_grammar.specs.Answers.{is_banned, named_fault, named}
-use Rattle.idl_tokens.specs.declared.fault.SyntaxFault.{SyntaxFault}
-use Rattle.idl_tokens.specs.declared.fault.SyntaxFault.TheVariants as syntax
+use Rattle.idl_grammar.specs.declared.fault.SyntaxFault.{SyntaxFault}
+use Rattle.idl_grammar.specs.declared.fault.SyntaxFault.TheVariants as syntax
 use Rattle.acf_reader.specs.Tree.{Acf}
 use Rattle.acf_reader.specs.Grammar.{acf}
 use Rattle.acf_reader.specs.Lexemes.{lexemes}

@@ -7,7 +7,7 @@ use Rattle.std.proofs.lemmas.Option.{same_Some}
 use Rattle.nd_base.specs.declared.octets.Place.{Place}
 use Rattle.nd_base.specs.Outside.{IsContent}
 use Rattle.idl_grammar.specs.Tree.{Tree}
-use Rattle.idl_names.specs.declared.name_fault.NameFault.TheVariants as names
+use Rattle.idl_scope.specs.declared.name_fault.NameFault.TheVariants as names
 use Rattle.idl_names.specs.Files.{IsFile}
 use Rattle.idl_names.specs.Sources.{Source, and_source, source}
 use Rattle.idl_names.specs.Walk.{State, Due, Load, IsDue, Ending, Done, Stopped, Walk, names_of, start, all_of, with_source, all_done, goes_on, faults, ends, cycle, again, too_many, absent, failed, uncut, no_file, enters, short, short_in_load, short_after_load}

@@ -7,11 +7,11 @@ use Rattle.idl_lexer.specs.Verdict.{AreTokens}
 use Rattle.idl_grammar.specs.Lexemes.{lexemes}
 use Rattle.idl_grammar.specs.Grammar as grammar
 use Rattle.idl_grammar.specs.Answers.{Answers}
-use Rattle.idl_tokens.specs.declared.fault.SyntaxFault.{SyntaxFault}
-use Rattle.idl_tokens.specs.declared.fault.SyntaxFault.TheVariants as parser
+use Rattle.idl_grammar.specs.declared.fault.SyntaxFault.{SyntaxFault}
+use Rattle.idl_grammar.specs.declared.fault.SyntaxFault.TheVariants as parser
 use Rattle.idl_parser.specs.Answered.{Told}
-use Rattle.idl_names.specs.declared.name_fault.NameFault.{NameFault}
-use Rattle.idl_names.specs.declared.name_fault.NameFault.TheVariants as names
+use Rattle.idl_scope.specs.declared.name_fault.NameFault.{NameFault}
+use Rattle.idl_scope.specs.declared.name_fault.NameFault.TheVariants as names
 use Rattle.idl_names.specs.Sources.{Source, source, and_source}
 use Rattle.idl_names.specs.Causes.{IsAbsent, IsFailed}
 use Rattle.idl_names.specs.Walk.{Walk, start, all_of, Stopped}

@@ -6,8 +6,8 @@ use Rattle.idl_lexer.specs.declared.tokens.LexKind.{LexKind}
 use Rattle.idl_lexer.specs.Lexed.{Lexed, place_of}
 use Rattle.idl_lexer.specs.Verdict.{IsVerdict, Cut, Refused}
 use Rattle.idl_lexer.proofs.OneVerdict.{one_verdict}
-use Rattle.idl_tokens.specs.declared.fault.SyntaxFault.{SyntaxFault}
-use Rattle.idl_tokens.specs.declared.fault.SyntaxFault.TheVariants as syntax
+use Rattle.idl_grammar.specs.declared.fault.SyntaxFault.{SyntaxFault}
+use Rattle.idl_grammar.specs.declared.fault.SyntaxFault.TheVariants as syntax
 use Rattle.acf_reader.specs.Lexemes.{lexemes}
 use Rattle.acf_reader.specs.Tree.{Acf}
 use Rattle.acf_reader.specs.Answers.{acf_answer}

@@ -12,8 +12,8 @@ use Rattle.idl_grammar.specs.Tree.{Tree}
 use Rattle.idl_grammar.specs.Answers.{file_answer}
 use Rattle.idl_grammar.proofs.FileLaws.{file_answered_alone}
 use Rattle.idl_grammar.proofs.RealTokens.{lexemes_real}
-use Rattle.idl_tokens.specs.declared.fault.SyntaxFault.{SyntaxFault}
-use Rattle.idl_tokens.specs.declared.fault.SyntaxFault.TheVariants as syntax
+use Rattle.idl_grammar.specs.declared.fault.SyntaxFault.{SyntaxFault}
+use Rattle.idl_grammar.specs.declared.fault.SyntaxFault.TheVariants as syntax
 use Rattle.idl_names.specs.Files.{IsRead, IsFile, IsNoFile, IsSyntaxFault}
 
 same_tokens : (a b : List Token) → Cut a ≡ Cut b → a ≡ b

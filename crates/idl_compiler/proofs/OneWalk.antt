@@ -8,13 +8,14 @@ use Rattle.idl_lexer.specs.declared.tokens.LexKind.{LexKind}
 use Rattle.idl_lexer.specs.declared.tokens.LexFault.TheVariants as lexical
 use Rattle.idl_lexer.specs.Verdict.{IsVerdict, Refused}
 use Rattle.idl_grammar.specs.Tree.{Tree}
-use Rattle.idl_names.specs.declared.name_fault.NameFault.{NameFault}
-use Rattle.idl_names.specs.declared.name_fault.NameFault.TheVariants as names
-use Rattle.idl_tokens.specs.declared.fault.SyntaxFault.{SyntaxFault}
+use Rattle.idl_scope.specs.declared.name_fault.NameFault.{NameFault}
+use Rattle.idl_scope.specs.declared.name_fault.NameFault.TheVariants as names
+use Rattle.idl_grammar.specs.declared.fault.SyntaxFault.{SyntaxFault}
 use Rattle.idl_names.specs.Files.{IsFile, IsNoFile}
-use Rattle.idl_names.specs.Known.{Known}
+use Rattle.idl_scope.specs.Known.{Known}
 use Rattle.idl_names.specs.Sources.{Source, and_source}
-use Rattle.idl_names.specs.Walk.{State, Due, Ending, Done, Stopped, Walk, with_source, all_of, has_ended, all_done, goes_on, faults, ends, cycle, again, too_many, absent, failed, uncut, no_file, enters, short, short_in_load, short_after_load}
+use Rattle.idl_scope.specs.Ended.{has_ended}
+use Rattle.idl_names.specs.Walk.{State, Due, Ending, Done, Stopped, Walk, with_source, all_of, all_done, goes_on, faults, ends, cycle, again, too_many, absent, failed, uncut, no_file, enters, short, short_in_load, short_after_load}
 use Rattle.idl_compiler.proofs.OneFile.{one_tree, one_no_file, one_cut, never_cut, never_file, never_uncut}
 
 -- an ending that is told by the files alone

@@ -5,7 +5,7 @@ use Rattle.phrases.specs.Reading.{Fault}
 use Rattle.nd_base.specs.Outside.{IsContent}
 use Rattle.idl_lexer.specs.Lexed.{Lexed, place_of}
 use Rattle.idl_lexer.specs.Verdict.{AreTokens}
-use Rattle.idl_tokens.specs.declared.fault.SyntaxFault.{SyntaxFault}
+use Rattle.idl_grammar.specs.declared.fault.SyntaxFault.{SyntaxFault}
 use Rattle.idl_names.specs.Files.{IsSyntaxFault}
 use Rattle.acf_reader.specs.Tree.{Acf}
 use Rattle.acf_reader.specs.Lexemes.{lexemes}

@@ -8,10 +8,10 @@ use Rattle.nd_base.specs.Text.{is_word_octet}
 use Rattle.idl_lexer.specs.declared.tokens.LexFault.TheVariants as lexical
 use Rattle.idl_lexer.specs.Verdict.{IsFault, IsVerdict, Refused}
 use Rattle.idl_grammar.specs.Tree.{Tree}
-use Rattle.idl_names.specs.declared.name_fault.NameFault.{NameFault}
-use Rattle.idl_names.specs.declared.name_fault.NameFault.TheVariants as names
-use Rattle.idl_tokens.specs.declared.fault.SyntaxFault.{SyntaxFault}
-use Rattle.idl_tokens.specs.declared.fault.SyntaxFault.TheVariants as syntax
+use Rattle.idl_scope.specs.declared.name_fault.NameFault.{NameFault}
+use Rattle.idl_scope.specs.declared.name_fault.NameFault.TheVariants as names
+use Rattle.idl_grammar.specs.declared.fault.SyntaxFault.{SyntaxFault}
+use Rattle.idl_grammar.specs.declared.fault.SyntaxFault.TheVariants as syntax
 use Rattle.idl_names.specs.Files.{IsFile, IsNoFile}
 use Rattle.idl_names.specs.Sources.{Source, source, and_source, file_name, file_text}
 use Rattle.idl_names.specs.Walk.{State, Walk, start, all_of, Stopped, IsResolved, IsRefused}

@@ -4,10 +4,10 @@ use Rattle.nd_base.specs.Outside.{IsContent}
 use Rattle.nd_base.specs.Over.{FilesSeen}
 use Rattle.nd_types.specs.declared.interface.Interface.{Interface}
 use Rattle.idl_lexer.specs.Lexed.{Lexed, place_of}
-use Rattle.idl_tokens.specs.declared.fault.SyntaxFault.{SyntaxFault}
-use Rattle.idl_tokens.specs.declared.fault.SyntaxFault.TheVariants as parser
-use Rattle.idl_names.specs.declared.name_fault.NameFault.{NameFault}
-use Rattle.idl_names.specs.declared.name_fault.NameFault.TheVariants as names
+use Rattle.idl_grammar.specs.declared.fault.SyntaxFault.{SyntaxFault}
+use Rattle.idl_grammar.specs.declared.fault.SyntaxFault.TheVariants as parser
+use Rattle.idl_scope.specs.declared.name_fault.NameFault.{NameFault}
+use Rattle.idl_scope.specs.declared.name_fault.NameFault.TheVariants as names
 use Rattle.idl_names.specs.Sources.{Source}
 use Rattle.idl_names.specs.Walk.{State, names_of}
 use Rattle.nd_base.specs.Text.{position_of}

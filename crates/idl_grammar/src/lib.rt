@@ -8,6 +8,7 @@
 mod attributes;
 mod declarators;
 mod expressions;
+mod fault;
 mod files;
 pub mod laws;
 mod types;
@@ -16,6 +17,7 @@ mod words;
 pub use attributes::{Attribute, AttributeKind, Attributes, PointerClass, Variable, VariableWord};
 pub use declarators::{Bound, Declarator, Init};
 pub use expressions::{BinaryOperator, Expr, Operand, UnaryOperator};
+pub use fault::SyntaxFault;
 pub use files::{Export, Import, Parameter, Parameters, Tree};
 pub use types::{
     Arm, Case, Discriminant, Enumerator, IntegerType, Label, Member, SimpleType, SwitchType,

@@ -4,7 +4,7 @@ use Rattle.std.specs.List.{list_any}
 use Rattle.std.proofs.lemmas.Option.{none-some, same_Some}
 use Rattle.idl_grammar.specs.declared.attributes.PointerClass.{PointerClass}
 use Rattle.idl_grammar.specs.Tree.{Bound}
-use Rattle.idl_names.specs.Known.{Known}
+use Rattle.idl_scope.specs.Known.{Known}
 use Rattle.idl_language.specs.Types.{IdlType, Array, Pointer, with_stars, with_dimensions, count_of}
 
 pub star_next : (default outermost : Option PointerClass) (t : IdlType) (stars : List ℕ) (i : ℕ) → i + 1 < length stars

@@ -9,7 +9,7 @@ use Rattle.idl_grammar.specs.declared.types.Case.{Case}
 use Rattle.idl_grammar.specs.declared.types.Arm.{Arm}
 use Rattle.idl_grammar.specs.Reading.{cases_of, arms_of}
 use Rattle.idl_grammar.specs.Seen.{seen_expr, seen_label, seen_attribute, seen_arm, seen_case}
-use Rattle.idl_names.specs.Known.{Known}
+use Rattle.idl_scope.specs.Known.{Known}
 use Rattle.idl_kinds.specs.declared.labels.Valued.{Valued}
 use Rattle.idl_language.specs.Nodes.{arm_label, labels_said, labels_in, arm_attributes, arms_of_cases, arms_of_arms}
 use Rattle.idl_kinds.specs.LabelValues.{valued}

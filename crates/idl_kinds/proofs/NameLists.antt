@@ -3,7 +3,7 @@ use Rattle.std.proofs.Common.{◌≡◌, ℕ, ◌+◌, ◌<◌, ◌≤◌, Bool,
 use Rattle.std.specs.Str.{bytes_eq}
 use Rattle.std.proofs.lemmas.Option.{none-some, same_Some, slice_get_within, slice_get-get_or}
 use Rattle.std.proofs.lemmas.Bool.{ltb-true, lt-ltb}
-use Rattle.idl_names.specs.Tables.{found, put}
+use Rattle.idl_scope.specs.Tables.{found, put}
 use Rattle.idl_kinds.specs.declared.kinds.Kind.{Kind}
 use Rattle.idl_language.specs.Types.{IdlType, Void, Names, or_void}
 use Rattle.idl_kinds.specs.Kinds.{seen_types, type_at, Stands, Keeps}

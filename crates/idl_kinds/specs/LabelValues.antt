@@ -3,7 +3,7 @@ use Rattle.std.specs.Prelude.{◌≡◌, ℤ, Bool, true, not, ◌||◌, List, [
 use Rattle.std.specs.List.{list_any}
 use Rattle.idl_kinds.specs.declared.labels.Valued.{Valued}
 use Rattle.idl_grammar.specs.Tree.{Enumerator}
-use Rattle.idl_names.specs.Known.{Known}
+use Rattle.idl_scope.specs.Known.{Known}
 use Rattle.idl_language.specs.World.{number_of}
 use Rattle.idl_language.specs.Nodes.{Construct, ArmLabel}
 use Rattle.idl_language.specs.Rules.{Breach, broken_at}

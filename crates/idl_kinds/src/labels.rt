@@ -3,14 +3,14 @@ ghost use Rattle.std.specs.Prelude.{◌≡◌, [], ◌∷◌, ◌++◌, map, Som
 ghost use Rattle.std.specs.List.{flat_map};
 ghost use Rattle.idl_grammar.specs.Reading.{cases_of, arms_of};
 ghost use Rattle.idl_grammar.specs.Seen.{seen_expr, seen_label, seen_attribute, seen_kind, seen_arm, seen_case, seen_type};
-ghost use Rattle.idl_names.specs.Seen.{known_in};
+ghost use Rattle.idl_scope.specs.Seen.{known_in};
 ghost use Rattle.idl_language.specs.Nodes as rules;
 ghost use Rattle.idl_kinds.specs.LabelValues.{valued};
 
 use crate::typing::number;
 use idl_grammar::{Arm, Attribute, AttributeKind, Case, Expr, Label, TypeSpec};
-use idl_names::Scope;
 use idl_nodes::attributes::attribute_list;
+use idl_scope::Scope;
 use nd_base::Memory;
 use std::alloc::Global;
 

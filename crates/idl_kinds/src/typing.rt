@@ -1,8 +1,8 @@
 // The types of declarators.
 ghost use Rattle.std.specs.Prelude.{◌≡◌, ◌^◌, ◌<◌, ◌+ℤ◌, pos, true, length, map, option_map, IfOk};
 ghost use Rattle.idl_grammar.specs.Seen.{seen_expr, seen_bound, seen_attribute, seen_declarator};
-ghost use Rattle.idl_names.specs.Seen.{known_in};
-ghost use Rattle.idl_names.specs.Small.{is_below};
+ghost use Rattle.idl_scope.specs.Seen.{known_in};
+ghost use Rattle.idl_scope.specs.Small.{is_below};
 ghost use Rattle.idl_language.specs.World.{value_in};
 ghost use Rattle.idl_language.specs.Types as types;
 ghost use Rattle.idl_language.specs.Types.{Pointer};
@@ -13,10 +13,10 @@ ghost use Rattle.idl_nodes.specs.SeenNodes.{seen_position, seen_construct, seen_
 use crate::kinds::{Class, Kind, Kinds};
 use crate::written::written;
 use idl_grammar::{Attribute, Bound, Declarator, Expr, PointerClass};
-use idl_names::{Scope, Table, value};
 use idl_nodes::attributes::class_in;
 use idl_nodes::nodes::{Construct, Declared, Position};
 use idl_nodes::words::{Word, has, has_length, has_size};
+use idl_scope::{Scope, Table, value};
 use nd_base::Memory;
 
 /// The value of an expression. Each expression of files that are resolved has one.

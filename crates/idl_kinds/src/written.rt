@@ -1,8 +1,8 @@
 // Types as they are written.
 ghost use Rattle.std.specs.Prelude.{◌≡◌, ℕ, true, List, length, IfOk};
 ghost use Rattle.idl_grammar.specs.Seen.{seen_type};
-ghost use Rattle.idl_names.specs.Seen.{known_in};
-ghost use Rattle.idl_names.specs.Tables.{found};
+ghost use Rattle.idl_scope.specs.Seen.{known_in};
+ghost use Rattle.idl_scope.specs.Tables.{found};
 ghost use Rattle.idl_language.specs.Types as types;
 ghost use Rattle.idl_language.specs.Types.{IdlType};
 ghost use Rattle.idl_kinds.specs.Kinds.{type_by, is_inside, Stands, Keeps};
@@ -10,7 +10,7 @@ ghost use Rattle.idl_kinds.specs.SeenNames.{seen_names, are_within};
 
 use crate::kinds::{Kind, Kinds};
 use idl_grammar::{Identifier, SimpleType, SwitchType, TagKind, TypeSpec, Width};
-use idl_names::{Scope, Table};
+use idl_scope::{Scope, Table};
 use nd_base::{Memory, Place};
 use nd_types::Primitive;
 

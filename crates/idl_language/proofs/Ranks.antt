@@ -1,7 +1,7 @@
 -- Where a file is in a list.
 use Rattle.std.proofs.Common.{◌≡◌, ◌∙◌, ℕ, zero, suc, ◌+◌, ◌<◌, ◌≤◌, Bool, true, false, List, [], ◌∷◌, drop, length, refl, ap, sym, arith, eqb, add-one}
 use Rattle.std.proofs.lemmas.List.{drop_all}
-use Rattle.idl_names.specs.Ended.{Ended}
+use Rattle.idl_scope.specs.Ended.{Ended}
 use Rattle.idl_language.specs.FirstBroken.{rank_in}
 use Rattle.idl_language.specs.Found.{is_file_at}
 

@@ -1,10 +1,10 @@
 -- A file without imports, as it is resolved.
 use Rattle.std.specs.Prelude.{true, false, [], ◌∷◌, ◌++◌, Result, Ok, Err}
 use Rattle.idl_grammar.specs.Tree.{Tree}
-use Rattle.idl_names.specs.declared.name_fault.NameFault.{NameFault}
-use Rattle.idl_names.specs.Ended.{ended}
-use Rattle.idl_names.specs.Steps.{attribute_steps, declaration_steps}
-use Rattle.idl_names.specs.Known.{Known, nothing, walked}
+use Rattle.idl_scope.specs.declared.name_fault.NameFault.{NameFault}
+use Rattle.idl_scope.specs.Ended.{ended}
+use Rattle.idl_scope.specs.Steps.{attribute_steps, declaration_steps}
+use Rattle.idl_scope.specs.Known.{Known, nothing, walked}
 use Rattle.idl_language.specs.World.{World}
 
 abbrev or_nothing : Result Known NameFault → Known

@@ -2,7 +2,7 @@
 use Rattle.std.specs.Prelude.{◌≡◌, ℕ, ◌+◌, Bool, true, false, ◌&&◌, ◌||◌, eqb, ltb, List, [], ◌∷◌, Option, Some, None}
 use Rattle.std.specs.List.{list_any}
 use Rattle.nd_base.specs.declared.octets.Place.{Place}
-use Rattle.idl_names.specs.Ended.{Ended}
+use Rattle.idl_scope.specs.Ended.{Ended}
 use Rattle.idl_language.specs.World.{World}
 use Rattle.idl_language.specs.Scene.{same_place}
 use Rattle.idl_language.specs.Rules.{Breach, breaches}

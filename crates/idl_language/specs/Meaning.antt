@@ -24,7 +24,7 @@ use Rattle.idl_grammar.specs.declared.attributes.PointerClass.TheVariants as cla
 use Rattle.idl_grammar.specs.declared.attributes.Variable.{Variable}
 use Rattle.idl_grammar.specs.Tree.{Attribute, AttributeKind, TypeSpec, Arm, Tree}
 use Rattle.idl_grammar.specs.Tree as tree
-use Rattle.idl_names.specs.Ended.{Ended}
+use Rattle.idl_scope.specs.Ended.{Ended}
 use Rattle.idl_language.specs.World.{World}
 use Rattle.idl_language.specs.World as world
 use Rattle.idl_language.specs.Attributes.{has, first_said, in_word, out_word}

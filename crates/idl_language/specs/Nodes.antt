@@ -10,8 +10,8 @@ use Rattle.idl_grammar.specs.declared.types.SwitchType.{SwitchType}
 use Rattle.idl_grammar.specs.declared.types.TagKind.{TagKind}
 use Rattle.idl_grammar.specs.Tree.{Expr, Attribute, AttributeKind, Attributes, Declarator, Init, Enumerator, Label, TypeSpec, Members, Cases, Arms, Arm, Parameter, Export, Tree}
 use Rattle.idl_grammar.specs.Tree as tree
-use Rattle.idl_names.specs.Ended.{Ended}
-use Rattle.idl_names.specs.Steps.{parameters_of}
+use Rattle.idl_scope.specs.Ended.{Ended}
+use Rattle.idl_scope.specs.Steps.{parameters_of}
 use Rattle.idl_language.specs.World.{World}
 use Rattle.idl_language.specs.Attributes.{attribute_list, default_class_in, switch_type_in}
 

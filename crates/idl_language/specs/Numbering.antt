@@ -8,7 +8,7 @@ use Rattle.nd_types.specs.declared.TheConstants.{HANDLE}
 use Rattle.nd_types.specs.Kinds.{prim_number, context_number, basic_types}
 use Rattle.idl_grammar.specs.declared.attributes.PointerClass.{PointerClass}
 use Rattle.idl_grammar.specs.declared.attributes.PointerClass.TheVariants as class
-use Rattle.idl_names.specs.Known.{Known}
+use Rattle.idl_scope.specs.Known.{Known}
 use Rattle.idl_language.specs.Nodes.{Construct, Node, TagNode, BodyNode, DeclaratorNode}
 use Rattle.idl_language.specs.Types.{IdlType, Void, Handle, ContextHandle, Basic, Struct, Union, Enum, Array, Text, Pointer, Pipe, Names, type_of, type_of_tag}
 use Rattle.idl_language.specs.Scene.{Scene, same_place, type_of_body}

@@ -6,7 +6,7 @@ use Rattle.nd_base.specs.declared.octets.Place.{Place}
 use Rattle.idl_grammar.specs.declared.types.SwitchType.{SwitchType}
 use Rattle.idl_grammar.specs.Tree.{Attribute, TypeSpec, Arm, Enumerator}
 use Rattle.idl_grammar.specs.Tree as tree
-use Rattle.idl_names.specs.Known.{Known}
+use Rattle.idl_scope.specs.Known.{Known}
 use Rattle.idl_language.specs.World.{World}
 use Rattle.idl_language.specs.Attributes.{switch_type_in}
 use Rattle.idl_language.specs.Nodes.{Construct, Position, InTypedef, InTaggedType, Declared, declared, inside, declared_members, arms_of, Node, BodyNode, DeclaratorNode, nodes}

@@ -18,9 +18,9 @@ use Rattle.idl_grammar.specs.declared.types.TagKind.TheVariants as tag_kind
 use Rattle.idl_grammar.specs.Integers.{width_of, is_without_sign}
 use Rattle.idl_grammar.specs.Tree.{Attribute, Bound, Declarator, TypeSpec}
 use Rattle.idl_grammar.specs.Tree as tree
-use Rattle.idl_names.specs.declared.tag.TagDefinition.{TagDefinition}
-use Rattle.idl_names.specs.Tables.{found}
-use Rattle.idl_names.specs.Known.{Known}
+use Rattle.idl_scope.specs.declared.tag.TagDefinition.{TagDefinition}
+use Rattle.idl_scope.specs.Tables.{found}
+use Rattle.idl_scope.specs.Known.{Known}
 use Rattle.idl_language.specs.World.{value_in}
 use Rattle.idl_language.specs.Attributes.{has, has_one_of, class_in, sizes, lengths, context_handle_word, string_word}
 use Rattle.idl_language.specs.Nodes.{Construct, Position, InParameter, Declared}

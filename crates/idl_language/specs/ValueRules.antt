@@ -9,7 +9,7 @@ use Rattle.idl_grammar.specs.declared.words.Spelling.{Spelling}
 use Rattle.idl_grammar.specs.declared.types.SimpleType.{SimpleType}
 use Rattle.idl_grammar.specs.Tree.{Expr, Bound, Declarator, Init}
 use Rattle.idl_grammar.specs.Tree as tree
-use Rattle.idl_names.specs.Known.{Known}
+use Rattle.idl_scope.specs.Known.{Known}
 use Rattle.idl_language.specs.World.{value_in, number_of}
 use Rattle.idl_language.specs.Nodes.{ArmLabel, Declared}
 use Rattle.idl_language.specs.Types.{IdlType, Basic, Enum, is_void, is_handle, simple_type}

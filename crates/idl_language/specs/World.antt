@@ -1,11 +1,11 @@
 -- What the rules speak of: the files of a compilation, with what is known of their names.
 use Rattle.std.specs.Prelude.{ℕ, List, Option, Some, None, ℤ, pos, Result, Ok, Err}
 use Rattle.idl_grammar.specs.Tree.{Expr}
-use Rattle.idl_names.specs.Ended.{Ended}
-use Rattle.idl_names.specs.declared.meaning.Meaning.{Meaning}
-use Rattle.idl_names.specs.declared.meaning.Meaning.TheVariants as meaning
-use Rattle.idl_names.specs.Known.{Known, meaning_in}
-use Rattle.idl_names.specs.Value.{value}
+use Rattle.idl_scope.specs.Ended.{Ended}
+use Rattle.idl_scope.specs.declared.meaning.Meaning.{Meaning}
+use Rattle.idl_scope.specs.declared.meaning.Meaning.TheVariants as meaning
+use Rattle.idl_scope.specs.Known.{Known, meaning_in}
+use Rattle.idl_scope.specs.Value.{value}
 
 pub record World : Type 0 where
   -- in the order in which their resolving ended; the main file is number 0

@@ -1,12 +1,12 @@
 // The first of the rules that are broken.
 ghost use Rattle.std.specs.Prelude.{◌≡◌, Some, None, option_map};
-ghost use Rattle.idl_names.specs.Seen.{seen_files};
+ghost use Rattle.idl_scope.specs.Seen.{seen_files};
 ghost use Rattle.idl_language.specs.World.{World};
 ghost use Rattle.idl_language.specs.FirstBroken.{rank_in, comes_before};
 ghost use Rattle.idl_language.specs.Noted.{noted, if_broken};
 ghost use Rattle.idl_language.specs.Found.{seen_breach, is_file_at};
 
-use idl_names::FileTrees;
+use idl_scope::FileTrees;
 use nd_base::Place;
 
 /// A rule that is broken at a place.

@@ -19,7 +19,7 @@ use Rattle.idl_grammar.specs.Tree as tree
 use Rattle.idl_grammar.specs.declared.types.TypeSpec as program_type
 use Rattle.idl_grammar.specs.declared.types.TypeSpec.TheVariants as type
 use Rattle.idl_grammar.specs.Seen.{seen_type}
-use Rattle.idl_names.specs.Known.{Known}
+use Rattle.idl_scope.specs.Known.{Known}
 use Rattle.idl_kinds.specs.declared.kinds.Kind.{Kind}
 use Rattle.idl_nodes.specs.declared.nodes.Node.{Node}
 use Rattle.idl_nodes.specs.declared.nodes.Node.TheVariants as node

@@ -2,8 +2,8 @@
 use Rattle.std.proofs.Common.{◌≡◌, ℕ, ◌+◌, Bool, true, false, cond, List, [], ◌∷◌, ◌++◌, length, Option, Some, None, option_map, is_some, refl, sym, ap, ◌∙◌, arith, true≢false}
 use Rattle.std.specs.Str.{bytes_eq}
 use Rattle.std.proofs.lemmas.Slice.Eq.{bytes_eq-Decides}
-use Rattle.idl_names.specs.Tables.{found, put}
-use Rattle.idl_names.proofs.Tables.{put_new}
+use Rattle.idl_scope.specs.Tables.{found, put}
+use Rattle.idl_scope.proofs.Tables.{put_new}
 use Rattle.idl_language.specs.Nodes.{Declared}
 use Rattle.idl_language.specs.VariableRules.{Listed, listed_from}
 use Rattle.idl_meaning.specs.Made.{AreListed}

@@ -8,8 +8,7 @@ use Rattle.std.proofs.lemmas.Option.{slice_get_within, get_or_from_slice_get}
 use Rattle.idl_lexer.specs.Numbers.{number_of}
 use Rattle.idl_grammar.specs.Tree.{Tree, Attribute, AttributeKind}
 use Rattle.idl_grammar.specs.Tree as tree
-use Rattle.idl_names.specs.Ended.{Ended}
-use Rattle.idl_names.specs.Walk.{has_ended}
+use Rattle.idl_scope.specs.Ended.{Ended, has_ended}
 use Rattle.idl_language.specs.World.{World}
 use Rattle.idl_language.specs.Attributes.{first_said}
 use Rattle.idl_language.specs.AttributeRules.{is_out_of_place, is_repeated, is_past_65535, is_large_minor, is_large_version_in, is_large_version, lacks_uuid_and_local}

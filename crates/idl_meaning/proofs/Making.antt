@@ -18,7 +18,7 @@ use Rattle.idl_grammar.specs.Tree.{Attribute, Expr, Label}
 use Rattle.idl_grammar.specs.Tree as tree
 use Rattle.idl_grammar.specs.Reading.{cases_of, arms_of}
 use Rattle.idl_grammar.specs.Seen.{seen_attribute, seen_kind, seen_label, seen_case, seen_arm}
-use Rattle.idl_names.specs.Known.{Known}
+use Rattle.idl_scope.specs.Known.{Known}
 use Rattle.idl_language.specs.Nodes.{Declared, labels_in, labels_said, arm_label, arms_of_cases, arms_of_arms}
 use Rattle.idl_language.specs.World.{value_in}
 use Rattle.idl_language.specs.ValueRules.{label_value}

@@ -18,8 +18,8 @@ use Rattle.idl_grammar.specs.declared.attributes.Variable.{Variable}
 use Rattle.idl_grammar.specs.Tree.{Attribute, Label, TypeSpec}
 use Rattle.idl_grammar.specs.Tree as tree
 use Rattle.idl_grammar.specs.Seen.{seen_type}
-use Rattle.idl_names.specs.Known.{Known}
-use Rattle.idl_names.specs.Tables.{found}
+use Rattle.idl_scope.specs.Known.{Known}
+use Rattle.idl_scope.specs.Tables.{found}
 use Rattle.idl_meaning.specs.declared.arms.ValuedArm as program
 use Rattle.idl_kinds.specs.declared.kinds.Kind.{Kind}
 use Rattle.idl_types.specs.declared.numbering.Numbers.{Numbers}

@@ -4,8 +4,8 @@ ghost use Rattle.idl_language.specs.Nodes as rules;
 ghost use Rattle.idl_nodes.specs.SeenNodes.{seen_declared};
 ghost use Rattle.idl_meaning.specs.Made.{AreListed};
 
-use idl_names::Table;
 use idl_nodes::nodes::Declared;
+use idl_scope::Table;
 use nd_base::Memory;
 use std::alloc::Global;
 

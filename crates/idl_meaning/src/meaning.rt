@@ -1,6 +1,6 @@
 // The interface that files mean which break no rule.
 ghost use Rattle.std.specs.Prelude.{◌≡◌, [], ◌∷◌, IfOk};
-ghost use Rattle.idl_names.specs.Seen.{seen_files};
+ghost use Rattle.idl_scope.specs.Seen.{seen_files};
 ghost use Rattle.idl_grammar.specs.Seen.{seen_tree};
 ghost use Rattle.idl_language.specs.Checked.{world_of};
 ghost use Rattle.idl_language.specs.Rules.{breaches};
@@ -17,8 +17,8 @@ use crate::members::name_of;
 use crate::operations::all_operations;
 use idl_grammar::Tree;
 use idl_legal::laws::meaning_is_legal;
-use idl_names::Scope;
 use idl_nodes::nodes::Nodes;
+use idl_scope::Scope;
 use idl_types::numbering::Numbers;
 use idl_types::types::Types;
 use nd_base::Memory;

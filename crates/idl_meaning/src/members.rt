@@ -3,7 +3,7 @@ ghost use Rattle.std.specs.Prelude.{◌≡◌, ◌<◌, ◌^◌, ◌++◌, ◌�
 ghost use Rattle.std.specs.List.{list_all};
 ghost use Rattle.nd_base.specs.Text.{is_identifier};
 ghost use Rattle.idl_grammar.specs.Seen.{seen_kind, seen_attribute};
-ghost use Rattle.idl_names.specs.Tables.{found};
+ghost use Rattle.idl_scope.specs.Tables.{found};
 ghost use Rattle.idl_language.specs.Attributes as attributes_of;
 ghost use Rattle.idl_language.specs.Attributes.{variable_word, in_word, out_word};
 ghost use Rattle.idl_language.specs.VariableRules.{variable_if};
@@ -14,9 +14,9 @@ ghost use Rattle.idl_meaning.specs.Made.{ids_of, IsProgram, index_or, listed_if,
 use crate::definitions::{Program, number_of};
 use crate::listed::indexes;
 use idl_grammar::{Attribute, AttributeKind, Identifier, Variable, VariableWord};
-use idl_names::Table;
 use idl_nodes::nodes::Declared;
 use idl_nodes::words::{Word, has};
+use idl_scope::Table;
 use nd_base::{Memory, Name};
 use nd_types::{Attr, AttrVar, AttrVars, Field, Fields, Param, Params, TypeId, Way};
 use std::alloc::Global;

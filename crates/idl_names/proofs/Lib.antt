@@ -1,11 +1,6 @@
-pub mod Bits
-pub mod Ranges
-pub mod Tables
 pub mod Walked
+pub mod Rests
 pub mod Going
 pub mod Spelled
 pub mod Loads
 pub mod Once
-pub mod Lists
-pub mod Rests
-pub mod Small

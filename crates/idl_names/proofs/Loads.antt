@@ -24,14 +24,14 @@ use Rattle.idl_grammar.specs.Answers.{is_banned, Answers, named_fault, named, fi
 use Rattle.idl_grammar.proofs.FileExact as grammar_exact
 use Rattle.idl_grammar.proofs.FileLaws.{file_answered_alone}
 use Rattle.idl_grammar.proofs.RealTokens.{lexemes_real}
-use Rattle.idl_tokens.specs.declared.fault.SyntaxFault.{SyntaxFault}
-use Rattle.idl_tokens.specs.declared.fault.SyntaxFault.TheVariants as syntax
+use Rattle.idl_grammar.specs.declared.fault.SyntaxFault.{SyntaxFault}
+use Rattle.idl_grammar.specs.declared.fault.SyntaxFault.TheVariants as syntax
 use Rattle.idl_parser.specs.Answered.{Told}
-use Rattle.idl_names.specs.declared.name_fault.NameFault.{NameFault}
-use Rattle.idl_names.specs.declared.name_fault.NameFault.TheVariants as fault
-use Rattle.idl_names.specs.declared.scope.FileTree.{FileTree}
+use Rattle.idl_scope.specs.declared.name_fault.NameFault.{NameFault}
+use Rattle.idl_scope.specs.declared.name_fault.NameFault.TheVariants as fault
+use Rattle.idl_scope.specs.declared.scope.FileTree.{FileTree}
 use Rattle.idl_names.specs.Files.{IsFile}
-use Rattle.idl_names.specs.Seen.{seen_file}
+use Rattle.idl_scope.specs.Seen.{seen_file}
 use Rattle.idl_grammar.specs.Seen.{seen_tree}
 use Rattle.idl_names.specs.Loads.{IsLoaded, IsFaultOf, IsOfText, told_syntax, told_load, IsLoadFault}
 use Rattle.idl_names.specs.Sources.{Source, and_source}

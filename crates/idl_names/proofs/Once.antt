@@ -17,12 +17,12 @@ use Rattle.idl_grammar.specs.Tree.{Tree}
 use Rattle.idl_grammar.specs.Answers.{Answers, file_answer}
 use Rattle.idl_grammar.proofs.FileLaws.{file_answered_alone}
 use Rattle.idl_grammar.proofs.RealTokens.{lexemes_real}
-use Rattle.idl_tokens.specs.declared.fault.SyntaxFault.{SyntaxFault}
-use Rattle.idl_tokens.specs.declared.fault.SyntaxFault.TheVariants as syntax
-use Rattle.idl_names.specs.declared.name_fault.NameFault.{NameFault}
-use Rattle.idl_names.specs.declared.name_fault.NameFault.TheVariants as fault
+use Rattle.idl_grammar.specs.declared.fault.SyntaxFault.{SyntaxFault}
+use Rattle.idl_grammar.specs.declared.fault.SyntaxFault.TheVariants as syntax
+use Rattle.idl_scope.specs.declared.name_fault.NameFault.{NameFault}
+use Rattle.idl_scope.specs.declared.name_fault.NameFault.TheVariants as fault
 use Rattle.idl_names.specs.Files.{IsRead, IsFile, IsNoFile, IsSyntaxFault}
-use Rattle.idl_names.specs.Known.{Known, passed}
+use Rattle.idl_scope.specs.Known.{Known, passed}
 use Rattle.idl_names.specs.Sources.{and_source, file_number}
 use Rattle.idl_names.specs.Walk.{State, Due, Pass, Load, End, Ending, Done, Stopped, Walk, IsDue, most_files, with_known, with_source, all_of}
 use Rattle.idl_names.specs.Walk as walk

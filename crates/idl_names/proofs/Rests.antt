@@ -11,8 +11,8 @@ use Rattle.idl_grammar.specs.declared.declarators.Declarator.{Declarator}
 use Rattle.idl_grammar.specs.declared.files.Parameter.{Parameter}
 use Rattle.idl_grammar.specs.Reading.{members_of, cases_of, arms_of}
 use Rattle.idl_grammar.specs.Seen as seen
-use Rattle.idl_names.specs.Steps.{Step, Declare}
-use Rattle.idl_names.specs.Steps as steps
+use Rattle.idl_scope.specs.Steps.{Step, Declare}
+use Rattle.idl_scope.specs.Steps as steps
 
 -- ## Enumerators, after the one before them
 

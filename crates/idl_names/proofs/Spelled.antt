@@ -5,11 +5,8 @@ use Rattle.std.proofs.lemmas.Option.{slice_get_within, get_or_from_slice_get}
 use Rattle.std.proofs.lemmas.Bool.Decides.{nat_tests}
 use Rattle.std.specs.List.{position_or_len}
 use Rattle.std.specs.Str.{bytes_eq}
-use Rattle.idl_names.specs.declared.tag.TagUse.{TagUse}
-use Rattle.idl_names.specs.Ended.{Ended}
-use Rattle.idl_names.specs.Known.{Known, is_defined, first_undefined}
-use Rattle.idl_names.specs.Value.{escaped}
-use Rattle.idl_names.specs.Walk.{has_ended}
+use Rattle.idl_scope.specs.Ended.{Ended, has_ended}
+use Rattle.idl_scope.specs.Value.{escaped}
 use Rattle.idl_names.specs.Sources.{backslash, before_quote, string_value}
 
 pub at_quote : (s : List ℕ) → string_value s ≡ before_quote (drop 1 s)
@@ -82,15 +79,3 @@ last_ended files after e is = ap (λ l. has_ended l e.file) is ∙ put_last file
     put_last : (fs : List Ended) → has_ended (fs ++ e ∷ []) e.file ≡ true
     put_last [] = ap (λ b. b || false) (are_same e.file e.file refl)
     put_last (x ∷ fs) = other (eqb x.file e.file) (has_ended (fs ++ e ∷ []) e.file) (put_last fs)
-
--- ## Uses of tags
-
-module _ (k : Known) (us : List TagUse) (i : ℕ) (u : TagUse) (below : i < length us) (is : u ≡ get_or us i u) where
-  here : drop i us ≡ u ∷ drop (i + 1) us
-  here = drop_more us i u below ∙ ap (λ y. y ∷ drop (i + 1) us) (sym is)
-
-  pub is_first_undefined : is_defined k u.kind u.tag ≡ false → first_undefined k (drop i us) ≡ Some u.place
-  is_first_undefined h = ap (first_undefined k) here ∙ ap (λ b. elim b [ true ↦ first_undefined k (drop (i + 1) us) | false ↦ Some u.place ]) h
-
-  pub is_not_undefined : is_defined k u.kind u.tag ≡ true → first_undefined k (drop i us) ≡ first_undefined k (drop (i + 1) us)
-  is_not_undefined h = ap (first_undefined k) here ∙ ap (λ b. elim b [ true ↦ first_undefined k (drop (i + 1) us) | false ↦ Some u.place ]) h

@@ -4,10 +4,10 @@ use Rattle.std.specs.List.{flat_map}
 use Rattle.std.specs.Result.{IsErrAnd}
 use Rattle.std.proofs.lemmas.List.{drop_more, drop_all}
 use Rattle.std.proofs.lemmas.List.Concat.{flat_map-cons}
-use Rattle.idl_names.specs.declared.name_fault.NameFault.{NameFault}
-use Rattle.idl_names.specs.Steps.{Step}
-use Rattle.idl_names.specs.Known.{Known, passed, then, walked}
-use Rattle.idl_names.specs.Kept.{is_memory, IsRight}
+use Rattle.idl_scope.specs.declared.name_fault.NameFault.{NameFault}
+use Rattle.idl_scope.specs.Steps.{Step}
+use Rattle.idl_scope.specs.Known.{Known, passed, then, walked}
+use Rattle.idl_scope.specs.Kept.{is_memory, IsRight}
 
 pub append_is : (file : ℕ) (k : Known) (a b : List Step) → walked file k (a ++ b) ≡ then (walked file k a) (λ next. walked file next b)
 append_is file k [] b = refl

@@ -1,8 +1,8 @@
 -- What faults of files rest on.
 use Rattle.std.specs.Prelude.{ℕ, ⊤}
 use Rattle.nd_base.specs.Counts.{Rose}
-use Rattle.idl_names.specs.declared.name_fault.NameFault.{NameFault}
-use Rattle.idl_names.specs.declared.name_fault.NameFault.TheVariants as fault
+use Rattle.idl_scope.specs.declared.name_fault.NameFault.{NameFault}
+use Rattle.idl_scope.specs.declared.name_fault.NameFault.TheVariants as fault
 
 -- Absent comes only where the count of absences rose.
 abbrev pub IsAbsent : ℕ → ℕ → NameFault → Type 0

@@ -1,6 +1,6 @@
 -- Endings of walks that files and their texts decide, and those that they decide with what is reported of failed loads.
 use Rattle.std.specs.Prelude.{◌≡◌, ℕ, Bool, true, false, List, Option}
-use Rattle.idl_names.specs.declared.name_fault.NameFault.TheVariants as fault
+use Rattle.idl_scope.specs.declared.name_fault.NameFault.TheVariants as fault
 use Rattle.idl_names.specs.Walk as walk
 use Rattle.idl_names.specs.Walk.{State, Due, Ending, Done, Stopped, Walk}
 

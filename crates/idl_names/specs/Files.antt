@@ -8,8 +8,8 @@ use Rattle.idl_grammar.specs.Lexemes.{lexemes}
 use Rattle.idl_grammar.specs.Tree.{Tree}
 use Rattle.idl_grammar.specs.Grammar as grammar
 use Rattle.idl_grammar.specs.Answers.{Answers}
-use Rattle.idl_tokens.specs.declared.fault.SyntaxFault.{SyntaxFault}
-use Rattle.idl_tokens.specs.declared.fault.SyntaxFault.TheVariants as syntax_fault
+use Rattle.idl_grammar.specs.declared.fault.SyntaxFault.{SyntaxFault}
+use Rattle.idl_grammar.specs.declared.fault.SyntaxFault.TheVariants as syntax_fault
 
 -- The text is cut into tokens, and this is answered on them by the grammar.
 pub record IsRead (text : List ℕ) (lexed : Lexed) (answer : Result Tree Fault) : Type 0 where

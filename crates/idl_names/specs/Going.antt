@@ -1,6 +1,6 @@
 -- For the code: what a part of a walk does to the whole of it. No definition of the language stands here.
 use Rattle.std.specs.Prelude.{◌≡◌, ℕ, ◌≤◌, List, ◌++◌, length, Option, Result, Ok, Err, IfErr}
-use Rattle.idl_names.specs.declared.name_fault.NameFault.{NameFault}
+use Rattle.idl_scope.specs.declared.name_fault.NameFault.{NameFault}
 use Rattle.idl_names.specs.Causes.{IsAbsent, IsFailed}
 use Rattle.idl_names.specs.Sources.{Source}
 use Rattle.idl_names.specs.Walk.{State, Due, Ending, Stopped, Walk, names_of, most_files}

@@ -1,15 +1,10 @@
 -- What the program keeps, as the definitions have it.
 use Rattle.idl_names.specs.declared.resolving.WalkState.{WalkState}
-use Rattle.idl_names.specs.declared.scope.Scope.{Scope}
-use Rattle.idl_names.specs.Known.{Known}
 use Rattle.idl_names.specs.Sources.{Source}
 use Rattle.idl_names.specs.Walk.{State}
+use Rattle.idl_scope.specs.declared.scope.Scope.{Scope}
+use Rattle.idl_scope.specs.SeenFiles.{seen_files}
 use Rattle.std.specs.Prelude.{List}
-pub use Rattle.idl_names.specs.SeenFiles.{seen_file, seen_files}
-
--- what a scope knows of names
-abbrev pub known_in : Scope → Known
-known_in scope = scope.names
 
 -- what a scope and the sources hold together
 abbrev pub seen_scope : List Source → Scope → State

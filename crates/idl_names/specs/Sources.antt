@@ -2,7 +2,7 @@
 use Rattle.std.specs.Prelude.{ℕ, true, false, eqb, List, [], ◌∷◌, ◌++◌, Option, position, slice_get, option_map}
 use Rattle.std.specs.Str.{bytes_eq}
 use Rattle.std.specs.Str.Lossy.{utf8_lossy}
-use Rattle.idl_names.specs.Value.{escaped}
+use Rattle.idl_scope.specs.Value.{escaped}
 
 pub record Source : Type 0 where
   pub name : List ℕ

@@ -1,6 +1,5 @@
 -- The walk through the files: each file by its attributes, then its imports, then its declarations. An import is walked in its place.
 use Rattle.std.specs.Prelude.{◌≡◌, ◌⊎◌, ℕ, ◌≤◌, ◌<◌, Bool, true, false, eqb, List, [], ◌∷◌, ◌++◌, map, drop, length, Option, Some, None, Ok, Err}
-use Rattle.std.specs.List.{list_any}
 use Rattle.nd_base.specs.declared.octets.Place.{Place}
 use Rattle.nd_base.specs.Outside.{IsContent, IsMissing}
 use Rattle.idl_lexer.specs.declared.tokens.LexKind.{LexKind}
@@ -8,13 +7,13 @@ use Rattle.idl_lexer.specs.declared.tokens.LexFault.TheVariants as lex_fault
 use Rattle.idl_lexer.specs.Verdict.{IsVerdict, Refused}
 use Rattle.idl_grammar.specs.declared.words.Spelling.{Spelling}
 use Rattle.idl_grammar.specs.Tree.{Tree}
-use Rattle.idl_names.specs.declared.name_fault.NameFault.{NameFault}
-use Rattle.idl_names.specs.declared.name_fault.NameFault.TheVariants as fault
-use Rattle.idl_tokens.specs.declared.fault.SyntaxFault.{SyntaxFault}
-use Rattle.idl_names.specs.Steps.{Step, attribute_steps, imports_of, declaration_steps}
-use Rattle.idl_names.specs.Known.{Known, nothing, passed, place_in, first_undefined}
+use Rattle.idl_scope.specs.declared.name_fault.NameFault.{NameFault}
+use Rattle.idl_scope.specs.declared.name_fault.NameFault.TheVariants as fault
+use Rattle.idl_grammar.specs.declared.fault.SyntaxFault.{SyntaxFault}
+use Rattle.idl_scope.specs.Steps.{Step, attribute_steps, imports_of, declaration_steps}
+use Rattle.idl_scope.specs.Known.{Known, nothing, passed, place_in, first_undefined}
 use Rattle.idl_names.specs.Sources.{Source, file_number, file_named, and_source}
-use Rattle.idl_names.specs.Ended.{Ended, ended}
+use Rattle.idl_scope.specs.Ended.{Ended, ended, has_ended}
 use Rattle.idl_names.specs.Files.{IsFile, IsNoFile}
 
 -- the greatest number of files
@@ -49,9 +48,6 @@ load_of file string = Load (place_in file string) (file_named string.octets)
 abbrev pub all_of : ℕ → Tree → List Due
 all_of file t =
     map (Pass file) (attribute_steps t.attributes) ++ map (load_of file) (imports_of t) ++ map (Pass file) (declaration_steps (eqb file 0) t) ++ End file t ∷ []
-
-abbrev pub has_ended : List Ended → ℕ → Bool
-has_ended files file = list_any (λ e. eqb e.file file) files
 
 -- A file is to be loaded: it is not there yet, and not one too many.
 pub record IsDue (sources : List Source) (name : List ℕ) : Type 0 where

@@ -1,19 +1,17 @@
 // Declarations, step by step.
 ghost use Rattle.std.specs.Prelude.{◌≡◌, ◌++◌, [], ◌∷◌, map, not, ◌&&◌, OnOk, option_map};
 ghost use Rattle.idl_grammar.specs.Seen as seen;
-ghost use Rattle.idl_names.specs.Known.{walked};
-ghost use Rattle.idl_names.specs.Kept.{listed, IsRight};
-ghost use Rattle.idl_names.specs.Steps.{is_pointer, typedef_steps, init_step, one_parameter_steps, parameter_steps, parameters_of, operation_steps, export_steps};
+ghost use Rattle.idl_scope.specs.Known.{walked};
+ghost use Rattle.idl_scope.specs.Kept.{listed, IsRight};
+ghost use Rattle.idl_scope.specs.Steps.{is_pointer, typedef_steps, init_step, one_parameter_steps, parameter_steps, parameters_of, operation_steps, export_steps};
 ghost use Rattle.std.specs.List.{flat_map, list_all};
 
-use crate::known::NameTables;
-use crate::table::Table;
 use crate::types::{are_pointers, is_pointer, type_spec};
 use crate::walk::{dimensions, listed_declarator, optional_attributes};
-use crate::{Meaning, NameFault};
 use idl_grammar::{
     Attributes, Declarator, Export, Identifier, Init, Parameter, Parameters, TypeSpec,
 };
+use idl_scope::{Meaning, NameFault, NameTables, Table};
 use std::alloc::Global;
 
 /// A name for a type.

@@ -2,20 +2,22 @@
 ghost use Rattle.std.specs.Prelude.{◌≡◌, ◌≤◌, ◌<◌, [], ◌∷◌, ◌++◌, map, drop, length, true, IfOk, IfErr, OnOk};
 ghost use Rattle.std.specs.List.{flat_map};
 ghost use Rattle.idl_grammar.specs.Seen.{seen_tree, seen_import};
-ghost use Rattle.idl_names.specs.declared.name_fault.NameFault.TheVariants as faults;
+ghost use Rattle.idl_scope.specs.declared.name_fault.NameFault.TheVariants as faults;
 ghost use Rattle.idl_names.specs.Causes.{IsAbsent, IsFailed};
 ghost use Rattle.idl_names.specs.Going.{point, Went};
-ghost use Rattle.idl_names.specs.Seen.{seen_files, seen_scope, seen_state};
+ghost use Rattle.idl_scope.specs.Seen.{seen_files};
+ghost use Rattle.idl_names.specs.Seen.{seen_scope, seen_state};
 ghost use Rattle.idl_names.specs.Sources.{file_number};
-ghost use Rattle.idl_names.specs.Walk.{IsResolved, IsRefused, AsksAlong, Load, load_of, all_of, has_ended, names_of, most_files};
+ghost use Rattle.idl_scope.specs.Ended.{has_ended};
+ghost use Rattle.idl_names.specs.Walk.{IsResolved, IsRefused, AsksAlong, Load, load_of, all_of, names_of, most_files};
 
+use crate::Sources;
 use crate::declarations::exports;
-use crate::known::NameTables;
 use crate::loading::load;
 use crate::strings::file_named;
 use crate::walk::attributes;
-use crate::{FileTree, FileTrees, NameFault, Scope, Sources};
 use idl_grammar::{Import, Spelling, Tree};
+use idl_scope::{FileTree, FileTrees, NameFault, NameTables, Scope};
 use nd_base::{Files, Place};
 use std::alloc::Global;
 

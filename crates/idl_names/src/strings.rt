@@ -1,9 +1,9 @@
 // The names of files that strings spell.
 ghost use Rattle.std.specs.Prelude.{◌≡◌, ◌∷◌, ◌++◌, ℕ, cond, eqb, string_bytes, IfOk};
 ghost use Rattle.idl_names.specs.Sources as sources;
-ghost use Rattle.idl_names.specs.Value as values;
+ghost use Rattle.idl_scope.specs.Value as values;
 
-use crate::expression::escaped;
+use idl_scope::escaped;
 use nd_base::Memory;
 use std::alloc::Global;
 

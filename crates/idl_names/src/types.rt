@@ -3,15 +3,13 @@ ghost use Rattle.std.specs.Prelude.{◌≡◌, ◌++◌, [], ◌∷◌, map, Non
 ghost use Rattle.std.specs.List.{list_all, flat_map};
 ghost use Rattle.idl_grammar.specs.Seen as seen;
 ghost use Rattle.idl_grammar.specs.Reading.{members_of, cases_of, arms_of};
-ghost use Rattle.idl_names.specs.Known.{walked};
-ghost use Rattle.idl_names.specs.Kept.{listed, IsRight};
-ghost use Rattle.idl_names.specs.Steps.{optional_attribute_steps, label_steps, tag_steps, enumerator_steps, enlisted_steps, is_pointer, declared_name, type_steps, member_steps, case_steps, arms_steps, arm_steps};
+ghost use Rattle.idl_scope.specs.Known.{walked};
+ghost use Rattle.idl_scope.specs.Kept.{listed, IsRight};
+ghost use Rattle.idl_scope.specs.Steps.{optional_attribute_steps, label_steps, tag_steps, enumerator_steps, enlisted_steps, is_pointer, declared_name, type_steps, member_steps, case_steps, arms_steps, arm_steps};
 
-use crate::NameFault;
-use crate::known::NameTables;
-use crate::table::Table;
 use crate::walk::{dimensions, labels, listed_declarator, optional_attributes, switch_type};
 use idl_grammar::{Arm, Case, Declarator, Enumerator, Identifier, Member, TagKind, TypeSpec};
+use idl_scope::{NameFault, NameTables, Table};
 use std::alloc::Global;
 
 /// A tag before its body, where there is one.

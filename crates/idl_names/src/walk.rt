@@ -2,14 +2,12 @@
 ghost use Rattle.std.specs.Prelude.{◌≡◌, ◌++◌, [], ◌∷◌, map, OnOk, option_map};
 ghost use Rattle.std.specs.List.{flat_map};
 ghost use Rattle.idl_grammar.specs.Seen as seen;
-ghost use Rattle.idl_names.specs.Known.{walked};
-ghost use Rattle.idl_names.specs.Kept.{listed, IsRight};
-ghost use Rattle.idl_names.specs.Steps.{value_steps, switch_steps, kind_steps, optional_attribute_steps, attribute_steps, bound_steps, dimension_steps, label_steps, listed_steps};
+ghost use Rattle.idl_scope.specs.Known.{walked};
+ghost use Rattle.idl_scope.specs.Kept.{listed, IsRight};
+ghost use Rattle.idl_scope.specs.Steps.{value_steps, switch_steps, kind_steps, optional_attribute_steps, attribute_steps, bound_steps, dimension_steps, label_steps, listed_steps};
 
-use crate::NameFault;
-use crate::known::{NameTables, enlist};
-use crate::table::Table;
 use idl_grammar::{AttributeKind, Attributes, Bound, Declarator, Expr, Label, SwitchType};
+use idl_scope::{NameFault, NameTables, Table, enlist};
 
 /// The type of a switch.
 pub(crate) fn switch_type(names: &NameTables, file: u16, of: &SwitchType) -> Result<(), NameFault>

@@ -6,7 +6,7 @@ use Rattle.idl_language.specs.declared.fault.RuleFault.{RuleFault}
 use Rattle.idl_language.specs.declared.fault.RuleFault.TheVariants as faults
 use Rattle.idl_language.specs.Answers.{Answers}
 use Rattle.std.specs.List.{flat_map}
-use Rattle.idl_names.specs.Known.{Known}
+use Rattle.idl_scope.specs.Known.{Known}
 use Rattle.idl_language.specs.World.{World}
 use Rattle.idl_language.specs.Nodes.{Node, nodes, file_nodes, place_in}
 use Rattle.idl_language.specs.Types.{Names}

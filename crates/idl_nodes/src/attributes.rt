@@ -48,7 +48,7 @@ fn default_said(kind: &AttributeKind) -> Option<PointerClass>
 }
 
 /// The class that a header gives to pointers without one. Takes no memory.
-pub(crate) fn default_class_in(list: &[Attribute]) -> Option<PointerClass>
+pub fn default_class_in(list: &[Attribute]) -> Option<PointerClass>
     ensures { result ≡ default_class_in (map seen_attribute list.now) }
 {
     for attribute in list {

@@ -1,10 +1,7 @@
-//! All that a rule may speak of, as one list in the order of the text, and the rules on lists of attributes.
+//! What a rule may speak of: the parts of a text with what stands around them, and the words of their attributes.
 #![tactic(auto)]
 
 pub mod attributes;
-pub mod exports;
-pub mod lists;
 pub mod nodes;
 pub mod parts;
-mod walk;
 pub mod words;

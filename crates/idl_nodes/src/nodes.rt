@@ -144,7 +144,7 @@ impl<'t> Construct<'t> {
         }
     }
     /// A construct in the same file.
-    pub(crate) fn inside(
+    pub fn inside(
         &self,
         position: Position,
         at: u32,
@@ -162,7 +162,7 @@ impl<'t> Construct<'t> {
     }
 
     /// A construct without attributes in the same file.
-    pub(crate) fn without_attributes(&self, position: Position, at: u32) -> Construct<'t>
+    pub fn without_attributes(&self, position: Position, at: u32) -> Construct<'t>
         ensures { seen_construct result ≡ inside (seen_construct self.now) (seen_position position) at None }
     {
         Construct {
@@ -175,7 +175,7 @@ impl<'t> Construct<'t> {
     }
 
     /// A name that is declared for a type there.
-    pub(crate) fn declared(&self, of: &'t TypeSpec, declarator: &'t Declarator) -> Declared<'t>
+    pub fn declared(&self, of: &'t TypeSpec, declarator: &'t Declarator) -> Declared<'t>
         ensures { seen_declared result ≡ declared (seen_construct self.now) (seen_type of.now) (seen_declarator declarator.now) }
     {
         Declared {
@@ -224,7 +224,7 @@ impl<'t> Nodes<'t> {
     }
 
     /// Adds a list, and gives its number. Takes memory for its entry.
-    pub(crate) fn push_list(&mut self, list: Vec<Declared<'t>>) -> Result<usize, Memory>
+    pub fn push_list(&mut self, list: Vec<Declared<'t>>) -> Result<usize, Memory>
         ensures adds { OnOk result (Adds self.old self.new []) }
         ensures number { IfOk result (λ n. list_found self.new.lists.items n ≡ Some (map seen_declared list.entry.items)) }
     {

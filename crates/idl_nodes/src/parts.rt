@@ -39,7 +39,7 @@ fn add_each<'t>(
 }
 
 /// The members of a struct. Takes memory for the list.
-pub(crate) fn members_declared<'t>(
+pub fn members_declared<'t>(
     alloc: Global,
     construct: &Construct<'t>,
     members: &'t Vec<Member>,
@@ -55,7 +55,7 @@ pub(crate) fn members_declared<'t>(
 }
 
 /// The parameters of an operation. Takes memory for the list.
-pub(crate) fn parameters_declared<'t>(
+pub fn parameters_declared<'t>(
     alloc: Global,
     construct: &Construct<'t>,
     parameters: &'t [Parameter],

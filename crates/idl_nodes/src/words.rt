@@ -63,7 +63,7 @@ fn variable_word(word: VariableWord) -> Word
 }
 
 /// The word with which an attribute begins.
-pub(crate) fn first_word(kind: &AttributeKind) -> Word
+pub fn first_word(kind: &AttributeKind) -> Word
     ensures { spelled result ≡ word_of (seen_kind kind.now) }
 {
     match kind {
@@ -88,14 +88,14 @@ pub(crate) fn first_word(kind: &AttributeKind) -> Word
 }
 
 /// Whether two words are the same.
-pub(crate) fn is_same(one: &Word, other: &Word) -> bool
+pub fn is_same(one: &Word, other: &Word) -> bool
     ensures { result ≡ bytes_eq (spelled one.now) (spelled other.now) }
 {
     one == other
 }
 
 /// Whether an attribute begins with a word.
-pub(crate) fn is_word(word_meant: Word, kind: &AttributeKind) -> bool
+pub fn is_word(word_meant: Word, kind: &AttributeKind) -> bool
     ensures { result ≡ bytes_eq (spelled word_meant) (word_of (seen_kind kind.now)) }
 {
     first_word(kind) == word_meant

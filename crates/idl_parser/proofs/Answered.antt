@@ -15,8 +15,8 @@ use Rattle.idl_grammar.specs.Reading.{file_read}
 use Rattle.idl_grammar.specs.Seen.{seen_tree}
 use Rattle.idl_grammar.specs.Answers.{is_banned, named_fault, named, file_answer}
 use Rattle.idl_grammar.proofs.FileExact.{file_exact}
-use Rattle.idl_tokens.specs.declared.fault.SyntaxFault.{SyntaxFault}
-use Rattle.idl_tokens.specs.declared.fault.SyntaxFault.TheVariants as errors
+use Rattle.idl_grammar.specs.declared.fault.SyntaxFault.{SyntaxFault}
+use Rattle.idl_grammar.specs.declared.fault.SyntaxFault.TheVariants as errors
 use Rattle.idl_tokens.specs.Refused.{IsWithin, IsNamed}
 use Rattle.idl_parser.specs.Answered.{Told}
 

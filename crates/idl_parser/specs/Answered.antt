@@ -5,8 +5,8 @@ use Rattle.phrases.specs.Reading.{Fault, Syntax, Passes}
 use Rattle.idl_grammar.specs.declared.files.Tree.{Tree}
 use Rattle.idl_grammar.specs.Tree as tree
 use Rattle.idl_grammar.specs.Seen.{seen_tree}
-use Rattle.idl_tokens.specs.declared.fault.SyntaxFault.{SyntaxFault}
-use Rattle.idl_tokens.specs.declared.fault.SyntaxFault.TheVariants as errors
+use Rattle.idl_grammar.specs.declared.fault.SyntaxFault.{SyntaxFault}
+use Rattle.idl_grammar.specs.declared.fault.SyntaxFault.TheVariants as errors
 
 -- a fact of the answer, unless memory was wanting
 abbrev pub Told : (Result tree.Tree Fault → Type 0) → Result Tree SyntaxFault → Type 0

@@ -6,5 +6,5 @@ mod parameters;
 mod parsing;
 mod types;
 
-pub use idl_tokens::SyntaxFault;
+pub use idl_grammar::SyntaxFault;
 pub use parsing::parse;

@@ -12,11 +12,11 @@ ghost use Rattle.idl_grammar.specs.Tree as tree;
 ghost use Rattle.idl_parser.specs.Answered.{Told};
 
 use crate::file::file;
-use idl_grammar::Tree;
+use idl_grammar::{SyntaxFault, Tree};
 use idl_lexer::Tokens;
+use idl_tokens::fault_of;
 use idl_tokens::lexemes::lexemes;
 use idl_tokens::parser::Parser;
-use idl_tokens::{SyntaxFault, fault_of};
 use phrases::Refusal;
 use std::alloc::Global;
 

@@ -1,8 +1,8 @@
 // The interfaces of three files that have each form, compared item by item.
+use idl_check::interface_of;
 use idl_lexer::lex;
 use idl_names::{Sources, resolve};
 use idl_parser::parse;
-use idl_rules::check;
 use nd_base::{MemFiles, Memory, Octets};
 use nd_types::{Arm, Attr, AttrVar, Class, Field, Interface, Operation, Param, TypeDef, Way};
 use std::alloc::Global;
@@ -19,7 +19,7 @@ fn interface_of(alloc: Global, text: &[u8]) -> Result<Interface, Fail> {
     };
     let mut files = MemFiles::new(alloc, &[])?;
     let scope = resolve(alloc, &mut files, &mut sources, tree)?;
-    Ok(check(alloc, &scope)?)
+    Ok(interface_of(alloc, &scope)?)
 }
 
 /// The word of an attribute in what is reported.

@@ -15,7 +15,7 @@ struct Example;
 
 impl Names for Example {
     ghost use Rattle.std.specs.Prelude.{eqb, cond, slice_index, Some, None, pos, ◌^◌};
-    ghost use Rattle.idl_names.specs.declared.meaning.Meaning.TheVariants as meaning;
+    ghost use Rattle.idl_scope.specs.declared.meaning.Meaning.TheVariants as meaning;
 
     ghost meanings = { λ _ name. cond (eqb (slice_index name 0) 78) (Some (meaning.Number (pos 7)))
         (cond (eqb (slice_index name 0) 77) (Some (meaning.Number (pos (2 ^ 64)))) (cond (eqb (slice_index name 0) 84) (Some meaning.Type) None)) };

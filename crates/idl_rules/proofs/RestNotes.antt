@@ -6,7 +6,7 @@ use Rattle.std.proofs.lemmas.Grind.{flat_map-append}
 use Rattle.idl_grammar.specs.Seen.{seen_type, seen_enumerator, seen_init}
 use Rattle.idl_grammar.specs.Tree.{Attribute, TypeSpec}
 use Rattle.idl_grammar.specs.Tree as tree
-use Rattle.idl_names.specs.Known.{Known}
+use Rattle.idl_scope.specs.Known.{Known}
 use Rattle.idl_nodes.specs.declared.nodes.Declared as declared
 use Rattle.idl_nodes.specs.declared.nodes.Node as program_node
 use Rattle.idl_nodes.specs.declared.nodes.Node.TheVariants as node

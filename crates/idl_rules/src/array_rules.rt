@@ -1,6 +1,6 @@
 // The rules of arrays, texts and pipes, and of what hoists a maximum count (C706, sections 4.2.15 to 4.2.17).
 ghost use Rattle.std.specs.Prelude.{◌≡◌, ◌&&◌, not, map, List, Option, option_map};
-ghost use Rattle.idl_names.specs.Seen.{seen_files};
+ghost use Rattle.idl_scope.specs.Seen.{seen_files};
 ghost use Rattle.idl_grammar.specs.Seen.{seen_attribute};
 ghost use Rattle.idl_language.specs.World.{World};
 ghost use Rattle.idl_language.specs.Scene.{Scene, Use};

@@ -1,6 +1,6 @@
 // What the rules ask of a declarator where it stands.
 ghost use Rattle.std.specs.Prelude.{◌≡◌, ◌++◌, Bool, List, Option, option_map};
-ghost use Rattle.idl_names.specs.Seen.{seen_files};
+ghost use Rattle.idl_scope.specs.Seen.{seen_files};
 ghost use Rattle.idl_language.specs.World.{World};
 ghost use Rattle.idl_language.specs.Nodes as rules;
 ghost use Rattle.idl_language.specs.Rules.{Breach, broken_in};

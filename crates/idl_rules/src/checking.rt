@@ -1,7 +1,6 @@
-// The rules, and what files mean that keep them.
+// The rules 5 to 39, and a rule that is reported.
 ghost use Rattle.std.specs.Prelude.{◌≡◌, None, map, option_map, IfOk};
 ghost use Rattle.idl_language.specs.declared.fault.RuleFault.TheVariants as faults;
-ghost use Rattle.idl_language.specs.Answers.{Answers};
 ghost use Rattle.idl_language.specs.Checked.{world_of};
 ghost use Rattle.idl_language.specs.CountRules as rules;
 ghost use Rattle.idl_language.specs.Found.{seen_breach};
@@ -10,21 +9,17 @@ ghost use Rattle.idl_language.specs.OtherBreaches.{other_breaches};
 ghost use Rattle.idl_types.specs.SeenNumbers.{AreNumbers};
 ghost use Rattle.idl_types.specs.SeenTypes.{scene_seen, IsTypes};
 ghost use Rattle.idl_values.specs.SeenCounts.{one_too_many};
-ghost use Rattle.idl_names.specs.Seen.{known_in};
+ghost use Rattle.idl_scope.specs.Seen.{known_in};
 
 use crate::uses::other_rules;
 use idl_language::{Breach, Finder, RuleFault};
 use idl_marks::marks;
-use idl_meaning::meaning::interface;
-use idl_names::Scope;
-use idl_nodes::exports::of_files;
-use idl_nodes::lists::first_breach;
 use idl_nodes::nodes::Nodes;
-use idl_types::numbering::{self, Numbers};
-use idl_types::types::{Types, of_nodes};
+use idl_scope::Scope;
+use idl_types::numbering::Numbers;
+use idl_types::types::Types;
 use idl_values::counts::too_many;
 use nd_base::Memory;
-use nd_types::Interface;
 use std::alloc::Global;
 
 /// A rule that is reported.
@@ -37,8 +32,8 @@ pub fn broken(first: Breach) -> RuleFault
     }
 }
 
-/// The first breach of the rules 5 to 39, if one is broken.
-fn other_breach(
+/// The first breach of the rules 5 to 39, if one is broken. Takes memory for what is known of each type.
+pub fn other_breach(
     alloc: Global,
     scope: &Scope,
     nodes: &Nodes<'_>,
@@ -56,25 +51,4 @@ fn other_breach(
     other_rules(alloc, &mut finder, scope, nodes, types, &marks)?;
     too_many(&mut finder, nodes, numbers);
     Ok(finder.first())
-}
-
-/// The interface that files mean whose names are resolved (C706, chapter 4).
-///
-/// # Errors
-/// Broken, the least broken rule at its first place, exactly where a rule is broken. Memory where memory was wanting.
-///
-/// Takes memory for the interface.
-pub fn check(alloc: Global, scope: &Scope) -> Result<Interface, RuleFault>
-    ensures { Answers (world_of scope.now) result }
-{
-    let nodes = of_files(alloc, &scope.files)?;
-    if let Some(first) = first_breach(alloc, &scope.files, &nodes)? {
-        return Err(broken(first));
-    }
-    let types = of_nodes(alloc, scope, &nodes)?;
-    let numbers = numbering::of_types(alloc, &nodes, &types)?;
-    if let Some(first) = other_breach(alloc, scope, &nodes, &types, &numbers)? {
-        return Err(broken(first));
-    }
-    Ok(interface(alloc, scope, &nodes, &types, &numbers)?)
 }

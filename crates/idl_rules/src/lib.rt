@@ -1,4 +1,4 @@
-//! The rules of IDL, and the interface that files mean which break none (C706, chapter 4).
+//! The rules of IDL on declarators, types and bodies (C706, chapter 4).
 #![tactic(auto)]
 
 mod array_rules;
@@ -11,4 +11,4 @@ mod type_rules;
 mod uses;
 mod variable_rules;
 
-pub use checking::{broken, check};
+pub use checking::{broken, other_breach};

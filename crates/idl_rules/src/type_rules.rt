@@ -1,6 +1,6 @@
 // The rules of types and of where each kind of type may stand (C706, sections 4.2.8 to 4.2.16).
 ghost use Rattle.std.specs.Prelude.{◌≡◌, ◌&&◌, not, map, List, Option, option_map};
-ghost use Rattle.idl_names.specs.Seen.{seen_files};
+ghost use Rattle.idl_scope.specs.Seen.{seen_files};
 ghost use Rattle.idl_grammar.specs.Seen.{seen_attribute};
 ghost use Rattle.idl_language.specs.World.{World};
 ghost use Rattle.idl_language.specs.Scene.{Scene, Use};

@@ -1,6 +1,6 @@
 // The rules of `string` and of the attributes that state counts and tags by variables (C706, sections 4.2.11 and 4.2.17 to 4.2.19).
 ghost use Rattle.std.specs.Prelude.{◌≡◌, ◌&&◌, not, map, List, Option, option_map};
-ghost use Rattle.idl_names.specs.Seen.{seen_files};
+ghost use Rattle.idl_scope.specs.Seen.{seen_files};
 ghost use Rattle.idl_grammar.specs.Seen.{seen_attribute};
 ghost use Rattle.idl_language.specs.World.{World};
 ghost use Rattle.idl_language.specs.Scene.{Scene, Use};

@@ -4,8 +4,8 @@ use Rattle.phrases.specs.declared.Refusal.{Refusal}
 use Rattle.phrases.specs.declared.Refusal.TheVariants as refusal
 use Rattle.phrases.specs.Text.{Text}
 use Rattle.idl_grammar.specs.Answers.{is_banned}
-use Rattle.idl_tokens.specs.declared.fault.SyntaxFault.{SyntaxFault}
-use Rattle.idl_tokens.specs.declared.fault.SyntaxFault.TheVariants as errors
+use Rattle.idl_grammar.specs.declared.fault.SyntaxFault.{SyntaxFault}
+use Rattle.idl_grammar.specs.declared.fault.SyntaxFault.TheVariants as errors
 
 -- the token of a refusal is one of the text, or its end
 abbrev pub IsWithin : Refusal → ℕ → Type 0

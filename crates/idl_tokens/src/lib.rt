@@ -2,7 +2,6 @@
 //! reader of single tokens and of what a few of them make: the types without parts, and lists of strings.
 #![tactic(auto)]
 
-mod fault;
 pub mod lexemes;
 pub mod parser;
 mod refused;
@@ -11,5 +10,4 @@ mod strings;
 pub mod symbol;
 pub mod words;
 
-pub use fault::SyntaxFault;
 pub use refused::fault_of;

@@ -3,9 +3,9 @@ ghost use Rattle.std.specs.Prelude.{◌≡◌, ◌<◌, length};
 ghost use Rattle.idl_grammar.specs.Answers.{is_banned};
 ghost use Rattle.idl_tokens.specs.Refused.{IsWithin, IsNamed};
 
-use crate::fault::SyntaxFault;
 use crate::parser::Parser;
 use crate::symbol;
+use idl_grammar::SyntaxFault;
 use phrases::Refusal;
 
 /// Whether a word is at a place that is banned anywhere.

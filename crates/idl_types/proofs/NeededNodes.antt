@@ -8,7 +8,7 @@ use Rattle.idl_grammar.specs.Tree.{Attribute, TypeSpec, Enumerator}
 use Rattle.idl_grammar.specs.Tree as tree
 use Rattle.idl_grammar.specs.Seen.{seen_type, seen_enumerator}
 use Rattle.nd_base.specs.declared.octets.Place.{Place}
-use Rattle.idl_names.specs.Known.{Known}
+use Rattle.idl_scope.specs.Known.{Known}
 use Rattle.idl_kinds.specs.declared.kinds.Kind.{Kind}
 use Rattle.idl_nodes.specs.declared.nodes.Declared as declared
 use Rattle.idl_nodes.specs.declared.nodes.Node as program_node

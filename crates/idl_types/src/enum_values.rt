@@ -1,14 +1,14 @@
 // The values of enums.
 ghost use Rattle.std.specs.Prelude.{◌≡◌, ◌∷◌, ◌++◌, [], map, IfOk};
 ghost use Rattle.idl_grammar.specs.Seen.{seen_enumerator, seen_type};
-ghost use Rattle.idl_names.specs.Seen.{known_in};
+ghost use Rattle.idl_scope.specs.Seen.{known_in};
 ghost use Rattle.idl_language.specs.World as world;
 ghost use Rattle.idl_language.specs.Scene as scenes;
 ghost use Rattle.idl_kinds.specs.LabelValues.{Holds, values_of};
 
 use idl_grammar::{Enumerator, Identifier, TypeSpec};
 use idl_kinds::value_set::ValueSet;
-use idl_names::{Meaning, Names, Scope};
+use idl_scope::{Meaning, Names, Scope};
 use nd_base::Memory;
 use std::alloc::Global;
 

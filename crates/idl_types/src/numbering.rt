@@ -1,6 +1,6 @@
 // The numbers of types (0 to 11 are the basic ones).
 ghost use Rattle.std.specs.Prelude.{◌≡◌, ◌<◌, [], List, length, map, reverse, slice_get, IfOk, OnOk};
-ghost use Rattle.idl_names.specs.Known.{Known};
+ghost use Rattle.idl_scope.specs.Known.{Known};
 ghost use Rattle.idl_language.specs.Nodes as rules;
 ghost use Rattle.idl_language.specs.Nodes.{place_in};
 ghost use Rattle.idl_language.specs.Types.{IdlType};

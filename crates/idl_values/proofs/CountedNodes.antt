@@ -6,7 +6,7 @@ use Rattle.std.proofs.lemmas.Grind.{flat_map-append}
 use Rattle.std.proofs.lemmas.List.{map-append}
 use Rattle.idl_grammar.specs.Tree.{Attribute, TypeSpec, Enumerator}
 use Rattle.idl_grammar.specs.Seen.{seen_type, seen_enumerator}
-use Rattle.idl_names.specs.Known.{Known}
+use Rattle.idl_scope.specs.Known.{Known}
 use Rattle.idl_kinds.specs.declared.kinds.Kind.{Kind}
 use Rattle.idl_types.specs.declared.numbering.Own.{Own}
 use Rattle.idl_types.specs.declared.numbering.Numbers.{Numbers}

@@ -3,7 +3,7 @@ use Rattle.std.proofs.Common.{◌≡◌, ◌∙◌, ◌⊎◌, inl, inr, ℕ, ze
 use Rattle.std.specs.Prelude.{slice_index_or}
 use Rattle.std.proofs.lemmas.Option.{none-some, same_Some, slice_get_within}
 use Rattle.nd_base.specs.declared.octets.Place.{Place}
-use Rattle.idl_names.specs.Ended.{Ended}
+use Rattle.idl_scope.specs.Ended.{Ended}
 use Rattle.idl_language.specs.Nodes.{place_in}
 use Rattle.idl_language.specs.Scene.{Body}
 use Rattle.idl_language.specs.FirstBroken.{rank_in}

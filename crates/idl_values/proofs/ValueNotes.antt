@@ -9,7 +9,7 @@ use Rattle.idl_grammar.specs.declared.attributes.Attribute as attribute
 use Rattle.idl_grammar.specs.declared.types.SimpleType.{SimpleType}
 use Rattle.idl_grammar.specs.Seen.{seen_enumerator, seen_attribute}
 use Rattle.idl_grammar.specs.Tree.{Attribute, Init}
-use Rattle.idl_names.specs.Known.{Known}
+use Rattle.idl_scope.specs.Known.{Known}
 use Rattle.idl_language.specs.World.{World}
 use Rattle.idl_language.specs.Attributes.{has, is_word, has_one_of, classes, is_class}
 use Rattle.idl_language.specs.AttributeRules.{is_out_of_place, is_repeated, is_large_version, is_second_class}

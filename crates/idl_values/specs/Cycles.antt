@@ -3,7 +3,7 @@ use Rattle.std.specs.Prelude.{◌≡◌, ℕ, ◌+◌, ◌*◌, ◌^◌, ◌≤�
 use Rattle.std.specs.List.{flat_map}
 use Rattle.std.specs.Option.{option_and_then}
 use Rattle.nd_base.specs.declared.octets.Place.{Place}
-use Rattle.idl_names.specs.Ended.{Ended}
+use Rattle.idl_scope.specs.Ended.{Ended}
 use Rattle.idl_kinds.specs.declared.kinds.Kind.{Kind}
 use Rattle.idl_types.specs.declared.types.BodyTypes.{BodyTypes}
 use Rattle.idl_types.specs.declared.types.Types as program_types

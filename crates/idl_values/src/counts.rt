@@ -2,8 +2,8 @@
 ghost use Rattle.idl_language.specs.declared.rule.TheConstants as Rule;
 ghost use Rattle.std.specs.Prelude.{◌≡◌, ◌-◌, ◌&&◌, List, [], ◌∷◌, map, ltb, nat_le, length, replicate, option_map};
 ghost use Rattle.std.specs.List.{flat_map};
-ghost use Rattle.idl_names.specs.Known.{Known};
-ghost use Rattle.idl_names.specs.Seen.{seen_files};
+ghost use Rattle.idl_scope.specs.Known.{Known};
+ghost use Rattle.idl_scope.specs.Seen.{seen_files};
 ghost use Rattle.idl_kinds.specs.declared.kinds.Kind.{Kind as program_kind};
 ghost use Rattle.idl_language.specs.World.{World};
 ghost use Rattle.idl_language.specs.Rules.{breach};

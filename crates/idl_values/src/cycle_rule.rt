@@ -1,8 +1,8 @@
 // Rule 11: no struct or union contains itself in place (C706, section 4.2.8).
 ghost use Rattle.std.specs.Prelude.{◌≡◌, ◌+◌, ◌*◌, ℕ, List, ◌∷◌, [], map, Some, None, true, length, min, option_map, slice_get, slice_index_or, slice_set, IfOk, OnOk};
 ghost use Rattle.std.specs.List.{flat_map};
-ghost use Rattle.idl_names.specs.Seen.{seen_files, known_in};
-ghost use Rattle.idl_names.specs.Known.{Known};
+ghost use Rattle.idl_scope.specs.Seen.{seen_files, known_in};
+ghost use Rattle.idl_scope.specs.Known.{Known};
 ghost use Rattle.idl_nodes.specs.declared.nodes.Nodes as program_nodes;
 ghost use Rattle.idl_language.specs.World.{World};
 ghost use Rattle.idl_language.specs.Nodes.{place_in};
@@ -19,8 +19,8 @@ ghost use Rattle.idl_values.specs.Cycles.{option_list, AreInnermost, AreInnermos
 use idl_graph::{Graph, least_key};
 use idl_kinds::kinds::{Kind, Kinds};
 use idl_language::{Finder, rule};
-use idl_names::Scope;
 use idl_nodes::nodes::{Node, Nodes};
+use idl_scope::Scope;
 use idl_types::types::{BodyTypes, Types};
 use nd_base::{Memory, Place};
 use std::alloc::Global;

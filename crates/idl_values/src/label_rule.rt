@@ -1,7 +1,7 @@
 // The rule of labels: each is a value of the tag's type, and none stands twice (C706, section 4.2.11).
 ghost use Rattle.std.specs.Prelude.{◌≡◌, ◌∷◌, ◌++◌, ℤ, [], option_map, Some, OnOk, List, Option};
 ghost use Rattle.idl_grammar.specs.Seen.{seen_type};
-ghost use Rattle.idl_names.specs.Seen.{seen_files, known_in};
+ghost use Rattle.idl_scope.specs.Seen.{seen_files, known_in};
 ghost use Rattle.idl_nodes.specs.declared.nodes.Nodes as program_nodes;
 ghost use Rattle.idl_language.specs.World.{World};
 ghost use Rattle.idl_language.specs.Nodes as rules;
@@ -24,8 +24,8 @@ use idl_kinds::labels::{Valued, labels_of};
 use idl_kinds::ranges::is_in_range;
 use idl_kinds::value_set::ValueSet;
 use idl_language::{Finder, rule};
-use idl_names::Scope;
 use idl_nodes::nodes::Construct;
+use idl_scope::Scope;
 use idl_types::types::{Typed, Types};
 use nd_base::{Memory, Place};
 use nd_types::Primitive;

@@ -1,7 +1,7 @@
 // The rules of enumerators, constants, lower bounds and classes in lists (C706, sections 4.2.7 to 4.2.12).
 ghost use Rattle.std.specs.Prelude.{◌≡◌, [], ◌∷◌, map, option_map};
 ghost use Rattle.idl_grammar.specs.Seen.{seen_attribute, seen_bound, seen_declarator, seen_enumerator, seen_init};
-ghost use Rattle.idl_names.specs.Seen.{seen_files, known_in};
+ghost use Rattle.idl_scope.specs.Seen.{seen_files, known_in};
 ghost use Rattle.idl_language.specs.World.{World};
 ghost use Rattle.idl_language.specs.Attributes as attributes;
 ghost use Rattle.idl_language.specs.Nodes as rules;
@@ -21,8 +21,8 @@ use idl_kinds::ranges::is_in_range;
 use idl_kinds::typing::number;
 use idl_kinds::written::simple_kind;
 use idl_language::{Finder, rule};
-use idl_names::Scope;
 use idl_nodes::nodes::Construct;
+use idl_scope::Scope;
 use idl_types::enum_values::number_of;
 
 /// The greatest value of an enumerator.

@@ -3,8 +3,8 @@ use Rattle.std.specs.Prelude.{ℕ, ℤ, List, [], ◌∷◌, codes, decimal}
 use Rattle.std.specs.Fmt.{signed_decimal}
 use Rattle.idl_lexer.specs.declared.tokens.LexKind.{LexKind}
 use Rattle.idl_lexer.specs.declared.tokens.LexKind.TheVariants as kind
-use Rattle.idl_names.specs.declared.fault.ConstFault.{ConstFault}
-use Rattle.idl_names.specs.declared.fault.ConstFault.TheVariants as const_fault
+use Rattle.idl_scope.specs.declared.fault.ConstFault.{ConstFault}
+use Rattle.idl_scope.specs.declared.fault.ConstFault.TheVariants as const_fault
 use Rattle.nd_value.specs.declared.misfit.MisfitReason.{MisfitReason}
 use Rattle.nd_value.specs.declared.misfit.MisfitReason.TheVariants as misfit
 use Rattle.nd_grammar.specs.declared.reason.Reason.{Reason}

@@ -5,7 +5,7 @@ ghost use Rattle.refusals.specs.Lines.{status_of, line_of, text_line as line_of_
 
 use crate::refusal::{IdlReason, OctetsFault, Refusal, RequestFault};
 use idl_lexer::LexKind;
-use idl_names::ConstFault;
+use idl_scope::ConstFault;
 use itoa::Buffer;
 use nd_base::text::join;
 use nd_base::{Memory, Octets};

@@ -1,6 +1,6 @@
 // Why a command is refused.
 use idl_lexer::LexKind;
-use idl_names::ConstFault;
+use idl_scope::ConstFault;
 use nd_base::{Memory, Octets};
 use nd_grammar::Reason;
 use nd_value::MisfitReason;

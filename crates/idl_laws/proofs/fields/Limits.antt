@@ -17,9 +17,9 @@ use Rattle.idl_grammar.specs.declared.words.Spelling.{Spelling}
 use Rattle.idl_grammar.specs.declared.types.SwitchType.{SwitchType}
 use Rattle.idl_grammar.specs.Tree.{Attribute, Declarator, Enumerator, Parameter, Export, TypeSpec, Members, Cases, Arms, Arm}
 use Rattle.idl_grammar.specs.Tree as tree
-use Rattle.idl_names.specs.Ended.{Ended}
-use Rattle.idl_names.specs.Steps.{parameters_of}
-use Rattle.idl_names.specs.Known.{Known}
+use Rattle.idl_scope.specs.Ended.{Ended}
+use Rattle.idl_scope.specs.Steps.{parameters_of}
+use Rattle.idl_scope.specs.Known.{Known}
 use Rattle.idl_language.specs.World.{World}
 use Rattle.idl_language.specs.Attributes.{switch_type_in}
 use Rattle.idl_language.specs.Nodes.{Construct, Position, InTypedef, InTaggedType, InMember, InArm, InCasedArm, InOperation, Declared, declared, inside, declared_members, parameter_construct, declared_parameters, attribute_nodes, attribute_nodes_from, switch_node, switch_nodes, declarator_nodes, ArmLabel, LabelledArm, arms_of, labels_of, label_nodes, type_nodes, member_nodes, case_nodes, arms_nodes, arm_nodes, parameter_nodes, typedef_node, result_of, operation_nodes, export_nodes, header_of, file_nodes, nodes, Node, HeaderNode, AttributeNode, SwitchNode, TagNode, BodyNode, EnumeratorNode, LabelNode, EmptyArmNode, DeclaratorNode, ConstantNode, TypeNode, OperationNode}

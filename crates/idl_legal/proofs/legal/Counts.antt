@@ -22,7 +22,7 @@ use Rattle.idl_grammar.specs.declared.types.TagKind.TheVariants as tag_kind
 use Rattle.nd_base.specs.declared.octets.Place.{Place}
 use Rattle.idl_grammar.specs.Tree.{Attribute, Bound, TypeSpec}
 use Rattle.idl_grammar.specs.Tree as tree
-use Rattle.idl_names.specs.Known.{Known}
+use Rattle.idl_scope.specs.Known.{Known}
 use Rattle.idl_language.specs.Attributes.{has, has_one_of, sizes, lengths, string_word}
 use Rattle.idl_language.specs.Nodes.{Declared, Node, HeaderNode, AttributeNode, SwitchNode, TagNode, BodyNode, EnumeratorNode, LabelNode, EmptyArmNode, DeclaratorNode, ConstantNode, TypeNode, OperationNode}
 use Rattle.idl_language.specs.Types.{IdlType, Void, Handle, ContextHandle, Basic, Struct, Union, Enum, Array, Text, Pointer, Pipe, Names, type_of, is_array, is_text, is_conformant_text, is_varying_array, simple_type, tagged_type, written_type, with_stars, with_dimensions, with_declarator, outermost_class, text_of, sized, with_attributes, pipe_or_plain, type_before, declared_from, declared_type, is_context_handle}

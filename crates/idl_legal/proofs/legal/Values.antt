@@ -14,7 +14,7 @@ use Rattle.nd_types.specs.Table.{Table, type_at, is_value}
 use Rattle.nd_types.specs.Legal.{has_small_values, has_tag_labels, has_distinct_labels}
 use Rattle.idl_grammar.specs.Tree.{TypeSpec, Enumerator}
 use Rattle.idl_grammar.specs.Tree as tree
-use Rattle.idl_names.specs.Known.{Known}
+use Rattle.idl_scope.specs.Known.{Known}
 use Rattle.idl_language.specs.World as world
 use Rattle.idl_language.specs.Nodes.{Construct, EnumeratorNode, LabelNode, BodyNode, ArmLabel, LabelledArm, arms_of, labels_of, label_nodes}
 use Rattle.idl_language.specs.Types.{IdlType, Void, Handle, ContextHandle, Basic, Struct, Union, Enum, Array, Text, Pointer, Pipe, Names}

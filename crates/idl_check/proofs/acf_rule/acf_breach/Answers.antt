@@ -1,7 +1,7 @@
 use Rattle.std.proofs.Common.{◌≡◌, ◌∙◌, refl, sym, ap, map, option_map, Some, None, ◌++◌, append-nil}
 use Rattle.std.specs.List.{flat_map}
 use Rattle.idl_grammar.specs.Seen as of_idl
-use Rattle.idl_names.specs.Seen.{seen_files, known_in}
+use Rattle.idl_scope.specs.Seen.{seen_files, known_in}
 use Rattle.acf_reader.specs.Seen.{seen_element, seen_acf}
 use Rattle.idl_language.specs.Checked.{world_of}
 use Rattle.idl_language.specs.Found.{seen_breach}

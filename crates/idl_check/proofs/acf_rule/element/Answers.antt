@@ -1,7 +1,7 @@
 use Rattle.std.proofs.Common.{◌≡◌, ◌∙◌, ◌||◌, map, option_map, refl, ap, sym, subst}
 use Rattle.std.specs.List.{list_any}
 use Rattle.idl_grammar.specs.Seen as of_idl
-use Rattle.idl_names.specs.Seen.{known_in}
+use Rattle.idl_scope.specs.Seen.{known_in}
 use Rattle.acf_reader.specs.Seen.{seen_parameter, seen_element}
 use Rattle.idl_language.specs.Noted.{noted}
 use Rattle.idl_language.specs.Found.{seen_breach}

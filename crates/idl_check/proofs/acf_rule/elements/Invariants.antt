@@ -2,7 +2,7 @@ use Rattle.std.proofs.Common.{◌≡◌, map, option_map}
 use Rattle.std.specs.List.{flat_map}
 use Rattle.idl_grammar.specs.Tree as idl
 use Rattle.idl_grammar.specs.Seen as of_idl
-use Rattle.idl_names.specs.Seen.{seen_files, known_in}
+use Rattle.idl_scope.specs.Seen.{seen_files, known_in}
 use Rattle.acf_reader.specs.Seen.{seen_element}
 use Rattle.idl_language.specs.World.{World}
 use Rattle.idl_language.specs.Noted.{noted}

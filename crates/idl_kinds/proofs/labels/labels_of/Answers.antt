@@ -2,7 +2,7 @@ use Rattle.std.proofs.Common.{◌≡◌, ◌∙◌, map, sym, ap}
 use Rattle.std.proofs.lemmas.Result.{IfOk-weaker}
 use Rattle.idl_grammar.specs.Seen.{seen_type}
 use Rattle.idl_grammar.proofs.Rows.{cases_are, arms_are}
-use Rattle.idl_names.specs.Seen.{known_in}
+use Rattle.idl_scope.specs.Seen.{known_in}
 use Rattle.idl_language.specs.Nodes.{labels_of}
 use Rattle.idl_kinds.specs.LabelValues.{valued}
 use Rattle.idl_kinds.proofs.LabelLists as lists

@@ -1,5 +1,5 @@
 use Rattle.std.proofs.Common.{◌∙◌, ◌++◌, refl, ap, arith, map}
-use Rattle.idl_names.specs.Seen.{known_in}
+use Rattle.idl_scope.specs.Seen.{known_in}
 use Rattle.idl_language.specs.Nodes.{labels_in}
 use Rattle.idl_kinds.specs.LabelValues.{valued}
 use Rattle.idl_nodes.proofs.Gathering.{gather, gathered}

@@ -1,5 +1,5 @@
 use Rattle.std.proofs.Common.{◌∙◌, ◌++◌, refl, ap, arith}
-use Rattle.idl_names.specs.Seen.{known_in}
+use Rattle.idl_scope.specs.Seen.{known_in}
 use Rattle.idl_nodes.proofs.Gathering.{gather, gathered}
 use Rattle.idl_kinds.proofs.LabelLists as lists
 use Rattle.idl_kinds.proofs.labels.labels_of_cases.Goals as goal

@@ -1,7 +1,7 @@
 use Rattle.std.proofs.Common.{◌∙◌, ◌^◌, ◌+ℤ◌, ℤ, pos, ap, arith, rules}
 use mir.Val.{SFits}
 use mir.Syntax.{w128}
-use Rattle.idl_names.proofs.Small.{sum_fits, sum_is}
+use Rattle.idl_scope.proofs.Small.{sum_fits, sum_is}
 use Rattle.idl_kinds.proofs.typing.count_through.Goals as goal
 
 pub overflow_add-result : goal.overflow_add-result

@@ -2,8 +2,8 @@ use Rattle.std.proofs.Common.{◌≡◌, ℕ, ℤ, suc, refl, ◌+◌, ◌-◌, 
 use Rattle.std.proofs.lemmas.Option.{slice_get_read}
 use Rattle.idl_grammar.specs.Tree.{Bound}
 use Rattle.idl_grammar.specs.Seen.{seen_bound}
-use Rattle.idl_names.specs.Seen.{known_in}
-use Rattle.idl_names.specs.Known.{Known}
+use Rattle.idl_scope.specs.Seen.{known_in}
+use Rattle.idl_scope.specs.Known.{Known}
 use Rattle.idl_kinds.specs.declared.kinds.Kind.{Kind}
 use Rattle.idl_language.specs.Types.{IdlType, Array, with_dimensions, count_of}
 use Rattle.idl_kinds.specs.Kinds.{type_at, Stands, Keeps}

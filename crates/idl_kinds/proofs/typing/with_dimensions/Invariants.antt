@@ -1,6 +1,6 @@
 use Rattle.std.proofs.Common.{◌≡◌, ◌<◌, ◌-◌, drop, length, map, option_map}
 use Rattle.idl_grammar.specs.Seen.{seen_bound}
-use Rattle.idl_names.specs.Seen.{known_in}
+use Rattle.idl_scope.specs.Seen.{known_in}
 use Rattle.idl_language.specs.Types.{with_dimensions}
 use Rattle.idl_kinds.specs.Kinds.{type_at, Keeps}
 use Rattle.idl_kinds.proofs.typing.with_dimensions.Given as goal

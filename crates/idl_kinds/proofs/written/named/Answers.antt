@@ -1,5 +1,5 @@
 use Rattle.std.proofs.Common.{◌≡◌, sym, ap, Some, ◌∙◌}
-use Rattle.idl_names.specs.Tables.{found}
+use Rattle.idl_scope.specs.Tables.{found}
 use Rattle.idl_kinds.proofs.NameLists.{named_some, named_none}
 use Rattle.idl_kinds.proofs.written.named.Goals as goal
 

@@ -1,5 +1,5 @@
 use Rattle.std.proofs.Common.{refl, sym, ◌∙◌, arith, ap}
-use Rattle.idl_names.specs.Seen.{seen_files}
+use Rattle.idl_scope.specs.Seen.{seen_files}
 use Rattle.idl_language.proofs.Ranks.{found_at, not_at, nowhere}
 use Rattle.idl_language.proofs.finder.rank.Goals as goal
 

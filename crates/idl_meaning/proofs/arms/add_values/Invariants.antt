@@ -1,6 +1,6 @@
 use Rattle.std.proofs.Common.{◌≡◌, ◌++◌, map, drop, Some}
 use Rattle.idl_grammar.specs.Seen.{seen_expr}
-use Rattle.idl_names.specs.Seen.{known_in}
+use Rattle.idl_scope.specs.Seen.{known_in}
 use Rattle.idl_language.specs.World.{value_in}
 use Rattle.idl_meaning.proofs.arms.add_values.Given as goal
 

@@ -1,5 +1,5 @@
 use Rattle.std.proofs.Common.{refl, arith}
-use Rattle.idl_names.specs.Seen.{known_in}
+use Rattle.idl_scope.specs.Seen.{known_in}
 use Rattle.idl_nodes.proofs.Gathering.{gather, gathered}
 use Rattle.idl_meaning.proofs.Making.{labels_left, labels_one, labels_cons}
 use Rattle.idl_meaning.proofs.arms.labels_in.Goals as goal

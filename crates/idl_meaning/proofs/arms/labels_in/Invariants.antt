@@ -1,5 +1,5 @@
 use Rattle.std.proofs.Common.{◌≡◌, ◌++◌, drop}
-use Rattle.idl_names.specs.Seen.{known_in}
+use Rattle.idl_scope.specs.Seen.{known_in}
 use Rattle.idl_meaning.proofs.Making.{labels_left}
 use Rattle.idl_meaning.proofs.arms.labels_in.Given as goal
 

@@ -1,6 +1,6 @@
 use Rattle.std.proofs.Common.{◌∙◌, refl, arith, map}
 use Rattle.idl_grammar.specs.Seen.{seen_label}
-use Rattle.idl_names.specs.Seen.{known_in}
+use Rattle.idl_scope.specs.Seen.{known_in}
 use Rattle.idl_nodes.proofs.Gathering.{gathered}
 use Rattle.idl_meaning.proofs.Making.{values_left, value_one, values_cons, values_same}
 use Rattle.idl_meaning.proofs.arms.labels_of.Goals as goal

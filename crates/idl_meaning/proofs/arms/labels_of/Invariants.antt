@@ -1,6 +1,6 @@
 use Rattle.std.proofs.Common.{◌≡◌, ◌++◌, map, drop}
 use Rattle.idl_grammar.specs.Seen.{seen_label}
-use Rattle.idl_names.specs.Seen.{known_in}
+use Rattle.idl_scope.specs.Seen.{known_in}
 use Rattle.idl_meaning.specs.Made.{value_said}
 use Rattle.idl_meaning.proofs.arms.labels_of.Given as goal
 

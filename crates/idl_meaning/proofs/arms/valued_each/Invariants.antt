@@ -1,5 +1,5 @@
 use Rattle.std.proofs.Common.{◌≡◌, ◌++◌, map, drop}
-use Rattle.idl_names.specs.Seen.{known_in}
+use Rattle.idl_scope.specs.Seen.{known_in}
 use Rattle.idl_meaning.specs.Made.{seen_valued}
 use Rattle.idl_meaning.proofs.Making.{arms_left}
 use Rattle.idl_meaning.proofs.arms.valued_each.Given as goal

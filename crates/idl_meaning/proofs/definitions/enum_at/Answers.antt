@@ -2,7 +2,7 @@ use Rattle.std.proofs.Common.{◌≡◌, ◌∙◌, None, map, sym, ap, subst}
 use Rattle.std.specs.Prelude.{MatchOption}
 use Rattle.nd_types.specs.declared.types.TypeDef.TheVariants as def
 use Rattle.idl_grammar.specs.Seen.{seen_type, seen_enumerator}
-use Rattle.idl_names.specs.Seen.{known_in}
+use Rattle.idl_scope.specs.Seen.{known_in}
 use Rattle.idl_language.specs.World.{number_of}
 use Rattle.idl_language.specs.Checked.{world_of}
 use Rattle.idl_language.specs.Scene.{body_of}

@@ -1,6 +1,6 @@
 use Rattle.std.proofs.Common.{◌≡◌, ◌++◌, map, drop}
 use Rattle.idl_grammar.specs.Seen.{seen_enumerator}
-use Rattle.idl_names.specs.Seen.{known_in}
+use Rattle.idl_scope.specs.Seen.{known_in}
 use Rattle.idl_language.specs.World.{number_of}
 use Rattle.idl_language.specs.Meaning.{or_zero}
 use Rattle.idl_meaning.proofs.definitions.enum_of.Given as goal

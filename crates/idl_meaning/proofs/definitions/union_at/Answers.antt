@@ -1,7 +1,7 @@
 use Rattle.std.proofs.Common.{◌≡◌, ◌∙◌, None, refl, sym, ap, subst}
 use Rattle.std.specs.Prelude.{MatchOption}
 use Rattle.idl_grammar.specs.Seen.{seen_type}
-use Rattle.idl_names.specs.Seen.{known_in}
+use Rattle.idl_scope.specs.Seen.{known_in}
 use Rattle.idl_language.specs.Checked.{world_of}
 use Rattle.idl_language.specs.Scene.{body_of}
 use Rattle.idl_meaning.specs.Made.{is_encapsulated, IsFound, scene_in}

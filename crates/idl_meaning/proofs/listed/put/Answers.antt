@@ -1,6 +1,6 @@
 use Rattle.std.proofs.Common.{◌≡◌, ◌++◌, [], ◌∷◌, length, None, true, is_some, ap, subst}
 use Rattle.std.proofs.lemmas.Result.{on_ok_weaker}
-use Rattle.idl_names.specs.Tables.{found, put}
+use Rattle.idl_scope.specs.Tables.{found, put}
 use Rattle.idl_meaning.specs.Made.{AreListed}
 use Rattle.idl_meaning.proofs.Listing.{listed_old, listed_new, lacks}
 use Rattle.idl_meaning.proofs.listed.put.Goals as goal

@@ -1,7 +1,7 @@
 use Rattle.std.proofs.Common.{◌≤◌, ◌∙◌, sym, ap, length, option_map, eq-eqb, arith}
 use Rattle.std.proofs.lemmas.Bool.{ne_eqb}
 use Rattle.std.proofs.lemmas.List.{drop_all}
-use Rattle.idl_names.specs.Seen.{seen_file, seen_files}
+use Rattle.idl_scope.specs.Seen.{seen_file, seen_files}
 use Rattle.idl_language.specs.Meaning.{main_among}
 use Rattle.idl_meaning.proofs.MainFile.{main_first, main_later, has_main}
 use Rattle.idl_meaning.proofs.meaning.main_tree.Goals as goal

@@ -1,10 +1,10 @@
 use Rattle.std.proofs.Common.{◌≡◌, ◌∙◌, ◌++◌, sym, ap, subst, Bool, not, ◌&&◌, List, map, option_map, Ok, Err, false}
 use Rattle.std.specs.List.{flat_map, list_all}
 use Rattle.idl_grammar.specs.Seen as seen
-use Rattle.idl_names.specs.Known.{walked}
-use Rattle.idl_names.specs.Kept.{is_memory, IsRight}
-use Rattle.idl_names.specs.Steps.{Step, Declare, Know}
-use Rattle.idl_names.specs.Steps as steps
+use Rattle.idl_scope.specs.Known.{walked}
+use Rattle.idl_scope.specs.Kept.{is_memory, IsRight}
+use Rattle.idl_scope.specs.Steps.{Step, Declare, Know}
+use Rattle.idl_scope.specs.Steps as steps
 use Rattle.idl_names.proofs.Walked.{both_on, later_stop, right_stop, right_on, at_fault, told_fault}
 use Rattle.idl_grammar.specs.declared.files.Export.{Export}
 use Rattle.idl_grammar.specs.declared.declarators.Declarator.{Declarator}

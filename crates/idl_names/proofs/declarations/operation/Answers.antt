@@ -1,9 +1,9 @@
 use Rattle.std.proofs.Common.{◌++◌, [], ◌∷◌, List, option_map, false}
 use Rattle.idl_grammar.specs.Seen as seen
-use Rattle.idl_names.specs.Known.{walked}
-use Rattle.idl_names.specs.Steps.{Step, Declare, Know}
-use Rattle.idl_names.specs.Steps as steps
-use Rattle.idl_names.specs.declared.meaning.Meaning.TheVariants as meaning
+use Rattle.idl_scope.specs.Known.{walked}
+use Rattle.idl_scope.specs.Steps.{Step, Declare, Know}
+use Rattle.idl_scope.specs.Steps as steps
+use Rattle.idl_scope.specs.declared.meaning.Meaning.TheVariants as meaning
 use Rattle.idl_names.proofs.Walked.{both_on, later_stop, right_stop, right_on, at_fault, told_fault}
 use Rattle.idl_names.proofs.declarations.operation.Goals as goal
 

@@ -1,9 +1,9 @@
 use Rattle.std.proofs.Common.{◌≡◌, ◌++◌, subst, Bool, List, option_map, Ok, Err, false}
 use Rattle.idl_grammar.specs.Seen as seen
-use Rattle.idl_names.specs.Known.{walked}
-use Rattle.idl_names.specs.Kept.{listed, is_memory}
-use Rattle.idl_names.specs.Steps.{Step, Declare, Know}
-use Rattle.idl_names.specs.Steps as steps
+use Rattle.idl_scope.specs.Known.{walked}
+use Rattle.idl_scope.specs.Kept.{listed, is_memory}
+use Rattle.idl_scope.specs.Steps.{Step, Declare, Know}
+use Rattle.idl_scope.specs.Steps as steps
 use Rattle.idl_names.proofs.Walked.{both_on, later_stop, right_stop, right_on, at_fault, told_fault}
 use Rattle.idl_names.proofs.declarations.parameter.Goals as goal
 

@@ -1,5 +1,5 @@
 use Rattle.std.proofs.Common.{◌≡◌, sym, subst}
-use Rattle.idl_names.specs.declared.name_fault.NameFault.{NameFault}
+use Rattle.idl_scope.specs.declared.name_fault.NameFault.{NameFault}
 use Rattle.idl_names.specs.Loads.{IsFaultOf}
 use Rattle.idl_names.proofs.Loads.{fault_within, told_is}
 use Rattle.idl_names.proofs.loading.tree_of.Goals as goal

@@ -1,5 +1,5 @@
 use Rattle.std.proofs.Common.{◌≡◌, ◌≢◌, ◌∙◌, sym}
-use Rattle.idl_names.specs.Seen.{seen_file, seen_files}
+use Rattle.idl_scope.specs.Seen.{seen_file, seen_files}
 use Rattle.idl_names.proofs.Spelled.{item_at, first_is, first_is_not}
 use Rattle.idl_names.proofs.resolving.has_ended.Goals as goal
 

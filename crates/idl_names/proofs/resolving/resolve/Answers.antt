@@ -1,7 +1,8 @@
 use Rattle.std.proofs.Common.{◌≡◌, ◌⊎◌, inl, inr, refl, sym, Ok, Err, [], ◌∷◌}
 use Rattle.idl_grammar.specs.Seen.{seen_tree}
 use Rattle.idl_names.specs.Going.{Point, point}
-use Rattle.idl_names.specs.Seen.{seen_files, seen_state}
+use Rattle.idl_scope.specs.Seen.{seen_files}
+use Rattle.idl_names.specs.Seen.{seen_state}
 use Rattle.idl_names.specs.Walk.{State, IsRefused, all_of, start}
 use Rattle.idl_names.proofs.Going.{all_went, all_stopped, at_start, at_error, asks_along}
 use Rattle.idl_names.proofs.resolving.resolve.Goals as goal

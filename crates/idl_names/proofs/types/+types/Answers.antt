@@ -1,10 +1,10 @@
 use Rattle.std.proofs.Common.{◌≡◌, ◌∙◌, ◌+◌, ◌++◌, [], sym, ap, subst, refl, arith, Bool, List, drop, map, option_map, Ok, Err, false}
 use Rattle.std.specs.List.{flat_map, list_all}
 use Rattle.idl_grammar.specs.Seen as seen
-use Rattle.idl_names.specs.Known.{walked}
-use Rattle.idl_names.specs.Kept.{listed, is_memory, IsRight}
-use Rattle.idl_names.specs.Steps.{Step, Declare, Know}
-use Rattle.idl_names.specs.Steps as steps
+use Rattle.idl_scope.specs.Known.{walked}
+use Rattle.idl_scope.specs.Kept.{listed, is_memory, IsRight}
+use Rattle.idl_scope.specs.Steps.{Step, Declare, Know}
+use Rattle.idl_scope.specs.Steps as steps
 use Rattle.idl_names.proofs.Walked.{both_on, later_stop, right_stop, right_on, at_fault, told_fault, turn, turn_fault, turns_end}
 use Rattle.idl_names.proofs.Rests as rests
 use Rattle.idl_grammar.specs.Tree as tree

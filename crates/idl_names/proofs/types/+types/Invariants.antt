@@ -1,6 +1,6 @@
 use Rattle.std.proofs.Common.{◌≡◌, [], drop}
-use Rattle.idl_names.specs.Kept.{listed}
-use Rattle.idl_names.specs.Known.{walked}
+use Rattle.idl_scope.specs.Kept.{listed}
+use Rattle.idl_scope.specs.Known.{walked}
 use Rattle.idl_names.proofs.Rests as rests
 use Rattle.idl_names.proofs.types.+types.Given as goal
 

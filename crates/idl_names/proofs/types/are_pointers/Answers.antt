@@ -3,7 +3,7 @@ use Rattle.std.proofs.lemmas.Iterator.{YieldsList-from_slice}
 use Rattle.std.proofs.lemmas.Iterator.Search.{all_from_yields_List}
 use Rattle.idl_grammar.specs.declared.declarators.Declarator.{Declarator}
 use Rattle.idl_grammar.specs.Seen as seen
-use Rattle.idl_names.specs.Steps.{is_pointer}
+use Rattle.idl_scope.specs.Steps.{is_pointer}
 use Rattle.idl_names.proofs.Rests.{all_seen}
 use Rattle.idl_names.proofs.types.are_pointers.Goals as goal
 

@@ -1,5 +1,5 @@
 use Rattle.std.proofs.Common.{◌∙◌, sym, ap, refl, arith, option_map, None}
-use Rattle.idl_names.specs.Known.{walked}
+use Rattle.idl_scope.specs.Known.{walked}
 use Rattle.idl_names.proofs.Rests as rests
 use Rattle.idl_names.proofs.Walked.{turn, turn_fault, turns_end, told_fault}
 use Rattle.idl_names.proofs.types.enumerators.Goals as goal

@@ -1,5 +1,5 @@
 use Rattle.std.proofs.Common.{◌≡◌, drop, option_map, None}
-use Rattle.idl_names.specs.Known.{walked}
+use Rattle.idl_scope.specs.Known.{walked}
 use Rattle.idl_names.proofs.Rests as rests
 use Rattle.idl_names.proofs.types.enumerators.Given as goal
 

@@ -1,8 +1,8 @@
 use Rattle.std.proofs.Common.{◌∙◌, sym, ap, arith, map, option_map}
 use Rattle.std.specs.List.{flat_map}
 use Rattle.idl_grammar.specs.Seen as seen
-use Rattle.idl_names.specs.Known.{walked}
-use Rattle.idl_names.specs.Steps as steps
+use Rattle.idl_scope.specs.Known.{walked}
+use Rattle.idl_scope.specs.Steps as steps
 use Rattle.idl_names.proofs.Walked.{next_item, no_item}
 use Rattle.idl_names.proofs.walk.dimensions.Goals as goal
 

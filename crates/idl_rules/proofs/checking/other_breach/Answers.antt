@@ -1,5 +1,5 @@
 use Rattle.std.proofs.Common.{◌≡◌, ◌∙◌, map, option_map, refl, ap, sym}
-use Rattle.idl_names.specs.Seen.{seen_files, known_in}
+use Rattle.idl_scope.specs.Seen.{seen_files, known_in}
 use Rattle.idl_language.specs.Checked.{world_of}
 use Rattle.idl_language.specs.CountRules as rules
 use Rattle.idl_language.specs.Found.{seen_breach}

@@ -1,5 +1,5 @@
 use Rattle.std.proofs.Common.{◌≡◌, ◌∙◌, ◌++◌, ap, sym}
-use Rattle.idl_names.specs.Seen.{seen_files}
+use Rattle.idl_scope.specs.Seen.{seen_files}
 use Rattle.idl_language.specs.Rules.{broken_in}
 use Rattle.idl_language.specs.DeclarationRules.{lacks_direction}
 use Rattle.idl_language.specs.TypeRules.{is_wrong_result}

@@ -1,6 +1,6 @@
 use Rattle.std.proofs.Common.{◌≡◌, ◌∙◌, ◌≤◌, length, option_map, Some, slice_get, refl, ap, sym, arith}
 use Rattle.std.proofs.lemmas.Option.{slice_get_read}
-use Rattle.idl_names.specs.Seen.{seen_files, known_in}
+use Rattle.idl_scope.specs.Seen.{seen_files, known_in}
 use Rattle.idl_types.specs.SeenTypes.{scene_seen, scoped_front}
 use Rattle.idl_language.specs.Noted.{noted}
 use Rattle.idl_language.specs.Found.{seen_breach}

@@ -1,5 +1,5 @@
 use Rattle.std.proofs.Common.{◌≡◌, option_map}
-use Rattle.idl_names.specs.Seen.{seen_files, known_in}
+use Rattle.idl_scope.specs.Seen.{seen_files, known_in}
 use Rattle.idl_language.specs.World.{World}
 use Rattle.idl_language.specs.Scene.{Scene}
 use Rattle.idl_types.specs.SeenTypes.{scene_seen, scoped_front, IsTypes}

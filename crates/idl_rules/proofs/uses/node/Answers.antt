@@ -1,6 +1,6 @@
 use Rattle.std.proofs.Common.{◌≡◌, ◌∙◌, [], ◌∷◌, option_map, refl, ap, sym, subst}
 use Rattle.idl_grammar.specs.Seen.{seen_type}
-use Rattle.idl_names.specs.Seen.{seen_files}
+use Rattle.idl_scope.specs.Seen.{seen_files}
 use Rattle.idl_language.specs.Found.{seen_breach}
 use Rattle.idl_kinds.specs.Kinds.{type_at}
 use Rattle.idl_language.specs.Nodes.{SwitchNode, EmptyArmNode, DeclaratorNode, TypeNode}

@@ -1,5 +1,5 @@
 use Rattle.std.proofs.Common.{◌≡◌, ◌∙◌, [], ◌++◌, option_map, refl, ap, ap₂, sym}
-use Rattle.idl_names.specs.Seen.{seen_files}
+use Rattle.idl_scope.specs.Seen.{seen_files}
 use Rattle.idl_language.specs.Found.{seen_breach}
 use Rattle.idl_language.specs.Rules.{broken_in}
 use Rattle.idl_language.specs.TypeRules.{is_too_deep, is_deep_body}

@@ -1,5 +1,5 @@
 use Rattle.std.proofs.Common.{◌≡◌, ◌∙◌, ◌++◌, ap, sym}
-use Rattle.idl_names.specs.Seen.{seen_files}
+use Rattle.idl_scope.specs.Seen.{seen_files}
 use Rattle.idl_language.specs.Rules.{broken_in}
 use Rattle.idl_language.specs.DeclarationRules.{is_wrongly_cased}
 use Rattle.idl_language.specs.VariableRules.{holds_nonencapsulated_union, has_wrong_switch}

@@ -1,8 +1,8 @@
 use Rattle.std.proofs.Common.{◌≡◌, ◌∙◌, List, [], ◌∷◌, map, ap, refl, arith}
 use Rattle.idl_grammar.specs.declared.types.Enumerator.{Enumerator}
 use Rattle.idl_grammar.specs.Seen.{seen_enumerator}
-use Rattle.idl_names.specs.Known.{Known}
-use Rattle.idl_names.specs.Seen.{known_in}
+use Rattle.idl_scope.specs.Known.{Known}
+use Rattle.idl_scope.specs.Seen.{known_in}
 use Rattle.idl_language.specs.World.{number_of}
 use Rattle.idl_kinds.specs.LabelValues.{is_among}
 use Rattle.idl_types.proofs.LabelTags.{holds_next, holds_all}

@@ -1,5 +1,5 @@
 use Rattle.std.proofs.Common.{map, take}
-use Rattle.idl_names.specs.Seen.{known_in}
+use Rattle.idl_scope.specs.Seen.{known_in}
 use Rattle.idl_language.specs.World.{number_of}
 use Rattle.idl_kinds.specs.LabelValues.{Holds}
 use Rattle.idl_types.proofs.enum_values.listed_values.Given as goal

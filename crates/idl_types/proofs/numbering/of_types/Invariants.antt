@@ -1,4 +1,4 @@
-use Rattle.idl_names.specs.Known.{Known}
+use Rattle.idl_scope.specs.Known.{Known}
 use Rattle.idl_types.specs.SeenTypes.{scene_seen, IsTypes}
 use Rattle.idl_types.proofs.NeededNodes.{Reaches}
 use Rattle.idl_types.proofs.numbering.of_types.Given as goal

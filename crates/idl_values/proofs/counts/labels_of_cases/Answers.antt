@@ -1,5 +1,5 @@
 use Rattle.std.proofs.Common.{◌∙◌, ℕ, ◌-◌, map, replicate, option_map, ap, sym}
-use Rattle.idl_names.specs.Seen.{seen_files}
+use Rattle.idl_scope.specs.Seen.{seen_files}
 use Rattle.idl_language.specs.Noted.{noted}
 use Rattle.idl_language.specs.Found.{seen_breach}
 use Rattle.idl_nodes.specs.SeenNodes.{seen_construct}

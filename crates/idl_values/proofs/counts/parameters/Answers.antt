@@ -1,6 +1,6 @@
 use Rattle.std.proofs.Common.{◌∙◌, refl, map, option_map, ap, sym}
 use Rattle.std.specs.List.{flat_map}
-use Rattle.idl_names.specs.Seen.{seen_files}
+use Rattle.idl_scope.specs.Seen.{seen_files}
 use Rattle.idl_language.specs.Noted.{noted}
 use Rattle.idl_language.specs.Found.{seen_breach}
 use Rattle.idl_values.specs.SeenCounts.{one_too_many, parameters_at}

@@ -1,5 +1,5 @@
 use Rattle.std.proofs.Common.{◌∙◌, ap, sym}
-use Rattle.idl_names.specs.Seen.{seen_files}
+use Rattle.idl_scope.specs.Seen.{seen_files}
 use Rattle.idl_values.specs.SeenCounts.{parts_at}
 use Rattle.idl_values.proofs.Passes.{one_counted, all_counted}
 use Rattle.idl_values.proofs.counts.parts.Goals as goal

@@ -1,6 +1,6 @@
 use Rattle.std.proofs.Common.{◌≡◌, map, option_map}
 use Rattle.std.specs.List.{flat_map}
-use Rattle.idl_names.specs.Seen.{seen_files}
+use Rattle.idl_scope.specs.Seen.{seen_files}
 use Rattle.idl_language.specs.World.{World}
 use Rattle.idl_language.specs.Noted.{noted}
 use Rattle.idl_language.specs.Found.{seen_breach}

@@ -2,7 +2,7 @@ use Rattle.std.proofs.Common.{◌∙◌, ◌-◌, map, length, option_map, ap, s
 use Rattle.std.specs.List.{flat_map}
 use Rattle.nd_types.specs.declared.TheConstants.{TYPE_LIMIT, OPERATION_LIMIT, PARAM_LIMIT, MEMBER_LIMIT}
 use Rattle.nd_types.specs.Kinds.{basic_types}
-use Rattle.idl_names.specs.Seen.{seen_files}
+use Rattle.idl_scope.specs.Seen.{seen_files}
 use Rattle.idl_language.specs.CountRules.{first_past}
 use Rattle.idl_language.specs.Rules.{breach}
 use Rattle.idl_language.specs.Noted.{noted}

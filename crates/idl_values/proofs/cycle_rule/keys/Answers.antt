@@ -1,7 +1,7 @@
 use Rattle.std.proofs.Common.{◌≡◌, ◌∙◌, ℕ, ◌+◌, ◌<◌, ◌∷◌, [], List, length, Some, slice_get, get_or, refl, ap, sym, subst, arith, rules, length-append}
 use Rattle.std.proofs.lemmas.Option.{slice_get_read}
 use Rattle.nd_base.specs.declared.octets.Place.{Place}
-use Rattle.idl_names.specs.Seen.{seen_files}
+use Rattle.idl_scope.specs.Seen.{seen_files}
 use Rattle.idl_types.specs.declared.types.BodyTypes.{BodyTypes}
 use Rattle.idl_language.specs.Nodes.{place_in}
 use Rattle.idl_language.specs.Scene.{bodies}

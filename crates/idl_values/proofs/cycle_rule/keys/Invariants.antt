@@ -1,5 +1,5 @@
 use Rattle.std.proofs.Common.{◌≡◌, length}
-use Rattle.idl_names.specs.Seen.{seen_files}
+use Rattle.idl_scope.specs.Seen.{seen_files}
 use Rattle.idl_language.specs.Scene.{Scene, bodies}
 use Rattle.idl_types.specs.SeenTypes.{IsTypes}
 use Rattle.idl_types.proofs.PlacesFilled.{Each}

@@ -1,5 +1,5 @@
 use Rattle.std.proofs.Common.{◌∙◌, ap, sym, refl, arith}
-use Rattle.idl_names.specs.Seen.{seen_files}
+use Rattle.idl_scope.specs.Seen.{seen_files}
 use Rattle.idl_nodes.specs.SeenNodes.{seen_construct}
 use Rattle.idl_kinds.specs.LabelValues.{is_among}
 use Rattle.idl_values.specs.AcceptedLabels.{accepts}

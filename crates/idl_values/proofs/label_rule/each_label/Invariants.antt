@@ -1,5 +1,5 @@
 use Rattle.std.proofs.Common.{◌≡◌, [], option_map}
-use Rattle.idl_names.specs.Seen.{seen_files}
+use Rattle.idl_scope.specs.Seen.{seen_files}
 use Rattle.idl_language.specs.World.{World}
 use Rattle.idl_nodes.specs.SeenNodes.{seen_construct}
 use Rattle.idl_language.specs.Noted.{noted}

@@ -1,6 +1,6 @@
 use Rattle.std.proofs.Common.{◌∙◌, ap, ap₂, sym, not, option_map}
 use Rattle.idl_grammar.specs.Seen.{seen_init}
-use Rattle.idl_names.specs.Seen.{seen_files, known_in}
+use Rattle.idl_scope.specs.Seen.{seen_files, known_in}
 use Rattle.idl_nodes.specs.SeenNodes.{seen_construct}
 use Rattle.idl_language.specs.Noted.{noted, if_broken}
 use Rattle.idl_language.specs.Found.{seen_breach}

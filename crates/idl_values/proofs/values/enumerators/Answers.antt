@@ -1,5 +1,5 @@
 use Rattle.std.proofs.Common.{◌∙◌, ap, ap₂, sym, refl, arith, option_map}
-use Rattle.idl_names.specs.Seen.{seen_files}
+use Rattle.idl_scope.specs.Seen.{seen_files}
 use Rattle.idl_language.specs.ValueRules.{is_large_enumerator}
 use Rattle.idl_language.specs.Nodes.{place_in}
 use Rattle.idl_nodes.specs.SeenNodes.{seen_construct}

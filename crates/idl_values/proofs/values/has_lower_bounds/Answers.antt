@@ -1,7 +1,7 @@
 use Rattle.std.proofs.Common.{◌∙◌, map, ap, sym, arith, option_map}
 use Rattle.std.specs.List.{list_any}
 use Rattle.idl_grammar.specs.Seen.{seen_bound}
-use Rattle.idl_names.specs.Seen.{known_in}
+use Rattle.idl_scope.specs.Seen.{known_in}
 use Rattle.idl_language.specs.ValueRules.{has_lower_bound}
 use Rattle.idl_nodes.proofs.AnyFrom.{found_there, not_there, nowhere}
 use Rattle.idl_values.proofs.values.has_lower_bounds.Goals as goal

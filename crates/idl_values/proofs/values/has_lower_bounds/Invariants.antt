@@ -1,7 +1,7 @@
 use Rattle.std.proofs.Common.{◌≡◌, map, option_map}
 use Rattle.std.specs.List.{list_any}
 use Rattle.idl_grammar.specs.Seen.{seen_bound}
-use Rattle.idl_names.specs.Seen.{known_in}
+use Rattle.idl_scope.specs.Seen.{known_in}
 use Rattle.idl_language.specs.ValueRules.{has_lower_bound}
 use Rattle.idl_nodes.proofs.AnyFrom.{any_from}
 use Rattle.idl_values.proofs.values.has_lower_bounds.Given as goal

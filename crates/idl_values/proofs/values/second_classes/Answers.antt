@@ -1,6 +1,6 @@
 use Rattle.std.proofs.Common.{◌∙◌, map, take, ap, ap₂, sym, refl, arith, option_map, ◌&&◌, ◌+◌}
 use Rattle.idl_grammar.specs.Seen.{seen_attribute}
-use Rattle.idl_names.specs.Seen.{seen_files}
+use Rattle.idl_scope.specs.Seen.{seen_files}
 use Rattle.idl_language.specs.AttributeRules.{is_second_class}
 use Rattle.idl_language.specs.Rules.{broken_at}
 use Rattle.idl_nodes.specs.SeenNodes.{seen_construct}

@@ -1,7 +1,0 @@
-use Rattle.std.proofs.Common.{◌∙◌, ap}
-use Rattle.idl_names.specs.Tables.{found}
-use Rattle.idl_names.proofs.Tables.{found_is}
-use Rattle.idl_names.proofs.table.Table.get.Goals as goal
-
-pub returns : goal.returns
-returns g c = c.copied.ensures ∙ (c.get.ensures.value ∙ (found_is c.args.name.now c.self.inside.entries.entries ∙ ap (λ t. found c.args.name.now t) c.self.view_is))

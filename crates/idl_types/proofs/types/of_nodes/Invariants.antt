@@ -1,7 +1,0 @@
-use Rattle.idl_names.specs.Seen.{known_in}
-use Rattle.idl_types.specs.Lookups.{AreTables}
-use Rattle.idl_types.specs.ReadTypes.{AreRead}
-use Rattle.idl_types.proofs.types.of_nodes.Given as goal
-
-abbrev pub invariant-loop-index : goal.invariant-loop-index
-invariant-loop-index l = AreRead (known_in l.scope) l.nodes l.index l.types l.names

@@ -1,0 +1,11 @@
+pub mod NotedTypes
+pub mod Agreed
+pub mod PartTypes
+pub mod ReadNames
+pub mod ReadSteps
+pub mod ReadBodies
+pub mod ReadAll
+pub mod LookupSteps
+pub mod Wanted
+pub mod VariableSteps
+pub mod ReadOperations

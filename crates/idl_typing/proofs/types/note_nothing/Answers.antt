@@ -1,0 +1,5 @@
+use Rattle.idl_typing.proofs.NotedTypes.{noted_within}
+use Rattle.idl_typing.proofs.types.note_nothing.Goals as goal
+
+pub returns-clause-within : goal.returns-clause-within
+returns-clause-within c = noted_within c.add.new.self c.in_ok-of.of _ c.note.result c.in_ok-of.ensures.stands c.note.ensures
