@@ -1,5 +1,5 @@
 #!/usr/bin/env python3
-"""Measures graphs by the program crates/graph_bench: nanoseconds a node at two sizes, the growth of the time, and peak memory.
+"""Measures graphs by the program crates/bench_graph: nanoseconds a node at two sizes, the growth of the time, and peak memory.
 
     bench/graphs.py                  builds the program if it is not there, and measures it
     bench/graphs.py --cells N        the larger size; the smaller one has a tenth (default 2,000,000)
@@ -16,8 +16,8 @@ import subprocess
 import sys
 
 ROOT = os.path.dirname(os.path.dirname(os.path.abspath(__file__)))
-CRATE = os.path.join(ROOT, "crates", "graph_bench")
-PROGRAM = os.path.join(CRATE, "out", "graph_bench")
+CRATE = os.path.join(ROOT, "crates", "bench_graph")
+PROGRAM = os.path.join(CRATE, "out", "bench_graph")
 # a node of a fit has 24 octets, and so has a cell
 NODE_OCTETS = 24
 FORMS = ("list", "unnamed", "misfit", "pointers")

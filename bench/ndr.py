@@ -1,5 +1,5 @@
 #!/usr/bin/env python3
-"""Measures `decode`, `Work::for_graph` and `encode_with` by the program crates/ndr_bench: nanoseconds an item for five works at two sizes, beside a copy of the octets, and the peak
+"""Measures `decode`, `Work::for_graph` and `encode_with` by the program crates/bench_ndr: nanoseconds an item for five works at two sizes, beside a copy of the octets, and the peak
 memory of decoding beyond that of an empty run, where the octets come straight from the input.
 
     bench/ndr.py                 builds the program if it is not there, and measures it
@@ -27,8 +27,8 @@ import sys
 import tempfile
 
 ROOT = os.path.dirname(os.path.dirname(os.path.abspath(__file__)))
-CRATE = os.path.join(ROOT, "crates", "ndr_bench")
-PROGRAM = os.path.join(CRATE, "out", "ndr_bench")
+CRATE = os.path.join(ROOT, "crates", "bench_ndr")
+PROGRAM = os.path.join(CRATE, "out", "bench_ndr")
 MOST_GROWTH = 3.0
 IDL = """[uuid(5c8a1f10-7b0e-4d3a-9a52-0c1de0000005), version(1.0), pointer_default(unique)]
 interface bn {

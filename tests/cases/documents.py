@@ -200,7 +200,7 @@ def wrong_places(text: str) -> Iterator[str]:
 
 def wrong_examples() -> Iterator[str]:
     """The worked examples that docs/NDR.md names and that are not there."""
-    paths = [f"crates/ndr_worked/{path}" for path in ("src/*.rt", "proofs/**/*.antt")]
+    paths = [f"crates/example_ndr/{path}" for path in ("src/*.rt", "proofs/**/*.antt")]
     held = "".join(file.read_text(encoding="utf-8") for path in paths for file in ROOT.glob(path))
     for mark in re.findall(r"\*\*Example\*\*((?: |\n)+`\w+`(?:,(?: |\n)+`\w+`)*)", page("NDR.md")):
         for name in SPAN.findall(mark):

@@ -1,7 +1,7 @@
 """Rules of the language: counts, and which of several is reported.
 
 The smallest text that breaks each rule, and one near it that breaks none, are in docs/IDL.md (documents.py runs them), and are judged by
-proof too (`idl_examples: small_texts_are_judged`). The limits of other rules are in limits.py.
+proof too (`example_idl: small_texts_are_judged`). The limits of other rules are in limits.py.
 """
 
 from typing import Optional

@@ -5,7 +5,7 @@ from case import CLOSED, FULL, Case, lines, octets
 SAMPLED = lines("cells 2", "octets 28", "sum 178", "same yes")
 
 
-# The text of the interface that the sample has (`sample_graph: interface`), and its listing.
+# The text of the interface that the sample has (`command_sample: interface`), and its listing.
 TEXT = b"""[local] interface sample {
   typedef struct node { long v; [ptr] struct node *left; [ptr] struct node *right; } node;
   void take([in, ptr] node *root);

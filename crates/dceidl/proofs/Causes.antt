@@ -11,19 +11,19 @@ use Rattle.dceidl.specs.declared.ready.Ready.{Ready}
 use Rattle.ndr_pipe.specs.End.{EndSeen}
 use Rattle.ndr_pipe.specs.Ends.{EndsSeen}
 use Rattle.dceidl.specs.Asked.{AsksEnds}
-use Rattle.dceidl_words.specs.declared.command.OrderWord.{OrderWord}
-use Rattle.dceidl_words.specs.declared.command.Task.{Task}
+use Rattle.command_line.specs.declared.command.OrderWord.{OrderWord}
+use Rattle.command_line.specs.declared.command.Task.{Task}
 use Rattle.dceidl.specs.Seen.{Seen}
-use Rattle.dceidl_words.specs.Words.{Subject, Values}
+use Rattle.command_line.specs.Words.{Subject, Values}
 use Rattle.dceidl.specs.Causes.{IsMade, IsCause}
 use Rattle.text_grammar.specs.declared.TheConstants.{TEXT_LIMIT}
-use Rattle.text_fitting.specs.Fitted.{IsTextCause}
+use Rattle.command_text.specs.Fitted.{IsTextCause}
 use Rattle.dceidl.specs.Encode.{IsLabelledEncoding, IsEncodingCause, IsMigration}
-use Rattle.refusals.specs.declared.refusal.Refusal.{Refusal}
-use Rattle.refusals.specs.declared.refusal.Refusal.TheVariants.{Memory, Absent, FileFailed, BadIdl, NoOperation, ReadFault, BadOctets, BadText, BadValue, TooLong, BadRequest, BadLabel, ShortLabel, TooFewEnds, EndFailed}
+use Rattle.command_refusals.specs.declared.refusal.Refusal.{Refusal}
+use Rattle.command_refusals.specs.declared.refusal.Refusal.TheVariants.{Memory, Absent, FileFailed, BadIdl, NoOperation, ReadFault, BadOctets, BadText, BadValue, TooLong, BadRequest, BadLabel, ShortLabel, TooFewEnds, EndFailed}
 use Rattle.nd_base.specs.Over.{FilesSeen, SourceSeen}
 use Rattle.dceidl.specs.Ready.{IsFound, IsReady, IsReadyCause, IsNotFound}
-use Rattle.idl_compiler.specs.Compiled.{IsCompiled, IsIdlCause}
+use Rattle.command_compile.specs.Compiled.{IsCompiled, IsIdlCause}
 use Rattle.dceidl.specs.Input.{AreRead, OfText, IsMadeOf, IsTaskCause, IsInputTextCause, IsInputEncodingCause}
 
 item_at : {X : Type 0} (xs : List X) (i : ℕ) → i < length xs → (x : X) × (slice_get xs i ≡ Some x)

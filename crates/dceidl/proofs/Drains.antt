@@ -7,15 +7,15 @@ use Rattle.nd_base.specs.declared.octets.Order.{Order}
 use Rattle.nd_base.specs.Counts.{Rose}
 use Rattle.nd_base.specs.Over.{SourceSeen, HasRisen}
 use Rattle.nd_value.specs.Setting.{Setting, root_list}
-use Rattle.ndr_parts.specs.Parts.{Spot, Part, after}
+use Rattle.ndr_drain_laws.specs.parts.Parts.{Spot, Part, after}
 use Rattle.ndr_pipe.specs.End.{EndSeen}
 use Rattle.ndr_pipe.specs.Ends.{EndsSeen, change_at}
 use Rattle.ndr_drain.specs.Given.{pipe_count, end_of_root, end_after, ends_after}
-use Rattle.ndr_draining.specs.Printed.{IsPrinted, IsDrainRefusal}
-use Rattle.ndr_printing.proofs.Steps.{refused_is}
-use Rattle.refusals.specs.declared.refusal.Refusal.{Refusal}
-use Rattle.refusals.specs.declared.refusal.Refusal.TheVariants.{Memory, Absent, FileFailed, BadIdl, NoOperation, ReadFault, BadOctets, BadText, BadValue, TooLong, BadRequest, BadLabel, ShortLabel, TooFewEnds, EndFailed}
-use Rattle.refusals.specs.declared.refusal.OctetsFault.TheVariants.{Refused, Trailing}
+use Rattle.command_drain.specs.Printed.{IsPrinted, IsDrainRefusal}
+use Rattle.command_decode.proofs.Steps.{refused_is}
+use Rattle.command_refusals.specs.declared.refusal.Refusal.{Refusal}
+use Rattle.command_refusals.specs.declared.refusal.Refusal.TheVariants.{Memory, Absent, FileFailed, BadIdl, NoOperation, ReadFault, BadOctets, BadText, BadValue, TooLong, BadRequest, BadLabel, ShortLabel, TooFewEnds, EndFailed}
+use Rattle.command_refusals.specs.declared.refusal.OctetsFault.TheVariants.{Refused, Trailing}
 use Rattle.dceidl.specs.Rows.{AreGiven, AreSound, EndRose}
 use Rattle.dceidl.proofs.OneReading.{IsOctetsCause, refused_here, trailing_here}
 

@@ -6,32 +6,32 @@ use Rattle.nd_value.specs.Setting.{Setting}
 use Rattle.nd_grammar.specs.LegalSide.{IsLegalSide}
 use Rattle.text_grammar.specs.declared.TheConstants.{TEXT_LIMIT}
 use Rattle.ndr_pipe.specs.Ends.{EndsSeen}
-use Rattle.dceidl_words.specs.declared.command.Reading.{Reading}
-use Rattle.dceidl_words.specs.declared.command.Reading.TheVariants.{Decode, Explain, Drain}
-use Rattle.dceidl_words.specs.declared.command.OrderWord.{OrderWord}
-use Rattle.dceidl_words.specs.declared.command.OrderWord.TheVariants.{Fixed, Label}
-use Rattle.dceidl_words.specs.declared.command.Task.{Task}
-use Rattle.dceidl_words.specs.declared.command.Task.TheVariants.{Read, Encode, Migrate}
-use Rattle.refusals.specs.declared.refusal.OctetsFault.{OctetsFault}
-use Rattle.refusals.specs.declared.refusal.Refusal.{Refusal}
-use Rattle.refusals.specs.declared.refusal.Refusal.TheVariants.{Memory, Absent, FileFailed, BadIdl, NoOperation, ReadFault, BadOctets, BadText, BadValue, TooLong, BadRequest, BadLabel, ShortLabel, TooFewEnds, EndFailed}
-use Rattle.refusals.specs.declared.refusal.OctetsFault.TheVariants.{Refused, Trailing}
-use Rattle.refusals.specs.declared.refusal.RequestFault.{RequestFault}
-use Rattle.refusals.specs.Lines.{status_of, line_of}
+use Rattle.command_line.specs.declared.command.Reading.{Reading}
+use Rattle.command_line.specs.declared.command.Reading.TheVariants.{Decode, Explain, Drain}
+use Rattle.command_line.specs.declared.command.OrderWord.{OrderWord}
+use Rattle.command_line.specs.declared.command.OrderWord.TheVariants.{Fixed, Label}
+use Rattle.command_line.specs.declared.command.Task.{Task}
+use Rattle.command_line.specs.declared.command.Task.TheVariants.{Read, Encode, Migrate}
+use Rattle.command_refusals.specs.declared.refusal.OctetsFault.{OctetsFault}
+use Rattle.command_refusals.specs.declared.refusal.Refusal.{Refusal}
+use Rattle.command_refusals.specs.declared.refusal.Refusal.TheVariants.{Memory, Absent, FileFailed, BadIdl, NoOperation, ReadFault, BadOctets, BadText, BadValue, TooLong, BadRequest, BadLabel, ShortLabel, TooFewEnds, EndFailed}
+use Rattle.command_refusals.specs.declared.refusal.OctetsFault.TheVariants.{Refused, Trailing}
+use Rattle.command_refusals.specs.declared.refusal.RequestFault.{RequestFault}
+use Rattle.command_refusals.specs.Lines.{status_of, line_of}
 use Rattle.nd_grammar.specs.Represents.{Represents}
 use Rattle.ndr_drain.specs.Given.{pipe_count}
-use Rattle.ndr_draining.specs.Printed as draining
-use Rattle.ndr_draining.specs.Printed.{IsDrainRefusal}
-use Rattle.ndr_explaining.specs.Explanations.{IsExplained}
-use Rattle.ndr_printing.specs.Printed.{IsPrinted, IsInputCause}
-use Rattle.text_fitting.specs.Fitted.{IsTextCause}
-use Rattle.text_fitting.proofs.OneText.{good_cause, fault_cause, misfit_cause}
+use Rattle.command_drain.specs.Printed as draining
+use Rattle.command_drain.specs.Printed.{IsDrainRefusal}
+use Rattle.command_explain.specs.Explanations.{IsExplained}
+use Rattle.command_decode.specs.Printed.{IsPrinted, IsInputCause}
+use Rattle.command_text.specs.Fitted.{IsTextCause}
+use Rattle.command_text.proofs.OneText.{good_cause, fault_cause, misfit_cause}
 use Rattle.dceidl.specs.Causes.{IsMade, IsCause}
 use Rattle.dceidl.specs.Encode.{IsLabelledEncoding, IsLongEncoding, IsEncodingCause, IsMigration}
 use Rattle.dceidl.specs.Input.{OfText, IsMadeOf, IsTaskCause, IsInputTextCause, IsInputEncodingCause}
 use Rattle.dceidl.specs.Rows.{IsSound, AreAccepted, IsInput, AreGiven, AreGivenIn, IsRefusedAt, HasEnds, CanBeMade, MustBeUnready, MustBeNoRequest, MustBeNoLabel, MustBeNoOctets, MustBeNoText, MustBeNoEncoding, MustBeNoInput, CanBeDone, MustBeRefused, IsCompleted, Refuses}
 use Rattle.dceidl.specs.Seen.{Seen}
-use Rattle.dceidl_words.specs.Words.{Command, Subject, Values, Compile, Plan, Sample, Help, Version, idl_of, op_of, order_in}
+use Rattle.command_line.specs.Words.{Command, Subject, Values, Compile, Plan, Sample, Help, Version, idl_of, op_of, order_in}
 use Rattle.dceidl.proofs.HeldFiles.{compiled_cause, no_idl, no_idl_cause}
 use Rattle.dceidl.proofs.OneInput.{same_octets}
 use Rattle.dceidl.proofs.Labels.{given_after, one_order, never_unopened, bad_opened, bad_cause, short_opened, short_cause}

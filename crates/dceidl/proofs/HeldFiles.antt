@@ -13,15 +13,15 @@ use Rattle.nd_value.specs.Setting.{Setting}
 use Rattle.nd_value.specs.Fitting.{setting_of}
 use Rattle.nd_types.specs.Meant.{Meant}
 use Rattle.nd_types.specs.Meant.{meant_by}
-use Rattle.refusals.specs.declared.refusal.IdlReason.{IdlReason}
-use Rattle.refusals.specs.declared.refusal.Refusal.{Refusal}
-use Rattle.refusals.specs.declared.refusal.Refusal.TheVariants.{Memory, Absent, FileFailed, BadIdl, NoOperation, ReadFault, BadOctets, BadText, BadValue, TooLong, BadRequest, BadLabel, ShortLabel, TooFewEnds, EndFailed}
-use Rattle.dceidl_words.specs.Words.{Subject}
-use Rattle.idl_compiler.specs.Idl.{Means, IsIdlFault, IsDueAfter, IsDueFile}
+use Rattle.command_refusals.specs.declared.refusal.IdlReason.{IdlReason}
+use Rattle.command_refusals.specs.declared.refusal.Refusal.{Refusal}
+use Rattle.command_refusals.specs.declared.refusal.Refusal.TheVariants.{Memory, Absent, FileFailed, BadIdl, NoOperation, ReadFault, BadOctets, BadText, BadValue, TooLong, BadRequest, BadLabel, ShortLabel, TooFewEnds, EndFailed}
+use Rattle.command_line.specs.Words.{Subject}
+use Rattle.command_compile.specs.Idl.{Means, IsIdlFault, IsDueAfter, IsDueFile}
 use Rattle.dceidl.specs.Ready.{IsNamed, IsReady, IsReadyCause}
-use Rattle.idl_compiler.specs.Compiled.{IsCompiled, IsIdlCause}
+use Rattle.command_compile.specs.Compiled.{IsCompiled, IsIdlCause}
 use Rattle.dceidl.specs.Rows.{IsHeld, IsAccepted, MustBeNoIdl, MustBeUnready}
-use Rattle.idl_compiler.proofs.OneMeaning.{IsBad, means_one, never_both, one_bad, absent_or_means, absent_or_bad}
+use Rattle.command_compile.proofs.OneMeaning.{IsBad, means_one, never_both, one_bad, absent_or_means, absent_or_bad}
 
 abbrev Contents : Type 0
 Contents = Option (List ℕ → Option (List ℕ))

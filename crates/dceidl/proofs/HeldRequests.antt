@@ -5,14 +5,14 @@ use Rattle.nd_types.specs.declared.types.Side.TheVariants.{In}
 use Rattle.nd_value.specs.declared.value.Graph.{Graph}
 use Rattle.nd_value.specs.Setting.{Setting}
 use Rattle.nd_grammar.specs.LegalSide.{IsLegalSide}
-use Rattle.refusals.specs.declared.refusal.Refusal.{Refusal}
-use Rattle.refusals.specs.declared.refusal.Refusal.TheVariants.{Memory, Absent, FileFailed, BadIdl, NoOperation, ReadFault, BadOctets, BadText, BadValue, TooLong, BadRequest, BadLabel, ShortLabel, TooFewEnds, EndFailed}
-use Rattle.refusals.specs.declared.refusal.RequestFault.{RequestFault}
-use Rattle.text_fitting.specs.Request.{inputs, beside, IsRequestText, IsRequestFault, HoldsRequest, HoldsNoRequest}
-use Rattle.text_fitting.proofs.OneText.{request_or_fault, one_request, one_request_fault}
+use Rattle.command_refusals.specs.declared.refusal.Refusal.{Refusal}
+use Rattle.command_refusals.specs.declared.refusal.Refusal.TheVariants.{Memory, Absent, FileFailed, BadIdl, NoOperation, ReadFault, BadOctets, BadText, BadValue, TooLong, BadRequest, BadLabel, ShortLabel, TooFewEnds, EndFailed}
+use Rattle.command_refusals.specs.declared.refusal.RequestFault.{RequestFault}
+use Rattle.command_text.specs.Request.{inputs, beside, IsRequestText, IsRequestFault, HoldsRequest, HoldsNoRequest}
+use Rattle.command_text.proofs.OneText.{request_or_fault, one_request, one_request_fault}
 use Rattle.dceidl.specs.Ready.{IsReady, IsReadyCause, IsReadyBeside, IsUnreadyBeside, IsAllReady, IsUnready, HasAsked, up_to}
 use Rattle.dceidl.specs.Rows.{IsHeld, IsAccepted, IsAcceptedBeside, AreAccepted, MustBeUnready, MustBeNoRequest}
-use Rattle.dceidl_words.specs.Words.{Subject}
+use Rattle.command_line.specs.Words.{Subject}
 use Rattle.dceidl.proofs.HeldFiles.{held_only, held_there, one_setting, accepted_cause, unready, unready_cause}
 use Rattle.dceidl.proofs.Sides.{legal_side_of}
 

@@ -7,16 +7,16 @@ use Rattle.nd_base.specs.Counts.{Rose}
 use Rattle.nd_base.specs.Over.{SourceSeen, HasRisen}
 use Rattle.nd_base.proofs.Rising.{rose_later}
 use Rattle.nd_value.specs.Setting.{Setting}
-use Rattle.ndr_label.specs.Label.{HasLabel, IsShortLabel, IsLabelCause}
+use Rattle.command_label.specs.Label.{HasLabel, IsShortLabel, IsLabelCause}
 use Rattle.ndr_pipe.specs.Ends.{EndsSeen}
 use Rattle.ndr_prim.specs.declared.label.LabelFault.{LabelFault}
 use Rattle.ndr_prim.specs.Label.{order_of_label}
-use Rattle.refusals.specs.declared.refusal.Refusal.{Refusal}
-use Rattle.refusals.specs.declared.refusal.Refusal.TheVariants.{Memory, Absent, FileFailed, BadIdl, NoOperation, ReadFault, BadOctets, BadText, BadValue, TooLong, BadRequest, BadLabel, ShortLabel, TooFewEnds, EndFailed}
-use Rattle.dceidl_words.specs.declared.command.Reading.{Reading}
-use Rattle.dceidl_words.specs.declared.command.OrderWord.{OrderWord}
-use Rattle.dceidl_words.specs.declared.command.OrderWord.TheVariants.{Fixed, Label}
-use Rattle.dceidl_words.specs.declared.command.Task.TheVariants.{Read}
+use Rattle.command_refusals.specs.declared.refusal.Refusal.{Refusal}
+use Rattle.command_refusals.specs.declared.refusal.Refusal.TheVariants.{Memory, Absent, FileFailed, BadIdl, NoOperation, ReadFault, BadOctets, BadText, BadValue, TooLong, BadRequest, BadLabel, ShortLabel, TooFewEnds, EndFailed}
+use Rattle.command_line.specs.declared.command.Reading.{Reading}
+use Rattle.command_line.specs.declared.command.OrderWord.{OrderWord}
+use Rattle.command_line.specs.declared.command.OrderWord.TheVariants.{Fixed, Label}
+use Rattle.command_line.specs.declared.command.Task.TheVariants.{Read}
 use Rattle.dceidl.specs.Input.{IsAfterLabel, IsOpened, IsUnopened, IsMadeReading, IsReadingCause, IsMadeOf, IsTaskCause}
 use Rattle.dceidl.specs.Rows.{AreGiven, AreGivenIn}
 use Rattle.dceidl.proofs.OneInput.{split_by, take_front}

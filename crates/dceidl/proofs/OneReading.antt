@@ -10,17 +10,17 @@ use Rattle.nd_grammar.specs.LegalSide.{IsLegalSide}
 use Rattle.nd_grammar.specs.Represents.{Represents}
 use Rattle.nd_grammar.proofs.ReaderLaws.{never_both, one_beginning}
 use Rattle.nd_grammar.proofs.OneRefusal.{one_bad}
-use Rattle.refusals.specs.declared.refusal.Refusal.{Refusal}
-use Rattle.refusals.specs.declared.refusal.Refusal.TheVariants.{Memory, Absent, FileFailed, BadIdl, NoOperation, ReadFault, BadOctets, BadText, BadValue, TooLong, BadRequest, BadLabel, ShortLabel, TooFewEnds, EndFailed}
-use Rattle.refusals.specs.declared.refusal.OctetsFault.{OctetsFault}
-use Rattle.refusals.specs.declared.refusal.OctetsFault.TheVariants as fault
+use Rattle.command_refusals.specs.declared.refusal.Refusal.{Refusal}
+use Rattle.command_refusals.specs.declared.refusal.Refusal.TheVariants.{Memory, Absent, FileFailed, BadIdl, NoOperation, ReadFault, BadOctets, BadText, BadValue, TooLong, BadRequest, BadLabel, ShortLabel, TooFewEnds, EndFailed}
+use Rattle.command_refusals.specs.declared.refusal.OctetsFault.{OctetsFault}
+use Rattle.command_refusals.specs.declared.refusal.OctetsFault.TheVariants as fault
 use Rattle.nd_base.specs.Over.{SourceSeen, HasRisen}
 use Rattle.nd_grammar.specs.declared.reason.Reason.{Reason}
 use Rattle.nd_grammar.specs.declared.reason.Reason.TheVariants as reason
 use Rattle.nd_grammar.specs.Bad.{Bad}
-use Rattle.ndr_verdict.specs.Verdict.{MayFollow}
+use Rattle.ndr_decoder_laws.specs.verdict.Verdict.{MayFollow}
 use Rattle.std.specs.Io.KnownBytes.{IsAtEnd}
-use Rattle.ndr_printing.specs.Printed.{IsWhole, IsRefusedInput, IsTrailedInput}
+use Rattle.command_decode.specs.Printed.{IsWhole, IsRefusedInput, IsTrailedInput}
 use Rattle.dceidl.specs.Rows.{IsRefusedAt, IsTrailing, AreGiven}
 use Rattle.dceidl.proofs.OneInput.{split_input, take_front}
 use Rattle.dceidl.proofs.Sides.{whole_begins}

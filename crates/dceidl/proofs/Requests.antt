@@ -10,18 +10,18 @@ use Rattle.nd_types.specs.declared.interface.Interface.{Interface}
 use Rattle.nd_types.specs.declared.types.Operation.{Operation}
 use Rattle.nd_value.specs.declared.value.Graph.{Graph}
 use Rattle.nd_value.specs.Setting.{Setting}
-use Rattle.refusals.specs.declared.refusal.Refusal.{Refusal}
-use Rattle.refusals.specs.declared.refusal.Refusal.TheVariants.{Memory, Absent, FileFailed, BadIdl, NoOperation, ReadFault, BadOctets, BadText, BadValue, TooLong, BadRequest, BadLabel, ShortLabel, TooFewEnds, EndFailed}
-use Rattle.text_fitting.specs.Request.{beside, HoldsRequest, HoldsNoRequest}
-use Rattle.idl_compiler.specs.Asked.{AsksFiles, AreAsked, all_due}
+use Rattle.command_refusals.specs.declared.refusal.Refusal.{Refusal}
+use Rattle.command_refusals.specs.declared.refusal.Refusal.TheVariants.{Memory, Absent, FileFailed, BadIdl, NoOperation, ReadFault, BadOctets, BadText, BadValue, TooLong, BadRequest, BadLabel, ShortLabel, TooFewEnds, EndFailed}
+use Rattle.command_text.specs.Request.{beside, HoldsRequest, HoldsNoRequest}
+use Rattle.command_compile.specs.Asked.{AsksFiles, AreAsked, all_due}
 use Rattle.ndr_pipe.specs.Ends.{EndsSeen}
-use Rattle.dceidl_words.specs.declared.command.Task.{Task}
+use Rattle.command_line.specs.declared.command.Task.{Task}
 use Rattle.dceidl.specs.Asked.{AsksRequest}
 use Rattle.dceidl.specs.Causes.{IsMade, IsCause}
 use Rattle.dceidl.specs.Input.{IsMadeOf, IsTaskCause, IsMadeBeside, IsBesideCause}
 use Rattle.dceidl.specs.Ready.{IsFound, IsReady, HasAsked, up_to}
 use Rattle.dceidl.specs.Seen.{seen_over}
-use Rattle.dceidl_words.specs.Words.{Subject, Values}
+use Rattle.command_line.specs.Words.{Subject, Values}
 
 -- files over one part of a run and then over the next
 abbrev pub both_parts : FilesSeen → FilesSeen → FilesSeen

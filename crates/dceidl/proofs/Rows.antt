@@ -5,11 +5,11 @@ use Rattle.nd_base.specs.Outside.{IsMissing}
 use Rattle.nd_base.specs.Over.{FilesSeen, SourceSeen, SinkSeen, HasRisen, Got}
 use Rattle.dceidl.specs.declared.outcome.Outcome.{Outcome}
 use Rattle.dceidl.specs.declared.outcome.Outcome.TheVariants.{Done, Refused, Wanting}
-use Rattle.refusals.specs.declared.refusal.Refusal.{Refusal}
-use Rattle.refusals.specs.declared.refusal.Refusal.TheVariants.{Memory, Absent, FileFailed, BadIdl, NoOperation, ReadFault, BadOctets, BadText, BadValue, TooLong, BadRequest, BadLabel, ShortLabel, TooFewEnds, EndFailed}
+use Rattle.command_refusals.specs.declared.refusal.Refusal.{Refusal}
+use Rattle.command_refusals.specs.declared.refusal.Refusal.TheVariants.{Memory, Absent, FileFailed, BadIdl, NoOperation, ReadFault, BadOctets, BadText, BadValue, TooLong, BadRequest, BadLabel, ShortLabel, TooFewEnds, EndFailed}
 use Rattle.dceidl.specs.Causes.{IsMade, IsCause, statuses_of, values_statuses}
-use Rattle.refusals.specs.Lines.{status_of, line_of}
-use Rattle.idl_compiler.specs.Compiled.{IsIdlCause}
+use Rattle.command_refusals.specs.Lines.{status_of, line_of}
+use Rattle.command_compile.specs.Compiled.{IsIdlCause}
 use Rattle.dceidl.specs.Asked.{IsRequestDue, asks_files, asks_input, drains}
 use Rattle.dceidl.proofs.Drains.{refused_rose}
 use Rattle.nd_base.specs.Counts.{Rose}
@@ -18,17 +18,17 @@ use Rattle.dceidl.specs.Input.{IsOpened, IsTaskCause}
 use Rattle.dceidl.specs.Ready.{HasAsked}
 use Rattle.ndr_pipe.specs.Ends.{EndsSeen}
 use Rattle.nd_base.specs.declared.octets.Order.{Order}
-use Rattle.dceidl_words.specs.declared.command.Reading.{Reading}
-use Rattle.dceidl_words.specs.declared.command.Reading.TheVariants.{Decode, Explain, Drain}
-use Rattle.dceidl_words.specs.declared.command.OrderWord.{OrderWord}
-use Rattle.dceidl_words.specs.declared.command.OrderWord.TheVariants.{Fixed, Label}
-use Rattle.dceidl_words.specs.declared.command.Task.{Task}
-use Rattle.dceidl_words.specs.declared.command.Task.TheVariants.{Read, Encode, Migrate}
+use Rattle.command_line.specs.declared.command.Reading.{Reading}
+use Rattle.command_line.specs.declared.command.Reading.TheVariants.{Decode, Explain, Drain}
+use Rattle.command_line.specs.declared.command.OrderWord.{OrderWord}
+use Rattle.command_line.specs.declared.command.OrderWord.TheVariants.{Fixed, Label}
+use Rattle.command_line.specs.declared.command.Task.{Task}
+use Rattle.command_line.specs.declared.command.Task.TheVariants.{Read, Encode, Migrate}
 use Rattle.dceidl.specs.Rows.{IsOneOf, IsDone, IsRefusedWith, ReadsInput, IsDueOf, IsDueRequest, IsDueAndMissing, IsDueAndReported, EndRose, IsEndReported, HasNotFailed}
 use Rattle.dceidl.specs.Run.{HasRun, IsOutcome, IsCommandOutcome, IsDelivered}
 use Rattle.dceidl.specs.Seen.{Seen}
 use Rattle.nd_value.specs.Setting.{Setting}
-use Rattle.dceidl_words.specs.Words.{Command, Subject, Values, Compile, Plan, Sample, Help, Version, command, idl_of, op_of}
+use Rattle.command_line.specs.Words.{Command, Subject, Values, Compile, Plan, Sample, Help, Version, command, idl_of, op_of}
 
 -- a refusal has none of the statuses 0, 2 and 4
 pub not_zero : (r : Refusal) → status_of r ≡ 0 → ⊥

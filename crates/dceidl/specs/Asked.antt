@@ -5,13 +5,13 @@ use Rattle.nd_base.specs.Over.{FilesSeen, SourceSeen, AreUntouched, IsUntouched}
 use Rattle.nd_types.specs.declared.interface.Interface.{Interface}
 use Rattle.nd_types.specs.Operations.{operation_named}
 use Rattle.dceidl.specs.Seen.{Seen}
-use Rattle.dceidl_words.specs.Words.{Command, Subject, Values, Compile, Plan, Sample, Help, Version}
-use Rattle.dceidl_words.specs.declared.command.Reading.TheVariants.{Decode, Explain, Drain}
-use Rattle.dceidl_words.specs.declared.command.Task.{Task}
-use Rattle.dceidl_words.specs.declared.command.Task.TheVariants.{Read, Encode, Migrate}
-use Rattle.idl_compiler.specs.Asked.{AsksFiles, FileNames, AreAsked, all_due}
+use Rattle.command_line.specs.Words.{Command, Subject, Values, Compile, Plan, Sample, Help, Version}
+use Rattle.command_line.specs.declared.command.Reading.TheVariants.{Decode, Explain, Drain}
+use Rattle.command_line.specs.declared.command.Task.{Task}
+use Rattle.command_line.specs.declared.command.Task.TheVariants.{Read, Encode, Migrate}
+use Rattle.command_compile.specs.Asked.{AsksFiles, FileNames, AreAsked, all_due}
 use Rattle.ndr_pipe.specs.Ends.{EndsSeen, AreAsBefore}
-use Rattle.idl_compiler.specs.Idl.{Means}
+use Rattle.command_compile.specs.Idl.{Means}
 
 -- the files that a command asks for, if it asks for any
 abbrev pub asks_files : Command → Option FileNames

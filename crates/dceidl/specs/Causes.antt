@@ -5,13 +5,13 @@ use Rattle.nd_value.specs.Setting.{Setting}
 use Rattle.ndr_pipe.specs.Ends.{AreAsBefore}
 use Rattle.dceidl.specs.Asked.{drains}
 use Rattle.dceidl.specs.Input.{IsMadeOf, IsTaskCause}
-use Rattle.idl_compiler.specs.Compiled.{IsListed, IsPlanned, IsIdlCause}
+use Rattle.command_compile.specs.Compiled.{IsListed, IsPlanned, IsIdlCause}
 use Rattle.dceidl.specs.Ready.{IsAllReady, IsUnready}
 use Rattle.dceidl.specs.Seen.{Seen}
-use Rattle.dceidl_words.specs.Words.{Command, Values, Compile, Plan, Sample, Help, Version}
-use Rattle.ndr_sample.specs.Summary.{sample_lines}
-use Rattle.refusals.specs.declared.refusal.Refusal.{Refusal}
-use Rattle.refusals.specs.declared.refusal.Refusal.TheVariants.{Memory}
+use Rattle.command_line.specs.Words.{Command, Values, Compile, Plan, Sample, Help, Version}
+use Rattle.command_sample.specs.Summary.{sample_lines}
+use Rattle.command_refusals.specs.declared.refusal.Refusal.{Refusal}
+use Rattle.command_refusals.specs.declared.refusal.Refusal.TheVariants.{Memory}
 use Rattle.dceidl.specs.declared.TheConstants.{HELP, VERSION}
 
 -- a command makes this text

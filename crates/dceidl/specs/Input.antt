@@ -6,23 +6,23 @@ use Rattle.nd_base.specs.declared.octets.Order.{Order}
 use Rattle.text_grammar.specs.declared.TheConstants.{TEXT_LIMIT}
 use Rattle.nd_value.specs.declared.value.Graph.{Graph}
 use Rattle.nd_value.specs.Setting.{Setting}
-use Rattle.ndr_draining.specs.Printed as draining
-use Rattle.ndr_explaining.specs.Explanations.{IsExplained}
-use Rattle.ndr_printing.specs.Printed.{IsPrinted, IsInputCause}
-use Rattle.text_fitting.specs.Fitted.{IsTextCause}
-use Rattle.text_fitting.specs.Request.{beside, HoldsRequest, HoldsNoRequest}
-use Rattle.ndr_label.specs.Label.{IsLabelCause}
+use Rattle.command_drain.specs.Printed as draining
+use Rattle.command_explain.specs.Explanations.{IsExplained}
+use Rattle.command_decode.specs.Printed.{IsPrinted, IsInputCause}
+use Rattle.command_text.specs.Fitted.{IsTextCause}
+use Rattle.command_text.specs.Request.{beside, HoldsRequest, HoldsNoRequest}
+use Rattle.command_label.specs.Label.{IsLabelCause}
 use Rattle.ndr_prim.specs.Label.{order_of_label}
 use Rattle.ndr_pipe.specs.Ends.{EndsSeen, AreAsBefore}
 use Rattle.dceidl.specs.Encode.{IsLabelledEncoding, IsLongEncoding, IsMigration}
-use Rattle.dceidl_words.specs.declared.command.Reading.{Reading}
-use Rattle.dceidl_words.specs.declared.command.Reading.TheVariants.{Decode, Explain, Drain}
-use Rattle.dceidl_words.specs.declared.command.OrderWord.{OrderWord}
-use Rattle.dceidl_words.specs.declared.command.OrderWord.TheVariants.{Fixed, Label}
-use Rattle.dceidl_words.specs.declared.command.Task.{Task}
-use Rattle.dceidl_words.specs.declared.command.Task.TheVariants.{Read, Encode, Migrate}
-use Rattle.refusals.specs.declared.refusal.Refusal.{Refusal}
-use Rattle.refusals.specs.declared.refusal.Refusal.TheVariants.{Memory, ReadFault, TooLong}
+use Rattle.command_line.specs.declared.command.Reading.{Reading}
+use Rattle.command_line.specs.declared.command.Reading.TheVariants.{Decode, Explain, Drain}
+use Rattle.command_line.specs.declared.command.OrderWord.{OrderWord}
+use Rattle.command_line.specs.declared.command.OrderWord.TheVariants.{Fixed, Label}
+use Rattle.command_line.specs.declared.command.Task.{Task}
+use Rattle.command_line.specs.declared.command.Task.TheVariants.{Read, Encode, Migrate}
+use Rattle.command_refusals.specs.declared.refusal.Refusal.{Refusal}
+use Rattle.command_refusals.specs.declared.refusal.Refusal.TheVariants.{Memory, ReadFault, TooLong}
 
 -- These octets were read: the whole input, or its first octets to one past a limit.
 pub record AreRead (s : SourceSeen) (limit : ℕ) (octets : List ℕ) : Type 0 where

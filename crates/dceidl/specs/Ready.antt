@@ -9,11 +9,11 @@ use Rattle.nd_types.specs.Operations.{operation_named}
 use Rattle.nd_value.specs.declared.value.Graph.{Graph}
 use Rattle.nd_value.specs.Fitting.{setting_of}
 use Rattle.nd_value.specs.Setting.{Setting}
-use Rattle.dceidl_words.specs.Words.{Subject}
-use Rattle.refusals.specs.declared.refusal.Refusal.{Refusal}
-use Rattle.refusals.specs.declared.refusal.Refusal.TheVariants.{NoOperation}
-use Rattle.text_fitting.specs.Request.{beside, HoldsRequest, HoldsNoRequest}
-use Rattle.idl_compiler.specs.Compiled.{IsCompiled, IsIdlCause}
+use Rattle.command_line.specs.Words.{Subject}
+use Rattle.command_refusals.specs.declared.refusal.Refusal.{Refusal}
+use Rattle.command_refusals.specs.declared.refusal.Refusal.TheVariants.{NoOperation}
+use Rattle.command_text.specs.Request.{beside, HoldsRequest, HoldsNoRequest}
+use Rattle.command_compile.specs.Compiled.{IsCompiled, IsIdlCause}
 
 -- the operation of a name, by its number
 pub record IsNamed (i : Interface) (name : List ℕ) (n : ℕ) (o : Operation) : Type 0 where

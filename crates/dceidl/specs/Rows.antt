@@ -14,38 +14,38 @@ use Rattle.nd_value.specs.Fitting.{setting_of}
 use Rattle.nd_grammar.specs.Represents.{Represents}
 use Rattle.nd_grammar.specs.Prefix.{BeginsWith}
 use Rattle.nd_grammar.specs.Bad.{Bad}
-use Rattle.ndr_writing.specs.Written.{IsWritten, IsLong}
+use Rattle.command_encode.specs.Written.{IsWritten, IsLong}
 use Rattle.text_grammar.specs.declared.TheConstants.{TEXT_LIMIT}
 use Rattle.text_grammar.specs.Reads.{ReadsAs, IsTextFault}
 use Rattle.nd_base.specs.Text.{joined}
 use Rattle.dceidl.specs.Causes.{IsMade, IsCause}
 use Rattle.dceidl.specs.Asked.{IsRequestDue, asks_files, asks_input}
 use Rattle.dceidl.specs.Input.{IsLabel}
-use Rattle.text_fitting.specs.Fitted.{IsMisfitAt}
-use Rattle.text_fitting.specs.Request.{beside, IsRequestText, IsRequestFault}
-use Rattle.idl_compiler.specs.Idl.{Means, IsIdlFault, IsDueFile}
-use Rattle.refusals.specs.Lines.{status_of, line_of}
+use Rattle.command_text.specs.Fitted.{IsMisfitAt}
+use Rattle.command_text.specs.Request.{beside, IsRequestText, IsRequestFault}
+use Rattle.command_compile.specs.Idl.{Means, IsIdlFault, IsDueFile}
+use Rattle.command_refusals.specs.Lines.{status_of, line_of}
 use Rattle.dceidl.specs.Ready.{IsNamed}
 use Rattle.dceidl.specs.Seen.{Seen}
-use Rattle.dceidl_words.specs.Words.{Command, Subject, Values, Compile, Plan, Sample, Help, Version, idl_of, op_of, order_in}
-use Rattle.idl_compiler.specs.Asked.{FileNames}
+use Rattle.command_line.specs.Words.{Command, Subject, Values, Compile, Plan, Sample, Help, Version, idl_of, op_of, order_in}
+use Rattle.command_compile.specs.Asked.{FileNames}
 use Rattle.ndr_prim.specs.Label.{order_of_label}
 use Rattle.nd_base.specs.Counts.{Rose}
 use Rattle.ndr_drain.specs.Given.{pipe_count}
-use Rattle.ndr_draining.specs.Printed.{AreEnough}
+use Rattle.command_drain.specs.Printed.{AreEnough}
 use Rattle.ndr_pipe.specs.End.{EndSeen}
 use Rattle.ndr_pipe.specs.Ends.{EndsSeen}
-use Rattle.dceidl_words.specs.declared.command.Reading.{Reading}
-use Rattle.dceidl_words.specs.declared.command.Reading.TheVariants.{Decode, Explain, Drain}
-use Rattle.dceidl_words.specs.declared.command.OrderWord.{OrderWord}
-use Rattle.dceidl_words.specs.declared.command.OrderWord.TheVariants.{Fixed, Label}
-use Rattle.dceidl_words.specs.declared.command.Task.{Task}
-use Rattle.dceidl_words.specs.declared.command.Task.TheVariants.{Read, Encode, Migrate}
-use Rattle.refusals.specs.declared.refusal.Refusal.{Refusal}
-use Rattle.refusals.specs.declared.refusal.Refusal.TheVariants.{BadIdl, NoOperation, BadOctets, BadText, BadValue, TooLong, BadRequest, BadLabel, ShortLabel, TooFewEnds}
-use Rattle.refusals.specs.declared.refusal.OctetsFault.{OctetsFault}
-use Rattle.refusals.specs.declared.refusal.OctetsFault.TheVariants.{Refused, Trailing}
-use Rattle.refusals.specs.declared.refusal.RequestFault.{RequestFault}
+use Rattle.command_line.specs.declared.command.Reading.{Reading}
+use Rattle.command_line.specs.declared.command.Reading.TheVariants.{Decode, Explain, Drain}
+use Rattle.command_line.specs.declared.command.OrderWord.{OrderWord}
+use Rattle.command_line.specs.declared.command.OrderWord.TheVariants.{Fixed, Label}
+use Rattle.command_line.specs.declared.command.Task.{Task}
+use Rattle.command_line.specs.declared.command.Task.TheVariants.{Read, Encode, Migrate}
+use Rattle.command_refusals.specs.declared.refusal.Refusal.{Refusal}
+use Rattle.command_refusals.specs.declared.refusal.Refusal.TheVariants.{BadIdl, NoOperation, BadOctets, BadText, BadValue, TooLong, BadRequest, BadLabel, ShortLabel, TooFewEnds}
+use Rattle.command_refusals.specs.declared.refusal.OctetsFault.{OctetsFault}
+use Rattle.command_refusals.specs.declared.refusal.OctetsFault.TheVariants.{Refused, Trailing}
+use Rattle.command_refusals.specs.declared.refusal.RequestFault.{RequestFault}
 
 -- a status is one of these
 abbrev pub IsOneOf : List ℕ → ℕ → Type 0

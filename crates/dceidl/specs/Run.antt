@@ -3,10 +3,10 @@ use Rattle.std.specs.Prelude.{◌≡◌, ◌⊎◌, ℕ, List, Option, None, Som
 use Rattle.nd_base.specs.Over.{SinkSeen, HasRisen, Got, GotPrefix, IsAsBefore}
 use Rattle.dceidl.specs.Asked.{Asks}
 use Rattle.dceidl.specs.Causes.{IsMade, IsCause}
-use Rattle.refusals.specs.Lines.{line_of, status_of}
+use Rattle.command_refusals.specs.Lines.{line_of, status_of}
 use Rattle.dceidl.specs.Seen.{Seen}
-use Rattle.dceidl_words.specs.Words.{Command, command, idl_of, op_of}
-use Rattle.refusals.specs.declared.refusal.Refusal.{Refusal}
+use Rattle.command_line.specs.Words.{Command, command, idl_of, op_of}
+use Rattle.command_refusals.specs.declared.refusal.Refusal.{Refusal}
 use Rattle.dceidl.specs.declared.outcome.Outcome.{Outcome}
 use Rattle.dceidl.specs.declared.outcome.Outcome.TheVariants.{Done, Refused, Wanting}
 

@@ -4,17 +4,17 @@ ghost use Rattle.std.specs.List.{slice_get};
 ghost use Rattle.nd_types.specs.declared.types.Operation.{Operation};
 ghost use Rattle.nd_value.specs.Fitting.{setting_beside};
 ghost use Rattle.nd_value.specs.Request.{IsRequestOf};
-ghost use Rattle.text_fitting.specs.Fitted.{IsTextCause};
+ghost use Rattle.command_text.specs.Fitted.{IsTextCause};
 ghost use Rattle.dceidl.specs.Encode.{IsEncoding, IsLabelledEncoding, IsEncodingCause, IsMigration, label_for};
 
 use crate::ready::Ready;
-use dceidl_words::OrderWord;
+use command_encode::write_octets;
+use command_line::OrderWord;
+use command_refusals::Refusal;
+use command_text::fit_text;
 use nd_base::{Memory, Octets, Order};
 use nd_graph::Fit;
-use ndr_writing::write_octets;
-use refusals::Refusal;
 use std::alloc::Global;
-use text_fitting::fit_text;
 use value_text::print;
 
 // The octets of the values that a text states, judged beside a request if one is given: after a format label, if the command asks for one.

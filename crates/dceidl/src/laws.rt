@@ -13,16 +13,16 @@ ghost use Rattle.nd_value.specs.Fitting.{setting_beside};
 ghost use Rattle.text_grammar.specs.declared.TheConstants.{TEXT_LIMIT};
 ghost use Rattle.text_grammar.specs.Reads.{ReadsAs};
 ghost use Rattle.text_grammar.specs.Printed.{IsText};
-ghost use Rattle.ndr_printing.specs.Printed.{IsDecoding};
+ghost use Rattle.command_decode.specs.Printed.{IsDecoding};
 ghost use Rattle.ndr_prim.specs.Label.{order_of_label};
-ghost use Rattle.dceidl_words.specs.Words.{order_in};
-ghost use Rattle.dceidl_words.specs.declared.command.OrderWord.TheVariants.{Label};
+ghost use Rattle.command_line.specs.Words.{order_in};
+ghost use Rattle.command_line.specs.declared.command.OrderWord.TheVariants.{Label};
 ghost use Rattle.dceidl.specs.Encode.{IsEncoding, IsMigration, label_for};
 ghost use Rattle.idl_check.specs.AcfRules.{acf_breaches};
-ghost use Rattle.idl_compiler.specs.AcfFile.{AcfFile, IsLoadedAcf};
-ghost use Rattle.idl_compiler.specs.Idl.{Means, IsIdlFault, resolved_world};
-ghost use Rattle.refusals.specs.declared.refusal.IdlReason.{IdlReason};
-ghost use Rattle.refusals.specs.declared.refusal.Refusal.TheVariants as refusal;
+ghost use Rattle.command_compile.specs.AcfFile.{AcfFile, IsLoadedAcf};
+ghost use Rattle.command_compile.specs.Idl.{Means, IsIdlFault, resolved_world};
+ghost use Rattle.command_refusals.specs.declared.refusal.IdlReason.{IdlReason};
+ghost use Rattle.command_refusals.specs.declared.refusal.Refusal.TheVariants as refusal;
 
 use text_laws::laws::same_texts;
 

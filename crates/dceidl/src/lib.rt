@@ -10,9 +10,9 @@ mod reading;
 mod ready;
 mod top;
 
-pub use dceidl_words::{CHUNK_LIMIT, Words};
+pub use command_line::{CHUNK_LIMIT, Words};
+pub use command_refusals::{IdlReason, OctetsFault, Refusal, Status};
 pub use outcome::Outcome;
-pub use refusals::{IdlReason, OctetsFault, Refusal, Status};
 pub use top::run;
 
 /// What `--help` prints.

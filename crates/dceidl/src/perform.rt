@@ -10,26 +10,26 @@ ghost use Rattle.ndr_pipe.specs.Ends.{AreOpen, ends_over};
 ghost use Rattle.ndr_pipe.specs.Seen.{ends_seen};
 ghost use Rattle.dceidl.specs.Asked.{AsksFor, AsksEnds, drains};
 ghost use Rattle.dceidl.specs.Causes.{IsMade, IsCause};
-ghost use Rattle.dceidl_words.specs.Commands.{command_of, subject_of, IsWellFormed, HasChunks};
+ghost use Rattle.command_line.specs.Commands.{command_of, subject_of, IsWellFormed, HasChunks};
 ghost use Rattle.dceidl.specs.Encode.{IsLabelledEncoding, IsMigration};
 ghost use Rattle.dceidl.specs.Input.{IsMadeOf, IsTaskCause, IsMadeBeside, IsBesideCause, IsInputEncodingCause, IsInputTextCause, OfText};
 ghost use Rattle.dceidl.specs.Seen.{seen_over};
-ghost use Rattle.dceidl_words.specs.Words.{Values};
+ghost use Rattle.command_line.specs.Words.{Values};
 
 use crate::encode::{encode, migrate};
 use crate::input::read_input;
 use crate::reading::read_octets;
 use crate::ready::{Ready, make_ready};
 use crate::{HELP, VERSION};
-use dceidl_words::{Command, OrderWord, Subject, Task};
-use idl_compiler::{list, list_plan};
+use command_compile::{list, list_plan};
+use command_line::{Command, OrderWord, Subject, Task};
+use command_refusals::Refusal;
+use command_sample::sample;
+use command_text::load_request;
 use nd_base::{Files, Octets, Source};
 use nd_graph::Fit;
 use ndr_pipe::{Ends, PipeEnd};
-use ndr_sample::sample;
-use refusals::Refusal;
 use std::alloc::Global;
-use text_fitting::load_request;
 use value_text::TEXT_LIMIT;
 
 // Does a command.

@@ -7,21 +7,21 @@ ghost use Rattle.nd_value.specs.Fitting.{setting_beside};
 ghost use Rattle.nd_value.specs.Request.{IsRequestOf};
 ghost use Rattle.ndr_pipe.specs.Ends.{AreOpen, ends_over};
 ghost use Rattle.ndr_pipe.specs.Seen.{ends_seen};
-ghost use Rattle.dceidl_words.specs.declared.command.OrderWord.TheVariants.{Fixed, Label};
-ghost use Rattle.dceidl_words.specs.declared.command.Task.TheVariants.{Read};
+ghost use Rattle.command_line.specs.declared.command.OrderWord.TheVariants.{Fixed, Label};
+ghost use Rattle.command_line.specs.declared.command.Task.TheVariants.{Read};
 ghost use Rattle.dceidl.specs.Asked.{AsksEnds, drains};
 ghost use Rattle.dceidl.specs.Input.{IsMadeOf, IsTaskCause, IsMadeReading, IsReadingCause};
 
 use crate::ready::Ready;
-use dceidl_words::{OrderWord, Reading};
+use command_decode::print_octets;
+use command_drain::drain_octets;
+use command_explain::explain_octets;
+use command_label::take_label;
+use command_line::{OrderWord, Reading};
+use command_refusals::Refusal;
 use nd_base::{Octets, Order, Source};
 use nd_graph::Fit;
-use ndr_draining::drain_octets;
-use ndr_explaining::explain_octets;
-use ndr_label::take_label;
 use ndr_pipe::{Ends, PipeEnd};
-use ndr_printing::print_octets;
-use refusals::Refusal;
 use std::alloc::Global;
 
 // Reads octets of the input, in the order that is named or that their format label states.

@@ -3,15 +3,15 @@ ghost use Rattle.std.specs.Prelude.{◌≡◌, ◌<◌, ◌≤◌, length, Some,
 ghost use Rattle.nd_types.specs.declared.types.Operation.{Operation};
 ghost use Rattle.nd_types.specs.Operations.{operation_named};
 ghost use Rattle.nd_base.specs.Over.{files_seen};
-ghost use Rattle.idl_compiler.specs.Asked.{AsksFiles};
-ghost use Rattle.dceidl_words.specs.Commands.{subject_of};
+ghost use Rattle.command_compile.specs.Asked.{AsksFiles};
+ghost use Rattle.command_line.specs.Commands.{subject_of};
 ghost use Rattle.dceidl.specs.Ready.{IsFound, IsReadyCause, IsNotFound};
 
-use dceidl_words::Subject;
-use idl_compiler::compile;
+use command_compile::compile;
+use command_line::Subject;
+use command_refusals::Refusal;
 use nd_base::Files;
 use nd_types::{Interface, Side};
-use refusals::Refusal;
 use std::alloc::Global;
 
 // An interface, the number of one of its operations, and a side of it.

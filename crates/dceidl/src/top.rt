@@ -3,24 +3,24 @@ ghost use Rattle.std.specs.Prelude.{◌≡◌, ◌≢◌, ◌⊎◌, [], ◌∷�
 ghost use Rattle.std.specs.Io.KnownBytes.{Appends};
 ghost use Rattle.nd_base.specs.Counts.{Rose};
 ghost use Rattle.nd_base.specs.Over.{files_seen, source_seen, sink_seen};
-ghost use Rattle.refusals.specs.declared.refusal.Refusal.{Refusal as Why};
+ghost use Rattle.command_refusals.specs.declared.refusal.Refusal.{Refusal as Why};
 ghost use Rattle.ndr_pipe.specs.Ends.{AreOpen, ends_over};
 ghost use Rattle.ndr_pipe.specs.Seen.{ends_seen};
 ghost use Rattle.dceidl.specs.Asked.{Asks};
 ghost use Rattle.dceidl.specs.Causes.{statuses_of};
-ghost use Rattle.dceidl_words.specs.Commands.{command_of};
-ghost use Rattle.refusals.specs.Lines.{status_of, line_of};
+ghost use Rattle.command_line.specs.Commands.{command_of};
+ghost use Rattle.command_refusals.specs.Lines.{status_of, line_of};
 ghost use Rattle.dceidl.specs.Rows.{IsOneOf, IsDone, IsRefusedWith, ReadsInput, IsDueAndMissing, IsDueAndReported, IsEndReported, HasNotFailed, IsSound, CanBeDone, MustBeRefused, IsCompleted, Refuses};
 ghost use Rattle.dceidl.specs.Run.{IsOutcome, IsDelivered, HasRun, IsReported};
 ghost use Rattle.dceidl.specs.Seen.{seen_over};
-ghost use Rattle.dceidl_words.specs.Words.{Command as Wanted, command, idl_of, op_of};
+ghost use Rattle.command_line.specs.Words.{Command as Wanted, command, idl_of, op_of};
 
 use crate::outcome::Outcome;
 use crate::perform::perform;
-use dceidl_words::{Command, Words};
+use command_line::{Command, Words};
+use command_refusals::{Refusal, Status, line, status};
 use nd_base::{Files, Memory, Octets, Sink, Source};
 use ndr_pipe::{Ends, PipeEnd, PipeEnds};
-use refusals::{Refusal, Status, line, status};
 use std::alloc::Global;
 
 /// A command is done.

@@ -1,7 +1,7 @@
 -- Attributes of one word.
 use Rattle.std.proofs.Common.{◌≡◌, ℕ, ◌+◌, ◌<◌, Bool, true, false, ◌||◌, cond, eqb, length, refl, sym, ap, ◌∙◌, List, [], ◌∷◌, Ok, Err, Option, Some, None, option_map}
-use Rattle.phrases.specs.Text.{Text, symbol_at, is, is_in, Ban}
-use Rattle.phrases.specs.Reading.{Read, Syntax, Passes, mark_read}
+use Rattle.grammar_phrases.specs.Text.{Text, symbol_at, is, is_in, Ban}
+use Rattle.grammar_phrases.specs.Reading.{Read, Syntax, Passes, mark_read}
 use Rattle.idl_grammar.specs.Symbols as symbol
 use Rattle.idl_grammar.specs.Tree as tree
 use Rattle.idl_grammar.specs.declared.attributes.AttributeKind.{AttributeKind}

@@ -1,8 +1,8 @@
 // Attributes (C706, sections 4.2.4, 4.2.9 and 4.2.12 to 4.2.14).
 ghost use Rattle.std.specs.Prelude.{◌≡◌, ◌+◌, ◌≤◌, ◌<◌, length, map, option_map, IfOk, true};
-ghost use Rattle.phrases.specs.Text.{symbol_at, is_in};
-ghost use Rattle.phrases.specs.Reading.{behind_read};
-ghost use Rattle.phrases.specs.Gives.{Gives, GivesPlace};
+ghost use Rattle.grammar_phrases.specs.Text.{symbol_at, is_in};
+ghost use Rattle.grammar_phrases.specs.Reading.{behind_read};
+ghost use Rattle.grammar_phrases.specs.Gives.{Gives, GivesPlace};
 ghost use Rattle.idl_grammar.specs.Symbols as symbols;
 ghost use Rattle.idl_grammar.specs.Tree as tree;
 ghost use Rattle.idl_grammar.specs.Grammar.{class_words, variable_words};
@@ -11,6 +11,7 @@ ghost use Rattle.idl_grammar.specs.Reading.{one_of_read, commas_read, pointer_cl
 ghost use Rattle.idl_grammar.specs.Seen.{seen_expr, seen_kind, seen_attribute, seen_attributes};
 ghost use Rattle.idl_tokens.specs.Found.{found};
 
+use grammar_phrases::Refusal;
 use idl_expressions::outer;
 use idl_grammar::{
     Attribute, AttributeKind, Attributes, Expr, PointerClass, Spelling, SwitchType, UuidText,
@@ -18,7 +19,6 @@ use idl_grammar::{
 };
 use idl_tokens::parser::Parser;
 use idl_tokens::symbol;
-use phrases::Refusal;
 
 /// The class that a word stands for.
 fn class_of(symbol: u8) -> Option<PointerClass>

@@ -4,12 +4,12 @@ use Rattle.std.specs.Result.{IsErrAnd}
 use Rattle.nd_base.specs.declared.octets.Place.{Place}
 use Rattle.nd_types.specs.declared.interface.Interface.{Interface}
 use Rattle.acf_reader.specs.Tree.{Acf}
-use Rattle.idl_language.specs.declared.fault.RuleFault.{RuleFault}
-use Rattle.idl_language.specs.declared.fault.RuleFault.TheVariants as fault
-use Rattle.idl_language.specs.World.{World}
-use Rattle.idl_language.specs.Rules.{Breach, breach}
-use Rattle.idl_language.specs.FirstBroken.{first_of, first_broken}
-use Rattle.idl_language.specs.Answers.{Answers, IsMeaning}
+use Rattle.idl_rule_definitions.specs.declared.fault.RuleFault.{RuleFault}
+use Rattle.idl_rule_definitions.specs.declared.fault.RuleFault.TheVariants as fault
+use Rattle.idl_rule_definitions.specs.World.{World}
+use Rattle.idl_rule_definitions.specs.Rules.{Breach, breach}
+use Rattle.idl_rule_definitions.specs.FirstBroken.{first_of, first_broken}
+use Rattle.idl_rule_definitions.specs.Answers.{Answers, IsMeaning}
 use Rattle.idl_check.specs.AcfRules.{acf_breaches, first_of_all, or_else}
 use Rattle.idl_check.specs.SeenAcf.{AnswersBeside, IsMeaningBeside}
 use Rattle.idl_check.proofs.AcfLast.{acf_behind, none_beside}

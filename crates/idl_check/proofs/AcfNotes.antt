@@ -5,11 +5,11 @@ use Rattle.std.proofs.lemmas.List.{drop_more, drop_all}
 use Rattle.idl_grammar.specs.Tree as idl
 use Rattle.acf_reader.specs.declared.tree.Attribute.{Attribute}
 use Rattle.acf_reader.specs.Tree.{Parameter}
-use Rattle.idl_language.specs.World.{World}
-use Rattle.idl_language.specs.Rules.{Breach}
-use Rattle.idl_language.specs.Noted.{noted, if_broken}
+use Rattle.idl_rule_definitions.specs.World.{World}
+use Rattle.idl_rule_definitions.specs.Rules.{Breach}
+use Rattle.idl_rule_definitions.specs.Noted.{noted, if_broken}
 use Rattle.idl_check.specs.AcfRules.{acf_file, broken_at, breaches_of_operation}
-use Rattle.idl_language.proofs.Noted.{noted_more}
+use Rattle.idl_rule_definitions.proofs.Noted.{noted_more}
 
 pub if_acf_broken : (at : ℕ) (b : Bool) → if_broken 40 (record { file = acf_file; at = at }) b ≡ broken_at at b
 if_acf_broken at true = refl

@@ -3,13 +3,13 @@ use Rattle.std.proofs.Common.{◌≡◌, ◌∙◌, refl, sym, ap, List, [], ◌
 use Rattle.std.specs.List.{flat_map}
 use Rattle.idl_grammar.specs.Tree as idl
 use Rattle.acf_reader.specs.Tree.{Acf}
-use Rattle.idl_language.specs.World.{World}
-use Rattle.idl_language.specs.Meaning.{main_among}
-use Rattle.idl_language.specs.Rules.{Breach}
-use Rattle.idl_language.specs.FirstBroken.{first_of}
-use Rattle.idl_language.specs.Noted.{noted}
+use Rattle.idl_rule_definitions.specs.World.{World}
+use Rattle.idl_rule_definitions.specs.Meaning.{main_among}
+use Rattle.idl_rule_definitions.specs.Rules.{Breach}
+use Rattle.idl_rule_definitions.specs.FirstBroken.{first_of}
+use Rattle.idl_rule_definitions.specs.Noted.{noted}
 use Rattle.idl_check.specs.AcfRules.{broken_at, breaks_header, breaches_of_element, breaches_beside, acf_breaches}
-use Rattle.idl_language.proofs.Noted.{noted_all}
+use Rattle.idl_rule_definitions.proofs.Noted.{noted_all}
 use Rattle.idl_check.proofs.AcfNotes.{then_noted}
 
 -- there is one main file

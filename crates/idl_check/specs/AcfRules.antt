@@ -16,10 +16,10 @@ use Rattle.acf_reader.specs.declared.tree.AttributeKind.{AttributeKind}
 use Rattle.acf_reader.specs.declared.tree.AttributeKind.TheVariants.{AutoHandle, ExplicitHandle, ImplicitHandle, Code, NoCode, InLine, OutOfLine, EnableAllocate, Heap, CommStatus, FaultStatus}
 use Rattle.acf_reader.specs.declared.tree.Attribute.{Attribute}
 use Rattle.acf_reader.specs.Tree.{Attributes, Parameter, BodyElement, Include, Types, Operation, Acf}
-use Rattle.idl_language.specs.World.{World}
-use Rattle.idl_language.specs.Meaning.{main_among}
-use Rattle.idl_language.specs.Rules.{Breach, breach, breaches}
-use Rattle.idl_language.specs.FirstBroken.{first_of}
+use Rattle.idl_rule_definitions.specs.World.{World}
+use Rattle.idl_rule_definitions.specs.Meaning.{main_among}
+use Rattle.idl_rule_definitions.specs.Rules.{Breach, breach, breaches}
+use Rattle.idl_rule_definitions.specs.FirstBroken.{first_of}
 
 -- ## Places of attributes (C706, sections 4.3.1 to 4.3.8; which attribute stands where in this project is its own choice)
 

@@ -11,11 +11,11 @@ use Rattle.acf_reader.specs.declared.tree.AttributeKind.{AttributeKind}
 use Rattle.acf_reader.specs.Tree.{Acf}
 use Rattle.idl_check.specs.declared.acf_places.Spot.{Spot}
 use Rattle.idl_check.specs.declared.acf_places.Spot.TheVariants as spot
-use Rattle.idl_language.specs.declared.fault.RuleFault.{RuleFault}
-use Rattle.idl_language.specs.declared.fault.RuleFault.TheVariants as fault
-use Rattle.idl_language.specs.World.{World}
-use Rattle.idl_language.specs.Rules.{breach}
-use Rattle.idl_language.specs.Meaning.{meaning}
+use Rattle.idl_rule_definitions.specs.declared.fault.RuleFault.{RuleFault}
+use Rattle.idl_rule_definitions.specs.declared.fault.RuleFault.TheVariants as fault
+use Rattle.idl_rule_definitions.specs.World.{World}
+use Rattle.idl_rule_definitions.specs.Rules.{breach}
+use Rattle.idl_rule_definitions.specs.Meaning.{meaning}
 use Rattle.nd_types.specs.Meant.{meant_by}
 use Rattle.idl_check.specs.AcfRules.{is_of_interface, is_of_type, is_of_operation, is_of_parameter, first_of_all}
 

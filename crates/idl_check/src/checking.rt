@@ -1,13 +1,13 @@
 // The rules, and what files mean that keep them, beside an attribute configuration file.
 ghost use Rattle.std.specs.Prelude.{option_map};
 ghost use Rattle.acf_reader.specs.Seen.{seen_acf};
-ghost use Rattle.idl_language.specs.Checked.{world_of};
+ghost use Rattle.idl_rule_definitions.specs.Checked.{world_of};
 ghost use Rattle.idl_check.specs.SeenAcf.{AnswersBeside};
 
 use crate::acf_rule::acf_breach;
 use crate::interface::interface_of;
 use acf_reader::Acf;
-use idl_language::RuleFault;
+use idl_rule_definitions::RuleFault;
 use idl_rules::broken;
 use idl_scope::Scope;
 use nd_types::Interface;

@@ -1,13 +1,13 @@
 // All passes over the files, in order.
-ghost use Rattle.idl_language.specs.Answers.{Answers};
-ghost use Rattle.idl_language.specs.Checked.{world_of};
+ghost use Rattle.idl_rule_definitions.specs.Answers.{Answers};
+ghost use Rattle.idl_rule_definitions.specs.Checked.{world_of};
 
 use idl_gathering::{first_breach, of_files};
-use idl_language::RuleFault;
-use idl_meaning::meaning::interface;
+use idl_interface::meaning::interface;
+use idl_rule_definitions::RuleFault;
 use idl_rules::{broken, other_breach};
 use idl_scope::Scope;
-use idl_types::numbering;
+use idl_type_numbers::numbering;
 use idl_typing::of_nodes;
 use nd_types::Interface;
 use std::alloc::Global;

@@ -10,6 +10,6 @@ pub mod laws;
 
 pub use acf_rule::ACF_FILE;
 pub use checking::check;
-pub use idl_language::RuleFault;
 pub use idl_listing::interface_listing;
+pub use idl_rule_definitions::RuleFault;
 pub use interface::interface_of;

@@ -1,17 +1,17 @@
 // Declarators (C706, section 4.2.8), and the values of constants.
 ghost use Rattle.std.specs.Prelude.{◌≡◌, ◌+◌, ◌≤◌, ◌<◌, [], ◌∷◌, length, map, option_map, IfOk};
-ghost use Rattle.phrases.specs.Reading.{behind_read, list_read};
-ghost use Rattle.phrases.specs.Gives.{Gives};
+ghost use Rattle.grammar_phrases.specs.Reading.{behind_read, list_read};
+ghost use Rattle.grammar_phrases.specs.Gives.{Gives};
 ghost use Rattle.idl_grammar.specs.Symbols as symbols;
 ghost use Rattle.idl_grammar.specs.ReadExpressions.{placed_read};
 ghost use Rattle.idl_grammar.specs.Reading.{unless_read, commas_read, upper_read, range_read, bound_read, dimension_read, declarator_read, declarators_read, init_read};
 ghost use Rattle.idl_grammar.specs.Seen.{seen_expr, seen_bound, seen_declarator, seen_init};
 
+use grammar_phrases::Refusal;
 use idl_expressions::outer;
 use idl_grammar::{Bound, Declarator, Expr, Init};
 use idl_tokens::parser::Parser;
 use idl_tokens::symbol;
-use phrases::Refusal;
 
 /// The greatest index of a dimension, nothing for `*`.
 #[tactic(auto, unfolding(idl_grammar::specs::Reading::upper_read))]

@@ -1,18 +1,18 @@
 // Enumerations, and what a union has beside its arms (C706, sections 4.2.9 and 4.2.11).
 ghost use Rattle.std.specs.Prelude.{◌≡◌, ℕ, ◌+◌, ◌≤◌, ◌<◌, [], ◌∷◌, length, map, option_map, IfOk};
-ghost use Rattle.phrases.specs.Text.{symbol_at, is_in};
-ghost use Rattle.phrases.specs.Reading.{behind_read, turned};
-ghost use Rattle.phrases.specs.Gives.{Gives};
+ghost use Rattle.grammar_phrases.specs.Text.{symbol_at, is_in};
+ghost use Rattle.grammar_phrases.specs.Reading.{behind_read, turned};
+ghost use Rattle.grammar_phrases.specs.Gives.{Gives};
 ghost use Rattle.idl_grammar.specs.Symbols as symbols;
 ghost use Rattle.idl_grammar.specs.Tree as tree;
 ghost use Rattle.idl_grammar.specs.Reading.{commas_read, enumerator_read, enumerators_read, label_firsts, label_read, labels_read, discriminant_read, maybe_name_read, union_switch_read, enum_read};
 ghost use Rattle.idl_grammar.specs.Seen.{seen_expr, seen_enumerator, seen_label, seen_type};
 
+use grammar_phrases::Refusal;
 use idl_expressions::outer;
 use idl_grammar::{Discriminant, Enumerator, Identifier, Label, TagKind, TypeSpec};
 use idl_tokens::parser::Parser;
 use idl_tokens::symbol;
-use phrases::Refusal;
 
 /// The symbols with which a label begins.
 static LABEL_FIRSTS: [u8; 2] = [symbol::CASE, symbol::DEFAULT];

@@ -3,10 +3,10 @@ use Rattle.std.proofs.Common.{◌≡◌, ◌≢◌, ℕ, zero, suc, ◌+◌, ◌
 use Rattle.std.proofs.Common.{eq-eqb, ◌⊎◌, inl, inr}
 use Rattle.std.proofs.lemmas.Bool.{leb-false, lt-leb}
 use Rattle.std.proofs.lemmas.Bool.Decides.{eqb_tells}
-use Rattle.phrases.specs.Text.{Text, lexeme_at, symbol_at, is_in, Depth}
-use Rattle.phrases.specs.Reading.{Syntax, Passes}
-use Rattle.phrases.proofs.Parts.{clash}
-use Rattle.phrases.proofs.Within.{test_within}
+use Rattle.grammar_phrases.specs.Text.{Text, lexeme_at, symbol_at, is_in, Depth}
+use Rattle.grammar_phrases.specs.Reading.{Syntax, Passes}
+use Rattle.grammar_phrases.proofs.Parts.{clash}
+use Rattle.grammar_phrases.proofs.Within.{test_within}
 use Rattle.idl_grammar.specs.declared.expressions.BinaryOperator.{BinaryOperator}
 use Rattle.idl_grammar.specs.declared.expressions.BinaryOperator.TheVariants as binary
 use Rattle.idl_grammar.specs.declared.expressions.UnaryOperator.{UnaryOperator}

@@ -1,11 +1,11 @@
 -- Readings of expressions at numbers that are not 0, and the loop over the operators of a level.
 use Rattle.std.proofs.Common.{◌≡◌, ◌≢◌, ℕ, zero, suc, ◌+◌, ◌-◌, ◌<◌, ◌≤◌, Bool, true, false, List, [], ◌∷◌, length, refl, sym, ap, arith, ◌∙◌, eqb, eq-eqb, cond, Ok, Err, ◌⊎◌, inl, inr}
 use Rattle.std.proofs.lemmas.Bool.Decides.{eqb_tells}
-use Rattle.phrases.specs.declared.Refusal.{Refusal}
-use Rattle.phrases.specs.Text.{Text, symbol_at, is}
-use Rattle.phrases.specs.Reading.{Read, then, join, turned, many_read}
-use Rattle.phrases.specs.Gives.{Fails}
-use Rattle.phrases.proofs.Fails.{fails_equal, fails_is}
+use Rattle.grammar_phrases.specs.declared.Refusal.{Refusal}
+use Rattle.grammar_phrases.specs.Text.{Text, symbol_at, is}
+use Rattle.grammar_phrases.specs.Reading.{Read, then, join, turned, many_read}
+use Rattle.grammar_phrases.specs.Gives.{Fails}
+use Rattle.grammar_phrases.proofs.Fails.{fails_equal, fails_is}
 use Rattle.idl_grammar.specs.declared.expressions.BinaryOperator.{BinaryOperator}
 use Rattle.idl_grammar.specs.declared.expressions.Operand.{Operand}
 use Rattle.idl_grammar.specs.Symbols as symbol

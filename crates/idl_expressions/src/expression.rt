@@ -2,17 +2,17 @@
 // `start` is where the outermost expression begins, `depth` is the number of brackets that are open, and `nesting`
 // the number of levels that may still nest.
 ghost use Rattle.std.specs.Prelude.{◌≡◌, ℕ, ◌+◌, ◌-◌, ◌≤◌, ◌<◌, length, true, false, IfOk};
-ghost use Rattle.phrases.specs.Text.{lexeme_at, symbol_at, is, is_in};
-ghost use Rattle.phrases.specs.Gives.{Gives};
+ghost use Rattle.grammar_phrases.specs.Text.{lexeme_at, symbol_at, is, is_in};
+ghost use Rattle.grammar_phrases.specs.Gives.{Gives};
 ghost use Rattle.idl_grammar.specs.ReadExpressions.{is_operand as is_operand_symbol, operand_of, leaf_read, level_read, operation_read, choice_of_two_read, round_read, expr_read, outer_read};
 ghost use Rattle.idl_grammar.specs.Seen.{seen_expr};
 ghost use Rattle.idl_expressions.specs.Views.{seen_operation, seen_branches};
 
 use crate::operators::{binary_sign, is_unary, question, symbol_level, unary_sign};
+use grammar_phrases::Refusal;
 use idl_grammar::{BinaryOperator, Expr, Operand};
 use idl_tokens::parser::Parser;
 use idl_tokens::symbol;
-use phrases::Refusal;
 
 /// A binary operator, its octet, and its right operand.
 #[derive(Drop)]
@@ -31,7 +31,7 @@ pub(crate) struct Branches {
 }
 
 /// A number, a character, a name, `TRUE` or `FALSE`.
-#[tactic(auto, using(idl_tokens::proofs::Basics::name_within, phrases::proofs::Within::mark_within), unfolding(idl_grammar::specs::ReadExpressions::is_operand, idl_grammar::specs::ReadExpressions::operand_of))]
+#[tactic(auto, using(idl_tokens::proofs::Basics::name_within, grammar_phrases::proofs::Within::mark_within), unfolding(idl_grammar::specs::ReadExpressions::is_operand, idl_grammar::specs::ReadExpressions::operand_of))]
 fn operand(parser: &Parser<'_>, inside: bool, at: usize) -> Result<(Operand, usize), Refusal>
     requires within { at ≤ length parser.now }
     ensures gives { Gives (λ x. x) result (leaf_read inside parser.now at) }

@@ -1,15 +1,15 @@
 // Operators of expressions (C706, section 4.2.7).
 ghost use Rattle.std.specs.Prelude.{◌≡◌, ◌≤◌, ◌<◌, length, IfOk, eqb, false};
-ghost use Rattle.phrases.specs.Text.{symbol_at};
-ghost use Rattle.phrases.specs.Gives.{Gives};
+ghost use Rattle.grammar_phrases.specs.Text.{symbol_at};
+ghost use Rattle.grammar_phrases.specs.Gives.{Gives};
 ghost use Rattle.idl_grammar.specs.Limits.{level as level_of, symbol_level as level_of_symbol, binary_operators, unary_operators, is_unary as is_unary_symbol, is_operator as is_operator_symbol, operators, many_operators};
 ghost use Rattle.idl_grammar.specs.ReadExpressions.{unary_sign_read, binary_sign_read, question_read};
 ghost use Rattle.idl_tokens.specs.Found.{found};
 
+use grammar_phrases::Refusal;
 use idl_grammar::{BinaryOperator, UnaryOperator};
 use idl_tokens::parser::Parser;
 use idl_tokens::symbol;
-use phrases::Refusal;
 
 /// How many operators an outermost expression may have.
 const OPERATOR_LIMIT: usize = 64;
@@ -171,7 +171,7 @@ pub(crate) fn binary_sign(
 }
 
 /// The `?` of the expression that begins at `start`: its octet.
-#[tactic(auto, using(phrases::proofs::Within::mark_within))]
+#[tactic(auto, using(grammar_phrases::proofs::Within::mark_within))]
 pub(crate) fn question(
     parser: &Parser<'_>,
     start: usize,

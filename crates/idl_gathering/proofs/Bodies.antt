@@ -4,7 +4,7 @@ use Rattle.idl_grammar.specs.declared.words.Spelling.{Spelling}
 use Rattle.idl_grammar.specs.declared.types.Discriminant.{Discriminant}
 use Rattle.idl_grammar.specs.Tree.{TypeSpec, Members, Cases, Arms, Arm, Attributes, Declarator, Enumerator, Parameter}
 use Rattle.idl_grammar.specs.Tree as tree
-use Rattle.idl_language.specs.Nodes.{Construct, BodyNode, SwitchNode, EnumeratorNode, type_nodes, member_nodes, declared_members, label_nodes, labels_of, case_nodes, arms_nodes, Position, Declared, Node, DeclaratorNode, OperationNode, attribute_nodes, switch_nodes, arm_nodes, inside, declared, result_of, parameter_nodes, declared_parameters, operation_nodes}
+use Rattle.idl_rule_definitions.specs.Nodes.{Construct, BodyNode, SwitchNode, EnumeratorNode, type_nodes, member_nodes, declared_members, label_nodes, labels_of, case_nodes, arms_nodes, Position, Declared, Node, DeclaratorNode, OperationNode, attribute_nodes, switch_nodes, arm_nodes, inside, declared, result_of, parameter_nodes, declared_parameters, operation_nodes}
 
 pub struct_nodes : (c : Construct) (t : TypeSpec) (at : ℕ) (tag : Option Spelling) (ms : Members) → t ≡ tree.Struct at tag ms
     → (BodyNode c t ∷ []) ++ member_nodes c (declared_members c ms) 0 ms ≡ type_nodes c t

@@ -1,14 +1,14 @@
 -- Nodes that no rule on attribute lists speaks of.
 use Rattle.std.proofs.Common.{◌≡◌, ℕ, List, [], ◌∷◌, ◌++◌, map, Vec, refl}
 use Rattle.idl_grammar.specs.Tree.{TypeSpec, Enumerator}
-use Rattle.idl_nodes.specs.declared.nodes.Construct as program
-use Rattle.idl_nodes.specs.declared.nodes.Declared as declared
-use Rattle.idl_nodes.specs.declared.nodes.Node as program_node
-use Rattle.idl_nodes.specs.declared.nodes.Node.TheVariants as node
-use Rattle.idl_language.specs.Nodes.{Construct, ArmLabel, EnumeratorNode, label_nodes, labels_of}
-use Rattle.idl_nodes.specs.SeenNodes.{seen_construct, seen_node}
+use Rattle.idl_constructs.specs.declared.nodes.Construct as program
+use Rattle.idl_constructs.specs.declared.nodes.Declared as declared
+use Rattle.idl_constructs.specs.declared.nodes.Node as program_node
+use Rattle.idl_constructs.specs.declared.nodes.Node.TheVariants as node
+use Rattle.idl_rule_definitions.specs.Nodes.{Construct, ArmLabel, EnumeratorNode, label_nodes, labels_of}
+use Rattle.idl_constructs.specs.SeenNodes.{seen_construct, seen_node}
 use Rattle.idl_grammar.specs.Seen.{seen_type, seen_enumerator}
-use Rattle.idl_nodes.specs.ListBreaches.{list_breaches}
+use Rattle.idl_constructs.specs.ListBreaches.{list_breaches}
 
 of_enumerators : (c : Construct) (es : List Enumerator) → list_breaches (map (λ e. EnumeratorNode c e.name) es) ≡ []
 of_enumerators c [] = refl

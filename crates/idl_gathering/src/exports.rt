@@ -4,17 +4,17 @@ ghost use Rattle.std.specs.List.{flat_map};
 ghost use Rattle.idl_grammar.specs.Seen as seen;
 ghost use Rattle.idl_scope.specs.Seen.{seen_file, seen_files};
 ghost use Rattle.idl_scope.specs.Steps.{parameters_of};
-ghost use Rattle.idl_language.specs.Nodes as rules;
-ghost use Rattle.idl_nodes.specs.SeenNodes.{seen_construct, seen_nodes};
-ghost use Rattle.idl_nodes.specs.Growing.{Adds, AddsOf, one_parameter_nodes};
+ghost use Rattle.idl_rule_definitions.specs.Nodes as rules;
+ghost use Rattle.idl_constructs.specs.SeenNodes.{seen_construct, seen_nodes};
+ghost use Rattle.idl_constructs.specs.Growing.{Adds, AddsOf, one_parameter_nodes};
 
 use crate::walk::{attributes, listed, switch, type_spec, unlisted};
+use idl_constructs::attributes::default_class_in;
+use idl_constructs::nodes::{Construct, Declared, Node, Nodes, Position, Returned};
+use idl_constructs::parts::parameters_declared;
 use idl_grammar::{
     Declarator, Export, Identifier, Init, Parameter, Parameters, SimpleType, TypeSpec,
 };
-use idl_nodes::attributes::default_class_in;
-use idl_nodes::nodes::{Construct, Declared, Node, Nodes, Position, Returned};
-use idl_nodes::parts::parameters_declared;
 use idl_scope::{FileTree, FileTrees};
 use nd_base::Memory;
 use std::alloc::Global;

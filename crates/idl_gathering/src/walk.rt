@@ -2,14 +2,14 @@
 ghost use Rattle.std.specs.Prelude.{◌≡◌, ◌<◌, ◌+◌, ◌^◌, [], ◌∷◌, map, length, IfOk, OnOk};
 ghost use Rattle.idl_grammar.specs.Reading.{members_of, cases_of, arms_of};
 ghost use Rattle.idl_grammar.specs.Seen as seen;
-ghost use Rattle.idl_language.specs.Nodes as rules;
-ghost use Rattle.idl_nodes.specs.SeenNodes.{seen_construct, seen_position, seen_declared};
-ghost use Rattle.idl_nodes.specs.Growing.{Adds, AddsOf, member_front, member_rest};
+ghost use Rattle.idl_rule_definitions.specs.Nodes as rules;
+ghost use Rattle.idl_constructs.specs.SeenNodes.{seen_construct, seen_position, seen_declared};
+ghost use Rattle.idl_constructs.specs.Growing.{Adds, AddsOf, member_front, member_rest};
 
+use idl_constructs::attributes::switch_type_in;
+use idl_constructs::nodes::{Construct, Declared, Node, Nodes, Position};
+use idl_constructs::parts::members_declared;
 use idl_grammar::{Arm, Case, Declarator, Enumerator, Member, TypeSpec};
-use idl_nodes::attributes::switch_type_in;
-use idl_nodes::nodes::{Construct, Declared, Node, Nodes, Position};
-use idl_nodes::parts::members_declared;
 use nd_base::Memory;
 use std::alloc::Global;
 

@@ -1,10 +1,10 @@
 -- Attributes are read exactly.
 use Rattle.std.proofs.Common.{◌≡◌, ℕ, ◌+◌, ◌<◌, ◌≤◌, Bool, true, false, List, [], ◌∷◌, length, refl, arith, Option}
-use Rattle.phrases.specs.Text.{Text, is, is_in, Rel, optional, ◌⊗◌, ◌⊳◌}
-use Rattle.phrases.specs.Reading.{Read, behind_read}
-use Rattle.phrases.proofs.Exact.{Exact, HasPhrase, pair_exact, turned_exact}
-use Rattle.phrases.proofs.Parts.{pair_has, turned_has, optional_has}
-use Rattle.phrases.proofs.Sequences.{stops, Begins, subset, disjoint, meets_first, ends_at, skip_exact, skip_has, skip_begins, option_exact, separated_exact, separated_has, bracketed_exact, bracketed_has}
+use Rattle.grammar_phrases.specs.Text.{Text, is, is_in, Rel, optional, ◌⊗◌, ◌⊳◌}
+use Rattle.grammar_phrases.specs.Reading.{Read, behind_read}
+use Rattle.grammar_phrases.proofs.Exact.{Exact, HasPhrase, pair_exact, turned_exact}
+use Rattle.grammar_phrases.proofs.Parts.{pair_has, turned_has, optional_has}
+use Rattle.grammar_phrases.proofs.Sequences.{stops, Begins, subset, disjoint, meets_first, ends_at, skip_exact, skip_has, skip_begins, option_exact, separated_exact, separated_has, bracketed_exact, bracketed_has}
 use Rattle.idl_grammar.specs.declared.words.Spelling.{Spelling}
 use Rattle.idl_grammar.specs.declared.attributes.PointerClass.TheVariants as class
 use Rattle.idl_grammar.specs.declared.attributes.VariableWord.TheVariants as variable

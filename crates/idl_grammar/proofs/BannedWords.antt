@@ -5,11 +5,11 @@ use Rattle.std.proofs.Math.ListN.{get_or-append}
 use Rattle.std.proofs.Math.Seq.{get_or-append_seam}
 use Rattle.std.proofs.lemmas.Bool.Decides.{eqb_tells}
 use Rattle.std.proofs.lemmas.List.{get_or_past, get_or-take}
-use Rattle.phrases.specs.Text.{Lexeme, Text, the_end, lexeme_at, is, Ban}
-use Rattle.phrases.specs.Reading.{Passes}
-use Rattle.phrases.specs.Verdict.{begins, derives, lax, limits_before}
-use Rattle.phrases.proofs.Parts.{clash}
-use Rattle.phrases.proofs.Within.{mark_within}
+use Rattle.grammar_phrases.specs.Text.{Lexeme, Text, the_end, lexeme_at, is, Ban}
+use Rattle.grammar_phrases.specs.Reading.{Passes}
+use Rattle.grammar_phrases.specs.Verdict.{begins, derives, lax, limits_before}
+use Rattle.grammar_phrases.proofs.Parts.{clash}
+use Rattle.grammar_phrases.proofs.Within.{mark_within}
 use Rattle.idl_grammar.specs.Symbols as symbol
 use Rattle.idl_grammar.specs.Tree.{Tree}
 use Rattle.idl_grammar.specs.Grammar.{file}

@@ -2,10 +2,10 @@
 use Rattle.std.proofs.Common.{◌≡◌, ℕ, zero, suc, Bool, true, false, cond, eqb, not, List, [], ◌∷◌, map, refl, ap, arith}
 use Rattle.std.specs.List.{list_all}
 use Rattle.std.specs.Str.{bytes_eq}
-use Rattle.phrases.specs.Text.{Lexeme}
-use Rattle.phrases.specs.Gives.{IsText}
-use Rattle.phrases.proofs.Parts.{clash}
-use Rattle.phrases.proofs.Sequences.{both}
+use Rattle.grammar_phrases.specs.Text.{Lexeme}
+use Rattle.grammar_phrases.specs.Gives.{IsText}
+use Rattle.grammar_phrases.proofs.Parts.{clash}
+use Rattle.grammar_phrases.proofs.Sequences.{both}
 use Rattle.idl_lexer.specs.declared.tokens.TokenKind.{TokenKind}
 use Rattle.idl_lexer.specs.declared.tokens.TokenKind.TheVariants as token
 use Rattle.idl_lexer.specs.declared.tokens.Token.{Token}

@@ -3,11 +3,11 @@ ghost use Rattle.std.specs.Prelude.{◌≡◌, ◌++◌, ◌∷◌, [], map, sli
 ghost use Rattle.std.specs.Fmt.{signed_decimal};
 ghost use Rattle.std.specs.List.{flat_map};
 ghost use Rattle.nd_types.specs.declared.types.TypeDef.TheVariants as def;
-ghost use Rattle.line_words.specs.Lines.{behind};
+ghost use Rattle.listing_words.specs.Lines.{behind};
 ghost use Rattle.idl_listing.specs.Listing.{attrs_words, form, type_line, member_line, arm_name, arm_type, arm_line, default_line, part_lines, type_lines, own_types, field_name};
 
 use crate::attribute_words::attribute;
-use line_words::{class_word, number, signed, word, word_if};
+use listing_words::{class_word, number, signed, word, word_if};
 use nd_base::{Memory, Name, Octets};
 use nd_types::{Arm, Arms, AttrVars, Field, Fields, Interface, Numbers, TypeDef, TypeId};
 

@@ -2,12 +2,12 @@
 use Rattle.std.proofs.Common.{◌≡◌, ◌⊎◌, inl, inr, ℕ, ◌+◌, ◌<◌, ◌≤◌, Bool, true, false, cond, eqb, List, [], ◌∷◌, ◌++◌, map, set, get_or, length, refl, sym, ap, subst, ◌∙◌, arith, Option, Result, Ok, Err, IfOk, IfErr}
 use Rattle.std.proofs.lemmas.List.{length-map, length-append, map-set}
 use Rattle.std.proofs.Math.ListN.{get_or-map}
-use Rattle.phrases.specs.Text.{Text, Rel, Depth, Ban}
-use Rattle.phrases.specs.Reading.{Fault, Syntax, Passes, Read}
-use Rattle.phrases.specs.Verdict.{whole_read}
-use Rattle.phrases.proofs.Exact.{front, Exact}
-use Rattle.phrases.proofs.Sequences.{stops}
-use Rattle.phrases.proofs.Within.{mark_within}
+use Rattle.grammar_phrases.specs.Text.{Text, Rel, Depth, Ban}
+use Rattle.grammar_phrases.specs.Reading.{Fault, Syntax, Passes, Read}
+use Rattle.grammar_phrases.specs.Verdict.{whole_read}
+use Rattle.grammar_phrases.proofs.Exact.{front, Exact}
+use Rattle.grammar_phrases.proofs.Sequences.{stops}
+use Rattle.grammar_phrases.proofs.Within.{mark_within}
 use Rattle.nd_base.specs.declared.octets.Place.{Place}
 use Rattle.nd_base.specs.declared.outside.FileFault.{FileFault}
 use Rattle.nd_base.specs.declared.outside.FileFault.TheVariants as file_fault

@@ -1,8 +1,8 @@
 -- A walk has one ending, except when out of memory, where it is told which loads fail.
 use Rattle.std.proofs.Common.{◌≡◌, ℕ, ◌<◌, ◌≤◌, Bool, true, false, refl, sym, ap, subst, ◌∙◌, arith, List, [], ◌∷◌, ◌++◌, length, Option, Some, None, option_map, Result, Ok, Err}
 use Rattle.std.proofs.lemmas.Option.{same_Some}
-use Rattle.phrases.specs.Text.{Depth, Ban}
-use Rattle.phrases.specs.Reading.{Fault, Syntax, Passes}
+use Rattle.grammar_phrases.specs.Text.{Depth, Ban}
+use Rattle.grammar_phrases.specs.Reading.{Fault, Syntax, Passes}
 use Rattle.nd_base.specs.declared.octets.Place.{Place}
 use Rattle.nd_base.specs.Outside.{loaded, IsContent, IsMissing}
 use Rattle.idl_lexer.specs.Lexed.{Lexed, place_of}

@@ -1,13 +1,13 @@
 -- From what is read of a whole text to what is answered.
 use Rattle.std.proofs.Common.{◌≡◌, ℕ, ◌+◌, ◌≤◌, Bool, true, false, cond, eqb, [], length, refl, sym, ap, subst, arith, ◌∙◌, Result, Ok, Err}
-use Rattle.phrases.specs.declared.Refusal.{Refusal}
-use Rattle.phrases.specs.declared.Refusal.TheVariants as refusal
-use Rattle.phrases.specs.Text.{Text, Rule, Depth, Ban}
-use Rattle.phrases.specs.Reading.{Fault, Syntax, Passes, Read}
-use Rattle.phrases.specs.Gives.{Fails, GivesWhole}
-use Rattle.phrases.specs.Verdict.{whole_read}
-use Rattle.phrases.proofs.Exact.{Exact, front}
-use Rattle.phrases.proofs.Sequences.{stops}
+use Rattle.grammar_phrases.specs.declared.Refusal.{Refusal}
+use Rattle.grammar_phrases.specs.declared.Refusal.TheVariants as refusal
+use Rattle.grammar_phrases.specs.Text.{Text, Rule, Depth, Ban}
+use Rattle.grammar_phrases.specs.Reading.{Fault, Syntax, Passes, Read}
+use Rattle.grammar_phrases.specs.Gives.{Fails, GivesWhole}
+use Rattle.grammar_phrases.specs.Verdict.{whole_read}
+use Rattle.grammar_phrases.proofs.Exact.{Exact, front}
+use Rattle.grammar_phrases.proofs.Sequences.{stops}
 use Rattle.idl_grammar.specs.declared.files.Tree.{Tree}
 use Rattle.idl_grammar.specs.Tree as tree
 use Rattle.idl_grammar.specs.Grammar.{file}

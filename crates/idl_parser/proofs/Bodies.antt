@@ -1,10 +1,10 @@
 -- What is read after tags and in brackets.
 use Rattle.std.proofs.Common.{◌≡◌, ℕ, Bool, true, false, not, List, [], ◌∷◌, cond, refl, ap, ◌∙◌, Ok, Err, Option, Some, None}
-use Rattle.phrases.specs.declared.Refusal.{Refusal}
-use Rattle.phrases.specs.Text.{Text, symbol_at, is_in}
-use Rattle.phrases.specs.Reading.{Read, join, then, skip, ended, end_with, mark_read, open_read, bracketed_read}
-use Rattle.phrases.specs.Gives.{Fails}
-use Rattle.phrases.proofs.Fails.{fails_equal, fails_is}
+use Rattle.grammar_phrases.specs.declared.Refusal.{Refusal}
+use Rattle.grammar_phrases.specs.Text.{Text, symbol_at, is_in}
+use Rattle.grammar_phrases.specs.Reading.{Read, join, then, skip, ended, end_with, mark_read, open_read, bracketed_read}
+use Rattle.grammar_phrases.specs.Gives.{Fails}
+use Rattle.grammar_phrases.proofs.Fails.{fails_equal, fails_is}
 use Rattle.idl_grammar.specs.declared.words.Spelling.{Spelling}
 use Rattle.idl_grammar.specs.Limits.{names}
 use Rattle.idl_grammar.specs.Tree.{TypeSpec}

@@ -1,10 +1,10 @@
 -- A declarator in the program's terms is the one of which they speak.
 use Rattle.std.proofs.Common.{◌≡◌, ◌∙◌, List, refl, ap}
 use Rattle.idl_rules.specs.declared.asked.Asked.{Asked}
-use Rattle.idl_kinds.specs.declared.kinds.Kind.{Kind}
-use Rattle.idl_language.specs.Nodes.{Construct}
-use Rattle.idl_language.specs.Types.{IdlType}
-use Rattle.idl_language.specs.Scene.{Scene, Use}
+use Rattle.idl_declared_types.specs.declared.kinds.Kind.{Kind}
+use Rattle.idl_rule_definitions.specs.Nodes.{Construct}
+use Rattle.idl_rule_definitions.specs.Types.{IdlType}
+use Rattle.idl_rule_definitions.specs.Scene.{Scene, Use}
 use Rattle.idl_rules.specs.Asked.{asked_use, IsAsked}
 
 with_parts : (u : Use) (c : Construct) (d t : IdlType) → c ≡ u.construct → d ≡ u.declared_as → t ≡ u.type

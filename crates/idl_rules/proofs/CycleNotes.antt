@@ -4,22 +4,22 @@ use Rattle.std.specs.List.{flat_map}
 use Rattle.std.proofs.lemmas.Bool.Decides.{nat_tests}
 use Rattle.std.proofs.lemmas.List.Concat.{flat_map-cons}
 use Rattle.std.proofs.lemmas.Grind.{flat_map-append}
-use Rattle.idl_language.specs.World.{World}
-use Rattle.idl_language.specs.Nodes.{Construct, Node, HeaderNode, AttributeNode, SwitchNode, TagNode, BodyNode, EnumeratorNode, LabelNode, EmptyArmNode, DeclaratorNode, ConstantNode, TypeNode, OperationNode}
-use Rattle.idl_language.specs.Types.{Names}
-use Rattle.idl_language.specs.Scene.{Scene, Scoped, Body, body_by}
-use Rattle.idl_language.specs.TypeRules.{contains_itself, is_deep_body}
-use Rattle.idl_language.specs.DeclarationRules.{lacks_switch_type}
-use Rattle.idl_language.specs.Rules.{Breach, broken_in, breaches_at, breaches_of_body}
-use Rattle.idl_language.specs.FirstBroken.{comes_before, rank, earlier, first_of}
-use Rattle.idl_language.specs.Noted.{later, noted, of_others}
-use Rattle.idl_language.specs.OtherBreaches.{other_breaches_at, other_breaches}
-use Rattle.idl_values.specs.RestBreaches.{but_cycles, cycles_alone, rest_breaches_at, rest_breaches, cycle_of, cycle_breaches}
-use Rattle.idl_language.proofs.Noted.{noted_all}
-use Rattle.idl_language.proofs.OtherNotes.{three_kept}
+use Rattle.idl_rule_definitions.specs.World.{World}
+use Rattle.idl_rule_definitions.specs.Nodes.{Construct, Node, HeaderNode, AttributeNode, SwitchNode, TagNode, BodyNode, EnumeratorNode, LabelNode, EmptyArmNode, DeclaratorNode, ConstantNode, TypeNode, OperationNode}
+use Rattle.idl_rule_definitions.specs.Types.{Names}
+use Rattle.idl_rule_definitions.specs.Scene.{Scene, Scoped, Body, body_by}
+use Rattle.idl_rule_definitions.specs.TypeRules.{contains_itself, is_deep_body}
+use Rattle.idl_rule_definitions.specs.DeclarationRules.{lacks_switch_type}
+use Rattle.idl_rule_definitions.specs.Rules.{Breach, broken_in, breaches_at, breaches_of_body}
+use Rattle.idl_rule_definitions.specs.FirstBroken.{comes_before, rank, earlier, first_of}
+use Rattle.idl_rule_definitions.specs.Noted.{later, noted, of_others}
+use Rattle.idl_rule_definitions.specs.OtherBreaches.{other_breaches_at, other_breaches}
+use Rattle.idl_value_rules.specs.RestBreaches.{but_cycles, cycles_alone, rest_breaches_at, rest_breaches, cycle_of, cycle_breaches}
+use Rattle.idl_rule_definitions.proofs.Noted.{noted_all}
+use Rattle.idl_rule_definitions.proofs.OtherNotes.{three_kept}
 use Rattle.idl_rules.proofs.UseNotes.{cycles_append}
 use Rattle.idl_rules.proofs.RestNotes.{node_rest}
-use Rattle.idl_language.specs.declared.rule.TheConstants as Rule
+use Rattle.idl_rule_definitions.specs.declared.rule.TheConstants as Rule
 
 abbrev is_cycle : Breach → Bool
 is_cycle b = eqb b.rule Rule.NO_TYPE_IN_ITSELF

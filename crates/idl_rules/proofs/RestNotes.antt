@@ -7,33 +7,33 @@ use Rattle.idl_grammar.specs.Seen.{seen_type, seen_enumerator, seen_init}
 use Rattle.idl_grammar.specs.Tree.{Attribute, TypeSpec}
 use Rattle.idl_grammar.specs.Tree as tree
 use Rattle.idl_scope.specs.Known.{Known}
-use Rattle.idl_nodes.specs.declared.nodes.Declared as declared
-use Rattle.idl_nodes.specs.declared.nodes.Node as program_node
-use Rattle.idl_nodes.specs.declared.nodes.Node.TheVariants as node
-use Rattle.idl_nodes.specs.declared.nodes.Nodes as program_nodes
-use Rattle.idl_language.specs.World.{World}
-use Rattle.idl_language.specs.AttributeRules.{is_out_of_place, is_repeated, is_large_version, is_second_class, lacks_uuid_and_local}
-use Rattle.idl_language.specs.DeclarationRules.{has_no_body}
-use Rattle.idl_language.specs.ValueRules.{is_large_enumerator, is_bad_label, is_wrong_constant, is_void_constant, is_handle_constant}
-use Rattle.idl_language.specs.Nodes.{Construct, ArmLabel, Node, HeaderNode, AttributeNode, SwitchNode, TagNode, BodyNode, EnumeratorNode, LabelNode, EmptyArmNode, DeclaratorNode, ConstantNode, TypeNode, OperationNode, attribute_nodes_from, label_nodes, labels_of}
-use Rattle.idl_language.specs.Types.{Names, switch_type}
-use Rattle.idl_language.specs.Scene.{Scene, Scoped, Body, body_by, scoped_from, names_behind, use_of, tag_type}
-use Rattle.idl_language.specs.Rules.{Breach, broken_at, broken_in, breaches_at, breaches_of_use, breaches_of_body}
-use Rattle.idl_language.specs.TypeRules.{contains_itself, is_deep_body}
-use Rattle.idl_language.specs.DeclarationRules.{lacks_switch_type}
-use Rattle.idl_nodes.specs.SeenNodes.{seen_construct, seen_declared, seen_result, list_at, seen_node}
-use Rattle.idl_types.specs.SeenTypes.{names_at, scoped_front}
-use Rattle.idl_language.specs.Noted.{noted, of_others}
-use Rattle.idl_language.specs.OthersOf.{others_of}
-use Rattle.idl_language.specs.OtherBreaches.{other_breaches_at}
+use Rattle.idl_constructs.specs.declared.nodes.Declared as declared
+use Rattle.idl_constructs.specs.declared.nodes.Node as program_node
+use Rattle.idl_constructs.specs.declared.nodes.Node.TheVariants as node
+use Rattle.idl_constructs.specs.declared.nodes.Nodes as program_nodes
+use Rattle.idl_rule_definitions.specs.World.{World}
+use Rattle.idl_rule_definitions.specs.AttributeRules.{is_out_of_place, is_repeated, is_large_version, is_second_class, lacks_uuid_and_local}
+use Rattle.idl_rule_definitions.specs.DeclarationRules.{has_no_body}
+use Rattle.idl_rule_definitions.specs.ValueRules.{is_large_enumerator, is_bad_label, is_wrong_constant, is_void_constant, is_handle_constant}
+use Rattle.idl_rule_definitions.specs.Nodes.{Construct, ArmLabel, Node, HeaderNode, AttributeNode, SwitchNode, TagNode, BodyNode, EnumeratorNode, LabelNode, EmptyArmNode, DeclaratorNode, ConstantNode, TypeNode, OperationNode, attribute_nodes_from, label_nodes, labels_of}
+use Rattle.idl_rule_definitions.specs.Types.{Names, switch_type}
+use Rattle.idl_rule_definitions.specs.Scene.{Scene, Scoped, Body, body_by, scoped_from, names_behind, use_of, tag_type}
+use Rattle.idl_rule_definitions.specs.Rules.{Breach, broken_at, broken_in, breaches_at, breaches_of_use, breaches_of_body}
+use Rattle.idl_rule_definitions.specs.TypeRules.{contains_itself, is_deep_body}
+use Rattle.idl_rule_definitions.specs.DeclarationRules.{lacks_switch_type}
+use Rattle.idl_constructs.specs.SeenNodes.{seen_construct, seen_declared, seen_result, list_at, seen_node}
+use Rattle.idl_type_numbers.specs.SeenTypes.{names_at, scoped_front}
+use Rattle.idl_rule_definitions.specs.Noted.{noted, of_others}
+use Rattle.idl_rule_definitions.specs.OthersOf.{others_of}
+use Rattle.idl_rule_definitions.specs.OtherBreaches.{other_breaches_at}
 use Rattle.idl_rules.specs.Asked.{body_breaches, switch_breaches, empty_arm_breaches}
-use Rattle.idl_values.specs.RestBreaches.{but_cycles, rest_breaches_at, rest_breaches}
+use Rattle.idl_value_rules.specs.RestBreaches.{but_cycles, rest_breaches_at, rest_breaches}
 use Rattle.idl_rules.specs.Asked.{program_breaches}
-use Rattle.idl_types.proofs.Fronts.{scoped_front_next}
-use Rattle.idl_language.proofs.Noted.{noted_more}
-use Rattle.idl_language.proofs.OtherNotes.{others_append, kept, dropped, other_cons, other_one, three_kept, last_kept}
+use Rattle.idl_type_numbers.proofs.Fronts.{scoped_front_next}
+use Rattle.idl_rule_definitions.proofs.Noted.{noted_more}
+use Rattle.idl_rule_definitions.proofs.OtherNotes.{others_append, kept, dropped, other_cons, other_one, three_kept, last_kept}
 use Rattle.idl_rules.proofs.UseNotes.{use_kept, body_kept, switch_kept, arm_kept, cycles_append, no_cycle, more_others, more_rest}
-use Rattle.idl_language.specs.declared.rule.TheConstants as Rule
+use Rattle.idl_rule_definitions.specs.declared.rule.TheConstants as Rule
 
 -- ## One node
 

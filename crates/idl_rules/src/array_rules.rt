@@ -2,22 +2,22 @@
 ghost use Rattle.std.specs.Prelude.{◌≡◌, ◌&&◌, not, map, List, Option, option_map};
 ghost use Rattle.idl_scope.specs.Seen.{seen_files};
 ghost use Rattle.idl_grammar.specs.Seen.{seen_attribute};
-ghost use Rattle.idl_language.specs.World.{World};
-ghost use Rattle.idl_language.specs.Scene.{Scene, Use};
-ghost use Rattle.idl_language.specs.Rules.{Breach};
-ghost use Rattle.idl_language.specs.ArrayRules as rules;
-ghost use Rattle.idl_kinds.specs.Kinds.{type_at};
-ghost use Rattle.idl_nodes.specs.SeenNodes.{seen_position, seen_construct};
-ghost use Rattle.idl_marks.specs.SeenMarks.{AreMarks};
-ghost use Rattle.idl_language.specs.Noted.{noted};
-ghost use Rattle.idl_language.specs.Found.{seen_breach};
-ghost use Rattle.idl_marks.specs.SeenMarks.{Holds};
+ghost use Rattle.idl_rule_definitions.specs.World.{World};
+ghost use Rattle.idl_rule_definitions.specs.Scene.{Scene, Use};
+ghost use Rattle.idl_rule_definitions.specs.Rules.{Breach};
+ghost use Rattle.idl_rule_definitions.specs.ArrayRules as rules;
+ghost use Rattle.idl_declared_types.specs.Kinds.{type_at};
+ghost use Rattle.idl_constructs.specs.SeenNodes.{seen_position, seen_construct};
+ghost use Rattle.idl_type_properties.specs.SeenMarks.{AreMarks};
+ghost use Rattle.idl_rule_definitions.specs.Noted.{noted};
+ghost use Rattle.idl_rule_definitions.specs.Found.{seen_breach};
+ghost use Rattle.idl_type_properties.specs.SeenMarks.{Holds};
 ghost use Rattle.idl_rules.specs.Asked.{asked_use, IsAsked, is_followed, with_arrays};
 
 use crate::asked::{Asked, Judge, note};
-use idl_language::{Finder, rule};
-use idl_nodes::nodes::Position;
-use idl_nodes::words::{Word, has, has_length};
+use idl_constructs::nodes::Position;
+use idl_constructs::words::{Word, has, has_length};
+use idl_rule_definitions::{Finder, rule};
 
 /// Rule 16: whether an array of more than one dimension is not fixed in each, or has length_is, first_is, last_is or `string`.
 fn has_wrong_dimensions(judge: &Judge<'_>, asked: &Asked<'_>) -> bool

@@ -1,24 +1,24 @@
 // What the rules ask of a declarator where it stands.
 ghost use Rattle.std.specs.Prelude.{◌≡◌, ◌++◌, Bool, List, Option, option_map};
 ghost use Rattle.idl_scope.specs.Seen.{seen_files};
-ghost use Rattle.idl_language.specs.World.{World};
-ghost use Rattle.idl_language.specs.Nodes as rules;
-ghost use Rattle.idl_language.specs.Rules.{Breach, broken_in};
-ghost use Rattle.idl_language.specs.Scene.{Scene, chain, below};
-ghost use Rattle.idl_language.specs.TypeRules.{below_reference};
-ghost use Rattle.idl_language.specs.VariableRules.{below_pointer};
-ghost use Rattle.idl_kinds.specs.Kinds.{type_by, type_at, seen_types};
-ghost use Rattle.idl_nodes.specs.SeenNodes.{seen_construct};
-ghost use Rattle.idl_marks.specs.SeenMarks.{IsMark, AreMarks};
-ghost use Rattle.idl_language.specs.Noted.{noted};
-ghost use Rattle.idl_language.specs.Found.{seen_breach};
-ghost use Rattle.idl_marks.specs.SeenMarks.{Holds};
+ghost use Rattle.idl_rule_definitions.specs.World.{World};
+ghost use Rattle.idl_rule_definitions.specs.Nodes as rules;
+ghost use Rattle.idl_rule_definitions.specs.Rules.{Breach, broken_in};
+ghost use Rattle.idl_rule_definitions.specs.Scene.{Scene, chain, below};
+ghost use Rattle.idl_rule_definitions.specs.TypeRules.{below_reference};
+ghost use Rattle.idl_rule_definitions.specs.VariableRules.{below_pointer};
+ghost use Rattle.idl_declared_types.specs.Kinds.{type_by, type_at, seen_types};
+ghost use Rattle.idl_constructs.specs.SeenNodes.{seen_construct};
+ghost use Rattle.idl_type_properties.specs.SeenMarks.{IsMark, AreMarks};
+ghost use Rattle.idl_rule_definitions.specs.Noted.{noted};
+ghost use Rattle.idl_rule_definitions.specs.Found.{seen_breach};
+ghost use Rattle.idl_type_properties.specs.SeenMarks.{Holds};
 
-use idl_kinds::kinds::{Kind, Kinds};
-use idl_language::Finder;
-use idl_marks::marks::{Mark, Marks};
-use idl_nodes::nodes::Construct;
-use idl_types::types::Typed;
+use idl_constructs::nodes::Construct;
+use idl_declared_types::kinds::{Kind, Kinds};
+use idl_rule_definitions::Finder;
+use idl_type_numbers::types::Typed;
+use idl_type_properties::marks::{Mark, Marks};
 
 /// A declarator where it stands, with the numbers of its types.
 #[derive(Clone, Copy)]

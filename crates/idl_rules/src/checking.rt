@@ -1,24 +1,24 @@
 // The rules 5 to 39, and a rule that is reported.
 ghost use Rattle.std.specs.Prelude.{◌≡◌, None, map, option_map, IfOk};
-ghost use Rattle.idl_language.specs.declared.fault.RuleFault.TheVariants as faults;
-ghost use Rattle.idl_language.specs.Checked.{world_of};
-ghost use Rattle.idl_language.specs.CountRules as rules;
-ghost use Rattle.idl_language.specs.Found.{seen_breach};
-ghost use Rattle.idl_language.specs.Noted.{noted};
-ghost use Rattle.idl_language.specs.OtherBreaches.{other_breaches};
-ghost use Rattle.idl_types.specs.SeenNumbers.{AreNumbers};
-ghost use Rattle.idl_types.specs.SeenTypes.{scene_seen, IsTypes};
-ghost use Rattle.idl_values.specs.SeenCounts.{one_too_many};
+ghost use Rattle.idl_rule_definitions.specs.declared.fault.RuleFault.TheVariants as faults;
+ghost use Rattle.idl_rule_definitions.specs.Checked.{world_of};
+ghost use Rattle.idl_rule_definitions.specs.CountRules as rules;
+ghost use Rattle.idl_rule_definitions.specs.Found.{seen_breach};
+ghost use Rattle.idl_rule_definitions.specs.Noted.{noted};
+ghost use Rattle.idl_rule_definitions.specs.OtherBreaches.{other_breaches};
+ghost use Rattle.idl_type_numbers.specs.SeenNumbers.{AreNumbers};
+ghost use Rattle.idl_type_numbers.specs.SeenTypes.{scene_seen, IsTypes};
+ghost use Rattle.idl_value_rules.specs.SeenCounts.{one_too_many};
 ghost use Rattle.idl_scope.specs.Seen.{known_in};
 
 use crate::uses::other_rules;
-use idl_language::{Breach, Finder, RuleFault};
-use idl_marks::marks;
-use idl_nodes::nodes::Nodes;
+use idl_constructs::nodes::Nodes;
+use idl_rule_definitions::{Breach, Finder, RuleFault};
 use idl_scope::Scope;
-use idl_types::numbering::Numbers;
-use idl_types::types::Types;
-use idl_values::counts::too_many;
+use idl_type_numbers::numbering::Numbers;
+use idl_type_numbers::types::Types;
+use idl_type_properties::marks;
+use idl_value_rules::counts::too_many;
 use nd_base::Memory;
 use std::alloc::Global;
 

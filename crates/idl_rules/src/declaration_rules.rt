@@ -1,13 +1,13 @@
 // The rules of declarations, parameters and unions as they are written (C706, sections 4.2.5 to 4.2.14).
 ghost use Rattle.std.specs.Prelude.{◌≡◌};
 ghost use Rattle.idl_grammar.specs.Seen.{seen_type};
-ghost use Rattle.idl_language.specs.DeclarationRules as rules;
-ghost use Rattle.idl_nodes.specs.SeenNodes.{seen_construct};
+ghost use Rattle.idl_rule_definitions.specs.DeclarationRules as rules;
+ghost use Rattle.idl_constructs.specs.SeenNodes.{seen_construct};
 
+use idl_constructs::attributes::switch_type_in;
+use idl_constructs::nodes::{Construct, Position};
+use idl_constructs::words::{Word, has};
 use idl_grammar::TypeSpec;
-use idl_nodes::attributes::switch_type_in;
-use idl_nodes::nodes::{Construct, Position};
-use idl_nodes::words::{Word, has};
 
 /// Rule 5: whether a type alone is no struct, union or enum with its body.
 pub(crate) fn has_no_body(of: &TypeSpec) -> bool

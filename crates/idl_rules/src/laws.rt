@@ -1,19 +1,19 @@
 //! Laws over the definitions.
 
-ghost use Rattle.idl_language.specs.declared.rule.TheConstants as Rule;
-ghost use Rattle.idl_language.specs.Noted.{of_lists, of_others};
+ghost use Rattle.idl_rule_definitions.specs.declared.rule.TheConstants as Rule;
+ghost use Rattle.idl_rule_definitions.specs.Noted.{of_lists, of_others};
 ghost use Rattle.std.specs.Prelude.{◌++◌, ◌≡◌, ℕ, map, Ok, Err};
-ghost use Rattle.idl_nodes.specs.ListBreaches.{list_breaches};
-ghost use Rattle.idl_language.specs.OtherBreaches.{other_breaches};
-ghost use Rattle.idl_language.specs.CountRules.{too_many};
-ghost use Rattle.idl_language.specs.Nodes.{place_in};
+ghost use Rattle.idl_constructs.specs.ListBreaches.{list_breaches};
+ghost use Rattle.idl_rule_definitions.specs.OtherBreaches.{other_breaches};
+ghost use Rattle.idl_rule_definitions.specs.CountRules.{too_many};
+ghost use Rattle.idl_rule_definitions.specs.Nodes.{place_in};
 ghost use Rattle.nd_base.specs.declared.octets.Place.{Place};
-ghost use Rattle.idl_language.specs.World.{World};
-ghost use Rattle.idl_language.specs.Scene.{Scene};
-ghost use Rattle.idl_language.specs.Rules.{breach, breaches, breaches_in};
+ghost use Rattle.idl_rule_definitions.specs.World.{World};
+ghost use Rattle.idl_rule_definitions.specs.Scene.{Scene};
+ghost use Rattle.idl_rule_definitions.specs.Rules.{breach, breaches, breaches_in};
 ghost use Rattle.nd_types.specs.declared.interface.Interface.{Interface};
-ghost use Rattle.idl_language.specs.declared.fault.RuleFault.TheVariants as fault;
-ghost use Rattle.idl_language.specs.Answers.{Answers};
+ghost use Rattle.idl_rule_definitions.specs.declared.fault.RuleFault.TheVariants as fault;
+ghost use Rattle.idl_rule_definitions.specs.Answers.{Answers};
 
 /// No two answers are right of the same files, except when out of memory.
 pub fn one_answer_is_right()

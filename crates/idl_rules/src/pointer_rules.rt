@@ -2,26 +2,26 @@
 ghost use Rattle.std.specs.Prelude.{◌≡◌, ◌&&◌, not, map, List, Option, option_map};
 ghost use Rattle.idl_scope.specs.Seen.{seen_files};
 ghost use Rattle.idl_grammar.specs.Seen.{seen_attribute};
-ghost use Rattle.idl_language.specs.World.{World};
-ghost use Rattle.idl_language.specs.Scene.{Scene, Use};
-ghost use Rattle.idl_language.specs.Rules.{Breach};
-ghost use Rattle.idl_language.specs.PointerRules as rules;
-ghost use Rattle.idl_language.specs.Attributes.{has, out_word};
-ghost use Rattle.idl_language.specs.DeclarationRules.{is_parameter};
-ghost use Rattle.idl_kinds.specs.Kinds.{type_at};
-ghost use Rattle.idl_nodes.specs.SeenNodes.{seen_position, seen_construct};
-ghost use Rattle.idl_marks.specs.SeenMarks.{AreMarks};
-ghost use Rattle.idl_language.specs.Noted.{noted};
-ghost use Rattle.idl_language.specs.Found.{seen_breach};
-ghost use Rattle.idl_marks.specs.SeenMarks.{Holds};
+ghost use Rattle.idl_rule_definitions.specs.World.{World};
+ghost use Rattle.idl_rule_definitions.specs.Scene.{Scene, Use};
+ghost use Rattle.idl_rule_definitions.specs.Rules.{Breach};
+ghost use Rattle.idl_rule_definitions.specs.PointerRules as rules;
+ghost use Rattle.idl_rule_definitions.specs.Attributes.{has, out_word};
+ghost use Rattle.idl_rule_definitions.specs.DeclarationRules.{is_parameter};
+ghost use Rattle.idl_declared_types.specs.Kinds.{type_at};
+ghost use Rattle.idl_constructs.specs.SeenNodes.{seen_position, seen_construct};
+ghost use Rattle.idl_type_properties.specs.SeenMarks.{AreMarks};
+ghost use Rattle.idl_rule_definitions.specs.Noted.{noted};
+ghost use Rattle.idl_rule_definitions.specs.Found.{seen_breach};
+ghost use Rattle.idl_type_properties.specs.SeenMarks.{Holds};
 ghost use Rattle.idl_rules.specs.Asked.{asked_use, IsAsked, with_pointers};
 
 use crate::asked::{Asked, Judge, note};
 use crate::declaration_rules::lacks_direction;
 use crate::type_rules::is_wrong_result;
-use idl_language::{Finder, rule};
-use idl_nodes::nodes::{Construct, Position};
-use idl_nodes::words::{Word, has as has_word, has_class};
+use idl_constructs::nodes::{Construct, Position};
+use idl_constructs::words::{Word, has as has_word, has_class};
+use idl_rule_definitions::{Finder, rule};
 
 /// Rule 26: whether it has a class and is no pointer.
 fn has_class_without_pointer(judge: &Judge<'_>, asked: &Asked<'_>) -> bool

@@ -2,24 +2,24 @@
 ghost use Rattle.std.specs.Prelude.{◌≡◌, ◌&&◌, not, map, List, Option, option_map};
 ghost use Rattle.idl_scope.specs.Seen.{seen_files};
 ghost use Rattle.idl_grammar.specs.Seen.{seen_attribute};
-ghost use Rattle.idl_language.specs.World.{World};
-ghost use Rattle.idl_language.specs.Scene.{Scene, Use};
-ghost use Rattle.idl_language.specs.Rules.{Breach};
-ghost use Rattle.idl_language.specs.TypeRules as rules;
-ghost use Rattle.idl_kinds.specs.Kinds.{type_at};
-ghost use Rattle.idl_nodes.specs.SeenNodes.{seen_position, seen_construct};
-ghost use Rattle.idl_marks.specs.SeenMarks.{AreMarks};
-ghost use Rattle.idl_language.specs.Noted.{noted};
-ghost use Rattle.idl_language.specs.Found.{seen_breach};
-ghost use Rattle.idl_marks.specs.SeenMarks.{Holds};
+ghost use Rattle.idl_rule_definitions.specs.World.{World};
+ghost use Rattle.idl_rule_definitions.specs.Scene.{Scene, Use};
+ghost use Rattle.idl_rule_definitions.specs.Rules.{Breach};
+ghost use Rattle.idl_rule_definitions.specs.TypeRules as rules;
+ghost use Rattle.idl_declared_types.specs.Kinds.{type_at};
+ghost use Rattle.idl_constructs.specs.SeenNodes.{seen_position, seen_construct};
+ghost use Rattle.idl_type_properties.specs.SeenMarks.{AreMarks};
+ghost use Rattle.idl_rule_definitions.specs.Noted.{noted};
+ghost use Rattle.idl_rule_definitions.specs.Found.{seen_breach};
+ghost use Rattle.idl_type_properties.specs.SeenMarks.{Holds};
 ghost use Rattle.idl_rules.specs.Asked.{asked_use, IsAsked, with_types};
-ghost use Rattle.idl_language.specs.Attributes.{has, in_word, out_word};
+ghost use Rattle.idl_rule_definitions.specs.Attributes.{has, in_word, out_word};
 
 use crate::asked::{Asked, Judge, note};
-use idl_language::{Finder, rule};
-use idl_marks::marks::Mark;
-use idl_nodes::nodes::Position;
-use idl_nodes::words::{Word, has as has_word};
+use idl_constructs::nodes::Position;
+use idl_constructs::words::{Word, has as has_word};
+use idl_rule_definitions::{Finder, rule};
+use idl_type_properties::marks::Mark;
 
 /// The types of a declarator in which no `void` may stand.
 fn without_void(judge: &Judge<'_>, asked: &Asked<'_>) -> Mark

@@ -2,27 +2,27 @@
 ghost use Rattle.std.specs.Prelude.{◌≡◌, ◌&&◌, not, map, List, Option, option_map};
 ghost use Rattle.idl_scope.specs.Seen.{seen_files};
 ghost use Rattle.idl_grammar.specs.Seen.{seen_attribute};
-ghost use Rattle.idl_language.specs.World.{World};
-ghost use Rattle.idl_language.specs.Scene.{Scene, Use};
-ghost use Rattle.idl_language.specs.Rules.{Breach};
-ghost use Rattle.idl_language.specs.VariableRules as rules;
-ghost use Rattle.idl_kinds.specs.Kinds.{type_at};
-ghost use Rattle.idl_nodes.specs.SeenNodes.{seen_position, seen_construct};
-ghost use Rattle.idl_marks.specs.SeenMarks.{AreMarks};
-ghost use Rattle.idl_language.specs.Noted.{noted};
-ghost use Rattle.idl_language.specs.Found.{seen_breach};
-ghost use Rattle.idl_marks.specs.SeenMarks.{Holds};
+ghost use Rattle.idl_rule_definitions.specs.World.{World};
+ghost use Rattle.idl_rule_definitions.specs.Scene.{Scene, Use};
+ghost use Rattle.idl_rule_definitions.specs.Rules.{Breach};
+ghost use Rattle.idl_rule_definitions.specs.VariableRules as rules;
+ghost use Rattle.idl_declared_types.specs.Kinds.{type_at};
+ghost use Rattle.idl_constructs.specs.SeenNodes.{seen_position, seen_construct};
+ghost use Rattle.idl_type_properties.specs.SeenMarks.{AreMarks};
+ghost use Rattle.idl_rule_definitions.specs.Noted.{noted};
+ghost use Rattle.idl_rule_definitions.specs.Found.{seen_breach};
+ghost use Rattle.idl_type_properties.specs.SeenMarks.{Holds};
 ghost use Rattle.idl_rules.specs.Asked.{asked_use, IsAsked, with_unions, with_variables};
-ghost use Rattle.idl_language.specs.Attributes.{has, switch_is_word};
-ghost use Rattle.idl_types.specs.SeenTypes.{has_wrong_switch_variable};
+ghost use Rattle.idl_rule_definitions.specs.Attributes.{has, switch_is_word};
+ghost use Rattle.idl_type_numbers.specs.SeenTypes.{has_wrong_switch_variable};
 
 use crate::asked::{Asked, Judge, note};
 use crate::declaration_rules::is_wrongly_cased;
-use idl_kinds::kinds::Kind;
-use idl_language::{Finder, rule};
-use idl_marks::marks::Mark;
-use idl_nodes::nodes::Position;
-use idl_nodes::words::{Word, has as has_word, has_length, has_size};
+use idl_constructs::nodes::Position;
+use idl_constructs::words::{Word, has as has_word, has_length, has_size};
+use idl_declared_types::kinds::Kind;
+use idl_rule_definitions::{Finder, rule};
+use idl_type_properties::marks::Mark;
 
 /// Rule 21: whether a type may not tell the arms of a union apart.
 pub(crate) fn may_not_be_switched(judge: &Judge<'_>, number: usize) -> bool

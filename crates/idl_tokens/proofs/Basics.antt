@@ -1,9 +1,9 @@
 -- A name is in the text; a word that stands for a value is read.
 use Rattle.std.proofs.Common.{◌≡◌, ℕ, ◌+◌, ◌<◌, ◌≤◌, Bool, true, false, ◌||◌, cond, eqb, length, refl, sym, ap, arith, ◌∙◌, List, [], ◌∷◌, Ok, Err, Option, Some, None}
-use Rattle.phrases.specs.Text.{Lexeme, Text, lexeme_at, symbol_at, is_in}
-use Rattle.phrases.specs.Reading.{Read, Syntax}
-use Rattle.phrases.proofs.Within.{test_within}
-use Rattle.phrases.proofs.Sequences.{disjoint, apart}
+use Rattle.grammar_phrases.specs.Text.{Lexeme, Text, lexeme_at, symbol_at, is_in}
+use Rattle.grammar_phrases.specs.Reading.{Read, Syntax}
+use Rattle.grammar_phrases.proofs.Within.{test_within}
+use Rattle.grammar_phrases.proofs.Sequences.{disjoint, apart}
 use Rattle.idl_grammar.specs.Lexemes.{no_words}
 use Rattle.idl_grammar.specs.Limits.{Meant, names, symbols_of, value_of}
 use Rattle.idl_grammar.specs.Reading.{one_of_read}

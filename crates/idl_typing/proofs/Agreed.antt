@@ -8,13 +8,13 @@ use Rattle.idl_grammar.specs.Tree.{TypeSpec}
 use Rattle.idl_grammar.specs.Tree as tree
 use Rattle.idl_scope.specs.Known.{Known}
 use Rattle.idl_scope.specs.Tables.{found}
-use Rattle.idl_language.specs.Nodes.{Construct, Declared}
-use Rattle.idl_language.specs.DeclarationRules.{is_parameter}
-use Rattle.idl_language.specs.Types.{IdlType, Names, or_void, pipe_or_plain, written_type, switch_type, type_before, declared_from, declared_type, type_of, with_attributes}
-use Rattle.idl_language.specs.Scene.{Scene, Use, use_of, tag_type, tag_written}
-use Rattle.idl_language.specs.VariableRules.{Listed, is_right_variable, passes, passes_listed, variable_of, variables, is_integer, may_be_switched, has_wrong_variable}
-use Rattle.idl_language.specs.Attributes.{sizes, lengths, switch_is_word}
-use Rattle.idl_types.specs.SeenTypes.{has_wrong_switch_variable}
+use Rattle.idl_rule_definitions.specs.Nodes.{Construct, Declared}
+use Rattle.idl_rule_definitions.specs.DeclarationRules.{is_parameter}
+use Rattle.idl_rule_definitions.specs.Types.{IdlType, Names, or_void, pipe_or_plain, written_type, switch_type, type_before, declared_from, declared_type, type_of, with_attributes}
+use Rattle.idl_rule_definitions.specs.Scene.{Scene, Use, use_of, tag_type, tag_written}
+use Rattle.idl_rule_definitions.specs.VariableRules.{Listed, is_right_variable, passes, passes_listed, variable_of, variables, is_integer, may_be_switched, has_wrong_variable}
+use Rattle.idl_rule_definitions.specs.Attributes.{sizes, lengths, switch_is_word}
+use Rattle.idl_type_numbers.specs.SeenTypes.{has_wrong_switch_variable}
 
 -- of each name these lists say the same
 abbrev pub Same : Names → Names → Type 0

@@ -9,14 +9,14 @@ use Rattle.std.proofs.lemmas.Slice.Eq.{bytes_eq-Decides}
 use Rattle.idl_grammar.specs.declared.attributes.Variable.{Variable}
 use Rattle.idl_grammar.specs.Tree.{Attribute}
 use Rattle.idl_scope.specs.Tables.{found}
-use Rattle.idl_nodes.specs.declared.nodes.Declared as declared
-use Rattle.idl_language.specs.Attributes.{variable_said}
-use Rattle.idl_language.specs.Nodes.{Declared}
-use Rattle.idl_kinds.specs.SeenNames.{and_name}
-use Rattle.idl_nodes.specs.SeenNodes.{seen_declared, list_at}
-use Rattle.idl_language.specs.VariableRules.{Listed, listed_from, variable_if, variables}
+use Rattle.idl_constructs.specs.declared.nodes.Declared as declared
+use Rattle.idl_rule_definitions.specs.Attributes.{variable_said}
+use Rattle.idl_rule_definitions.specs.Nodes.{Declared}
+use Rattle.idl_declared_types.specs.SeenNames.{and_name}
+use Rattle.idl_constructs.specs.SeenNodes.{seen_declared, list_at}
+use Rattle.idl_rule_definitions.specs.VariableRules.{Listed, listed_from, variable_if, variables}
 use Rattle.idl_typing.specs.Lookups.{found_at, AreTables}
-use Rattle.idl_types.proofs.Fronts.{take_next}
+use Rattle.idl_type_numbers.proofs.Fronts.{take_next}
 
 last_number : Option ℕ → Bool → ℕ → Option ℕ
 last_number (Some n) b m = Some n

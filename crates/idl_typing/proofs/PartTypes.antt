@@ -4,13 +4,13 @@ use Rattle.std.specs.List.{list_all}
 use Rattle.std.proofs.lemmas.List.{map-append}
 use Rattle.std.proofs.lemmas.List.Folds.{list_all-append}
 use Rattle.std.proofs.lemmas.Bool.{ltb-true, lt-ltb}
-use Rattle.idl_kinds.specs.declared.kinds.Kind.{Kind}
-use Rattle.idl_language.specs.Types.{IdlType}
-use Rattle.idl_kinds.specs.Kinds.{type_at, Keeps}
-use Rattle.idl_kinds.specs.SeenNames.{are_below}
-use Rattle.idl_kinds.proofs.KindLists.{both}
-use Rattle.idl_kinds.proofs.NameLists.{le-keeps, type_at-keeps}
-use Rattle.idl_types.proofs.Fronts.{take_next}
+use Rattle.idl_declared_types.specs.declared.kinds.Kind.{Kind}
+use Rattle.idl_rule_definitions.specs.Types.{IdlType}
+use Rattle.idl_declared_types.specs.Kinds.{type_at, Keeps}
+use Rattle.idl_declared_types.specs.SeenNames.{are_below}
+use Rattle.idl_declared_types.proofs.KindLists.{both}
+use Rattle.idl_declared_types.proofs.NameLists.{le-keeps, type_at-keeps}
+use Rattle.idl_type_numbers.proofs.Fronts.{take_next}
 
 -- more kinds leave the types of numbers
 pub types-keeps : (old new : List Kind) (numbers : List ℕ) → Keeps old new → are_below (length old) numbers ≡ true → map (type_at new) numbers ≡ map (type_at old) numbers

@@ -6,19 +6,19 @@ use Rattle.std.proofs.lemmas.List.{length-append, append-nil}
 use Rattle.std.proofs.lemmas.Bool.{eqb-true}
 use Rattle.nd_base.specs.declared.octets.Place.{Place}
 use Rattle.idl_scope.specs.Known.{Known}
-use Rattle.idl_kinds.specs.declared.kinds.Kind.{Kind}
-use Rattle.idl_nodes.specs.declared.nodes.Node as program_node
-use Rattle.idl_nodes.specs.declared.nodes.Node.TheVariants as node
-use Rattle.idl_language.specs.Types.{Names}
-use Rattle.idl_nodes.specs.declared.nodes.Nodes as program_nodes
-use Rattle.idl_types.specs.declared.types.BodyTypes.{BodyTypes}
-use Rattle.idl_language.specs.Scene.{Body, body_among, same_place, place_of}
-use Rattle.idl_kinds.specs.Kinds.{Keeps}
-use Rattle.idl_kinds.specs.SeenNames.{are_below}
-use Rattle.idl_types.specs.SeenTypes.{names_at, bare, body_at, IsBody}
-use Rattle.idl_kinds.specs.Places.{found_place}
+use Rattle.idl_declared_types.specs.declared.kinds.Kind.{Kind}
+use Rattle.idl_constructs.specs.declared.nodes.Node as program_node
+use Rattle.idl_constructs.specs.declared.nodes.Node.TheVariants as node
+use Rattle.idl_rule_definitions.specs.Types.{Names}
+use Rattle.idl_constructs.specs.declared.nodes.Nodes as program_nodes
+use Rattle.idl_type_numbers.specs.declared.types.BodyTypes.{BodyTypes}
+use Rattle.idl_rule_definitions.specs.Scene.{Body, body_among, same_place, place_of}
+use Rattle.idl_declared_types.specs.Kinds.{Keeps}
+use Rattle.idl_declared_types.specs.SeenNames.{are_below}
+use Rattle.idl_type_numbers.specs.SeenTypes.{names_at, bare, body_at, IsBody}
+use Rattle.idl_declared_types.specs.Places.{found_place}
 use Rattle.idl_typing.specs.ReadTypes.{bodies_front, BodiesOver, BodiesRead, and_place}
-use Rattle.idl_kinds.proofs.KindLists.{both, slice_get_kept, slice_get_last}
+use Rattle.idl_declared_types.proofs.KindLists.{both, slice_get_kept, slice_get_last}
 use Rattle.idl_typing.proofs.PartTypes.{types-keeps, below-le}
 use Rattle.idl_typing.proofs.ReadNames.{body_list, bodies_front_next}
 use Rattle.idl_typing.proofs.ReadSteps.{last_or_before}

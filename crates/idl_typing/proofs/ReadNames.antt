@@ -6,18 +6,18 @@ use Rattle.std.proofs.lemmas.List.{append-nil}
 use Rattle.idl_grammar.specs.Tree.{Attribute, TypeSpec, Enumerator}
 use Rattle.idl_grammar.specs.Tree as tree
 use Rattle.idl_scope.specs.Known.{Known}
-use Rattle.idl_nodes.specs.declared.nodes.Declared as declared
-use Rattle.idl_nodes.specs.declared.nodes.Node as program_node
-use Rattle.idl_nodes.specs.declared.nodes.Node.TheVariants as node
-use Rattle.idl_nodes.specs.declared.nodes.Nodes as program_nodes
-use Rattle.idl_language.specs.Nodes.{Construct, Node, AttributeNode, LabelNode, EnumeratorNode, DeclaratorNode, ArmLabel, attribute_nodes_from, label_nodes, labels_of}
+use Rattle.idl_constructs.specs.declared.nodes.Declared as declared
+use Rattle.idl_constructs.specs.declared.nodes.Node as program_node
+use Rattle.idl_constructs.specs.declared.nodes.Node.TheVariants as node
+use Rattle.idl_constructs.specs.declared.nodes.Nodes as program_nodes
+use Rattle.idl_rule_definitions.specs.Nodes.{Construct, Node, AttributeNode, LabelNode, EnumeratorNode, DeclaratorNode, ArmLabel, attribute_nodes_from, label_nodes, labels_of}
 use Rattle.idl_grammar.specs.Seen.{seen_type, seen_enumerator}
-use Rattle.idl_language.specs.Types.{Names}
-use Rattle.idl_language.specs.Scene.{Scoped, Body, scoped_from, names_behind, body_by}
-use Rattle.idl_nodes.specs.SeenNodes.{seen_node, seen_construct, seen_declared, seen_result, list_at}
-use Rattle.idl_types.specs.SeenTypes.{names_past, names_at, scoped_front, body_at}
+use Rattle.idl_rule_definitions.specs.Types.{Names}
+use Rattle.idl_rule_definitions.specs.Scene.{Scoped, Body, scoped_from, names_behind, body_by}
+use Rattle.idl_constructs.specs.SeenNodes.{seen_node, seen_construct, seen_declared, seen_result, list_at}
+use Rattle.idl_type_numbers.specs.SeenTypes.{names_past, names_at, scoped_front, body_at}
 use Rattle.idl_typing.specs.ReadTypes.{bodies_in, bodies_front}
-use Rattle.idl_types.proofs.Fronts.{scoped_front_next}
+use Rattle.idl_type_numbers.proofs.Fronts.{scoped_front_next}
 
 -- ## Bodies
 

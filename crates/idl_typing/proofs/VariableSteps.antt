@@ -4,12 +4,12 @@ use Rattle.std.specs.List.{list_any}
 use Rattle.idl_grammar.specs.declared.attributes.Variable.{Variable}
 use Rattle.idl_grammar.specs.Tree.{Attribute}
 use Rattle.idl_scope.specs.Known.{Known}
-use Rattle.idl_language.specs.Attributes.{sizes, lengths, switch_is_word, variable_said}
-use Rattle.idl_language.specs.Nodes.{Declared}
-use Rattle.idl_language.specs.Types.{IdlType, Names}
-use Rattle.idl_language.specs.Scene.{use_of}
-use Rattle.idl_language.specs.VariableRules.{Listed, listed_from, variable_if, variables, is_right_variable, passes_listed, is_integer, may_be_switched, has_wrong_variable}
-use Rattle.idl_types.specs.SeenTypes.{bare, has_wrong_switch_variable}
+use Rattle.idl_rule_definitions.specs.Attributes.{sizes, lengths, switch_is_word, variable_said}
+use Rattle.idl_rule_definitions.specs.Nodes.{Declared}
+use Rattle.idl_rule_definitions.specs.Types.{IdlType, Names}
+use Rattle.idl_rule_definitions.specs.Scene.{use_of}
+use Rattle.idl_rule_definitions.specs.VariableRules.{Listed, listed_from, variable_if, variables, is_right_variable, passes_listed, is_integer, may_be_switched, has_wrong_variable}
+use Rattle.idl_type_numbers.specs.SeenTypes.{bare, has_wrong_switch_variable}
 use Rattle.idl_typing.specs.Lookups.{passes_it, fails_in}
 use Rattle.idl_typing.proofs.Agreed.{any_same}
 use Rattle.idl_typing.proofs.LookupSteps.{variables_next}

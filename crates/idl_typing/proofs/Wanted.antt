@@ -9,11 +9,11 @@ use Rattle.idl_grammar.specs.Tree.{Attribute, Bound}
 use Rattle.idl_scope.specs.Known.{Known}
 use Rattle.idl_typing.specs.declared.variables.Wanted.{Wanted}
 use Rattle.idl_typing.specs.declared.variables.Wanted.TheVariants as wanted
-use Rattle.idl_language.specs.Attributes.{has, has_one_of, class_in, string_word, context_handle_word, sizes, lengths}
-use Rattle.idl_language.specs.Nodes.{Declared}
-use Rattle.idl_language.specs.Types.{IdlType, Void, Handle, ContextHandle, Basic, Struct, Union, Enum, Array, Text, Pointer, Pipe, Names, is_void, with_stars, with_dimensions, outermost_class, array_with, pointee_with, text_of, sized, class_or, with_attributes, is_one_star, is_empty, is_context_handle, type_before, declared_from, declared_type, type_of, with_declarator, count_of}
-use Rattle.idl_language.specs.VariableRules.{is_integer, may_be_switched, passes, Listed, listed_from}
-use Rattle.idl_kinds.specs.Kinds.{basic_in}
+use Rattle.idl_rule_definitions.specs.Attributes.{has, has_one_of, class_in, string_word, context_handle_word, sizes, lengths}
+use Rattle.idl_rule_definitions.specs.Nodes.{Declared}
+use Rattle.idl_rule_definitions.specs.Types.{IdlType, Void, Handle, ContextHandle, Basic, Struct, Union, Enum, Array, Text, Pointer, Pipe, Names, is_void, with_stars, with_dimensions, outermost_class, array_with, pointee_with, text_of, sized, class_or, with_attributes, is_one_star, is_empty, is_context_handle, type_before, declared_from, declared_type, type_of, with_declarator, count_of}
+use Rattle.idl_rule_definitions.specs.VariableRules.{is_integer, may_be_switched, passes, Listed, listed_from}
+use Rattle.idl_declared_types.specs.Kinds.{basic_in}
 use Rattle.idl_typing.specs.Lookups.{wanted_test, is_enumerated}
 use Rattle.idl_typing.proofs.LookupSteps.{index_of}
 use Rattle.std.specs.Str.{bytes_eq}

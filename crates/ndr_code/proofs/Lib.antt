@@ -6,3 +6,5 @@ pub mod TypeRuns
 pub mod SideRuns
 pub mod SideLines
 pub mod Worked
+pub mod Parted
+pub mod TriedRoots

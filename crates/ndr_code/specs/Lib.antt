@@ -4,3 +4,4 @@ pub mod Lengths
 pub mod Lines
 pub mod Plan
 pub mod Runs
+pub mod Tried

@@ -1,4 +1,6 @@
 //! What those who run a plan look up, as laws: each is the contract of a function that does nothing.
+pub mod sides;
+
 ghost use Rattle.std.specs.Prelude.{◌≡◌, ◌<◌, ℕ, ◌+◌, ◌*◌, ℤ, true, false, List, [], ◌∷◌, ◌++◌, length, slice_get, None, Some};
 ghost use Rattle.nd_types.specs.declared.types.TypeDef.{TypeDef};
 ghost use Rattle.nd_types.specs.declared.types.TypeDef.TheVariants.{Enum, Prim};

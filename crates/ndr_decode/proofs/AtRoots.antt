@@ -22,18 +22,18 @@ use Rattle.nd_grammar.proofs.legal.LegalUsable.{Usable, root_usable}
 use Rattle.ndr_code.specs.declared.instr.Instr.TheVariants as op
 use Rattle.ndr_code.specs.declared.plan.Plan.{Plan}
 use Rattle.ndr_code.specs.Code.{code_of, root_by, whole_at}
-use Rattle.ndr_steps.specs.Spots.{IsFine, IsPlanned}
-use Rattle.ndr_steps.specs.Steps.{State}
-use Rattle.ndr_steps.proofs.PlanRuns.{planned}
-use Rattle.ndr_runs.specs.Reaching.{IsSafe, Reaches}
-use Rattle.ndr_state.specs.declared.machine.Machine.{Machine}
-use Rattle.ndr_state.specs.Seen.{state_of}
-use Rattle.ndr_verdict.specs.Verdict.{is_direct}
-use Rattle.ndr_stream.specs.Between.{Opens}
-use Rattle.ndr_stream.proofs.DirectEnds.{its_usable}
-use Rattle.ndr_stream.proofs.FineTypes.{usable_fine}
-use Rattle.ndr_kept.specs.declared.stream.Stream.{Stream}
-use Rattle.ndr_kept.specs.Seen.{between_of}
+use Rattle.ndr_decoder_laws.specs.steps.Spots.{IsFine, IsPlanned}
+use Rattle.ndr_decoder_laws.specs.steps.Steps.{State}
+use Rattle.ndr_decoder_laws.proofs.steps.PlanRuns.{planned}
+use Rattle.ndr_decoder_laws.specs.runs.Reaching.{IsSafe, Reaches}
+use Rattle.ndr_decoder_state.specs.declared.machine.Machine.{Machine}
+use Rattle.ndr_decoder_state.specs.Seen.{state_of}
+use Rattle.ndr_decoder_laws.specs.verdict.Verdict.{is_direct}
+use Rattle.ndr_decoder_laws.specs.stream.Between.{Opens}
+use Rattle.ndr_decoder_laws.proofs.stream.DirectEnds.{its_usable}
+use Rattle.ndr_decoder_laws.proofs.stream.FineTypes.{usable_fine}
+use Rattle.ndr_decoder_pending.specs.declared.stream.Stream.{Stream}
+use Rattle.ndr_decoder_pending.specs.Seen.{between_of}
 use Rattle.ndr_decode.specs.Streaming.{Stands}
 use Rattle.ndr_decode.proofs.PaidHomes.{paid_more, paid_same, roots_kept}
 use Rattle.ndr_decode.proofs.DirectReads.{direct_safe}

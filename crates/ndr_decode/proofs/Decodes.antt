@@ -23,14 +23,14 @@ use Rattle.nd_flat.specs.Building.{Building, CanClose, closed, fitting, start}
 use Rattle.nd_grammar.specs.LegalSide.{IsLegalSide}
 use Rattle.nd_grammar.specs.StreamReader.{read_start}
 use Rattle.ndr_code.specs.declared.plan.Plan.{Plan}
-use Rattle.ndr_state.specs.declared.fault.DecodeFault.{DecodeFault}
-use Rattle.ndr_state.specs.declared.fault.DecodeFault.TheVariants as fault
-use Rattle.ndr_stream.specs.Between.{Begins}
-use Rattle.ndr_stream.proofs.StreamBegins.{stream_begins}
-use Rattle.ndr_verdict.specs.Verdict.{DecodingSeen, IsDecoded}
-use Rattle.ndr_kept.specs.declared.stream.Stream.{Stream}
-use Rattle.ndr_kept.specs.Seen.{between_of}
-use Rattle.ndr_stream.specs.Report.{the_stream}
+use Rattle.ndr_decoder_state.specs.declared.fault.DecodeFault.{DecodeFault}
+use Rattle.ndr_decoder_state.specs.declared.fault.DecodeFault.TheVariants as fault
+use Rattle.ndr_decoder_laws.specs.stream.Between.{Begins}
+use Rattle.ndr_decoder_laws.proofs.stream.StreamBegins.{stream_begins}
+use Rattle.ndr_decoder_laws.specs.verdict.Verdict.{DecodingSeen, IsDecoded}
+use Rattle.ndr_decoder_pending.specs.declared.stream.Stream.{Stream}
+use Rattle.ndr_decoder_pending.specs.Seen.{between_of}
+use Rattle.ndr_decoder_laws.specs.stream.Report.{the_stream}
 use Rattle.ndr_decode.specs.declared.decoding.Decoded.{Decoded}
 use Rattle.ndr_decode.specs.Decoding.{IsFault}
 use Rattle.ndr_decode.specs.Piping.{EndComes}

@@ -34,36 +34,36 @@ use Rattle.nd_grammar.proofs.reader.ReaderStates.{WholeRead, read_wholly}
 use Rattle.ndr_code.specs.declared.instr.Instr.TheVariants as op
 use Rattle.ndr_code.specs.declared.plan.Plan.{Plan}
 use Rattle.ndr_code.specs.Code.{root_by, whole_at}
-use Rattle.ndr_machine.specs.Reaching.{EndsFault, EndsWhole}
-use Rattle.ndr_reading.specs.Around.{going}
-use Rattle.ndr_runs.specs.Reaching.{IsSafe, Reaches}
-use Rattle.ndr_state.specs.Notes.{NotesSeen}
-use Rattle.ndr_state.specs.Seen.{outside, state_of}
-use Rattle.ndr_state.specs.declared.fault.DecodeFault.{DecodeFault}
-use Rattle.ndr_state.specs.declared.fault.DecodeFault.TheVariants as fault
-use Rattle.ndr_state.specs.declared.machine.Machine.{Machine}
-use Rattle.ndr_steps.specs.Good.{Told}
-use Rattle.ndr_steps.specs.Steps as steps
-use Rattle.ndr_steps.specs.Steps.{State}
-use Rattle.ndr_stream.specs.declared.kept.Kept.{Kept}
-use Rattle.ndr_stream.specs.declared.kept.KeptRoot.{KeptRoot}
-use Rattle.ndr_stream.specs.Added.{Goes}
-use Rattle.ndr_stream.specs.Between.{Agrees, Between, CellFilled, CellKept, Opens, cell_read, home_target, with_pointer}
-use Rattle.ndr_stream.specs.Calls.{CutOff, Took, TookPart}
-use Rattle.ndr_stream.specs.Parameters.{head_read}
-use Rattle.ndr_stream.specs.Report.{AreCells, StreamCut, the_head}
-use Rattle.ndr_stream.proofs.Cells.{told_reference}
-use Rattle.ndr_stream.proofs.DirectEnds.{its_usable, direct_goes}
-use Rattle.ndr_stream.proofs.DirectEnds as law
-use Rattle.ndr_stream.proofs.FewReferences.{few_next}
-use Rattle.ndr_stream.proofs.Graphs.{values_stay}
-use Rattle.ndr_stream.proofs.HomeFaults.{home_cut}
-use Rattle.ndr_stream.proofs.StreamGrows.{head_goes}
-use Rattle.ndr_kept.specs.Ends.{HomeRan, with_reference}
-use Rattle.ndr_kept.specs.Seen.{KeepsAll, ReferenceEnds, between_of}
-use Rattle.ndr_kept.specs.declared.stream.Stream.{Stream}
-use Rattle.ndr_kept.proofs.GraphEnds.{cell_ends}
-use Rattle.ndr_verdict.specs.Verdict.{DecodingSeen, direct_roots, is_direct}
+use Rattle.ndr_decoder_value.specs.Reaching.{EndsFault, EndsWhole}
+use Rattle.ndr_decoder_laws.specs.reader.Around.{going}
+use Rattle.ndr_decoder_laws.specs.runs.Reaching.{IsSafe, Reaches}
+use Rattle.ndr_decoder_state.specs.Notes.{NotesSeen}
+use Rattle.ndr_decoder_state.specs.Seen.{outside, state_of}
+use Rattle.ndr_decoder_state.specs.declared.fault.DecodeFault.{DecodeFault}
+use Rattle.ndr_decoder_state.specs.declared.fault.DecodeFault.TheVariants as fault
+use Rattle.ndr_decoder_state.specs.declared.machine.Machine.{Machine}
+use Rattle.ndr_decoder_laws.specs.steps.Good.{Told}
+use Rattle.ndr_decoder_laws.specs.steps.Steps as steps
+use Rattle.ndr_decoder_laws.specs.steps.Steps.{State}
+use Rattle.ndr_decoder_laws.specs.declared.kept.Kept.{Kept}
+use Rattle.ndr_decoder_laws.specs.declared.kept.KeptRoot.{KeptRoot}
+use Rattle.ndr_decoder_laws.specs.stream.Added.{Goes}
+use Rattle.ndr_decoder_laws.specs.stream.Between.{Agrees, Between, CellFilled, CellKept, Opens, cell_read, home_target, with_pointer}
+use Rattle.ndr_decoder_laws.specs.stream.Calls.{CutOff, Took, TookPart}
+use Rattle.ndr_decoder_laws.specs.stream.Parameters.{head_read}
+use Rattle.ndr_decoder_laws.specs.stream.Report.{AreCells, StreamCut, the_head}
+use Rattle.ndr_decoder_laws.proofs.stream.Cells.{told_reference}
+use Rattle.ndr_decoder_laws.proofs.stream.DirectEnds.{its_usable, direct_goes}
+use Rattle.ndr_decoder_laws.proofs.stream.DirectEnds as law
+use Rattle.ndr_decoder_laws.proofs.stream.FewReferences.{few_next}
+use Rattle.ndr_decoder_laws.proofs.stream.Graphs.{values_stay}
+use Rattle.ndr_decoder_laws.proofs.stream.HomeFaults.{home_cut}
+use Rattle.ndr_decoder_laws.proofs.stream.StreamGrows.{head_goes}
+use Rattle.ndr_decoder_pending.specs.Ends.{HomeRan, with_reference}
+use Rattle.ndr_decoder_pending.specs.Seen.{KeepsAll, ReferenceEnds, between_of}
+use Rattle.ndr_decoder_pending.specs.declared.stream.Stream.{Stream}
+use Rattle.ndr_decoder_pending.proofs.GraphEnds.{cell_ends}
+use Rattle.ndr_decoder_laws.specs.verdict.Verdict.{DecodingSeen, direct_roots, is_direct}
 use Rattle.ndr_decode.specs.Streaming.{FaultOf, HomeWhole, Reads, Stands, WentOn, cells_of, purpose_of}
 use Rattle.ndr_decode.proofs.AtRoots.{code_is, direct_is, direct_placed_safe, legal_is, planned_is}
 use Rattle.ndr_decode.proofs.Counted.{fault_counted, with_steps}

@@ -10,13 +10,13 @@ use Rattle.nd_grammar.specs.FewItems.{but_gaps}
 use Rattle.nd_grammar.specs.Items.{items}
 use Rattle.nd_grammar.specs.LegalSide.{IsLegalSide}
 use Rattle.nd_grammar.specs.StreamReader.{read_stream}
-use Rattle.ndr_reading.specs.Around.{going}
-use Rattle.ndr_verdict.specs.Verdict.{DecodingSeen, IsDecoded}
-use Rattle.ndr_stream.specs.Calls.{Follows}
-use Rattle.ndr_stream.proofs.Joined as joined
-use Rattle.ndr_stream.proofs.Reports as law
-use Rattle.ndr_kept.specs.declared.stream.Stream.{Stream}
-use Rattle.ndr_kept.proofs.Opened.{closed_length}
+use Rattle.ndr_decoder_laws.specs.reader.Around.{going}
+use Rattle.ndr_decoder_laws.specs.verdict.Verdict.{DecodingSeen, IsDecoded}
+use Rattle.ndr_decoder_laws.specs.stream.Calls.{Follows}
+use Rattle.ndr_decoder_laws.proofs.stream.Joined as joined
+use Rattle.ndr_decoder_laws.proofs.stream.Reports as law
+use Rattle.ndr_decoder_pending.specs.declared.stream.Stream.{Stream}
+use Rattle.ndr_decoder_pending.proofs.Opened.{closed_length}
 use Rattle.ndr_decode.specs.Streaming.{WasRead, WentOn, cells_of}
 
 pub decoded_reported : (w : Setting) → IsLegalSide w → (order : Order) (source : SourceSeen) (t : DecodingSeen) (x : Stream) → WasRead w order [] [] 0 source t x → IsDecoded w order source x.machine.at (closed x.machine.builder) t

@@ -7,14 +7,14 @@ use Rattle.nd_value.specs.declared.item.Item.{Item}
 use Rattle.nd_value.specs.Setting.{Setting}
 use Rattle.nd_grammar.specs.declared.reason.Reason.TheVariants as reason
 use Rattle.nd_grammar.specs.LegalSide.{IsLegalSide}
-use Rattle.ndr_state.specs.declared.fault.DecodeFault.{DecodeFault}
-use Rattle.ndr_state.specs.declared.fault.DecodeFault.TheVariants as fault
-use Rattle.ndr_state.specs.declared.machine.Owed.{Owed}
-use Rattle.ndr_verdict.specs.Verdict.{DecodingSeen}
-use Rattle.ndr_stream.specs.Calls.{CutOff}
-use Rattle.ndr_kept.specs.declared.stream.Stream.{Stream}
-use Rattle.ndr_stream.specs.Report.{the_head, the_stream}
-use Rattle.ndr_stream.proofs.Heads.{cut_stream, refused_stream}
+use Rattle.ndr_decoder_state.specs.declared.fault.DecodeFault.{DecodeFault}
+use Rattle.ndr_decoder_state.specs.declared.fault.DecodeFault.TheVariants as fault
+use Rattle.ndr_decoder_state.specs.declared.machine.Owed.{Owed}
+use Rattle.ndr_decoder_laws.specs.verdict.Verdict.{DecodingSeen}
+use Rattle.ndr_decoder_laws.specs.stream.Calls.{CutOff}
+use Rattle.ndr_decoder_pending.specs.declared.stream.Stream.{Stream}
+use Rattle.ndr_decoder_laws.specs.stream.Report.{the_head, the_stream}
+use Rattle.ndr_decoder_laws.proofs.stream.Heads.{cut_stream, refused_stream}
 use Rattle.ndr_decode.specs.Streaming.{FaultOf, Reads, ReadsTaking}
 
 -- what is right of a fault is right of the answer that hands it on

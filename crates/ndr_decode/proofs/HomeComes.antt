@@ -25,30 +25,30 @@ use Rattle.nd_grammar.specs.Items.{items}
 use Rattle.nd_grammar.specs.Reader.{Progress, Read}
 use Rattle.ndr_code.specs.declared.instr.Instr.{Instr}
 use Rattle.ndr_code.specs.declared.lists.EnumList.{EnumList}
-use Rattle.ndr_reading.specs.Around.{going, stopped}
-use Rattle.ndr_steps.specs.Good.{Good, HasOctets, IsCut}
-use Rattle.ndr_steps.specs.Spots.{IsPlanned}
-use Rattle.ndr_steps.specs.StepItems.{step_items}
-use Rattle.ndr_steps.specs.Steps.{State, refused, wants, step}
-use Rattle.ndr_steps.proofs.Lacking.{cut_right}
-use Rattle.ndr_steps.proofs.Passing.{items_stay}
-use Rattle.ndr_runs.specs.Reaching.{Reaches}
-use Rattle.ndr_runs.specs.Refusals.{IsRefusedHere, IsShort}
-use Rattle.ndr_runs.proofs.EndRuns.{needed_then, needed_along, whole_end, refused_end, cut_end, long_end}
-use Rattle.ndr_runs.proofs.GoodRuns.{along}
-use Rattle.ndr_runs.proofs.Joining.{over_octets}
-use Rattle.ndr_state.specs.Notes.{NotesSeen, all_noted, ticks}
-use Rattle.ndr_state.specs.declared.fault.DecodeFault.{DecodeFault}
-use Rattle.ndr_state.specs.declared.fault.DecodeFault.TheVariants as fault
-use Rattle.ndr_machine.specs.Reaching.{IsLogged, IsLoggedPart, End, EndsWhole, EndsBad, EndsUnread, EndsCutOff, EndsFault}
-use Rattle.ndr_verdict.specs.Needed.{IsNeeded}
-use Rattle.ndr_verdict.specs.Verdict.{DecodingSeen, with_items, direct_roots}
-use Rattle.ndr_stream.specs.Added.{Added}
-use Rattle.ndr_stream.specs.Between.{AreNeeded}
-use Rattle.ndr_stream.specs.Calls.{Took, TookPart, Refused, Unread, CutOff, RefusesWith, GoesWith}
-use Rattle.ndr_stream.specs.Report.{AreCells, Extent, StreamRefused}
-use Rattle.ndr_stream.proofs.HomeFaults.{home_refused, home_cut}
-use Rattle.ndr_stream.proofs.StateAdds.{state_adds}
+use Rattle.ndr_decoder_laws.specs.reader.Around.{going, stopped}
+use Rattle.ndr_decoder_laws.specs.steps.Good.{Good, HasOctets, IsCut}
+use Rattle.ndr_decoder_laws.specs.steps.Spots.{IsPlanned}
+use Rattle.ndr_decoder_laws.specs.steps.StepItems.{step_items}
+use Rattle.ndr_decoder_laws.specs.steps.Steps.{State, refused, wants, step}
+use Rattle.ndr_decoder_laws.proofs.steps.Lacking.{cut_right}
+use Rattle.ndr_decoder_laws.proofs.steps.Passing.{items_stay}
+use Rattle.ndr_decoder_laws.specs.runs.Reaching.{Reaches}
+use Rattle.ndr_decoder_laws.specs.runs.Refusals.{IsRefusedHere, IsShort}
+use Rattle.ndr_decoder_laws.proofs.runs.EndRuns.{needed_then, needed_along, whole_end, refused_end, cut_end, long_end}
+use Rattle.ndr_decoder_laws.proofs.runs.GoodRuns.{along}
+use Rattle.ndr_decoder_laws.proofs.runs.Joining.{over_octets}
+use Rattle.ndr_decoder_state.specs.Notes.{NotesSeen, all_noted, ticks}
+use Rattle.ndr_decoder_state.specs.declared.fault.DecodeFault.{DecodeFault}
+use Rattle.ndr_decoder_state.specs.declared.fault.DecodeFault.TheVariants as fault
+use Rattle.ndr_decoder_value.specs.Reaching.{IsLogged, IsLoggedPart, End, EndsWhole, EndsBad, EndsUnread, EndsCutOff, EndsFault}
+use Rattle.ndr_decoder_laws.specs.verdict.Needed.{IsNeeded}
+use Rattle.ndr_decoder_laws.specs.verdict.Verdict.{DecodingSeen, with_items, direct_roots}
+use Rattle.ndr_decoder_laws.specs.stream.Added.{Added}
+use Rattle.ndr_decoder_laws.specs.stream.Between.{AreNeeded}
+use Rattle.ndr_decoder_laws.specs.stream.Calls.{Took, TookPart, Refused, Unread, CutOff, RefusesWith, GoesWith}
+use Rattle.ndr_decoder_laws.specs.stream.Report.{AreCells, Extent, StreamRefused}
+use Rattle.ndr_decoder_laws.proofs.stream.HomeFaults.{home_refused, home_cut}
+use Rattle.ndr_decoder_laws.proofs.stream.StateAdds.{state_adds}
 use Rattle.ndr_decode.proofs.WholeStays.{whole_stays}
 use Rattle.ndr_decode.specs.Streaming.{FaultOf, HomeWhole}
 

@@ -16,16 +16,16 @@ use Rattle.nd_value.specs.Setting.{Setting}
 use Rattle.nd_grammar.specs.Entry.{EntryAt}
 use Rattle.nd_grammar.specs.LegalSide.{IsLegalSide}
 use Rattle.nd_grammar.specs.StreamReader.{Reading}
-use Rattle.ndr_steps.specs.Steps as steps
-use Rattle.ndr_steps.specs.Good.{owed}
-use Rattle.ndr_state.specs.declared.fault.DecodeFault.{DecodeFault}
-use Rattle.ndr_state.specs.declared.fault.DecodeFault.TheVariants as fault
-use Rattle.ndr_state.specs.declared.machine.Owed.{Owed}
-use Rattle.ndr_state.specs.Seen.{owed_of}
-use Rattle.ndr_stream.specs.declared.kept.Kept.{Kept}
-use Rattle.ndr_stream.specs.Between.{kept_at}
-use Rattle.ndr_stream.proofs.OtherTurns.{passes_null, passes_read, disagrees}
-use Rattle.ndr_kept.specs.declared.stream.Stream.{Stream}
+use Rattle.ndr_decoder_laws.specs.steps.Steps as steps
+use Rattle.ndr_decoder_laws.specs.steps.Good.{owed}
+use Rattle.ndr_decoder_state.specs.declared.fault.DecodeFault.{DecodeFault}
+use Rattle.ndr_decoder_state.specs.declared.fault.DecodeFault.TheVariants as fault
+use Rattle.ndr_decoder_state.specs.declared.machine.Owed.{Owed}
+use Rattle.ndr_decoder_state.specs.Seen.{owed_of}
+use Rattle.ndr_decoder_laws.specs.declared.kept.Kept.{Kept}
+use Rattle.ndr_decoder_laws.specs.stream.Between.{kept_at}
+use Rattle.ndr_decoder_laws.proofs.stream.OtherTurns.{passes_null, passes_read, disagrees}
+use Rattle.ndr_decoder_pending.specs.declared.stream.Stream.{Stream}
 use Rattle.ndr_decode.specs.Streaming.{Reads, StandsWith, WentOn, cells_of, with_next}
 use Rattle.ndr_decode.specs.Tried.{AreTried}
 use Rattle.ndr_decode.proofs.Standing.{idle_log, idle_source, not_cut, refused_here, went_nowhere}

@@ -15,13 +15,13 @@ use Rattle.nd_grammar.proofs.reader.ReaderMoves.{paid}
 use Rattle.nd_grammar.proofs.reader.ReaderRoots.{few_before}
 use Rattle.nd_grammar.proofs.reader.ReaderStates.{State as IsReading}
 use Rattle.nd_grammar.proofs.reader.ReaderStream.{roots_few}
-use Rattle.ndr_reading.specs.Around.{going}
-use Rattle.ndr_steps.specs.Good.{Told}
-use Rattle.ndr_steps.specs.Steps.{State}
-use Rattle.ndr_runs.specs.Paid.{AllRead, IsPaid}
-use Rattle.ndr_runs.specs.Paid as nodes
-use Rattle.ndr_stream.specs.declared.kept.KeptRoot.{KeptRoot}
-use Rattle.ndr_stream.specs.Between.{Agrees, AreKept, Between, Opens}
+use Rattle.ndr_decoder_laws.specs.reader.Around.{going}
+use Rattle.ndr_decoder_laws.specs.steps.Good.{Told}
+use Rattle.ndr_decoder_laws.specs.steps.Steps.{State}
+use Rattle.ndr_decoder_laws.specs.runs.Paid.{AllRead, IsPaid}
+use Rattle.ndr_decoder_laws.specs.runs.Paid as nodes
+use Rattle.ndr_decoder_laws.specs.declared.kept.KeptRoot.{KeptRoot}
+use Rattle.ndr_decoder_laws.specs.stream.Between.{Agrees, AreKept, Between, Opens}
 
 pub opened_paid : (run : ℕ) (b : Between) (types : List ℕ) (x : State) → Opens run b types x → 4 * length types ≤ b.at + 4096 → IsPaid x
 opened_paid run b types x o few =

@@ -26,15 +26,15 @@ use Rattle.ndr_code.specs.declared.instr.Instr.{Instr}
 use Rattle.ndr_code.specs.declared.instr.Instr.TheVariants as op
 use Rattle.ndr_code.specs.Code.{checks_run, given_check, root_check, root_checks, vars_checks}
 use Rattle.ndr_code.specs.Runs.{IsRunAt}
-use Rattle.ndr_sides.specs.Tried.{tried}
-use Rattle.ndr_sides.proofs.TriedRoots.{checks_tried}
-use Rattle.ndr_steps.specs.Good.{Told}
-use Rattle.ndr_stream.specs.Between.{Agrees, Between}
-use Rattle.ndr_stream.specs.Parameters.{TestsPass, TestsStop, parameter_tests, with_pipes}
-use Rattle.ndr_stream.specs.Report.{IsRefusedAfter}
-use Rattle.ndr_stream.proofs.HeadEnds.{parameters_stop}
-use Rattle.ndr_parameters.specs.Trials.{checks_fail, is_check}
-use Rattle.ndr_parameters.proofs.Together.{run_passes, run_stops}
+use Rattle.ndr_code.specs.Tried.{tried}
+use Rattle.ndr_code.proofs.TriedRoots.{checks_tried}
+use Rattle.ndr_decoder_laws.specs.steps.Good.{Told}
+use Rattle.ndr_decoder_laws.specs.stream.Between.{Agrees, Between}
+use Rattle.ndr_decoder_laws.specs.stream.Parameters.{TestsPass, TestsStop, parameter_tests, with_pipes}
+use Rattle.ndr_decoder_laws.specs.stream.Report.{IsRefusedAfter}
+use Rattle.ndr_decoder_laws.proofs.stream.HeadEnds.{parameters_stop}
+use Rattle.ndr_decoder_agreements.specs.Trials.{checks_fail, is_check}
+use Rattle.ndr_decoder_agreements.proofs.Together.{run_passes, run_stops}
 
 abbrev AreChecks : List Instr → Type 0
 AreChecks is = AllByRecursion (λ (i : Instr). is_check i ≡ true) is

@@ -16,16 +16,16 @@ use Rattle.nd_grammar.specs.Entry.{EntryAt}
 use Rattle.nd_grammar.specs.LegalSide.{IsLegalSide}
 use Rattle.nd_grammar.specs.StreamReader.{Reading}
 use Rattle.ndr_code.specs.declared.plan.Plan.{Plan}
-use Rattle.ndr_state.specs.declared.fault.DecodeFault.{DecodeFault}
-use Rattle.ndr_state.specs.declared.fault.DecodeFault.TheVariants as fault
-use Rattle.ndr_state.specs.declared.machine.Machine.{Machine}
-use Rattle.ndr_state.specs.declared.machine.Owed.{Owed}
-use Rattle.ndr_verdict.specs.Verdict.{DecodingSeen, decoding_seen}
-use Rattle.ndr_stream.specs.Between.{Agrees, Between}
-use Rattle.ndr_stream.specs.Calls.{Follows, Took}
-use Rattle.ndr_kept.specs.declared.stream.Stream.{Stream}
-use Rattle.ndr_kept.specs.Seen.{pending_in}
-use Rattle.ndr_stream.specs.Report.{the_head}
+use Rattle.ndr_decoder_state.specs.declared.fault.DecodeFault.{DecodeFault}
+use Rattle.ndr_decoder_state.specs.declared.fault.DecodeFault.TheVariants as fault
+use Rattle.ndr_decoder_state.specs.declared.machine.Machine.{Machine}
+use Rattle.ndr_decoder_state.specs.declared.machine.Owed.{Owed}
+use Rattle.ndr_decoder_laws.specs.verdict.Verdict.{DecodingSeen, decoding_seen}
+use Rattle.ndr_decoder_laws.specs.stream.Between.{Agrees, Between}
+use Rattle.ndr_decoder_laws.specs.stream.Calls.{Follows, Took}
+use Rattle.ndr_decoder_pending.specs.declared.stream.Stream.{Stream}
+use Rattle.ndr_decoder_pending.specs.Seen.{pending_in}
+use Rattle.ndr_decoder_laws.specs.stream.Report.{the_head}
 use Rattle.ndr_decode.specs.Streaming.{FaultOf, IsAtReferent, IsStreaming, PendingReads, ReferentReads, Stands, WentOn, WentOnTaking, cells_of, with_next, with_taken}
 use Rattle.ndr_decode.proofs.PendingTurns.{HasNext, none_due, stands_next}
 use Rattle.ndr_decode.proofs.Placed.{types_length}

@@ -12,15 +12,15 @@ use Rattle.nd_flat.specs.Building.{CanClose}
 use Rattle.nd_grammar.specs.Entry.{EntryAt}
 use Rattle.nd_grammar.specs.LegalSide.{IsLegalSide}
 use Rattle.nd_grammar.specs.StreamReader.{Reading}
-use Rattle.ndr_steps.specs.Steps as steps
-use Rattle.ndr_steps.specs.Good.{owed}
-use Rattle.ndr_state.specs.declared.machine.Machine.{Machine}
-use Rattle.ndr_state.specs.declared.machine.Owed.{Owed}
-use Rattle.ndr_state.specs.declared.machine.Wanted.{Wanted}
-use Rattle.ndr_state.specs.Seen.{owed_of}
-use Rattle.ndr_stream.specs.Between.{Agrees, Between}
-use Rattle.ndr_kept.specs.declared.stream.Stream.{Stream}
-use Rattle.ndr_kept.specs.Seen.{pending_in}
+use Rattle.ndr_decoder_laws.specs.steps.Steps as steps
+use Rattle.ndr_decoder_laws.specs.steps.Good.{owed}
+use Rattle.ndr_decoder_state.specs.declared.machine.Machine.{Machine}
+use Rattle.ndr_decoder_state.specs.declared.machine.Owed.{Owed}
+use Rattle.ndr_decoder_state.specs.declared.machine.Wanted.{Wanted}
+use Rattle.ndr_decoder_state.specs.Seen.{owed_of}
+use Rattle.ndr_decoder_laws.specs.stream.Between.{Agrees, Between}
+use Rattle.ndr_decoder_pending.specs.declared.stream.Stream.{Stream}
+use Rattle.ndr_decoder_pending.specs.Seen.{pending_in}
 use Rattle.ndr_decode.specs.Streaming.{StandsTaking, StandsWith, with_next, with_taken}
 
 -- the last of the list is the next

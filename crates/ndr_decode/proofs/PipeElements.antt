@@ -26,30 +26,30 @@ use Rattle.std.specs.Prelude.{not, ◌&&◌}
 use Rattle.nd_types.specs.Layout.{hoists}
 use Rattle.ndr_code.specs.Code.{place_at}
 use Rattle.ndr_code.specs.declared.plan.Plan.{Plan}
-use Rattle.ndr_reading.specs.Around.{going}
-use Rattle.ndr_reading.proofs.FlatNodes.{count_joined}
-use Rattle.ndr_steps.specs.declared.frame.Frame.TheVariants as frame
-use Rattle.ndr_steps.specs.Chunks.{chunk_read}
-use Rattle.ndr_steps.specs.Good.{Good}
-use Rattle.ndr_steps.specs.Spots.{IsFine, IsPlanned}
-use Rattle.ndr_steps.specs.Steps.{State}
-use Rattle.ndr_runs.specs.Paid.{AllRead, IsPaid, paid}
-use Rattle.ndr_runs.specs.Reaching.{IsSafe, Reaches}
-use Rattle.ndr_runs.proofs.ChunkSafe.{safe_in_chunk}
-use Rattle.ndr_runs.proofs.PaidSteps.{paid_whole}
-use Rattle.ndr_state.specs.declared.fault.DecodeFault.{DecodeFault}
-use Rattle.ndr_state.specs.declared.machine.Machine.{Machine}
-use Rattle.ndr_state.specs.Notes.{NotesSeen}
-use Rattle.ndr_state.specs.Seen.{Outside, outside, state_of}
-use Rattle.ndr_machine.specs.Reaching.{EndsFault, EndsWhole}
-use Rattle.ndr_stream.proofs.FineTypes.{usable_fine}
-use Rattle.ndr_pipes.specs.Pipes.{InPipe, OpensChunk, Position, at_chunk, at_elements, kids_of, read_to}
-use Rattle.ndr_pipes.proofs.Elements.{elements_add, elements_begin, elements_refused}
-use Rattle.ndr_pipes.proofs.ElementsEnd.{elements_end, not_whole}
-use Rattle.ndr_chunks.specs.Chunks.{HasMoved, IsAt}
-use Rattle.ndr_chunks.specs.Opening.{BeginsElements}
-use Rattle.ndr_kept.specs.Ends.{HomeRan}
-use Rattle.ndr_stream.specs.Report.{the_stream}
+use Rattle.ndr_decoder_laws.specs.reader.Around.{going}
+use Rattle.ndr_decoder_laws.proofs.reader.FlatNodes.{count_joined}
+use Rattle.ndr_decoder_laws.specs.declared.frame.Frame.TheVariants as frame
+use Rattle.ndr_decoder_laws.specs.steps.Chunks.{chunk_read}
+use Rattle.ndr_decoder_laws.specs.steps.Good.{Good}
+use Rattle.ndr_decoder_laws.specs.steps.Spots.{IsFine, IsPlanned}
+use Rattle.ndr_decoder_laws.specs.steps.Steps.{State}
+use Rattle.ndr_decoder_laws.specs.runs.Paid.{AllRead, IsPaid, paid}
+use Rattle.ndr_decoder_laws.specs.runs.Reaching.{IsSafe, Reaches}
+use Rattle.ndr_decoder_laws.proofs.runs.ChunkSafe.{safe_in_chunk}
+use Rattle.ndr_decoder_laws.proofs.runs.PaidSteps.{paid_whole}
+use Rattle.ndr_decoder_state.specs.declared.fault.DecodeFault.{DecodeFault}
+use Rattle.ndr_decoder_state.specs.declared.machine.Machine.{Machine}
+use Rattle.ndr_decoder_state.specs.Notes.{NotesSeen}
+use Rattle.ndr_decoder_state.specs.Seen.{Outside, outside, state_of}
+use Rattle.ndr_decoder_value.specs.Reaching.{EndsFault, EndsWhole}
+use Rattle.ndr_decoder_laws.proofs.stream.FineTypes.{usable_fine}
+use Rattle.ndr_decoder_laws.specs.pipes.Pipes.{InPipe, OpensChunk, Position, at_chunk, at_elements, kids_of, read_to}
+use Rattle.ndr_decoder_laws.proofs.pipes.Elements.{elements_add, elements_begin, elements_refused}
+use Rattle.ndr_decoder_laws.proofs.pipes.ElementsEnd.{elements_end, not_whole}
+use Rattle.ndr_decoder_chunks.specs.Chunks.{HasMoved, IsAt}
+use Rattle.ndr_decoder_chunks.specs.Opening.{BeginsElements}
+use Rattle.ndr_decoder_pending.specs.Ends.{HomeRan}
+use Rattle.ndr_decoder_laws.specs.stream.Report.{the_stream}
 use Rattle.ndr_decode.specs.Piping.{IsInPipe, IsPipeBy}
 use Rattle.ndr_decode.specs.Streaming.{FaultOf, HomeWhole}
 use Rattle.ndr_decode.proofs.AtRoots.{legal_is, planned_is}

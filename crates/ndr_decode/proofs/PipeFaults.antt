@@ -10,15 +10,15 @@ use Rattle.nd_value.specs.Setting.{Setting}
 use Rattle.nd_grammar.specs.Entry.{EntryAt}
 use Rattle.nd_grammar.specs.Reader.{Names}
 use Rattle.nd_grammar.specs.StreamReader.{read_stream}
-use Rattle.ndr_reading.specs.Around.{going}
+use Rattle.ndr_decoder_laws.specs.reader.Around.{going}
 use Rattle.ndr_refs.specs.declared.referents.Known.{Known}
-use Rattle.ndr_steps.specs.Good.{Told}
-use Rattle.ndr_steps.specs.Steps.{Place}
-use Rattle.ndr_state.specs.declared.fault.DecodeFault.{DecodeFault}
-use Rattle.ndr_verdict.specs.Verdict.{DecodingSeen, direct_roots}
-use Rattle.ndr_stream.specs.Added.{Goes}
-use Rattle.ndr_stream.specs.Calls.{CutOff, Took}
-use Rattle.ndr_stream.specs.Report.{StreamCut, the_stream}
+use Rattle.ndr_decoder_laws.specs.steps.Good.{Told}
+use Rattle.ndr_decoder_laws.specs.steps.Steps.{Place}
+use Rattle.ndr_decoder_state.specs.declared.fault.DecodeFault.{DecodeFault}
+use Rattle.ndr_decoder_laws.specs.verdict.Verdict.{DecodingSeen, direct_roots}
+use Rattle.ndr_decoder_laws.specs.stream.Added.{Goes}
+use Rattle.ndr_decoder_laws.specs.stream.Calls.{CutOff, Took}
+use Rattle.ndr_decoder_laws.specs.stream.Report.{StreamCut, the_stream}
 
 pub faulty : {T : Type 0} (r : Result T DecodeFault) (e : DecodeFault) → IsErrAnd r (λ y. y ≡ e) → Err e ≡ r
 faulty (Ok t) e h = absurd h

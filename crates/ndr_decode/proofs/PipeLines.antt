@@ -33,7 +33,7 @@ use Rattle.ndr_code.proofs.Runs.{first_at}
 use Rattle.ndr_code.proofs.SideLines.{pipe_line_at}
 use Rattle.ndr_code.proofs.SideRuns.{pipe_run_at}
 use Rattle.ndr_code.proofs.TypeRuns.{place_run_at}
-use Rattle.ndr_sides.proofs.Parted.{pipes_last}
+use Rattle.ndr_code.proofs.Parted.{pipes_last}
 use Rattle.ndr_decode.specs.Piping.{CallsPipe}
 use Rattle.ndr_decode.specs.Streaming.{IsSettingOf}
 

@@ -17,16 +17,16 @@ use Rattle.nd_flat.specs.Building.{closed, opened, with_nodes, with_root}
 use Rattle.nd_grammar.specs.LegalSide.{IsLegalSide}
 use Rattle.nd_grammar.specs.Reader.{Names}
 use Rattle.ndr_code.specs.declared.plan.Plan.{Plan}
-use Rattle.ndr_state.specs.declared.fault.DecodeFault.{DecodeFault}
-use Rattle.ndr_state.specs.declared.fault.DecodeFault.TheVariants as fault
-use Rattle.ndr_state.specs.declared.machine.Machine.{Machine}
-use Rattle.ndr_verdict.specs.Verdict.{DecodingSeen}
-use Rattle.ndr_stream.specs.Calls.{Follows, Took}
-use Rattle.ndr_stream.specs.Report.{StreamCut, the_stream}
-use Rattle.ndr_stream.proofs.Joined.{took_twice}
-use Rattle.ndr_pipes.specs.Pipes.{Position}
-use Rattle.ndr_pipes.proofs.PipeEntries.{chunk_goes}
-use Rattle.ndr_pipes.proofs.PipesBegin.{pipes_add}
+use Rattle.ndr_decoder_state.specs.declared.fault.DecodeFault.{DecodeFault}
+use Rattle.ndr_decoder_state.specs.declared.fault.DecodeFault.TheVariants as fault
+use Rattle.ndr_decoder_state.specs.declared.machine.Machine.{Machine}
+use Rattle.ndr_decoder_laws.specs.verdict.Verdict.{DecodingSeen}
+use Rattle.ndr_decoder_laws.specs.stream.Calls.{Follows, Took}
+use Rattle.ndr_decoder_laws.specs.stream.Report.{StreamCut, the_stream}
+use Rattle.ndr_decoder_laws.proofs.stream.Joined.{took_twice}
+use Rattle.ndr_decoder_laws.specs.pipes.Pipes.{Position}
+use Rattle.ndr_decoder_laws.proofs.pipes.PipeEntries.{chunk_goes}
+use Rattle.ndr_decoder_laws.proofs.pipes.PipesBegin.{pipes_add}
 use Rattle.ndr_decode.specs.Piping.{ChunkComes, ElementsRead, IsAtChunk, IsAtPipe, IsBefore, IsInPipe, IsPipeBy, PipeComes, PipeRead}
 use Rattle.ndr_decode.specs.Streaming.{FaultOf}
 use Rattle.ndr_decode.proofs.PipeOpens.{cells_many, opened_cells, pipe_opened}

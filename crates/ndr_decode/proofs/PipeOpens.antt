@@ -18,18 +18,18 @@ use Rattle.nd_value.specs.Tree.{Referent, Tree, Trees, count, flat, more, node, 
 use Rattle.nd_flat.specs.Building.{Building, closed, opened, put, with_nodes, with_root}
 use Rattle.nd_flat.specs.Forest.{tree_in}
 use Rattle.nd_grammar.specs.Reader.{Names}
-use Rattle.ndr_runs.specs.Paid.{AllRead, IsPaid, paid}
-use Rattle.ndr_state.specs.declared.machine.Machine.{Machine}
-use Rattle.ndr_state.specs.Seen.{state_of}
-use Rattle.ndr_verdict.specs.Verdict.{DecodingSeen}
-use Rattle.ndr_stream.specs.Calls.{Took}
-use Rattle.ndr_pipes.specs.Pipes.{InPipe, InPipes, Position, at_chunk}
-use Rattle.ndr_pipes.proofs.PipesBegin.{pipe_begins}
-use Rattle.ndr_chunks.specs.Chunks.{HasMoved, IsAt}
-use Rattle.ndr_kept.specs.Ends.{HomeRan}
-use Rattle.ndr_kept.proofs.GraphEnds.{root_ends}
-use Rattle.ndr_kept.proofs.Opened.{closed_types}
-use Rattle.ndr_stream.specs.Between.{RootAdded}
+use Rattle.ndr_decoder_laws.specs.runs.Paid.{AllRead, IsPaid, paid}
+use Rattle.ndr_decoder_state.specs.declared.machine.Machine.{Machine}
+use Rattle.ndr_decoder_state.specs.Seen.{state_of}
+use Rattle.ndr_decoder_laws.specs.verdict.Verdict.{DecodingSeen}
+use Rattle.ndr_decoder_laws.specs.stream.Calls.{Took}
+use Rattle.ndr_decoder_laws.specs.pipes.Pipes.{InPipe, InPipes, Position, at_chunk}
+use Rattle.ndr_decoder_laws.proofs.pipes.PipesBegin.{pipe_begins}
+use Rattle.ndr_decoder_chunks.specs.Chunks.{HasMoved, IsAt}
+use Rattle.ndr_decoder_pending.specs.Ends.{HomeRan}
+use Rattle.ndr_decoder_pending.proofs.GraphEnds.{root_ends}
+use Rattle.ndr_decoder_pending.proofs.Opened.{closed_types}
+use Rattle.ndr_decoder_laws.specs.stream.Between.{RootAdded}
 use Rattle.ndr_decode.specs.Piping.{IsBefore, IsInPipe, PipeRead}
 use Rattle.ndr_decode.proofs.Placed.{can_close, types_length}
 

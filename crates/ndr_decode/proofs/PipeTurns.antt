@@ -15,25 +15,25 @@ use Rattle.nd_flat.specs.Building.{IsPipe, raised, with_nodes}
 use Rattle.nd_grammar.specs.LegalSide.{IsLegalSide}
 use Rattle.nd_grammar.specs.Reader.{Names, Read}
 use Rattle.ndr_code.specs.declared.plan.Plan.{Plan}
-use Rattle.ndr_reading.specs.Around.{going}
-use Rattle.ndr_runs.specs.Reaching.{IsSafe, Reaches}
-use Rattle.ndr_steps.specs.Chunks.{chunk_read}
-use Rattle.ndr_steps.specs.Steps.{State}
-use Rattle.ndr_machine.specs.Reaching.{EndsFault, EndsWhole}
-use Rattle.ndr_state.specs.declared.fault.DecodeFault.{DecodeFault}
-use Rattle.ndr_state.specs.declared.fault.DecodeFault.TheVariants as fault
-use Rattle.ndr_state.specs.declared.machine.Machine.{Machine}
-use Rattle.ndr_state.specs.Notes.{NotesSeen}
-use Rattle.ndr_state.specs.Seen.{outside, state_of}
-use Rattle.ndr_verdict.specs.Verdict.{DecodingSeen}
-use Rattle.ndr_stream.specs.Calls.{Follows}
-use Rattle.ndr_stream.specs.Report.{StreamCut, the_stream}
-use Rattle.ndr_stream.proofs.Joined.{took_twice}
-use Rattle.ndr_pipes.specs.Pipes.{InPipe, Position, at_elements, kids_of, read_to}
-use Rattle.ndr_pipes.proofs.Elements.{elements_come}
-use Rattle.ndr_chunks.specs.Chunks.{AfterCount, CountRead, Counts, HasMoved, IsAt}
-use Rattle.ndr_chunks.specs.Chunks as chunks
-use Rattle.ndr_chunks.specs.Opening.{BeginsElements}
+use Rattle.ndr_decoder_laws.specs.reader.Around.{going}
+use Rattle.ndr_decoder_laws.specs.runs.Reaching.{IsSafe, Reaches}
+use Rattle.ndr_decoder_laws.specs.steps.Chunks.{chunk_read}
+use Rattle.ndr_decoder_laws.specs.steps.Steps.{State}
+use Rattle.ndr_decoder_value.specs.Reaching.{EndsFault, EndsWhole}
+use Rattle.ndr_decoder_state.specs.declared.fault.DecodeFault.{DecodeFault}
+use Rattle.ndr_decoder_state.specs.declared.fault.DecodeFault.TheVariants as fault
+use Rattle.ndr_decoder_state.specs.declared.machine.Machine.{Machine}
+use Rattle.ndr_decoder_state.specs.Notes.{NotesSeen}
+use Rattle.ndr_decoder_state.specs.Seen.{outside, state_of}
+use Rattle.ndr_decoder_laws.specs.verdict.Verdict.{DecodingSeen}
+use Rattle.ndr_decoder_laws.specs.stream.Calls.{Follows}
+use Rattle.ndr_decoder_laws.specs.stream.Report.{StreamCut, the_stream}
+use Rattle.ndr_decoder_laws.proofs.stream.Joined.{took_twice}
+use Rattle.ndr_decoder_laws.specs.pipes.Pipes.{InPipe, Position, at_elements, kids_of, read_to}
+use Rattle.ndr_decoder_laws.proofs.pipes.Elements.{elements_come}
+use Rattle.ndr_decoder_chunks.specs.Chunks.{AfterCount, CountRead, Counts, HasMoved, IsAt}
+use Rattle.ndr_decoder_chunks.specs.Chunks as chunks
+use Rattle.ndr_decoder_chunks.specs.Opening.{BeginsElements}
 use Rattle.ndr_decode.specs.Piping.{ChunkComes, ElementsRead, IsInPipe, IsPipeBy}
 use Rattle.ndr_decode.specs.Streaming.{FaultOf, HomeWhole}
 use Rattle.ndr_decode.proofs.HomeComes.{decoding_of}

@@ -30,23 +30,23 @@ use Rattle.nd_grammar.proofs.reader.ReaderStream.{roots_few}
 use Rattle.ndr_code.specs.declared.lists.PlanLine.TheVariants as line
 use Rattle.ndr_code.specs.Code.{place_at}
 use Rattle.ndr_code.specs.declared.plan.Plan.{Plan}
-use Rattle.ndr_reading.specs.Around.{going}
-use Rattle.ndr_state.specs.declared.fault.DecodeFault.{DecodeFault}
-use Rattle.ndr_state.specs.declared.machine.Machine.{Machine}
-use Rattle.ndr_verdict.specs.Verdict.{DecodingSeen}
-use Rattle.ndr_stream.specs.Between.{Between}
-use Rattle.ndr_stream.specs.Calls.{Follows, Took}
-use Rattle.ndr_stream.specs.Parameters.{TestsPass, parameter_tests}
-use Rattle.ndr_stream.proofs.FewReferences.{few_now}
-use Rattle.ndr_stream.proofs.Graphs.{graph_is}
-use Rattle.ndr_stream.proofs.HeadEnds.{parameters_pass}
-use Rattle.ndr_stream.proofs.Joined.{took_twice}
-use Rattle.ndr_pipes.specs.Pipes.{InPipes, Position, pipes_due}
-use Rattle.ndr_pipes.proofs.PipesBegin.{pipes_begin, pipes_end}
-use Rattle.ndr_kept.specs.declared.stream.Stream.{Stream}
-use Rattle.ndr_kept.specs.Seen.{between_of}
-use Rattle.ndr_kept.proofs.Opened.{closed_types}
-use Rattle.ndr_stream.specs.Report.{the_stream}
+use Rattle.ndr_decoder_laws.specs.reader.Around.{going}
+use Rattle.ndr_decoder_state.specs.declared.fault.DecodeFault.{DecodeFault}
+use Rattle.ndr_decoder_state.specs.declared.machine.Machine.{Machine}
+use Rattle.ndr_decoder_laws.specs.verdict.Verdict.{DecodingSeen}
+use Rattle.ndr_decoder_laws.specs.stream.Between.{Between}
+use Rattle.ndr_decoder_laws.specs.stream.Calls.{Follows, Took}
+use Rattle.ndr_decoder_laws.specs.stream.Parameters.{TestsPass, parameter_tests}
+use Rattle.ndr_decoder_laws.proofs.stream.FewReferences.{few_now}
+use Rattle.ndr_decoder_laws.proofs.stream.Graphs.{graph_is}
+use Rattle.ndr_decoder_laws.proofs.stream.HeadEnds.{parameters_pass}
+use Rattle.ndr_decoder_laws.proofs.stream.Joined.{took_twice}
+use Rattle.ndr_decoder_laws.specs.pipes.Pipes.{InPipes, Position, pipes_due}
+use Rattle.ndr_decoder_laws.proofs.pipes.PipesBegin.{pipes_begin, pipes_end}
+use Rattle.ndr_decoder_pending.specs.declared.stream.Stream.{Stream}
+use Rattle.ndr_decoder_pending.specs.Seen.{between_of}
+use Rattle.ndr_decoder_pending.proofs.Opened.{closed_types}
+use Rattle.ndr_decoder_laws.specs.stream.Report.{the_stream}
 use Rattle.ndr_decode.specs.Piping.{CallsPipe, ElementsRun, EndComes, IsAtPipe, IsBefore, IsPipeBy, IsPipeLine, PipeComes}
 use Rattle.ndr_decode.specs.Streaming.{FaultOf, IsSettingOf, Stands, WasRead, cells_of}
 use Rattle.ndr_decode.proofs.PaidHomes.{paid_between, roots_kept, roots_within}

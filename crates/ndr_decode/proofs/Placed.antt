@@ -18,20 +18,20 @@ use Rattle.nd_flat.proofs.Forests.{whole-of}
 use Rattle.nd_grammar.specs.Entry.{EntryAt}
 use Rattle.nd_grammar.specs.LegalSide.{IsLegalSide}
 use Rattle.nd_grammar.specs.StreamReader.{Reading}
-use Rattle.ndr_steps.specs.declared.first.First.{First}
-use Rattle.ndr_steps.specs.Steps.{State}
-use Rattle.ndr_state.specs.declared.machine.Machine.{Machine}
-use Rattle.ndr_state.specs.Seen.{Outside, outside, state_of}
-use Rattle.ndr_verdict.specs.Verdict.{DecodingSeen, is_direct}
-use Rattle.ndr_stream.specs.declared.kept.Kept.{Kept}
-use Rattle.ndr_stream.specs.declared.kept.KeptRoot.{KeptRoot}
-use Rattle.ndr_stream.specs.Between.{Agrees, Between, IsKeptHome, RootAdded, home_target, root_read}
-use Rattle.ndr_stream.specs.Calls.{Took}
-use Rattle.ndr_stream.proofs.RootEnds as law
-use Rattle.ndr_kept.specs.declared.stream.Stream.{Stream}
-use Rattle.ndr_kept.specs.Ends.{HomeRan}
-use Rattle.ndr_kept.specs.Seen.{HasOwn, KeepsAll, RootEnds, between_of, pending_in}
-use Rattle.ndr_kept.proofs.GraphEnds.{root_ends}
+use Rattle.ndr_decoder_laws.specs.declared.first.First.{First}
+use Rattle.ndr_decoder_laws.specs.steps.Steps.{State}
+use Rattle.ndr_decoder_state.specs.declared.machine.Machine.{Machine}
+use Rattle.ndr_decoder_state.specs.Seen.{Outside, outside, state_of}
+use Rattle.ndr_decoder_laws.specs.verdict.Verdict.{DecodingSeen, is_direct}
+use Rattle.ndr_decoder_laws.specs.declared.kept.Kept.{Kept}
+use Rattle.ndr_decoder_laws.specs.declared.kept.KeptRoot.{KeptRoot}
+use Rattle.ndr_decoder_laws.specs.stream.Between.{Agrees, Between, IsKeptHome, RootAdded, home_target, root_read}
+use Rattle.ndr_decoder_laws.specs.stream.Calls.{Took}
+use Rattle.ndr_decoder_laws.proofs.stream.RootEnds as law
+use Rattle.ndr_decoder_pending.specs.declared.stream.Stream.{Stream}
+use Rattle.ndr_decoder_pending.specs.Ends.{HomeRan}
+use Rattle.ndr_decoder_pending.specs.Seen.{HasOwn, KeepsAll, RootEnds, between_of, pending_in}
+use Rattle.ndr_decoder_pending.proofs.GraphEnds.{root_ends}
 use Rattle.ndr_decode.specs.Streaming.{HomeWhole, Stands, WentOn, cells_of}
 
 pub ran : (m n : Machine) → outside n ≡ outside m → HomeRan m.builder n.builder

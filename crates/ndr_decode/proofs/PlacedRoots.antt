@@ -22,22 +22,22 @@ use Rattle.nd_grammar.specs.StreamReader.{Reading}
 use Rattle.ndr_code.specs.declared.instr.Instr.TheVariants as op
 use Rattle.ndr_code.specs.declared.plan.Plan.{Plan}
 use Rattle.ndr_code.specs.Code.{root_by, whole_at}
-use Rattle.ndr_machine.specs.Reaching.{EndsFault, EndsWhole}
-use Rattle.ndr_runs.specs.Reaching.{IsSafe, Reaches}
-use Rattle.ndr_state.specs.Notes.{NotesSeen}
-use Rattle.ndr_state.specs.Seen.{outside, state_of}
-use Rattle.ndr_state.specs.declared.fault.DecodeFault.{DecodeFault}
-use Rattle.ndr_state.specs.declared.fault.DecodeFault.TheVariants as fault
-use Rattle.ndr_steps.specs.Steps.{State}
-use Rattle.ndr_stream.specs.Between.{Opens, home_target}
-use Rattle.ndr_stream.specs.Calls.{CutOff, TookPart}
-use Rattle.ndr_stream.specs.Report.{AreCells, the_head}
-use Rattle.ndr_stream.proofs.FewReferences.{few_now}
-use Rattle.ndr_stream.proofs.HomeFaults.{home_cut}
-use Rattle.ndr_stream.proofs.RootEnds.{root_goes}
-use Rattle.ndr_kept.specs.Seen.{KeepsAll, RootEnds, between_of}
-use Rattle.ndr_kept.specs.declared.stream.Stream.{Stream}
-use Rattle.ndr_verdict.specs.Verdict.{DecodingSeen, is_direct}
+use Rattle.ndr_decoder_value.specs.Reaching.{EndsFault, EndsWhole}
+use Rattle.ndr_decoder_laws.specs.runs.Reaching.{IsSafe, Reaches}
+use Rattle.ndr_decoder_state.specs.Notes.{NotesSeen}
+use Rattle.ndr_decoder_state.specs.Seen.{outside, state_of}
+use Rattle.ndr_decoder_state.specs.declared.fault.DecodeFault.{DecodeFault}
+use Rattle.ndr_decoder_state.specs.declared.fault.DecodeFault.TheVariants as fault
+use Rattle.ndr_decoder_laws.specs.steps.Steps.{State}
+use Rattle.ndr_decoder_laws.specs.stream.Between.{Opens, home_target}
+use Rattle.ndr_decoder_laws.specs.stream.Calls.{CutOff, TookPart}
+use Rattle.ndr_decoder_laws.specs.stream.Report.{AreCells, the_head}
+use Rattle.ndr_decoder_laws.proofs.stream.FewReferences.{few_now}
+use Rattle.ndr_decoder_laws.proofs.stream.HomeFaults.{home_cut}
+use Rattle.ndr_decoder_laws.proofs.stream.RootEnds.{root_goes}
+use Rattle.ndr_decoder_pending.specs.Seen.{KeepsAll, RootEnds, between_of}
+use Rattle.ndr_decoder_pending.specs.declared.stream.Stream.{Stream}
+use Rattle.ndr_decoder_laws.specs.verdict.Verdict.{DecodingSeen, is_direct}
 use Rattle.ndr_decode.specs.Streaming.{FaultOf, HomeWhole, Reads, Stands, cells_of, purpose_of}
 use Rattle.ndr_decode.proofs.AtRoots.{call_is, code_is, legal_is, placed_safe, planned_is, usable_is}
 use Rattle.ndr_decode.proofs.Handed.{memory_fault, reads_fault}

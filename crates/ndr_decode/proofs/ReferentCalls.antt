@@ -18,24 +18,24 @@ use Rattle.nd_grammar.specs.StreamReader.{Reading}
 use Rattle.nd_grammar.proofs.legal.LegalUsable.{Usable}
 use Rattle.ndr_code.specs.declared.plan.Plan.{Plan}
 use Rattle.ndr_code.specs.Code.{whole_at}
-use Rattle.ndr_runs.specs.Paid.{IsPaid}
-use Rattle.ndr_runs.specs.Reaching.{IsSafe, Reaches}
-use Rattle.ndr_state.specs.Notes.{NotesSeen}
-use Rattle.ndr_state.specs.declared.fault.DecodeFault.{DecodeFault}
-use Rattle.ndr_state.specs.declared.fault.DecodeFault.TheVariants as fault
-use Rattle.ndr_state.specs.declared.machine.Machine.{Machine}
-use Rattle.ndr_state.specs.declared.machine.Owed.{Owed}
-use Rattle.ndr_state.specs.declared.machine.Wanted.{Wanted}
-use Rattle.ndr_state.specs.Seen.{agreement_of, outside, owed_of, state_of}
-use Rattle.ndr_steps.specs.Steps.{State}
-use Rattle.ndr_machine.specs.Reaching.{EndsFault, EndsWhole}
-use Rattle.ndr_stream.specs.declared.kept.Kept.{Kept}
-use Rattle.ndr_stream.specs.Between.{Opens, home_target, kept_at}
-use Rattle.ndr_stream.specs.Tests.{AllAgree}
-use Rattle.ndr_stream.proofs.FineTypes.{usable_fine}
-use Rattle.ndr_kept.specs.declared.stream.Stream.{Stream}
-use Rattle.ndr_kept.specs.Seen.{CellEnds, HasOwn, IsCleared, KeepsAll, KeepsHomes, between_of, pending_in, pending_with}
-use Rattle.ndr_stream.specs.Report.{the_head}
+use Rattle.ndr_decoder_laws.specs.runs.Paid.{IsPaid}
+use Rattle.ndr_decoder_laws.specs.runs.Reaching.{IsSafe, Reaches}
+use Rattle.ndr_decoder_state.specs.Notes.{NotesSeen}
+use Rattle.ndr_decoder_state.specs.declared.fault.DecodeFault.{DecodeFault}
+use Rattle.ndr_decoder_state.specs.declared.fault.DecodeFault.TheVariants as fault
+use Rattle.ndr_decoder_state.specs.declared.machine.Machine.{Machine}
+use Rattle.ndr_decoder_state.specs.declared.machine.Owed.{Owed}
+use Rattle.ndr_decoder_state.specs.declared.machine.Wanted.{Wanted}
+use Rattle.ndr_decoder_state.specs.Seen.{agreement_of, outside, owed_of, state_of}
+use Rattle.ndr_decoder_laws.specs.steps.Steps.{State}
+use Rattle.ndr_decoder_value.specs.Reaching.{EndsFault, EndsWhole}
+use Rattle.ndr_decoder_laws.specs.declared.kept.Kept.{Kept}
+use Rattle.ndr_decoder_laws.specs.stream.Between.{Opens, home_target, kept_at}
+use Rattle.ndr_decoder_laws.specs.stream.Tests.{AllAgree}
+use Rattle.ndr_decoder_laws.proofs.stream.FineTypes.{usable_fine}
+use Rattle.ndr_decoder_pending.specs.declared.stream.Stream.{Stream}
+use Rattle.ndr_decoder_pending.specs.Seen.{CellEnds, HasOwn, IsCleared, KeepsAll, KeepsHomes, between_of, pending_in, pending_with}
+use Rattle.ndr_decoder_laws.specs.stream.Report.{the_head}
 use Rattle.ndr_decode.specs.Streaming.{FaultOf, HomeWhole, StandsWith, WentOnTaking, cells_of, purpose_of, with_next}
 use Rattle.ndr_decode.specs.Tried.{AreTried}
 use Rattle.ndr_decode.proofs.AtRoots.{code_is, legal_is, planned_is}

@@ -21,23 +21,23 @@ use Rattle.nd_grammar.specs.LegalSide.{IsLegalSide}
 use Rattle.nd_grammar.specs.StreamReader.{Reading}
 use Rattle.nd_grammar.proofs.reader.ReaderNames.{longer}
 use Rattle.nd_grammar.proofs.reader.ReaderStates.{WholeRead, read_wholly}
-use Rattle.ndr_reading.specs.Around.{going}
-use Rattle.ndr_steps.specs.Steps as steps
-use Rattle.ndr_steps.specs.Steps.{State}
-use Rattle.ndr_state.specs.declared.machine.Machine.{Machine}
-use Rattle.ndr_state.specs.declared.machine.Owed.{Owed}
-use Rattle.ndr_state.specs.Seen.{outside, owed_of, state_of}
-use Rattle.ndr_verdict.specs.Verdict.{DecodingSeen}
+use Rattle.ndr_decoder_laws.specs.reader.Around.{going}
+use Rattle.ndr_decoder_laws.specs.steps.Steps as steps
+use Rattle.ndr_decoder_laws.specs.steps.Steps.{State}
+use Rattle.ndr_decoder_state.specs.declared.machine.Machine.{Machine}
+use Rattle.ndr_decoder_state.specs.declared.machine.Owed.{Owed}
+use Rattle.ndr_decoder_state.specs.Seen.{outside, owed_of, state_of}
+use Rattle.ndr_decoder_laws.specs.verdict.Verdict.{DecodingSeen}
 use Rattle.ndr_refs.specs.declared.referents.Known.{Known}
-use Rattle.ndr_stream.specs.declared.kept.Kept.{Kept}
-use Rattle.ndr_stream.specs.declared.kept.KeptRoot.{KeptRoot}
-use Rattle.ndr_stream.specs.Between.{Agrees, Between, CellFilled, CellKept, IsKeptHome, cell_read, home_target, kept_at}
-use Rattle.ndr_stream.specs.Tests.{AllAgree}
-use Rattle.ndr_stream.proofs.ReferentEnds as law
-use Rattle.ndr_kept.specs.declared.stream.Stream.{Stream}
-use Rattle.ndr_kept.specs.Ends.{HomeRan}
-use Rattle.ndr_kept.specs.Seen.{CellEnds, HasOwn, IsCleared, KeepsAll, KeepsHomes, between_of, pending_in, pending_with}
-use Rattle.ndr_kept.proofs.GraphEnds.{cell_ends}
+use Rattle.ndr_decoder_laws.specs.declared.kept.Kept.{Kept}
+use Rattle.ndr_decoder_laws.specs.declared.kept.KeptRoot.{KeptRoot}
+use Rattle.ndr_decoder_laws.specs.stream.Between.{Agrees, Between, CellFilled, CellKept, IsKeptHome, cell_read, home_target, kept_at}
+use Rattle.ndr_decoder_laws.specs.stream.Tests.{AllAgree}
+use Rattle.ndr_decoder_laws.proofs.stream.ReferentEnds as law
+use Rattle.ndr_decoder_pending.specs.declared.stream.Stream.{Stream}
+use Rattle.ndr_decoder_pending.specs.Ends.{HomeRan}
+use Rattle.ndr_decoder_pending.specs.Seen.{CellEnds, HasOwn, IsCleared, KeepsAll, KeepsHomes, between_of, pending_in, pending_with}
+use Rattle.ndr_decoder_pending.proofs.GraphEnds.{cell_ends}
 use Rattle.ndr_decode.specs.Streaming.{HomeWhole, StandsWith, WentOnTaking, cells_of, with_next, with_taken}
 use Rattle.ndr_decode.proofs.OwedReads.{agreements_are, cell_is, class_is}
 use Rattle.ndr_decode.proofs.Placed.{can_close, kept_of, ran, took_by, types_length}

@@ -17,21 +17,21 @@ use Rattle.nd_grammar.specs.Entry.{EntryAt}
 use Rattle.nd_grammar.specs.LegalSide.{IsLegalSide}
 use Rattle.nd_grammar.specs.Reader.{Read}
 use Rattle.nd_grammar.specs.StreamReader.{Reading}
-use Rattle.ndr_reading.specs.Around.{stopped}
-use Rattle.ndr_steps.specs.Steps.{State}
-use Rattle.ndr_state.specs.declared.machine.Owed.{Owed}
-use Rattle.ndr_state.specs.Seen.{owed_of}
-use Rattle.ndr_verdict.specs.Verdict.{DecodingSeen}
-use Rattle.ndr_stream.specs.declared.kept.Kept.{Kept}
-use Rattle.ndr_stream.specs.Between.{Agrees, IsKeptHome, home_target, kept_at}
-use Rattle.ndr_stream.specs.Calls.{CutOff, Refused, TookPart}
-use Rattle.ndr_stream.specs.Parameters.{head_read}
-use Rattle.ndr_stream.specs.Report.{AreCells, IsRefusedAfter, the_head}
-use Rattle.ndr_stream.proofs.FewReferences.{few_now}
-use Rattle.ndr_stream.proofs.HomeFaults.{home_cut}
-use Rattle.ndr_stream.proofs.ReferentEnds as law
-use Rattle.ndr_kept.specs.declared.stream.Stream.{Stream}
-use Rattle.ndr_kept.specs.Seen.{between_of}
+use Rattle.ndr_decoder_laws.specs.reader.Around.{stopped}
+use Rattle.ndr_decoder_laws.specs.steps.Steps.{State}
+use Rattle.ndr_decoder_state.specs.declared.machine.Owed.{Owed}
+use Rattle.ndr_decoder_state.specs.Seen.{owed_of}
+use Rattle.ndr_decoder_laws.specs.verdict.Verdict.{DecodingSeen}
+use Rattle.ndr_decoder_laws.specs.declared.kept.Kept.{Kept}
+use Rattle.ndr_decoder_laws.specs.stream.Between.{Agrees, IsKeptHome, home_target, kept_at}
+use Rattle.ndr_decoder_laws.specs.stream.Calls.{CutOff, Refused, TookPart}
+use Rattle.ndr_decoder_laws.specs.stream.Parameters.{head_read}
+use Rattle.ndr_decoder_laws.specs.stream.Report.{AreCells, IsRefusedAfter, the_head}
+use Rattle.ndr_decoder_laws.proofs.stream.FewReferences.{few_now}
+use Rattle.ndr_decoder_laws.proofs.stream.HomeFaults.{home_cut}
+use Rattle.ndr_decoder_laws.proofs.stream.ReferentEnds as law
+use Rattle.ndr_decoder_pending.specs.declared.stream.Stream.{Stream}
+use Rattle.ndr_decoder_pending.specs.Seen.{between_of}
 use Rattle.ndr_decode.specs.Streaming.{HomeWhole, StandsWith, with_next}
 use Rattle.ndr_decode.specs.Tried.{IsFirst}
 use Rattle.ndr_decode.proofs.OwedReads.{agreements_are, cell_is, class_is}

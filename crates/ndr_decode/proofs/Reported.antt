@@ -6,12 +6,12 @@ use Rattle.nd_value.specs.declared.item.Item.{Item}
 use Rattle.nd_value.specs.Setting.{Setting}
 use Rattle.nd_grammar.specs.FewItems.{but_gaps}
 use Rattle.nd_grammar.specs.LegalSide.{IsLegalSide}
-use Rattle.ndr_state.specs.declared.fault.DecodeFault.{DecodeFault}
-use Rattle.ndr_state.specs.declared.fault.DecodeFault.TheVariants as fault
-use Rattle.ndr_verdict.specs.Verdict.{DecodingSeen, IsCutOff}
-use Rattle.ndr_stream.specs.Calls.{CutOff, TookPart}
-use Rattle.ndr_stream.specs.Report.{IsReported, the_stream}
-use Rattle.ndr_stream.proofs.Reports as law
+use Rattle.ndr_decoder_state.specs.declared.fault.DecodeFault.{DecodeFault}
+use Rattle.ndr_decoder_state.specs.declared.fault.DecodeFault.TheVariants as fault
+use Rattle.ndr_decoder_laws.specs.verdict.Verdict.{DecodingSeen, IsCutOff}
+use Rattle.ndr_decoder_laws.specs.stream.Calls.{CutOff, TookPart}
+use Rattle.ndr_decoder_laws.specs.stream.Report.{IsReported, the_stream}
+use Rattle.ndr_decoder_laws.proofs.stream.Reports as law
 use Rattle.ndr_decode.specs.Decoding.{IsFault}
 use Rattle.ndr_decode.specs.Streaming.{FaultOf}
 

@@ -14,9 +14,9 @@ use Rattle.ndr_code.specs.declared.instr.Instr.{Instr}
 use Rattle.ndr_code.specs.declared.instr.Instr.TheVariants as op
 use Rattle.ndr_code.specs.declared.plan.Plan.{Plan}
 use Rattle.ndr_code.specs.Code.{root_by, whole_at}
-use Rattle.ndr_state.specs.declared.fault.DecodeFault.{DecodeFault}
-use Rattle.ndr_kept.specs.declared.stream.Stream.{Stream}
-use Rattle.ndr_verdict.specs.Verdict.{DecodingSeen}
+use Rattle.ndr_decoder_state.specs.declared.fault.DecodeFault.{DecodeFault}
+use Rattle.ndr_decoder_pending.specs.declared.stream.Stream.{Stream}
+use Rattle.ndr_decoder_laws.specs.verdict.Verdict.{DecodingSeen}
 use Rattle.ndr_decode.specs.Streaming.{IsAtRoot, RootReads}
 
 abbrev IsNext : Plan → Order → Stream → ℕ → Type 0

@@ -21,7 +21,7 @@ use Rattle.ndr_code.specs.Lines.{entries_of, line_at, side_number, sides_of}
 use Rattle.ndr_code.proofs.Runs.{first_at}
 use Rattle.ndr_code.proofs.SideLines.{checks_line_at, root_line_at, start_at}
 use Rattle.ndr_code.proofs.SideRuns.{root_run_at}
-use Rattle.ndr_sides.proofs.Parted.{values_first}
+use Rattle.ndr_code.proofs.Parted.{values_first}
 use Rattle.ndr_decode.specs.Streaming.{IsSettingOf}
 
 -- ## Roots before the first pipe

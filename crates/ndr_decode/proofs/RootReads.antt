@@ -22,23 +22,23 @@ use Rattle.nd_grammar.specs.StreamReader.{Reading}
 use Rattle.ndr_code.specs.declared.instr.Instr.{Instr}
 use Rattle.ndr_code.specs.declared.lists.EnumList.{EnumList}
 use Rattle.ndr_code.specs.Code.{code_of, whole_at}
-use Rattle.ndr_reading.specs.Around.{going}
-use Rattle.ndr_steps.specs.Good.{Good}
-use Rattle.ndr_steps.specs.Spots.{IsFine, IsPlanned}
-use Rattle.ndr_steps.specs.Steps.{State}
-use Rattle.ndr_runs.specs.Paid.{IsPaid}
-use Rattle.ndr_runs.specs.Reaching.{IsSafe, Reaches}
-use Rattle.ndr_runs.proofs.Safe.{safe_in_home}
-use Rattle.ndr_state.specs.Notes.{NotesSeen}
-use Rattle.ndr_state.specs.declared.fault.DecodeFault.{DecodeFault}
-use Rattle.ndr_machine.specs.Reaching.{EndsWhole, EndsFault}
-use Rattle.ndr_verdict.specs.Verdict.{is_direct}
-use Rattle.ndr_stream.specs.declared.kept.KeptRoot.{KeptRoot}
-use Rattle.ndr_stream.specs.Between.{Between, Agrees, Opens, IsKeptRoot, RootAdded, home_target, root_read}
-use Rattle.ndr_stream.proofs.FewReferences.{few_now}
-use Rattle.ndr_stream.proofs.HomeBegins.{home_begins}
-use Rattle.ndr_stream.proofs.RootEnds.{root_refused, root_goes, root_ends, after, new}
-use Rattle.ndr_stream.specs.Report.{the_head}
+use Rattle.ndr_decoder_laws.specs.reader.Around.{going}
+use Rattle.ndr_decoder_laws.specs.steps.Good.{Good}
+use Rattle.ndr_decoder_laws.specs.steps.Spots.{IsFine, IsPlanned}
+use Rattle.ndr_decoder_laws.specs.steps.Steps.{State}
+use Rattle.ndr_decoder_laws.specs.runs.Paid.{IsPaid}
+use Rattle.ndr_decoder_laws.specs.runs.Reaching.{IsSafe, Reaches}
+use Rattle.ndr_decoder_laws.proofs.runs.Safe.{safe_in_home}
+use Rattle.ndr_decoder_state.specs.Notes.{NotesSeen}
+use Rattle.ndr_decoder_state.specs.declared.fault.DecodeFault.{DecodeFault}
+use Rattle.ndr_decoder_value.specs.Reaching.{EndsWhole, EndsFault}
+use Rattle.ndr_decoder_laws.specs.verdict.Verdict.{is_direct}
+use Rattle.ndr_decoder_laws.specs.declared.kept.KeptRoot.{KeptRoot}
+use Rattle.ndr_decoder_laws.specs.stream.Between.{Between, Agrees, Opens, IsKeptRoot, RootAdded, home_target, root_read}
+use Rattle.ndr_decoder_laws.proofs.stream.FewReferences.{few_now}
+use Rattle.ndr_decoder_laws.proofs.stream.HomeBegins.{home_begins}
+use Rattle.ndr_decoder_laws.proofs.stream.RootEnds.{root_refused, root_goes, root_ends, after, new}
+use Rattle.ndr_decoder_laws.specs.stream.Report.{the_head}
 use Rattle.ndr_decode.specs.Streaming.{FaultOf, HomeWhole}
 use Rattle.ndr_decode.proofs.HomeComes.{whole_comes, fault_comes, decoding_of}
 

@@ -26,14 +26,14 @@ use Rattle.ndr_code.specs.declared.lists.PlanLine.TheVariants as line
 use Rattle.ndr_code.specs.declared.plan.Plan.{Plan}
 use Rattle.ndr_code.specs.Code.{checks_at, root_by, value_roots}
 use Rattle.ndr_code.specs.Lines.{line_at}
-use Rattle.ndr_state.specs.declared.fault.DecodeFault.{DecodeFault}
-use Rattle.ndr_verdict.specs.Verdict.{DecodingSeen, decoding_seen}
-use Rattle.ndr_stream.specs.Between.{Begins}
-use Rattle.ndr_stream.specs.Calls.{Follows}
-use Rattle.ndr_stream.proofs.StreamBegins.{stream_begins}
-use Rattle.ndr_kept.specs.declared.stream.Stream.{Stream}
-use Rattle.ndr_kept.specs.Seen.{between_of}
-use Rattle.ndr_stream.specs.Report.{the_head}
+use Rattle.ndr_decoder_state.specs.declared.fault.DecodeFault.{DecodeFault}
+use Rattle.ndr_decoder_laws.specs.verdict.Verdict.{DecodingSeen, decoding_seen}
+use Rattle.ndr_decoder_laws.specs.stream.Between.{Begins}
+use Rattle.ndr_decoder_laws.specs.stream.Calls.{Follows}
+use Rattle.ndr_decoder_laws.proofs.stream.StreamBegins.{stream_begins}
+use Rattle.ndr_decoder_pending.specs.declared.stream.Stream.{Stream}
+use Rattle.ndr_decoder_pending.specs.Seen.{between_of}
+use Rattle.ndr_decoder_laws.specs.stream.Report.{the_head}
 use Rattle.ndr_decode.specs.declared.roots.Found.{Found}
 use Rattle.ndr_decode.specs.Streaming.{FaultOf, IsAtRoot, IsSettingOf, IsStreaming, PendingReads, RootReads, RootsRead, Stands, WentOn, WentThrough, cells_of}
 use Rattle.ndr_decode.proofs.RootLines.{HasNextRoot, begin_of, line_there, many_values, next_root, none_left}

@@ -4,8 +4,8 @@ use Rattle.std.proofs.Common.{◌≡◌, ap, ◌∙◌}
 use Rattle.nd_value.specs.declared.item.Home.{Home}
 use Rattle.nd_value.specs.declared.value.Graph.{Graph}
 use Rattle.nd_flat.specs.Building.{Building, opened}
-use Rattle.ndr_state.specs.declared.machine.Machine.{Machine}
-use Rattle.ndr_state.specs.Seen.{Outside, outside}
+use Rattle.ndr_decoder_state.specs.declared.machine.Machine.{Machine}
+use Rattle.ndr_decoder_state.specs.Seen.{Outside, outside}
 use Rattle.ndr_decode.specs.Streaming.{Purpose}
 
 abbrev pub purpose_in : Building → Purpose

@@ -20,24 +20,24 @@ use Rattle.nd_grammar.specs.declared.reason.Reason.TheVariants as reason
 use Rattle.nd_grammar.specs.Entry.{EntryAt}
 use Rattle.nd_grammar.specs.LegalSide.{IsLegalSide}
 use Rattle.nd_grammar.specs.StreamReader.{Reading}
-use Rattle.ndr_reading.specs.Around.{stopped}
-use Rattle.ndr_steps.specs.declared.first.First.{First}
-use Rattle.ndr_steps.specs.Good.{Told}
-use Rattle.ndr_steps.specs.Steps.{first_found, place_of, place_in}
-use Rattle.ndr_verdict.specs.Verdict.{DecodingSeen, with_items}
-use Rattle.ndr_stream.specs.Added.{Goes}
-use Rattle.ndr_stream.specs.Between.{Agrees, Between}
-use Rattle.ndr_stream.specs.Calls.{CutOff, Follows, Refused, Took}
-use Rattle.ndr_stream.specs.Parameters.{head_read}
-use Rattle.ndr_stream.specs.Report.{IsRefusedAfter, StreamCut, StreamRefused, the_head, Extent}
-use Rattle.ndr_stream.specs.Tests.{disagreement}
-use Rattle.ndr_stream.proofs.FewReferences.{few_now}
-use Rattle.ndr_stream.proofs.Joined.{took_twice, took_then_refused, took_then_unread, took_then_cut}
-use Rattle.ndr_stream.proofs.StreamGrows.{head_goes}
-use Rattle.ndr_kept.specs.declared.stream.Stream.{Stream}
-use Rattle.ndr_state.specs.declared.fault.DecodeFault.{DecodeFault}
-use Rattle.ndr_state.specs.declared.fault.DecodeFault.TheVariants as fault
-use Rattle.ndr_state.specs.declared.machine.Owed.{Owed}
+use Rattle.ndr_decoder_laws.specs.reader.Around.{stopped}
+use Rattle.ndr_decoder_laws.specs.declared.first.First.{First}
+use Rattle.ndr_decoder_laws.specs.steps.Good.{Told}
+use Rattle.ndr_decoder_laws.specs.steps.Steps.{first_found, place_of, place_in}
+use Rattle.ndr_decoder_laws.specs.verdict.Verdict.{DecodingSeen, with_items}
+use Rattle.ndr_decoder_laws.specs.stream.Added.{Goes}
+use Rattle.ndr_decoder_laws.specs.stream.Between.{Agrees, Between}
+use Rattle.ndr_decoder_laws.specs.stream.Calls.{CutOff, Follows, Refused, Took}
+use Rattle.ndr_decoder_laws.specs.stream.Parameters.{head_read}
+use Rattle.ndr_decoder_laws.specs.stream.Report.{IsRefusedAfter, StreamCut, StreamRefused, the_head, Extent}
+use Rattle.ndr_decoder_laws.specs.stream.Tests.{disagreement}
+use Rattle.ndr_decoder_laws.proofs.stream.FewReferences.{few_now}
+use Rattle.ndr_decoder_laws.proofs.stream.Joined.{took_twice, took_then_refused, took_then_unread, took_then_cut}
+use Rattle.ndr_decoder_laws.proofs.stream.StreamGrows.{head_goes}
+use Rattle.ndr_decoder_pending.specs.declared.stream.Stream.{Stream}
+use Rattle.ndr_decoder_state.specs.declared.fault.DecodeFault.{DecodeFault}
+use Rattle.ndr_decoder_state.specs.declared.fault.DecodeFault.TheVariants as fault
+use Rattle.ndr_decoder_state.specs.declared.machine.Owed.{Owed}
 use Rattle.ndr_decode.specs.Streaming.{FaultOf, Stands, StandsTaking, WentOn, WentOnTaking, cells_of}
 
 -- ## Nothing is read

@@ -4,13 +4,13 @@ use Rattle.std.proofs.Common.{◌≡◌, ◌≤◌, ℕ, ◌+◌, zero, suc, Lis
 use Rattle.std.specs.List.{slice_get}
 use Rattle.std.proofs.lemmas.List.{map-append}
 use Rattle.nd_value.specs.Agreement.{Agreement}
-use Rattle.ndr_machine.specs.Parts.{IsTried}
-use Rattle.ndr_state.specs.declared.fault.DecodeFault.{DecodeFault}
-use Rattle.ndr_state.specs.declared.fault.DecodeFault.TheVariants as fault
-use Rattle.ndr_state.specs.declared.machine.Wanted.{Wanted}
-use Rattle.ndr_state.specs.Seen.{agreement_of}
-use Rattle.ndr_stream.specs.declared.kept.Kept.{Kept}
-use Rattle.ndr_stream.specs.Tests.{AllAgree, disagreement}
+use Rattle.ndr_decoder_value.specs.Parts.{IsTried}
+use Rattle.ndr_decoder_state.specs.declared.fault.DecodeFault.{DecodeFault}
+use Rattle.ndr_decoder_state.specs.declared.fault.DecodeFault.TheVariants as fault
+use Rattle.ndr_decoder_state.specs.declared.machine.Wanted.{Wanted}
+use Rattle.ndr_decoder_state.specs.Seen.{agreement_of}
+use Rattle.ndr_decoder_laws.specs.declared.kept.Kept.{Kept}
+use Rattle.ndr_decoder_laws.specs.stream.Tests.{AllAgree, disagreement}
 use Rattle.ndr_decode.specs.Tried.{AreTried}
 
 all_with : (k : Kept) (ws : List Agreement) (w : Agreement) → AllAgree k ws → disagreement w k.first k.max_at ≡ None → AllAgree k (ws ++ w ∷ [])

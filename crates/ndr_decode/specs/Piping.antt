@@ -27,19 +27,19 @@ use Rattle.ndr_code.specs.declared.instr.Instr.{Instr}
 use Rattle.ndr_code.specs.declared.instr.Instr.TheVariants as op
 use Rattle.ndr_code.specs.declared.lists.PlanLine.TheVariants as plan_line
 use Rattle.ndr_code.specs.declared.plan.Plan.{Plan}
-use Rattle.ndr_runs.specs.Paid.{IsPaid}
-use Rattle.ndr_state.specs.declared.fault.DecodeFault.{DecodeFault}
-use Rattle.ndr_state.specs.declared.machine.Machine.{Machine}
-use Rattle.ndr_state.specs.Seen.{state_of}
-use Rattle.ndr_verdict.specs.Verdict.{DecodingSeen, direct_roots}
-use Rattle.ndr_stream.specs.Calls.{Took}
-use Rattle.ndr_stream.specs.Parameters.{TestsPass, parameter_tests}
-use Rattle.ndr_pipes.specs.Pipes.{InPipe, InPipes, Position, at_chunk}
-use Rattle.ndr_chunks.specs.Chunks.{IsAt}
-use Rattle.ndr_kept.specs.declared.stream.Stream.{Stream}
-use Rattle.ndr_kept.specs.Ends.{HomeRan}
-use Rattle.ndr_kept.specs.Seen.{between_of}
-use Rattle.ndr_stream.specs.Report.{the_stream}
+use Rattle.ndr_decoder_laws.specs.runs.Paid.{IsPaid}
+use Rattle.ndr_decoder_state.specs.declared.fault.DecodeFault.{DecodeFault}
+use Rattle.ndr_decoder_state.specs.declared.machine.Machine.{Machine}
+use Rattle.ndr_decoder_state.specs.Seen.{state_of}
+use Rattle.ndr_decoder_laws.specs.verdict.Verdict.{DecodingSeen, direct_roots}
+use Rattle.ndr_decoder_laws.specs.stream.Calls.{Took}
+use Rattle.ndr_decoder_laws.specs.stream.Parameters.{TestsPass, parameter_tests}
+use Rattle.ndr_decoder_laws.specs.pipes.Pipes.{InPipe, InPipes, Position, at_chunk}
+use Rattle.ndr_decoder_chunks.specs.Chunks.{IsAt}
+use Rattle.ndr_decoder_pending.specs.declared.stream.Stream.{Stream}
+use Rattle.ndr_decoder_pending.specs.Ends.{HomeRan}
+use Rattle.ndr_decoder_pending.specs.Seen.{between_of}
+use Rattle.ndr_decoder_laws.specs.stream.Report.{the_stream}
 use Rattle.ndr_decode.specs.Streaming.{FaultOf, IsSettingOf, Purpose, Stands, WasRead, cells_of}
 
 -- what the graph is for

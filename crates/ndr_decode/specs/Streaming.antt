@@ -21,21 +21,21 @@ use Rattle.nd_grammar.specs.LegalSide.{IsLegalSide}
 use Rattle.nd_grammar.specs.Reader.{Read}
 use Rattle.nd_grammar.specs.Items.{items as items_of}
 use Rattle.nd_grammar.specs.StreamReader.{Reading, read_stream}
-use Rattle.ndr_reading.specs.Around.{going}
+use Rattle.ndr_decoder_laws.specs.reader.Around.{going}
 use Rattle.ndr_code.specs.Code.{root_by}
 use Rattle.ndr_code.specs.declared.instr.Instr.{Instr}
 use Rattle.ndr_code.specs.declared.plan.Plan.{Plan}
-use Rattle.ndr_state.specs.declared.machine.Owed as code
-use Rattle.ndr_state.specs.declared.fault.DecodeFault.{DecodeFault}
-use Rattle.ndr_state.specs.declared.fault.DecodeFault.TheVariants as fault
-use Rattle.ndr_steps.specs.Good.{Whole}
-use Rattle.ndr_steps.specs.Steps.{State}
-use Rattle.ndr_verdict.specs.Verdict.{DecodingSeen}
-use Rattle.ndr_stream.specs.Between.{Agrees, AreNeeded, Between}
-use Rattle.ndr_stream.specs.Calls.{Took, Refused, CutOff, Unread}
-use Rattle.ndr_stream.specs.Report.{Extent, the_head}
-use Rattle.ndr_kept.specs.declared.stream.Stream.{Stream}
-use Rattle.ndr_kept.specs.Seen.{between_of, pending_with}
+use Rattle.ndr_decoder_state.specs.declared.machine.Owed as code
+use Rattle.ndr_decoder_state.specs.declared.fault.DecodeFault.{DecodeFault}
+use Rattle.ndr_decoder_state.specs.declared.fault.DecodeFault.TheVariants as fault
+use Rattle.ndr_decoder_laws.specs.steps.Good.{Whole}
+use Rattle.ndr_decoder_laws.specs.steps.Steps.{State}
+use Rattle.ndr_decoder_laws.specs.verdict.Verdict.{DecodingSeen}
+use Rattle.ndr_decoder_laws.specs.stream.Between.{Agrees, AreNeeded, Between}
+use Rattle.ndr_decoder_laws.specs.stream.Calls.{Took, Refused, CutOff, Unread}
+use Rattle.ndr_decoder_laws.specs.stream.Report.{Extent, the_head}
+use Rattle.ndr_decoder_pending.specs.declared.stream.Stream.{Stream}
+use Rattle.ndr_decoder_pending.specs.Seen.{between_of, pending_with}
 use Rattle.ndr_decode.specs.declared.roots.Found.{Found}
 use Rattle.nd_flat.specs.Building.{Building, CanClose, closed}
 

@@ -3,10 +3,10 @@
 use Rattle.std.specs.Prelude.{◌≡◌, ℕ, List, ◌∷◌, ◌++◌, Some, Result, Ok, Err}
 use Rattle.nd_value.specs.Agreement.{Agreement}
 use Rattle.nd_grammar.specs.declared.reason.Reason.{Reason}
-use Rattle.ndr_state.specs.declared.fault.DecodeFault.{DecodeFault}
-use Rattle.ndr_state.specs.declared.fault.DecodeFault.TheVariants as fault
-use Rattle.ndr_stream.specs.declared.kept.Kept.{Kept}
-use Rattle.ndr_stream.specs.Tests.{AllAgree, disagreement}
+use Rattle.ndr_decoder_state.specs.declared.fault.DecodeFault.{DecodeFault}
+use Rattle.ndr_decoder_state.specs.declared.fault.DecodeFault.TheVariants as fault
+use Rattle.ndr_decoder_laws.specs.declared.kept.Kept.{Kept}
+use Rattle.ndr_decoder_laws.specs.stream.Tests.{AllAgree, disagreement}
 
 -- The first of them that disagrees.
 pub record IsFirst (ags : List Agreement) (k : Kept) (place : ℕ) (why : Reason) : Type 0 where

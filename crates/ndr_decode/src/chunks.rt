@@ -7,7 +7,7 @@ ghost use Rattle.nd_types.specs.Roots.{roots_of};
 ghost use Rattle.ndr_code.specs.Code.{value_roots};
 ghost use Rattle.ndr_code.specs.Lines.{line_at};
 ghost use Rattle.ndr_code.specs.declared.lists.PlanLine.TheVariants as plan_line;
-ghost use Rattle.ndr_verdict.specs.Verdict.{decoding_seen};
+ghost use Rattle.ndr_decoder_laws.specs.verdict.Verdict.{decoding_seen};
 ghost use Rattle.ndr_decode.specs.Piping.{CallsPipe, ChunkReads, ElementsRun, IsAtChunk, IsAtPipe, IsAtPipes, PipeReads, StreamEnds, purpose_in};
 ghost use Rattle.ndr_decode.specs.Streaming.{purpose_of};
 
@@ -15,11 +15,11 @@ use crate::homes::read_home;
 use nd_base::{Ledger, Order, Source, Steps};
 use nd_types::Side;
 use nd_value::ItemLog;
-use ndr_chunks::{begin_elements, chunk_count, open_pipe};
 use ndr_code::{Instr, Plan, PlanLine};
-use ndr_intake::Intake;
-use ndr_kept::Stream;
-use ndr_state::{DecodeFault, Machine};
+use ndr_decoder_chunks::{begin_elements, chunk_count, open_pipe};
+use ndr_decoder_input::Intake;
+use ndr_decoder_pending::Stream;
+use ndr_decoder_state::{DecodeFault, Machine};
 
 // Reads the pipes of a side: those of the lines from `line` on.
 pub(crate) fn read_pipes<S: Source, L: Ledger>(

@@ -2,18 +2,18 @@
 ghost use Rattle.std.specs.Prelude.{◌≡◌, ◌≤◌, ℕ, List, OnOk};
 ghost use Rattle.nd_base.specs.Over.{source_seen};
 ghost use Rattle.nd_value.specs.declared.item.Item.{Item};
-ghost use Rattle.ndr_runs.specs.Reaching.{IsSafe, Reaches};
-ghost use Rattle.ndr_machine.specs.Reaching.{Ends};
-ghost use Rattle.ndr_state.specs.Notes.{notes_seen};
-ghost use Rattle.ndr_state.specs.Seen.{outside, state_of};
-ghost use Rattle.ndr_steps.specs.Steps.{State};
+ghost use Rattle.ndr_decoder_laws.specs.runs.Reaching.{IsSafe, Reaches};
+ghost use Rattle.ndr_decoder_value.specs.Reaching.{Ends};
+ghost use Rattle.ndr_decoder_state.specs.Notes.{notes_seen};
+ghost use Rattle.ndr_decoder_state.specs.Seen.{outside, state_of};
+ghost use Rattle.ndr_decoder_laws.specs.steps.Steps.{State};
 
 use nd_base::{Ledger, Order, Source, Steps};
 use nd_value::ItemLog;
 use ndr_code::Plan;
-use ndr_intake::Intake;
-use ndr_machine::run;
-use ndr_state::{DecodeFault, Machine};
+use ndr_decoder_input::Intake;
+use ndr_decoder_state::{DecodeFault, Machine};
+use ndr_decoder_value::run;
 
 // Reads the value of the home that was opened, by the code of a plan.
 #[inline(always)]

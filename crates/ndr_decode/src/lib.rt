@@ -10,5 +10,5 @@ mod worklist;
 pub use chunks::elements_run;
 pub use decoding::{Decoded, decode};
 pub use homes::read_home;
-pub use ndr_state::DecodeFault;
+pub use ndr_decoder_state::DecodeFault;
 pub use roots::{Found, first_line, read_roots};

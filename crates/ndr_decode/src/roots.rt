@@ -9,9 +9,9 @@ ghost use Rattle.ndr_code.specs.Code.{checks_at, value_roots};
 ghost use Rattle.ndr_code.specs.Lines.{line_at, side_number};
 ghost use Rattle.ndr_code.specs.declared.instr.Instr.{Instr};
 ghost use Rattle.ndr_code.specs.declared.instr.Instr.TheVariants as op;
-ghost use Rattle.ndr_verdict.specs.Verdict.{decoding_seen};
-ghost use Rattle.ndr_stream.specs.Between.{Begins};
-ghost use Rattle.ndr_kept.specs.Seen.{between_of};
+ghost use Rattle.ndr_decoder_laws.specs.verdict.Verdict.{decoding_seen};
+ghost use Rattle.ndr_decoder_laws.specs.stream.Between.{Begins};
+ghost use Rattle.ndr_decoder_pending.specs.Seen.{between_of};
 ghost use Rattle.ndr_decode.specs.Streaming.{IsAtRoot, RootReads, RootsRead, purpose_of};
 
 use crate::homes::read_home;
@@ -20,9 +20,9 @@ use nd_base::{Ledger, Order, Source, Steps};
 use nd_types::{Side, TypeId};
 use nd_value::ItemLog;
 use ndr_code::{Instr as Code, Plan, PlanLine};
-use ndr_intake::Intake;
-use ndr_kept::Stream;
-use ndr_state::DecodeFault;
+use ndr_decoder_input::Intake;
+use ndr_decoder_pending::Stream;
+use ndr_decoder_state::DecodeFault;
 
 // Where the run of the agreements is, and the number of the line after it.
 #[derive(Clone, Copy, Debug, PartialEq, Eq)]

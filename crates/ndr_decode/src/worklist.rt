@@ -2,9 +2,9 @@
 ghost use Rattle.std.specs.Prelude.{◌≡◌, ◌≤◌, ◌+◌, Some, None, [], length, map, OnOk, IfOk, IfSome, IfNone};
 ghost use Rattle.nd_base.specs.Over.{source_seen};
 ghost use Rattle.nd_types.specs.declared.types.Class.TheVariants.{Full};
-ghost use Rattle.ndr_state.specs.Seen.{agreement_of, owed_of};
-ghost use Rattle.ndr_verdict.specs.Verdict.{decoding_seen};
-ghost use Rattle.ndr_stream.specs.Between.{kept_at};
+ghost use Rattle.ndr_decoder_state.specs.Seen.{agreement_of, owed_of};
+ghost use Rattle.ndr_decoder_laws.specs.verdict.Verdict.{decoding_seen};
+ghost use Rattle.ndr_decoder_laws.specs.stream.Between.{kept_at};
 ghost use Rattle.ndr_decode.specs.Streaming.{IsAtReferent, IsStreaming, PendingReads, ReferentReads, purpose_of, with_taken};
 ghost use Rattle.ndr_decode.specs.Tried.{AreTried};
 
@@ -13,11 +13,11 @@ use nd_base::{Ledger, Order, Source, Steps};
 use nd_types::Class;
 use nd_value::{CellId, ItemLog};
 use ndr_code::Plan;
-use ndr_intake::Intake;
-use ndr_kept::Stream;
-use ndr_machine::try_in;
-use ndr_state::{DecodeFault, Owed, Wanted};
-use ndr_stream::Kept;
+use ndr_decoder_input::Intake;
+use ndr_decoder_laws::Kept;
+use ndr_decoder_pending::Stream;
+use ndr_decoder_state::{DecodeFault, Owed, Wanted};
+use ndr_decoder_value::try_in;
 
 // Reads what is pending, one referent after the other, each followed by those that it makes due.
 pub(crate) fn read_pending<S: Source, L: Ledger>(

@@ -11,11 +11,11 @@ use Rattle.nd_value.specs.declared.value.Graph.{Graph}
 use Rattle.nd_value.specs.Fitting.{setting_beside}
 use Rattle.nd_value.specs.Logged.{Logged}
 use Rattle.nd_value.specs.Setting.{Setting}
-use Rattle.ndr_verdict.specs.Verdict.{decoding_seen}
-use Rattle.ndr_state.specs.declared.fault.DecodeFault.{DecodeFault}
+use Rattle.ndr_decoder_laws.specs.verdict.Verdict.{decoding_seen}
+use Rattle.ndr_decoder_state.specs.declared.fault.DecodeFault.{DecodeFault}
 use Rattle.ndr_pipe.specs.End.{EndSeen}
-use Rattle.ndr_chunkwise.specs.Calls.{HasBegun, HasHead, IsHeadCause}
-use Rattle.ndr_chunkwise.specs.Seen.{IntakeSeen}
+use Rattle.ndr_drain_reader.specs.Calls.{HasBegun, HasHead, IsHeadCause}
+use Rattle.ndr_drain_reader.specs.Seen.{IntakeSeen}
 use Rattle.ndr_drain.specs.Drained.{AreTooFew, IsCutInHead, IsDrainCause, IsDrained}
 use Rattle.ndr_drain.specs.Faults.{fault_of}
 use Rattle.ndr_drain.specs.Given.{pipe_count}

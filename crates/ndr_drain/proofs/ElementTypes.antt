@@ -12,8 +12,8 @@ use Rattle.nd_value.specs.Deferral.{before_pipes, root_type}
 use Rattle.nd_value.specs.Setting.{Setting, root_list}
 use Rattle.nd_grammar.proofs.next.NextStream.{drop_at}
 use Rattle.ndr_code.specs.Code.{pipe_roots}
-use Rattle.ndr_sides.proofs.Parted.{pipes_last}
-use Rattle.ndr_parts.specs.Parts.{elem_at, elem_by}
+use Rattle.ndr_code.proofs.Parted.{pipes_last}
+use Rattle.ndr_drain_laws.specs.parts.Parts.{elem_at, elem_by}
 use Rattle.ndr_drain.specs.Given.{pipe_elements}
 use Rattle.ndr_drain.specs.Turns.{AreElements}
 

@@ -16,10 +16,10 @@ use Rattle.nd_value.specs.Fitting.{Fitting, setting_beside}
 use Rattle.nd_value.specs.Request.{IsRequestOf}
 use Rattle.nd_value.specs.Setting.{Setting, root_list}
 use Rattle.nd_value.proofs.FewRoots.{item_at}
-use Rattle.ndr_verdict.specs.Verdict.{DecodingSeen}
-use Rattle.ndr_chunkwise.specs.Calls.{HasBegun, HasHead}
-use Rattle.ndr_chunkwise.specs.Seen.{IntakeSeen}
-use Rattle.ndr_chunkwise.specs.declared.intake.Phase.TheVariants.{Begun, Reading}
+use Rattle.ndr_decoder_laws.specs.verdict.Verdict.{DecodingSeen}
+use Rattle.ndr_drain_reader.specs.Calls.{HasBegun, HasHead}
+use Rattle.ndr_drain_reader.specs.Seen.{IntakeSeen}
+use Rattle.ndr_drain_reader.specs.declared.intake.Phase.TheVariants.{Begun, Reading}
 use Rattle.ndr_drain.specs.Given.{pipe_elements}
 use Rattle.ndr_drain.specs.Turns.{AreElements, OfSetting}
 use Rattle.ndr_drain.proofs.Begun.{all_left, first_interface, first_op, first_root, first_side, head_of, left_is, of_setting}

@@ -9,15 +9,15 @@ use Rattle.nd_value.specs.Nodes.{home_nodes}
 use Rattle.nd_value.specs.Setting.{Setting}
 use Rattle.nd_value.specs.Tree.{Tree}
 use Rattle.text_grammar.specs.Sound.{IsSound}
-use Rattle.text_printing.proofs.Fits.{sound_nodes}
-use Rattle.ndr_state.specs.declared.fault.DecodeFault.{DecodeFault}
-use Rattle.ndr_state.specs.declared.fault.DecodeFault.TheVariants as decode
-use Rattle.ndr_verdict.specs.Verdict.{DecodingSeen}
-use Rattle.ndr_parts.specs.Parts.{IsElement, elem_at, no_graph}
+use Rattle.text_printer.proofs.Fits.{sound_nodes}
+use Rattle.ndr_decoder_state.specs.declared.fault.DecodeFault.{DecodeFault}
+use Rattle.ndr_decoder_state.specs.declared.fault.DecodeFault.TheVariants as decode
+use Rattle.ndr_decoder_laws.specs.verdict.Verdict.{DecodingSeen}
+use Rattle.ndr_drain_laws.specs.parts.Parts.{IsElement, elem_at, no_graph}
 use Rattle.ndr_pipe.specs.End.{EndSeen, with_octets, ended}
 use Rattle.ndr_pipe.specs.Ends.{FailsAt, change_at}
-use Rattle.ndr_chunkwise.specs.Calls.{IsAnswered, IsChunkCause}
-use Rattle.ndr_chunkwise.specs.Seen.{IntakeSeen}
+use Rattle.ndr_drain_reader.specs.Calls.{IsAnswered, IsChunkCause}
+use Rattle.ndr_drain_reader.specs.Seen.{IntakeSeen}
 use Rattle.ndr_drain.specs.Faults.{fault_of}
 use Rattle.ndr_drain.specs.Given.{chunk_lines, end_after, end_of_root}
 use Rattle.ndr_drain.specs.Lines.{lines}

@@ -22,20 +22,20 @@ use Rattle.nd_grammar.specs.LegalSide.{IsLegalSide}
 use Rattle.nd_grammar.specs.Stream.{head_entries}
 use Rattle.nd_grammar.specs.StreamReader.{read_stream}
 use Rattle.nd_grammar.proofs.Excluded.{excluded}
-use Rattle.ndr_state.specs.declared.fault.DecodeFault.{DecodeFault}
-use Rattle.ndr_state.specs.declared.fault.DecodeFault.TheVariants as decode
-use Rattle.ndr_verdict.specs.Verdict.{DecodingSeen, IsCounted, IsCutOff, IsReadThrough, MayFollow, cells_named, decoding_seen, direct_roots, fetched_to, with_items}
-use Rattle.ndr_verdict.proofs.Counted.{is_counted}
-use Rattle.ndr_verdict.proofs.ReadThrough.{read_in_part}
-use Rattle.ndr_parts.specs.Parts.{AreParts, AreReadTo, Part, Spot, after_all, first_spot, octets_of, part_items, pipes_of, with_pipes}
-use Rattle.ndr_part_laws.specs.Entries.{entries_to, parts_at, parts_items}
-use Rattle.ndr_part_laws.proofs.Alone.{joined_alone}
-use Rattle.ndr_part_laws.proofs.Noted.{items_of_all, items_through, named_more}
-use Rattle.ndr_part_laws.proofs.Stopped.{place_after, refused_chunk, read_through_chunk, read_through_parts}
+use Rattle.ndr_decoder_state.specs.declared.fault.DecodeFault.{DecodeFault}
+use Rattle.ndr_decoder_state.specs.declared.fault.DecodeFault.TheVariants as decode
+use Rattle.ndr_decoder_laws.specs.verdict.Verdict.{DecodingSeen, IsCounted, IsCutOff, IsReadThrough, MayFollow, cells_named, decoding_seen, direct_roots, fetched_to, with_items}
+use Rattle.ndr_decoder_laws.proofs.verdict.Counted.{is_counted}
+use Rattle.ndr_decoder_laws.proofs.verdict.ReadThrough.{read_in_part}
+use Rattle.ndr_drain_laws.specs.parts.Parts.{AreParts, AreReadTo, Part, Spot, after_all, first_spot, octets_of, part_items, pipes_of, with_pipes}
+use Rattle.ndr_drain_laws.specs.joined.Entries.{entries_to, parts_at, parts_items}
+use Rattle.ndr_drain_laws.proofs.joined.Alone.{joined_alone}
+use Rattle.ndr_drain_laws.proofs.joined.Noted.{items_of_all, items_through, named_more}
+use Rattle.ndr_drain_laws.proofs.joined.Stopped.{place_after, refused_chunk, read_through_chunk, read_through_parts}
 use Rattle.ndr_pipe.specs.End.{EndSeen, with_octets}
 use Rattle.ndr_pipe.specs.Ends.{FailsAt, change_at}
-use Rattle.ndr_chunkwise.specs.Calls.{HasChunk, HasHead, IsChunkCounted, IsChunkCut, IsChunkRefused, IsChunkUnread, IsHeadCause}
-use Rattle.ndr_chunkwise.specs.Seen.{IntakeSeen, moved_to}
+use Rattle.ndr_drain_reader.specs.Calls.{HasChunk, HasHead, IsChunkCounted, IsChunkCut, IsChunkRefused, IsChunkUnread, IsHeadCause}
+use Rattle.ndr_drain_reader.specs.Seen.{IntakeSeen, moved_to}
 use Rattle.ndr_drain.specs.Drained.{IsChunkRead, IsCutInChunk, IsDrainCause, IsDrained, IsRefusedInChunk, IsUnreadInChunk}
 use Rattle.ndr_drain.specs.Faults.{fault_of}
 use Rattle.ndr_drain.specs.Given.{chunk_lines, end_of_root, ends_after, pipe_count}

@@ -9,12 +9,12 @@ use Rattle.nd_value.specs.Deferral.{before_pipes}
 use Rattle.nd_grammar.specs.declared.reason.Reason.{Reason}
 use Rattle.nd_grammar.specs.declared.reason.Reason.TheVariants as reason
 use Rattle.nd_grammar.specs.Entry.{EntryAt}
-use Rattle.ndr_verdict.specs.Verdict.{DecodingSeen, IsCutOff, IsDecoded, IsRefused}
-use Rattle.ndr_stream.specs.Report.{IsUnread}
-use Rattle.ndr_parts.specs.Parts.{AreReadTo, BadPart, IsPart, IsPartThrough, Part, Spot, after_all, first_spot, octets_of, without_pipes}
+use Rattle.ndr_decoder_laws.specs.verdict.Verdict.{DecodingSeen, IsCutOff, IsDecoded, IsRefused}
+use Rattle.ndr_decoder_laws.specs.stream.Report.{IsUnread}
+use Rattle.ndr_drain_laws.specs.parts.Parts.{AreReadTo, BadPart, IsPart, IsPartThrough, Part, Spot, after_all, first_spot, octets_of, without_pipes}
 use Rattle.ndr_pipe.specs.End.{EndSeen, with_octets}
 use Rattle.ndr_pipe.specs.Ends.{EndsSeen, AreAsBefore, FailsAt, change_at}
-use Rattle.ndr_chunkwise.specs.Calls.{IsHeadCut, IsHeadRefused, IsHeadUnread}
+use Rattle.ndr_drain_reader.specs.Calls.{IsHeadCut, IsHeadRefused, IsHeadUnread}
 use Rattle.ndr_drain.specs.Given.{chunk_lines, end_of_root, ends_after, given_pipes, pipe_count}
 use Rattle.ndr_drain.specs.declared.fault.DrainFault.{DrainFault}
 use Rattle.ndr_drain.specs.declared.fault.DrainFault.TheVariants.{Memory, ReadFault, Bad, EndFailed, TooFewEnds}

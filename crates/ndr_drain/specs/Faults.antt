@@ -1,6 +1,6 @@
 -- The faults of an intake, as a drain answers them.
-use Rattle.ndr_state.specs.declared.fault.DecodeFault.{DecodeFault}
-use Rattle.ndr_state.specs.declared.fault.DecodeFault.TheVariants as decode
+use Rattle.ndr_decoder_state.specs.declared.fault.DecodeFault.{DecodeFault}
+use Rattle.ndr_decoder_state.specs.declared.fault.DecodeFault.TheVariants as decode
 use Rattle.ndr_drain.specs.declared.fault.DrainFault.{DrainFault}
 use Rattle.ndr_drain.specs.declared.fault.DrainFault.TheVariants as fault
 

@@ -7,7 +7,7 @@ use Rattle.nd_value.specs.Tree.{Tree, items}
 use Rattle.nd_value.specs.Setting.{Setting, root_list}
 use Rattle.nd_value.specs.Deferral.{before_pipes}
 use Rattle.nd_grammar.specs.Stream.{kids_of}
-use Rattle.ndr_parts.specs.Parts.{Spot, Part, after, elem_at, elem_by}
+use Rattle.ndr_drain_laws.specs.parts.Parts.{Spot, Part, after, elem_at, elem_by}
 use Rattle.ndr_pipe.specs.End.{EndSeen, with_octets, ended}
 use Rattle.ndr_pipe.specs.Ends.{change_at}
 use Rattle.ndr_drain.specs.Lines.{lines}

@@ -12,13 +12,13 @@ use Rattle.nd_value.specs.Tree.{Tree}
 use Rattle.nd_value.specs.Setting.{Setting, root_list}
 use Rattle.nd_value.specs.Deferral.{before_pipes}
 use Rattle.nd_grammar.specs.FewItems.{but_gaps}
-use Rattle.ndr_verdict.specs.Verdict.{DecodingSeen, HasNoted}
-use Rattle.ndr_parts.specs.Parts.{AreParts, Part, Spot, after_all, elem_at, octets_of}
-use Rattle.ndr_part_laws.specs.Entries.{parts_items}
+use Rattle.ndr_decoder_laws.specs.verdict.Verdict.{DecodingSeen, HasNoted}
+use Rattle.ndr_drain_laws.specs.parts.Parts.{AreParts, Part, Spot, after_all, elem_at, octets_of}
+use Rattle.ndr_drain_laws.specs.joined.Entries.{parts_items}
 use Rattle.ndr_pipe.specs.End.{EndSeen, with_octets}
 use Rattle.ndr_pipe.specs.Ends.{EndsSeen, AreAsBefore, FailsAt, IsOpenAt, change_at}
-use Rattle.ndr_chunkwise.specs.Calls.{HasChunk, IsChunkCut, IsChunkRefused, IsChunkUnread}
-use Rattle.ndr_chunkwise.specs.Seen.{IntakeSeen, moved_to, setting_in}
+use Rattle.ndr_drain_reader.specs.Calls.{HasChunk, IsChunkCut, IsChunkRefused, IsChunkUnread}
+use Rattle.ndr_drain_reader.specs.Seen.{IntakeSeen, moved_to, setting_in}
 use Rattle.ndr_drain.specs.Given.{chunk_lines, end_after, end_of_root, ends_after, pipe_count}
 use Rattle.ndr_drain.specs.declared.fault.GiveFault.{GiveFault}
 use Rattle.ndr_drain.specs.declared.fault.GiveFault.TheVariants as give

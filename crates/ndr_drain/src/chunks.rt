@@ -3,13 +3,13 @@ ghost use Rattle.std.specs.Prelude.{◌≡◌, ◌<◌, ◌≤◌, ◌-◌, ◌^
 ghost use Rattle.nd_base.specs.Over.{source_seen};
 ghost use Rattle.nd_value.specs.Deferral.{before_pipes};
 ghost use Rattle.nd_value.specs.Setting.{root_list};
-ghost use Rattle.ndr_verdict.specs.Verdict.{decoding_seen};
-ghost use Rattle.ndr_parts.specs.Parts.{elem_at};
+ghost use Rattle.ndr_decoder_laws.specs.verdict.Verdict.{decoding_seen};
+ghost use Rattle.ndr_drain_laws.specs.parts.Parts.{elem_at};
 ghost use Rattle.ndr_pipe.specs.Ends.{IsOpenAt, ends_over};
 ghost use Rattle.ndr_pipe.specs.Seen.{ends_seen};
-ghost use Rattle.ndr_chunkwise.specs.Ready.{IsReady};
-ghost use Rattle.ndr_chunkwise.specs.Seen.{intake_seen};
-ghost use Rattle.ndr_chunkwise.specs.declared.intake.Phase.TheVariants.{Reading};
+ghost use Rattle.ndr_drain_reader.specs.Ready.{IsReady};
+ghost use Rattle.ndr_drain_reader.specs.Seen.{intake_seen};
+ghost use Rattle.ndr_drain_reader.specs.declared.intake.Phase.TheVariants.{Reading};
 ghost use Rattle.ndr_drain.specs.Given.{end_of_root};
 ghost use Rattle.ndr_drain.specs.Turns.{AreElements, AreOpenFrom, HasPassed, IsStepCause, IsUnderWay, StopsUnderWay, OfSetting};
 
@@ -19,7 +19,7 @@ use crate::lines::give_lines;
 use nd_base::{Ledger, Source, Steps};
 use nd_types::{Interface, TypeId};
 use nd_value::ItemLog;
-use ndr_chunkwise::Intake;
+use ndr_drain_reader::Intake;
 use ndr_pipe::{Ends, PipeEnd};
 use std::alloc::Global;
 

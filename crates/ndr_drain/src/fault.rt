@@ -3,7 +3,7 @@ ghost use Rattle.std.specs.Prelude.{◌≡◌};
 ghost use Rattle.ndr_drain.specs.Faults.{fault_of};
 
 use nd_grammar::Reason;
-use ndr_chunkwise::DecodeFault;
+use ndr_drain_reader::DecodeFault;
 
 /// Why a stream is not drained.
 #[derive(Clone, Copy, Debug, PartialEq, Eq)]

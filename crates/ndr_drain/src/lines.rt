@@ -13,7 +13,7 @@ use nd_types::{Interface, TypeId};
 use nd_value::{Val, Vals};
 use ndr_pipe::{Ends, PipeEnd};
 use std::alloc::Global;
-use text_printing::print_value;
+use text_printer::print_value;
 
 // Gives the line of one element to an end.
 pub(crate) fn give_line<E: PipeEnd>(

@@ -19,17 +19,17 @@ use Rattle.ndr_code.specs.declared.instr.Instr.{Instr}
 use Rattle.ndr_code.specs.declared.plan.Plan.{Plan}
 use Rattle.ndr_code.specs.Code.{code_of, pipe_at}
 use Rattle.ndr_code.specs.Lines.{line_at}
-use Rattle.ndr_sides.proofs.Parted.{pipes_last}
-use Rattle.ndr_pieces.specs.Pieces.{pieces_end}
-use Rattle.ndr_pieces.proofs.Showing.{end_joined}
-use Rattle.ndr_turns.specs.Turned.{Item, Turned, none_left, cells_due}
-use Rattle.ndr_turns.specs.Roots.{root_items}
-use Rattle.ndr_turns.proofs.Turns.{turns_are}
-use Rattle.ndr_chosen.specs.Written.{turn_pieces, turns_pieces, pipe_turns, all_turns}
-use Rattle.ndr_chosen.proofs.Written.{ends}
-use Rattle.ndr_homes.specs.Turns.{turn_pairs}
-use Rattle.ndr_homes.specs.Counted.{counted_turn, counted_turns, IsCounted}
-use Rattle.ndr_homes.proofs.Counts.{all_counted, homes_named, pipes_nameless}
+use Rattle.ndr_code.proofs.Parted.{pipes_last}
+use Rattle.ndr_encoder_laws.specs.pieces.Pieces.{pieces_end}
+use Rattle.ndr_encoder_laws.proofs.pieces.Showing.{end_joined}
+use Rattle.ndr_encoder_laws.specs.turns.Turned.{Item, Turned, none_left, cells_due}
+use Rattle.ndr_encoder_laws.specs.turns.Roots.{root_items}
+use Rattle.ndr_encoder_laws.proofs.turns.Turns.{turns_are}
+use Rattle.ndr_encoder_laws.specs.chosen.Written.{turn_pieces, turns_pieces, pipe_turns, all_turns}
+use Rattle.ndr_encoder_laws.proofs.chosen.Written.{ends}
+use Rattle.ndr_encoder_homes.specs.Turns.{turn_pairs}
+use Rattle.ndr_encoder_homes.specs.Counted.{counted_turn, counted_turns, IsCounted}
+use Rattle.ndr_encoder_homes.proofs.Counts.{all_counted, homes_named, pipes_nameless}
 use Rattle.ndr_encode.specs.declared.search.Search.{Search}
 use Rattle.ndr_encode.specs.Search.{unmarked, pending_names, Stream, IsNumbered, IsSearchable, AreCounted, IsSearched, ArePipes, IsFresh}
 use Rattle.ndr_encode.specs.Making.{stream_of, HasStream}

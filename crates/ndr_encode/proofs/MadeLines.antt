@@ -24,7 +24,7 @@ use Rattle.ndr_code.specs.Lines.{entries_of, line_at}
 use Rattle.ndr_code.proofs.Runs.{first_at}
 use Rattle.ndr_code.proofs.SideLines.{checks_line_at, pipe_line_at, root_line_at}
 use Rattle.ndr_code.proofs.SideRuns.{root_run_at}
-use Rattle.ndr_sides.proofs.Parted.{values_first, pipes_last}
+use Rattle.ndr_code.proofs.Parted.{values_first, pipes_last}
 use Rattle.ndr_encode.specs.Work.{setting}
 
 -- ## Roots before the first pipe

@@ -16,14 +16,14 @@ use Rattle.ndr_code.specs.declared.lists.PlanLine.TheVariants as line
 use Rattle.ndr_code.specs.declared.plan.Plan.{Plan}
 use Rattle.ndr_code.specs.Code.{pipe_at}
 use Rattle.ndr_code.specs.Lines.{line_at}
-use Rattle.ndr_pieces.specs.Pieces.{pieces_end, pieces_names}
-use Rattle.ndr_output.specs.declared.count.Named.{Named}
-use Rattle.ndr_output.specs.Counting.{names_of}
-use Rattle.ndr_turns.specs.Turned.{cells_of}
-use Rattle.ndr_chosen.specs.Written.{pipe_turns}
-use Rattle.ndr_homes.specs.declared.turn.Turn.{Turn}
-use Rattle.ndr_homes.specs.Turns.{turn_pair, turn_pairs}
-use Rattle.ndr_homes.specs.Counted.{counted_turn, IsCounted}
+use Rattle.ndr_encoder_laws.specs.pieces.Pieces.{pieces_end, pieces_names}
+use Rattle.ndr_encoder_output.specs.declared.count.Named.{Named}
+use Rattle.ndr_encoder_output.specs.Counting.{names_of}
+use Rattle.ndr_encoder_laws.specs.turns.Turned.{cells_of}
+use Rattle.ndr_encoder_laws.specs.chosen.Written.{pipe_turns}
+use Rattle.ndr_encoder_homes.specs.declared.turn.Turn.{Turn}
+use Rattle.ndr_encoder_homes.specs.Turns.{turn_pair, turn_pairs}
+use Rattle.ndr_encoder_homes.specs.Counted.{counted_turn, IsCounted}
 use Rattle.ndr_encode.specs.declared.search.Search.{Search}
 use Rattle.ndr_encode.specs.Search.{IsNumbered, unmarked, pending_names, ArePipes, IsTaken, CanTake}
 use Rattle.ndr_encode.specs.Making.{stream_of, HasStream, BeginsPipes, PipesTaken}

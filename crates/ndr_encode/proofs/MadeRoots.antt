@@ -16,8 +16,8 @@ use Rattle.ndr_code.specs.declared.lists.PlanLine.TheVariants as line
 use Rattle.ndr_code.specs.declared.plan.Plan.{Plan}
 use Rattle.ndr_code.specs.Code.{root_by as instr_by}
 use Rattle.ndr_code.specs.Lines.{line_at}
-use Rattle.ndr_turns.specs.Turned.{Item}
-use Rattle.ndr_turns.specs.Roots.{root_item, root_items}
+use Rattle.ndr_encoder_laws.specs.turns.Turned.{Item}
+use Rattle.ndr_encoder_laws.specs.turns.Roots.{root_item, root_items}
 use Rattle.ndr_encode.specs.declared.search.Search.{Search}
 use Rattle.ndr_encode.specs.Search.{IsSearched, CanSearch, StillSearched, root_by, CanRoot, RootTaken}
 use Rattle.ndr_encode.specs.Making.{stream_of, HasStream, BeginsRoots, RootsTaken}

@@ -1,9 +1,9 @@
 -- Cells that are numbered one after the other.
 use Rattle.std.proofs.Common.{◌≡◌, ℕ, ◌+◌, ◌-◌, ◌<◌, ◌≤◌, zero, suc, List, [], ◌∷◌, ◌++◌, length, refl, ap, sym, ◌∙◌, subst, arith, take, get_or, append_assoc}
 use Rattle.std.specs.Prelude.{slice_index_or, drop, reverse}
-use Rattle.ndr_output.specs.declared.count.Named.{Named}
-use Rattle.ndr_output.specs.Counting.{names_of}
-use Rattle.ndr_turns.specs.Turned.{cells_of}
+use Rattle.ndr_encoder_output.specs.declared.count.Named.{Named}
+use Rattle.ndr_encoder_output.specs.Counting.{names_of}
+use Rattle.ndr_encoder_laws.specs.turns.Turned.{cells_of}
 use Rattle.ndr_encode.specs.Search.{AreWithin, IsNumbered}
 
 pub same_default : (xs : List ℕ) (i a b : ℕ) → i < length xs → get_or xs i a ≡ get_or xs i b

@@ -19,18 +19,18 @@ use Rattle.nd_value.specs.Tree.{Tree, Trees, node}
 use Rattle.nd_value.proofs.Apart.{all_append, all_left, all_right}
 use Rattle.ndr_code.specs.declared.instr.Instr.{Instr}
 use Rattle.ndr_code.specs.declared.instr.Instr.TheVariants as op
-use Rattle.ndr_pieces.specs.Pieces.{Piece, pieces_end, pieces_names}
-use Rattle.ndr_pieces.proofs.Showing.{end_joined}
-use Rattle.ndr_output.specs.declared.count.Named.{Named}
-use Rattle.ndr_output.specs.Counting.{names_of, count_whole, CountCan}
-use Rattle.ndr_output.specs.Filling.{FitsPiece}
-use Rattle.ndr_turns.specs.Turned.{Item, root_due, direct_due, cell_due, Turned, root_turn, direct_turn, cell_turn, cell_stands, cells_due, cells_of, names_of as run_names}
-use Rattle.ndr_chosen.specs.Written.{value_at}
-use Rattle.ndr_homes.specs.declared.turn.Turn.{Turn}
-use Rattle.ndr_homes.specs.Turns.{turn_pair, turn_pairs}
-use Rattle.ndr_homes.specs.Counted.{counted_turn, counted_turns, AreCells, IsCounted}
+use Rattle.ndr_encoder_laws.specs.pieces.Pieces.{Piece, pieces_end, pieces_names}
+use Rattle.ndr_encoder_laws.proofs.pieces.Showing.{end_joined}
+use Rattle.ndr_encoder_output.specs.declared.count.Named.{Named}
+use Rattle.ndr_encoder_output.specs.Counting.{names_of, count_whole, CountCan}
+use Rattle.ndr_encoder_output.specs.Filling.{FitsPiece}
+use Rattle.ndr_encoder_laws.specs.turns.Turned.{Item, root_due, direct_due, cell_due, Turned, root_turn, direct_turn, cell_turn, cell_stands, cells_due, cells_of, names_of as run_names}
+use Rattle.ndr_encoder_laws.specs.chosen.Written.{value_at}
+use Rattle.ndr_encoder_homes.specs.declared.turn.Turn.{Turn}
+use Rattle.ndr_encoder_homes.specs.Turns.{turn_pair, turn_pairs}
+use Rattle.ndr_encoder_homes.specs.Counted.{counted_turn, counted_turns, AreCells, IsCounted}
 use Rattle.ndr_encode.specs.declared.search.Search.{Search}
-use Rattle.ndr_structs.specs.Structs.{AreKnown}
+use Rattle.ndr_encoder_structs.specs.Structs.{AreKnown}
 use Rattle.ndr_encode.specs.Search.{AreWithin, IsNumbered, unmarked, unplaced, pending_names, Stream, IsSearchable, IsSearched, IsTaken, CanTake, first_cell, root_by, called_run, direct_run}
 
 -- ## What is pending

@@ -13,14 +13,14 @@ use Rattle.nd_grammar.specs.LegalSide.{IsLegalSide}
 use Rattle.nd_flat.specs.Building.{HasHome}
 use Rattle.ndr_code.specs.declared.instr.Instr.{Instr}
 use Rattle.ndr_code.specs.Code.{code_of}
-use Rattle.ndr_sides.proofs.Parted.{pipes_last}
-use Rattle.ndr_pieces.specs.Pieces.{Piece, pieces_octets, pieces_end}
-use Rattle.ndr_output.specs.Filling.{FitsPiece, FillCan}
-use Rattle.ndr_chosen.specs.Written.{turns_pieces, all_turns}
-use Rattle.ndr_chosen.proofs.Written.{chosen, ends}
-use Rattle.ndr_homes.specs.declared.turn.Turn.{Turn}
-use Rattle.ndr_homes.specs.Turns.{turn_pairs, written_turns}
-use Rattle.ndr_homes.proofs.Encoded.{all_there, turns_same, turns_fit}
+use Rattle.ndr_code.proofs.Parted.{pipes_last}
+use Rattle.ndr_encoder_laws.specs.pieces.Pieces.{Piece, pieces_octets, pieces_end}
+use Rattle.ndr_encoder_output.specs.Filling.{FitsPiece, FillCan}
+use Rattle.ndr_encoder_laws.specs.chosen.Written.{turns_pieces, all_turns}
+use Rattle.ndr_encoder_laws.proofs.chosen.Written.{chosen, ends}
+use Rattle.ndr_encoder_homes.specs.declared.turn.Turn.{Turn}
+use Rattle.ndr_encoder_homes.specs.Turns.{turn_pairs, written_turns}
+use Rattle.ndr_encoder_homes.proofs.Encoded.{all_there, turns_same, turns_fit}
 use Rattle.ndr_encode.specs.Work.{WorkSeen, setting, IsWorkFor, IsChosen}
 
 pub operation_there : (os : List Operation) (n : ℕ) (o : Operation) → slice_get os n ≡ Some o → Among os o

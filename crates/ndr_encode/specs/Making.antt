@@ -10,9 +10,9 @@ use Rattle.nd_value.specs.Setting.{root_list}
 use Rattle.ndr_code.specs.declared.plan.Plan.{Plan}
 use Rattle.ndr_code.specs.Code.{pipe_at}
 use Rattle.ndr_code.specs.Lines.{line_at}
-use Rattle.ndr_pieces.specs.Heads.{standings}
-use Rattle.ndr_turns.specs.Roots.{home_turns, root_items}
-use Rattle.ndr_chosen.specs.Written.{pipe_turns}
+use Rattle.ndr_encoder_laws.specs.pieces.Heads.{standings}
+use Rattle.ndr_encoder_laws.specs.turns.Roots.{home_turns, root_items}
+use Rattle.ndr_encoder_laws.specs.chosen.Written.{pipe_turns}
 use Rattle.ndr_encode.specs.declared.search.Search.{Search}
 use Rattle.ndr_encode.specs.Search.{Stream, IsSearchable, IsSearched, ArePipes}
 use Rattle.ndr_encode.specs.Work.{setting}

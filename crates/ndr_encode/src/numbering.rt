@@ -1,11 +1,11 @@
 // The numbers of cells in the order in which they are named.
 ghost use Rattle.std.specs.Prelude.{◌≡◌, ℕ, ◌+◌, ◌<◌, ◌≤◌, ◌^◌, List, [], ◌∷◌, ◌++◌, length, take, drop, reverse};
-ghost use Rattle.ndr_output.specs.Counting.{names_of};
-ghost use Rattle.ndr_turns.specs.Turned.{cells_of};
+ghost use Rattle.ndr_encoder_output.specs.Counting.{names_of};
+ghost use Rattle.ndr_encoder_laws.specs.turns.Turned.{cells_of};
 ghost use Rattle.ndr_encode.specs.Search.{IsNumbered, AreWithin};
 
 use nd_value::CellId;
-use ndr_output::Named;
+use ndr_encoder_output::Named;
 
 // A cell has the next number, unless it has one.
 #[inline(always)]

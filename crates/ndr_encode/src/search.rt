@@ -4,8 +4,8 @@ ghost use Rattle.std.specs.List.{AllByRecursion, slice_get};
 ghost use Rattle.nd_value.specs.Seen.{cell_number};
 ghost use Rattle.nd_value.specs.declared.item.Home.TheVariants as home;
 ghost use Rattle.nd_flat.specs.Building.{HasHome};
-ghost use Rattle.ndr_turns.specs.Turned.{root_due, direct_due};
-ghost use Rattle.ndr_chosen.specs.Written.{value_at};
+ghost use Rattle.ndr_encoder_laws.specs.turns.Turned.{root_due, direct_due};
+ghost use Rattle.ndr_encoder_laws.specs.chosen.Written.{value_at};
 ghost use Rattle.ndr_encode.specs.Search.{IsFresh, IsTaken, CanTake, CanSearch, StillSearched, CanRoot, RootTaken, CanItem, ItemTaken, called_run, direct_run, unplaced, pending_names, unmarked, first_cell};
 
 use crate::numbering::{number, settle};
@@ -13,10 +13,10 @@ use nd_base::{Memory, push};
 use nd_flat::Fit;
 use nd_value::{CellId, Home};
 use ndr_code::Instr;
-use ndr_homes::{Turn, write_home};
-use ndr_output::{Count, Named};
-use ndr_structs::Known;
-use ndr_written::Frames;
+use ndr_encoder_homes::{Turn, write_home};
+use ndr_encoder_laws::Frames;
+use ndr_encoder_output::{Count, Named};
+use ndr_encoder_structs::Known;
 use std::alloc::Global;
 
 // How far the search has come: the turns so far, the numbers of the cells that are named and how many these are, the cells that have their turn, and the octets so far. The

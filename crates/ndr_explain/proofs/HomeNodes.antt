@@ -18,10 +18,10 @@ use Rattle.nd_value.specs.Setting.{Setting, root_list, root_at, cell_at, cell_of
 use Rattle.nd_value.specs.Tree.{Tree, Trees, Flat, Referent, none, more, flat}
 use Rattle.text_grammar.specs.Paths.{home_name, home_types, home_value, node_paths, root_types, cell_types}
 use Rattle.text_grammar.specs.Written.{root_name}
-use Rattle.text_parts.proofs.Names.{names_agree}
-use Rattle.text_printing.specs.Walks.{Begins, RootsBegin, CellsBegin}
-use Rattle.text_printing.proofs.Canonical.{fit_conforms}
-use Rattle.text_printing.proofs.Fits.{conforming_sound, roots_begin, cells_begin}
+use Rattle.text_grammar.proofs.Names.{names_agree}
+use Rattle.text_printer.specs.Walks.{Begins, RootsBegin, CellsBegin}
+use Rattle.text_printer.proofs.Canonical.{fit_conforms}
+use Rattle.text_printer.proofs.Fits.{conforming_sound, roots_begin, cells_begin}
 use Rattle.ndr_explain.specs.declared.cursor.Cursor.{Cursor}
 use Rattle.ndr_explain.specs.Explained.{home_paths, home_flats, path_in, label_in, string_shown, context_shown}
 use Rattle.ndr_explain.specs.Cursors.{IsPast, IsBegun, IsSettingOf, Reaches, root_word}

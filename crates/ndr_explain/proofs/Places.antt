@@ -16,8 +16,8 @@ use Rattle.nd_value.specs.Tree.{Label, Tree, Trees, Flat, node, none, more, coun
 use Rattle.nd_flat.specs.declared.node.Seen.{Seen}
 use Rattle.nd_flat.specs.FlatForm.{flat_seen}
 use Rattle.text_grammar.specs.Paths.{home_name, node_paths}
-use Rattle.text_printing.specs.Walks.{Begins}
-use Rattle.text_printing.proofs.Walking.{has_next}
+use Rattle.text_printer.specs.Walks.{Begins}
+use Rattle.text_printer.proofs.Walking.{has_next}
 use Rattle.ndr_explain.specs.declared.cursor.Cursor.{Cursor}
 use Rattle.ndr_explain.specs.declared.levels.Level.{Level}
 use Rattle.ndr_explain.specs.declared.levels.Level.TheVariants as level

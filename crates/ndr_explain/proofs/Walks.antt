@@ -8,8 +8,8 @@ use Rattle.nd_types.specs.Table.{Table, type_at}
 use Rattle.nd_value.specs.Tree.{Tree, Trees, Flat, Label, node, none, more, count, node_count, joined, flat, take_trees, drop_trees}
 use Rattle.nd_value.specs.Nodes.{child_types}
 use Rattle.text_grammar.specs.Paths.{node_paths, child_paths}
-use Rattle.text_printing.specs.Walks.{Begins}
-use Rattle.text_printing.proofs.Walking.{stepped, has_next}
+use Rattle.text_printer.specs.Walks.{Begins}
+use Rattle.text_printer.proofs.Walking.{stepped, has_next}
 use Rattle.ndr_explain.specs.declared.levels.Level.{Level}
 use Rattle.ndr_explain.specs.Explained.{path_in, label_in}
 use Rattle.ndr_explain.specs.Cursors.{inner_types, inner_paths, IsLevelOf, IsChildLevel}

@@ -22,7 +22,7 @@ use Rattle.nd_value.specs.Tree.{Trees, Flat, Label, count, flat}
 use Rattle.nd_value.specs.Nodes.{child_types}
 use Rattle.nd_flat.specs.FlatForm.{flat_seen}
 use Rattle.text_grammar.specs.Paths.{member_path, element_path, child_paths, node_paths, home_name}
-use Rattle.text_printing.specs.Walks.{Begins}
+use Rattle.text_printer.specs.Walks.{Begins}
 use Rattle.ndr_explain.specs.declared.levels.Level.{Level}
 use Rattle.ndr_explain.specs.declared.levels.Level.TheVariants as level
 use Rattle.ndr_explain.specs.declared.levels.Levels.{Levels}

@@ -4,7 +4,7 @@ ghost use Rattle.nd_types.specs.Table.{Table};
 ghost use Rattle.nd_value.specs.Tree.{Flat, Tree, more, none, flat};
 ghost use Rattle.nd_flat.specs.FlatForm.{flat_seen};
 ghost use Rattle.text_grammar.specs.Paths.{node_paths};
-ghost use Rattle.text_printing.specs.Walks.{Begins};
+ghost use Rattle.text_printer.specs.Walks.{Begins};
 ghost use Rattle.ndr_explain.specs.Cursors.{path_to, IsAt, Reaches};
 
 use crate::levels::{Level, Levels, append_steps, children, next_levels, type_of};

@@ -21,8 +21,8 @@ use nd_flat::{Fit, Seen};
 use nd_types::Interface;
 use nd_value::{Item, ItemKind, ItemLog};
 use std::alloc::Global;
-use text_parts::append_count;
-use text_printing::{append_context, append_number, append_quoted};
+use text_grammar::append_count;
+use text_printer::{append_context, append_number, append_quoted};
 
 /// The items of a stream in words, a line for each: `AT LENGTH KIND PATH VALUE`, where AT is the place of its first octet, LENGTH the number of
 /// its octets, KIND what it is, in lower case, PATH the path of the node to which it belongs, and VALUE what it holds: a text as a string, a

@@ -14,7 +14,7 @@ ghost use Rattle.ndr_explain.specs.Cursors.{level_types, level_paths, child_path
 use nd_base::{Memory, Name, Octets};
 use nd_flat::Seen;
 use nd_types::{Arm, Fields, TypeDef, TypeId, Types};
-use text_parts::{append_index, selected};
+use text_grammar::{append_index, selected};
 
 /// The children of a node, and the one of them at which a walk is.
 #[derive(Clone, Copy, Drop)]

@@ -13,7 +13,7 @@ use nd_base::{Memory, Octets};
 use nd_flat::Fit;
 use nd_types::{Interface, RootDef, Side};
 use nd_value::{CellId, Home};
-use text_parts::append_count;
+use text_grammar::append_count;
 use text_paths::root_at;
 
 /// The name of a home: the word of a root, or the number of a cell.

@@ -5,3 +5,6 @@ pub mod Scanned
 mod Tested
 mod WorkedTexts
 mod WorkedPrinted
+pub mod Labels
+pub mod Names
+pub mod Sizes

@@ -14,14 +14,14 @@ use Rattle.text_grammar.specs.Written.{graph_tokens}
 use Rattle.text_grammar.specs.Reads.{ReadsAs, Lexeme, Cut, End, Bad, IsNext, IsFirstFault, IsTextFault}
 use Rattle.text_grammar.specs.Dues.{ACellLine, Reading, nothing_read, next_read, may_end, all_read}
 use Rattle.text_grammar.specs.Reader.{Ending, Whole, Stopped, at_end, ComesTo, goes_on, refused, no_token, ended}
-use Rattle.text_reader.specs.Values.{reading}
-use Rattle.text_reader.proofs.Alike.{go_on}
-use Rattle.text_reader.proofs.OneText.{one_cut, some_octets, cut_less}
-use Rattle.text_reader.proofs.GraphRead.{all_both, graph_reads, all_noted}
-use Rattle.text_reader.proofs.Real.{begins_real}
-use Rattle.text_reader.proofs.Back.{back}
-use Rattle.text_reader.proofs.Faults.{legal_roots, after_more, begins_more}
-use Rattle.text_reader.proofs.Stated.{first_fault}
+use Rattle.text_reading_laws.specs.Values.{reading}
+use Rattle.text_reading_laws.proofs.Alike.{go_on}
+use Rattle.text_reading_laws.proofs.OneText.{one_cut, some_octets, cut_less}
+use Rattle.text_reading_laws.proofs.GraphRead.{all_both, graph_reads, all_noted}
+use Rattle.text_reading_laws.proofs.Real.{begins_real}
+use Rattle.text_reading_laws.proofs.Back.{back}
+use Rattle.text_reading_laws.proofs.Faults.{legal_roots, after_more, begins_more}
+use Rattle.text_reading_laws.proofs.Stated.{first_fault}
 use Rattle.text_laws.proofs.NextToken.{next_of}
 
 -- ## One ending

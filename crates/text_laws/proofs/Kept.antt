@@ -12,8 +12,8 @@ use Rattle.text_grammar.specs.declared.version.Version.TheVariants as version
 use Rattle.text_grammar.specs.Tokens.{Token, Word, Number, Cell, Str, Bytes, Uuid, Mark, Spells, Cutting, cutting, IsCut, Begins, is_uuid, is_bytes, begins_bytes, skip, is_mark, ends_run, uuid_due, is_version_two, after}
 use Rattle.text_grammar.specs.Written.{Piece, token_of}
 use Rattle.text_grammar.specs.Printed.{is_equals, is_comma, is_run, space, spelled, tokens_text, line_text}
-use Rattle.text_reader.specs.Settled.{is_two, IsSettled, is_simple}
-use Rattle.text_reader.proofs.Settled.{settled_next, cutting_ctx_1, cutting_ctx_2, cutting_ctx_3, cutting_ctx_4, cutting_ctx_5, settled_ctx_6}
+use Rattle.text_reading_laws.specs.Settled.{is_two, IsSettled, is_simple}
+use Rattle.text_reading_laws.proofs.Settled.{settled_next, cutting_ctx_1, cutting_ctx_2, cutting_ctx_3, cutting_ctx_4, cutting_ctx_5, settled_ctx_6}
 use Rattle.text_laws.proofs.Spelled.{IsToken, no_quote_first, token_cut}
 
 -- ## What may follow what

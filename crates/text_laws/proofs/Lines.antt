@@ -32,10 +32,10 @@ use Rattle.text_grammar.specs.Written.{Piece, Name, Other, word, token_of, separ
 use Rattle.text_grammar.specs.Printed.{is_run, tokens_text, graph_text}
 use Rattle.text_grammar.specs.Readable.{has_maximum, has_offset, may_be_elements, is_octet_number, are_octets, has_text_form, IsReadable}
 use Rattle.text_grammar.specs.Reads.{ReadsAs}
-use Rattle.text_reader.specs.Settled.{is_two, IsSettled, is_simple}
-use Rattle.text_reader.specs.Values.{have_forms}
-use Rattle.text_reader.proofs.Forms.{Form, form_of, a_number, an_enum, a_struct, an_array, a_bound_text, a_text, a_union, a_null, a_pointer, a_context, a_pipe}
-use Rattle.text_reader.proofs.Nodes.{RootsFormed, CellsFormed, readable_formed}
+use Rattle.text_reading_laws.specs.Settled.{is_two, IsSettled, is_simple}
+use Rattle.text_reading_laws.specs.Values.{have_forms}
+use Rattle.text_reading_laws.proofs.Forms.{Form, form_of, a_number, an_enum, a_struct, an_array, a_bound_text, a_text, a_union, a_null, a_pointer, a_context, a_pipe}
+use Rattle.text_reading_laws.proofs.Nodes.{RootsFormed, CellsFormed, readable_formed}
 use Rattle.text_laws.specs.Short.{is_short, HasShortNumbers}
 use Rattle.text_laws.proofs.Spelled.{IsToken}
 use Rattle.text_laws.proofs.Kept.{starts_string, Kept, KeptPieces, KeptLine, kept_none, kept_more, kept_both, kept_context, AreRead, line_read, lines_read, read_both, lines_text}

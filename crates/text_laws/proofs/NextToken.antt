@@ -8,9 +8,9 @@ use Rattle.text_grammar.specs.Tokens.{Token, Word, Number, Cell, Str, Bytes, Uui
 use Rattle.text_grammar.specs.Runs.{run, after_run, number_of, IsNatural}
 use Rattle.text_grammar.specs.Reads.{Lexeme, Cut, End, Bad, IsNext}
 use Rattle.text_grammar.proofs.Scanned.{word_first, natural_some}
-use Rattle.text_reader.proofs.Quoted.{First, TakesNoQuote, TakesSome, character_quote, pair_quote, character_less, pair_less}
-use Rattle.text_lexing.specs.Lexemes.{NoToken, other}
-use Rattle.text_lexing.proofs.FirstTokens.{natural_none, no_string, cell_without_number, cell_out_of_range, minus_without_number, minus_zero, no_number}
+use Rattle.text_reading_laws.proofs.Quoted.{First, TakesNoQuote, TakesSome, character_quote, pair_quote, character_less, pair_less}
+use Rattle.text_lexer.specs.Lexemes.{NoToken, other}
+use Rattle.text_lexer.proofs.FirstTokens.{natural_none, no_string, cell_without_number, cell_out_of_range, minus_without_number, minus_zero, no_number}
 
 -- ## Strings and bytes
 

@@ -10,8 +10,8 @@ use Rattle.text_grammar.specs.declared.version.Version.TheVariants as version
 use Rattle.text_grammar.specs.Tokens.{Token, cutting, after}
 use Rattle.text_grammar.specs.Written.{graph_tokens}
 use Rattle.text_grammar.specs.Printed.{IsText, graph_text}
-use Rattle.text_reader.proofs.OneText.{Compared, as_far, shorter, longer, compare, some_octets}
-use Rattle.text_reader.proofs.OneGraph.{tokens_one}
+use Rattle.text_reading_laws.proofs.OneText.{Compared, as_far, shorter, longer, compare, some_octets}
+use Rattle.text_reading_laws.proofs.OneGraph.{tokens_one}
 use Rattle.text_laws.proofs.Kept.{AreRead}
 use Rattle.text_laws.proofs.Lines.{text_tokens}
 use Rattle.text_laws.proofs.CanonReadable.{readable, short}

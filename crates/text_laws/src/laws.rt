@@ -15,7 +15,7 @@ ghost use Rattle.text_laws.specs.Short.{HasShortNumbers};
 ghost use Rattle.text_grammar.specs.Dues.{Reading, nothing_read};
 ghost use Rattle.text_grammar.specs.Reader.{Ending, Whole, Stopped, ComesTo};
 
-pub use text_reader::laws::{never_both, one_fault, one_graph};
+pub use text_reading_laws::laws::{never_both, one_fault, one_graph};
 
 /// The text of a graph that a text can name is read as that graph, in either version: of each side of a legal interface, within the
 /// limit, and where numbers have at most 20 digits, as those of every graph that conforms have.

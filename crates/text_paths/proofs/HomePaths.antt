@@ -16,7 +16,7 @@ use Rattle.nd_value.specs.Setting.{Setting, Among, root_list, root_at, unread, c
 use Rattle.text_grammar.specs.Written.{root_name}
 use Rattle.text_grammar.specs.Paths.{node_paths, child_paths, root_types, IsPath}
 use Rattle.text_paths.specs.Steps.{HasPath, HasCellPath}
-use Rattle.text_parts.proofs.Names.{names_agree}
+use Rattle.text_grammar.proofs.Names.{names_agree}
 
 -- node 0 among the nodes of a value
 with_own : (table : Table) (t : ℕ) (p : List ℕ) (v : Tree) (n : ℕ) (q : List ℕ)

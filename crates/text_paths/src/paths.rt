@@ -18,7 +18,7 @@ use nd_base::{Memory, Name, Octets};
 use nd_types::{Arm, Fields, Interface, RootDef, Side, TypeDef, TypeId, Types};
 use nd_value::{ArmVal, Cell, CellId, Graph, Home, Val, Vals};
 use std::alloc::Global;
-use text_parts::{append_count, append_index, selected};
+use text_grammar::{append_count, append_index, selected};
 
 /// The path of a node of a graph: the name of its root, or `@k` for the cell of number k; then `.name` for each member of a struct and
 /// each arm of a union on the way, and `[i]` for each element of an array or a pipe, where i is its index in the array, which counts

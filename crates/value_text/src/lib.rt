@@ -7,6 +7,6 @@
 
 pub use text_grammar::{TEXT_LIMIT, TextFault, TextReason, Version};
 pub use text_laws::laws;
+pub use text_parser::read_text;
 pub use text_paths::path;
-pub use text_printing::{append_value_text, print, print_value, quoted};
-pub use text_reading::read_text;
+pub use text_printer::{append_value_text, print, print_value, quoted};

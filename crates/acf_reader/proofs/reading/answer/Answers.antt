@@ -1,5 +1,5 @@
 use Rattle.std.proofs.Common.{◌≡◌, refl, Result}
-use Rattle.phrases.specs.Reading.{Fault}
+use Rattle.grammar_phrases.specs.Reading.{Fault}
 use Rattle.acf_reader.specs.Answers.{acf_answer}
 use Rattle.acf_reader.specs.Tree as tree
 use Rattle.acf_reader.proofs.Answered.{refused_within, told_tree, told_fault}

@@ -1,4 +1,4 @@
-use Rattle.idl_compiler.proofs.OneInterface.{means_without, means_with, one_beside_any}
+use Rattle.command_compile.proofs.OneInterface.{means_without, means_with, one_beside_any}
 use Rattle.dceidl.proofs.laws.attribute_files_change_nothing.Goals as goal
 
 pub returns-clause-without : goal.returns-clause-without

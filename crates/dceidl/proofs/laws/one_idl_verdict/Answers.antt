@@ -1,6 +1,6 @@
-use Rattle.refusals.specs.declared.refusal.Refusal.TheVariants.{BadIdl}
-use Rattle.idl_compiler.proofs.OneInterface.{one_interface}
-use Rattle.idl_compiler.proofs.OneMeaning.{never_both, one_bad}
+use Rattle.command_refusals.specs.declared.refusal.Refusal.TheVariants.{BadIdl}
+use Rattle.command_compile.proofs.OneInterface.{one_interface}
+use Rattle.command_compile.proofs.OneMeaning.{never_both, one_bad}
 use Rattle.dceidl.proofs.laws.one_idl_verdict.Goals as goal
 
 pub returns-clause-one_interface : goal.returns-clause-one_interface

@@ -5,7 +5,7 @@ use Rattle.nd_value.specs.Fitting.{setting_of}
 use Rattle.ndr_pipe.specs.Ends.{ends_over}
 use Rattle.ndr_pipe.specs.Seen.{ends_seen}
 use Rattle.dceidl.specs.Asked.{drains}
-use Rattle.dceidl_words.specs.Commands.{subject_of}
+use Rattle.command_line.specs.Commands.{subject_of}
 use Rattle.dceidl.proofs.Causes.{ready_is, uncalled}
 use Rattle.dceidl.proofs.Requests.{Follows, asks_request, beside_made, beside_refused}
 use Rattle.dceidl.proofs.perform.perform_beside.Goals as goal

@@ -1,6 +1,6 @@
 use Rattle.std.proofs.Common.{option_map}
 use Rattle.nd_value.specs.Fitting.{setting_beside}
-use Rattle.dceidl_words.specs.declared.command.Task.TheVariants.{Read, Encode, Migrate}
+use Rattle.command_line.specs.declared.command.Task.TheVariants.{Read, Encode, Migrate}
 use Rattle.dceidl.proofs.Causes.{made_by, refused_by}
 use Rattle.dceidl.proofs.perform.perform_task.Goals as goal
 

@@ -1,7 +1,7 @@
 use Rattle.std.proofs.Common.{option_map, ap}
 use Rattle.nd_value.specs.Fitting.{setting_beside}
-use Rattle.dceidl_words.specs.declared.command.OrderWord.TheVariants.{Fixed, Label}
-use Rattle.dceidl_words.specs.declared.command.Task.TheVariants.{Read}
+use Rattle.command_line.specs.declared.command.OrderWord.TheVariants.{Fixed, Label}
+use Rattle.command_line.specs.declared.command.Task.TheVariants.{Read}
 use Rattle.dceidl.proofs.Causes.{made_by, refused_by}
 use Rattle.dceidl.proofs.Labels.{fixed_made, fixed_refused}
 use Rattle.dceidl.proofs.reading.read_octets.Goals as goal

@@ -1,4 +1,4 @@
-use Rattle.dceidl_words.specs.declared.command.Reading.TheVariants.{Decode, Explain, Drain}
+use Rattle.command_line.specs.declared.command.Reading.TheVariants.{Decode, Explain, Drain}
 use Rattle.dceidl.proofs.Labels.{made_reading}
 use Rattle.dceidl.proofs.reading.read_values.Goals as goal
 

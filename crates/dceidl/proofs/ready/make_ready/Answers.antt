@@ -1,6 +1,6 @@
 use Rattle.std.proofs.lemmas.Result.{err_from_is_err_and}
 use Rattle.nd_base.specs.Over.{files_seen}
-use Rattle.dceidl_words.specs.Commands.{subject_of}
+use Rattle.command_line.specs.Commands.{subject_of}
 use Rattle.dceidl.proofs.Causes.{found_is, find_refused, idl_refused}
 use Rattle.dceidl.proofs.ready.make_ready.Goals as goal
 

@@ -1,9 +1,9 @@
 use Rattle.std.proofs.Common.{◌≡◌, subst, sym}
 use Rattle.std.specs.Prelude.{IfOk}
-use Rattle.dceidl_words.specs.Commands.{command_of}
-use Rattle.dceidl_words.specs.Words.{idl_of, op_of}
-use Rattle.refusals.specs.Lines.{line_of}
-use Rattle.dceidl_words.specs.declared.command.Command as words
+use Rattle.command_line.specs.Commands.{command_of}
+use Rattle.command_line.specs.Words.{idl_of, op_of}
+use Rattle.command_refusals.specs.Lines.{line_of}
+use Rattle.command_line.specs.declared.command.Command as words
 use Rattle.dceidl.proofs.top.command_line.Goals as goal
 
 pub returns-in-Help : goal.returns-in-Help

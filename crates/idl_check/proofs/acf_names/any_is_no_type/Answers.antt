@@ -2,7 +2,7 @@ use Rattle.std.proofs.Common.{◌∙◌, sym, ap, map-id, arith}
 use Rattle.std.specs.List.{list_any}
 use Rattle.idl_scope.specs.Seen.{known_in}
 use Rattle.idl_check.specs.AcfRules.{is_no_type}
-use Rattle.idl_nodes.proofs.AnyFrom.{found_there, not_there, nowhere}
+use Rattle.idl_constructs.proofs.AnyFrom.{found_there, not_there, nowhere}
 use Rattle.idl_check.proofs.acf_names.any_is_no_type.Goals as goal
 
 pub loop-name-init : goal.loop-name-init

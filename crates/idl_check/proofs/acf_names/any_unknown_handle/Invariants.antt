@@ -2,7 +2,7 @@ use Rattle.std.proofs.Common.{◌≡◌}
 use Rattle.std.specs.List.{list_any}
 use Rattle.idl_scope.specs.Seen.{known_in}
 use Rattle.idl_check.specs.AcfRules.{has_unknown_handle}
-use Rattle.idl_nodes.proofs.AnyFrom.{any_from}
+use Rattle.idl_constructs.proofs.AnyFrom.{any_from}
 use Rattle.idl_check.proofs.acf_names.any_unknown_handle.Given as goal
 
 -- one of those that are left, or none

@@ -1,7 +1,7 @@
 use Rattle.std.proofs.Common.{◌∙◌, sym, arith}
 use Rattle.std.specs.Str.{bytes_eq}
 use Rattle.idl_grammar.specs.Seen.{seen_parameter}
-use Rattle.idl_nodes.proofs.AnyFrom.{found_there, not_there, nowhere}
+use Rattle.idl_constructs.proofs.AnyFrom.{found_there, not_there, nowhere}
 use Rattle.idl_check.proofs.acf_names.is_listed.Goals as goal
 
 pub returns-then-is_named : goal.returns-then-is_named

@@ -2,7 +2,7 @@ use Rattle.std.proofs.Common.{◌≡◌, map}
 use Rattle.std.specs.List.{list_any}
 use Rattle.std.specs.Str.{bytes_eq}
 use Rattle.idl_grammar.specs.Seen.{seen_parameter}
-use Rattle.idl_nodes.proofs.AnyFrom.{any_from}
+use Rattle.idl_constructs.proofs.AnyFrom.{any_from}
 use Rattle.idl_check.proofs.acf_names.is_listed.Given as goal
 
 -- one of those that are left, or none

@@ -1,7 +1,7 @@
 use Rattle.std.proofs.Common.{◌≡◌, not}
 use Rattle.idl_check.specs.AcfRules.{is_misplaced}
 use Rattle.idl_check.specs.SeenAcf.{belongs}
-use Rattle.idl_nodes.proofs.AnyFrom.{any_from}
+use Rattle.idl_constructs.proofs.AnyFrom.{any_from}
 use Rattle.idl_check.proofs.acf_places.is_misplaced.Given as goal
 
 -- one of those that are left, or none

@@ -3,9 +3,9 @@ use Rattle.std.specs.List.{flat_map}
 use Rattle.idl_grammar.specs.Seen as of_idl
 use Rattle.idl_scope.specs.Seen.{seen_files, known_in}
 use Rattle.acf_reader.specs.Seen.{seen_element, seen_acf}
-use Rattle.idl_language.specs.Checked.{world_of}
-use Rattle.idl_language.specs.Found.{seen_breach}
-use Rattle.idl_language.specs.Noted.{noted}
+use Rattle.idl_rule_definitions.specs.Checked.{world_of}
+use Rattle.idl_rule_definitions.specs.Found.{seen_breach}
+use Rattle.idl_rule_definitions.specs.Noted.{noted}
 use Rattle.idl_check.specs.AcfRules.{broken_at, breaches_of_element}
 use Rattle.idl_check.proofs.AcfWhole.{acf_noted}
 use Rattle.idl_check.proofs.acf_rule.acf_breach.Goals as goal

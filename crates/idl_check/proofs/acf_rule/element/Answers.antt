@@ -3,8 +3,8 @@ use Rattle.std.specs.List.{list_any}
 use Rattle.idl_grammar.specs.Seen as of_idl
 use Rattle.idl_scope.specs.Seen.{known_in}
 use Rattle.acf_reader.specs.Seen.{seen_parameter, seen_element}
-use Rattle.idl_language.specs.Noted.{noted}
-use Rattle.idl_language.specs.Found.{seen_breach}
+use Rattle.idl_rule_definitions.specs.Noted.{noted}
+use Rattle.idl_rule_definitions.specs.Found.{seen_breach}
 use Rattle.idl_check.specs.AcfRules.{broken_at, is_of_type, is_misplaced, is_no_type, parameters_found, breaches_of_element}
 use Rattle.idl_check.proofs.AcfNotes.{operation_is}
 use Rattle.idl_check.proofs.acf_rule.element.Goals as goal

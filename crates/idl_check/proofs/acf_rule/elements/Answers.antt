@@ -1,7 +1,7 @@
 use Rattle.std.proofs.Common.{◌∙◌, refl, sym, ap, option_map, arith}
 use Rattle.idl_scope.specs.Seen.{seen_files, known_in}
 use Rattle.acf_reader.specs.Seen.{seen_element}
-use Rattle.idl_language.specs.Found.{seen_breach}
+use Rattle.idl_rule_definitions.specs.Found.{seen_breach}
 use Rattle.idl_check.specs.AcfRules.{breaches_of_element}
 use Rattle.idl_check.proofs.AcfNotes.{one_part, no_part}
 use Rattle.idl_check.proofs.acf_rule.elements.Goals as goal

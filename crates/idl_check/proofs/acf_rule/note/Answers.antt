@@ -1,6 +1,6 @@
 use Rattle.std.proofs.Common.{◌∙◌, ap, option_map}
-use Rattle.idl_language.specs.Found.{seen_breach}
-use Rattle.idl_language.specs.Noted.{noted, if_broken}
+use Rattle.idl_rule_definitions.specs.Found.{seen_breach}
+use Rattle.idl_rule_definitions.specs.Noted.{noted, if_broken}
 use Rattle.idl_check.proofs.AcfNotes.{if_acf_broken}
 use Rattle.idl_check.proofs.acf_rule.note.Goals as goal
 

@@ -3,8 +3,8 @@ use Rattle.std.specs.List.{flat_map}
 use Rattle.idl_grammar.specs.Seen as of_idl
 use Rattle.idl_scope.specs.Seen.{seen_files}
 use Rattle.acf_reader.specs.Seen.{seen_parameter}
-use Rattle.idl_language.specs.Noted.{noted}
-use Rattle.idl_language.specs.Found.{seen_breach}
+use Rattle.idl_rule_definitions.specs.Noted.{noted}
+use Rattle.idl_rule_definitions.specs.Found.{seen_breach}
 use Rattle.idl_check.specs.AcfRules.{broken_at, is_of_operation, is_misplaced, breaches_of_parameter, breaches_of_operation}
 use Rattle.idl_check.proofs.AcfNotes.{then_noted}
 use Rattle.idl_check.proofs.acf_rule.operation.Goals as goal

@@ -2,8 +2,8 @@ use Rattle.std.proofs.Common.{◌∙◌, refl, sym, ap, map, option_map, arith}
 use Rattle.idl_grammar.specs.Seen as of_idl
 use Rattle.idl_scope.specs.Seen.{seen_files}
 use Rattle.acf_reader.specs.Seen.{seen_parameter}
-use Rattle.idl_language.specs.Noted.{noted}
-use Rattle.idl_language.specs.Found.{seen_breach}
+use Rattle.idl_rule_definitions.specs.Noted.{noted}
+use Rattle.idl_rule_definitions.specs.Found.{seen_breach}
 use Rattle.idl_check.specs.AcfRules.{breaches_of_parameter}
 use Rattle.idl_check.proofs.AcfNotes.{one_part, no_part}
 use Rattle.idl_check.proofs.acf_rule.parameters.Goals as goal

@@ -1,8 +1,8 @@
 use Rattle.std.proofs.Common.{◌≡◌, ◌∙◌, Option, Some, None, Err, option_map, ap, sym, subst}
 use Rattle.acf_reader.specs.Seen.{seen_acf}
-use Rattle.idl_language.specs.declared.fault.RuleFault.{RuleFault}
-use Rattle.idl_language.specs.Checked.{world_of}
-use Rattle.idl_language.specs.Found.{seen_breach}
+use Rattle.idl_rule_definitions.specs.declared.fault.RuleFault.{RuleFault}
+use Rattle.idl_rule_definitions.specs.Checked.{world_of}
+use Rattle.idl_rule_definitions.specs.Found.{seen_breach}
 use Rattle.idl_check.specs.SeenAcf.{AnswersBeside, IsMeaningBeside}
 use Rattle.idl_check.proofs.AcfAnswers.{told_on, alone, last_told, kept_beside}
 use Rattle.idl_check.proofs.checking.check.Goals as goal

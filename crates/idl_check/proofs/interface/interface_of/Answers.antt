@@ -1,18 +1,18 @@
 use Rattle.std.proofs.Common.{◌≡◌, ◌∙◌, Option, Some, None, Err, option_map, refl, ap, sym, subst}
 use Rattle.idl_scope.specs.Seen.{known_in}
-use Rattle.idl_language.specs.declared.fault.RuleFault.{RuleFault}
-use Rattle.idl_language.specs.Answers.{Answers}
-use Rattle.idl_language.specs.Checked.{world_of}
-use Rattle.idl_language.specs.FirstBroken.{first_broken}
-use Rattle.idl_language.specs.Found.{seen_breach}
-use Rattle.idl_language.specs.Nodes.{nodes}
-use Rattle.idl_language.specs.Scene.{Scene, scene_of}
-use Rattle.idl_nodes.specs.SeenNodes.{seen_nodes}
-use Rattle.idl_types.specs.SeenNumbers.{AreNumbers}
-use Rattle.idl_types.specs.SeenOperations.{HasTags, HasOperations}
-use Rattle.idl_types.specs.SeenTypes.{scene_seen, IsTypes}
-use Rattle.idl_types.proofs.Fronts.{scene_is}
-use Rattle.idl_nodes.proofs.Judgement.{nodes_are, told_by_lists, told_over, none_broken, memory_answers}
+use Rattle.idl_rule_definitions.specs.declared.fault.RuleFault.{RuleFault}
+use Rattle.idl_rule_definitions.specs.Answers.{Answers}
+use Rattle.idl_rule_definitions.specs.Checked.{world_of}
+use Rattle.idl_rule_definitions.specs.FirstBroken.{first_broken}
+use Rattle.idl_rule_definitions.specs.Found.{seen_breach}
+use Rattle.idl_rule_definitions.specs.Nodes.{nodes}
+use Rattle.idl_rule_definitions.specs.Scene.{Scene, scene_of}
+use Rattle.idl_constructs.specs.SeenNodes.{seen_nodes}
+use Rattle.idl_type_numbers.specs.SeenNumbers.{AreNumbers}
+use Rattle.idl_type_numbers.specs.SeenOperations.{HasTags, HasOperations}
+use Rattle.idl_type_numbers.specs.SeenTypes.{scene_seen, IsTypes}
+use Rattle.idl_type_numbers.proofs.Fronts.{scene_is}
+use Rattle.idl_constructs.proofs.Judgement.{nodes_are, told_by_lists, told_over, none_broken, memory_answers}
 use Rattle.idl_check.proofs.interface.interface_of.Goals as goal
 
 pub returns-in-Some : goal.returns-in-Some

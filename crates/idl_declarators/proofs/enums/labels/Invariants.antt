@@ -1,7 +1,7 @@
 use Rattle.std.proofs.Common.{◌≡◌, ◌≢◌, ℕ, suc, ◌+◌, ◌-◌, ◌<◌, ◌≤◌, List, [], ◌∷◌, ◌++◌, map, option_map, length, arith, sym, ap, true, false}
-use Rattle.phrases.specs.Text.{symbol_at, is, is_in}
-use Rattle.phrases.specs.Reading.{behind_read, separated_read, some_read, list_read}
-use Rattle.phrases.proofs.Gathered.{Gathered}
+use Rattle.grammar_phrases.specs.Text.{symbol_at, is, is_in}
+use Rattle.grammar_phrases.specs.Reading.{behind_read, separated_read, some_read, list_read}
+use Rattle.grammar_phrases.proofs.Gathered.{Gathered}
 use Rattle.idl_grammar.specs.Symbols as symbol
 use Rattle.idl_grammar.specs.Reading.{label_read, labels_read, label_firsts}
 use Rattle.idl_grammar.specs.Seen.{seen_label}

@@ -1,5 +1,5 @@
 use Rattle.std.proofs.Common.{◌≡◌, ◌∙◌, sym, true, false, Some, ap}
-use Rattle.phrases.specs.Text.{symbol_at}
+use Rattle.grammar_phrases.specs.Text.{symbol_at}
 use Rattle.idl_grammar.specs.Limits.{level, many_operators, binary_operators}
 use Rattle.idl_tokens.specs.Found.{found}
 use Rattle.idl_expressions.proofs.Signs.{binary_sign_is}

@@ -1,9 +1,9 @@
 use Rattle.std.proofs.lemmas.Result.{on_ok_weaker}
 use Rattle.std.proofs.Common.{◌++◌}
 use Rattle.idl_grammar.specs.Seen.{seen_type}
-use Rattle.idl_language.specs.Nodes.{attribute_nodes, switch_nodes, type_nodes}
-use Rattle.idl_nodes.specs.SeenNodes.{seen_construct}
-use Rattle.idl_nodes.proofs.Adding.{adds_both}
+use Rattle.idl_rule_definitions.specs.Nodes.{attribute_nodes, switch_nodes, type_nodes}
+use Rattle.idl_constructs.specs.SeenNodes.{seen_construct}
+use Rattle.idl_constructs.proofs.Adding.{adds_both}
 use Rattle.idl_gathering.proofs.exports.declaration.Goals as goal
 
 pub returns : goal.returns

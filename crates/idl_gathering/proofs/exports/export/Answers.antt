@@ -1,10 +1,10 @@
 use Rattle.std.proofs.lemmas.Result.{on_ok_weaker}
 use Rattle.std.proofs.Common.{◌∙◌, ◌++◌, sym, ap}
 use Rattle.idl_grammar.specs.Seen.{seen_type, seen_export}
-use Rattle.idl_language.specs.Nodes.{attribute_nodes, switch_nodes, type_nodes, export_nodes}
-use Rattle.idl_nodes.specs.SeenNodes.{seen_construct}
-use Rattle.idl_nodes.proofs.Adding.{adds_as, adds_both}
-use Rattle.idl_nodes.proofs.Rests as rests
+use Rattle.idl_rule_definitions.specs.Nodes.{attribute_nodes, switch_nodes, type_nodes, export_nodes}
+use Rattle.idl_constructs.specs.SeenNodes.{seen_construct}
+use Rattle.idl_constructs.proofs.Adding.{adds_as, adds_both}
+use Rattle.idl_constructs.proofs.Rests as rests
 use Rattle.idl_gathering.proofs.exports.export.Goals as goal
 
 pub returns-in_ok-declaration-in-Typedef : goal.returns-in_ok-declaration-in-Typedef

@@ -1,7 +1,7 @@
 use Rattle.std.proofs.Common.{refl, arith}
-use Rattle.idl_nodes.specs.SeenNodes.{seen_construct}
-use Rattle.idl_nodes.proofs.Adding.{turn, over}
-use Rattle.idl_nodes.proofs.Rests as rests
+use Rattle.idl_constructs.specs.SeenNodes.{seen_construct}
+use Rattle.idl_constructs.proofs.Adding.{turn, over}
+use Rattle.idl_constructs.proofs.Rests as rests
 use Rattle.idl_gathering.proofs.exports.exports.Goals as goal
 
 pub loop-one-preserved : goal.loop-one-preserved

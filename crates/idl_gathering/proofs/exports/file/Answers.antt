@@ -1,12 +1,12 @@
 use Rattle.std.proofs.lemmas.Result.{on_ok_weaker}
 use Rattle.std.proofs.Common.{◌∙◌, [], ◌∷◌, ◌++◌, eqb, refl, ap}
 use Rattle.idl_scope.specs.Seen.{seen_file}
-use Rattle.idl_nodes.specs.declared.nodes.Node.TheVariants as node
-use Rattle.idl_language.specs.Nodes.{HeaderNode, attribute_nodes, file_nodes}
-use Rattle.idl_nodes.specs.SeenNodes.{seen_construct}
-use Rattle.idl_nodes.specs.Growing.{Adds}
-use Rattle.idl_nodes.proofs.Adding.{adds_as, adds_both, pushed}
-use Rattle.idl_nodes.proofs.Rests as rests
+use Rattle.idl_constructs.specs.declared.nodes.Node.TheVariants as node
+use Rattle.idl_rule_definitions.specs.Nodes.{HeaderNode, attribute_nodes, file_nodes}
+use Rattle.idl_constructs.specs.SeenNodes.{seen_construct}
+use Rattle.idl_constructs.specs.Growing.{Adds}
+use Rattle.idl_constructs.proofs.Adding.{adds_as, adds_both, pushed}
+use Rattle.idl_constructs.proofs.Rests as rests
 use Rattle.idl_gathering.proofs.exports.file.Goals as goal
 
 pub returns : goal.returns

@@ -2,8 +2,8 @@ use Rattle.std.proofs.Common.{refl, sym, arith}
 use Rattle.std.specs.List.{flat_map}
 use Rattle.std.proofs.lemmas.Option.{get_or_from_slice_get}
 use Rattle.idl_scope.specs.Seen.{seen_file, seen_files}
-use Rattle.idl_language.specs.Nodes.{file_nodes}
-use Rattle.idl_nodes.proofs.Adding.{turn, over, all_seen}
+use Rattle.idl_rule_definitions.specs.Nodes.{file_nodes}
+use Rattle.idl_constructs.proofs.Adding.{turn, over, all_seen}
 use Rattle.idl_gathering.proofs.exports.of_files.Goals as goal
 
 pub loop-at-preserved : goal.loop-at-preserved

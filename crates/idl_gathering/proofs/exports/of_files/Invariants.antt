@@ -1,9 +1,9 @@
 use Rattle.std.proofs.Common.{drop}
 use Rattle.std.specs.List.{flat_map}
 use Rattle.idl_scope.specs.Seen.{seen_files}
-use Rattle.idl_nodes.specs.declared.nodes.Nodes.{Nodes}
-use Rattle.idl_language.specs.Nodes.{file_nodes}
-use Rattle.idl_nodes.specs.Growing.{Adds}
+use Rattle.idl_constructs.specs.declared.nodes.Nodes.{Nodes}
+use Rattle.idl_rule_definitions.specs.Nodes.{file_nodes}
+use Rattle.idl_constructs.specs.Growing.{Adds}
 use Rattle.idl_gathering.proofs.exports.of_files.Given as goal
 
 -- whatever is added by what is left, all is added

@@ -1,11 +1,11 @@
 use Rattle.std.proofs.Common.{◌≡◌, ◌∙◌, [], ◌∷◌, ◌++◌, Some, map, refl, ap}
 use Rattle.std.proofs.lemmas.Result.{on_ok_weaker}
 use Rattle.idl_grammar.specs.Seen.{seen_type, seen_parameter}
-use Rattle.idl_nodes.specs.declared.nodes.Node.TheVariants as node
-use Rattle.idl_language.specs.Nodes.{DeclaratorNode, OperationNode, attribute_nodes, type_nodes, result_of, parameter_nodes, declared_parameters, operation_nodes}
-use Rattle.idl_nodes.specs.SeenNodes.{seen_construct, list_found}
-use Rattle.idl_nodes.specs.Growing.{Adds}
-use Rattle.idl_nodes.proofs.Adding.{adds_as, adds_both, pushed, pushed_of}
+use Rattle.idl_constructs.specs.declared.nodes.Node.TheVariants as node
+use Rattle.idl_rule_definitions.specs.Nodes.{DeclaratorNode, OperationNode, attribute_nodes, type_nodes, result_of, parameter_nodes, declared_parameters, operation_nodes}
+use Rattle.idl_constructs.specs.SeenNodes.{seen_construct, list_found}
+use Rattle.idl_constructs.specs.Growing.{Adds}
+use Rattle.idl_constructs.proofs.Adding.{adds_as, adds_both, pushed, pushed_of}
 use Rattle.idl_gathering.proofs.Bodies.{operation_is}
 use Rattle.idl_gathering.proofs.exports.operation.Goals as goal
 

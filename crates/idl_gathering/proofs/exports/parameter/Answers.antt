@@ -1,11 +1,11 @@
 use Rattle.std.proofs.Common.{◌∙◌, [], ◌∷◌, ◌++◌, ap}
 use Rattle.std.proofs.lemmas.Result.{on_ok_weaker}
 use Rattle.idl_grammar.specs.Seen.{seen_type, seen_declarator}
-use Rattle.idl_language.specs.Nodes.{DeclaratorNode, attribute_nodes, type_nodes, declared}
-use Rattle.idl_nodes.specs.SeenNodes.{seen_construct, seen_declared}
-use Rattle.idl_nodes.specs.Growing.{Adds}
-use Rattle.idl_nodes.proofs.Adding.{adds_as, adds_both, of_all, of_both}
-use Rattle.idl_nodes.proofs.Rests as rests
+use Rattle.idl_rule_definitions.specs.Nodes.{DeclaratorNode, attribute_nodes, type_nodes, declared}
+use Rattle.idl_constructs.specs.SeenNodes.{seen_construct, seen_declared}
+use Rattle.idl_constructs.specs.Growing.{Adds}
+use Rattle.idl_constructs.proofs.Adding.{adds_as, adds_both, of_all, of_both}
+use Rattle.idl_constructs.proofs.Rests as rests
 use Rattle.idl_gathering.proofs.exports.parameter.Goals as goal
 
 pub returns : goal.returns

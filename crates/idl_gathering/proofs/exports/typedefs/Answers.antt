@@ -1,8 +1,8 @@
 use Rattle.std.proofs.Common.{refl, arith}
 use Rattle.idl_grammar.specs.Seen.{seen_type}
-use Rattle.idl_nodes.specs.SeenNodes.{seen_construct}
-use Rattle.idl_nodes.proofs.Adding.{turn, over}
-use Rattle.idl_nodes.proofs.Rests as rests
+use Rattle.idl_constructs.specs.SeenNodes.{seen_construct}
+use Rattle.idl_constructs.proofs.Adding.{turn, over}
+use Rattle.idl_constructs.proofs.Rests as rests
 use Rattle.idl_gathering.proofs.exports.typedefs.Goals as goal
 
 pub loop-declarator-preserved : goal.loop-declarator-preserved

@@ -3,13 +3,13 @@ use Rattle.std.specs.List.{list_any}
 use Rattle.std.specs.Str.{bytes_eq}
 use Rattle.idl_scope.specs.Seen.{seen_files}
 use Rattle.idl_grammar.specs.Seen.{seen_kind, seen_attribute}
-use Rattle.idl_language.specs.AttributeRules.{words_in, is_large_version_in}
-use Rattle.idl_language.specs.Nodes.{place_in}
-use Rattle.idl_nodes.specs.SeenNodes.{seen_position, seen_construct}
-use Rattle.idl_language.specs.Noted.{noted, if_broken}
-use Rattle.idl_language.specs.Found.{seen_breach}
-use Rattle.idl_nodes.specs.ListBreaches.{is_among}
-use Rattle.idl_nodes.proofs.ListNotes.{three}
+use Rattle.idl_rule_definitions.specs.AttributeRules.{words_in, is_large_version_in}
+use Rattle.idl_rule_definitions.specs.Nodes.{place_in}
+use Rattle.idl_constructs.specs.SeenNodes.{seen_position, seen_construct}
+use Rattle.idl_rule_definitions.specs.Noted.{noted, if_broken}
+use Rattle.idl_rule_definitions.specs.Found.{seen_breach}
+use Rattle.idl_constructs.specs.ListBreaches.{is_among}
+use Rattle.idl_constructs.proofs.ListNotes.{three}
 use Rattle.idl_gathering.proofs.lists.attribute.Goals as goal
 
 pub returns-clause-first : goal.returns-clause-first

@@ -1,10 +1,10 @@
 use Rattle.std.proofs.Common.{◌≡◌, ◌∙◌, ℕ, List, map, take, option_map, refl, ap, sym, arith}
 use Rattle.idl_scope.specs.Seen.{seen_files}
 use Rattle.idl_grammar.specs.Seen.{seen_attribute}
-use Rattle.idl_nodes.specs.SeenNodes.{seen_construct}
-use Rattle.idl_language.specs.Found.{seen_breach}
-use Rattle.idl_nodes.specs.ListBreaches.{is_among, AreWords}
-use Rattle.idl_nodes.proofs.ListNotes.{one_noted, none_left, words_next}
+use Rattle.idl_constructs.specs.SeenNodes.{seen_construct}
+use Rattle.idl_rule_definitions.specs.Found.{seen_breach}
+use Rattle.idl_constructs.specs.ListBreaches.{is_among, AreWords}
+use Rattle.idl_constructs.proofs.ListNotes.{one_noted, none_left, words_next}
 use Rattle.idl_gathering.proofs.lists.attributes.Goals as goal
 
 pub loop-one-init : goal.loop-one-init

@@ -1,13 +1,13 @@
 use Rattle.std.proofs.Common.{◌≡◌, map, take, option_map}
 use Rattle.idl_scope.specs.Seen.{seen_files}
 use Rattle.idl_grammar.specs.Seen.{seen_attribute}
-use Rattle.idl_language.specs.World.{World}
-use Rattle.idl_language.specs.Nodes.{attribute_nodes}
-use Rattle.idl_nodes.specs.SeenNodes.{seen_construct}
-use Rattle.idl_language.specs.Noted.{noted}
-use Rattle.idl_language.specs.Found.{seen_breach}
-use Rattle.idl_nodes.specs.ListBreaches.{list_breaches, AreWords}
-use Rattle.idl_nodes.proofs.ListNotes.{left}
+use Rattle.idl_rule_definitions.specs.World.{World}
+use Rattle.idl_rule_definitions.specs.Nodes.{attribute_nodes}
+use Rattle.idl_constructs.specs.SeenNodes.{seen_construct}
+use Rattle.idl_rule_definitions.specs.Noted.{noted}
+use Rattle.idl_rule_definitions.specs.Found.{seen_breach}
+use Rattle.idl_constructs.specs.ListBreaches.{list_breaches, AreWords}
+use Rattle.idl_constructs.proofs.ListNotes.{left}
 use Rattle.idl_gathering.proofs.lists.attributes.Given as goal
 
 -- The words are those of the attributes before, and with those that are left it comes to what all come to.

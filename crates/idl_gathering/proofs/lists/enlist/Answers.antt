@@ -1,7 +1,7 @@
 use Rattle.std.proofs.Common.{◌≡◌, ◌∙◌, true, refl, ap, sym}
-use Rattle.idl_nodes.specs.Spelled.{spelled}
-use Rattle.idl_nodes.specs.ListBreaches.{is_among}
-use Rattle.idl_nodes.proofs.ListNotes.{no_word_more, one_word_more}
+use Rattle.idl_constructs.specs.Spelled.{spelled}
+use Rattle.idl_constructs.specs.ListBreaches.{is_among}
+use Rattle.idl_constructs.proofs.ListNotes.{no_word_more, one_word_more}
 use Rattle.idl_gathering.proofs.lists.enlist.Goals as goal
 
 pub returns-then-is_among : goal.returns-then-is_among

@@ -1,10 +1,10 @@
 use Rattle.std.proofs.Common.{◌≡◌, ◌∙◌, None, option_map, refl, ap, ap₂, sym}
 use Rattle.std.specs.List.{flat_map}
 use Rattle.idl_scope.specs.Seen.{seen_files}
-use Rattle.idl_nodes.specs.SeenNodes.{seen_node}
-use Rattle.idl_language.specs.Noted.{noted}
-use Rattle.idl_language.specs.Found.{seen_breach}
-use Rattle.idl_nodes.specs.ListBreaches.{list_breaches_at, list_breaches}
+use Rattle.idl_constructs.specs.SeenNodes.{seen_node}
+use Rattle.idl_rule_definitions.specs.Noted.{noted}
+use Rattle.idl_rule_definitions.specs.Found.{seen_breach}
+use Rattle.idl_constructs.specs.ListBreaches.{list_breaches_at, list_breaches}
 use Rattle.idl_gathering.proofs.Runs.{one_noted, none_left}
 use Rattle.idl_gathering.proofs.lists.first_breach.Goals as goal
 

@@ -1,8 +1,8 @@
 use Rattle.std.proofs.Common.{refl, sym, ◌∙◌, arith, List, map, ap, map-id}
 use Rattle.std.specs.Str.{bytes_eq}
 use Rattle.std.specs.List.{list_any}
-use Rattle.idl_nodes.specs.Spelled.{spelled}
-use Rattle.idl_nodes.proofs.AnyFrom.{found_copy, no_copy, nowhere}
+use Rattle.idl_constructs.specs.Spelled.{spelled}
+use Rattle.idl_constructs.proofs.AnyFrom.{found_copy, no_copy, nowhere}
 use Rattle.idl_gathering.proofs.lists.is_among.Goals as goal
 
 pub loop-one-init : goal.loop-one-init

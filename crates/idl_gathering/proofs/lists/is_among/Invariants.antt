@@ -1,8 +1,8 @@
 use Rattle.std.proofs.Common.{◌≡◌}
 use Rattle.std.specs.Str.{bytes_eq}
-use Rattle.idl_nodes.specs.Spelled.{spelled}
-use Rattle.idl_nodes.specs.ListBreaches.{is_among}
-use Rattle.idl_nodes.proofs.AnyFrom.{any_from}
+use Rattle.idl_constructs.specs.Spelled.{spelled}
+use Rattle.idl_constructs.specs.ListBreaches.{is_among}
+use Rattle.idl_constructs.proofs.AnyFrom.{any_from}
 use Rattle.idl_gathering.proofs.lists.is_among.Given as goal
 
 -- the word is among those that are left, or among none

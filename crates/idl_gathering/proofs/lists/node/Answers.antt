@@ -1,6 +1,6 @@
 use Rattle.std.proofs.Common.{option_map, refl, ap, sym}
-use Rattle.idl_language.specs.Noted.{noted}
-use Rattle.idl_language.specs.Found.{seen_breach}
+use Rattle.idl_rule_definitions.specs.Noted.{noted}
+use Rattle.idl_rule_definitions.specs.Found.{seen_breach}
 use Rattle.idl_gathering.proofs.NoListRules.{nothing_there}
 use Rattle.idl_gathering.proofs.lists.node.Goals as goal
 

@@ -5,12 +5,12 @@ use Rattle.idl_grammar.specs.Seen.{seen_type, seen_declarator, seen_enumerator, 
 use Rattle.idl_grammar.specs.Reading.{members_of, cases_of, arms_of}
 use Rattle.idl_grammar.specs.Seen as seen
 use Rattle.idl_grammar.proofs.Rows.{struct_is, cases_are, arms_are}
-use Rattle.idl_language.specs.Nodes.{BodyNode, SwitchNode, EnumeratorNode, DeclaratorNode, attribute_nodes, type_nodes, member_nodes, declared_members, label_nodes, labels_of, case_nodes, arms_nodes, arm_nodes}
-use Rattle.idl_nodes.specs.SeenNodes.{seen_construct, seen_position, seen_declared}
-use Rattle.idl_nodes.specs.Growing.{Adds, member_front, member_rest}
-use Rattle.idl_nodes.proofs.Adding.{adds_as, adds_both, pushed, of_all, of_both, turn, over, turn_of, over_of}
+use Rattle.idl_rule_definitions.specs.Nodes.{BodyNode, SwitchNode, EnumeratorNode, DeclaratorNode, attribute_nodes, type_nodes, member_nodes, declared_members, label_nodes, labels_of, case_nodes, arms_nodes, arm_nodes}
+use Rattle.idl_constructs.specs.SeenNodes.{seen_construct, seen_position, seen_declared}
+use Rattle.idl_constructs.specs.Growing.{Adds, member_front, member_rest}
+use Rattle.idl_constructs.proofs.Adding.{adds_as, adds_both, pushed, of_all, of_both, turn, over, turn_of, over_of}
 use Rattle.idl_gathering.proofs.Bodies.{struct_nodes, switched_nodes, union_nodes, enum_nodes, typed_nodes}
-use Rattle.idl_nodes.proofs.Rests as rests
+use Rattle.idl_constructs.proofs.Rests as rests
 use Rattle.idl_gathering.proofs.walk.+walk.Goals as goal
 
 pub type_spec-returns-in_ok-body-in-Struct : goal.type_spec-returns-in_ok-body-in-Struct

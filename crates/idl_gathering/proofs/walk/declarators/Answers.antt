@@ -1,11 +1,11 @@
 use Rattle.std.proofs.Common.{◌+◌, [], ◌∷◌, refl, subst, arith}
 use Rattle.std.proofs.lemmas.List.{length-map}
 use Rattle.idl_grammar.specs.Seen.{seen_type, seen_declarator}
-use Rattle.idl_language.specs.Nodes.{Declared, DeclaratorNode}
-use Rattle.idl_nodes.specs.SeenNodes.{seen_construct}
-use Rattle.idl_nodes.specs.Growing.{AddsOf}
-use Rattle.idl_nodes.proofs.Adding.{turn_of, over_of}
-use Rattle.idl_nodes.proofs.Rests as rests
+use Rattle.idl_rule_definitions.specs.Nodes.{Declared, DeclaratorNode}
+use Rattle.idl_constructs.specs.SeenNodes.{seen_construct}
+use Rattle.idl_constructs.specs.Growing.{AddsOf}
+use Rattle.idl_constructs.proofs.Adding.{turn_of, over_of}
+use Rattle.idl_constructs.proofs.Rests as rests
 use Rattle.idl_gathering.proofs.walk.declarators.Goals as goal
 
 pub loop-declarator-preserved : goal.loop-declarator-preserved

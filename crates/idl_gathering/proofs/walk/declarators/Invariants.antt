@@ -1,9 +1,9 @@
 use Rattle.std.proofs.Common.{◌≡◌, ◌+◌, drop}
 use Rattle.idl_grammar.specs.Seen.{seen_type}
-use Rattle.idl_nodes.specs.declared.nodes.Nodes.{Nodes}
-use Rattle.idl_nodes.specs.SeenNodes.{seen_construct}
-use Rattle.idl_nodes.specs.Growing.{AddsOf}
-use Rattle.idl_nodes.proofs.Rests as rests
+use Rattle.idl_constructs.specs.declared.nodes.Nodes.{Nodes}
+use Rattle.idl_constructs.specs.SeenNodes.{seen_construct}
+use Rattle.idl_constructs.specs.Growing.{AddsOf}
+use Rattle.idl_constructs.proofs.Rests as rests
 use Rattle.idl_gathering.proofs.walk.declarators.Given as goal
 
 -- whatever is added by what is left, all is added

@@ -1,9 +1,9 @@
 use Rattle.std.proofs.Common.{[], ◌∷◌, refl}
 use Rattle.std.proofs.lemmas.Result.{on_ok_weaker}
-use Rattle.idl_nodes.specs.declared.nodes.Node.TheVariants as node
-use Rattle.idl_language.specs.Nodes.{DeclaratorNode}
-use Rattle.idl_nodes.specs.SeenNodes.{seen_declared}
-use Rattle.idl_nodes.proofs.Adding.{pushed_of}
+use Rattle.idl_constructs.specs.declared.nodes.Node.TheVariants as node
+use Rattle.idl_rule_definitions.specs.Nodes.{DeclaratorNode}
+use Rattle.idl_constructs.specs.SeenNodes.{seen_declared}
+use Rattle.idl_constructs.proofs.Adding.{pushed_of}
 use Rattle.idl_gathering.proofs.walk.listed.Goals as goal
 
 pub returns : goal.returns

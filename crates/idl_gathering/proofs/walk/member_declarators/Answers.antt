@@ -2,10 +2,10 @@ use Rattle.std.proofs.Common.{◌∙◌, length, ap, arith}
 use Rattle.std.proofs.lemmas.Result.{on_ok_weaker}
 use Rattle.idl_grammar.specs.Seen as seen
 use Rattle.idl_grammar.specs.Seen.{seen_type}
-use Rattle.idl_nodes.specs.SeenNodes.{seen_construct}
-use Rattle.idl_nodes.specs.Growing.{member_rest}
-use Rattle.idl_nodes.proofs.Adding.{adds_as}
-use Rattle.idl_nodes.proofs.Rests as rests
+use Rattle.idl_constructs.specs.SeenNodes.{seen_construct}
+use Rattle.idl_constructs.specs.Growing.{member_rest}
+use Rattle.idl_constructs.proofs.Adding.{adds_as}
+use Rattle.idl_constructs.proofs.Rests as rests
 use Rattle.idl_gathering.proofs.walk.member_declarators.Goals as goal
 
 pub declarators-requires : goal.declarators-requires

@@ -1,6 +1,6 @@
 use Rattle.std.proofs.Common.{◌∙◌, ap, ap₂, [], ◌∷◌, ◌++◌, codes, decimal}
-use Rattle.line_words.specs.Lines.{behind}
-use Rattle.line_words.proofs.WordByWord.{goes_on}
+use Rattle.listing_words.specs.Lines.{behind}
+use Rattle.listing_words.proofs.WordByWord.{goes_on}
 use Rattle.idl_listing.proofs.header_line.version_word.Goals as goal
 
 pub returns : goal.returns

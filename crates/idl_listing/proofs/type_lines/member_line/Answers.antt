@@ -1,7 +1,7 @@
 use Rattle.std.proofs.Common.{◌∙◌, ap, [], ◌∷◌, ◌++◌, codes, decimal}
-use Rattle.line_words.specs.Lines.{behind}
+use Rattle.listing_words.specs.Lines.{behind}
 use Rattle.idl_listing.specs.Listing.{attrs_words}
-use Rattle.line_words.proofs.WordByWord.{first_word, then_words, then_end}
+use Rattle.listing_words.proofs.WordByWord.{first_word, then_words, then_end}
 use Rattle.idl_listing.proofs.type_lines.member_line.Goals as goal
 
 pub returns : goal.returns

@@ -1,11 +1,11 @@
 use Rattle.std.proofs.Common.{◌≡◌, ◌∙◌, ap, ap₂, sym, subst, ◌++◌, option_map}
-use Rattle.idl_language.specs.Nodes.{Construct, place_in}
-use Rattle.idl_language.specs.Rules.{broken_in}
-use Rattle.idl_language.specs.Noted.{noted, if_broken}
-use Rattle.idl_language.specs.Found.{seen_breach}
-use Rattle.idl_nodes.specs.SeenNodes.{seen_construct}
-use Rattle.idl_language.proofs.Noted.{noted_more}
-use Rattle.idl_nodes.proofs.ListNotes.{if_broken_is}
+use Rattle.idl_rule_definitions.specs.Nodes.{Construct, place_in}
+use Rattle.idl_rule_definitions.specs.Rules.{broken_in}
+use Rattle.idl_rule_definitions.specs.Noted.{noted, if_broken}
+use Rattle.idl_rule_definitions.specs.Found.{seen_breach}
+use Rattle.idl_constructs.specs.SeenNodes.{seen_construct}
+use Rattle.idl_rule_definitions.proofs.Noted.{noted_more}
+use Rattle.idl_constructs.proofs.ListNotes.{if_broken_is}
 use Rattle.idl_rules.proofs.asked.note.Goals as goal
 
 pub returns-clause-next : goal.returns-clause-next

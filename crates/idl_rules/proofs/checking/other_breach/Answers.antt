@@ -1,12 +1,12 @@
 use Rattle.std.proofs.Common.{◌≡◌, ◌∙◌, map, option_map, refl, ap, sym}
 use Rattle.idl_scope.specs.Seen.{seen_files, known_in}
-use Rattle.idl_language.specs.Checked.{world_of}
-use Rattle.idl_language.specs.CountRules as rules
-use Rattle.idl_language.specs.Found.{seen_breach}
-use Rattle.idl_language.specs.Noted.{noted}
-use Rattle.idl_language.specs.OtherBreaches.{other_breaches}
-use Rattle.idl_values.specs.SeenCounts.{one_too_many}
-use Rattle.idl_types.specs.SeenTypes.{scene_seen}
+use Rattle.idl_rule_definitions.specs.Checked.{world_of}
+use Rattle.idl_rule_definitions.specs.CountRules as rules
+use Rattle.idl_rule_definitions.specs.Found.{seen_breach}
+use Rattle.idl_rule_definitions.specs.Noted.{noted}
+use Rattle.idl_rule_definitions.specs.OtherBreaches.{other_breaches}
+use Rattle.idl_value_rules.specs.SeenCounts.{one_too_many}
+use Rattle.idl_type_numbers.specs.SeenTypes.{scene_seen}
 use Rattle.idl_rules.proofs.checking.other_breach.Goals as goal
 
 pub returns : goal.returns

@@ -1,5 +1,5 @@
-use Rattle.idl_nodes.proofs.Split.{lists_in, others_in}
-use Rattle.idl_nodes.proofs.Judgement.{told_by_lists, told_by_others, none_broken}
+use Rattle.idl_constructs.proofs.Split.{lists_in, others_in}
+use Rattle.idl_constructs.proofs.Judgement.{told_by_lists, told_by_others, none_broken}
 use Rattle.idl_rules.proofs.laws.breaches_are_in_two.Goals as goal
 
 pub returns-clause-lists : goal.returns-clause-lists

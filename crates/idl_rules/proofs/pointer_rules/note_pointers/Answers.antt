@@ -1,12 +1,12 @@
 use Rattle.std.proofs.Common.{◌≡◌, ◌∙◌, ◌++◌, ap, sym}
 use Rattle.idl_scope.specs.Seen.{seen_files}
-use Rattle.idl_language.specs.Rules.{broken_in}
-use Rattle.idl_language.specs.DeclarationRules.{lacks_direction}
-use Rattle.idl_language.specs.TypeRules.{is_wrong_result}
-use Rattle.idl_language.specs.PointerRules.{has_class_without_pointer, holds_pointer_without_class, holds_pointer_to_reference, is_nullable_out, is_wrong_out}
+use Rattle.idl_rule_definitions.specs.Rules.{broken_in}
+use Rattle.idl_rule_definitions.specs.DeclarationRules.{lacks_direction}
+use Rattle.idl_rule_definitions.specs.TypeRules.{is_wrong_result}
+use Rattle.idl_rule_definitions.specs.PointerRules.{has_class_without_pointer, holds_pointer_without_class, holds_pointer_to_reference, is_nullable_out, is_wrong_out}
 use Rattle.idl_rules.proofs.AskedUses.{asked_is}
 use Rattle.idl_rules.proofs.pointer_rules.note_pointers.Goals as goal
-use Rattle.idl_language.specs.declared.rule.TheConstants as Rule
+use Rattle.idl_rule_definitions.specs.declared.rule.TheConstants as Rule
 
 pub returns-clause-next : goal.returns-clause-next
 returns-clause-next c w s u first before files are h start =

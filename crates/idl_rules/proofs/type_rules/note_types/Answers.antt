@@ -1,10 +1,10 @@
 use Rattle.std.proofs.Common.{◌≡◌, ◌∙◌, ◌++◌, ap, sym}
 use Rattle.idl_scope.specs.Seen.{seen_files}
-use Rattle.idl_language.specs.Rules.{broken_in}
-use Rattle.idl_language.specs.TypeRules.{holds_void, holds_handle, holds_pipe, is_no_context_handle, holds_context_handle, holds_deep_array}
+use Rattle.idl_rule_definitions.specs.Rules.{broken_in}
+use Rattle.idl_rule_definitions.specs.TypeRules.{holds_void, holds_handle, holds_pipe, is_no_context_handle, holds_context_handle, holds_deep_array}
 use Rattle.idl_rules.proofs.AskedUses.{asked_is}
 use Rattle.idl_rules.proofs.type_rules.note_types.Goals as goal
-use Rattle.idl_language.specs.declared.rule.TheConstants as Rule
+use Rattle.idl_rule_definitions.specs.declared.rule.TheConstants as Rule
 
 pub returns-clause-next : goal.returns-clause-next
 returns-clause-next c w s u first before files are h start =

@@ -1,11 +1,11 @@
 use Rattle.std.proofs.Common.{sym, subst, ◌&&◌, not, map}
 use Rattle.idl_grammar.specs.Seen.{seen_attribute}
-use Rattle.idl_language.specs.Attributes.{has, in_word, out_word}
-use Rattle.idl_kinds.specs.Kinds.{type_at}
-use Rattle.idl_language.specs.Nodes.{InParameter}
-use Rattle.idl_language.specs.TypeRules.{without_handle}
-use Rattle.idl_nodes.specs.SeenNodes.{seen_position}
-use Rattle.idl_marks.specs.SeenMarks.{Holds}
+use Rattle.idl_rule_definitions.specs.Attributes.{has, in_word, out_word}
+use Rattle.idl_declared_types.specs.Kinds.{type_at}
+use Rattle.idl_rule_definitions.specs.Nodes.{InParameter}
+use Rattle.idl_rule_definitions.specs.TypeRules.{without_handle}
+use Rattle.idl_constructs.specs.SeenNodes.{seen_position}
+use Rattle.idl_type_properties.specs.SeenMarks.{Holds}
 use Rattle.idl_rules.proofs.type_rules.without_handle.Goals as goal
 
 pub returns-in-Parameter-true : goal.returns-in-Parameter-true

@@ -1,18 +1,18 @@
 use Rattle.std.proofs.Common.{◌≡◌, ◌∙◌, [], ◌∷◌, option_map, refl, ap, sym, subst}
 use Rattle.idl_grammar.specs.Seen.{seen_type}
 use Rattle.idl_scope.specs.Seen.{seen_files}
-use Rattle.idl_language.specs.Found.{seen_breach}
-use Rattle.idl_kinds.specs.Kinds.{type_at}
-use Rattle.idl_language.specs.Nodes.{SwitchNode, EmptyArmNode, DeclaratorNode, TypeNode}
-use Rattle.idl_nodes.specs.SeenNodes.{seen_construct, seen_declared, seen_result, list_at}
-use Rattle.idl_types.specs.SeenTypes.{IsTyped, IsTypedUse}
-use Rattle.idl_language.specs.Types.{switch_type}
-use Rattle.idl_language.specs.Scene.{Body, use_of}
-use Rattle.idl_language.specs.DeclarationRules.{has_no_body}
-use Rattle.idl_language.specs.Noted.{noted, of_others}
+use Rattle.idl_rule_definitions.specs.Found.{seen_breach}
+use Rattle.idl_declared_types.specs.Kinds.{type_at}
+use Rattle.idl_rule_definitions.specs.Nodes.{SwitchNode, EmptyArmNode, DeclaratorNode, TypeNode}
+use Rattle.idl_constructs.specs.SeenNodes.{seen_construct, seen_declared, seen_result, list_at}
+use Rattle.idl_type_numbers.specs.SeenTypes.{IsTyped, IsTypedUse}
+use Rattle.idl_rule_definitions.specs.Types.{switch_type}
+use Rattle.idl_rule_definitions.specs.Scene.{Body, use_of}
+use Rattle.idl_rule_definitions.specs.DeclarationRules.{has_no_body}
+use Rattle.idl_rule_definitions.specs.Noted.{noted, of_others}
 use Rattle.idl_rules.specs.Asked.{switch_breaches}
 use Rattle.idl_rules.specs.Asked.{program_breaches}
-use Rattle.idl_language.proofs.OtherNotes.{other_one, kept}
+use Rattle.idl_rule_definitions.proofs.OtherNotes.{other_one, kept}
 use Rattle.idl_rules.proofs.UseNotes.{use_kept, switch_kept, arm_kept, more_others}
 use Rattle.idl_rules.proofs.uses.node.Goals as goal
 

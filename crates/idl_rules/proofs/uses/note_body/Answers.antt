@@ -1,11 +1,11 @@
 use Rattle.std.proofs.Common.{◌≡◌, ◌∙◌, [], ◌++◌, option_map, refl, ap, ap₂, sym}
 use Rattle.idl_scope.specs.Seen.{seen_files}
-use Rattle.idl_language.specs.Found.{seen_breach}
-use Rattle.idl_language.specs.Rules.{broken_in}
-use Rattle.idl_language.specs.TypeRules.{is_too_deep, is_deep_body}
-use Rattle.idl_language.specs.DeclarationRules.{lacks_switch_type}
+use Rattle.idl_rule_definitions.specs.Found.{seen_breach}
+use Rattle.idl_rule_definitions.specs.Rules.{broken_in}
+use Rattle.idl_rule_definitions.specs.TypeRules.{is_too_deep, is_deep_body}
+use Rattle.idl_rule_definitions.specs.DeclarationRules.{lacks_switch_type}
 use Rattle.idl_rules.proofs.uses.note_body.Goals as goal
-use Rattle.idl_language.specs.declared.rule.TheConstants as Rule
+use Rattle.idl_rule_definitions.specs.declared.rule.TheConstants as Rule
 
 pub returns-clause-first : goal.returns-clause-first
 returns-clause-first c w s b files are is_construct is_body is_type =

@@ -1,11 +1,11 @@
 use Rattle.std.proofs.Common.{◌≡◌, ◌∙◌, [], ◌++◌, option_map, refl, ap, ap₂, sym}
 use Rattle.idl_scope.specs.Seen.{seen_files}
-use Rattle.idl_language.specs.Found.{seen_breach}
-use Rattle.idl_language.specs.Rules.{broken_in}
-use Rattle.idl_nodes.specs.SeenNodes.{seen_construct}
-use Rattle.idl_language.specs.DeclarationRules.{is_wrongly_cased, has_class, has_string}
+use Rattle.idl_rule_definitions.specs.Found.{seen_breach}
+use Rattle.idl_rule_definitions.specs.Rules.{broken_in}
+use Rattle.idl_constructs.specs.SeenNodes.{seen_construct}
+use Rattle.idl_rule_definitions.specs.DeclarationRules.{is_wrongly_cased, has_class, has_string}
 use Rattle.idl_rules.proofs.uses.note_empty_arm.Goals as goal
-use Rattle.idl_language.specs.declared.rule.TheConstants as Rule
+use Rattle.idl_rule_definitions.specs.declared.rule.TheConstants as Rule
 
 pub returns-clause-first : goal.returns-clause-first
 returns-clause-first c w files =

@@ -1,14 +1,14 @@
 use Rattle.std.proofs.Common.{◌≡◌, ◌∙◌, [], ◌++◌, option_map, refl, ap, ap₂, sym}
 use Rattle.idl_scope.specs.Seen.{seen_files}
-use Rattle.idl_language.specs.Found.{seen_breach}
-use Rattle.idl_language.specs.Rules.{broken_in}
-use Rattle.idl_kinds.specs.Kinds.{type_at}
-use Rattle.idl_nodes.specs.SeenNodes.{seen_construct}
-use Rattle.idl_language.specs.Types.{is_void, is_handle, is_pipe, is_context}
-use Rattle.idl_language.specs.TypeRules.{in_tag}
-use Rattle.idl_language.specs.VariableRules.{may_not_be_switched}
+use Rattle.idl_rule_definitions.specs.Found.{seen_breach}
+use Rattle.idl_rule_definitions.specs.Rules.{broken_in}
+use Rattle.idl_declared_types.specs.Kinds.{type_at}
+use Rattle.idl_constructs.specs.SeenNodes.{seen_construct}
+use Rattle.idl_rule_definitions.specs.Types.{is_void, is_handle, is_pipe, is_context}
+use Rattle.idl_rule_definitions.specs.TypeRules.{in_tag}
+use Rattle.idl_rule_definitions.specs.VariableRules.{may_not_be_switched}
 use Rattle.idl_rules.proofs.uses.note_switch.Goals as goal
-use Rattle.idl_language.specs.declared.rule.TheConstants as Rule
+use Rattle.idl_rule_definitions.specs.declared.rule.TheConstants as Rule
 
 pub returns-clause-first : goal.returns-clause-first
 returns-clause-first c w s files are =

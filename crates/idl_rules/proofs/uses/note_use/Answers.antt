@@ -1,6 +1,6 @@
 use Rattle.std.proofs.Common.{◌≡◌, ◌∙◌, [], option_map, refl, ap, sym}
 use Rattle.idl_scope.specs.Seen.{seen_files}
-use Rattle.idl_language.specs.Found.{seen_breach}
+use Rattle.idl_rule_definitions.specs.Found.{seen_breach}
 use Rattle.idl_rules.specs.Asked.{with_types, with_arrays, with_unions, with_pointers}
 use Rattle.idl_rules.proofs.uses.note_use.Goals as goal
 

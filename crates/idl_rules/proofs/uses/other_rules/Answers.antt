@@ -1,6 +1,6 @@
 use Rattle.std.proofs.Common.{◌≡◌, ◌∙◌, option_map, ap, sym}
 use Rattle.idl_scope.specs.Seen.{seen_files}
-use Rattle.idl_language.specs.Found.{seen_breach}
+use Rattle.idl_rule_definitions.specs.Found.{seen_breach}
 use Rattle.idl_rules.proofs.CycleNotes.{both_noted}
 use Rattle.idl_rules.proofs.uses.other_rules.Goals as goal
 

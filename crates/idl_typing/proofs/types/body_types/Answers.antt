@@ -1,9 +1,9 @@
 use Rattle.std.proofs.Common.{◌≡◌, List, map, ap, ◌∙◌}
 use Rattle.idl_scope.specs.Seen.{known_in}
-use Rattle.idl_language.specs.Types.{type_of}
-use Rattle.idl_kinds.specs.SeenNames.{seen_names}
-use Rattle.idl_nodes.specs.SeenNodes.{seen_declared}
-use Rattle.idl_kinds.proofs.NameLists.{are_within-keeps, seen_names-keeps}
+use Rattle.idl_rule_definitions.specs.Types.{type_of}
+use Rattle.idl_declared_types.specs.SeenNames.{seen_names}
+use Rattle.idl_constructs.specs.SeenNodes.{seen_declared}
+use Rattle.idl_declared_types.proofs.NameLists.{are_within-keeps, seen_names-keeps}
 use Rattle.idl_typing.proofs.ReadOperations.{tag_still}
 use Rattle.idl_typing.proofs.types.body_types.Goals as goal
 

@@ -1,6 +1,6 @@
 use Rattle.std.proofs.Common.{◌∙◌, ap}
-use Rattle.idl_kinds.specs.Kinds.{type_at, seen_types}
-use Rattle.idl_kinds.proofs.KindLists.{type_at-stands}
+use Rattle.idl_declared_types.specs.Kinds.{type_at, seen_types}
+use Rattle.idl_declared_types.proofs.KindLists.{type_at-stands}
 use Rattle.idl_typing.proofs.NotedTypes.{noted_within}
 use Rattle.idl_typing.proofs.types.note_body.Goals as goal
 

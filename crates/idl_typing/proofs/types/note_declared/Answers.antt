@@ -1,5 +1,5 @@
 use Rattle.std.proofs.Common.{arith}
-use Rattle.idl_kinds.proofs.NameLists.{within_stands, le-keeps}
+use Rattle.idl_declared_types.proofs.NameLists.{within_stands, le-keeps}
 use Rattle.idl_typing.proofs.types.note_declared.Goals as goal
 
 pub with_attributes-requires : goal.with_attributes-requires

@@ -1,4 +1,4 @@
-use Rattle.idl_kinds.proofs.NameLists.{within_stands}
+use Rattle.idl_declared_types.proofs.NameLists.{within_stands}
 use Rattle.idl_typing.proofs.NotedTypes.{noted_within}
 use Rattle.idl_typing.proofs.types.note_labels.Goals as goal
 

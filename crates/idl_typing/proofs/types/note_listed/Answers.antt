@@ -1,8 +1,8 @@
 use Rattle.std.proofs.Common.{◌≡◌, true, length}
 use Rattle.idl_scope.specs.Seen.{known_in}
-use Rattle.idl_kinds.specs.SeenNames.{seen_names, are_within}
-use Rattle.idl_nodes.specs.SeenNodes.{seen_declared, list_at}
-use Rattle.idl_kinds.proofs.NameLists.{are_within-keeps}
+use Rattle.idl_declared_types.specs.SeenNames.{seen_names, are_within}
+use Rattle.idl_constructs.specs.SeenNodes.{seen_declared, list_at}
+use Rattle.idl_declared_types.proofs.NameLists.{are_within-keeps}
 use Rattle.idl_typing.proofs.NotedTypes.{listed_is}
 use Rattle.idl_typing.proofs.types.note_listed.Goals as goal
 

@@ -1,8 +1,8 @@
 use Rattle.std.proofs.Common.{◌≡◌, map, sym, ap, ◌∙◌}
 use Rattle.idl_scope.specs.Seen.{known_in}
-use Rattle.idl_language.specs.Types.{type_of}
-use Rattle.idl_kinds.specs.SeenNames.{seen_names}
-use Rattle.idl_nodes.specs.SeenNodes.{or_empty}
+use Rattle.idl_rule_definitions.specs.Types.{type_of}
+use Rattle.idl_declared_types.specs.SeenNames.{seen_names}
+use Rattle.idl_constructs.specs.SeenNodes.{or_empty}
 use Rattle.idl_typing.proofs.NotedTypes.{ok_then}
 use Rattle.idl_typing.proofs.types.parameter_types.Goals as goal
 

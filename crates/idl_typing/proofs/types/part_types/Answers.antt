@@ -1,11 +1,11 @@
 use Rattle.std.proofs.Common.{◌≡◌, true, List, [], ◌∷◌, ◌++◌, length, map, take, refl, sym, ap, ◌∙◌}
 use Rattle.std.proofs.lemmas.Option.{slice_get_read}
 use Rattle.idl_scope.specs.Seen.{known_in}
-use Rattle.idl_language.specs.Types.{type_of}
-use Rattle.idl_kinds.specs.Kinds.{type_at}
-use Rattle.idl_kinds.specs.SeenNames.{seen_names, are_within, are_below}
-use Rattle.idl_nodes.specs.SeenNodes.{seen_declared}
-use Rattle.idl_kinds.proofs.NameLists.{are_within-keeps, seen_names-keeps}
+use Rattle.idl_rule_definitions.specs.Types.{type_of}
+use Rattle.idl_declared_types.specs.Kinds.{type_at}
+use Rattle.idl_declared_types.specs.SeenNames.{seen_names, are_within, are_below}
+use Rattle.idl_constructs.specs.SeenNodes.{seen_declared}
+use Rattle.idl_declared_types.proofs.NameLists.{are_within-keeps, seen_names-keeps}
 use Rattle.idl_typing.proofs.PartTypes.{below-le, below-push, part_next}
 use Rattle.idl_typing.proofs.types.part_types.Goals as goal
 

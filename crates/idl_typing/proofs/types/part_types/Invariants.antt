@@ -1,9 +1,9 @@
 use Rattle.std.proofs.Common.{◌≡◌, true, length, map, take}
 use Rattle.idl_scope.specs.Seen.{known_in}
-use Rattle.idl_language.specs.Types as types
-use Rattle.idl_kinds.specs.Kinds.{type_at, Keeps}
-use Rattle.idl_kinds.specs.SeenNames.{seen_names, are_below}
-use Rattle.idl_nodes.specs.SeenNodes.{seen_declared}
+use Rattle.idl_rule_definitions.specs.Types as types
+use Rattle.idl_declared_types.specs.Kinds.{type_at, Keeps}
+use Rattle.idl_declared_types.specs.SeenNames.{seen_names, are_below}
+use Rattle.idl_constructs.specs.SeenNodes.{seen_declared}
 use Rattle.idl_typing.proofs.types.part_types.Given as goal
 
 abbrev pub invariant-loop-part : goal.invariant-loop-part

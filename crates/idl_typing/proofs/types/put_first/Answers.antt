@@ -1,7 +1,7 @@
 use Rattle.std.proofs.Common.{◌≡◌, sym, ap, ◌∙◌, OnOk, None, Some}
 use Rattle.idl_scope.specs.Tables.{found, put}
-use Rattle.idl_kinds.specs.SeenNames.{and_name}
-use Rattle.idl_kinds.proofs.NameLists.{and_name-there, and_name-new}
+use Rattle.idl_declared_types.specs.SeenNames.{and_name}
+use Rattle.idl_declared_types.proofs.NameLists.{and_name-there, and_name-new}
 use Rattle.idl_typing.proofs.NotedTypes.{on_ok_then}
 use Rattle.idl_typing.proofs.types.put_first.Goals as goal
 

@@ -1,5 +1,5 @@
 use Rattle.std.proofs.lemmas.Bool.{lt-ltb}
-use Rattle.idl_kinds.proofs.NameLists.{within_stands}
+use Rattle.idl_declared_types.proofs.NameLists.{within_stands}
 use Rattle.idl_typing.proofs.types.tag_number.Goals as goal
 
 pub returns-clause-within : goal.returns-clause-within

@@ -1,9 +1,9 @@
 use Rattle.std.proofs.Common.{◌≡◌, ◌∷◌, ◌++◌, map, drop}
 use Rattle.std.specs.List.{list_any}
 use Rattle.idl_grammar.specs.Seen.{seen_attribute}
-use Rattle.idl_language.specs.Attributes.{switch_is_word, sizes, lengths}
-use Rattle.idl_nodes.specs.SeenNodes.{list_at}
-use Rattle.idl_language.specs.VariableRules.{variables}
+use Rattle.idl_rule_definitions.specs.Attributes.{switch_is_word, sizes, lengths}
+use Rattle.idl_constructs.specs.SeenNodes.{list_at}
+use Rattle.idl_rule_definitions.specs.VariableRules.{variables}
 use Rattle.idl_typing.specs.Lookups.{no_other}
 use Rattle.idl_typing.proofs.variables.has_no_variable.Given as goal
 

@@ -2,11 +2,11 @@ use Rattle.std.proofs.Common.{◌≡◌, [], ◌∷◌, ◌++◌, map, drop}
 use Rattle.std.specs.List.{list_any}
 use Rattle.idl_grammar.specs.Seen.{seen_attribute}
 use Rattle.idl_scope.specs.Seen.{known_in}
-use Rattle.idl_language.specs.Attributes.{switch_is_word, sizes, lengths}
-use Rattle.idl_kinds.specs.Kinds.{Keeps}
-use Rattle.idl_kinds.specs.SeenNames.{seen_names}
-use Rattle.idl_nodes.specs.SeenNodes.{list_at}
-use Rattle.idl_language.specs.VariableRules.{variables, is_integer, may_be_switched}
+use Rattle.idl_rule_definitions.specs.Attributes.{switch_is_word, sizes, lengths}
+use Rattle.idl_declared_types.specs.Kinds.{Keeps}
+use Rattle.idl_declared_types.specs.SeenNames.{seen_names}
+use Rattle.idl_constructs.specs.SeenNodes.{list_at}
+use Rattle.idl_rule_definitions.specs.VariableRules.{variables, is_integer, may_be_switched}
 use Rattle.idl_typing.specs.Lookups.{fails_in}
 use Rattle.idl_typing.proofs.variables.has_wrong_switch_variable.Given as goal
 

@@ -3,12 +3,12 @@ use Rattle.std.specs.List.{list_any}
 use Rattle.std.proofs.lemmas.Option.{slice_get_read}
 use Rattle.idl_grammar.specs.Seen.{seen_attribute, seen_kind}
 use Rattle.idl_scope.specs.Seen.{known_in}
-use Rattle.idl_language.specs.Attributes.{sizes, lengths, switch_is_word, variable_said}
-use Rattle.idl_kinds.specs.SeenNames.{seen_names}
-use Rattle.idl_nodes.specs.SeenNodes.{seen_declared, list_at}
-use Rattle.idl_language.specs.VariableRules.{variable_if, is_integer, may_be_switched}
+use Rattle.idl_rule_definitions.specs.Attributes.{sizes, lengths, switch_is_word, variable_said}
+use Rattle.idl_declared_types.specs.SeenNames.{seen_names}
+use Rattle.idl_constructs.specs.SeenNodes.{seen_declared, list_at}
+use Rattle.idl_rule_definitions.specs.VariableRules.{variable_if, is_integer, may_be_switched}
 use Rattle.idl_typing.specs.Lookups.{fails_in}
-use Rattle.idl_kinds.proofs.NameLists.{are_within-keeps, seen_names-keeps}
+use Rattle.idl_declared_types.proofs.NameLists.{are_within-keeps, seen_names-keeps}
 use Rattle.idl_typing.proofs.VariableSteps.{wrong_is, none_says, one_says}
 use Rattle.idl_typing.proofs.variables.has_wrong_variable.Goals as goal
 

@@ -1,5 +1,5 @@
 use Rattle.std.proofs.Common.{sym, ◌∙◌}
-use Rattle.idl_kinds.specs.Kinds.{type_by}
+use Rattle.idl_declared_types.specs.Kinds.{type_by}
 use Rattle.idl_typing.proofs.Wanted.{integer_basic, integer_none}
 use Rattle.idl_typing.proofs.variables.is_integer.Goals as goal
 

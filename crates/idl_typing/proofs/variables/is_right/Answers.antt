@@ -2,9 +2,9 @@ use Rattle.std.proofs.Common.{◌≡◌, ℕ, ◌<◌, true, false, eqb, length,
 use Rattle.std.proofs.lemmas.Bool.{eqb-true}
 use Rattle.idl_grammar.specs.Seen.{seen_bound}
 use Rattle.idl_scope.specs.Seen.{known_in}
-use Rattle.idl_language.specs.DeclarationRules.{is_parameter}
-use Rattle.idl_kinds.specs.SeenNames.{seen_names}
-use Rattle.idl_nodes.specs.SeenNodes.{seen_declared}
+use Rattle.idl_rule_definitions.specs.DeclarationRules.{is_parameter}
+use Rattle.idl_declared_types.specs.SeenNames.{seen_names}
+use Rattle.idl_constructs.specs.SeenNodes.{seen_declared}
 use Rattle.idl_typing.proofs.Wanted.{with_dimensions_fails, with_stars_fails}
 use Rattle.idl_typing.proofs.variables.is_right.Goals as goal
 

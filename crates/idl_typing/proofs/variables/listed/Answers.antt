@@ -1,7 +1,7 @@
 use Rattle.std.proofs.Common.{◌≡◌, ℕ, List, map, Option, Some, None, slice_get, option_map, refl, sym, ap, ◌∙◌, arith, Bor}
-use Rattle.idl_nodes.specs.declared.nodes.Declared.{Declared}
-use Rattle.idl_nodes.specs.SeenNodes.{seen_declared, list_at, or_empty}
-use Rattle.idl_language.specs.VariableRules.{Listed, listed_from}
+use Rattle.idl_constructs.specs.declared.nodes.Declared.{Declared}
+use Rattle.idl_constructs.specs.SeenNodes.{seen_declared, list_at, or_empty}
+use Rattle.idl_rule_definitions.specs.VariableRules.{Listed, listed_from}
 use Rattle.idl_typing.proofs.LookupSteps.{index_of}
 use Rattle.idl_typing.proofs.Wanted.{listed_at}
 use Rattle.idl_typing.proofs.variables.listed.Goals as goal

@@ -1,6 +1,6 @@
 use Rattle.std.proofs.Common.{◌≡◌, length, refl, sym, ap, ◌∙◌}
 use Rattle.std.proofs.lemmas.Option.{slice_get_read, slice_get-get_or}
-use Rattle.idl_kinds.specs.SeenNames.{and_name}
+use Rattle.idl_declared_types.specs.SeenNames.{and_name}
 use Rattle.idl_typing.proofs.LookupSteps.{table_next}
 use Rattle.idl_typing.proofs.variables.table_of.Goals as goal
 

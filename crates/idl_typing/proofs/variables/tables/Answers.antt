@@ -2,11 +2,11 @@ use Rattle.std.proofs.Common.{◌≡◌, ℕ, ◌+◌, ◌<◌, List, [], ◌∷
 use Rattle.std.specs.declared.alloc.Global.{Global}
 use Rattle.std.proofs.lemmas.Option.{slice_get_read}
 use Rattle.std.proofs.lemmas.List.{length-append, length-take}
-use Rattle.idl_nodes.specs.declared.nodes.Declared.{Declared}
-use Rattle.idl_nodes.specs.SeenNodes.{seen_declared}
-use Rattle.idl_language.specs.VariableRules.{listed_from}
+use Rattle.idl_constructs.specs.declared.nodes.Declared.{Declared}
+use Rattle.idl_constructs.specs.SeenNodes.{seen_declared}
+use Rattle.idl_rule_definitions.specs.VariableRules.{listed_from}
 use Rattle.idl_typing.specs.Lookups.{AreTables}
-use Rattle.idl_types.proofs.Fronts.{take_next}
+use Rattle.idl_type_numbers.proofs.Fronts.{take_next}
 use Rattle.idl_typing.proofs.LookupSteps.{index_of, tables_push}
 use Rattle.idl_typing.proofs.variables.tables.Goals as goal
 

@@ -1,9 +1,9 @@
 use Rattle.std.proofs.Common.{◌≡◌, ◌<◌, ◌-◌, refl, sym, subst, arith, min}
 use Rattle.nd_base.specs.Over.{source_seen}
-use Rattle.ndr_state.specs.Notes.{notes_seen}
-use Rattle.ndr_state.specs.Seen.{state_of}
-use Rattle.ndr_verdict.specs.Verdict.{decoding_seen}
-use Rattle.ndr_stream.specs.Report.{the_stream}
+use Rattle.ndr_decoder_state.specs.Notes.{notes_seen}
+use Rattle.ndr_decoder_state.specs.Seen.{state_of}
+use Rattle.ndr_decoder_laws.specs.verdict.Verdict.{decoding_seen}
+use Rattle.ndr_decoder_laws.specs.stream.Report.{the_stream}
 use Rattle.ndr_decode.specs.Streaming.{FaultOf}
 use Rattle.ndr_decode.proofs.PipeTurns.{begun_fault, chunk_fault, chunk_faulty, chunk_none, chunk_room, chunk_safe, chunk_some, count_fault}
 use Rattle.ndr_decode.proofs.chunks.read_chunk.Goals as goal

@@ -2,9 +2,9 @@ use Rattle.std.proofs.Common.{◌≡◌, [], Some, None, Ok, Err, refl, sym, sub
 use Rattle.nd_base.specs.Over.{source_seen}
 use Rattle.nd_value.proofs.FewRoots.{item_at}
 use Rattle.nd_value.specs.Fitting.{setting_beside}
-use Rattle.ndr_machine.specs.Parts.{IsTried}
-use Rattle.ndr_parameters.specs.Trials.{checks_fail}
-use Rattle.ndr_verdict.specs.Verdict.{decoding_seen}
+use Rattle.ndr_decoder_value.specs.Parts.{IsTried}
+use Rattle.ndr_decoder_agreements.specs.Trials.{checks_fail}
+use Rattle.ndr_decoder_laws.specs.verdict.Verdict.{decoding_seen}
 use Rattle.ndr_decode.specs.Streaming.{cells_of}
 use Rattle.ndr_decode.proofs.Decodes as call
 use Rattle.ndr_decode.proofs.Handed.{stream_fault}

@@ -1,7 +1,7 @@
 use Rattle.std.proofs.Common.{[], suc, arith}
 use Rattle.nd_base.specs.Over.{count, source_seen}
-use Rattle.ndr_state.specs.Notes.{notes_seen}
-use Rattle.ndr_state.specs.Seen.{state_of}
+use Rattle.ndr_decoder_state.specs.Notes.{notes_seen}
+use Rattle.ndr_decoder_state.specs.Seen.{state_of}
 use Rattle.ndr_decode.proofs.DirectRoots.{few_cells, direct_last, direct_states, direct_stops, direct_unopened, reference_purpose}
 use Rattle.ndr_decode.proofs.roots.read_direct.Goals as goal
 

@@ -1,8 +1,8 @@
 use Rattle.std.proofs.Common.{◌≡◌, None, Ok, Err, length, refl, ap, ◌∙◌, arith}
 use Rattle.nd_base.specs.Over.{source_seen}
-use Rattle.ndr_state.specs.Notes.{notes_seen}
-use Rattle.ndr_state.specs.Seen.{state_of}
-use Rattle.ndr_state.specs.declared.fault.DecodeFault.TheVariants as fault
+use Rattle.ndr_decoder_state.specs.Notes.{notes_seen}
+use Rattle.ndr_decoder_state.specs.Seen.{state_of}
+use Rattle.ndr_decoder_state.specs.declared.fault.DecodeFault.TheVariants as fault
 use Rattle.ndr_decode.specs.Streaming.{cells_of}
 use Rattle.ndr_decode.proofs.HomeComes.{decoding_of}
 use Rattle.ndr_decode.proofs.Handed.{taking_fault}

@@ -1,10 +1,10 @@
 use Rattle.std.proofs.Common.{ap, subst}
 use Rattle.nd_base.specs.Over.{source_seen}
 use Rattle.nd_value.proofs.FewRoots.{item_at}
-use Rattle.ndr_verdict.specs.Verdict.{decoding_seen}
+use Rattle.ndr_decoder_laws.specs.verdict.Verdict.{decoding_seen}
 use Rattle.ndr_pipe.specs.Seen.{ends_seen}
-use Rattle.ndr_chunkwise.specs.Calls.{IsAnswered}
-use Rattle.ndr_chunkwise.specs.Seen.{intake_seen, setting_in}
+use Rattle.ndr_drain_reader.specs.Calls.{IsAnswered}
+use Rattle.ndr_drain_reader.specs.Seen.{intake_seen, setting_in}
 use Rattle.ndr_drain.specs.Lines.{lines}
 use Rattle.ndr_drain.specs.Turns.{AreCut}
 use Rattle.ndr_drain.proofs.Steps.{sound_for, given, finished, cut_lines, end_failed, finish_failed}

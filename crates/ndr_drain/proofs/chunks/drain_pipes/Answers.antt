@@ -4,11 +4,11 @@ use Rattle.nd_base.specs.Over.{source_seen}
 use Rattle.nd_value.specs.Deferral.{before_pipes}
 use Rattle.nd_value.specs.Setting.{root_list}
 use Rattle.nd_value.proofs.FewRoots.{item_at}
-use Rattle.ndr_verdict.specs.Verdict.{decoding_seen}
-use Rattle.ndr_parts.specs.Parts.{elem_at}
+use Rattle.ndr_decoder_laws.specs.verdict.Verdict.{decoding_seen}
+use Rattle.ndr_drain_laws.specs.parts.Parts.{elem_at}
 use Rattle.ndr_pipe.specs.Ends.{ends_over}
 use Rattle.ndr_pipe.specs.Seen.{ends_seen}
-use Rattle.ndr_chunkwise.specs.Seen.{intake_seen, setting_in}
+use Rattle.ndr_drain_reader.specs.Seen.{intake_seen, setting_in}
 use Rattle.ndr_drain.specs.Given.{end_of_root}
 use Rattle.ndr_drain.specs.Turns.{HasPassed, IsStepCause}
 use Rattle.ndr_drain.proofs.Begun.{of_first, of_moved}

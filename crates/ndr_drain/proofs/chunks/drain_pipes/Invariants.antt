@@ -1,10 +1,10 @@
 use Rattle.std.proofs.Common.{◌≡◌, ◌≤◌, ◌-◌}
 use Rattle.nd_base.specs.declared.TheConstants.{STREAM_LIMIT}
 use Rattle.nd_base.specs.Over.{source_seen}
-use Rattle.ndr_verdict.specs.Verdict.{decoding_seen}
+use Rattle.ndr_decoder_laws.specs.verdict.Verdict.{decoding_seen}
 use Rattle.ndr_pipe.specs.Ends.{ends_over}
-use Rattle.ndr_chunkwise.specs.Ready.{IsReady}
-use Rattle.ndr_chunkwise.specs.Seen.{intake_seen, moved_to}
+use Rattle.ndr_drain_reader.specs.Ready.{IsReady}
+use Rattle.ndr_drain_reader.specs.Seen.{intake_seen, moved_to}
 use Rattle.ndr_drain.specs.Turns.{IsUnderWay, OfSetting}
 use Rattle.ndr_drain.proofs.chunks.drain_pipes.Given as goal
 

@@ -1,6 +1,6 @@
 use Rattle.std.proofs.Common.{◌∙◌, ap}
 use Rattle.nd_value.proofs.FewRoots.{item_at}
-use Rattle.ndr_chunkwise.specs.Seen.{intake_seen}
+use Rattle.ndr_drain_reader.specs.Seen.{intake_seen}
 use Rattle.ndr_drain.proofs.draining.drain_rest.Goals as goal
 
 pub returns-in-Ok-clause-read : goal.returns-in-Ok-clause-read

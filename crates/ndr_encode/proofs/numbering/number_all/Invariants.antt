@@ -1,6 +1,6 @@
 use Rattle.std.proofs.Common.{ℕ, List, ◌++◌, take}
-use Rattle.ndr_output.specs.Counting.{names_of}
-use Rattle.ndr_turns.specs.Turned.{cells_of}
+use Rattle.ndr_encoder_output.specs.Counting.{names_of}
+use Rattle.ndr_encoder_laws.specs.turns.Turned.{cells_of}
 use Rattle.ndr_encode.specs.Search.{IsNumbered, AreWithin}
 use Rattle.ndr_encode.proofs.numbering.number_all.Given as goal
 

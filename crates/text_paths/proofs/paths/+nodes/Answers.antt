@@ -1,7 +1,7 @@
 use Rattle.std.proofs.Common.{◌≡◌, ◌+◌, ◌<◌, take, arith}
 use Rattle.nd_value.specs.Tree.{more, none, trees, node_count}
 use Rattle.nd_value.specs.Seen.{tree_of}
-use Rattle.text_parts.proofs.Sizes.{smaller_at, nodes_more, nodes_within}
+use Rattle.text_grammar.proofs.Sizes.{smaller_at, nodes_more, nodes_within}
 use Rattle.text_paths.proofs.paths.+nodes.Goals as goal
 
 pub beyond_all-beyond-requires : goal.beyond_all-beyond-requires

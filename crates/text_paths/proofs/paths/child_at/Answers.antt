@@ -1,7 +1,7 @@
 use Rattle.std.proofs.Common.{◌≡◌, ◌+◌, take, arith}
 use Rattle.nd_value.specs.Tree.{more, none, trees, node_count}
 use Rattle.nd_value.specs.Seen.{tree_of}
-use Rattle.text_parts.proofs.Sizes.{nodes_more}
+use Rattle.text_grammar.proofs.Sizes.{nodes_more}
 use Rattle.text_paths.proofs.paths.child_at.Goals as goal
 
 pub loop-at-preserved : goal.loop-at-preserved

@@ -1,0 +1,90 @@
+-- A text is a file of one tree, or is refused at one octet for one fault, and never both.
+use Rattle.std.proofs.Common.{◌≡◌, ◌∙◌, ℕ, List, Result, Ok, Err, sym, ap, ap₂, arith}
+use Rattle.grammar_phrases.specs.Text.{Depth, Ban}
+use Rattle.grammar_phrases.specs.Reading.{Fault, Syntax, Passes}
+use Rattle.idl_lexer.specs.declared.tokens.Token.{Token}
+use Rattle.idl_lexer.specs.declared.tokens.LexKind.{LexKind}
+use Rattle.idl_lexer.specs.Lexed.{Lexed, place_of}
+use Rattle.idl_lexer.specs.Verdict.{IsVerdict, Cut, Refused}
+use Rattle.idl_lexer.proofs.OneVerdict.{one_verdict}
+use Rattle.idl_grammar.specs.Lexemes.{lexemes}
+use Rattle.idl_grammar.specs.Tree.{Tree}
+use Rattle.idl_grammar.specs.Answers.{file_answer}
+use Rattle.idl_grammar.proofs.FileLaws.{file_answered_alone}
+use Rattle.idl_grammar.proofs.RealTokens.{lexemes_real}
+use Rattle.idl_grammar.specs.declared.fault.SyntaxFault.{SyntaxFault}
+use Rattle.idl_grammar.specs.declared.fault.SyntaxFault.TheVariants as syntax
+use Rattle.idl_names.specs.Files.{IsRead, IsFile, IsNoFile, IsSyntaxFault}
+
+same_tokens : (a b : List Token) → Cut a ≡ Cut b → a ≡ b
+same_tokens a b e = let d : Cut a ≡ Cut b = e in cc
+
+one_lexed : (text : List ℕ) (a b : Lexed) (u v : Result Tree Fault) → IsRead text a u → IsRead text b v → a ≡ b
+one_lexed text a b u v x y =
+    let t : a.text ≡ b.text = x.text_is ∙ sym y.text_is in
+    let e : a.tokens ≡ b.tokens = same_tokens a.tokens b.tokens (one_verdict text (Cut b.tokens) (Cut a.tokens) y.tokens x.tokens) in
+    made t e where
+      made : a.text ≡ b.text → a.tokens ≡ b.tokens → ◌≡◌ {A = Lexed} (record { text = a.text; tokens = a.tokens }) (record { text = b.text; tokens = b.tokens })
+      made p q = cc
+
+abbrev answer_of : Lexed → Result Tree Fault
+answer_of l = file_answer 64 129 (lexemes l)
+
+alone : (text : List ℕ) (l : Lexed) (v : Result Tree Fault) → IsRead text l v → v ≡ answer_of l
+alone text l v r = file_answered_alone 64 129 (omega arith) (omega arith) (lexemes l) (lexemes_real l) v r.answered
+
+one_answer : (text : List ℕ) (a b : Lexed) (u v : Result Tree Fault) → IsRead text a u → IsRead text b v → u ≡ v
+one_answer text a b u v x y = alone text a u x ∙ ap answer_of (one_lexed text a b u v x y) ∙ sym (alone text b v y)
+
+pub one_tree : (text : List ℕ) (t t' : Tree) → IsFile text t → IsFile text t' → t ≡ t'
+one_tree text t t' x y =
+    let e : ◌≡◌ {A = Result Tree Fault} (Ok t) (Ok t') = one_answer text x.lexed y.lexed (Ok t) (Ok t') x.read y.read in
+    cc
+
+pub never_file : {B : Type 0} (text : List ℕ) (at : ℕ) (f : SyntaxFault) (t : Tree) → IsNoFile text at f → IsFile text t → B
+never_file text at f t x y =
+    let e : ◌≡◌ {A = Result Tree Fault} (Err x.told) (Ok t) = one_answer text x.lexed y.lexed (Err x.told) (Ok t) x.read y.read in
+    absurd (cc)
+
+abbrev pub fault_of : Fault → SyntaxFault
+fault_of (Syntax k) = syntax.Syntax k
+fault_of (Passes Depth k) = syntax.Deep k
+fault_of (Passes Ban k) = syntax.Banned k
+
+abbrev pub token_of : Fault → ℕ
+token_of (Syntax k) = k
+token_of (Passes rule k) = k
+
+pub fault_is : (f : SyntaxFault) (token : ℕ) (told : Fault) → IsSyntaxFault f token told → (f ≡ fault_of told) × (token ≡ token_of told)
+fault_is syntax.Memory token told h = absurd h
+fault_is (syntax.Syntax k) token told h = (sym (ap fault_of h.1), h.0 ∙ sym (ap token_of h.1))
+fault_is (syntax.Deep k) token told h = (sym (ap fault_of h.1), h.0 ∙ sym (ap token_of h.1))
+fault_is (syntax.Banned k) token told h = (sym (ap fault_of h.1), h.0 ∙ sym (ap token_of h.1))
+
+pub one_no_file : (text : List ℕ) (at : ℕ) (f : SyntaxFault) (at' : ℕ) (f' : SyntaxFault) → IsNoFile text at f → IsNoFile text at' f' → (at ≡ at') × (f ≡ f')
+one_no_file text at f at' f' x y =
+    let e : ◌≡◌ {A = Result Tree Fault} (Err x.told) (Err y.told) = one_answer text x.lexed y.lexed (Err x.told) (Err y.told) x.read y.read in
+    let told : x.told ≡ y.told = cc in
+    let l : x.lexed ≡ y.lexed = one_lexed text x.lexed y.lexed (Err x.told) (Err y.told) x.read y.read in
+    let p = fault_is f x.token x.told x.is_told in
+    let q = fault_is f' y.token y.told y.is_told in
+    let token : x.token ≡ y.token = p.1 ∙ ap token_of told ∙ sym q.1 in
+    (x.octet ∙ ap₂ place_of l token ∙ sym y.octet, p.0 ∙ ap fault_of told ∙ sym q.0)
+
+pub one_cut : (text : List ℕ) (at : ℕ) (kind : LexKind) (at' : ℕ) (kind' : LexKind) → IsVerdict text (Refused at kind) → IsVerdict text (Refused at' kind')
+    → (at ≡ at') × (kind ≡ kind')
+one_cut text at kind at' kind' x y =
+    let e : Refused at kind ≡ Refused at' kind' = one_verdict text (Refused at' kind') (Refused at kind) y x in
+    let a : at ≡ at' = cc in
+    let b : kind ≡ kind' = cc in
+    (a, b)
+
+pub never_cut : {B : Type 0} (text : List ℕ) (at : ℕ) (kind : LexKind) (t : Tree) → IsVerdict text (Refused at kind) → IsFile text t → B
+never_cut text at kind t x y =
+    let e : Refused at kind ≡ Cut y.lexed.tokens = one_verdict text (Cut y.lexed.tokens) (Refused at kind) y.read.tokens x in
+    absurd (cc)
+
+pub never_uncut : {B : Type 0} (text : List ℕ) (at : ℕ) (kind : LexKind) (at' : ℕ) (f : SyntaxFault) → IsVerdict text (Refused at kind) → IsNoFile text at' f → B
+never_uncut text at kind at' f x y =
+    let e : Refused at kind ≡ Cut y.lexed.tokens = one_verdict text (Cut y.lexed.tokens) (Refused at kind) y.read.tokens x in
+    absurd (cc)

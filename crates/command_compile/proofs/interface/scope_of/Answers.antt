@@ -1,0 +1,55 @@
+use Rattle.std.specs.Prelude.{drop}
+use Rattle.std.proofs.Common.{subst, inr, sym, ap, ◌∙◌, ◌++◌, [], append-nil}
+use Rattle.std.proofs.lemmas.Result.{err_from_is_err_and, IfOk-weaker, IfErr-weaker}
+use Rattle.idl_grammar.specs.Seen.{seen_tree}
+use Rattle.idl_names.specs.Seen.{seen_scope}
+use Rattle.idl_names.specs.Walk.{IsResolved, IsRefused, names_of}
+use Rattle.command_compile.proofs.AskedFiles.{main_asked}
+use Rattle.command_compile.proofs.Compiled.{one_source, main_absent, main_failed, imports_asked, always}
+use Rattle.command_compile.proofs.interface.scope_of.Goals as goal
+
+pub returns-in_err-tree-clause-absent : goal.returns-in_err-tree-clause-absent
+returns-in_err-tree-clause-absent g c =
+    let (idl, text, same) = one_source c.args.sources.now c.requires in
+    let p = err_from_is_err_and c.from_residual.result c.from_residual.ensures.1 in
+    rw (p.1, p.2) (main_absent (g.F.Files.absences c.args.files.now) (g.F.Files.absences c.args.files.now) text _ (c.in_err-tree.ensures.fault idl text same))
+
+pub returns-in_err-tree-clause-failed : goal.returns-in_err-tree-clause-failed
+returns-in_err-tree-clause-failed g c =
+    let (idl, text, same) = one_source c.args.sources.now c.requires in
+    let p = err_from_is_err_and c.from_residual.result c.from_residual.ensures.1 in
+    rw (p.1, p.2) (main_failed (g.F.Files.faults c.args.files.now) (g.F.Files.faults c.args.files.now) text _ (c.in_err-tree.ensures.fault idl text same))
+
+pub returns-clause-scope : goal.returns-clause-scope
+returns-clause-scope g c idl text same =
+    IfOk-weaker c.resolve.result _ _
+    (λ scope r. record {
+      tree = seen_tree c.in_ok-tree.tree;
+      parsed = c.in_ok-tree.ensures.tree idl text same;
+      names = subst (λ s. IsResolved (g.F.Files.held c.args.files.now) s (seen_tree c.in_ok-tree.tree) (seen_scope c.resolve.new.sources scope)) same r;
+    }) c.resolve.ensures.scope
+
+pub returns-clause-fault : goal.returns-clause-fault
+returns-clause-fault g c idl text same =
+    IfErr-weaker c.resolve.result _ _
+    (λ e r. inr (
+      seen_tree c.in_ok-tree.tree,
+      c.in_ok-tree.ensures.tree idl text same,
+      subst (λ s. IsRefused (g.F.Files.held c.args.files.now) s (seen_tree c.in_ok-tree.tree) c.resolve.new.sources e) same r,
+    )) c.resolve.ensures.fault
+
+pub returns-in_err-tree-clause-asked : goal.returns-in_err-tree-clause-asked
+returns-in_err-tree-clause-asked g c idl text same = record {
+  rest = [];
+  asked_is = sym (append-nil (g.F.Files.asked c.args.files.now));
+  due = λ content acf. main_asked (g.F.Files.held c.args.files.now) idl acf;
+}
+
+pub returns-clause-asked : goal.returns-clause-asked
+returns-clause-asked g c idl text same =
+    imports_asked (g.F.Files.held c.args.files.now) idl text (seen_tree c.in_ok-tree.tree) c.args.sources.now (g.F.Files.asked c.args.files.now) (g.F.Files.asked c.resolve.new.files)
+    (c.in_ok-tree.ensures.tree idl text same) same c.resolve.ensures.asked
+
+pub returns-clause-all_asked : goal.returns-clause-all_asked
+returns-clause-all_asked g c =
+    always c.resolve.result (c.resolve.ensures.all_asked ∙ ap (λ n. g.F.Files.asked c.args.files.now ++ names_of (drop n c.resolve.new.sources)) c.requires)

@@ -1,0 +1,161 @@
+-- The commands that the words of a command line are.
+use Rattle.std.specs.Prelude.{ℕ, Bool, true, false, ◌&&◌, nat_le, List, [], ◌∷◌, Option, None, Some, if◌then◌else◌, nat_eq, codes, decimal}
+use Rattle.std.specs.Cmp.Lexicographic.{pointwise}
+use Rattle.std.specs.Str.Parse.{digits_value}
+use Rattle.nd_base.specs.declared.octets.Order.{Order}
+use Rattle.nd_base.specs.declared.octets.Order.TheVariants.{Little, Big}
+use Rattle.nd_types.specs.declared.types.Side.{Side}
+use Rattle.nd_types.specs.declared.types.Side.TheVariants.{In, Out}
+use Rattle.command_line.specs.declared.TheConstants.{CHUNK_LIMIT, COUNT_LIMIT}
+use Rattle.command_line.specs.declared.command.Reading.{Reading}
+use Rattle.command_line.specs.declared.command.Reading.TheVariants.{Decode, Explain, Drain}
+use Rattle.command_line.specs.declared.command.OrderWord.{OrderWord}
+use Rattle.command_line.specs.declared.command.OrderWord.TheVariants.{Fixed, Label}
+use Rattle.command_line.specs.declared.command.Task.{Task}
+use Rattle.command_line.specs.declared.command.Task.TheVariants.{Read, Encode, Migrate}
+
+-- what a command on values speaks of: the files, an operation of their interface, and a side of it
+pub record Subject : Type 0 where
+  pub idl : List ℕ
+  pub acf : Option (List ℕ)
+  pub op : List ℕ
+  pub side : Side
+
+-- what the words of a command line ask for
+pub data Command : Type 0 where
+  -- the input is read; its values are judged beside the request of a file, if one is named
+  Values : (task : Task) (of : Subject) (given : Option (List ℕ)) → Command
+  -- the listing of an interface
+  Compile : (idl : List ℕ) (acf : Option (List ℕ)) → Command
+  -- the listing of its plan
+  Plan : (idl : List ℕ) (acf : Option (List ℕ)) → Command
+  -- a graph of so many cells, made from a seed, is encoded and decoded
+  Sample : (seed count : ℕ) → Command
+  Help : Command
+  Version : Command
+
+-- the file of IDL and the operation that the line of a refusal names
+abbrev pub idl_of : Command → List ℕ
+idl_of (Values task of given) = of.idl
+idl_of (Compile idl acf) = idl
+idl_of (Plan idl acf) = idl
+idl_of _ = []
+
+abbrev pub op_of : Command → List ℕ
+op_of (Values task of given) = of.op
+op_of _ = []
+
+-- the order in which octets are written: after a format label it is little endian
+abbrev pub order_in : OrderWord → Order
+order_in (Fixed order) = order
+order_in Label = Little
+
+-- ## Words
+
+-- a word is this text
+abbrev pub is_word : List ℕ → List ℕ → Bool
+is_word word text = pointwise nat_eq word text
+
+-- the attribute file that a word names: `-` names none
+abbrev pub acf_of : List ℕ → Option (List ℕ)
+acf_of word = if is_word word (codes "-") then None else Some word
+
+-- the order of octets that a word names
+abbrev pub order_of : List ℕ → Option OrderWord
+order_of word =
+    if is_word word (codes "little") then Some (Fixed Little)
+    else if is_word word (codes "big") then Some (Fixed Big)
+    else if is_word word (codes "label") then Some Label else None
+
+-- the way of reading octets that a word names
+abbrev pub reading_of : List ℕ → Option Reading
+reading_of word =
+    if is_word word (codes "decode") then Some Decode
+    else if is_word word (codes "explain") then Some Explain
+    else if is_word word (codes "drain") then Some Drain else None
+
+-- the side that a word names
+abbrev pub side_of : List ℕ → Option Side
+side_of word =
+    if is_word word (codes "in") then Some In
+    else if is_word word (codes "out") then Some Out else None
+
+-- the number whose digits are this word, if it is within its limits
+abbrev pub number_by : ℕ → ℕ → List ℕ → ℕ → Option ℕ
+number_by least most word n = if is_word word (decimal n) && nat_le least n && nat_le n most then Some n else None
+
+-- the number that a word names, in decimal digits without a sign or a leading zero
+abbrev pub number_of : ℕ → ℕ → List ℕ → Option ℕ
+number_of least most word = number_by least most word (digits_value 10 word)
+
+-- the number of elements of a chunk that a word names
+abbrev pub chunk_of : List ℕ → Option ℕ
+chunk_of word = number_of 1 CHUNK_LIMIT word
+
+-- the seed of a sample, and its number of cells
+abbrev pub seed_of : List ℕ → Option ℕ
+seed_of word = number_of 0 4294967295 word
+
+abbrev pub count_of : List ℕ → Option ℕ
+count_of word = number_of 1 COUNT_LIMIT word
+
+abbrev pub subject : List ℕ → List ℕ → List ℕ → Side → Subject
+subject idl acf op side = record { idl = idl; acf = acf_of acf; op = op; side = side }
+
+-- a command that reads octets, if its words are a way of reading, a side and an order
+abbrev pub read : Option Reading → List ℕ → List ℕ → List ℕ → Option Side → Option OrderWord → Option Command
+read (Some how) idl acf op (Some side) (Some order) = Some (Values (Read how order) (subject idl acf op side) None)
+read how idl acf op side order = None
+
+-- the same beside the request of a file, if its words are a way of reading, the side of the outputs and an order
+abbrev pub read_beside : Option Reading → List ℕ → List ℕ → List ℕ → Option Side → Option OrderWord → List ℕ → Option Command
+read_beside (Some how) idl acf op (Some Out) (Some order) text = Some (Values (Read how order) (subject idl acf op Out) (Some text))
+read_beside how idl acf op side order text = None
+
+-- `encode`, if its words are a side, an order and the number of elements of a chunk
+abbrev pub encode : List ℕ → List ℕ → List ℕ → Option Side → Option OrderWord → Option ℕ → Option Command
+encode idl acf op (Some side) (Some order) (Some chunk) = Some (Values (Encode order chunk) (subject idl acf op side) None)
+encode idl acf op _ _ _ = None
+
+-- the same beside the request of a file, if its words are the side of the outputs, an order and the number of elements of a chunk
+abbrev pub encode_beside : List ℕ → List ℕ → List ℕ → Option Side → Option OrderWord → Option ℕ → List ℕ → Option Command
+encode_beside idl acf op (Some Out) (Some order) (Some chunk) text = Some (Values (Encode order chunk) (subject idl acf op Out) (Some text))
+encode_beside idl acf op _ _ _ text = None
+
+-- `migrate`, if its word is a side
+abbrev pub migrate : List ℕ → List ℕ → List ℕ → Option Side → Option Command
+migrate idl acf op (Some side) = Some (Values Migrate (subject idl acf op side) None)
+migrate idl acf op None = None
+
+-- `compile` or `plan`
+abbrev pub listing : List ℕ → List ℕ → List ℕ → Option Command
+listing verb idl acf =
+    if is_word verb (codes "compile") then Some (Compile idl (acf_of acf))
+    else if is_word verb (codes "plan") then Some (Plan idl (acf_of acf)) else None
+
+-- `sample`, if its words are a seed and a count
+abbrev pub sample : Option ℕ → Option ℕ → Option Command
+sample (Some seed) (Some count) = Some (Sample seed count)
+sample _ _ = None
+
+-- The command that words are, if they are one: `compile IDL ACF`, `plan IDL ACF`, `sample SEED COUNT`, `migrate IDL ACF OP SIDE`,
+-- `decode IDL ACF OP SIDE ORDER`, `decode IDL ACF OP out ORDER given TEXT`, the same of `explain` and `drain`, `encode IDL ACF OP SIDE ORDER CHUNK`,
+-- `encode IDL ACF OP out ORDER CHUNK given TEXT`, `--help` or `--version`. No words are `sample 1 2`.
+abbrev pub command : List (List ℕ) → Option Command
+command [] = Some (Sample 1 2)
+command (word ∷ []) =
+    if is_word word (codes "--help") then Some Help
+    else if is_word word (codes "--version") then Some Version else None
+command (verb ∷ first ∷ second ∷ []) =
+    if is_word verb (codes "sample") then sample (seed_of first) (count_of second) else listing verb first second
+command (verb ∷ idl ∷ acf ∷ op ∷ side ∷ []) =
+    if is_word verb (codes "migrate") then migrate idl acf op (side_of side) else None
+command (how ∷ idl ∷ acf ∷ op ∷ side ∷ order ∷ []) = read (reading_of how) idl acf op (side_of side) (order_of order)
+command (verb ∷ idl ∷ acf ∷ op ∷ side ∷ order ∷ chunk ∷ []) =
+    if is_word verb (codes "encode") then encode idl acf op (side_of side) (order_of order) (chunk_of chunk) else None
+command (how ∷ idl ∷ acf ∷ op ∷ side ∷ order ∷ given ∷ text ∷ []) =
+    if is_word given (codes "given") then read_beside (reading_of how) idl acf op (side_of side) (order_of order) text else None
+command (verb ∷ idl ∷ acf ∷ op ∷ side ∷ order ∷ chunk ∷ given ∷ text ∷ []) =
+    if is_word verb (codes "encode") && is_word given (codes "given") then encode_beside idl acf op (side_of side) (order_of order) (chunk_of chunk) text
+    else None
+command _ = None

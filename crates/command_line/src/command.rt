@@ -1,0 +1,90 @@
+// What the words of a command line ask for.
+ghost use Rattle.std.specs.Prelude.{◌≡◌};
+ghost use Rattle.command_line.specs.Words.{order_in};
+
+use nd_base::Order;
+use nd_types::Side;
+
+/// How the octets of the input are read.
+#[derive(Clone, Copy, Debug, PartialEq, Eq)]
+pub enum Reading {
+    /// The text of their values is written.
+    Decode,
+    /// A line for each item of their stream is written.
+    Explain,
+    /// The elements of their pipes go to ends, and the text of the values is written with empty pipes.
+    Drain,
+}
+
+/// The order of octets that a command names.
+#[derive(Clone, Copy, Debug, PartialEq, Eq)]
+pub enum OrderWord {
+    /// This order.
+    Fixed(Order),
+    /// The order that a format label before the octets states (C706 section 14.1).
+    Label,
+}
+
+impl OrderWord {
+    /// The order in which octets are written: after a format label it is little endian. Takes no memory.
+    pub fn order(self) -> Order
+        ensures { result ≡ order_in self }
+    {
+        match self {
+            OrderWord::Fixed(order) => order,
+            OrderWord::Label => Order::Little,
+        }
+    }
+}
+
+/// What is done with values.
+#[derive(Clone, Copy, Debug, PartialEq, Eq)]
+pub enum Task {
+    /// The octets of the input are read.
+    Read { how: Reading, order: OrderWord },
+    /// The text of the input is read, and the octets of its values are written, with so many elements in a chunk of a pipe.
+    Encode { order: OrderWord, chunk: u32 },
+    /// The text of the input is read, and the text that is printed of its values is written.
+    Migrate,
+}
+
+/// What a command on values speaks of: the files, an operation of their interface, and a side of it.
+#[derive(Clone, Copy)]
+pub struct Subject<'a> {
+    /// The file of IDL.
+    pub idl: &'a str,
+    /// The attribute configuration file, if one is named.
+    pub acf: Option<&'a str>,
+    /// The operation.
+    pub op: &'a str,
+    pub side: Side,
+}
+
+/// What a command line asks for.
+#[derive(Clone, Copy)]
+pub enum Command<'a> {
+    /// Something is done with the values of the input.
+    Values {
+        task: Task,
+        of: Subject<'a>,
+        /// The file of the request beside which a response is judged, if one is named.
+        given: Option<&'a str>,
+    },
+    /// The listing of an interface.
+    Compile {
+        idl: &'a str,
+        acf: Option<&'a str>,
+    },
+    /// The listing of its plan.
+    Plan {
+        idl: &'a str,
+        acf: Option<&'a str>,
+    },
+    /// A sample of so many cells, made from a seed, is encoded and decoded.
+    Sample {
+        seed: u32,
+        count: u32,
+    },
+    Help,
+    Version,
+}

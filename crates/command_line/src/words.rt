@@ -1,0 +1,446 @@
+// The words of a command line, and the command that they are.
+ghost use Rattle.std.specs.Prelude.{◌≡◌, ◌≤◌, ◌<◌, [], ◌∷◌, ◌++◌, length, map, OnOk, OnErr, IfSome, option_map};
+ghost use Rattle.std.specs.String.{string_bytes};
+ghost use Rattle.command_line.specs.Words.{command, acf_of, order_of, side_of, reading_of, chunk_of, read as read_of, read_beside as read_beside_of, encode as encode_of, encode_beside as encode_beside_of, migrate as migrate_of, sample as sample_of, listing as listing_of, subject as subject_by};
+ghost use Rattle.command_line.specs.declared.TheConstants.{COUNT_LIMIT};
+ghost use Rattle.command_line.specs.Commands.{command_of, subject_of, IsWellFormed};
+
+use crate::command::{Command, OrderWord, Reading, Subject, Task};
+use crate::numbers::number_named;
+use crate::{CHUNK_LIMIT, COUNT_LIMIT};
+use nd_base::{Memory, Order};
+use nd_types::Side;
+use std::alloc::Global;
+use std::marker::Model;
+
+/// The words of a command line after the program's name.
+#[derive(Drop)]
+pub struct Words {
+    alloc: Global,
+    items: Vec<String>,
+}
+
+impl Model for Words {
+    ghost use Rattle.std.specs.Prelude.{List, ℕ, map, string_bytes};
+
+    ghost Value = { List (List ℕ) };
+
+    ghost view = { λ w. map string_bytes w.items.items };
+}
+
+impl Words {
+    /// No words. It allocates nothing.
+    pub fn new(alloc: Global) -> Words
+        ensures { result ≡ [] }
+    {
+        Words {
+            alloc,
+            items: Vec::new(alloc),
+        }
+    }
+
+    /// Adds a word at the end. If memory runs out nothing has changed.
+    pub fn push(&mut self, word: &str) -> Result<(), Memory>
+        ensures ok { OnOk result (self.new ≡ self.old ++ word.now ∷ []) }
+        ensures err { OnErr result (self.new ≡ self.old) }
+    {
+        let word = String::from_str(self.alloc, word)?;
+        match self.items.push(word) {
+            Ok(()) => Ok(()),
+            Err(_) => Err(Memory),
+        }
+    }
+
+    /// The command that the words are, or None if they are none. Takes no memory.
+    pub fn command(&self) -> Option<Command<'_>>
+        ensures command { option_map command_of result ≡ command self.now }
+        ensures formed { IfSome result IsWellFormed }
+    {
+        let words = self.items.as_slice();
+        match words.len() {
+            0..=5 => command_of_few(words),
+            6 | 7 => command_of_more(words),
+            _ => command_of_most(words),
+        }
+    }
+}
+
+// The command that at most five words are.
+#[tactic(auto, using(crate::proofs::FewWords::two_words, crate::proofs::FewWords::four_words))]
+fn command_of_few(words: &[String]) -> Option<Command<'_>>
+    requires { length words.now ≤ 5 }
+    ensures command { option_map command_of result ≡ command (map string_bytes words.now) }
+    ensures formed { IfSome result IsWellFormed }
+{
+    match words {
+        [] => Some(Command::Sample { seed: 1, count: 2 }),
+        [word] => short_command(word.as_str()),
+        [verb, first, second] => three_words(verb.as_str(), first.as_str(), second.as_str()),
+        [verb, idl, acf, op, side] => {
+            if verb.as_str() == "migrate" {
+                migrate_command(
+                    idl.as_str(),
+                    acf.as_str(),
+                    op.as_str(),
+                    side_named(side.as_str()),
+                )
+            } else {
+                None
+            }
+        }
+        _ => None,
+    }
+}
+
+// The command that six or seven words are.
+fn command_of_more(words: &[String]) -> Option<Command<'_>>
+    requires least { 6 ≤ length words.now }
+    requires most { length words.now ≤ 7 }
+    ensures command { option_map command_of result ≡ command (map string_bytes words.now) }
+    ensures formed { IfSome result IsWellFormed }
+{
+    match words {
+        [verb, idl, acf, op, side, order] => read_command(
+            reading_named(verb.as_str()),
+            idl.as_str(),
+            acf.as_str(),
+            op.as_str(),
+            side_named(side.as_str()),
+            order_named(order.as_str()),
+        ),
+        [verb, idl, acf, op, side, order, chunk] => {
+            if verb.as_str() == "encode" {
+                encode_command(
+                    idl.as_str(),
+                    acf.as_str(),
+                    op.as_str(),
+                    side_named(side.as_str()),
+                    order_named(order.as_str()),
+                    number_named(chunk.as_str(), 1, CHUNK_LIMIT),
+                )
+            } else {
+                None
+            }
+        }
+        _ => None,
+    }
+}
+
+// The command that eight words or more are.
+#[tactic(auto, using(crate::proofs::FewWords::many_words))]
+fn command_of_most(words: &[String]) -> Option<Command<'_>>
+    requires { 8 ≤ length words.now }
+    ensures command { option_map command_of result ≡ command (map string_bytes words.now) }
+    ensures formed { IfSome result IsWellFormed }
+{
+    match words {
+        [verb, idl, acf, op, side, order, given, text] => read_beside_words(
+            verb.as_str(),
+            idl.as_str(),
+            acf.as_str(),
+            op.as_str(),
+            side.as_str(),
+            order.as_str(),
+            given.as_str(),
+            text.as_str(),
+        ),
+        [verb, idl, acf, op, side, order, chunk, given, text] => encode_beside_words(
+            verb.as_str(),
+            idl.as_str(),
+            acf.as_str(),
+            op.as_str(),
+            side.as_str(),
+            order.as_str(),
+            chunk.as_str(),
+            given.as_str(),
+            text.as_str(),
+        ),
+        _ => None,
+    }
+}
+
+fn short_command(word: &str) -> Option<Command<'_>>
+    ensures command { option_map command_of result ≡ command (word.now ∷ []) }
+    ensures formed { IfSome result IsWellFormed }
+{
+    if word == "--help" {
+        Some(Command::Help)
+    } else if word == "--version" {
+        Some(Command::Version)
+    } else {
+        None
+    }
+}
+
+// The command that three words are: one that lists, or `sample`.
+fn three_words<'a>(verb: &str, first: &'a str, second: &'a str) -> Option<Command<'a>>
+    ensures command { option_map command_of result ≡ command (verb.now ∷ first.now ∷ second.now ∷ []) }
+    ensures formed { IfSome result IsWellFormed }
+{
+    if verb == "sample" {
+        sample_command(
+            number_named(first, 0, u32::MAX),
+            number_named(second, 1, COUNT_LIMIT),
+        )
+    } else {
+        listing_command(verb, first, second)
+    }
+}
+
+// `sample`, if its words are a seed and a count.
+fn sample_command<'a>(seed: Option<u32>, count: Option<u32>) -> Option<Command<'a>>
+    requires least { IfSome count (λ n. 1 ≤ n) }
+    requires most { IfSome count (λ n. n ≤ COUNT_LIMIT) }
+    ensures command { option_map command_of result ≡ sample_of seed count }
+    ensures formed { IfSome result IsWellFormed }
+{
+    match (seed, count) {
+        (Some(seed), Some(count)) => Some(Command::Sample { seed, count }),
+        _ => None,
+    }
+}
+
+fn listing_command<'a>(verb: &str, idl: &'a str, acf: &'a str) -> Option<Command<'a>>
+    ensures command { option_map command_of result ≡ listing_of verb.now idl.now acf.now }
+    ensures formed { IfSome result IsWellFormed }
+{
+    if verb == "compile" {
+        Some(Command::Compile {
+            idl,
+            acf: acf_named(acf),
+        })
+    } else if verb == "plan" {
+        Some(Command::Plan {
+            idl,
+            acf: acf_named(acf),
+        })
+    } else {
+        None
+    }
+}
+
+// A command that reads octets, if its words are a way of reading, a side and an order.
+fn read_command<'a>(
+    how: Option<Reading>,
+    idl: &'a str,
+    acf: &'a str,
+    op: &'a str,
+    side: Option<Side>,
+    order: Option<OrderWord>,
+) -> Option<Command<'a>>
+    ensures command { option_map command_of result ≡ read_of how idl.now acf.now op.now side order }
+    ensures formed { IfSome result IsWellFormed }
+{
+    match (how, side, order) {
+        (Some(how), Some(side), Some(order)) => Some(Command::Values {
+            task: Task::Read { how, order },
+            of: subject_named(idl, acf, op, side),
+            given: None,
+        }),
+        _ => None,
+    }
+}
+
+// The same beside a request, if its words are a way of reading, the side of the outputs and an order.
+fn read_beside_command<'a>(
+    how: Option<Reading>,
+    idl: &'a str,
+    acf: &'a str,
+    op: &'a str,
+    side: Option<Side>,
+    order: Option<OrderWord>,
+    text: &'a str,
+) -> Option<Command<'a>>
+    ensures command { option_map command_of result ≡ read_beside_of how idl.now acf.now op.now side order text.now }
+    ensures formed { IfSome result IsWellFormed }
+{
+    match (how, side, order) {
+        (Some(how), Some(Side::Out), Some(order)) => Some(Command::Values {
+            task: Task::Read { how, order },
+            of: subject_named(idl, acf, op, Side::Out),
+            given: Some(text),
+        }),
+        _ => None,
+    }
+}
+
+// `encode`, if its words are a side, an order and the number of elements of a chunk.
+fn encode_command<'a>(
+    idl: &'a str,
+    acf: &'a str,
+    op: &'a str,
+    side: Option<Side>,
+    order: Option<OrderWord>,
+    chunk: Option<u32>,
+) -> Option<Command<'a>>
+    requires { IfSome chunk (λ n. 1 ≤ n) }
+    ensures command { option_map command_of result ≡ encode_of idl.now acf.now op.now side order chunk }
+    ensures formed { IfSome result IsWellFormed }
+{
+    match (side, order, chunk) {
+        (Some(side), Some(order), Some(chunk)) => Some(Command::Values {
+            task: Task::Encode { order, chunk },
+            of: subject_named(idl, acf, op, side),
+            given: None,
+        }),
+        _ => None,
+    }
+}
+
+// The command that eight words are: one that reads octets beside a request.
+fn read_beside_words<'a>(
+    how: &str,
+    idl: &'a str,
+    acf: &'a str,
+    op: &'a str,
+    side: &str,
+    order: &str,
+    given: &str,
+    text: &'a str,
+) -> Option<Command<'a>>
+    ensures command { option_map command_of result
+        ≡ command (how.now ∷ idl.now ∷ acf.now ∷ op.now ∷ side.now ∷ order.now ∷ given.now ∷ text.now ∷ []) }
+    ensures formed { IfSome result IsWellFormed }
+{
+    if given == "given" {
+        read_beside_command(
+            reading_named(how),
+            idl,
+            acf,
+            op,
+            side_named(side),
+            order_named(order),
+            text,
+        )
+    } else {
+        None
+    }
+}
+
+// The command that nine words are: `encode` beside a request.
+fn encode_beside_words<'a>(
+    verb: &str,
+    idl: &'a str,
+    acf: &'a str,
+    op: &'a str,
+    side: &str,
+    order: &str,
+    chunk: &str,
+    given: &str,
+    text: &'a str,
+) -> Option<Command<'a>>
+    ensures command { option_map command_of result
+        ≡ command (verb.now ∷ idl.now ∷ acf.now ∷ op.now ∷ side.now ∷ order.now ∷ chunk.now ∷ given.now ∷ text.now ∷ []) }
+    ensures formed { IfSome result IsWellFormed }
+{
+    if verb == "encode" && given == "given" {
+        encode_beside_command(
+            idl,
+            acf,
+            op,
+            side_named(side),
+            order_named(order),
+            number_named(chunk, 1, CHUNK_LIMIT),
+            text,
+        )
+    } else {
+        None
+    }
+}
+
+// `encode` beside a request, if its words are the side of the outputs, an order and the number of elements of a chunk.
+fn encode_beside_command<'a>(
+    idl: &'a str,
+    acf: &'a str,
+    op: &'a str,
+    side: Option<Side>,
+    order: Option<OrderWord>,
+    chunk: Option<u32>,
+    text: &'a str,
+) -> Option<Command<'a>>
+    requires { IfSome chunk (λ n. 1 ≤ n) }
+    ensures command { option_map command_of result ≡ encode_beside_of idl.now acf.now op.now side order chunk text.now }
+    ensures formed { IfSome result IsWellFormed }
+{
+    match (side, order, chunk) {
+        (Some(Side::Out), Some(order), Some(chunk)) => Some(Command::Values {
+            task: Task::Encode { order, chunk },
+            of: subject_named(idl, acf, op, Side::Out),
+            given: Some(text),
+        }),
+        _ => None,
+    }
+}
+
+// `migrate`, if its word is a side.
+fn migrate_command<'a>(
+    idl: &'a str,
+    acf: &'a str,
+    op: &'a str,
+    side: Option<Side>,
+) -> Option<Command<'a>>
+    ensures command { option_map command_of result ≡ migrate_of idl.now acf.now op.now side }
+    ensures formed { IfSome result IsWellFormed }
+{
+    match side {
+        Some(side) => Some(Command::Values {
+            task: Task::Migrate,
+            of: subject_named(idl, acf, op, side),
+            given: None,
+        }),
+        None => None,
+    }
+}
+
+fn subject_named<'a>(idl: &'a str, acf: &'a str, op: &'a str, side: Side) -> Subject<'a>
+    ensures { subject_of result ≡ subject_by idl.now acf.now op.now side }
+{
+    Subject {
+        idl,
+        acf: acf_named(acf),
+        op,
+        side,
+    }
+}
+
+// The attribute file that a word names: `-` names none.
+fn acf_named(word: &str) -> Option<&str>
+    ensures { option_map (λ a. a.now) result ≡ acf_of word.now }
+{
+    if word == "-" { None } else { Some(word) }
+}
+
+// The order of octets that a word names.
+fn order_named(word: &str) -> Option<OrderWord>
+    ensures { result ≡ order_of word.now }
+{
+    match word {
+        "little" => Some(OrderWord::Fixed(Order::Little)),
+        "big" => Some(OrderWord::Fixed(Order::Big)),
+        "label" => Some(OrderWord::Label),
+        _ => None,
+    }
+}
+
+// The way of reading octets that a word names.
+fn reading_named(word: &str) -> Option<Reading>
+    ensures { result ≡ reading_of word.now }
+{
+    match word {
+        "decode" => Some(Reading::Decode),
+        "explain" => Some(Reading::Explain),
+        "drain" => Some(Reading::Drain),
+        _ => None,
+    }
+}
+
+// The side that a word names.
+fn side_named(word: &str) -> Option<Side>
+    ensures { result ≡ side_of word.now }
+{
+    match word {
+        "in" => Some(Side::In),
+        "out" => Some(Side::Out),
+        _ => None,
+    }
+}

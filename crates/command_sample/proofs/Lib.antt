@@ -1,0 +1,9 @@
+pub mod Decodes
+pub mod Fits
+pub mod Lines
+pub mod Values
+pub mod Conforming
+pub mod Drawing
+pub mod Legal
+pub mod Lengths
+pub mod Sums

@@ -1,5 +1,0 @@
-//! Tests of draining on worked octets.
-#![tactic(auto)]
-
-#[cfg(test)]
-mod tests;

@@ -1,0 +1,8 @@
+use Rattle.std.proofs.Common.{◌≡◌, map, drop}
+use Rattle.idl_grammar.specs.Seen.{seen_attribute}
+use Rattle.idl_rule_definitions.specs.Attributes.{class_in}
+use Rattle.idl_constructs.proofs.attributes.class_in.Given as goal
+
+-- what is left says what all say
+abbrev pub invariant-loop-attribute : goal.invariant-loop-attribute
+invariant-loop-attribute l = class_in (map seen_attribute (drop l.attribute-index l.list)) ≡ class_in (map seen_attribute l.list)

@@ -1,8 +1,0 @@
-use Rattle.idl_examples.proofs.Judged as laws
-use Rattle.idl_examples.proofs.laws.texts_have_their_meaning.Goals as goal
-
-pub returns-clause-sum : goal.returns-clause-sum
-returns-clause-sum c = laws.sum_means
-
-pub returns-clause-directory : goal.returns-clause-directory
-returns-clause-directory c = laws.directory_means

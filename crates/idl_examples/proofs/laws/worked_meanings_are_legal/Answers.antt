@@ -1,9 +1,0 @@
-use Rattle.idl_legal.proofs.legal.All.{all_legal}
-use Rattle.idl_examples.proofs.LegalTexts as texts
-use Rattle.idl_examples.proofs.laws.worked_meanings_are_legal.Goals as goal
-
-pub returns-clause-sum : goal.returns-clause-sum
-returns-clause-sum c = texts.sum_is_legal all_legal
-
-pub returns-clause-directory : goal.returns-clause-directory
-returns-clause-directory c = texts.directory_is_legal all_legal

@@ -1,5 +1,0 @@
-use Rattle.idl_graph.specs.GraphCycles.{ArePeeled}
-use Rattle.idl_graph.proofs.graph.cycles.pass.Given as goal
-
-abbrev pub invariant-loop-node : goal.invariant-loop-node
-invariant-loop-node l = ArePeeled l.graph l.peeled

@@ -1,5 +1,0 @@
-use Rattle.idl_graph.specs.GraphCycles.{ArePeeled}
-use Rattle.idl_graph.proofs.graph.cycles.peel.Given as goal
-
-abbrev pub invariant-loop : goal.invariant-loop
-invariant-loop l = ArePeeled l.graph l.peeled.items

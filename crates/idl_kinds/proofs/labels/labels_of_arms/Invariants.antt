@@ -1,8 +1,0 @@
-use Rattle.std.proofs.Common.{◌≡◌, ◌++◌, drop}
-use Rattle.idl_scope.specs.Seen.{known_in}
-use Rattle.idl_kinds.proofs.LabelLists as lists
-use Rattle.idl_kinds.proofs.labels.labels_of_arms.Given as goal
-
--- what is there, with what is left
-abbrev pub invariant-loop-arm : goal.invariant-loop-arm
-invariant-loop-arm l = l.list.items ++ lists.of_arms (known_in l.scope) (drop l.arm-index l.arm-items) ≡ lists.of_arms (known_in l.scope) l.arm-items

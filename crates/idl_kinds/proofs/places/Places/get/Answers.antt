@@ -1,9 +1,0 @@
-use Rattle.std.proofs.Common.{◌≡◌, ◌∙◌, ap}
-use Rattle.idl_kinds.specs.Places.{found_place}
-use Rattle.idl_kinds.proofs.PlaceLists.{found_is}
-use Rattle.idl_kinds.proofs.places.Places.get.Goals as goal
-
-pub returns : goal.returns
-returns c =
-    c.copied.ensures
-    ∙ (c.get.ensures.value ∙ (found_is (record { file = c.args.place.file; at = c.args.place.at }) c.self.inside.entries.entries ∙ ap (found_place c.args.place) c.self.view_is))

@@ -1,5 +1,0 @@
-use Rattle.idl_laws.proofs.Few.{few_types}
-use Rattle.idl_laws.proofs.laws.types_are_few.Goals as goal
-
-pub returns : goal.returns
-returns c = few_types

@@ -1,4 +1,0 @@
-//! Laws of the rules of IDL: what files that break none keep.
-#![tactic(auto)]
-
-pub mod laws;

@@ -1,5 +1,0 @@
-pub mod Whole
-pub mod Scenes
-pub mod PartNodes
-pub mod Tags
-pub mod legal

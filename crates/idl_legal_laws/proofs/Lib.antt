@@ -1,0 +1,13 @@
+pub mod Numbers
+pub mod Kept
+pub mod KeptTypes
+pub mod Inner
+pub mod Referents
+pub mod Few
+pub mod fields
+pub mod Among
+pub mod Whole
+pub mod Scenes
+pub mod PartNodes
+pub mod Tags
+pub mod legal

@@ -1,0 +1,3 @@
+//! The laws, by what they are about.
+pub mod legal;
+pub mod rules;

@@ -1,8 +1,0 @@
-use Rattle.std.proofs.Common.{map, take}
-use Rattle.idl_nodes.specs.SeenNodes.{seen_declared}
-use Rattle.idl_meaning.specs.Made.{AreListed}
-use Rattle.idl_meaning.proofs.listed.indexes.Given as goal
-
--- the first of the list
-abbrev pub invariant-loop-index : goal.invariant-loop-index
-invariant-loop-index l = AreListed (map seen_declared (take l.index l.list)) l.table

@@ -1,8 +1,0 @@
-use Rattle.std.proofs.Common.{◌≡◌, map, drop}
-use Rattle.idl_grammar.specs.Seen.{seen_attribute}
-use Rattle.idl_language.specs.Attributes.{switch_type_in}
-use Rattle.idl_nodes.proofs.attributes.switch_type_in.Given as goal
-
--- what is left says what all say
-abbrev pub invariant-loop-attribute : goal.invariant-loop-attribute
-invariant-loop-attribute l = switch_type_in (map seen_attribute (drop l.attribute-index l.list)) ≡ switch_type_in (map seen_attribute l.list)

@@ -1,0 +1,45 @@
+-- What files whose names are resolved come to by the rules, and what each main file comes to by all of it.
+use Rattle.std.specs.Prelude.{◌≡◌, ℕ, true, List, [], ◌∷◌, Option, Some, None}
+use Rattle.idl_lexer.specs.declared.tokens.LexKind.{LexKind}
+use Rattle.idl_lexer.specs.Verdict.{IsVerdict, Refused}
+use Rattle.idl_grammar.specs.Tree.{Tree}
+use Rattle.idl_grammar.specs.declared.fault.SyntaxFault.{SyntaxFault}
+use Rattle.idl_scope.specs.declared.name_fault.NameFault.{NameFault}
+use Rattle.idl_names.specs.Decided.{is_decided}
+use Rattle.idl_names.specs.Files.{IsFile, IsNoFile}
+use Rattle.idl_names.specs.Sources.{Source, source}
+use Rattle.idl_names.specs.Walk.{State, Stopped, IsResolved, IsRefused}
+use Rattle.nd_types.specs.Legal.{IsLegal}
+use Rattle.idl_rule_definitions.specs.World.{World}
+use Rattle.idl_rule_definitions.specs.Rules.{Breach}
+use Rattle.idl_rule_definitions.specs.FirstBroken.{first_broken}
+use Rattle.nd_types.specs.Meant.{Meant}
+use Rattle.idl_rule_definitions.specs.Meaning.{meaning, HasIdentifiers}
+
+-- files that are resolved, as the rules speak of them
+abbrev pub world : State → World
+world s = record { files = s.ended; known = s.known }
+
+-- No rule is broken, and the files mean this interface, which is legal if its names are identifiers.
+pub record MeansLegal (w : World) (m : Meant) : Type 0 where
+  pub keeps : first_broken w ≡ None
+  pub means : meaning w ≡ m ∷ []
+  pub legal : HasIdentifiers m.types m.operations → IsLegal m.types m.operations
+
+pub data IsJudged (w : World) : Type 0 where
+  Means : (m : Meant) → MeansLegal w m → IsJudged w
+  Breaks : (b : Breach) → first_broken w ≡ Some b → IsJudged w
+
+abbrev pub main_file : List ℕ → List ℕ → List Source
+main_file name text = source name text ∷ []
+
+-- What a main file of this name and text comes to: an interface, which is legal; a broken rule; a fault of names or of an imported file, which is absent, say, but
+-- neither by running out of memory nor by a failed load; a fault of its own syntax; or one of its own tokens.
+pub data HasOutcome (held : Option (List ℕ → Option (List ℕ))) (name text : List ℕ) : Type 0 where
+  Interface : (t : Tree) → IsFile text t → (s : State) → IsResolved held (main_file name text) t s → (m : Meant) → MeansLegal (world s) m → IsLegal m.types m.operations
+      → HasOutcome held name text
+  Broken : (t : Tree) → IsFile text t → (s : State) → IsResolved held (main_file name text) t s → (b : Breach) → first_broken (world s) ≡ Some b → HasOutcome held name text
+  Unnamed : (t : Tree) → IsFile text t → (sources : List Source) (f : NameFault) → is_decided (Stopped sources f) ≡ true → IsRefused held (main_file name text) t sources f
+      → HasOutcome held name text
+  NoFile : (at : ℕ) (f : SyntaxFault) → IsNoFile text at f → HasOutcome held name text
+  Uncut : (at : ℕ) (kind : LexKind) → IsVerdict text (Refused at kind) → HasOutcome held name text

@@ -1,0 +1,18 @@
+use Rattle.std.proofs.Common.{◌≡◌, ◌-◌, drop, option_map}
+use Rattle.idl_scope.specs.Seen.{seen_files}
+use Rattle.idl_rule_definitions.specs.World.{World}
+use Rattle.idl_rule_definitions.specs.Noted.{noted}
+use Rattle.idl_rule_definitions.specs.Found.{seen_breach}
+use Rattle.idl_constructs.specs.SeenNodes.{seen_construct}
+use Rattle.idl_value_rules.proofs.Passes.{given_due}
+use Rattle.idl_value_rules.proofs.CountedLabels.{in_arms, in_arm, arms_cons}
+use Rattle.idl_value_rules.proofs.counts.labels_of_arms.Given as goal
+
+-- with those that are left it comes to what all come to
+abbrev pub invariant-loop-arm : goal.invariant-loop-arm
+invariant-loop-arm l =
+    (l.finder.files.now ≡ l.fn.finder.files.now)
+    × (l.due - in_arms (drop l.arm-index l.arm-items) ≡ l.fn.number - in_arms l.arm-items)
+    × ((w : World) → w.files ≡ seen_files l.fn.finder.files.now
+    → noted w (option_map seen_breach l.finder.first) (given_due in_arms in_arm arms_cons l.arm-items (seen_construct l.construct) l.due l.arm-index)
+    ≡ noted w (option_map seen_breach l.fn.finder.first) (given_due in_arms in_arm arms_cons l.arm-items (seen_construct l.construct) l.fn.number 0))

@@ -1,0 +1,23 @@
+use Rattle.std.proofs.Common.{◌∙◌, ℕ, ◌-◌, map, replicate, option_map, ap, sym}
+use Rattle.idl_scope.specs.Seen.{seen_files}
+use Rattle.idl_rule_definitions.specs.Noted.{noted}
+use Rattle.idl_rule_definitions.specs.Found.{seen_breach}
+use Rattle.idl_constructs.specs.SeenNodes.{seen_construct}
+use Rattle.idl_value_rules.specs.SeenCounts.{numbered, one_too_many}
+use Rattle.idl_value_rules.proofs.Passes.{one_given, one_fewer}
+use Rattle.idl_value_rules.proofs.CountedLabels.{in_cases, in_case, cases_cons}
+use Rattle.idl_value_rules.proofs.counts.labels_of_cases.Goals as goal
+
+pub loop-case-preserved : goal.loop-case-preserved
+loop-case-preserved c =
+    let k = seen_construct c.args.construct.now in
+    let xs = c.deref-case-items.result.now in
+    let l = c.loop-case in
+    let fewer = c.pass-due.ensures.due ∙ ap (λ (n : ℕ). l.due - n) c.labels_of_case.ensures in (
+      c.pass-due.ensures.files ∙ l.invariant.0,
+      one_fewer in_cases in_case cases_cons xs k l.due _ l.case-index _ c.case-item.result c.loop-case-test.true c.case-item.is fewer l.invariant.1,
+      (λ w files. one_given in_cases in_case cases_cons xs k w l.due _ l.case-index c.case-item.result _ _ _ c.loop-case-test.true c.case-item.is fewer
+          (c.pass-due.ensures.first w (files ∙ ap seen_files (sym l.invariant.0))
+          ∙ ap (λ (n : ℕ). noted w (option_map seen_breach l.finder.first) (map one_too_many (numbered l.due (replicate n k)))) c.labels_of_case.ensures)
+          (l.invariant.2 w files)),
+    )

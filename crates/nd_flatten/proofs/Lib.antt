@@ -1,3 +1,0 @@
-pub mod Flattening
-pub mod Homes
-pub mod Packing

@@ -1,6 +1,0 @@
-use Rattle.std.proofs.Common.{take}
-use Rattle.nd_flatten.specs.Steps.{AllReserved}
-use Rattle.nd_flatten.proofs.graph.reserve_all.Given as goal
-
-abbrev pub invariant-loop-at : goal.invariant-loop-at
-invariant-loop-at g l = AllReserved (take l.at l.cells) l.initial.builder l.builder

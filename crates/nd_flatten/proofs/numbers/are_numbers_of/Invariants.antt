@@ -1,6 +1,0 @@
-use Rattle.std.proofs.Common.{take}
-use Rattle.nd_flatten.specs.Numbers.{AreNumbersOf}
-use Rattle.nd_flatten.proofs.numbers.are_numbers_of.Given as goal
-
-abbrev pub invariant-loop-at : goal.invariant-loop-at
-invariant-loop-at l = AreNumbersOf l.prim (take l.at l.vals)

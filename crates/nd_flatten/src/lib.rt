@@ -1,8 +1,0 @@
-//! Graphs of values put into flat graphs.
-#![tactic(auto)]
-
-mod graph;
-mod numbers;
-mod values;
-
-pub use graph::flattened;

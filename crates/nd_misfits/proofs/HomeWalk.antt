@@ -1,0 +1,62 @@
+-- How the list of the homes of a graph is made.
+use Rattle.std.proofs.Common.{◌≡◌, ℕ, ◌+◌, ◌<◌, ◌≤◌, zero, suc, get_or, subst, List, [], ◌∷◌, ◌++◌, length, drop, Some, None, ap, ap₂, sym, ◌∙◌, map, append_assoc}
+use Rattle.std.specs.List.{slice_get, AllByRecursion}
+use Rattle.std.specs.Option.{option_map}
+use Rattle.std.proofs.lemmas.List.{map-append, drop_more}
+use Rattle.std.proofs.lemmas.Option.{same_Some, slice_get-map, slice_get-get_or}
+use Rattle.nd_types.specs.Table.{Table}
+use Rattle.nd_types.specs.Walk.{NamedRoot}
+use Rattle.nd_value.specs.declared.item.Home.TheVariants as home
+use Rattle.nd_misfits.specs.declared.homes.HomeValue.{HomeValue}
+use Rattle.nd_misfits.specs.declared.pointers.CellPointer.{CellPointer}
+use Rattle.nd_value.specs.Tree.{Tree, Referent}
+use Rattle.nd_value.specs.Setting.{cell_home}
+use Rattle.nd_value.specs.Seen.{tree_of}
+use Rattle.nd_misfits.specs.HomeList.{HomeTree, home_tree, root_homes, cell_homes}
+use Rattle.nd_misfits.specs.Pointers.{pointers_of_home, pointers_of_homes, NamesBelow, IsWalkable}
+use Rattle.nd_value.proofs.LocalPass.{drop-get, drop-past}
+
+-- one home more
+pub home_pushed : (hs : List HomeValue) (x : HomeValue) (one : HomeTree) (left rest : List HomeTree) → home_tree x ≡ one → left ≡ one ∷ rest
+    → map home_tree (hs ++ x ∷ []) ++ rest ≡ map home_tree hs ++ left
+home_pushed hs x one left rest e f =
+    ap (λ ys. ys ++ rest) (map-append home_tree hs (x ∷ [])) ∙ append_assoc (map home_tree hs) (home_tree x ∷ []) rest
+    ∙ ap (λ y. map home_tree hs ++ y ∷ rest) e ∙ ap (λ ys. map home_tree hs ++ ys) (sym f)
+
+pub root_more : (rs : List NamedRoot) (vs : List Tree) (i : ℕ) (r : NamedRoot) (v : Tree) → slice_get rs i ≡ Some r → slice_get vs i ≡ Some v
+    → root_homes i (drop i rs) (drop i vs)
+    ≡ record { home = home.Root i; of = r.of; param = r.param; val = v } ∷ root_homes (i + 1) (drop (i + 1) rs) (drop (i + 1) vs)
+root_more rs vs i r v e f = ap₂ (root_homes i) (drop-get rs i r e) (drop-get vs i v f)
+
+pub root_none : (rs : List NamedRoot) (vs : List Tree) (i : ℕ) (r : NamedRoot) → slice_get rs i ≡ Some r → length vs ≤ i → root_homes i (drop i rs) (drop i vs) ≡ []
+root_none rs vs i r e h = ap₂ (root_homes i) (drop-get rs i r e) (drop-past vs i h)
+
+pub root_past : (rs : List NamedRoot) (vs : List Tree) (i : ℕ) → length rs ≤ i → root_homes i (drop i rs) (drop i vs) ≡ []
+root_past rs vs i h = ap (λ xs. root_homes i xs (drop i vs)) (drop-past rs i h)
+
+pub cell_more : (xs : List Referent) (i : ℕ) (x : Referent) → slice_get xs i ≡ Some x
+    → cell_homes (i + 1) (drop i xs) ≡ record { home = cell_home (i + 1); of = x.of; param = None; val = x.val } ∷ cell_homes (i + 1 + 1) (drop (i + 1) xs)
+cell_more xs i x e = ap (cell_homes (i + 1)) (drop-get xs i x e)
+
+pub all_at : {X : Type 0} (P : X → Type 0) (xs : List X) (i : ℕ) (x : X) → AllByRecursion P xs → slice_get xs i ≡ Some x → P x
+all_at P [] i x h e = cc
+all_at P (y ∷ ys) zero x h e = subst P (same_Some y x e) h.0
+all_at P (y ∷ ys) (suc i) x h e = all_at P ys i x h.1 e
+
+-- a home of a list that the passes can go over
+pub walkable_home : (table : Table) (limit : ℕ) (hs : List HomeValue) (i : ℕ) (x : HomeValue) → x ≡ get_or hs i x → i < length hs
+    → AllByRecursion (IsWalkable table limit) (map home_tree hs) → IsWalkable table limit (home_tree x)
+walkable_home table limit hs i x e h a =
+    all_at (IsWalkable table limit) (map home_tree hs) i (home_tree x) a
+    (slice_get-map home_tree hs i ∙ ap (option_map home_tree) (slice_get-get_or hs i x h ∙ ap Some (sym e)))
+
+-- the pointers of the homes that are left
+pub pointers_left : (table : Table) (hs : List HomeValue) (i : ℕ) (x : HomeValue) → x ≡ get_or hs i x → i < length hs
+    → pointers_of_homes table (map home_tree (drop i hs))
+    ≡ pointers_of_home table x.home x.of.0 (tree_of x.val.now) ++ pointers_of_homes table (map home_tree (drop (i + 1) hs))
+pointers_left table hs i x e h =
+    ap (λ xs. pointers_of_homes table (map home_tree xs)) (drop_more hs i x h)
+    ∙ ap (λ (y : HomeValue). pointers_of_homes table (map home_tree (y ∷ drop (i + 1) hs))) (sym e)
+
+pub named_still : (limit n : ℕ) (ps qs : List CellPointer) → n ≡ limit → qs ≡ ps → AllByRecursion (NamesBelow limit) ps → AllByRecursion (NamesBelow n) qs
+named_still limit n ps qs e f h = subst (λ m. AllByRecursion (NamesBelow m) qs) (sym e) (subst (AllByRecursion (NamesBelow limit)) (sym f) h)

@@ -1,0 +1,32 @@
+use Rattle.std.proofs.Common.{◌≡◌, ◌+◌, drop, None, Some, ap, sym, ◌∙◌}
+use Rattle.nd_value.specs.Seen.{tree_of}
+use Rattle.nd_value.specs.Agreement.{agreement}
+use Rattle.nd_value.specs.FirstMisfit.{disagreement_of}
+use Rattle.nd_misfits.specs.Disagreeing.{subject_in}
+use Rattle.nd_misfits.specs.Numbers.{agreements_by, value_in}
+use Rattle.nd_misfits.proofs.Attributes.{param_next, stated_holds, stated_fails}
+use Rattle.nd_misfits.proofs.agreement.parameter.Goals as goal
+
+pub returns-in-Some-attribute : goal.returns-in-Some-attribute
+returns-in-Some-attribute c =
+    let ss = subject_in c.args.graph.now (tree_of c.args.val.now) in
+    let ns = c.args.numbers.now in
+    let vars = c.args.vars.now in
+    let a = c.in-Some.var.now in
+    let now = agreement a.attr (value_in ns a) in
+    let fails : disagreement_of ss now ≡ Some c.in-Some-attribute.reason =
+    ap (λ n. disagreement_of ss (agreement a.attr n)) (sym c.value_in.ensures.value) ∙ sym c.in-Some-attribute.ensures in
+    sym (c.loop-at.invariant ∙ ap (disagreement_of ss) (param_next ns vars c.loop-at.at a c.in-Some.ensures.some)
+    ∙ stated_fails ss now (agreements_by ns (drop (c.loop-at.at + 1) vars)) c.in-Some-attribute.reason fails)
+
+pub loop-at-preserved : goal.loop-at-preserved
+loop-at-preserved c =
+    let ss = subject_in c.args.graph.now (tree_of c.args.val.now) in
+    let ns = c.args.numbers.now in
+    let vars = c.args.vars.now in
+    let a = c.in-Some.var.now in
+    let now = agreement a.attr (value_in ns a) in
+    let holds : disagreement_of ss now ≡ None =
+    ap (λ n. disagreement_of ss (agreement a.attr n)) (sym c.value_in.ensures.value) ∙ sym c.in_default-attribute.ensures in
+    c.loop-at.invariant ∙ ap (disagreement_of ss) (param_next ns vars c.loop-at.at a c.in-Some.ensures.some)
+    ∙ stated_holds ss now (agreements_by ns (drop (c.loop-at.at + 1) vars)) holds

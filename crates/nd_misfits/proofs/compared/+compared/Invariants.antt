@@ -1,0 +1,28 @@
+use Rattle.std.proofs.Common.{◌+◌, ◌*◌, [], map, replicate}
+use Rattle.nd_value.specs.Tree.{more, none, trees, node_count, count}
+use Rattle.nd_value.specs.Seen.{tree_of}
+use Rattle.nd_value.specs.Agreement.{member_agreements}
+use Rattle.nd_misfits.proofs.AgreementWalk.{ComparedTo}
+use Rattle.nd_misfits.proofs.compared.+compared.Given as goal
+
+abbrev pub decreases-value : goal.decreases-value
+decreases-value l = 3 * node_count (more (tree_of l.val.now) none) + 1
+
+abbrev pub decreases-by_form : goal.decreases-by_form
+decreases-by_form l = 3 * node_count (more (tree_of l.val.now) none)
+
+abbrev pub decreases-members : goal.decreases-members
+decreases-members l = 3 * node_count (trees l.vals.now) + 2
+
+abbrev pub decreases-elements : goal.decreases-elements
+decreases-elements l = 3 * node_count (trees l.vals.now) + 2
+
+abbrev pub decreases-arm : goal.decreases-arm
+decreases-arm l = 3 * node_count (trees l.arm.now) + 2
+
+abbrev pub invariant-members-loop-at : goal.invariant-members-loop-at
+invariant-members-loop-at l =
+    ComparedTo l.types l.graph (map (λ f. f.of.0) l.fields) (map (λ f. member_agreements (trees l.vals) f.vars) l.fields) l.vals l.fn.node l.at l.next
+
+abbrev pub invariant-elements-loop-at : goal.invariant-elements-loop-at
+invariant-elements-loop-at l = ComparedTo l.types l.graph (replicate (count (trees l.vals)) l.fn.elem.0) [] l.vals l.fn.node l.at l.next

@@ -1,6 +1,0 @@
-use Rattle.std.proofs.Common.{arith}
-use Rattle.nd_passes.proofs.NodeTests.{octets_are}
-use Rattle.nd_passes.proofs.node.octets_within.Goals as goal
-
-pub returns : goal.returns
-returns c = octets_are c.args.octets.now (λ i. omega (arith, c.type_inv.octets i))

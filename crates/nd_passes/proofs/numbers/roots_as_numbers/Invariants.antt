@@ -1,8 +1,0 @@
-use Rattle.std.proofs.Common.{◌≡◌, ◌++◌, drop, map}
-use Rattle.nd_passes.specs.HomeList.{home_tree}
-use Rattle.nd_passes.specs.Numbers.{home_number}
-use Rattle.nd_passes.proofs.numbers.roots_as_numbers.Given as goal
-
-abbrev pub invariant-loop-at : goal.invariant-loop-at
-invariant-loop-at l =
-    l.numbers.items ++ map (λ h. home_number l.graph (home_tree h)) (drop l.at l.homes) ≡ map (λ h. home_number l.graph (home_tree h)) l.homes

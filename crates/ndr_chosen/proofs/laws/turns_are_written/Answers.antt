@@ -1,5 +1,0 @@
-use Rattle.ndr_chosen.proofs.Written as all
-use Rattle.ndr_chosen.proofs.laws.turns_are_written.Goals as goal
-
-pub returns : goal.returns
-returns c w side g conforms k = all.written w side g conforms (c.roots_and_pipes.ensures.pipes w) k

@@ -1,7 +1,0 @@
-use Rattle.std.proofs.Common.{◌≡◌, map, take}
-use Rattle.ndr_verdict.specs.Verdict.{with_items}
-use Rattle.ndr_part_reader.specs.PartReader.{moved_item}
-use Rattle.ndr_chunkwise.proofs.handing.hand_on.Given as goal
-
-abbrev pub invariant-loop-at : goal.invariant-loop-at
-invariant-loop-at l = l.items ≡ with_items (map (moved_item l.before) (take l.at l.own.items)) l.initial.items

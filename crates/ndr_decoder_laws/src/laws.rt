@@ -1,0 +1,8 @@
+//! The laws, by what they are about.
+pub mod pipes;
+pub mod reader;
+pub mod runs;
+pub mod steps;
+pub mod stream;
+pub mod verdict;
+pub mod worklist;

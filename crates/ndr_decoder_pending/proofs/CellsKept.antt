@@ -1,0 +1,132 @@
+-- What is kept of cells, by their numbers.
+use Rattle.std.proofs.Common.{◌≡◌, ◌≤◌, ◌<◌, ℕ, ◌+◌, ◌-◌, zero, suc, List, [], ◌∷◌, ◌++◌, length, map, Option, Some, refl, ap, ap₂, sym, ◌∙◌, subst, arith}
+use Rattle.std.proofs.lemmas.List.{append-nil, length-append, length-map}
+use Rattle.std.specs.Prelude.{slice_get, slice_set}
+use Rattle.std.specs.List.{AllByRecursion}
+use Rattle.std.specs.Prelude.{option_map}
+use Rattle.ndr_decoder_laws.specs.declared.kept.Kept.{Kept}
+use Rattle.ndr_decoder_laws.specs.stream.Between.{CellKept, kept_at, or_none}
+use Rattle.ndr_decoder_pending.specs.declared.cells.CellEntry.{CellEntry}
+use Rattle.ndr_decoder_pending.specs.declared.cells.CellEntry.TheVariants as entry
+use Rattle.ndr_decoder_pending.specs.declared.cells.Lists.{Lists}
+use Rattle.ndr_decoder_pending.specs.Entries.{HasGrown, IsListed, IsPut, counts_kept, entry_seen, said_at}
+
+-- room for one cell more changes nothing
+pub none_pushed : (l : Lists) (es : List CellEntry) (i : ℕ) → said_at l (es ++ entry.Unread ∷ []) i ≡ said_at l es i
+none_pushed l [] zero = refl
+none_pushed l [] (suc i) = refl
+none_pushed l (e ∷ es) zero = refl
+none_pushed l (e ∷ es) (suc i) = none_pushed l es i
+
+pub within_more : (l : Lists) (es : List CellEntry) (e : CellEntry) → AllByRecursion (IsListed l) es → IsListed l e → AllByRecursion (IsListed l) (es ++ e ∷ [])
+within_more l [] e a p = (p, tt)
+within_more l (f ∷ es) e a p = (a.0, within_more l es e a.1 p)
+
+-- ## An entry that is put at a place
+
+last_is : (l : Lists) (es : List CellEntry) (e : CellEntry) → said_at l (es ++ e ∷ []) (length es) ≡ entry_seen l e
+last_is l [] e = refl
+last_is l (f ∷ es) e = last_is l es e
+
+not_last : (l : Lists) (es : List CellEntry) (e : CellEntry) (i : ℕ) → (i ≡ length es → ⊥) → said_at l (es ++ e ∷ []) i ≡ said_at l es i
+not_last l [] e zero n = absurd (n refl)
+not_last l [] e (suc i) n = refl
+not_last l (f ∷ es) e zero n = refl
+not_last l (f ∷ es) e (suc i) n = not_last l es e i (λ q. n (ap suc q))
+
+-- after all others
+pub put_last : (es es' : List CellEntry) (at : ℕ) (e : CellEntry) → at ≡ length es → es' ≡ es ++ e ∷ [] → IsPut at e es es'
+put_last es es' at e is new =
+    subst (λ (us : List CellEntry). IsPut at e es us) (sym new)
+    (subst (λ (i : ℕ). IsPut i e es (es ++ e ∷ [])) (sym is) (record { is = λ l. last_is l es e; others = λ l i n. not_last l es e i n }))
+
+set_here : (xs : List (Option Kept)) (i : ℕ) (k : Option Kept) → i < length xs → or_none (slice_get (slice_set xs i k) i) ≡ k
+set_here [] i k l = absurd (omega (arith, l))
+set_here (x ∷ xs) zero k l = refl
+set_here (x ∷ xs) (suc i) k l = set_here xs i k (omega (arith, l))
+
+set_there : (xs : List (Option Kept)) (i j : ℕ) (k : Option Kept) → (j ≡ i → ⊥) → or_none (slice_get (slice_set xs i k) j) ≡ or_none (slice_get xs j)
+set_there [] i j k n = refl
+set_there (x ∷ xs) zero zero k n = absurd (n refl)
+set_there (x ∷ xs) zero (suc j) k n = refl
+set_there (x ∷ xs) (suc i) zero k n = refl
+set_there (x ∷ xs) (suc i) (suc j) k n = set_there xs i j k (λ e. n (ap suc e))
+
+map_set : (l : Lists) (es : List CellEntry) (i : ℕ) (e : CellEntry) → map (entry_seen l) (slice_set es i e) ≡ slice_set (map (entry_seen l) es) i (entry_seen l e)
+map_set l [] i e = refl
+map_set l (f ∷ es) zero e = refl
+map_set l (f ∷ es) (suc i) e = ap (λ us. entry_seen l f ∷ us) (map_set l es i e)
+
+-- in the place of the one that was there
+pub put_set : (es es' new : List CellEntry) (at : ℕ) (e : CellEntry) → at < length es' → ((l : Lists) (i : ℕ) → said_at l es' i ≡ said_at l es i) → new ≡ slice_set es' at e → IsPut at e es new
+put_set es es' new at e w same is = subst (λ (us : List CellEntry). IsPut at e es us) (sym is) (record {
+  is = λ l. let n : length (map (entry_seen l) es') ≡ length es' = length-map es' (entry_seen l) in
+      ap (λ us. or_none (slice_get us at)) (map_set l es' at e) ∙ set_here (map (entry_seen l) es') at (entry_seen l e) (omega (arith, w, n));
+  others = λ l i n.
+      ap (λ us. or_none (slice_get us i)) (map_set l es' at e) ∙ set_there (map (entry_seen l) es') at i (entry_seen l e) n ∙ same l i;
+})
+
+-- ## Entries
+
+got_in : {A : Type 0} (xs more : List A) (i : ℕ) → i < length xs → slice_get (xs ++ more) i ≡ slice_get xs i
+got_in [] more i p = absurd (omega (arith, p))
+got_in (x ∷ xs) more zero p = refl
+got_in (x ∷ xs) more (suc i) p = got_in xs more i (omega (arith, p))
+
+got_grown : {A : Type 0} (xs ys more : List A) → ys ≡ xs ++ more → (i : ℕ) → i < length xs → slice_get ys i ≡ slice_get xs i
+got_grown xs ys more g i p = ap (λ zs. slice_get zs i) g ∙ got_in xs more i p
+
+-- what was listed stays, where more is listed
+seen_in : (l m : Lists) → HasGrown l m → (e : CellEntry) → IsListed l e → entry_seen m e ≡ entry_seen l e
+seen_in l m g entry.Unread p = refl
+seen_in l m g entry.Plain p = refl
+seen_in l m g (entry.Counted i) p = ap (λ n. option_map counts_kept n) (got_grown l.counted.items m.counted.items g.counted.0 g.counted.1 i p)
+seen_in l m g (entry.Listed i) p = got_grown l.listed.items m.listed.items g.listed.0 g.listed.1 i p
+
+all_seen_in : (l m : Lists) → HasGrown l m → (es : List CellEntry) → AllByRecursion (IsListed l) es → map (entry_seen m) es ≡ map (entry_seen l) es
+all_seen_in l m g [] a = refl
+all_seen_in l m g (e ∷ es) a = ap₂ (λ u us. u ∷ us) (seen_in l m g e a.0) (all_seen_in l m g es a.1)
+
+longer : {A : Type 0} (xs ys more : List A) → ys ≡ xs ++ more → (i : ℕ) → i < length xs → i < length ys
+longer xs ys more g i p =
+    let n : length ys ≡ length xs + length more = ap length g ∙ length-append xs more in
+    omega (arith, p, n)
+
+listed_more : (l m : Lists) → HasGrown l m → (e : CellEntry) → IsListed l e → IsListed m e
+listed_more l m g entry.Unread a = tt
+listed_more l m g entry.Plain a = tt
+listed_more l m g (entry.Counted i) a = longer l.counted.items m.counted.items g.counted.0 g.counted.1 i a
+listed_more l m g (entry.Listed i) a = longer l.listed.items m.listed.items g.listed.0 g.listed.1 i a
+
+pub set_within : (l : Lists) (es : List CellEntry) (i : ℕ) (e : CellEntry) → AllByRecursion (IsListed l) es → IsListed l e → AllByRecursion (IsListed l) (slice_set es i e)
+set_within l [] i e a p = tt
+set_within l (f ∷ es) zero e a p = (p, a.1)
+set_within l (f ∷ es) (suc i) e a p = (a.0, set_within l es i e a.1 p)
+
+-- the entries, after more was listed, still have numbers of the lists
+pub grown_within : (l m : Lists) → HasGrown l m → (es : List CellEntry) → AllByRecursion (IsListed l) es → AllByRecursion (IsListed m) es
+grown_within l m g [] a = tt
+grown_within l m g (e ∷ es) a = (listed_more l m g e a.0, grown_within l m g es a.1)
+
+-- nothing more is listed
+pub same_grown : (l : Lists) → HasGrown l l
+same_grown l = record { counted = ([], sym (append-nil l.counted.items)); listed = ([], sym (append-nil l.listed.items)) }
+
+-- the one that was listed last
+pub got_last : {A : Type 0} (xs : List A) (x : A) → slice_get (xs ++ x ∷ []) (length xs) ≡ Some x
+got_last [] x = refl
+got_last (y ∷ xs) x = got_last xs x
+
+-- what is kept of one cell is its entry
+pub entry_put : (l m : Lists) (es es' : List CellEntry) (c : ℕ) (e : CellEntry) (k : Kept) → 0 < c → HasGrown l m → AllByRecursion (IsListed l) es → IsPut (c - 1) e es es'
+    → entry_seen m e ≡ Some k → CellKept c k (map (entry_seen l) es) (map (entry_seen m) es')
+entry_put l m es es' zero e k p g a put f = absurd (omega (arith, p))
+entry_put l m es es' (suc i) e k p g a put f =
+    let at : suc i - 1 ≡ i = omega arith in
+    let here : IsPut i e es es' = subst (λ (j : ℕ). IsPut j e es es') at put in
+    let stays : map (entry_seen m) es ≡ map (entry_seen l) es = all_seen_in l m g es a in
+    record { is = here.is m ∙ f; others = each here stays }
+  where
+    each : IsPut i e es es' → map (entry_seen m) es ≡ map (entry_seen l) es → (d : ℕ) → (d ≡ suc i → ⊥) → kept_at (map (entry_seen m) es') d ≡ kept_at (map (entry_seen l) es) d
+    each here stays zero n = refl
+    each here stays (suc j) n = here.others m j (λ q. n (ap suc q)) ∙ ap (λ us. or_none (slice_get us j)) stays

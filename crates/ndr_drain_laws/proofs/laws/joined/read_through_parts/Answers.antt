@@ -1,0 +1,5 @@
+use Rattle.ndr_drain_laws.proofs.joined.Stopped.{read_through_parts}
+use Rattle.ndr_drain_laws.proofs.laws.joined.read_through_parts.Goals as goal
+
+pub returns : goal.returns
+returns c = read_through_parts

@@ -1,0 +1,4 @@
+pub mod heads
+pub mod joined
+pub mod reader
+pub mod parts

@@ -1,0 +1,4 @@
+pub mod Elements
+pub mod Turns
+pub mod Maximum
+pub mod Counted

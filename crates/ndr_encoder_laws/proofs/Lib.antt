@@ -1,0 +1,6 @@
+pub mod chosen
+pub mod maximum
+pub mod pieces
+pub mod shaped
+pub mod turns
+pub mod written

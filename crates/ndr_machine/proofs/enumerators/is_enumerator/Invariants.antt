@@ -1,6 +1,0 @@
-use Rattle.std.proofs.Common.{◌≡◌, drop}
-use Rattle.ndr_code.specs.Lines.{enumerators}
-use Rattle.ndr_machine.proofs.enumerators.is_enumerator.Given as goal
-
-abbrev pub invariant-loop-at : goal.invariant-loop-at
-invariant-loop-at l = enumerators l.values l.of.0 ≡ enumerators (drop l.at l.values) l.of.0

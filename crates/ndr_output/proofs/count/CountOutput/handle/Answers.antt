@@ -1,7 +1,0 @@
-use Rattle.std.proofs.Common.{refl}
-use Rattle.ndr_pieces.specs.Pieces.{Handle}
-use Rattle.ndr_output.proofs.Counted.{count_room}
-use Rattle.ndr_output.proofs.count.CountOutput.handle.Goals as goal
-
-pub overflow_add-self : goal.overflow_add-self
-overflow_add-self c = count_room c.args.self.now.at 20 (Handle c.args.attributes c.args.id) _ refl c.requires.1.can_follow

@@ -1,6 +1,0 @@
-use Rattle.std.proofs.Common.{arith}
-use Rattle.ndr_output.proofs.Rows.{octets_by_index}
-use Rattle.ndr_output.proofs.row.are_octets.Goals as goal
-
-pub returns : goal.returns
-returns c = octets_by_index c.args.octets.now (λ k. omega (arith, c.type_inv.octets k))

@@ -1,5 +1,0 @@
-use Rattle.ndr_part_laws.proofs.Stopped.{read_through_chunk}
-use Rattle.ndr_part_laws.proofs.laws.read_through_chunk.Goals as goal
-
-pub returns : goal.returns
-returns c = read_through_chunk

@@ -1,8 +1,0 @@
-use Rattle.ndr_part_laws.proofs.Stopped.{place_after, refused_chunk}
-use Rattle.ndr_part_laws.proofs.laws.refused_chunk.Goals as goal
-
-pub returns-clause-refuse : goal.returns-clause-refuse
-returns-clause-refuse c = refused_chunk
-
-pub returns-clause-place : goal.returns-clause-place
-returns-clause-place c = place_after

@@ -1,4 +1,0 @@
-pub mod Decodes
-pub mod Fits
-pub mod Lines
-pub mod Values

@@ -1,5 +1,0 @@
-use Rattle.ndr_sides.proofs.Parted.{values_first, pipes_last}
-use Rattle.ndr_sides.proofs.laws.roots_and_pipes.Goals as goal
-
-pub returns : goal.returns
-returns c = record { roots = λ w. values_first w; pipes = λ w. pipes_last w }

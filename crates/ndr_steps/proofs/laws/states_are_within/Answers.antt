@@ -1,5 +1,0 @@
-use Rattle.ndr_steps.proofs.Bounds.{address_within, inner_there, few_frames}
-use Rattle.ndr_steps.proofs.laws.states_are_within.Goals as goal
-
-pub returns : goal.returns
-returns c = record { address = address_within; inner = inner_there; frames = few_frames }

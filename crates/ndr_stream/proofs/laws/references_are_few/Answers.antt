@@ -1,8 +1,0 @@
-use Rattle.ndr_stream.proofs.FewReferences as law
-use Rattle.ndr_stream.proofs.laws.references_are_few.Goals as goal
-
-pub returns : goal.returns
-returns c = record {
-  now = λ w side order fetched noted direct b s seen ps n ag. law.few_now w side order fetched noted direct b s seen ps n ag;
-  next = λ w side order fetched noted direct b s seen ps n ag r there is. law.few_next w side order fetched noted direct b s seen ps n ag r there is;
-}

@@ -1,5 +1,0 @@
-use Rattle.ndr_turns.proofs.Turns.{turns_are}
-use Rattle.ndr_turns.proofs.laws.turns_are_deferral.Goals as goal
-
-pub returns : goal.returns
-returns c w side g conforms steps deferral = turns_are w side g conforms steps deferral

@@ -1,4 +1,0 @@
-//! Laws of the order in which an encoder comes to the homes of a graph.
-#![tactic(auto)]
-
-pub mod laws;

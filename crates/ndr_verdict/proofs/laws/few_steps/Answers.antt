@@ -1,8 +1,0 @@
-use Rattle.ndr_verdict.proofs.Counted.{few_counted, is_counted}
-use Rattle.ndr_verdict.proofs.laws.few_steps.Goals as goal
-
-pub returns : goal.returns
-returns c = record {
-  few = λ w order octets earlier r. few_counted w order octets earlier r;
-  counted = λ w order octets earlier t r h. is_counted w order octets earlier t r h;
-}

@@ -1,5 +1,0 @@
-use Rattle.ndr_verdict.proofs.Alone.{represents_alone}
-use Rattle.ndr_verdict.proofs.laws.graph_alone.Goals as goal
-
-pub returns : goal.returns
-returns c = λ w side order octets all e f g h. represents_alone w side order octets all e f g h

@@ -1,8 +1,0 @@
-use Rattle.ndr_worked.proofs.WorkedPointers.{first_of_deferral, shared_leaf_written}
-use Rattle.ndr_worked.proofs.examples.first_of_deferral.Goals as goal
-
-pub returns-clause-stands : goal.returns-clause-stands
-returns-clause-stands c = first_of_deferral
-
-pub returns-clause-written : goal.returns-clause-written
-returns-clause-written c = shared_leaf_written

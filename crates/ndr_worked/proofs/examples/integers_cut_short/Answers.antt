@@ -1,8 +1,0 @@
-use Rattle.ndr_worked.proofs.WorkedPlain.{cut_number, cut_gap}
-use Rattle.ndr_worked.proofs.examples.integers_cut_short.Goals as goal
-
-pub returns-clause-number : goal.returns-clause-number
-returns-clause-number c = cut_number
-
-pub returns-clause-gap : goal.returns-clause-gap
-returns-clause-gap c = cut_gap

@@ -1,6 +1,0 @@
-use Rattle.std.proofs.Common.{◌≡◌, drop}
-use Rattle.ndr_written.specs.Run.{target}
-use Rattle.ndr_writer.proofs.lookups.arm_at.Given as goal
-
-abbrev pub invariant-loop-at : goal.invariant-loop-at
-invariant-loop-at l = target (drop l.at l.code) l.tag ≡ target (drop l.from l.code) l.tag

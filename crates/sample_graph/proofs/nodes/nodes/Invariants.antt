@@ -1,5 +1,0 @@
-use Rattle.sample_graph.proofs.Drawing.{Drawn}
-use Rattle.sample_graph.proofs.nodes.nodes.Given as goal
-
-abbrev pub invariant-loop-at : goal.invariant-loop-at
-invariant-loop-at l = Drawn l.count l.seed l.at l.state l.cells

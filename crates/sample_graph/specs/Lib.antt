@@ -1,3 +1,0 @@
-pub mod Interface
-pub mod Nodes
-pub mod Values

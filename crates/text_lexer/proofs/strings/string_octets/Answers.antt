@@ -1,0 +1,13 @@
+use Rattle.std.proofs.Common.{ℕ, List, sym, subst}
+use Rattle.text_grammar.specs.Tokens.{character}
+use Rattle.text_reading_laws.proofs.Quoted.{character_quote}
+use Rattle.text_lexer.proofs.Scanning.{Reaches, one_more, whole}
+use Rattle.text_lexer.proofs.strings.string_octets.Goals as goal
+
+pub loop-octet-preserved : goal.loop-octet-preserved
+loop-octet-preserved c =
+    subst (λ (l : List ℕ). Reaches character c.args.body.now l c.in-Some.after.now) (sym c.in_ok-append.ensures.ok)
+    (one_more character character_quote c.args.body.now c.loop-octet.octets c.loop-octet.rest.now c.in-Some.after.now c.in-Some.octet c.loop-octet.invariant (sym c.in-Some.ensures.is))
+
+pub returns : goal.returns
+returns c = λ octets end s. whole character character_quote c.args.body.now c.loop-octet.octets c.loop-octet.rest.now c.loop-octet.invariant (sym c.in_default.ensures.is) octets end s

@@ -1,5 +1,0 @@
-use Rattle.text_printing.specs.Walks.{WritesBytes}
-use Rattle.text_printing.proofs.walked.append_bytes.Given as goal
-
-abbrev pub invariant-loop-at : goal.invariant-loop-at
-invariant-loop-at l = WritesBytes l._at l.initial.text l.initial.walk l.text l.walk

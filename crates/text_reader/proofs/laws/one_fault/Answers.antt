@@ -1,5 +1,0 @@
-use Rattle.text_reader.proofs.Stated.{one_fault}
-use Rattle.text_reader.proofs.laws.one_fault.Goals as goal
-
-pub returns : goal.returns
-returns c = one_fault

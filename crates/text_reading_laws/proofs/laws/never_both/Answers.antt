@@ -1,0 +1,5 @@
+use Rattle.text_reading_laws.proofs.Stated.{never_both}
+use Rattle.text_reading_laws.proofs.laws.never_both.Goals as goal
+
+pub returns : goal.returns
+returns c = never_both
