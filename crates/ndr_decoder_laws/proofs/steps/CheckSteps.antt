@@ -44,7 +44,7 @@ use Rattle.ndr_decoder_laws.specs.steps.Good.{Told, Kept, Good, IsRight, owed, B
 use Rattle.ndr_decoder_laws.proofs.steps.Passing.{told_passed, kept_passed, silent, judged, Lies}
 use Rattle.ndr_decoder_laws.proofs.steps.Arriving.{KeptAll, KeptOwn}
 use Rattle.ndr_decoder_laws.proofs.steps.Adding.{stop_by}
-use Rattle.ndr_decoder_laws.proofs.steps.MemberChecks.{first_number_is, owing_is, SameFound, found_is, get_behind, past_end, at_end, there, number_past, tree_there, member_at, member_is, joined_none, other_joins, pointer_joins}
+use Rattle.ndr_decoder_laws.proofs.steps.MemberChecks.{first_number_is, owing_is, SameFound, found_is, get_behind, past_end, at_end, there, number_past, tree_there, member_at, member_is, other_joins, pointer_joins}
 
 -- a struct all of whose members were read
 pub record AllRead (noted : List Item) (direct : ℕ) (order : Order) (fetched : List ℕ) (code : List Instr) (table : Table) (h : Home) (own limit : ℕ) (k : ℕ) (fs : List Around) (f : Around) (members : List Field) (seen : List EntryAt) (names : Names) (s : State) : Type 0 where

@@ -31,7 +31,7 @@ use Rattle.nd_grammar.proofs.next.Mapped.{in_parts}
 use Rattle.nd_grammar.proofs.reader.ReaderInPlace.{Readable, list_read, Reads, in_place_read}
 use Rattle.nd_grammar.proofs.reader.ReaderLeaves.{value_pointers, after_value, first_value, no_pointer_unread}
 use Rattle.nd_grammar.proofs.reader.ReaderCells.{value_is}
-use Rattle.ndr_decoder_laws.proofs.verdict.CellNumbers.{Counts, counts_both, counts_more}
+use Rattle.ndr_decoder_laws.proofs.verdict.CellNumbers.{Counts, counts_both}
 
 -- the cells that pointers name
 abbrev pub cells_of : List Pending → List ℕ
