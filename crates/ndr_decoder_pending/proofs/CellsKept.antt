@@ -1,9 +1,8 @@
 -- What is kept of cells, by their numbers.
 use Rattle.std.proofs.Common.{◌≡◌, ◌<◌, ℕ, ◌+◌, ◌-◌, zero, suc, List, [], ◌∷◌, ◌++◌, length, map, Option, Some, refl, ap, ap₂, sym, ◌∙◌, subst, arith}
 use Rattle.std.proofs.lemmas.List.{append-nil, length-append, length-map}
-use Rattle.std.specs.Prelude.{slice_get, slice_set}
+use Rattle.std.specs.Prelude.{slice_get, slice_set, option_map}
 use Rattle.std.specs.List.{AllByRecursion}
-use Rattle.std.specs.Prelude.{option_map}
 use Rattle.ndr_decoder_laws.specs.declared.kept.Kept.{Kept}
 use Rattle.ndr_decoder_laws.specs.stream.Between.{CellKept, kept_at, or_none}
 use Rattle.ndr_decoder_pending.specs.declared.cells.CellEntry.{CellEntry}
