@@ -29,7 +29,8 @@ use Rattle.nd_grammar.proofs.LegalSides.{laid_out}
 use Rattle.nd_grammar.proofs.OneGraph.{readings}
 use Rattle.nd_grammar.proofs.OneRefusal.{AreAccepted, IsRefused, are_accepted, is_refused, not_both, one_refusal}
 use Rattle.nd_grammar.proofs.conforming.Accepted.{accepted}
-use Rattle.nd_grammar.proofs.conforming.GoodEntries.{GoodEntry, HoldsNoPipe, IsNoPipe, good_in_place}
+use Rattle.nd_grammar.proofs.conforming.GoodEntries.{GoodEntry, HoldsNoPipe, good_in_place}
+use Rattle.nd_grammar.specs.ReaderState.{IsNoPipe}
 use Rattle.nd_grammar.proofs.legal.LegalPipes.{holds_no_pipe}
 use Rattle.nd_grammar.proofs.next.HoistedMaxes.{maxes_of_many}
 use Rattle.nd_grammar.proofs.next.KnownNodes.{SoundNode, known_nodes}
