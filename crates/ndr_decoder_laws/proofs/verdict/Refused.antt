@@ -30,7 +30,8 @@ use Rattle.nd_grammar.proofs.StaysBad.{stays_bad, judged_alike}
 use Rattle.nd_grammar.proofs.next.Spelt.{piece_left}
 use Rattle.nd_grammar.proofs.reader.ReaderStream.{Pipes, G, ms, numbering, is_partial, is_stream, numbered, ends_in_octets}
 use Rattle.ndr_decoder_laws.specs.verdict.Needed.{IsNeeded}
-use Rattle.ndr_decoder_laws.specs.verdict.Verdict.{MayFollow, fetched_to}
+use Rattle.ndr_decoder_laws.specs.verdict.Verdict.{HasOwnNumbers, MayFollow, fetched_to}
+use Rattle.ndr_decoder_laws.proofs.verdict.NamedInTurn.{reader_numbered}
 use Rattle.ndr_decoder_laws.proofs.verdict.ReadThrough.{Gone, stream_gone}
 
 -- ## An entry is judged alike by octets that end later
@@ -167,6 +168,7 @@ module _ (w : Setting) (side : IsLegalSide w) (order : Order) (octets : List ℕ
     pub bad : Bad w order octets place why
     pub earlier : bad.earlier ≡ (read_stream w order octets).progress.seen
     pub at : bad.here.at ≡ (read_stream w order octets).progress.at
+    pub numbers : HasOwnNumbers bad.partial bad.entries
 
   bad_there : BadThere
   bad_there =
@@ -190,6 +192,7 @@ module _ (w : Setting) (side : IsLegalSide w) (order : Order) (octets : List ℕ
         };
         earlier = sym k.seen;
         at = sym y;
+        numbers = reader_numbered w side order octets all;
       }
 
   -- The octets end at a place before which the refused entry is judged: without their last they would be refused alike.
@@ -264,6 +267,10 @@ module _ (w : Setting) (side : IsLegalSide w) (order : Order) (octets : List ℕ
     -- The refused entry ends the octets.
     pub refused_there : (bad : Bad w order octets place why) × (bad.earlier ≡ (read_stream w order octets).progress.seen) × (length octets ≡ fetched_to why (length octets) bad.here)
     refused_there = (bad_there.bad, bad_there.earlier, ends)
+
+    -- And the cells of the graph so far have their own numbers.
+    pub own_numbers : HasOwnNumbers refused_there.0.partial refused_there.0.entries
+    own_numbers = bad_there.numbers
 
   -- They stay refused, whatever follows.
   pub stays_refused : (more : List ℕ) → MayFollow why more → Bad w order (octets ++ more) place why
