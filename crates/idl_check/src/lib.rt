@@ -1,4 +1,4 @@
-//! The interface that files mean which break no rule, the one on attribute configuration files among them (C706, chapter 4).
+//! The interface that files mean, or the first rule that they break, that on attribute files among them (C706, chapter 4).
 #![tactic(auto)]
 
 mod acf_names;

@@ -1,4 +1,4 @@
-//! The interface that files mean which break no rule.
+//! The interface that files mean, if they break no rule.
 #![tactic(auto)]
 
 mod arms;

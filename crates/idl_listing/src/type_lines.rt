@@ -9,10 +9,9 @@ ghost use Rattle.idl_listing.specs.Listing.{attrs_words, form, type_line, member
 use crate::attribute_words::attribute;
 use listing_words::{class_word, number, signed, word, word_if};
 use nd_base::{Memory, Name, Octets};
-use nd_types::{Arm, Arms, AttrVars, Field, Fields, Interface, Numbers, TypeDef, TypeId};
-
-/// How many types each interface has that none declares: the primitives and the context handle.
-const BASIC_TYPES: usize = 12;
+use nd_types::{
+    Arm, Arms, AttrVars, BASIC_TYPES, Field, Fields, Interface, Numbers, TypeDef, TypeId,
+};
 
 /// A word and the number of a type.
 fn of_type(text: &mut Octets, name: &[u8], of: TypeId) -> Result<(), Memory>
@@ -241,7 +240,7 @@ fn part_lines(text: &mut Octets, definition: &TypeDef) -> Result<(), Memory>
 pub(crate) fn own_types(text: &mut Octets, interface: &Interface) -> Result<(), Memory>
     ensures { OnOk result (text.new ≡ text.old ++ flat_map (type_lines interface.now.types) (own_types interface.now.types)) }
 {
-    for at in BASIC_TYPES..interface.types.len() {
+    for at in BASIC_TYPES as usize..interface.types.len() {
         let Some(definition) = interface.types.get(at) else {
             unreachable!()
         };

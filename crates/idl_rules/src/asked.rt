@@ -18,7 +18,7 @@ use idl_constructs::nodes::Construct;
 use idl_declared_types::kinds::{Kind, Kinds};
 use idl_rule_definitions::Finder;
 use idl_type_numbers::types::Typed;
-use idl_type_properties::marks::{Mark, Marks};
+use idl_type_properties::marks::{Mark, Marks, NOTHING};
 
 /// A declarator where it stands, with the numbers of its types.
 #[derive(Clone, Copy)]
@@ -39,26 +39,6 @@ pub struct Judge<'j> {
     pub kinds: &'j Kinds,
     pub marks: &'j Marks,
 }
-
-/// Of no types.
-const NOTHING: Mark = Mark {
-    holds_void: false,
-    holds_handle: false,
-    holds_pipe: false,
-    holds_context: false,
-    holds_classless: false,
-    holds_reference_behind: false,
-    holds_wrong_count: false,
-    holds_many_not_fixed: false,
-    holds_nonencapsulated: false,
-    holds_wrong_element: false,
-    holds_wrong_pipe: false,
-    holds_deep_array: false,
-    many_dimensions: false,
-    nonencapsulated: false,
-    hoists: false,
-    too_deep: false,
-};
 
 impl<'j> Judge<'j> {
     /// The kind of a type.

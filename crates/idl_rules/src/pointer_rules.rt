@@ -64,46 +64,28 @@ pub(crate) fn note_pointers(finder: &mut Finder<'_>, judge: &Judge<'_>, asked: &
         → option_map seen_breach finder.new.first ≡ noted w first (with_pointers s u before) }
 {
     let construct = &asked.construct;
-    note(
-        finder,
-        construct,
-        rule::CLASSES_ON_POINTERS,
-        has_class_without_pointer(judge, asked),
-    );
+    let misplaced = has_class_without_pointer(judge, asked);
+    note(finder, construct, rule::CLASSES_ON_POINTERS, misplaced);
+    let declared = judge.mark(asked.typed.declared_as);
     note(
         finder,
         construct,
         rule::CLASS_OF_EACH_POINTER,
-        judge.mark(asked.typed.declared_as).holds_classless,
+        declared.holds_classless,
     );
+    let of = judge.mark(asked.typed.of);
     note(
         finder,
         construct,
         rule::NO_POINTER_TO_REFERENCE,
-        judge.mark(asked.typed.of).holds_reference_behind,
+        of.holds_reference_behind,
     );
-    note(
-        finder,
-        construct,
-        rule::OUT_POINTERS,
-        is_nullable_out(judge, asked),
-    );
-    note(
-        finder,
-        construct,
-        rule::DIRECTIONS,
-        lacks_direction(construct),
-    );
-    note(
-        finder,
-        construct,
-        rule::OUT_PARAMETERS,
-        is_wrong_out(judge, asked),
-    );
-    note(
-        finder,
-        construct,
-        rule::RESULTS,
-        is_wrong_result(judge, asked),
-    );
+    let nullable = is_nullable_out(judge, asked);
+    note(finder, construct, rule::OUT_POINTERS, nullable);
+    let undirected = lacks_direction(construct);
+    note(finder, construct, rule::DIRECTIONS, undirected);
+    let wrong_out = is_wrong_out(judge, asked);
+    note(finder, construct, rule::OUT_PARAMETERS, wrong_out);
+    let wrong_result = is_wrong_result(judge, asked);
+    note(finder, construct, rule::RESULTS, wrong_result);
 }

@@ -2,7 +2,7 @@
 use Rattle.std.specs.Prelude.{◌≡◌, ◌<◌, ℕ, ◌+◌, Bool, true, false, not, ◌&&◌, ◌||◌, eqb, List, [], ◌∷◌, ◌++◌, map, length, Option, Some, None, slice_get, ltb}
 use Rattle.std.specs.List.{list_any, list_all, slice_set}
 use Rattle.nd_base.specs.declared.octets.Place.{Place}
-use Rattle.nd_types.specs.declared.TheConstants.{HANDLE}
+use Rattle.nd_types.specs.declared.TheConstants.{BASIC_TYPES, HANDLE}
 use Rattle.nd_types.specs.Kinds.{prim_number, context_number}
 use Rattle.idl_declared_types.specs.declared.kinds.Kind.{Kind}
 use Rattle.idl_constructs.specs.declared.nodes.Node as program_node
@@ -24,7 +24,7 @@ found_number None = None
 
 -- the number past the last
 abbrev pub next_of : Numbers → ℕ
-next_of t = 12 + length t.own.items
+next_of t = BASIC_TYPES + length t.own.items
 
 -- a number, or else the one past all
 abbrev pub number_or : ℕ → Option ℕ → ℕ
@@ -86,7 +86,7 @@ pub record Shows (ks : List Kind) (firsts : List Needed) (t : Numbers) : Type 0 
   pub own : map seen_needed firsts ≡ map (seen_own ks) t.own.items
   pub within : list_all (λ o. ltb o.kind (length ks)) t.own.items ≡ true
   pub count : length t.numbers.items ≡ length ks
-  pub numbers : (k : ℕ) → k < length ks → slice_get t.numbers.items k ≡ Some (given 12 t.own.items k)
+  pub numbers : (k : ℕ) → k < length ks → slice_get t.numbers.items k ≡ Some (given BASIC_TYPES t.own.items k)
 
 -- one more type has a number
 pub record Gives (kind : ℕ) (place : Place) (old : Numbers) (new : Numbers) : Type 0 where

@@ -15,7 +15,7 @@ use crate::types::{Typed, Types};
 use idl_constructs::nodes::{Construct, Node, Nodes};
 use idl_declared_types::kinds::{Kind, Kinds};
 use nd_base::{Memory, Place};
-use nd_types::HANDLE;
+use nd_types::{BASIC_TYPES, HANDLE};
 use std::alloc::Global;
 
 /// A type with a number of its own, and where the construct begins that needs it first.
@@ -28,13 +28,13 @@ pub struct Own {
 /// The numbers of types.
 #[derive(Drop)]
 pub struct Numbers {
-    /// The types from number 12 on.
+    /// The types from number `BASIC_TYPES` on.
     pub own: Vec<Own>,
     /// For each kind, the number that it has of its own.
     numbers: Vec<Option<usize>>,
 }
 
-/// Whether a type has a number from 12 on where it is needed.
+/// Whether a type has a number of its own where it is needed, and not that of a basic type.
 fn has_own_number(kind: Kind) -> bool
     ensures { (types : List IdlType) → result ≡ numbering.has_own_number (type_by types kind) }
 {
@@ -62,7 +62,7 @@ impl Numbers {
     fn next(&self) -> usize
         ensures { result ≡ next_of self.now }
     {
-        12 + self.own.len()
+        BASIC_TYPES as usize + self.own.len()
     }
 
     /// The number that a type has of its own.

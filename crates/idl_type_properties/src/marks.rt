@@ -265,8 +265,8 @@ fn own_of(types: &Types, number: usize, properties: &Properties) -> Own
     }
 }
 
-/// What holds nothing.
-const NOTHING: Mark = Mark {
+/// What holds nothing, as the types that there are not.
+pub const NOTHING: Mark = Mark {
     holds_void: false,
     holds_handle: false,
     holds_pipe: false,

@@ -25,7 +25,7 @@ use idl_declared_types::labels::arm_attributes;
 use idl_grammar::{Arm, Attribute, AttributeKind, Case, TypeSpec};
 use idl_rule_definitions::{Finder, rule};
 use idl_type_numbers::numbering::{Numbers, Own};
-use nd_types::{MEMBER_LIMIT, OPERATION_LIMIT, PARAM_LIMIT, TYPE_LIMIT};
+use nd_types::{BASIC_TYPES, MEMBER_LIMIT, OPERATION_LIMIT, PARAM_LIMIT, TYPE_LIMIT};
 
 /// Notes the first of the types past a limit, if there is one.
 fn types(finder: &mut Finder<'_>, own: &[Own], limit: usize)
@@ -278,7 +278,11 @@ pub fn too_many(finder: &mut Finder<'_>, nodes: &Nodes<'_>, numbers: &Numbers)
         → option_map seen_breach finder.new.first
         ≡ noted w (option_map seen_breach finder.old.first) (map one_too_many (rules.too_many (scene_seen known nodes.now))) }
 {
-    types(finder, numbers.own.as_slice(), TYPE_LIMIT as usize - 12);
+    types(
+        finder,
+        numbers.own.as_slice(),
+        (TYPE_LIMIT - BASIC_TYPES) as usize,
+    );
     operations(finder, nodes.items.as_slice(), OPERATION_LIMIT as usize + 1);
     parameters(finder, nodes, PARAM_LIMIT as usize);
     parts(finder, nodes.items.as_slice(), MEMBER_LIMIT as usize + 1);

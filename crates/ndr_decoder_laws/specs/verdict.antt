@@ -1,2 +1,2 @@
-pub mod Needed
-pub mod Verdict
+pub mod CellsSeen
+pub mod InOrder

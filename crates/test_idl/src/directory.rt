@@ -1,10 +1,11 @@
 // The interfaces of three files that have each form, compared item by item.
-use idl_check::interface_of;
 use idl_lexer::lex;
 use idl_names::{Sources, resolve};
 use idl_parser::parse;
 use nd_base::{MemFiles, Memory, Octets};
-use nd_types::{Arm, Attr, AttrVar, Class, Field, Interface, Operation, Param, TypeDef, Way};
+use nd_types::{
+    Arm, Attr, AttrVar, BASIC_TYPES, Class, Field, Interface, Operation, Param, TypeDef, Way,
+};
 use std::alloc::Global;
 use std::process::Abort;
 use std::test::Fail;
@@ -19,7 +20,7 @@ fn interface_of(alloc: Global, text: &[u8]) -> Result<Interface, Fail> {
     };
     let mut files = MemFiles::new(alloc, &[])?;
     let scope = resolve(alloc, &mut files, &mut sources, tree)?;
-    Ok(interface_of(alloc, &scope)?)
+    Ok(idl_check::interface_of(alloc, &scope)?)
 }
 
 /// The word of an attribute in what is reported.
@@ -183,11 +184,11 @@ fn tell_operation(out: &mut Octets, alloc: Global, it: &Operation) -> Result<(),
     Ok(())
 }
 
-/// The name and version of an interface; then its types from 12 on, and its operations, a line for each.
+/// The name and version of an interface; then its own types, and its operations, a line for each.
 fn told(alloc: Global, it: &Interface) -> Result<Octets, Fail> {
     let mut out = Octets::copy(alloc, it.name.as_slice())?;
     out.append(format!(in alloc; " {}.{}", it.major, it.minor)?.as_bytes())?;
-    for at in 12..it.types.len() {
+    for at in BASIC_TYPES as usize..it.types.len() {
         if let Some(of) = it.types.get(at) {
             out.append(b"\n")?;
             tell_type(&mut out, alloc, of)?;

@@ -1,10 +1,11 @@
 // What expressions come to, by examples.
 use idl_grammar::{Export, Expr, Init, Tree};
 use idl_lexer::lex;
-use idl_names::{Meaning, Names, evaluate, value, value_of};
+use idl_names::{ConstFault, Meaning, Names, evaluate, value, value_of};
 use idl_parser::parse;
 use nd_base::Octets;
 use std::alloc::Global;
+use std::process::Abort;
 use std::test::Fail;
 
 /// What is before an expression.
@@ -62,4 +63,44 @@ fn expressions_have_values(rt: HostRuntime) -> Result<(), Fail> {
     assert_eq!(rt; value_of(&Example, expression), Ok(95));
     assert_eq!(rt; evaluate(&Example, expression), Ok(95));
     Ok(())
+}
+
+/// That an expression has this value, or none for this reason.
+fn assert_value(
+    rt: &impl Abort,
+    alloc: Global,
+    text: &[u8],
+    wanted: Result<i128, ConstFault>,
+) -> Result<(), Fail> {
+    let tree = tree_of(alloc, text)?;
+    let Some(expression) = expression_of(&tree) else {
+        return Err(Fail::new("no expression"));
+    };
+    assert_eq!(rt; value_of(&Example, expression), wanted);
+    Ok(())
+}
+
+#[test]
+fn numbers_are_cut_towards_zero(rt: HostRuntime) -> Result<(), Fail> {
+    assert_value(&rt, rt.alloc(), b"7 / 2 * 2", Ok(6))?;
+    assert_value(&rt, rt.alloc(), b"-7 / 2", Ok(-3))?;
+    assert_value(&rt, rt.alloc(), b"-7 % 2", Ok(-1))
+}
+
+#[test]
+fn bits_are_of_unlimited_width(rt: HostRuntime) -> Result<(), Fail> {
+    assert_value(&rt, rt.alloc(), b"-1 >> 1", Ok(-1))?;
+    assert_value(&rt, rt.alloc(), b"~0", Ok(-1))?;
+    assert_value(&rt, rt.alloc(), b"1 << 63", Ok(9_223_372_036_854_775_808))
+}
+
+#[test]
+fn what_is_decided_is_not_evaluated(rt: HostRuntime) -> Result<(), Fail> {
+    assert_value(&rt, rt.alloc(), b"0 && 5 % 0", Ok(0))
+}
+
+#[test]
+fn some_expressions_have_no_value(rt: HostRuntime) -> Result<(), Fail> {
+    assert_value(&rt, rt.alloc(), b"1 << 64", Err(ConstFault::OutOfRange))?;
+    assert_value(&rt, rt.alloc(), b"5 % 0", Err(ConstFault::ZeroDivisor))
 }

@@ -2,7 +2,7 @@
 -- source; and what the log of items and the count of steps have got.
 -- `w` is a setting, `s` a source over the call, `t` the log and the count over the call, `fetched` are the octets that were fetched, `more` any octets that
 -- follow them.
-use Rattle.std.specs.Prelude.{◌≡◌, ◌≤◌, ◌<◌, ℕ, ◌+◌, Bool, true, false, if◌then◌else◌, List, [], ◌∷◌, ◌++◌, length, filter, flat_map, Option, Some, None}
+use Rattle.std.specs.Prelude.{◌≡◌, ◌≤◌, ℕ, ◌+◌, Bool, true, false, if◌then◌else◌, List, [], ◌∷◌, ◌++◌, length, filter, flat_map, Option, Some, None}
 use Rattle.std.specs.List.{AllByRecursion}
 use Rattle.std.specs.Io.KnownBytes.{Consumes, IsAtEnd}
 use Rattle.nd_base.specs.declared.octets.Order.{Order}
@@ -14,7 +14,7 @@ use Rattle.nd_types.specs.Table.{type_at}
 use Rattle.nd_types.specs.Roots.{Root}
 use Rattle.nd_value.specs.declared.value.Graph.{Graph}
 use Rattle.nd_value.specs.declared.item.Item.{Item}
-use Rattle.nd_value.specs.Canon.{IsCanon, canonical_number, target, has}
+use Rattle.nd_value.specs.Canon.{IsCanon, target, has}
 use Rattle.nd_value.specs.Conforms.{Conforms, IsPartial}
 use Rattle.nd_value.specs.Logged.{Logged}
 use Rattle.nd_value.specs.Same.{Same}
@@ -25,7 +25,6 @@ use Rattle.nd_grammar.specs.Bad.{Bad}
 use Rattle.nd_grammar.specs.Entry.{Entry, EntryAt, end_to_end, size_at, full_cells}
 use Rattle.nd_grammar.specs.FewItems.{but_gaps, item_count}
 use Rattle.nd_grammar.specs.Items.{items}
-use Rattle.nd_grammar.specs.NamedOrder.{cells_met}
 use Rattle.nd_grammar.specs.NextMark.{named_cell}
 use Rattle.nd_grammar.specs.Refusal.{Accepts}
 use Rattle.nd_grammar.specs.Represents.{Represents, IsRendered, IsNumbering}
@@ -149,11 +148,10 @@ pub record IsRefused (w : Setting) (order : Order) (s : SourceSeen) (place : ℕ
   pub no_graph : (more : List ℕ) → MayFollow why more → (part rest : List ℕ) → fetched ++ more ≡ part ++ rest → (g : Graph) → Conforms w g
       → Represents w order part g → ⊥
 
--- The cells of a graph with this stream have the numbers of the order in which the stream comes to them.
-abbrev pub HasOwnNumbers : Graph → List Entry → Type 0
-HasOwnNumbers g ms = (c : ℕ) → 0 < c → c ≤ length g.cells → canonical_number (cells_met ms) c ≡ c
+-- ## Octets that the source did not give
 
--- The octets are refused, at an entry of the stream of a partial graph whose cells have their own numbers.
-pub record IsRefusedInOrder (w : Setting) (order : Order) (s : SourceSeen) (place : ℕ) (why : Reason) (t : DecodingSeen) : Type 0 where
-  pub refused : IsRefused w order s place why t
-  pub numbers : HasOwnNumbers refused.bad.partial refused.bad.entries
+-- Reading was cut off by the source, and the octets that were fetched are cut short where they end: the next entry lacks some of its own.
+pub record IsUnread (w : Setting) (order : Order) (s : SourceSeen) (t : DecodingSeen) : Type 0 where
+  pub cut : IsCutOff w order s t
+  pub short : Bad w order cut.fetched (length cut.fetched) reason.Truncated
+  pub as_far : short.earlier ≡ cut.earlier
