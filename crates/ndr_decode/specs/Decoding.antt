@@ -1,5 +1,4 @@
 -- What the faults of a decoder say.
-use Rattle.std.specs.Prelude.{Unit}
 use Rattle.nd_base.specs.declared.octets.Order.{Order}
 use Rattle.nd_base.specs.Over.{SourceSeen}
 use Rattle.nd_value.specs.Setting.{Setting}
