@@ -4,7 +4,8 @@ use Rattle.grammar_phrases.specs.Text.{Lexeme, Text, symbol_at, is, is_in, Ban, 
 use Rattle.grammar_phrases.specs.Reading.{to_unit, mark_read}
 use Rattle.grammar_phrases.proofs.Exact.{Agrees, Exact, HasPhrase, pair_exact, turned_exact}
 use Rattle.grammar_phrases.proofs.Parts.{marked, mark_exact, mark_has, pair_has, turned_has, ruled_exact, of_symbol}
-use Rattle.grammar_phrases.proofs.Sequences.{stops, Begins, BeginsOr, disjoint, ends_at, skip_begins, option_exact, option_begins, separated_exact, separated_has, bracketed_exact, bracketed_has, bracketed_begins, located_exact, located_has, made_exact, made_begins}
+use Rattle.grammar_phrases.proofs.Sequences.{stops, Begins, BeginsOr, disjoint, ends_at, skip_begins, option_exact, option_begins, separated_exact, separated_has, bracketed_exact, bracketed_has}
+use Rattle.grammar_phrases.proofs.Sequences.{bracketed_begins, located_exact, located_has, made_exact, made_begins}
 use Rattle.idl_grammar.specs.declared.words.Spelling.{Spelling}
 use Rattle.idl_grammar.specs.Symbols as symbol
 use Rattle.idl_grammar.specs.Grammar.{one_of, in_round, commas, is_banned_attribute}
@@ -19,7 +20,8 @@ use Rattle.acf_reader.specs.declared.tree.Attribute.{Attribute}
 use Rattle.acf_reader.specs.Symbols as word
 use Rattle.acf_reader.specs.Symbols.{names}
 use Rattle.acf_reader.specs.Grammar.{ident, handle_type, code, attribute_kind, attribute, attributes}
-use Rattle.acf_reader.specs.Reading.{ident_read, handle_type_read, variable_read, implicit_handle_read, one_word_attributes, one_word_symbols, code_symbols, code_read, attribute_kind_read, attribute_of, attribute_read, attributes_of, attributes_read, maybe_attributes_read}
+use Rattle.acf_reader.specs.Reading.{ident_read, handle_type_read, variable_read, implicit_handle_read, one_word_attributes, one_word_symbols, code_symbols, code_read, attribute_kind_read}
+use Rattle.acf_reader.specs.Reading.{attribute_of, attribute_read, attributes_of, attributes_read, maybe_attributes_read}
 use Rattle.acf_reader.proofs.NamesExact.{ident_exact, ident_has, ident_begins}
 
 -- ## the variable of `implicit_handle`
@@ -163,7 +165,8 @@ attribute_firsts =
 
 kind_begins : (depth : ℕ) → Begins (attribute_kind depth) attribute_firsts
 kind_begins depth lifted x i j c ph =
-    either_begins (one_words depth) (from_code depth) one_word_symbols (code_on depth) (one_words_begin depth) (from_code_begins depth) refl attribute_firsts refl refl lifted x i j c (kinds_back depth lifted x i j c ph)
+    either_begins (one_words depth) (from_code depth) one_word_symbols (code_on depth) (one_words_begin depth) (from_code_begins depth) refl attribute_firsts refl refl lifted x i j c
+    (kinds_back depth lifted x i j c ph)
 
 kind_has : (depth : ℕ) → HasPhrase (attribute_kind depth)
 unfolding attribute_kind

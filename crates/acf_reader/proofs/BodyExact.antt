@@ -5,7 +5,9 @@ use Rattle.grammar_phrases.specs.Text.{Lexeme, Text, lexeme_at, symbol_at, is, i
 use Rattle.grammar_phrases.specs.Reading.{Read, then, turned}
 use Rattle.grammar_phrases.proofs.Exact.{Exact, HasPhrase, Part, pair_exact, turned_exact}
 use Rattle.grammar_phrases.proofs.Parts.{clash, pair_has, turned_has, optional_has}
-use Rattle.grammar_phrases.proofs.Sequences.{stops, Begins, subset, disjoint, meets_first, skip_exact, skip_has, skip_begins, end_exact, end_has, end_begins, pair_begins, or_pair_begins, located_exact, located_has, located_begins, bracketed_exact, bracketed_has, bracketed_begins, separated_exact, separated_has, separated_begins, list_exact, choice_exact}
+use Rattle.grammar_phrases.proofs.Sequences.{stops, Begins, subset, disjoint, meets_first, skip_exact, skip_has, skip_begins, end_exact, end_has, end_begins, pair_begins, or_pair_begins}
+use Rattle.grammar_phrases.proofs.Sequences.{located_exact, located_has, located_begins, bracketed_exact, bracketed_has, bracketed_begins, separated_exact, separated_has, separated_begins, list_exact}
+use Rattle.grammar_phrases.proofs.Sequences.{choice_exact}
 use Rattle.idl_grammar.specs.declared.words.Spelling.{Spelling}
 use Rattle.idl_grammar.specs.Symbols as symbol
 use Rattle.idl_grammar.specs.Expressions.{spelled}
@@ -20,7 +22,8 @@ use Rattle.acf_reader.specs.Symbols.{names}
 use Rattle.acf_reader.specs.Tree as tree
 use Rattle.acf_reader.specs.Tree.{Attributes, Parameter, BodyElement}
 use Rattle.acf_reader.specs.Grammar.{ident, attributes, parameter, parameters, body_element}
-use Rattle.acf_reader.specs.Reading.{ident_read, attributes_read, maybe_attributes_read, parameter_of, parameter_read, parameters_read, signature_read, types_read, include_read, operation_read, element_read, element_firsts, body_read}
+use Rattle.acf_reader.specs.Reading.{ident_read, attributes_read, maybe_attributes_read, parameter_of, parameter_read, parameters_read, signature_read, types_read, include_read, operation_read}
+use Rattle.acf_reader.specs.Reading.{element_read, element_firsts, body_read}
 use Rattle.acf_reader.proofs.NamesExact.{ident_exact, ident_has, ident_begins}
 use Rattle.acf_reader.proofs.AttributesExact.{attributes_exact, attributes_has, attributes_begin, maybe_attributes_exact, maybe_attributes_begin}
 
@@ -101,7 +104,8 @@ module _ (depth : ℕ) where
   parameter_tail = optional (attributes depth) ⊗ ident false
 
   parameter_tail_begins : Begins parameter_tail name_firsts
-  parameter_tail_begins = or_pair_begins (optional (attributes depth)) (ident false) (symbol.OpenSquare ∷ []) (names false) name_firsts (maybe_attributes_begin depth) (ident_begins false) square_first name_first
+  parameter_tail_begins =
+      or_pair_begins (optional (attributes depth)) (ident false) (symbol.OpenSquare ∷ []) (names false) name_firsts (maybe_attributes_begin depth) (ident_begins false) square_first name_first
 
   parameter_begins : Begins (parameter depth) name_firsts
   unfolding parameter
@@ -119,7 +123,8 @@ module _ (depth : ℕ) where
       turned_exact (located parameter_tail) (parameter depth) parameter_of (λ lifted x i j a ph. ph) (stops []) t i
       (λ lifted x e c j ph stop. record { part = (c.at, (c.attributes, c.name)); is = refl; phrase = ph }) _
       (located_exact parameter_tail name_firsts (stops []) t i parameter_tail_begins firsts_real _
-      (pair_exact (optional (attributes depth)) (ident false) (stops (symbol.OpenSquare ∷ [])) (stops []) (meets_first (ident false) (names false) (symbol.OpenSquare ∷ []) (stops []) (ident_begins false) names_no_square)
+      (pair_exact (optional (attributes depth)) (ident false) (stops (symbol.OpenSquare ∷ [])) (stops [])
+      (meets_first (ident false) (names false) (symbol.OpenSquare ∷ []) (stops []) (ident_begins false) names_no_square)
       (ident_has false) t i (maybe_attributes_read t depth i) (λ a m. ident_read false t m) (maybe_attributes_exact t depth i in_text)
       (λ a m found. ident_exact false (stops []) t m found.within)))
 
@@ -143,7 +148,8 @@ module _ (depth : ℕ) where
 
   list_exact_of : (t : Text) (i : ℕ) → i ≤ length t → Exact (commas (parameter depth)) (stops (symbol.Comma ∷ [])) t i (commas_read t (parameter_read t depth) i)
   list_exact_of t i in_text =
-      separated_exact symbol.Comma (parameter depth) [] (symbol.Comma ∷ []) parameter_has refl refl refl refl t i (parameter_read t depth) (λ m based in_m. parameter_exact t m in_m) i (omega arith) in_text
+      separated_exact symbol.Comma (parameter depth) [] (symbol.Comma ∷ []) parameter_has refl refl refl refl t i (parameter_read t depth) (λ m based in_m. parameter_exact t m in_m) i
+      (omega arith) in_text
 
   closing_ends : (x : Text) (j : ℕ) → closing x j → stops (symbol.Comma ∷ []) x j
   closing_ends x j stop = ap (λ (s : ℕ). is_in (symbol.Comma ∷ []) s) (eqb-true (symbol_at x j) symbol.CloseRound stop)
@@ -158,7 +164,8 @@ module _ (depth : ℕ) where
   parameters_exact t i in_text =
       subst (λ (r : Read (List Parameter)). Exact (parameters depth) closing t i r) (parameters_is t i)
       (turned_exact (optional (commas (parameter depth))) (parameters depth) list_of list_forth closing t i (λ lifted x e c j ph stop. list_back lifted x i j c ph) _
-      (unless_exact (commas (parameter depth)) name_firsts (separated_begins symbol.Comma (parameter depth) name_firsts parameter_begins) symbol.CloseRound firsts_no_close (stops (symbol.Comma ∷ [])) closing_ends t i in_text
+      (unless_exact (commas (parameter depth)) name_firsts (separated_begins symbol.Comma (parameter depth) name_firsts parameter_begins) symbol.CloseRound firsts_no_close
+      (stops (symbol.Comma ∷ [])) closing_ends t i in_text
       (commas_read t (parameter_read t depth)) (list_exact_of t i in_text)))
 
 -- ## elements
@@ -196,7 +203,8 @@ module _ (depth : ℕ) where
   names_line_exact : (t : Text) (i : ℕ) → i ≤ length t → Exact names_line (stops []) t i (line_read t (commas_read t (ident_read false t) i))
   names_line_exact t i in_text =
       end_exact (commas (ident false)) symbol.Semicolon (symbol.Comma ∷ []) (stops []) t i refl refl _
-      (separated_exact symbol.Comma (ident false) [] (symbol.Comma ∷ []) (ident_has false) refl refl refl refl t i (ident_read false t) (λ m based in_m. ident_exact false (stops []) t m in_m) i (omega arith) in_text)
+      (separated_exact symbol.Comma (ident false) [] (symbol.Comma ∷ []) (ident_has false) refl refl refl refl t i (ident_read false t) (λ m based in_m. ident_exact false (stops []) t m in_m) i
+      (omega arith) in_text)
 
   abbrev types_tail : Rel (Attributes × List Spelling)
   types_tail = attributes depth ⊗ names_line
@@ -219,7 +227,8 @@ module _ (depth : ℕ) where
       at_exact types_of types_line (symbol.Typedef ∷ []) t i (skip_begins symbol.Typedef types_tail) refl _
       (skip_exact symbol.Typedef types_tail (stops []) t i refl in_text types_tail_has _
       (λ m after in_m.
-      pair_exact (attributes depth) names_line (stops []) (stops []) (λ lifted x m j b ph stop. refl) names_line_has t m (attributes_read t depth m) (λ a o. line_read t (commas_read t (ident_read false t) o))
+      pair_exact (attributes depth) names_line (stops []) (stops []) (λ lifted x m j b ph stop. refl) names_line_has t m (attributes_read t depth m)
+      (λ a o. line_read t (commas_read t (ident_read false t) o))
       (attributes_exact t depth m in_m) (λ a o found. names_line_exact t o found.within)))
 
   -- strings after `include`
@@ -230,7 +239,8 @@ module _ (depth : ℕ) where
   strings_has = separated_has symbol.Comma (spelled symbol.Quoted) (spelled_has symbol.Quoted refl)
 
   strings_line_begins : Begins strings_line (symbol.Quoted ∷ [])
-  strings_line_begins = end_begins (commas (spelled symbol.Quoted)) symbol.Semicolon (symbol.Quoted ∷ []) (separated_begins symbol.Comma (spelled symbol.Quoted) (symbol.Quoted ∷ []) (spelled_begins symbol.Quoted refl))
+  strings_line_begins =
+      end_begins (commas (spelled symbol.Quoted)) symbol.Semicolon (symbol.Quoted ∷ []) (separated_begins symbol.Comma (spelled symbol.Quoted) (symbol.Quoted ∷ []) (spelled_begins symbol.Quoted refl))
 
   strings_line_exact : (t : Text) (i : ℕ) → i ≤ length t → Exact strings_line (stops []) t i (line_read t (commas_read t (spelled_read symbol.Quoted t) i))
   strings_line_exact t i in_text =
@@ -262,19 +272,26 @@ module _ (depth : ℕ) where
   includes = made include_of (located include_line)
 
   include_line_exact : (t : Text) (i : ℕ) → i ≤ length t
-      → Exact include_line (stops []) t i (then (spelled_read word.Include t i) (λ name m. Rattle.grammar_phrases.specs.Reading.choice_read (symbol.Quoted ∷ []) t m (line_read t (commas_read t (spelled_read symbol.Quoted t) m)) (signature_read t depth m)))
+      → Exact include_line (stops []) t i
+      (then (spelled_read word.Include t i)
+      (λ name m. Rattle.grammar_phrases.specs.Reading.choice_read (symbol.Quoted ∷ []) t m (line_read t (commas_read t (spelled_read symbol.Quoted t) m)) (signature_read t depth m)))
   include_line_exact t i in_text =
-      pair_exact (spelled word.Include) behind (stops []) (stops []) (λ lifted x m j b ph stop. refl) behind_has t i (spelled_read word.Include t i) _ (spelled_exact word.Include refl (stops []) t i in_text)
+      pair_exact (spelled word.Include) behind (stops []) (stops []) (λ lifted x m j b ph stop. refl) behind_has t i (spelled_read word.Include t i) _
+      (spelled_exact word.Include refl (stops []) t i in_text)
       (λ name m found.
-      choice_exact strings_line signature (symbol.Quoted ∷ []) (symbol.OpenRound ∷ []) strings_line_begins signature_begins refl (stops []) t m _ _ (λ h. strings_line_exact t m found.within) (signature_exact t m found.within))
+      choice_exact strings_line signature (symbol.Quoted ∷ []) (symbol.OpenRound ∷ []) strings_line_begins signature_begins refl (stops []) t m _ _ (λ h. strings_line_exact t m found.within)
+      (signature_exact t m found.within))
 
   include_is : (t : Text) (at i : ℕ)
-      → turned (λ p. behind_made at p.0 p.1) (then (spelled_read word.Include t i) (λ name m. Rattle.grammar_phrases.specs.Reading.choice_read (symbol.Quoted ∷ []) t m (line_read t (commas_read t (spelled_read symbol.Quoted t) m)) (signature_read t depth m)))
+      → turned (λ p. behind_made at p.0 p.1)
+      (then (spelled_read word.Include t i)
+      (λ name m. Rattle.grammar_phrases.specs.Reading.choice_read (symbol.Quoted ∷ []) t m (line_read t (commas_read t (spelled_read symbol.Quoted t) m)) (signature_read t depth m)))
       ≡ include_read t depth at i
   unfolding include_read
   include_is t at i =
       bind_is (behind_made at) (spelled_read word.Include t i) _
-      ∙ bind_alike (spelled_read word.Include t i) _ _ (λ name m. branch_is (behind_made at name) (symbol.Quoted ∷ []) t m (line_read t (commas_read t (spelled_read symbol.Quoted t) m)) (signature_read t depth m))
+      ∙ bind_alike (spelled_read word.Include t i) _ _
+      (λ name m. branch_is (behind_made at name) (symbol.Quoted ∷ []) t m (line_read t (commas_read t (spelled_read symbol.Quoted t) m)) (signature_read t depth m))
 
   include_exact : (t : Text) (i : ℕ) → i ≤ length t → Exact includes (stops []) t i (include_read t depth (lexeme_at t i).at i)
   include_exact t i in_text =
@@ -295,7 +312,8 @@ module _ (depth : ℕ) where
   operation_line = optional (attributes depth) ⊗ named_line
 
   operation_line_begins : Begins operation_line name_firsts
-  operation_line_begins = or_pair_begins (optional (attributes depth)) named_line (symbol.OpenSquare ∷ []) (names false) name_firsts (maybe_attributes_begin depth) named_line_begins square_first name_first
+  operation_line_begins =
+      or_pair_begins (optional (attributes depth)) named_line (symbol.OpenSquare ∷ []) (names false) name_firsts (maybe_attributes_begin depth) named_line_begins square_first name_first
 
   abbrev operation_of : ℕ × (Option Attributes × (Spelling × List Parameter)) → BodyElement
   operation_of p = tree.Operation p.0 p.1.0 p.1.1.0 p.1.1.1
@@ -307,10 +325,12 @@ module _ (depth : ℕ) where
   unfolding operation_read
   operation_exact t i in_text =
       at_exact operation_of operation_line name_firsts t i operation_line_begins firsts_real _
-      (pair_exact (optional (attributes depth)) named_line (stops (symbol.OpenSquare ∷ [])) (stops []) (meets_first named_line (names false) (symbol.OpenSquare ∷ []) (stops []) named_line_begins names_no_square) named_line_has t i
+      (pair_exact (optional (attributes depth)) named_line (stops (symbol.OpenSquare ∷ [])) (stops [])
+      (meets_first named_line (names false) (symbol.OpenSquare ∷ []) (stops []) named_line_begins names_no_square) named_line_has t i
       (maybe_attributes_read t depth i) _ (maybe_attributes_exact t depth i in_text)
       (λ a m found.
-      pair_exact (ident false) signature (stops []) (stops []) (λ lifted x m j b ph stop. refl) signature_has t m (ident_read false t m) (λ name o. signature_read t depth o) (ident_exact false (stops []) t m found.within)
+      pair_exact (ident false) signature (stops []) (stops []) (λ lifted x m j b ph stop. refl) signature_has t m (ident_read false t m) (λ name o. signature_read t depth o)
+      (ident_exact false (stops []) t m found.within)
       (λ name o found_o. signature_exact t o found_o.within)))
 
   -- ## which it is
@@ -339,7 +359,8 @@ module _ (depth : ℕ) where
         (q.0, (i, refl, (q.1.0, (ap (λ (s : ℕ). is_in (names false) s) (eqb-true (symbol_at x i) word.Include q.1.1.0) ∙ include_is_name, q.1.1.1, q.1.1.2), q.1.2)))
 
   module _ (t : Text) (i : ℕ) where
-    types_back : is_in (symbol.Typedef ∷ []) (symbol_at t i) ≡ true → (lifted : Lifted) (x : Text) → lexeme_at x i ≡ lexeme_at t i → (c : BodyElement) (j : ℕ) → body_element depth c lifted x i j → types c lifted x i j
+    types_back : is_in (symbol.Typedef ∷ []) (symbol_at t i) ≡ true → (lifted : Lifted) (x : Text) → lexeme_at x i ≡ lexeme_at t i → (c : BodyElement) (j : ℕ) → body_element depth c lifted x i j
+        → types c lifted x i j
     unfolding body_element
     types_back h lifted x e c j ph = by_case c ph where
       here : symbol_at x i ≡ symbol.Typedef
@@ -348,9 +369,11 @@ module _ (depth : ℕ) where
       by_case : (c : BodyElement) → body_element depth c lifted x i j → types c lifted x i j
       by_case (tree.Types at a names) q = ((at, (a, names)), refl, q)
       by_case (tree.Include at files) q = absurd (let d : symbol.Typedef ≡ word.Include = sym here ∙ q.1.1.0 in omega arith)
-      by_case (tree.Operation at a name ps) q = clash (is_in name_firsts (symbol_at x i)) (operation_line_begins lifted x i j (a, (name, ps)) q.1) (ap (λ (s : ℕ). is_in name_firsts s) here ∙ no_typedef)
+      by_case (tree.Operation at a name ps) q =
+          clash (is_in name_firsts (symbol_at x i)) (operation_line_begins lifted x i j (a, (name, ps)) q.1) (ap (λ (s : ℕ). is_in name_firsts s) here ∙ no_typedef)
 
-    includes_back : is_in (word.Include ∷ []) (symbol_at t i) ≡ true → (lifted : Lifted) (x : Text) → lexeme_at x i ≡ lexeme_at t i → (c : BodyElement) (j : ℕ) → body_element depth c lifted x i j → includes c lifted x i j
+    includes_back : is_in (word.Include ∷ []) (symbol_at t i) ≡ true → (lifted : Lifted) (x : Text) → lexeme_at x i ≡ lexeme_at t i → (c : BodyElement) (j : ℕ) → body_element depth c lifted x i j
+        → includes c lifted x i j
     unfolding body_element
     includes_back h lifted x e c j ph = by_case c ph where
       here : symbol_at x i ≡ word.Include
@@ -364,8 +387,11 @@ module _ (depth : ℕ) where
       by_case (tree.Include at files) q = ((at, (Rattle.idl_grammar.specs.Expressions.spelling (lexeme_at x i), inl files)), refl, (q.0, (q.1.0, (tested, refl, q.1.1.1), q.1.2)))
       by_case (tree.Operation at (Some a) name ps) q =
           clash (is_in (symbol.OpenSquare ∷ []) (symbol_at x i)) (attributes_begin depth lifted x i q.1.0 a q.1.1) (ap (λ (s : ℕ). is_in (symbol.OpenSquare ∷ []) s) here)
-      by_case (tree.Operation at None name ps) q =
-          ((at, (name, inr ps)), refl, (q.0, subst (λ (k : ℕ). include_line (name, inr ps) lifted x k j) q.1.1 (q.1.2.0, (ap (λ (k : ℕ). is (symbol_at x k) word.Include) q.1.1 ∙ tested, q.1.2.1.1, q.1.2.1.2), q.1.2.2)))
+      by_case (tree.Operation at None name ps) q = (
+        (at, (name, inr ps)),
+        refl,
+        (q.0, subst (λ (k : ℕ). include_line (name, inr ps) lifted x k j) q.1.1 (q.1.2.0, (ap (λ (k : ℕ). is (symbol_at x k) word.Include) q.1.1 ∙ tested, q.1.2.1.1, q.1.2.1.2), q.1.2.2)),
+      )
 
     operations_back : is_in (symbol.Typedef ∷ []) (symbol_at t i) ≡ false → is_in (word.Include ∷ []) (symbol_at t i) ≡ false
         → (lifted : Lifted) (x : Text) → lexeme_at x i ≡ lexeme_at t i → (c : BodyElement) (j : ℕ) → body_element depth c lifted x i j → operations c lifted x i j
@@ -382,7 +408,8 @@ module _ (depth : ℕ) where
     no_types : i ≤ length t → is_in (symbol.Typedef ∷ []) (symbol_at t i) ≡ false → (b : Bool) → is_in (word.Include ∷ []) (symbol_at t i) ≡ b
         → Whole (cond b (include_read t depth (lexeme_at t i).at i) (operation_read t depth (lexeme_at t i).at i))
     no_types in_text h true g = changed_exact includes (body_element depth) includes_forth (stops []) t i (λ lifted x e c j ph stop. includes_back g lifted x e c j ph) _ (include_exact t i in_text)
-    no_types in_text h false g = changed_exact operations (body_element depth) operations_forth (stops []) t i (λ lifted x e c j ph stop. operations_back h g lifted x e c j ph) _ (operation_exact t i in_text)
+    no_types in_text h false g =
+        changed_exact operations (body_element depth) operations_forth (stops []) t i (λ lifted x e c j ph stop. operations_back h g lifted x e c j ph) _ (operation_exact t i in_text)
 
     by_word : i ≤ length t → (b : Bool) → is_in (symbol.Typedef ∷ []) (symbol_at t i) ≡ b
         → Whole (cond b (types_read t depth (lexeme_at t i).at i) (branch_read (word.Include ∷ []) t i (include_read t depth (lexeme_at t i).at i) (operation_read t depth (lexeme_at t i).at i)))

@@ -151,7 +151,8 @@ symbols_from token.Mark c = mark_from c
 all_from : (text : List ℕ) (tokens : List Token) → map lexeme_from (map (idl.lexeme_of text) tokens) ≡ map (lexeme_of text) tokens
 all_from text [] = refl
 all_from text (t ∷ ts) =
-    let e : lexeme_from (idl.lexeme_of text t) ≡ lexeme_of text t = ap (λ (s : ℕ). record { symbol = s; at = t.from; octets = (idl.lexeme_of text t).octets }) (symbols_from t.kind (idl.lexeme_of text t).octets) in
+    let e : lexeme_from (idl.lexeme_of text t) ≡ lexeme_of text t =
+    ap (λ (s : ℕ). record { symbol = s; at = t.from; octets = (idl.lexeme_of text t).octets }) (symbols_from t.kind (idl.lexeme_of text t).octets) in
     let rest = all_from text ts in
     cc
 
@@ -173,5 +174,6 @@ module _ (all : List program.Lexeme) (i : ℕ) (d : program.Lexeme) (h : i < len
       ∙ (ap (λ (s : ℕ). front ++ (record { symbol = s; at = here.at; octets = here.octets }) ∷ map lexeme_from (text_of (drop (suc i) all))) (sym is)
       ∙ sym (append_assoc front ((record { symbol = symbol; at = here.at; octets = here.octets }) ∷ []) (map lexeme_from (text_of (drop (suc i) all)))))))
 
-pub none_left : (all : List program.Lexeme) (i : ℕ) (front : Text) → length all ≤ i → map lexeme_from (text_of all) ≡ front ++ map lexeme_from (text_of (drop i all)) → map lexeme_from (text_of all) ≡ front
+pub none_left : (all : List program.Lexeme) (i : ℕ) (front : Text) → length all ≤ i → map lexeme_from (text_of all) ≡ front ++ map lexeme_from (text_of (drop i all))
+    → map lexeme_from (text_of all) ≡ front
 none_left all i front h e = e ∙ (ap (λ (ls : List program.Lexeme). front ++ map lexeme_from (text_of ls)) (drop_of_length-le all h) ∙ append-nil front)

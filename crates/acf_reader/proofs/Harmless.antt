@@ -2,7 +2,8 @@
 use Rattle.std.proofs.Common.{◌≡◌, ℕ, ◌+◌, ◌<◌, ◌≤◌, Bool, true, false, leb, List, [], ◌∷◌, length, refl, ap, arith, ◌∙◌, eq-eqb, inl, inr, Option, Some, None, Err}
 use Rattle.std.proofs.Math.Decide.{dec_lt}
 use Rattle.std.proofs.lemmas.Bool.{eqb-true}
-use Rattle.grammar_phrases.specs.Text.{Lexeme, Text, Phrase, Rel, Lifted, Depth, Ban, symbol_at, is, is_in, nothing, never, mark, token, unless, optional, many, located, bracketed, many_brackets, ◌▹◌, ◌⊗◌}
+use Rattle.grammar_phrases.specs.Text.{Lexeme, Text, Phrase, Rel, Lifted, Depth, Ban, symbol_at, is, is_in, nothing, never, mark, token, unless, optional, many, located, bracketed, many_brackets, ◌▹◌}
+use Rattle.grammar_phrases.specs.Text.{◌⊗◌}
 use Rattle.grammar_phrases.specs.Reading.{Passes, to_unit}
 use Rattle.grammar_phrases.specs.Verdict.{derives, limits_before_but, all_but}
 use Rattle.grammar_phrases.proofs.Parts.{clash}
@@ -109,7 +110,8 @@ commas_is : {A : Type 0} (P : Rel A) → ((a : A) → Harmless (P a)) → (list 
 commas_is P each [] = never_is
 commas_is P each (a ∷ others) = then_is (each a) (many_is (λ a. mark symbol.Comma ▹ P a) (λ a. then_is (mark_is symbol.Comma refl) (each a)) others)
 
-bracketed_is : {A : Type 0} (depth o c : ℕ) → leb 64 depth ≡ false → is symbol.Banned o ≡ false → is symbol.Banned c ≡ false → (P : Rel A) → ((a : A) → Harmless (P a)) → (a : A) → Harmless (bracketed depth o c P a)
+bracketed_is : {A : Type 0} (depth o c : ℕ) → leb 64 depth ≡ false → is symbol.Banned o ≡ false → is symbol.Banned c ≡ false → (P : Rel A) → ((a : A) → Harmless (P a)) → (a : A)
+    → Harmless (bracketed depth o c P a)
 bracketed_is depth o c low first last P each a = then_is (few_is depth low (mark_is o first)) (then_is (each a) (mark_is c last))
 
 round_is : {A : Type 0} (depth : ℕ) → leb 64 depth ≡ false → (P : Rel A) → ((a : A) → Harmless (P a)) → (a : A) → Harmless (in_round depth P a)
@@ -155,7 +157,8 @@ attribute_is depth low a = located_is (attribute_kind depth) (kind_is depth low)
 attributes_is : (depth : ℕ) → leb 64 depth ≡ false → leb 64 (depth + 1) ≡ false → (a : Attributes) → Harmless (attributes depth a)
 unfolding attributes
 attributes_is depth low inner a =
-    located_is _ (bracketed_is depth symbol.OpenSquare symbol.CloseSquare low refl refl (commas (attribute (depth + 1))) (commas_is (attribute (depth + 1)) (attribute_is (depth + 1) inner))) (a.at, a.list)
+    located_is _ (bracketed_is depth symbol.OpenSquare symbol.CloseSquare low refl refl (commas (attribute (depth + 1))) (commas_is (attribute (depth + 1)) (attribute_is (depth + 1) inner)))
+    (a.at, a.list)
 
 maybe_is : (depth : ℕ) → leb 64 depth ≡ false → leb 64 (depth + 1) ≡ false → (a : Option Attributes) → Harmless (optional (attributes depth) a)
 maybe_is depth low inner a = optional_is (attributes depth) (attributes_is depth low inner) a

@@ -36,13 +36,25 @@ small_file = record {
 abbrev pub small_tree : Acf
 small_tree = record {
   at = 0;
-  attributes = Some (record { at = 0; list = record { at = 1; kind = kind.ExplicitHandle } ∷ record { at = 18; kind = kind.ImplicitHandle handle.Handle (spelled_at 43 (codes "h")) } ∷ [] });
+  attributes =
+      Some (record {
+        at = 0;
+        list = record { at = 1; kind = kind.ExplicitHandle }
+            ∷ record { at = 18; kind = kind.ImplicitHandle handle.Handle (spelled_at 43 (codes "h")) }
+            ∷ [];
+      });
   name = (spelled_at 57 (codes "a"));
   body =
       tree.Include 61 ((spelled_at 69 (codes "\"b.h\"")) ∷ [])
-      ∷ tree.Types 76 (record { at = 84; list = record { at = 85; kind = kind.Heap } ∷ [] }) ((spelled_at 91 (codes "t")) ∷ (spelled_at 94 (codes "u")) ∷ [])
+      ∷ tree.Types 76 (record { at = 84; list = record { at = 85; kind = kind.Heap } ∷ [] })
+      ((spelled_at 91 (codes "t")) ∷ (spelled_at 94 (codes "u")) ∷ [])
       ∷ tree.Operation 97 (Some (record { at = 97; list = record { at = 98; kind = kind.Code } ∷ [] })) (spelled_at 104 (codes "f"))
-      (record { at = 106; attributes = None; name = (spelled_at 106 (codes "x")) } ∷ record { at = 109; attributes = Some (record { at = 109; list = record { at = 110; kind = kind.InLine } ∷ [] }); name = (spelled_at 119 (codes "in")) } ∷ [])
+      (record { at = 106; attributes = None; name = (spelled_at 106 (codes "x")) }
+      ∷ record {
+        at = 109;
+        attributes = Some (record { at = 109; list = record { at = 110; kind = kind.InLine } ∷ [] });
+        name = (spelled_at 119 (codes "in"));
+      } ∷ [])
       ∷ tree.Operation 124 None (spelled_at 124 (codes "include")) []
       ∷ [];
 }

@@ -66,7 +66,8 @@ parameters depth (p ∷ others) = commas (parameter depth) (p ∷ others)
 --       | [ aattrs ] Ident "(" [ aparam { "," aparam } ] ")" ";"
 unfoldable pub body_element : ℕ → Rel BodyElement
 body_element depth (tree.Include at files) = begins_at at (mark word.Include ▹ commas (spelled symbol.Quoted) files ▹ mark symbol.Semicolon)
-body_element depth (tree.Types at a names) = begins_at at (mark symbol.Typedef ▹ attributes depth a ▹ commas (ident false) names ▹ mark symbol.Semicolon)
+body_element depth (tree.Types at a names) =
+    begins_at at (mark symbol.Typedef ▹ attributes depth a ▹ commas (ident false) names ▹ mark symbol.Semicolon)
 body_element depth (tree.Operation at a name ps) =
     begins_at at (optional (attributes depth) a ▹ ident false name ▹ in_round depth (parameters (depth + 1)) ps ▹ mark symbol.Semicolon)
 
@@ -74,4 +75,5 @@ body_element depth (tree.Operation at a name ps) =
 unfoldable pub acf : Rel Acf
 acf f =
     begins_at f.at
-    (optional (attributes 0) f.attributes ▹ mark symbol.Interface ▹ ident false f.name ▹ bracketed 0 symbol.OpenCurly symbol.CloseCurly (many (body_element 1)) f.body)
+    (optional (attributes 0) f.attributes ▹ mark symbol.Interface ▹ ident false f.name ▹ bracketed 0 symbol.OpenCurly symbol.CloseCurly
+    (many (body_element 1)) f.body)

@@ -2,7 +2,8 @@
 -- brackets that are open at the place.
 use Rattle.std.specs.Prelude.{ℕ, ◌+◌, Bool, true, false, List, [], ◌∷◌, Option, None, Ok}
 use Rattle.grammar_phrases.specs.Text.{Text, lexeme_at, is_in, Ban}
-use Rattle.grammar_phrases.specs.Reading.{Read, then, turned, token_read, ruled_read, mark_read, to_unit, located_read, option_read, list_read, behind_read}
+use Rattle.grammar_phrases.specs.Reading.{Read, then, turned, token_read, ruled_read, mark_read, to_unit, located_read, option_read, list_read}
+use Rattle.grammar_phrases.specs.Reading.{behind_read}
 use Rattle.idl_grammar.specs.declared.words.Spelling.{Spelling}
 use Rattle.idl_grammar.specs.Symbols as symbol
 use Rattle.idl_grammar.specs.Limits.{Meant, meant}
@@ -39,13 +40,16 @@ implicit_handle_read t depth i = behind_read word.ImplicitHandle t (in_round_rea
 -- attributes of one word
 abbrev pub one_word_attributes : List (Meant AttributeKind)
 one_word_attributes =
-    meant word.AutoHandle kind.AutoHandle ∷ meant word.ExplicitHandle kind.ExplicitHandle ∷ meant word.NoCode kind.NoCode ∷ meant word.InLine kind.InLine
-    ∷ meant word.OutOfLine kind.OutOfLine ∷ meant word.EnableAllocate kind.EnableAllocate ∷ meant word.Heap kind.Heap ∷ meant word.CommStatus kind.CommStatus
+    meant word.AutoHandle kind.AutoHandle ∷ meant word.ExplicitHandle kind.ExplicitHandle ∷ meant word.NoCode kind.NoCode
+    ∷ meant word.InLine kind.InLine
+    ∷ meant word.OutOfLine kind.OutOfLine ∷ meant word.EnableAllocate kind.EnableAllocate ∷ meant word.Heap kind.Heap
+    ∷ meant word.CommStatus kind.CommStatus
     ∷ meant word.FaultStatus kind.FaultStatus ∷ []
 
 abbrev pub one_word_symbols : List ℕ
 one_word_symbols =
-    word.AutoHandle ∷ word.ExplicitHandle ∷ word.NoCode ∷ word.InLine ∷ word.OutOfLine ∷ word.EnableAllocate ∷ word.Heap ∷ word.CommStatus ∷ word.FaultStatus ∷ []
+    word.AutoHandle ∷ word.ExplicitHandle ∷ word.NoCode ∷ word.InLine ∷ word.OutOfLine ∷ word.EnableAllocate ∷ word.Heap ∷ word.CommStatus
+    ∷ word.FaultStatus ∷ []
 
 abbrev pub code_symbols : List ℕ
 code_symbols = word.Code ∷ symbol.BannedAttribute ∷ []

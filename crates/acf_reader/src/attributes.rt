@@ -9,7 +9,8 @@ ghost use Rattle.idl_tokens.specs.Found.{found};
 ghost use Rattle.acf_reader.specs.declared.tree.AttributeKind.TheVariants as kinds;
 ghost use Rattle.acf_reader.specs.Symbols.{names};
 ghost use Rattle.acf_reader.specs.Seen.{seen_attributes};
-ghost use Rattle.acf_reader.specs.Reading.{ident_read, handle_type_read, variable_read, implicit_handle_read, one_word_attributes, code_read, attribute_kind_read, attribute_read, attributes_read, maybe_attributes_read};
+ghost use Rattle.acf_reader.specs.Reading.{ident_read, handle_type_read, variable_read, implicit_handle_read, one_word_attributes, code_read};
+ghost use Rattle.acf_reader.specs.Reading.{attribute_kind_read, attribute_read, attributes_read, maybe_attributes_read};
 
 use crate::tree::{Attribute, AttributeKind, Attributes, HandleType};
 use crate::words;

@@ -8,7 +8,8 @@ ghost use Rattle.idl_grammar.specs.ReadExpressions.{spelled_read};
 ghost use Rattle.idl_grammar.specs.Reading.{commas_read};
 ghost use Rattle.acf_reader.specs.Symbols.{Include};
 ghost use Rattle.acf_reader.specs.Seen.{seen_parameter, seen_element, seen_acf};
-ghost use Rattle.acf_reader.specs.Reading.{ident_read, parameter_read, parameters_read, signature_read, types_read, include_read, operation_read, element_read, element_firsts, body_read, acf_read};
+ghost use Rattle.acf_reader.specs.Reading.{ident_read, parameter_read, parameters_read, signature_read, types_read, include_read, operation_read};
+ghost use Rattle.acf_reader.specs.Reading.{element_read, element_firsts, body_read, acf_read};
 
 use crate::attributes::{attributes, ident, is_name, maybe_attributes};
 use crate::tree::{Acf, BodyElement, Parameter};

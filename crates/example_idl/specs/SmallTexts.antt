@@ -15,7 +15,9 @@ texts_that_break =
     ∷ breaks (codes "[local] interface t { typedef[context_handle]long*c; }") 9 22
     ∷ breaks (codes "[local] interface t { typedef [context_handle] void *c; struct s{c a;}; }") 10 65
     ∷ breaks (codes "[local] interface t { struct s{struct s a;}; }") 11 22
-    ∷ breaks (codes "[local] interface t { typedef long a[1][1][1][1][1][1][1][1][1][1][1][1][1][1][1][1][1][1][1][1][1][1][1][1][1][1][1][1][1][1][1][1]; }") 12 22
+    ∷ breaks
+    (codes "[local] interface t { typedef long a[1][1][1][1][1][1][1][1][1][1][1][1][1][1][1][1][1][1][1][1][1][1][1][1][1][1][1][1][1][1][1][1]; }")
+    12 22
     ∷ breaks (codes "[local] interface t { enum{A=32768}; }") 13 27
     ∷ breaks (codes "[local] interface t { typedef long a[0]; }") 14 22
     ∷ breaks (codes "[local] interface t { typedef long a[1..2]; }") 15 22

@@ -4,8 +4,10 @@ ghost use Rattle.nd_types.specs.Legal.{IsLegal};
 ghost use Rattle.idl_rule_definitions.specs.Texts.{told_of, no_rule, rule_at};
 ghost use Rattle.example_idl.specs.Interfaces.{meant_of, sum_text, sum_meant, directory_text, directory_meant};
 ghost use Rattle.example_idl.specs.SmallTexts.{texts_that_break, texts_that_keep};
-ghost use Rattle.example_idl.specs.Listings.{listing_of, listing_beside, sum_file, sum_listing, base_file, directory_file, directory_listing, forms_file, forms_listing};
-ghost use Rattle.example_idl.specs.AcfTexts.{told_with, acf_rule_at, told_of_directory, directory_acf, other_acf, small_idl, broken_idl, acf_names, acf_places};
+ghost use Rattle.example_idl.specs.Listings.{listing_of, listing_beside, sum_file, sum_listing, base_file, directory_file, directory_listing};
+ghost use Rattle.example_idl.specs.Listings.{forms_file, forms_listing};
+ghost use Rattle.example_idl.specs.AcfTexts.{told_with, acf_rule_at, told_of_directory, directory_acf, other_acf, small_idl, broken_idl, acf_names};
+ghost use Rattle.example_idl.specs.AcfTexts.{acf_places};
 
 /// For each rule a small text that breaks it, with the octet that is reported, and one near it that is accepted.
 pub fn small_texts_are_judged()

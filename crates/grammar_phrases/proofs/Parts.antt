@@ -1,5 +1,6 @@
 -- Exact readings of one token, of an option and of a list.
-use Rattle.std.proofs.Common.{◌≡◌, ℕ, zero, suc, ◌+◌, ◌-◌, ◌<◌, ◌≤◌, Bool, true, false, List, [], ◌∷◌, ◌++◌, length, take, drop, refl, sym, ap, subst, arith, Ok, Err, ◌⊎◌, inl, inr, ◌∙◌, cond, Option, Some, None, length-take, add-zero, length-append, length-drop, eq-eqb}
+use Rattle.std.proofs.Common.{◌≡◌, ℕ, zero, suc, ◌+◌, ◌-◌, ◌<◌, ◌≤◌, Bool, true, false, List, [], ◌∷◌, ◌++◌, length, take, drop, refl, sym, ap, subst, arith, Ok, Err, ◌⊎◌, inl, inr, ◌∙◌, cond, Option}
+use Rattle.std.proofs.Common.{Some, None, length-take, add-zero, length-append, length-drop, eq-eqb}
 use Rattle.std.proofs.lemmas.Bool.{eqb-true}
 use Rattle.std.proofs.Math.Decide.{dec_lt}
 use Rattle.std.proofs.Math.ListN.{get_or-append}

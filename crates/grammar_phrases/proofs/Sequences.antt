@@ -3,8 +3,10 @@ use Rattle.std.proofs.Common.{◌≡◌, ℕ, suc, ◌<◌, ◌≤◌, Bool, tru
 use Rattle.std.specs.List.{list_all}
 use Rattle.std.proofs.lemmas.Bool.{leb-false, eqb-true}
 use Rattle.std.proofs.lemmas.Bool.Decides.{eqb_tells}
-use Rattle.grammar_phrases.specs.Text.{Lexeme, Text, lexeme_at, symbol_at, is, is_in, Depth, Lifted, Rel, many, token, optional, unless, ◌⊗◌, ◌⊳◌, ◌⊲◌, ◌∣◌, located, some_of, separated, many_brackets, bracketed, made}
-use Rattle.grammar_phrases.specs.Reading.{Read, join, then, turned, mark_read, to_unit, skip, ended, end_with, located_read, choice_read, option_read, list_read, some_read, behind_read, separated_read, open_read, bracketed_read}
+use Rattle.grammar_phrases.specs.Text.{Lexeme, Text, lexeme_at, symbol_at, is, is_in, Depth, Lifted, Rel, many, token, optional, unless, ◌⊗◌, ◌⊳◌, ◌⊲◌, ◌∣◌, located, some_of, separated, many_brackets}
+use Rattle.grammar_phrases.specs.Text.{bracketed, made}
+use Rattle.grammar_phrases.specs.Reading.{Read, join, then, turned, mark_read, to_unit, skip, ended, end_with, located_read, choice_read, option_read, list_read, some_read, behind_read}
+use Rattle.grammar_phrases.specs.Reading.{separated_read, open_read, bracketed_read}
 use Rattle.grammar_phrases.proofs.Exact.{Stops, Found, Exact, HasPhrase, Meets, pair_exact, Part, turned_exact}
 use Rattle.grammar_phrases.proofs.Parts.{clash, ruled_exact, ruled_has, optional_exact, many_exact, many_has, mark_exact, mark_has, marked, of_symbol, pair_has, turned_has, moves_of}
 
@@ -90,7 +92,8 @@ skip_exact {A = A} s P Stop t i real in_text has g exact =
     subst (λ (r : Read A). Exact (s ⊳ P) Stop t i r) (skip_is (mark_read s t i) g)
     (turned_exact (marked s ⊗ P) (s ⊳ P) (λ (p : Unit {0} × A). p.1) (λ lifted x i j a ph. ph) Stop t i
     (λ lifted x e c j ph stop. record { part = (tt, c); is = refl; phrase = ph }) (then (mark_read s t i) (λ u m. g m))
-    (pair_exact (marked s) P (stops []) Stop (λ lifted x m j b ph stop. refl) has t i (mark_read s t i) (λ u m. g m) (mark_exact s real (stops []) t i in_text) (λ u m found. exact m (omega (arith, (found.phrase (λ _ _. false) t (λ p lt. refl)).1)) found.within)))
+    (pair_exact (marked s) P (stops []) Stop (λ lifted x m j b ph stop. refl) has t i (mark_read s t i) (λ u m. g m) (mark_exact s real (stops []) t i in_text)
+    (λ u m found. exact m (omega (arith, (found.phrase (λ _ _. false) t (λ p lt. refl)).1)) found.within)))
 
 pub skip_has : {A : Type 0} (s : ℕ) (P : Rel A) → is 0 s ≡ false → HasPhrase P → HasPhrase (s ⊳ P)
 skip_has {A = A} s P real has = turned_has (marked s ⊗ P) (s ⊳ P) (λ (p : Unit {0} × A). p.1) (λ lifted x i j a ph. ph) (pair_has (marked s) P (mark_has s real) has)
@@ -172,13 +175,16 @@ located_begins P firsts begins lifted x i j a ph = begins lifted x i j a.1 ph.1
 
 -- ## one or the other
 
-module _ {A B : Type 0} (P : Rel A) (Q : Rel B) (firsts others : List ℕ) (begins : Begins P firsts) (else_begins : Begins Q others) (apart_is : disjoint others firsts ≡ true) (Stop : Stops) (t : Text) (i : ℕ) where
-  first_back : is_in firsts (symbol_at t i) ≡ true → (lifted : Lifted) (x : Text) → lexeme_at x i ≡ lexeme_at t i → (c : A ⊎ B) (j : ℕ) → (P ∣ Q) c lifted x i j → Stop x j → Part P (P ∣ Q) inl lifted x i j c
+module _ {A B : Type 0} (P : Rel A) (Q : Rel B) (firsts others : List ℕ) (begins : Begins P firsts) (else_begins : Begins Q others) (apart_is : disjoint others firsts ≡ true) (Stop : Stops)
+    (t : Text) (i : ℕ) where
+  first_back : is_in firsts (symbol_at t i) ≡ true → (lifted : Lifted) (x : Text) → lexeme_at x i ≡ lexeme_at t i → (c : A ⊎ B) (j : ℕ) → (P ∣ Q) c lifted x i j → Stop x j
+      → Part P (P ∣ Q) inl lifted x i j c
   first_back h lifted x e (inl a) j ph stop = record { part = a; is = refl; phrase = ph }
   first_back h lifted x e (inr b) j ph stop =
       clash (is_in firsts (symbol_at x i)) (ap (λ (l : Lexeme). is_in firsts l.symbol) e ∙ h) (apart others firsts (symbol_at x i) apart_is (else_begins lifted x i j b ph))
 
-  second_back : is_in firsts (symbol_at t i) ≡ false → (lifted : Lifted) (x : Text) → lexeme_at x i ≡ lexeme_at t i → (c : A ⊎ B) (j : ℕ) → (P ∣ Q) c lifted x i j → Stop x j → Part Q (P ∣ Q) inr lifted x i j c
+  second_back : is_in firsts (symbol_at t i) ≡ false → (lifted : Lifted) (x : Text) → lexeme_at x i ≡ lexeme_at t i → (c : A ⊎ B) (j : ℕ) → (P ∣ Q) c lifted x i j → Stop x j
+      → Part Q (P ∣ Q) inr lifted x i j c
   second_back h lifted x e (inl a) j ph stop = clash (is_in firsts (symbol_at x i)) (begins lifted x i j a ph) (ap (λ (l : Lexeme). is_in firsts l.symbol) e ∙ h)
   second_back h lifted x e (inr b) j ph stop = record { part = b; is = refl; phrase = ph }
 
@@ -234,7 +240,8 @@ module _ {A : Type 0} (P : Rel A) (firsts ends all : List ℕ) (begins : Begins 
       turned_exact (P ⊗ many P) (some_of P) (λ p. p.0 ∷ p.1) (λ lifted x i j a ph. ph) (stops all) t i back _
       (pair_exact P (many P) (stops ends) (stops all) (meets_or (many P) firsts ends all (list_begins P firsts begins) d sub) (many_has P) t i (item i) _ (exact i based in_text)
       (λ a m found. list_exact m (omega (arith, found.after)) found.within)) where
-        back : (lifted : Lifted) (x : Text) → lexeme_at x i ≡ lexeme_at t i → (c : List A) (j : ℕ) → some_of P c lifted x i j → stops all x j → Part (P ⊗ many P) (some_of P) (λ p. p.0 ∷ p.1) lifted x i j c
+        back : (lifted : Lifted) (x : Text) → lexeme_at x i ≡ lexeme_at t i → (c : List A) (j : ℕ) → some_of P c lifted x i j → stops all x j
+            → Part (P ⊗ many P) (some_of P) (λ p. p.0 ∷ p.1) lifted x i j c
         back lifted x e [] j ph stop = absurd ph
         back lifted x e (a ∷ others) j ph stop = record { part = (a, others); is = refl; phrase = ph }
 
@@ -257,9 +264,11 @@ module _ {A : Type 0} (s : ℕ) (P : Rel A) (ends all : List ℕ) (has : HasPhra
   pub separated_exact : (i : ℕ) → base ≤ i → i ≤ length t → Exact (separated s P) (stops all) t i (separated_read s t item i)
   separated_exact i based in_text =
       turned_exact (P ⊗ many (s ⊳ P)) (separated s P) (λ p. p.0 ∷ p.1) (λ lifted x i j a ph. ph) (stops all) t i back _
-      (pair_exact P (many (s ⊳ P)) (stops ends) (stops all) (meets_or (many (s ⊳ P)) (s ∷ []) ends all (list_begins (s ⊳ P) (s ∷ []) (skip_begins s P)) d sub) (many_has (s ⊳ P)) t i (item i) _ (exact i based in_text)
+      (pair_exact P (many (s ⊳ P)) (stops ends) (stops all) (meets_or (many (s ⊳ P)) (s ∷ []) ends all (list_begins (s ⊳ P) (s ∷ []) (skip_begins s P)) d sub) (many_has (s ⊳ P)) t i (item i) _
+      (exact i based in_text)
       (λ a m found. list_exact (s ⊳ P) (s ∷ []) ends all (skip_begins s P) not_end go sub d t base (behind_read s t item) behind_exact m (omega (arith, found.after)) found.within)) where
-        back : (lifted : Lifted) (x : Text) → lexeme_at x i ≡ lexeme_at t i → (c : List A) (j : ℕ) → separated s P c lifted x i j → stops all x j → Part (P ⊗ many (s ⊳ P)) (separated s P) (λ p. p.0 ∷ p.1) lifted x i j c
+        back : (lifted : Lifted) (x : Text) → lexeme_at x i ≡ lexeme_at t i → (c : List A) (j : ℕ) → separated s P c lifted x i j → stops all x j
+            → Part (P ⊗ many (s ⊳ P)) (separated s P) (λ p. p.0 ∷ p.1) lifted x i j c
         back lifted x e [] j ph stop = absurd ph
         back lifted x e (a ∷ others) j ph stop = record { part = (a, others); is = refl; phrase = ph }
 
@@ -294,7 +303,8 @@ module _ {A : Type 0} (depth o c : ℕ) (P : Rel A) (real : is 0 o ≡ false) (c
   bracket_back lifted x i j a ph = (ph.0, (ph.1.0, (eq-eqb (symbol_at x i) o ph.1.1.0, refl, ph.1.1.1)), ph.2)
 
   pub bracketed_has : HasPhrase P → HasPhrase (bracketed depth o c P)
-  bracketed_has has = turned_has bracket_parts (bracketed depth o c P) (λ (p : Unit {0} × A). p.1) bracket_forth (pair_has (opening depth o) (P ⊲ c) (opening_has depth o real) (end_has P c close_real has))
+  bracketed_has has =
+      turned_has bracket_parts (bracketed depth o c P) (λ (p : Unit {0} × A). p.1) bracket_forth (pair_has (opening depth o) (P ⊲ c) (opening_has depth o real) (end_has P c close_real has))
 
   pub bracketed_begins : Begins (bracketed depth o c P) (o ∷ [])
   bracketed_begins lifted x i j a ph = ap (λ (b : Bool). b || false) (eq-eqb (symbol_at x i) o ph.1.1.0)
@@ -326,7 +336,8 @@ pub made_begins : {A C : Type 0} (make : A → C) (P : Rel A) (firsts : List ℕ
 made_begins make P firsts begins lifted x i j c ph = begins lifted x i j ph.0 ph.2
 
 -- what may be empty, and what then begins
-pub or_pair_begins : {A B : Type 0} (P : Rel A) (Q : Rel B) (firsts others all : List ℕ) → BeginsOr P firsts → Begins Q others → subset firsts all ≡ true → subset others all ≡ true → Begins (P ⊗ Q) all
+pub or_pair_begins : {A B : Type 0} (P : Rel A) (Q : Rel B) (firsts others all : List ℕ) → BeginsOr P firsts → Begins Q others → subset firsts all ≡ true → subset others all ≡ true
+    → Begins (P ⊗ Q) all
 or_pair_begins P Q firsts others all p q s r lifted x i j c ph = elim (p lifted x i ph.0 c.0 ph.1) as (λ _. is_in all (symbol_at x i) ≡ true) [
   | inl first ↦ in_more firsts all (symbol_at x i) s first
   | inr empty ↦ in_more others all (symbol_at x i) r (subst (λ (k : ℕ). is_in others (symbol_at x k) ≡ true) empty (q lifted x ph.0 j c.1 ph.2))

@@ -33,7 +33,8 @@ token_read good see t i = cond (good (lexeme_at t i)) (Ok (see (lexeme_at t i), 
 
 -- the same, where a rule may refuse it
 abbrev pub ruled_read : {A : Type 0} → Rule → (Text → ℕ → Bool) → (Lexeme → Bool) → (Lexeme → A) → Text → ℕ → Read A
-ruled_read rule refused good see t i = cond (good (lexeme_at t i)) (cond (refused t i) (Err (Passes rule i)) (Ok (see (lexeme_at t i), i + 1))) (Err (Syntax i))
+ruled_read rule refused good see t i =
+    cond (good (lexeme_at t i)) (cond (refused t i) (Err (Passes rule i)) (Ok (see (lexeme_at t i), i + 1))) (Err (Syntax i))
 
 abbrev pub mark_read : ℕ → Text → ℕ → Read (Unit {0})
 mark_read s t i = cond (is (symbol_at t i) s) (Ok (tt, i + 1)) (Err (Syntax i))

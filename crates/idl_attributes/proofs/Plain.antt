@@ -10,7 +10,8 @@ use Rattle.idl_grammar.specs.Reading.{one_of_read, plain_words, local_read}
 use Rattle.idl_tokens.specs.Found.{found}
 use Rattle.idl_tokens.proofs.Basics.{one_of_found, one_of_none, found_within}
 
-pub plain_found : (t : Text) (i : ℕ) (o : Option AttributeKind) (k : AttributeKind) → option_map seen_kind o ≡ found plain_words (symbol_at t i) → o ≡ Some k → one_of_read tree.Maybe plain_words t i ≡ Ok (seen_kind k, i + 1)
+pub plain_found : (t : Text) (i : ℕ) (o : Option AttributeKind) (k : AttributeKind) → option_map seen_kind o ≡ found plain_words (symbol_at t i) → o ≡ Some k
+    → one_of_read tree.Maybe plain_words t i ≡ Ok (seen_kind k, i + 1)
 plain_found t i o k h e = one_of_found tree.Maybe plain_words t i (seen_kind k) (sym h ∙ ap (option_map seen_kind) e)
 
 pub plain_none : (t : Text) (i : ℕ) (o : Option AttributeKind) → option_map seen_kind o ≡ found plain_words (symbol_at t i) → o ≡ None → one_of_read tree.Maybe plain_words t i ≡ Err (Syntax i)

@@ -7,7 +7,10 @@ ghost use Rattle.idl_grammar.specs.Symbols as symbols;
 ghost use Rattle.idl_grammar.specs.Tree as tree;
 ghost use Rattle.idl_grammar.specs.Grammar.{class_words, variable_words};
 ghost use Rattle.idl_grammar.specs.ReadExpressions.{spelled_read, outer_read};
-ghost use Rattle.idl_grammar.specs.Reading.{one_of_read, commas_read, pointer_class_read, variable_word_read, variable_name_read, plain_words, local_read, uuid_read, version_numbers_read, version_read, endpoint_read, pointer_default_read, variable_read, switch_attribute_read, case_attribute_read, bracket_attribute_read, attribute_kind_read, attribute_read, attributes_read, maybe_attributes_read};
+ghost use Rattle.idl_grammar.specs.Reading.{one_of_read, commas_read, pointer_class_read, variable_word_read, variable_name_read, plain_words};
+ghost use Rattle.idl_grammar.specs.Reading.{local_read, uuid_read, version_numbers_read, version_read, endpoint_read, pointer_default_read};
+ghost use Rattle.idl_grammar.specs.Reading.{variable_read, switch_attribute_read, case_attribute_read, bracket_attribute_read, attribute_kind_read};
+ghost use Rattle.idl_grammar.specs.Reading.{attribute_read, attributes_read, maybe_attributes_read};
 ghost use Rattle.idl_grammar.specs.Seen.{seen_expr, seen_kind, seen_attribute, seen_attributes};
 ghost use Rattle.idl_tokens.specs.Found.{found};
 

@@ -9,15 +9,18 @@ use Rattle.idl_grammar.specs.Tree as idl
 use Rattle.idl_scope.specs.Known.{Known}
 use Rattle.acf_reader.specs.declared.tree.Attribute.{Attribute}
 use Rattle.acf_reader.specs.Tree.{Parameter, BodyElement, Include, Types, Operation, Acf}
-use Rattle.idl_rule_definitions.specs.Nodes.{Construct, place_in, Node, HeaderNode, AttributeNode, SwitchNode, TagNode, BodyNode, EnumeratorNode, LabelNode, EmptyArmNode, DeclaratorNode, ConstantNode, TypeNode, OperationNode}
+use Rattle.idl_rule_definitions.specs.Nodes.{Construct, place_in, Node, HeaderNode, AttributeNode, SwitchNode, TagNode, BodyNode, EnumeratorNode, LabelNode, EmptyArmNode, DeclaratorNode, ConstantNode}
+use Rattle.idl_rule_definitions.specs.Nodes.{TypeNode, OperationNode}
 use Rattle.idl_rule_definitions.specs.Types.{Names, switch_type, is_void, is_handle, is_pipe, is_context}
 use Rattle.idl_rule_definitions.specs.AttributeRules.{is_out_of_place, is_repeated, lacks_uuid_and_local, is_large_version, is_second_class}
 use Rattle.idl_rule_definitions.specs.DeclarationRules.{has_no_body, lacks_switch_type, is_wrongly_cased, has_class, has_string, lacks_direction}
 use Rattle.idl_rule_definitions.specs.ValueRules.{is_large_enumerator, has_lower_bounds, is_bad_label, is_wrong_constant, is_void_constant, is_handle_constant}
-use Rattle.idl_rule_definitions.specs.TypeRules.{holds_void, holds_handle, holds_pipe, is_no_context_handle, holds_context_handle, in_tag, contains_itself, is_deep_body, holds_deep_array, is_wrong_result}
+use Rattle.idl_rule_definitions.specs.TypeRules.{holds_void, holds_handle, holds_pipe, is_no_context_handle, holds_context_handle, in_tag, contains_itself, is_deep_body, holds_deep_array}
+use Rattle.idl_rule_definitions.specs.TypeRules.{is_wrong_result}
 use Rattle.idl_rule_definitions.specs.ArrayRules.{has_wrong_counts, has_wrong_dimensions, has_wrong_elements, hoists_before_last, is_hoisting_arm, holds_wrong_pipe}
 use Rattle.idl_rule_definitions.specs.PointerRules.{has_class_without_pointer, holds_pointer_without_class, holds_pointer_to_reference, is_nullable_out, is_wrong_out}
-use Rattle.idl_rule_definitions.specs.VariableRules.{may_not_be_switched, holds_nonencapsulated_union, has_wrong_switch, is_wrong_text, is_wrongly_sized, is_wrongly_varying, has_no_variable, has_wrong_variable}
+use Rattle.idl_rule_definitions.specs.VariableRules.{may_not_be_switched, holds_nonencapsulated_union, has_wrong_switch, is_wrong_text, is_wrongly_sized, is_wrongly_varying, has_no_variable}
+use Rattle.idl_rule_definitions.specs.VariableRules.{has_wrong_variable}
 use Rattle.idl_rule_definitions.specs.CountRules.{too_many}
 use Rattle.idl_rule_definitions.specs.World.{World}
 use Rattle.idl_rule_definitions.specs.Meaning.{main_among}
@@ -26,7 +29,8 @@ use Rattle.idl_rule_definitions.specs.Rules.{Breach, breach, broken_at, broken_i
 use Rattle.idl_rule_definitions.specs.FirstBroken.{comes_before, rank, earlier, first_of, first_broken, IsLeast}
 use Rattle.idl_rule_definitions.proofs.Order as order
 use Rattle.idl_check.specs.AcfRules as acf
-use Rattle.idl_check.specs.AcfRules.{is_misplaced, is_of_type, is_of_operation, is_of_parameter, is_no_type, is_no_parameter, attribute_list, parameters_found, breaches_of_parameter, breaches_of_operation, breaches_of_element, breaks_header, breaches_beside, acf_breaches, all_breaches, first_of_all, or_else}
+use Rattle.idl_check.specs.AcfRules.{is_misplaced, is_of_type, is_of_operation, is_of_parameter, is_no_type, is_no_parameter, attribute_list, parameters_found, breaches_of_parameter}
+use Rattle.idl_check.specs.AcfRules.{breaches_of_operation, breaches_of_element, breaks_header, breaches_beside, acf_breaches, all_breaches, first_of_all, or_else}
 
 -- ## The other rules are less than 40
 
@@ -45,7 +49,10 @@ low c rule at true e = next_low (breach rule (place_in c at)) [] e none_low
 
 low_of_use : (s : Scene) (u : Use) → Low (breaches_of_use s u)
 low_of_use s u =
-    both (both (both (both (both (both (both (both (both (both (both (both (both (both (both (both (both (both (both (both (both (both (both (both (both (both (both ((low u.construct 6 u.construct.at (holds_void u) refl))
+    both (both
+    (both (both
+    (both (both
+    (both (both (both (both (both (both (both (both (both (both (both (both (both (both (both (both (both (both (both (both (both ((low u.construct 6 u.construct.at (holds_void u) refl))
     (low u.construct 7 u.construct.at (holds_handle u) refl))
     (low u.construct 8 u.construct.at (holds_pipe u) refl))
     (low u.construct 9 u.construct.at (is_no_context_handle u) refl))

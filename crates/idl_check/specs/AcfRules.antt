@@ -13,7 +13,8 @@ use Rattle.idl_scope.specs.Steps.{parameters_of}
 use Rattle.acf_reader.specs.declared.tree.HandleType.{HandleType}
 use Rattle.acf_reader.specs.declared.tree.HandleType.TheVariants as handle
 use Rattle.acf_reader.specs.declared.tree.AttributeKind.{AttributeKind}
-use Rattle.acf_reader.specs.declared.tree.AttributeKind.TheVariants.{AutoHandle, ExplicitHandle, ImplicitHandle, Code, NoCode, InLine, OutOfLine, EnableAllocate, Heap, CommStatus, FaultStatus}
+use Rattle.acf_reader.specs.declared.tree.AttributeKind.TheVariants.{AutoHandle, ExplicitHandle, ImplicitHandle, Code, NoCode, InLine, OutOfLine}
+use Rattle.acf_reader.specs.declared.tree.AttributeKind.TheVariants.{EnableAllocate, Heap, CommStatus, FaultStatus}
 use Rattle.acf_reader.specs.declared.tree.Attribute.{Attribute}
 use Rattle.acf_reader.specs.Tree.{Attributes, Parameter, BodyElement, Include, Types, Operation, Acf}
 use Rattle.idl_rule_definitions.specs.World.{World}
@@ -113,7 +114,8 @@ breaches_of_parameter ps p = broken_at p.at (is_misplaced is_of_parameter (attri
 -- of an operation; where the IDL has none of its name its parameters are not asked for
 abbrev pub breaches_of_operation : ℕ → List Attribute → List Parameter → Option (List idl.Parameter) → List Breach
 breaches_of_operation at attributes parameters None = broken_at at true
-breaches_of_operation at attributes parameters (Some ps) = broken_at at (is_misplaced is_of_operation attributes) ++ flat_map (breaches_of_parameter ps) parameters
+breaches_of_operation at attributes parameters (Some ps) =
+    broken_at at (is_misplaced is_of_operation attributes) ++ flat_map (breaches_of_parameter ps) parameters
 
 abbrev pub breaches_of_element : Known → Tree → BodyElement → List Breach
 breaches_of_element known main (Include at files) = []

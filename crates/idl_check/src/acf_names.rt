@@ -149,7 +149,8 @@ fn operation_name(export: &Export) -> Option<&Identifier>
 
 /// Gives the name of a declaration its number, if it is an operation. Takes memory for the name.
 fn add_operation(numbers: &mut Table<usize>, export: &Export, number: usize) -> Result<(), Memory>
-    ensures { (left : List idl.Export) → AreOperations (suc number) left numbers.old → OnOk result (AreOperations number (seen_export export.now ∷ left) numbers.new) }
+    ensures { (left : List idl.Export) → AreOperations (suc number) left numbers.old
+        → OnOk result (AreOperations number (seen_export export.now ∷ left) numbers.new) }
 {
     match operation_name(export) {
         Some(name) => numbers.put(name.as_slice(), number),

@@ -1,6 +1,6 @@
 // The rule on attribute configuration files (C706, section 4.3): their interface, types, operations and parameters are names of the IDL, and their
-// attributes stand in their places. It is the fortieth, and is reported where the file, the element of its body or the parameter begins in which it is
-// broken.
+// attributes stand in their places. It is the fortieth, and is reported where the file, the element of its body or the parameter begins in which it
+// is broken.
 ghost use Rattle.std.specs.Prelude.{◌≡◌, ◌||◌, Some, map, option_map, IfOk};
 ghost use Rattle.std.specs.List.{flat_map, list_any};
 ghost use Rattle.idl_grammar.specs.Tree as idl;
@@ -14,7 +14,8 @@ ghost use Rattle.idl_rule_definitions.specs.Found.{seen_breach};
 ghost use Rattle.idl_rule_definitions.specs.Noted.{noted};
 ghost use Rattle.idl_check.specs.SeenAcf.{belongs};
 ghost use Rattle.idl_check.specs.declared.acf_places.Spot.TheVariants as spot;
-ghost use Rattle.idl_check.specs.AcfRules.{acf_file, broken_at, is_misplaced, breaches_of_parameter, breaches_of_operation, breaches_of_element, breaks_header, is_no_type, has_unknown_handle, acf_breaches};
+ghost use Rattle.idl_check.specs.AcfRules.{acf_file, broken_at, is_misplaced, breaches_of_parameter, breaches_of_operation, breaches_of_element};
+ghost use Rattle.idl_check.specs.AcfRules.{breaks_header, is_no_type, has_unknown_handle, acf_breaches};
 
 use crate::acf_names::{
     NamedOperations, any_is_no_type, any_unknown_handle, is_no_parameter, operations_of,
@@ -108,8 +109,10 @@ fn element(
     one: &BodyElement,
 )
     ensures files { finder.new.files.now ≡ finder.old.files.now }
-    ensures first { (w : World) (main : idl.Tree) → w.files ≡ seen_files finder.old.files.now → main.exports ≡ map of_idl.seen_export operations.now.exports.now
-        → option_map seen_breach finder.new.first ≡ noted w (option_map seen_breach finder.old.first) (breaches_of_element (known_in scope.now) main (seen_element one.now)) }
+    ensures first { (w : World) (main : idl.Tree) → w.files ≡ seen_files finder.old.files.now
+        → main.exports ≡ map of_idl.seen_export operations.now.exports.now
+        → option_map seen_breach finder.new.first
+        ≡ noted w (option_map seen_breach finder.old.first) (breaches_of_element (known_in scope.now) main (seen_element one.now)) }
 {
     match one {
         BodyElement::Include { .. } => {}
@@ -145,7 +148,8 @@ fn elements(
     body: &[BodyElement],
 )
     ensures files { finder.new.files.now ≡ finder.old.files.now }
-    ensures first { (w : World) (main : idl.Tree) → w.files ≡ seen_files finder.old.files.now → main.exports ≡ map of_idl.seen_export operations.now.exports.now
+    ensures first { (w : World) (main : idl.Tree) → w.files ≡ seen_files finder.old.files.now
+        → main.exports ≡ map of_idl.seen_export operations.now.exports.now
         → option_map seen_breach finder.new.first ≡ noted w (option_map seen_breach finder.old.first)
         (flat_map (breaches_of_element (known_in scope.now) main) (map seen_element body.now)) }
 {
@@ -156,7 +160,8 @@ fn elements(
 
 /// Whether the attributes of the interface break the rule.
 fn breaks_attributes(scope: &Scope, attributes: &[Attribute]) -> bool
-    ensures { result ≡ (is_misplaced (belongs spot.Interface) attributes.now || list_any (λ a. has_unknown_handle (known_in scope.now) a.kind) attributes.now) }
+    ensures { result
+        ≡ (is_misplaced (belongs spot.Interface) attributes.now || list_any (λ a. has_unknown_handle (known_in scope.now) a.kind) attributes.now) }
 {
     is_misplaced(Spot::Interface, attributes) || any_unknown_handle(scope, attributes)
 }
@@ -171,7 +176,8 @@ fn breaks_header(scope: &Scope, main: &Tree, acf: &Acf) -> bool
 
 /// The first breach of the rule in an attribute configuration file, if it is broken. Takes memory for the names of operations.
 pub(crate) fn acf_breach(alloc: Global, scope: &Scope, acf: &Acf) -> Result<Option<Breach>, Memory>
-    ensures { IfOk result (λ b. option_map seen_breach b ≡ first_of (world_of scope.now) (acf_breaches (world_of scope.now) (Some (seen_acf acf.now)))) }
+    ensures { IfOk result
+        (λ b. option_map seen_breach b ≡ first_of (world_of scope.now) (acf_breaches (world_of scope.now) (Some (seen_acf acf.now)))) }
 {
     let main = main_tree(scope);
     let operations = operations_of(alloc, main.exports.as_slice())?;

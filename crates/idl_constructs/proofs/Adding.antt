@@ -119,7 +119,8 @@ module _ {X : Type 0} (part : List Declared → ℕ → List X → List Node) (o
       → AddsOf b end number (λ all. part all next (drop (i + 1) xs)) → AddsOf a end number (λ all. part all s (drop i xs))
   turn_of a b number s next i x below is e here end rest = λ all h.
       adds_as a end (one all s x ++ part all next (drop (i + 1) xs)) (part all s (drop i xs))
-      (sym (ap (λ l. part all s l) (drop_more xs i x below ∙ ap (λ y. y ∷ drop (i + 1) xs) (sym is)) ∙ (cons all s x (drop (i + 1) xs) ∙ ap (λ n. one all s x ++ part all n (drop (i + 1) xs)) (sym e))))
+      (sym (ap (λ l. part all s l) (drop_more xs i x below ∙ ap (λ y. y ∷ drop (i + 1) xs) (sym is))
+      ∙ (cons all s x (drop (i + 1) xs) ∙ ap (λ n. one all s x ++ part all n (drop (i + 1) xs)) (sym e))))
       (of_both a b end number (λ l. one l s x) (λ l. part l next (drop (i + 1) xs)) here rest all h)
 
   pub over_of : (a : Nodes) (number s i : ℕ) → length xs ≤ i → ((all : List Declared) → part all s [] ≡ []) → AddsOf a a number (λ all. part all s (drop i xs))

@@ -7,7 +7,8 @@ use Rattle.idl_grammar.specs.Reading.{MemberParts}
 use Rattle.idl_constructs.specs.declared.nodes.Declared as declared
 use Rattle.idl_constructs.specs.declared.nodes.Node as program_node
 use Rattle.idl_constructs.specs.declared.nodes.Nodes as program_nodes
-use Rattle.idl_rule_definitions.specs.Nodes.{Construct, Declared, declared, Node, inside, InMember, attribute_nodes, type_nodes, declarator_nodes, parameter_construct, DeclaratorNode}
+use Rattle.idl_rule_definitions.specs.Nodes.{Construct, Declared, declared, Node, inside, InMember, attribute_nodes, type_nodes, declarator_nodes}
+use Rattle.idl_rule_definitions.specs.Nodes.{parameter_construct, DeclaratorNode}
 use Rattle.idl_constructs.specs.SeenNodes.{list_found, list_at, seen_node}
 
 -- Each list keeps its number.

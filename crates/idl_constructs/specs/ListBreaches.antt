@@ -13,7 +13,8 @@ use Rattle.idl_rule_definitions.specs.declared.rule.TheConstants as Rule
 
 abbrev pub attribute_breaches : Construct → List Attribute → Attribute → List Breach
 attribute_breaches c before a =
-    broken_at c Rule.ATTRIBUTES_IN_PLACE a.at (is_out_of_place c.position a) ++ broken_at c Rule.NO_WORD_TWICE a.at (is_repeated before a) ++ broken_at c Rule.VERSION_NUMBERS a.at (is_large_version a)
+    broken_at c Rule.ATTRIBUTES_IN_PLACE a.at (is_out_of_place c.position a) ++ broken_at c Rule.NO_WORD_TWICE a.at (is_repeated before a)
+    ++ broken_at c Rule.VERSION_NUMBERS a.at (is_large_version a)
 
 -- those of a node
 abbrev pub list_breaches_at : Node → List Breach

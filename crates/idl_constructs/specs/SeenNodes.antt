@@ -25,10 +25,12 @@ seen_position position.CasedArm = rules.InCasedArm
 seen_position position.Operation = rules.InOperation
 
 abbrev pub seen_construct : program.Construct → Construct
-seen_construct c = record { file = c.file; position = seen_position c.position; at = c.at; attributes = map seen_attribute c.attributes.now; default = c.default }
+seen_construct c =
+    record { file = c.file; position = seen_position c.position; at = c.at; attributes = map seen_attribute c.attributes.now; default = c.default }
 
 abbrev pub seen_declared : declared.Declared → Declared
-seen_declared d = record { construct = seen_construct d.construct; is_pipe = d.pipe; type = seen_type d.of.now; declarator = seen_declarator d.declarator.now }
+seen_declared d =
+    record { construct = seen_construct d.construct; is_pipe = d.pipe; type = seen_type d.of.now; declarator = seen_declarator d.declarator.now }
 
 -- the result of an operation
 abbrev pub seen_result : returned.Returned → Declared

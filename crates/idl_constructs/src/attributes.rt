@@ -1,7 +1,8 @@
 // What is in a list of attributes, as the first attribute of its kind says it.
 ghost use Rattle.std.specs.Prelude.{◌≡◌, map, option_map};
 ghost use Rattle.idl_grammar.specs.Seen.{seen_attribute, seen_attributes, seen_kind};
-ghost use Rattle.idl_rule_definitions.specs.Attributes.{attribute_list, class_in, class_said, default_class_in, default_said, switch_type_in, switch_said};
+ghost use Rattle.idl_rule_definitions.specs.Attributes.{attribute_list, class_in, class_said, default_class_in, default_said, switch_type_in};
+ghost use Rattle.idl_rule_definitions.specs.Attributes.{switch_said};
 
 use idl_grammar::{Attribute, AttributeKind, Attributes, PointerClass, SwitchType};
 

@@ -30,7 +30,8 @@ fn add_each<'t>(
     declarators: &'t [Declarator],
 ) -> Result<(), Memory>
     ensures { OnOk result (map seen_declared list.new.items
-        ≡ map seen_declared list.old.items ++ map (declared (seen_construct construct.now) (seen.seen_type of.now)) (map seen.seen_declarator declarators.now)) }
+        ≡ map seen_declared list.old.items
+        ++ map (declared (seen_construct construct.now) (seen.seen_type of.now)) (map seen.seen_declarator declarators.now)) }
 {
     for declarator in declarators {
         add(list, construct.declared(of, declarator))?;
@@ -44,7 +45,8 @@ pub fn members_declared<'t>(
     construct: &Construct<'t>,
     members: &'t Vec<Member>,
 ) -> Result<Vec<Declared<'t>>, Memory>
-    ensures { IfOk result (λ v. map seen_declared v.items ≡ declared_members (seen_construct construct.now) (members_of (map seen.seen_member members.now.items))) }
+    ensures { IfOk result
+        (λ v. map seen_declared v.items ≡ declared_members (seen_construct construct.now) (members_of (map seen.seen_member members.now.items))) }
 {
     let mut list = Vec::new(alloc);
     for member in members {
@@ -60,7 +62,8 @@ pub fn parameters_declared<'t>(
     construct: &Construct<'t>,
     parameters: &'t [Parameter],
 ) -> Result<Vec<Declared<'t>>, Memory>
-    ensures { IfOk result (λ v. map seen_declared v.items ≡ declared_parameters (seen_construct construct.now) (map seen.seen_parameter parameters.now)) }
+    ensures { IfOk result
+        (λ v. map seen_declared v.items ≡ declared_parameters (seen_construct construct.now) (map seen.seen_parameter parameters.now)) }
 {
     let mut list = Vec::new(alloc);
     for parameter in parameters {
@@ -104,7 +107,8 @@ fn cases_declared<'t>(
     cases: &'t Vec<Case>,
 ) -> Result<Vec<Declared<'t>>, Memory>
     ensures { IfOk result (λ v. map seen_declared v.items
-        ≡ flat_map (λ a. arm_declared (seen_construct construct.now) a.position a.arm) (arms_of_cases (cases_of (map seen.seen_case cases.now.items)))) }
+        ≡ flat_map (λ a. arm_declared (seen_construct construct.now) a.position a.arm)
+        (arms_of_cases (cases_of (map seen.seen_case cases.now.items)))) }
 {
     let mut list = Vec::new(alloc);
     for case in cases {

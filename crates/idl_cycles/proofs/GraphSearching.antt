@@ -1,8 +1,10 @@
 -- What a search keeps.
-use Rattle.std.proofs.Common.{◌≡◌, ℕ, suc, zero, ◌<◌, ◌≤◌, ◌+◌, Bool, true, false, not, eqb, cond, ◌&&◌, ◌||◌, ◌⊎◌, List, [], ◌∷◌, ◌++◌, length, get_or, set, take, replicate, Some, None, refl, sym, ap, ◌∙◌, subst, inl, inr, arith}
+use Rattle.std.proofs.Common.{◌≡◌, ℕ, suc, zero, ◌<◌, ◌≤◌, ◌+◌, Bool, true, false, not, eqb, cond, ◌&&◌, ◌||◌, ◌⊎◌, List, [], ◌∷◌, ◌++◌, length, get_or, set, take, replicate, Some, None, refl, sym}
+use Rattle.std.proofs.Common.{ap, ◌∙◌, subst, inl, inr, arith}
 use Rattle.std.specs.List.{list_all, list_any, slice_get}
 use Rattle.std.proofs.lemmas.Bool.{cases_eq, cases_lt, eqb-true, eq-eqb, ne_eqb}
-use Rattle.std.proofs.lemmas.List.{get_or-set_same, get_or-set_other, length-set, get_or_append_left, get_or_push, length_push, get_or_past, take_more, get_or_default, get_or-replicate, length-replicate}
+use Rattle.std.proofs.lemmas.List.{get_or-set_same, get_or-set_other, length-set, get_or_append_left, get_or_push, length_push, get_or_past, take_more, get_or_default, get_or-replicate}
+use Rattle.std.proofs.lemmas.List.{length-replicate}
 use Rattle.std.proofs.lemmas.Option.{none-some, slice_get_within, get_or_from_slice_get, slice_get-get_or}
 use Rattle.std.proofs.lemmas.List.Folds.{list_all-append, list_any-append}
 use Rattle.idl_cycles.specs.Graph.{parts_at, contains_itself}
@@ -93,7 +95,8 @@ comes_first number node seen queue seen' queue' h n s q =
       made : Comes number (node ∷ []) seen queue (set seen node number) (queue ++ node ∷ [])
       made = record {
         same = length-set seen node number;
-        counts = λ e. let t : times_in number (set seen node number) ≡ times_in number seen + 1 = times_more number seen node h n in let l : length (queue ++ node ∷ []) ≡ length queue + 1 = longer in omega arith;
+        counts = λ e. let t : times_in number (set seen node number) ≡ times_in number seen + 1 = times_more number seen node h n in let l : length (queue ++ node ∷ []) ≡ length queue + 1 =
+            longer in omega arith;
         stays = λ x m. elim (cases_eq x node) [ inl e ↦ there x e | inr o ↦ elsewhere x o ∙ m ];
         grows = let l : length (queue ++ node ∷ []) ≡ length queue + 1 = longer in omega arith;
         before = λ place l. get_or_append_left queue (node ∷ []) 0 place l;
@@ -101,7 +104,14 @@ comes_first number node seen queue seen' queue' h n s q =
             let e : length queue ≡ place = omega arith in
             or_left (eqb node (get_or (queue ++ node ∷ []) place 0)) false (eq-eqb node (get_or (queue ++ node ∷ []) place 0) (sym (get_or_push queue node 0 place e)));
         waits = λ x m. elim (cases_eq x node) [
-          | inl e ↦ inr (record { place = length queue; behind = omega arith; within = let l : length (queue ++ node ∷ []) ≡ length queue + 1 = longer in omega arith; there = get_or_push queue node 0 (length queue) refl ∙ sym e })
+          | inl e ↦ inr
+              (record {
+                place = length queue;
+                behind = omega arith;
+                within = let l : length (queue ++ node ∷ []) ≡ length queue + 1 = longer in
+                    omega arith;
+                there = get_or_push queue node 0 (length queue) refl ∙ sym e;
+              })
           | inr o ↦ inl (sym (elsewhere x o) ∙ m)
         ];
         marks = both (is_marked number (set seen node number) node) true here refl;
@@ -200,7 +210,8 @@ search_more graph start number head node seen queue seen' queue' s h at not_star
 
   still_done : (x : ℕ) → is_done graph start number seen x ≡ true → is_done graph start number seen' x ≡ true
   still_done x d = all_weaker (λ p. not (eqb p start) && is_marked number seen p) (λ p. not (eqb p start) && is_marked number seen' p)
-      (λ p w. both (not (eqb p start)) (is_marked number seen' p) (first_of (not (eqb p start)) (is_marked number seen p) w) (comes.stays p (second_of (not (eqb p start)) (is_marked number seen p) w)))
+      (λ p w. both (not (eqb p start)) (is_marked number seen' p) (first_of (not (eqb p start)) (is_marked number seen p) w)
+      (comes.stays p (second_of (not (eqb p start)) (is_marked number seen p) w)))
       (parts_at graph x) d
 
   waiting : (x : ℕ) → Waits queue head x → (is_done graph start number seen' x ≡ true) ⊎ Waits queue' (head + 1) x

@@ -1,6 +1,7 @@
 -- Graphs of numbers. A node is a number; the graph lists for each the numbers that stand right in it, in order. A number without a list is a node
 -- in which nothing stands.
-use Rattle.std.specs.Prelude.{ℕ, suc, zero, ◌≡◌, ◌<◌, ◌≤◌, Bool, true, false, eqb, ◌||◌, List, [], ◌∷◌, length, Option, Some, None, slice_index, slice_index_or}
+use Rattle.std.specs.Prelude.{ℕ, suc, zero, ◌≡◌, ◌<◌, ◌≤◌, Bool, true, false, eqb, ◌||◌, List, [], ◌∷◌, length, Option, Some, None, slice_index}
+use Rattle.std.specs.Prelude.{slice_index_or}
 use Rattle.std.specs.List.{list_all, list_any}
 use Rattle.idl_cycles.specs.declared.graph.rounds.Rule.{Rule}
 use Rattle.idl_cycles.specs.declared.graph.rounds.Rule.TheVariants.{Always, Never, All, Any, Last}

@@ -9,4 +9,5 @@ value_in values node = slice_index_or values node false
 
 -- the values of the next round, of nodes below a limit
 abbrev pub IsRound : List (List ℕ) → List Rule → List Bool → ℕ → List Bool → Type 0
-IsRound graph rules values limit next = (node : ℕ) → node < limit → slice_index_or next node false ≡ has_by (rule_at rules node) (value_in values) (parts_at graph node)
+IsRound graph rules values limit next =
+    (node : ℕ) → node < limit → slice_index_or next node false ≡ has_by (rule_at rules node) (value_in values) (parts_at graph node)

@@ -4,7 +4,8 @@ ghost use Rattle.grammar_phrases.specs.Reading.{behind_read, list_read};
 ghost use Rattle.grammar_phrases.specs.Gives.{Gives};
 ghost use Rattle.idl_grammar.specs.Symbols as symbols;
 ghost use Rattle.idl_grammar.specs.ReadExpressions.{placed_read};
-ghost use Rattle.idl_grammar.specs.Reading.{unless_read, commas_read, upper_read, range_read, bound_read, dimension_read, declarator_read, declarators_read, init_read};
+ghost use Rattle.idl_grammar.specs.Reading.{unless_read, commas_read, upper_read, range_read, bound_read, dimension_read, declarator_read};
+ghost use Rattle.idl_grammar.specs.Reading.{declarators_read, init_read};
 ghost use Rattle.idl_grammar.specs.Seen.{seen_expr, seen_bound, seen_declarator, seen_init};
 
 use grammar_phrases::Refusal;
@@ -142,7 +143,8 @@ fn dimensions(
 ) -> Result<(Vec<Option<Bound>>, usize), Refusal>
     requires within { at ≤ length parser.now }
     requires shallow { depth ≤ 64 }
-    ensures gives { Gives (λ v. map (option_map seen_bound) v.items) result (list_read (symbols.OpenSquare ∷ []) parser.now (dimension_read nesting parser.now depth) at) }
+    ensures gives { Gives (λ v. map (option_map seen_bound) v.items) result
+        (list_read (symbols.OpenSquare ∷ []) parser.now (dimension_read nesting parser.now depth) at) }
     ensures within { IfOk result (λ x. (at ≤ x.1) × (x.1 ≤ length parser.now)) }
 {
     let mut list = Vec::new(parser.alloc());

@@ -5,7 +5,8 @@ ghost use Rattle.grammar_phrases.specs.Reading.{behind_read, turned};
 ghost use Rattle.grammar_phrases.specs.Gives.{Gives};
 ghost use Rattle.idl_grammar.specs.Symbols as symbols;
 ghost use Rattle.idl_grammar.specs.Tree as tree;
-ghost use Rattle.idl_grammar.specs.Reading.{commas_read, enumerator_read, enumerators_read, label_firsts, label_read, labels_read, discriminant_read, maybe_name_read, union_switch_read, enum_read};
+ghost use Rattle.idl_grammar.specs.Reading.{commas_read, enumerator_read, enumerators_read, label_firsts, label_read, labels_read, discriminant_read};
+ghost use Rattle.idl_grammar.specs.Reading.{maybe_name_read, union_switch_read, enum_read};
 ghost use Rattle.idl_grammar.specs.Seen.{seen_expr, seen_enumerator, seen_label, seen_type};
 
 use grammar_phrases::Refusal;

@@ -1,5 +1,6 @@
 -- Lists of kinds and their types.
-use Rattle.std.proofs.Common.{◌≡◌, ℕ, zero, suc, ◌+◌, ◌<◌, ◌≤◌, Bool, true, false, ◌&&◌, ltb, List, [], ◌∷◌, ◌++◌, length, get_or, Option, Some, None, slice_get, refl, sym, ap, ◌∙◌, subst, arith, length-append, add-one, true≢false}
+use Rattle.std.proofs.Common.{◌≡◌, ℕ, zero, suc, ◌+◌, ◌<◌, ◌≤◌, Bool, true, false, ◌&&◌, ltb, List, [], ◌∷◌, ◌++◌, length, get_or, Option, Some, None, slice_get, refl, sym, ap, ◌∙◌, subst, arith}
+use Rattle.std.proofs.Common.{length-append, add-one, true≢false}
 use Rattle.std.proofs.lemmas.Option.{none-some, slice_get_within, slice_get-get_or, same_Some}
 use Rattle.std.proofs.lemmas.Bool.{ltb-true}
 use Rattle.std.specs.List.{list_any}
@@ -101,7 +102,9 @@ keeps-push ks k n t h = rw (types_from-push ks [] k) (slice_get_kept (seen_types
 pub stands-push : (ks : List Kind) (k : Kind) → Stands (ks ++ k ∷ []) (length ks) (type_by (seen_types ks) k)
 unfolding seen_types
 stands-push ks k =
-    rw (types_from-push ks [] k) (subst (λ (j : ℕ). slice_get (seen_types ks ++ type_by (seen_types ks) k ∷ []) j ≡ Some (type_by (seen_types ks) k)) (length-seen_types ks) (slice_get_last (seen_types ks) (type_by (seen_types ks) k)))
+    rw (types_from-push ks [] k)
+    (subst (λ (j : ℕ). slice_get (seen_types ks ++ type_by (seen_types ks) k ∷ []) j ≡ Some (type_by (seen_types ks) k)) (length-seen_types ks)
+    (slice_get_last (seen_types ks) (type_by (seen_types ks) k)))
 
 pub type_at-stands : (ks : List Kind) (n : ℕ) (t : IdlType) → Stands ks n t → type_at ks n ≡ t
 type_at-stands ks n t h = ap or_void h

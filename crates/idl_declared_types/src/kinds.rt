@@ -1,7 +1,8 @@
 // Types, each of them once, by number.
 ghost use Rattle.std.specs.Prelude.{◌≡◌, ◌<◌, ℕ, true, List, [], length, IfOk};
 ghost use Rattle.idl_rule_definitions.specs.Types.{IdlType, Basic};
-ghost use Rattle.idl_declared_types.specs.Kinds.{seen_class, primitive_by, basic_in, inner_of, seen_types, type_by, type_at, is_inside, Stands, Keeps, AreOnce};
+ghost use Rattle.idl_declared_types.specs.Kinds.{seen_class, primitive_by, basic_in, inner_of, seen_types, type_by, type_at, is_inside, Stands};
+ghost use Rattle.idl_declared_types.specs.Kinds.{Keeps, AreOnce};
 
 use idl_grammar::PointerClass;
 use indexmap::IndexSet;

@@ -53,14 +53,17 @@ fn add_labels(scope: &Scope, list: &mut Vec<Valued>, labels: &[Label]) -> Result
 
 /// Adds a value of `case` in a list of attributes.
 fn add_value(scope: &Scope, list: &mut Vec<Valued>, at: u32, value: &Expr) -> Result<(), Memory>
-    ensures { OnOk result (list.new.items ≡ list.old.items ++ valued (known_in scope.now) (record { at = at; value = Some (seen_expr value.now) }) ∷ []) }
+    ensures { OnOk result
+        (list.new.items ≡ list.old.items ++ valued (known_in scope.now) (record { at = at; value = Some (seen_expr value.now) }) ∷ []) }
 {
     add(list, at, Some(number(scope, value)))
 }
 
 /// Adds the values of `case` in a list of attributes.
 fn add_values(scope: &Scope, list: &mut Vec<Valued>, at: u32, values: &[Expr]) -> Result<(), Memory>
-    ensures { OnOk result (list.new.items ≡ list.old.items ++ map (valued (known_in scope.now)) (map (λ e. record { at = at; value = Some e }) (map seen_expr values.now))) }
+    ensures { OnOk result
+        (list.new.items ≡ list.old.items
+        ++ map (valued (known_in scope.now)) (map (λ e. record { at = at; value = Some e }) (map seen_expr values.now))) }
 {
     for value in values {
         add_value(scope, list, at, value)?;
@@ -70,7 +73,8 @@ fn add_values(scope: &Scope, list: &mut Vec<Valued>, at: u32, values: &[Expr]) -
 
 /// Adds the labels that an attribute gives.
 fn add_said(scope: &Scope, list: &mut Vec<Valued>, attribute: &Attribute) -> Result<(), Memory>
-    ensures { OnOk result (list.new.items ≡ list.old.items ++ map (valued (known_in scope.now)) (rules.labels_said attribute.now.at (seen_kind attribute.now.kind))) }
+    ensures { OnOk result
+        (list.new.items ≡ list.old.items ++ map (valued (known_in scope.now)) (rules.labels_said attribute.now.at (seen_kind attribute.now.kind))) }
 {
     match &attribute.kind {
         AttributeKind::Case(values) => add_values(scope, list, attribute.at, values.as_slice()),
@@ -85,7 +89,8 @@ fn add_all_said(
     list: &mut Vec<Valued>,
     attributes: &[Attribute],
 ) -> Result<(), Memory>
-    ensures { OnOk result (list.new.items ≡ list.old.items ++ map (valued (known_in scope.now)) (rules.labels_in (map seen_attribute attributes.now))) }
+    ensures { OnOk result
+        (list.new.items ≡ list.old.items ++ map (valued (known_in scope.now)) (rules.labels_in (map seen_attribute attributes.now))) }
 {
     for attribute in attributes {
         add_said(scope, list, attribute)?;
@@ -105,7 +110,9 @@ pub fn arm_attributes(arm: &Arm) -> &[Attribute]
 
 /// The labels of the cases of a union that has its discriminant with it.
 fn labels_of_cases(alloc: Global, scope: &Scope, cases: &Vec<Case>) -> Result<Vec<Valued>, Memory>
-    ensures { IfOk result (λ v. v.items ≡ map (valued (known_in scope.now)) (flat_map (λ a. a.labels) (rules.arms_of_cases (cases_of (map seen_case cases.now.items))))) }
+    ensures { IfOk result
+        (λ v. v.items
+        ≡ map (valued (known_in scope.now)) (flat_map (λ a. a.labels) (rules.arms_of_cases (cases_of (map seen_case cases.now.items))))) }
 {
     let mut list = Vec::new(alloc);
     for case in cases {
@@ -116,7 +123,8 @@ fn labels_of_cases(alloc: Global, scope: &Scope, cases: &Vec<Case>) -> Result<Ve
 
 /// The labels of the arms of a union whose discriminant is elsewhere.
 fn labels_of_arms(alloc: Global, scope: &Scope, arms: &Vec<Arm>) -> Result<Vec<Valued>, Memory>
-    ensures { IfOk result (λ v. v.items ≡ map (valued (known_in scope.now)) (flat_map (λ a. a.labels) (rules.arms_of_arms (arms_of (map seen_arm arms.now.items))))) }
+    ensures { IfOk result
+        (λ v. v.items ≡ map (valued (known_in scope.now)) (flat_map (λ a. a.labels) (rules.arms_of_arms (arms_of (map seen_arm arms.now.items))))) }
 {
     let mut list = Vec::new(alloc);
     for arm in arms {

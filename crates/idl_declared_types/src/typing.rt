@@ -59,7 +59,8 @@ fn with_stars(
     stars: &[u32],
 ) -> Result<usize, Memory>
     requires { of < length kinds.old }
-    ensures stands { IfOk result (λ n. Stands kinds.new n (types.with_stars (seen_class default) (seen_class outermost) (type_at kinds.old of) stars.now)) }
+    ensures stands { IfOk result
+        (λ n. Stands kinds.new n (types.with_stars (seen_class default) (seen_class outermost) (type_at kinds.old of) stars.now)) }
     ensures keeps { Keeps kinds.old kinds.new }
 {
     let mut to = of;
@@ -84,7 +85,8 @@ fn with_dimensions(
     dimensions: &[Option<Bound>],
 ) -> Result<usize, Memory>
     requires { of < length kinds.old }
-    ensures stands { IfOk result (λ n. Stands kinds.new n (types.with_dimensions (known_in scope.now) (type_at kinds.old of) (map (option_map seen_bound) dimensions.now))) }
+    ensures stands { IfOk result
+        (λ n. Stands kinds.new n (types.with_dimensions (known_in scope.now) (type_at kinds.old of) (map (option_map seen_bound) dimensions.now))) }
     ensures keeps { Keeps kinds.old kinds.new }
 {
     let mut element = of;
@@ -131,7 +133,9 @@ fn with_declarator(
     of: usize,
 ) -> Result<usize, Memory>
     requires { of < length kinds.old }
-    ensures stands { IfOk result (λ n. Stands kinds.new n (types.with_declarator (known_in scope.now) (seen_construct construct.now) (seen_declarator declarator.now) (type_at kinds.old of))) }
+    ensures stands { IfOk result
+        (λ n. Stands kinds.new n
+        (types.with_declarator (known_in scope.now) (seen_construct construct.now) (seen_declarator declarator.now) (type_at kinds.old of))) }
     ensures keeps { Keeps kinds.old kinds.new }
 {
     let default = Class::new(construct.default);
@@ -168,7 +172,8 @@ fn type_before(
     declared: &Declared,
 ) -> Result<usize, Memory>
     requires { are_within (length kinds.old) names.now ≡ true }
-    ensures stands { IfOk result (λ n. Stands kinds.new n (types.type_before (known_in scope.now) (seen_names kinds.old names.now) (seen_declared declared.now))) }
+    ensures stands { IfOk result
+        (λ n. Stands kinds.new n (types.type_before (known_in scope.now) (seen_names kinds.old names.now) (seen_declared declared.now))) }
     ensures keeps { Keeps kinds.old kinds.new }
 {
     let element = written(scope, kinds, names, declared.construct.file, declared.of)?;
@@ -187,7 +192,8 @@ pub fn declared_type(
     declared: &Declared,
 ) -> Result<usize, Memory>
     requires { are_within (length kinds.old) names.now ≡ true }
-    ensures stands { IfOk result (λ n. Stands kinds.new n (types.declared_type (known_in scope.now) (seen_names kinds.old names.now) (seen_declared declared.now))) }
+    ensures stands { IfOk result
+        (λ n. Stands kinds.new n (types.declared_type (known_in scope.now) (seen_names kinds.old names.now) (seen_declared declared.now))) }
     ensures keeps { Keeps kinds.old kinds.new }
 {
     let before = type_before(scope, kinds, names, declared)?;
@@ -267,7 +273,8 @@ fn array_with(
     varying: bool,
 ) -> Result<usize, Memory>
     requires { element < length kinds.old }
-    ensures stands { IfOk result (λ n. Stands kinds.new n (types.array_with (map seen_attribute attributes.now) (type_at kinds.old element) count varying)) }
+    ensures stands { IfOk result
+        (λ n. Stands kinds.new n (types.array_with (map seen_attribute attributes.now) (type_at kinds.old element) count varying)) }
     ensures keeps { Keeps kinds.old kinds.new }
 {
     if has(attributes, Word::String) {
@@ -299,7 +306,8 @@ fn pointer_with(
     to: usize,
 ) -> Result<usize, Memory>
     requires { to < length kinds.old }
-    ensures stands { IfOk result (λ n. Stands kinds.new n (types.with_attributes (map seen_attribute attributes.now) (Pointer (seen_class class) (type_at kinds.old to)))) }
+    ensures stands { IfOk result
+        (λ n. Stands kinds.new n (types.with_attributes (map seen_attribute attributes.now) (Pointer (seen_class class) (type_at kinds.old to)))) }
     ensures keeps { Keeps kinds.old kinds.new }
 {
     let class = class_or(class_in(attributes), class);

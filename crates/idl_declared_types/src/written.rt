@@ -153,7 +153,8 @@ pub fn written(
     of: &TypeSpec,
 ) -> Result<usize, Memory>
     requires { are_within (length kinds.old) names.now ≡ true }
-    ensures stands { IfOk result (λ n. Stands kinds.new n (types.written_type (known_in scope.now) (seen_names kinds.old names.now) file (seen_type of.now))) }
+    ensures stands { IfOk result
+        (λ n. Stands kinds.new n (types.written_type (known_in scope.now) (seen_names kinds.old names.now) file (seen_type of.now))) }
     ensures keeps { Keeps kinds.old kinds.new }
 {
     match of {

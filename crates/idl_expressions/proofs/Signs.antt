@@ -85,13 +85,15 @@ module _ (start : ℕ) (t : Text) (i : ℕ) where
   module _ (o : UnaryOperator) (h : found unary_operators (symbol_at t i) ≡ Some o) where
     pub unary_sign_is : many_operators start t i ≡ false → unary_sign_read start t i ≡ Ok (((lexeme_at t i).at, o), i + 1)
     unary_sign_is few =
-        ap (λ (b : Bool). cond b (cond (many_operators start t i) (Err (Passes Depth i)) (Ok (((lexeme_at t i).at, unary_of (symbol_at t i)), i + 1))) (Err (Syntax i))) (unary_found (symbol_at t i) o h)
+        ap (λ (b : Bool). cond b (cond (many_operators start t i) (Err (Passes Depth i)) (Ok (((lexeme_at t i).at, unary_of (symbol_at t i)), i + 1))) (Err (Syntax i)))
+        (unary_found (symbol_at t i) o h)
         ∙ (ap (λ (b : Bool). cond b (Err (Passes Depth i)) (Ok (((lexeme_at t i).at, unary_of (symbol_at t i)), i + 1))) few
         ∙ ap (λ (u : UnaryOperator). Ok (((lexeme_at t i).at, u), i + 1)) (unary_is (symbol_at t i) o h))
 
     pub unary_sign_full : many_operators start t i ≡ true → unary_sign_read start t i ≡ Err (Passes Depth i)
     unary_sign_full full =
-        ap (λ (b : Bool). cond b (cond (many_operators start t i) (Err (Passes Depth i)) (Ok (((lexeme_at t i).at, unary_of (symbol_at t i)), i + 1))) (Err (Syntax i))) (unary_found (symbol_at t i) o h)
+        ap (λ (b : Bool). cond b (cond (many_operators start t i) (Err (Passes Depth i)) (Ok (((lexeme_at t i).at, unary_of (symbol_at t i)), i + 1))) (Err (Syntax i)))
+        (unary_found (symbol_at t i) o h)
         ∙ ap (λ (b : Bool). cond b (Err (Passes Depth i)) (Ok (((lexeme_at t i).at, unary_of (symbol_at t i)), i + 1))) full
 
   pub unary_sign_none : found unary_operators (symbol_at t i) ≡ None → unary_sign_read start t i ≡ Err (Syntax i)

@@ -50,7 +50,8 @@ level_is start t unary zero i h low = absurd (omega (arith, h))
 level_is start t unary (suc k) i h low =
     let e : k ≡ suc k - 1 = omega arith in
     let d : 10 - k ≡ 11 - suc k = omega arith in
-    ap (λ (p : ℕ × ℕ). turned (λ q. fold q.0 q.1) (then (level_read start t unary p.0 i) (λ e m. many_read (λ a. eqb (symbol_level a.symbol) p.1) (operation_read p.1 start t (level_read start t unary p.0)) t (suc (length t)) m)))
+    ap (λ (p : ℕ × ℕ). turned (λ q. fold q.0 q.1)
+    (then (level_read start t unary p.0 i) (λ e m. many_read (λ a. eqb (symbol_level a.symbol) p.1) (operation_read p.1 start t (level_read start t unary p.0)) t (suc (length t)) m)))
     (let both : ◌≡◌ {A = ℕ × ℕ} (k, 10 - k) (suc k - 1, 11 - suc k) = cc in both)
 
 fold_join : (e : Expr) (r : Read (List ((ℕ × BinaryOperator) × Expr))) → turned (λ p. fold p.0 p.1) (join e r) ≡ turned (fold e) r
@@ -82,7 +83,12 @@ module _ (start : ℕ) (t : Text) (unary : ℕ → Read Expr) (k i : ℕ) (e : E
     by_fuel : (n : ℕ) → length t < n + m → level_read start t unary k i ≡ behind start t unary k e n m
         → (n : ℕ) × (length t < suc n + m) × (level_read start t unary k i ≡ here_read n (operand_read start t unary k m))
     by_fuel zero enough is = absurd (omega (arith, b.within, enough))
-    by_fuel (suc n) enough is = (n, enough, is ∙ ap (λ (v : Bool). turned (fold e) (cond v (turned (λ p. p.0 ∷ p.1) (then (operand_read start t unary k m) (λ a p. ops_read start t unary k n p))) (Ok ([], m)))) (eq-eqb _ _ h))
+    by_fuel (suc n) enough is = (
+      n,
+      enough,
+      is
+          ∙ ap (λ (v : Bool). turned (fold e) (cond v (turned (λ p. p.0 ∷ p.1) (then (operand_read start t unary k m) (λ a p. ops_read start t unary k n p))) (Ok ([], m)))) (eq-eqb _ _ h),
+    )
 
   pub stops : symbol_level (symbol_at t m) ≢ 11 - k → level_read start t unary k i ≡ Ok (e, m)
   stops h = by_fuel b.fuel b.is where

@@ -4,7 +4,8 @@
 ghost use Rattle.std.specs.Prelude.{◌≡◌, ℕ, ◌+◌, ◌-◌, ◌≤◌, ◌<◌, length, true, false, IfOk};
 ghost use Rattle.grammar_phrases.specs.Text.{lexeme_at, symbol_at, is, is_in};
 ghost use Rattle.grammar_phrases.specs.Gives.{Gives};
-ghost use Rattle.idl_grammar.specs.ReadExpressions.{is_operand as is_operand_symbol, operand_of, leaf_read, level_read, operation_read, choice_of_two_read, round_read, expr_read, outer_read};
+ghost use Rattle.idl_grammar.specs.ReadExpressions.{is_operand as is_operand_symbol, operand_of, leaf_read, level_read, operation_read};
+ghost use Rattle.idl_grammar.specs.ReadExpressions.{choice_of_two_read, round_read, expr_read, outer_read};
 ghost use Rattle.idl_grammar.specs.Seen.{seen_expr};
 ghost use Rattle.idl_expressions.specs.Views.{seen_operation, seen_branches};
 
@@ -174,7 +175,9 @@ fn next_operation(
     requires shallow { depth ≤ 64 }
     requires some { 1 ≤ rank }
     requires rank { rank ≤ 10 }
-    ensures gives { Gives seen_operation result (operation_read (11 - rank) start parser.now (level_read start parser.now (expr_read nesting inside start parser.now false depth) (rank - 1)) at) }
+    ensures gives { Gives seen_operation result
+        (operation_read (11 - rank) start parser.now
+        (level_read start parser.now (expr_read nesting inside start parser.now false depth) (rank - 1)) at) }
     ensures within { IfOk result (λ x. (at < x.1) × (x.1 ≤ length parser.now)) }
 {
     let ((octet, operator), next) = binary_sign(parser, 11 - rank, start, at)?;

@@ -2,7 +2,8 @@
 ghost use Rattle.std.specs.Prelude.{◌≡◌, ◌≤◌, ◌<◌, length, IfOk, eqb, false};
 ghost use Rattle.grammar_phrases.specs.Text.{symbol_at};
 ghost use Rattle.grammar_phrases.specs.Gives.{Gives};
-ghost use Rattle.idl_grammar.specs.Limits.{level as level_of, symbol_level as level_of_symbol, binary_operators, unary_operators, is_unary as is_unary_symbol, is_operator as is_operator_symbol, operators, many_operators};
+ghost use Rattle.idl_grammar.specs.Limits.{level as level_of, symbol_level as level_of_symbol, binary_operators, unary_operators};
+ghost use Rattle.idl_grammar.specs.Limits.{is_unary as is_unary_symbol, is_operator as is_operator_symbol, operators, many_operators};
 ghost use Rattle.idl_grammar.specs.ReadExpressions.{unary_sign_read, binary_sign_read, question_read};
 ghost use Rattle.idl_tokens.specs.Found.{found};
 

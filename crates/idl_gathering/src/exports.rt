@@ -28,7 +28,8 @@ fn parameter<'t>(
     index: usize,
     parameter: &'t Parameter,
 ) -> Result<(), Memory>
-    ensures { OnOk result (AddsOf nodes.old nodes.new list (one_parameter_nodes (seen_construct construct.now) index (seen.seen_parameter parameter.now))) }
+    ensures { OnOk result
+        (AddsOf nodes.old nodes.new list (one_parameter_nodes (seen_construct construct.now) index (seen.seen_parameter parameter.now))) }
 {
     let inner = construct.inside(Position::Parameter, parameter.at, &parameter.attributes);
     attributes(nodes, &inner)?;
@@ -45,7 +46,9 @@ fn parameters<'t>(
     list: usize,
     parameters: &'t [Parameter],
 ) -> Result<(), Memory>
-    ensures { OnOk result (AddsOf nodes.old nodes.new list (λ all. rules.parameter_nodes (seen_construct construct.now) all 0 (map seen.seen_parameter parameters.now))) }
+    ensures { OnOk result
+        (AddsOf nodes.old nodes.new list
+        (λ all. rules.parameter_nodes (seen_construct construct.now) all 0 (map seen.seen_parameter parameters.now))) }
 {
     let mut index = 0;
     for one in parameters {
@@ -72,7 +75,10 @@ fn operation<'t>(
     it: Returned<'t>,
     list: &'t [Parameter],
 ) -> Result<(), Memory>
-    ensures { OnOk result (Adds nodes.old nodes.new (rules.operation_nodes (seen_construct it.entry.construct) (seen.seen_type it.entry.of.now) it.entry.name.now (map seen.seen_parameter list.now))) }
+    ensures { OnOk result
+        (Adds nodes.old nodes.new
+        (rules.operation_nodes (seen_construct it.entry.construct) (seen.seen_type it.entry.of.now) it.entry.name.now
+        (map seen.seen_parameter list.now))) }
 {
     attributes(nodes, &it.construct)?;
     type_spec(alloc, nodes, &it.construct, it.of)?;
@@ -95,7 +101,10 @@ fn exported<'t>(
     name: &'t Identifier,
     parameters: &'t Parameters,
 ) -> Result<(), Memory>
-    ensures { OnOk result (Adds nodes.old nodes.new (rules.operation_nodes (seen_construct construct.entry) (seen.seen_type of.now) name.now (parameters_of (seen.seen_parameters parameters.now)))) }
+    ensures { OnOk result
+        (Adds nodes.old nodes.new
+        (rules.operation_nodes (seen_construct construct.entry) (seen.seen_type of.now) name.now
+        (parameters_of (seen.seen_parameters parameters.now)))) }
 {
     let it = Returned {
         construct,
@@ -114,7 +123,9 @@ fn constant<'t>(
     star: bool,
     value: &'t Init,
 ) -> Result<(), Memory>
-    ensures { OnOk result (Adds nodes.old nodes.new (rules.ConstantNode (rules.inside (seen_construct header.now) rules.InTypedef at None) of star (seen.seen_init value.now) ∷ [])) }
+    ensures { OnOk result
+        (Adds nodes.old nodes.new
+        (rules.ConstantNode (rules.inside (seen_construct header.now) rules.InTypedef at None) of star (seen.seen_init value.now) ∷ [])) }
 {
     nodes.push(Node::Constant {
         construct: header.without_attributes(Position::Typedef, at),
@@ -132,7 +143,9 @@ fn typedefs<'t>(
     of: &'t TypeSpec,
     declarators: &'t [Declarator],
 ) -> Result<(), Memory>
-    ensures { OnOk result (Adds nodes.old nodes.new (map (rules.typedef_node (seen_construct construct.now) pipe (seen.seen_type of.now)) (map seen.seen_declarator declarators.now))) }
+    ensures { OnOk result
+        (Adds nodes.old nodes.new
+        (map (rules.typedef_node (seen_construct construct.now) pipe (seen.seen_type of.now)) (map seen.seen_declarator declarators.now))) }
 {
     for declarator in declarators {
         unlisted(
@@ -235,7 +248,8 @@ fn exports<'t>(
     header: &Construct<'t>,
     exports: &'t [Export],
 ) -> Result<(), Memory>
-    ensures { OnOk result (Adds nodes.old nodes.new (flat_map (rules.export_nodes is_main (seen_construct header.now)) (map seen.seen_export exports.now))) }
+    ensures { OnOk result
+        (Adds nodes.old nodes.new (flat_map (rules.export_nodes is_main (seen_construct header.now)) (map seen.seen_export exports.now))) }
 {
     for one in exports {
         export(alloc, nodes, is_main, header, one)?;

@@ -135,7 +135,8 @@ fn attribute(
     ensures files { finder.new.files.now ≡ finder.old.files.now }
     ensures first { (w : World) (before : List tree.Attribute) → w.files ≡ seen_files finder.old.files.now → AreWords words.now before
         → option_map seen_breach finder.new.first
-        ≡ noted w (option_map seen_breach finder.old.first) (attribute_breaches (seen_construct construct.now) before (seen_attribute attribute.now)) }
+        ≡ noted w (option_map seen_breach finder.old.first)
+        (attribute_breaches (seen_construct construct.now) before (seen_attribute attribute.now)) }
 {
     let place = construct.place(attribute.at);
     let word = first_word(&attribute.kind);

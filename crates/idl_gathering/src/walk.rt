@@ -70,7 +70,8 @@ fn declarators<'t>(
     requires { first + length declarators.now < 2 ^ 64 }
     ensures next { IfOk result (λ next. next ≡ first + length (map seen.seen_declarator declarators.now)) }
     ensures adds { OnOk result (AddsOf nodes.old nodes.new list
-        (λ all. rules.declarator_nodes all first (map (rules.declared (seen_construct construct.now) (seen.seen_type of.now)) (map seen.seen_declarator declarators.now)))) }
+        (λ all. rules.declarator_nodes all first
+        (map (rules.declared (seen_construct construct.now) (seen.seen_type of.now)) (map seen.seen_declarator declarators.now)))) }
 {
     let mut index = first;
     for declarator in declarators {
@@ -164,7 +165,8 @@ fn enumerators<'t>(
     construct: &Construct<'t>,
     list: &'t [Enumerator],
 ) -> Result<(), Memory>
-    ensures { OnOk result (Adds nodes.old nodes.new (map (λ e. rules.EnumeratorNode (seen_construct construct.now) e.name) (map seen.seen_enumerator list.now))) }
+    ensures { OnOk result
+        (Adds nodes.old nodes.new (map (λ e. rules.EnumeratorNode (seen_construct construct.now) e.name) (map seen.seen_enumerator list.now))) }
 {
     nodes.push(Node::Enumerators {
         construct: *construct,
@@ -219,7 +221,8 @@ fn members<'t>(
     list: &'t Vec<Member>,
 ) -> Result<(), Memory>
     ensures { OnOk result (Adds nodes.old nodes.new (rules.member_nodes (seen_construct construct.now)
-        (rules.declared_members (seen_construct construct.now) (members_of (map seen.seen_member list.now.items))) 0 (members_of (map seen.seen_member list.now.items)))) }
+        (rules.declared_members (seen_construct construct.now) (members_of (map seen.seen_member list.now.items))) 0
+        (members_of (map seen.seen_member list.now.items)))) }
 {
     let declared = members_declared(alloc, construct, list)?;
     let number = nodes.push_list(declared)?;
@@ -239,7 +242,8 @@ fn cases<'t>(
     construct: &Construct<'t>,
     list: &'t Vec<Case>,
 ) -> Result<(), Memory>
-    ensures { OnOk result (Adds nodes.old nodes.new (rules.case_nodes (seen_construct construct.now) (cases_of (map seen.seen_case list.now.items)))) }
+    ensures { OnOk result
+        (Adds nodes.old nodes.new (rules.case_nodes (seen_construct construct.now) (cases_of (map seen.seen_case list.now.items)))) }
 {
     for one in list {
         arm(alloc, nodes, construct, Position::Arm, &one.arm)?;
@@ -272,7 +276,8 @@ fn arm<'t>(
     position: Position,
     arm: &'t Arm,
 ) -> Result<(), Memory>
-    ensures { OnOk result (Adds nodes.old nodes.new (rules.arm_nodes (seen_construct construct.now) (seen_position position) (seen.seen_arm arm.now))) }
+    ensures { OnOk result
+        (Adds nodes.old nodes.new (rules.arm_nodes (seen_construct construct.now) (seen_position position) (seen.seen_arm arm.now))) }
 {
     match arm {
         Arm::Empty {

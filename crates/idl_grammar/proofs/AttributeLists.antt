@@ -4,7 +4,8 @@ use Rattle.grammar_phrases.specs.Text.{Lexeme, Text, symbol_at, is, is_in, Ban, 
 use Rattle.grammar_phrases.specs.Reading.{to_unit}
 use Rattle.grammar_phrases.proofs.Exact.{Agrees, Exact, HasPhrase, turned_exact}
 use Rattle.grammar_phrases.proofs.Parts.{marked, mark_has, turned_has, ruled_exact, of_symbol}
-use Rattle.grammar_phrases.proofs.Sequences.{stops, Begins, BeginsOr, ends_at, skip_begins, pair_begins, option_exact, option_begins, separated_exact, separated_has, bracketed_exact, bracketed_has, bracketed_begins, located_exact, located_has}
+use Rattle.grammar_phrases.proofs.Sequences.{stops, Begins, BeginsOr, ends_at, skip_begins, pair_begins, option_exact, option_begins, separated_exact, separated_has, bracketed_exact, bracketed_has}
+use Rattle.grammar_phrases.proofs.Sequences.{bracketed_begins, located_exact, located_has}
 use Rattle.idl_grammar.specs.declared.words.Spelling.{Spelling}
 use Rattle.idl_grammar.specs.declared.attributes.VariableWord.{VariableWord}
 use Rattle.idl_grammar.specs.declared.attributes.Variable.{Variable}
@@ -13,11 +14,14 @@ use Rattle.idl_grammar.specs.Tree as tree
 use Rattle.idl_grammar.specs.Tree.{Expr, AttributeKind, Attribute, Attributes}
 use Rattle.idl_grammar.specs.Expressions.{spelled, outer}
 use Rattle.idl_grammar.specs.Grammar.{one_of, in_round, commas, switch_type, pointer_class, variable_word, variable_name, is_banned_attribute, local, attribute_kind, attribute, attributes}
-use Rattle.idl_grammar.specs.Reading.{commas_read, pointer_class_read, plain_words, plain_symbols, class_symbols, variable_symbols, local_symbols, local_read, uuid_read, version_read, endpoint_read, pointer_default_read, variable_read, switch_attribute_read, case_attribute_read, bracket_attribute_read, attribute_kind_read, attribute_of, attribute_read, attributes_of, attributes_read, maybe_attributes_read}
+use Rattle.idl_grammar.specs.Reading.{commas_read, pointer_class_read, plain_words, plain_symbols, class_symbols, variable_symbols, local_symbols, local_read, uuid_read, version_read, endpoint_read}
+use Rattle.idl_grammar.specs.Reading.{pointer_default_read, variable_read, switch_attribute_read, case_attribute_read, bracket_attribute_read, attribute_kind_read, attribute_of, attribute_read}
+use Rattle.idl_grammar.specs.Reading.{attributes_of, attributes_read, maybe_attributes_read}
 use Rattle.idl_grammar.proofs.Combine.{changed_exact, one_of_exact, one_word, each_meant, either, either_exact, either_begins}
 use Rattle.grammar_phrases.specs.Text.{made}
 use Rattle.grammar_phrases.proofs.Sequences.{made_exact, made_begins}
-use Rattle.idl_grammar.proofs.AttributesExact.{pointer_class_exact, pointer_class_begins, variable_word_begins, uuid_exact, version_numbers, version_exact, endpoint_exact, pointer_default_exact, variable_exact, switch_attribute_exact, case_attribute_exact}
+use Rattle.idl_grammar.proofs.AttributesExact.{pointer_class_exact, pointer_class_begins, variable_word_begins, uuid_exact, version_numbers, version_exact, endpoint_exact, pointer_default_exact}
+use Rattle.idl_grammar.proofs.AttributesExact.{variable_exact, switch_attribute_exact, case_attribute_exact}
 
 module _ (depth : ℕ) where
   -- ## attributes with brackets
@@ -245,7 +249,8 @@ attribute_firsts = symbol.In ∷ symbol.Out ∷ symbol.String ∷ symbol.Context
 
 kind_begins : (depth : ℕ) → Begins (attribute_kind depth) attribute_firsts
 kind_begins depth lifted x i j c ph =
-    either_begins (plain depth) (from_class depth) plain_symbols (class_on depth) (plain_begins depth) (from_class_begins depth) refl attribute_firsts refl refl lifted x i j c (kinds_back depth lifted x i j c ph)
+    either_begins (plain depth) (from_class depth) plain_symbols (class_on depth) (plain_begins depth) (from_class_begins depth) refl attribute_firsts refl refl lifted x i j c
+    (kinds_back depth lifted x i j c ph)
 
 kind_has : (depth : ℕ) → HasPhrase (attribute_kind depth)
 unfolding attribute_kind

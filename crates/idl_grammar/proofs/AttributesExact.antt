@@ -4,7 +4,8 @@ use Rattle.grammar_phrases.specs.Text.{Text, is, is_in, Rel, optional, ◌⊗◌
 use Rattle.grammar_phrases.specs.Reading.{Read, behind_read}
 use Rattle.grammar_phrases.proofs.Exact.{Exact, HasPhrase, pair_exact, turned_exact}
 use Rattle.grammar_phrases.proofs.Parts.{pair_has, turned_has, optional_has}
-use Rattle.grammar_phrases.proofs.Sequences.{stops, Begins, subset, disjoint, meets_first, ends_at, skip_exact, skip_has, skip_begins, option_exact, separated_exact, separated_has, bracketed_exact, bracketed_has}
+use Rattle.grammar_phrases.proofs.Sequences.{stops, Begins, subset, disjoint, meets_first, ends_at, skip_exact, skip_has, skip_begins, option_exact, separated_exact, separated_has, bracketed_exact}
+use Rattle.grammar_phrases.proofs.Sequences.{bracketed_has}
 use Rattle.idl_grammar.specs.declared.words.Spelling.{Spelling}
 use Rattle.idl_grammar.specs.declared.attributes.PointerClass.TheVariants as class
 use Rattle.idl_grammar.specs.declared.attributes.VariableWord.TheVariants as variable
@@ -13,7 +14,8 @@ use Rattle.idl_grammar.specs.Limits.{names}
 use Rattle.idl_grammar.specs.Expressions.{spelled, ident, outer}
 use Rattle.idl_grammar.specs.ReadExpressions.{spelled_read, ident_read, outer_read}
 use Rattle.idl_grammar.specs.Grammar.{flag, in_round, commas, switch_type, class_words, pointer_class, variable_words, variable_word, variable_name}
-use Rattle.idl_grammar.specs.Reading.{flag_read, in_round_read, commas_read, switch_type_read, pointer_class_read, variable_word_read, variable_of, variable_name_read, class_symbols, variable_symbols, uuid_read, version_numbers_read, version_read, endpoint_read, pointer_default_read, variable_read, switch_attribute_read, case_attribute_read}
+use Rattle.idl_grammar.specs.Reading.{flag_read, in_round_read, commas_read, switch_type_read, pointer_class_read, variable_word_read, variable_of, variable_name_read, class_symbols, variable_symbols}
+use Rattle.idl_grammar.specs.Reading.{uuid_read, version_numbers_read, version_read, endpoint_read, pointer_default_read, variable_read, switch_attribute_read, case_attribute_read}
 use Rattle.idl_grammar.proofs.Combine.{flag_exact, flag_has, spelled_exact, spelled_has, one_of_exact, one_of_has, ident_exact, ident_has, ident_begins}
 use Rattle.idl_grammar.proofs.OuterExact.{expr_ends, outer_exact, outer_has}
 use Rattle.idl_grammar.proofs.SimpleExact.{simple_ends, switch_type_exact, switch_type_has}
@@ -103,12 +105,14 @@ version_numbers_has = pair_has _ _ (spelled_has symbol.Number refl) (optional_ha
 pub version_numbers_exact : (t : Text) (i : ℕ) → i ≤ length t → Exact version_numbers (stops (symbol.Dot ∷ [])) t i (version_numbers_read t i)
 unfolding version_numbers_read
 version_numbers_exact t i in_text =
-    pair_exact (spelled symbol.Number) (optional (symbol.Dot ⊳ spelled symbol.Number)) (stops []) (stops (symbol.Dot ∷ [])) (λ lifted x m j b ph stop. refl) (optional_has (symbol.Dot ⊳ spelled symbol.Number)) t i
+    pair_exact (spelled symbol.Number) (optional (symbol.Dot ⊳ spelled symbol.Number)) (stops []) (stops (symbol.Dot ∷ [])) (λ lifted x m j b ph stop. refl)
+    (optional_has (symbol.Dot ⊳ spelled symbol.Number)) t i
     (spelled_read symbol.Number t i) _ (spelled_exact symbol.Number refl (stops []) t i in_text)
     (λ major m found.
     option_exact (symbol.Dot ⊳ spelled symbol.Number) (symbol.Dot ∷ []) [] (symbol.Dot ∷ []) t m (skip_begins symbol.Dot (spelled symbol.Number)) refl refl found.within
     (behind_read symbol.Dot t (spelled_read symbol.Number t))
-    (skip_exact symbol.Dot (spelled symbol.Number) (stops []) t m refl found.within (spelled_has symbol.Number refl) (spelled_read symbol.Number t) (λ o after in_o. spelled_exact symbol.Number refl (stops []) t o in_o)))
+    (skip_exact symbol.Dot (spelled symbol.Number) (stops []) t m refl found.within (spelled_has symbol.Number refl) (spelled_read symbol.Number t)
+    (λ o after in_o. spelled_exact symbol.Number refl (stops []) t o in_o)))
 
 pub version_exact : (depth : ℕ) (t : Text) (i : ℕ) → i ≤ length t → Exact (symbol.Version ⊳ in_round depth version_numbers) (stops []) t i (version_read t depth i)
 unfolding version_read
@@ -119,7 +123,8 @@ version_exact depth t i in_text =
 pub endpoint_exact : (depth : ℕ) (t : Text) (i : ℕ) → i ≤ length t → Exact (symbol.Endpoint ⊳ in_round depth (commas (spelled symbol.Quoted))) (stops []) t i (endpoint_read t depth i)
 unfolding endpoint_read
 endpoint_exact depth t i in_text =
-    word_round_exact depth (commas (spelled symbol.Quoted)) (symbol.Comma ∷ []) (separated_has symbol.Comma (spelled symbol.Quoted) (spelled_has symbol.Quoted refl)) refl symbol.Endpoint refl t i in_text
+    word_round_exact depth (commas (spelled symbol.Quoted)) (symbol.Comma ∷ [])
+    (separated_has symbol.Comma (spelled symbol.Quoted) (spelled_has symbol.Quoted refl)) refl symbol.Endpoint refl t i in_text
     (commas_read t (spelled_read symbol.Quoted t))
     (λ room m after in_m.
     separated_exact symbol.Comma (spelled symbol.Quoted) [] (symbol.Comma ∷ []) (spelled_has symbol.Quoted refl) refl refl refl refl t m (spelled_read symbol.Quoted t)
@@ -140,7 +145,8 @@ variable_exact depth t i in_text =
 pub switch_attribute_exact : (depth : ℕ) (t : Text) (i : ℕ) → i ≤ length t → Exact (symbol.SwitchType ⊳ in_round depth (switch_type true)) (stops []) t i (switch_attribute_read t depth i)
 unfolding switch_attribute_read
 switch_attribute_exact depth t i in_text =
-    word_round_exact depth (switch_type true) simple_ends (switch_type_has true) refl symbol.SwitchType refl t i in_text (switch_type_read true t) (λ room m after in_m. switch_type_exact true t m in_m)
+    word_round_exact depth (switch_type true) simple_ends (switch_type_has true) refl symbol.SwitchType refl t i in_text (switch_type_read true t)
+    (λ room m after in_m. switch_type_exact true t m in_m)
 
 -- an expression in a list goes on with a comma
 unfoldable pub values_ends : List ℕ

@@ -4,7 +4,8 @@ use Rattle.grammar_phrases.specs.Text.{Text, is_in, Lifted, Rel, optional, ◌�
 use Rattle.grammar_phrases.specs.Reading.{mark_read, end_with, option_read, behind_read}
 use Rattle.grammar_phrases.proofs.Exact.{Exact, HasPhrase, Part, pair_exact, turned_exact}
 use Rattle.grammar_phrases.proofs.Parts.{pair_has, turned_has, optional_has}
-use Rattle.grammar_phrases.proofs.Sequences.{stops, Begins, subset, disjoint, meets_first, ends_at, skip_exact, skip_has, skip_begins, end_exact, end_has, end_begins, pair_begins, option_exact, some_exact, some_has, some_begins, separated_exact, separated_has, bracketed_exact, bracketed_has, bracketed_begins}
+use Rattle.grammar_phrases.proofs.Sequences.{stops, Begins, subset, disjoint, meets_first, ends_at, skip_exact, skip_has, skip_begins, end_exact, end_has, end_begins, pair_begins, option_exact}
+use Rattle.grammar_phrases.proofs.Sequences.{some_exact, some_has, some_begins, separated_exact, separated_has, bracketed_exact, bracketed_has, bracketed_begins}
 use Rattle.idl_grammar.specs.declared.words.Spelling.{Spelling}
 use Rattle.idl_grammar.specs.declared.types.SwitchType.{SwitchType}
 use Rattle.idl_grammar.specs.declared.types.Discriminant.{Discriminant}
@@ -15,7 +16,8 @@ use Rattle.idl_grammar.specs.Tree.{Expr, Enumerator, Label}
 use Rattle.idl_grammar.specs.Expressions.{placed, ident, outer}
 use Rattle.idl_grammar.specs.ReadExpressions.{placed_read, ident_read, outer_read}
 use Rattle.idl_grammar.specs.Grammar.{in_round, commas, switch_type, enumerator, enumerators, label, labels, discriminant, union_switch}
-use Rattle.idl_grammar.specs.Reading.{in_round_read, commas_read, switch_type_read, enumerator_of, enumerator_read, enumerators_read, label_read, label_firsts, labels_read, discriminant_of, discriminant_read, maybe_name_read, union_switch_read}
+use Rattle.idl_grammar.specs.Reading.{in_round_read, commas_read, switch_type_read, enumerator_of, enumerator_read, enumerators_read, label_read, label_firsts, labels_read, discriminant_of}
+use Rattle.idl_grammar.specs.Reading.{discriminant_read, maybe_name_read, union_switch_read}
 use Rattle.idl_grammar.proofs.Combine.{branch_exact, branch_begins, placed_exact, placed_has, placed_begins, ident_exact, ident_has, ident_begins}
 use Rattle.idl_grammar.proofs.OuterExact.{expr_ends, outer_exact, outer_has}
 use Rattle.idl_grammar.proofs.SimpleExact.{simple_ends, switch_type_exact, switch_type_has}
@@ -59,7 +61,8 @@ enumerator_parts depth = ident false ⊗ optional (symbol.Equals ⊳ outer false
 
 enumerator_has : (depth : ℕ) → HasPhrase (enumerator depth)
 unfolding enumerator
-enumerator_has depth = turned_has (enumerator_parts depth) (enumerator depth) enumerator_of (λ lifted x i j a ph. ph) (pair_has _ _ (ident_has false) (optional_has (symbol.Equals ⊳ outer false depth)))
+enumerator_has depth =
+    turned_has (enumerator_parts depth) (enumerator depth) enumerator_of (λ lifted x i j a ph. ph) (pair_has _ _ (ident_has false) (optional_has (symbol.Equals ⊳ outer false depth)))
 
 enumerator_exact : (nesting : ℕ) → 129 ≤ nesting → (t : Text) (depth i : ℕ) → depth ≤ 64 → i ≤ length t → Exact (enumerator depth) (stops enumerator_ends) t i (enumerator_read nesting t depth i)
 unfolding enumerator enumerator_read
@@ -81,12 +84,14 @@ enumerators_exact nesting enough t depth i in_text =
     (ends_at symbol.CloseCurly enumerators_ends (stops []) enumerators_close) (separated_has symbol.Comma (enumerator (depth + 1)) (enumerator_has (depth + 1)))
     (commas_read t (enumerator_read nesting t (depth + 1)))
     (λ room m after in_m.
-    separated_exact symbol.Comma (enumerator (depth + 1)) enumerator_ends enumerators_ends (enumerator_has (depth + 1)) refl comma_ends enumerators_more comma_apart t m (enumerator_read nesting t (depth + 1))
+    separated_exact symbol.Comma (enumerator (depth + 1)) enumerator_ends enumerators_ends (enumerator_has (depth + 1)) refl comma_ends enumerators_more comma_apart t m
+    (enumerator_read nesting t (depth + 1))
     (λ o based in_o. enumerator_exact nesting enough t (depth + 1) o (omega arith) in_o) m (omega arith) in_m)
 
 pub enumerators_has : (depth : ℕ) → HasPhrase (enumerators depth)
 unfolding enumerators
-enumerators_has depth = bracketed_has depth symbol.OpenCurly symbol.CloseCurly (commas (enumerator (depth + 1))) refl refl (separated_has symbol.Comma (enumerator (depth + 1)) (enumerator_has (depth + 1)))
+enumerators_has depth =
+    bracketed_has depth symbol.OpenCurly symbol.CloseCurly (commas (enumerator (depth + 1))) refl refl (separated_has symbol.Comma (enumerator (depth + 1)) (enumerator_has (depth + 1)))
 
 pub enumerators_begin : (depth : ℕ) → Begins (enumerators depth) (symbol.OpenCurly ∷ [])
 unfolding enumerators
@@ -129,7 +134,8 @@ module _ (depth : ℕ) where
   label_begins = branch_begins valued defaults (label depth) label_of (symbol.Case ∷ []) (symbol.Default ∷ []) valued_begins defaults_begin refl label_forth label_back label_firsts refl refl
 
   label_has : HasPhrase (label depth)
-  label_has = turned_has defaults (label depth) tree.Default (λ lifted x i j a ph. label_forth lifted x i j (inr a) ph) (end_has (placed symbol.Default) symbol.Colon refl (placed_has symbol.Default refl))
+  label_has =
+      turned_has defaults (label depth) tree.Default (λ lifted x i j a ph. label_forth lifted x i j (inr a) ph) (end_has (placed symbol.Default) symbol.Colon refl (placed_has symbol.Default refl))
 
   label_exact : (nesting : ℕ) → 129 ≤ nesting → depth ≤ 64 → (t : Text) (i : ℕ) → i ≤ length t → Exact (label depth) (stops []) t i (label_read nesting t depth i)
   unfolding label_read
@@ -137,7 +143,8 @@ module _ (depth : ℕ) where
       branch_exact valued defaults (label depth) label_of (symbol.Case ∷ []) (symbol.Default ∷ []) valued_begins defaults_begin refl label_forth label_back (stops []) t i
       _ (end_with (placed_read symbol.Default t i) (λ o. mark_read symbol.Colon t o))
       (λ h.
-      pair_exact (placed symbol.Case) (outer false depth ⊲ symbol.Colon) (stops []) (stops []) (λ lifted x m j b ph stop. refl) (end_has (outer false depth) symbol.Colon refl (outer_has false depth)) t i
+      pair_exact (placed symbol.Case) (outer false depth ⊲ symbol.Colon) (stops []) (stops []) (λ lifted x m j b ph stop. refl)
+      (end_has (outer false depth) symbol.Colon refl (outer_has false depth)) t i
       (placed_read symbol.Case t i) (λ at m. end_with (outer_read nesting false t depth m) (λ o. mark_read symbol.Colon t o)) (placed_exact symbol.Case refl (stops []) t i in_text)
       (λ at m found.
       end_exact (outer false depth) symbol.Colon expr_ends (stops []) t m refl colon_closes (outer_read nesting false t depth m) (outer_exact nesting false t depth m enough shallow found.within)))
@@ -171,7 +178,8 @@ unfolding discriminant discriminant_read
 discriminant_exact t i in_text =
     turned_exact discriminant_parts discriminant discriminant_of (λ lifted x i j a ph. ph) (stops []) t i
     (λ lifted x e c j ph stop. record { part = (c.of, c.name); is = refl; phrase = ph }) _
-    (pair_exact (switch_type false) (ident false) (stops simple_ends) (stops []) (meets_first (ident false) (names false) simple_ends (stops []) (ident_begins false) names_after_simple) (ident_has false) t i
+    (pair_exact (switch_type false) (ident false) (stops simple_ends) (stops []) (meets_first (ident false) (names false) simple_ends (stops []) (ident_begins false) names_after_simple)
+    (ident_has false) t i
     (switch_type_read false t i) (λ s m. ident_read false t m) (switch_type_exact false t i in_text) (λ s m found. ident_exact false (stops []) t m found.within))
 
 discriminant_has : HasPhrase discriminant

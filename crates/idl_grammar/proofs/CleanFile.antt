@@ -25,11 +25,15 @@ use Rattle.idl_grammar.specs.declared.types.Discriminant.{Discriminant}
 use Rattle.idl_grammar.specs.Symbols as symbol
 use Rattle.idl_grammar.specs.Limits.{Meant, symbols_of, value_of, names, symbol_level, is_unary, binary_operators, unary_operators, binary_of, unary_of}
 use Rattle.idl_grammar.specs.Tree as tree
-use Rattle.idl_grammar.specs.Tree.{Expr, AttributeKind, Attribute, Attributes, Bound, Declarator, Init, Enumerator, Label, TypeSpec, Members, Cases, Arms, Arm, Import, Parameter, Parameters, Export, Tree}
+use Rattle.idl_grammar.specs.Tree.{Expr, AttributeKind, Attribute, Attributes, Bound, Declarator, Init, Enumerator, Label, TypeSpec, Members, Cases, Arms, Arm, Import, Parameter, Parameters, Export}
+use Rattle.idl_grammar.specs.Tree.{Tree}
 use Rattle.idl_grammar.specs.Expressions.{spelling, spelled, placed, ident, leaf, expr, outer}
-use Rattle.idl_grammar.specs.Grammar.{one_of, in_round, width_words, class_words, variable_words, width, integer, simple, switch_type, pointer_class, variable_word, variable_name, attribute_kind, attribute, attributes, bound, dimension, declarator, declarators, enumerator, enumerators, label, labels, discriminant, union_switch, tag_symbol, in_curly, member, type_spec, some_members, members, some_cases, cases, some_arms, arms, arm, parameter, parameters, init, export, import, file}
+use Rattle.idl_grammar.specs.Grammar.{one_of, in_round, width_words, class_words, variable_words, width, integer, simple, switch_type, pointer_class, variable_word, variable_name, attribute_kind}
+use Rattle.idl_grammar.specs.Grammar.{attribute, attributes, bound, dimension, declarator, declarators, enumerator, enumerators, label, labels, discriminant, union_switch, tag_symbol, in_curly}
+use Rattle.idl_grammar.specs.Grammar.{member, type_spec, some_members, members, some_cases, cases, some_arms, arms, arm, parameter, parameters, init, export, import, file}
 use Rattle.idl_grammar.specs.Answers.{is_banned}
-use Rattle.idl_grammar.proofs.Clean.{Clean, token_clean, mark_clean, nothing_clean, never_clean, then_clean, unless_clean, only_clean, at_clean, flag_clean, optional_clean, many_clean, some_clean, separated_clean, bracketed_clean, located_clean}
+use Rattle.idl_grammar.proofs.Clean.{Clean, token_clean, mark_clean, nothing_clean, never_clean, then_clean, unless_clean, only_clean, at_clean, flag_clean, optional_clean, many_clean, some_clean}
+use Rattle.idl_grammar.proofs.Clean.{separated_clean, bracketed_clean, located_clean}
 
 -- ## tokens
 
@@ -73,11 +77,14 @@ expr_clean inside depth start n (tree.Round at e) =
     then_clean (unless_clean _ _ (placed_clean symbol.OpenRound refl at)) (then_clean (expr_clean inside (depth + 1) start 0 e) (mark_clean symbol.CloseRound refl))
 expr_clean inside depth start n (tree.Unary at s e) = then_clean (unless_clean _ _ (token_clean is_unary banned_unary (λ l. (l.at, unary_of l.symbol)) (at, s))) (expr_clean inside depth start 11 e)
 expr_clean inside depth start n (tree.Binary l at s r) =
-    only_clean _ (then_clean (expr_clean inside depth start _ l) (then_clean (unless_clean _ _ (token_clean (λ b. leb 1 (symbol_level b)) banned_level (λ l. (l.at, binary_of l.symbol)) (at, s))) (expr_clean inside depth start _ r)))
+    only_clean _
+    (then_clean (expr_clean inside depth start _ l)
+    (then_clean (unless_clean _ _ (token_clean (λ b. leb 1 (symbol_level b)) banned_level (λ l. (l.at, binary_of l.symbol)) (at, s))) (expr_clean inside depth start _ r)))
 expr_clean inside depth start n (tree.Conditional c at a b) =
     only_clean _
     (then_clean (expr_clean inside depth start 1 c)
-    (then_clean (unless_clean _ _ (placed_clean symbol.Question refl at)) (then_clean (expr_clean inside depth start 0 a) (then_clean (mark_clean symbol.Colon refl) (expr_clean inside depth start 0 b)))))
+    (then_clean (unless_clean _ _ (placed_clean symbol.Question refl at))
+    (then_clean (expr_clean inside depth start 0 a) (then_clean (mark_clean symbol.Colon refl) (expr_clean inside depth start 0 b)))))
 
 outer_clean : (inside : Bool) (depth : ℕ) (e : Expr) → Clean (outer inside depth e)
 unfolding outer
@@ -133,7 +140,8 @@ unfolding attribute_kind
 kind_clean depth (tree.Uuid u) = then_clean (mark_clean symbol.Uuid refl) (round_clean depth (spelled symbol.UuidValue) (spelled_clean symbol.UuidValue refl) u)
 kind_clean depth (tree.Version major minor) =
     then_clean (mark_clean symbol.Version refl) (round_clean depth _ (λ (p : Spelling × Option Spelling). then_clean (spelled_clean symbol.Number refl p.0) (dotted_clean p.1)) (major, minor))
-kind_clean depth (tree.Endpoint list) = then_clean (mark_clean symbol.Endpoint refl) (round_clean depth _ (separated_clean symbol.Comma refl (spelled symbol.Quoted) (spelled_clean symbol.Quoted refl)) list)
+kind_clean depth (tree.Endpoint list) =
+    then_clean (mark_clean symbol.Endpoint refl) (round_clean depth _ (separated_clean symbol.Comma refl (spelled symbol.Quoted) (spelled_clean symbol.Quoted refl)) list)
 kind_clean depth tree.Local = unless_clean _ _ (token_clean (λ s. is_in (symbol.Local ∷ symbol.BannedAttribute ∷ []) s) refl to_unit tt)
 kind_clean depth (tree.PointerDefault c) = then_clean (mark_clean symbol.PointerDefault refl) (round_clean depth pointer_class class_clean c)
 kind_clean depth (tree.Class c) = class_clean c
@@ -290,12 +298,14 @@ unfolding export
 export_clean depth (tree.Typedef at a pipe type ds) =
     at_clean at
     (then_clean (mark_clean symbol.Typedef refl)
-    (then_clean (maybe_clean depth a) (then_clean (flag_clean symbol.Pipe refl pipe) (then_clean (type_clean depth type) (then_clean (declarators_clean depth ds) (mark_clean symbol.Semicolon refl))))))
+    (then_clean (maybe_clean depth a)
+    (then_clean (flag_clean symbol.Pipe refl pipe) (then_clean (type_clean depth type) (then_clean (declarators_clean depth ds) (mark_clean symbol.Semicolon refl))))))
 export_clean depth (tree.Const at type star name value) =
     at_clean at
     (then_clean (mark_clean symbol.Const refl)
     (then_clean (simple_clean type)
-    (then_clean (flag_clean symbol.Star refl star) (then_clean (ident_clean false name) (then_clean (mark_clean symbol.Equals refl) (then_clean (init_clean depth value) (mark_clean symbol.Semicolon refl)))))))
+    (then_clean (flag_clean symbol.Star refl star)
+    (then_clean (ident_clean false name) (then_clean (mark_clean symbol.Equals refl) (then_clean (init_clean depth value) (mark_clean symbol.Semicolon refl)))))))
 export_clean depth (tree.Tagged at a type) = at_clean at (then_clean (maybe_clean depth a) (then_clean (type_clean depth type) (mark_clean symbol.Semicolon refl)))
 export_clean depth (tree.Operation at a result name ps) =
     at_clean at

@@ -270,7 +270,8 @@ module _ {A : Type 0} (P Q : Rel A) (firsts others : List ℕ) (begins : Begins 
     second_only h lifted x e c j (inl ph) stop = clash (is_in firsts (symbol_at x i)) (begins lifted x i j c ph) (ap (λ (l : Lexeme). is_in firsts l.symbol) e ∙ h)
     second_only h lifted x e c j (inr ph) stop = ph
 
-    either_case : (r s : Read A) → (is_in firsts (symbol_at t i) ≡ true → Exact P Stop t i r) → Exact Q Stop t i s → (b : Bool) → is_in firsts (symbol_at t i) ≡ b → Exact (either P Q) Stop t i (cond b r s)
+    either_case : (r s : Read A) → (is_in firsts (symbol_at t i) ≡ true → Exact P Stop t i r) → Exact Q Stop t i s → (b : Bool) → is_in firsts (symbol_at t i) ≡ b
+        → Exact (either P Q) Stop t i (cond b r s)
     either_case r s x y true h = changed_exact P (either P Q) (λ lifted x i j a ph. inl ph) Stop t i (first_only h) r (x h)
     either_case r s x y false h = changed_exact Q (either P Q) (λ lifted x i j a ph. inr ph) Stop t i (second_only h) s y
 

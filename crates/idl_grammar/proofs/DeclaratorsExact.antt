@@ -5,7 +5,8 @@ use Rattle.grammar_phrases.specs.Text.{Text, symbol_at, is_in, Lifted, Rel, mark
 use Rattle.grammar_phrases.specs.Reading.{mark_read, list_read, behind_read}
 use Rattle.grammar_phrases.proofs.Exact.{Exact, HasPhrase, Part, pair_exact, turned_exact}
 use Rattle.grammar_phrases.proofs.Parts.{marked, mark_exact, mark_has, pair_has, turned_has, optional_has, many_has}
-use Rattle.grammar_phrases.proofs.Sequences.{stops, Begins, subset, disjoint, meets_or, meets_first, skip_exact, skip_begins, pair_begins, or_pair_begins, option_exact, option_begins, list_exact, list_begins, separated_exact, separated_has, separated_begins, bracketed_exact, bracketed_begins, made_exact, made_begins}
+use Rattle.grammar_phrases.proofs.Sequences.{stops, Begins, subset, disjoint, meets_or, meets_first, skip_exact, skip_begins, pair_begins, or_pair_begins, option_exact, option_begins, list_exact}
+use Rattle.grammar_phrases.proofs.Sequences.{list_begins, separated_exact, separated_has, separated_begins, bracketed_exact, bracketed_begins, made_exact, made_begins}
 use Rattle.idl_grammar.specs.declared.words.Spelling.{Spelling}
 use Rattle.idl_grammar.specs.Symbols as symbol
 use Rattle.idl_grammar.specs.Limits.{names}
@@ -15,7 +16,8 @@ use Rattle.idl_grammar.specs.Expressions.{placed, ident, outer}
 use Rattle.idl_grammar.specs.ReadExpressions.{placed_read, ident_read, outer_read}
 use Rattle.idl_grammar.specs.Grammar.{bound, dimension, declarator, declarators}
 use Rattle.idl_grammar.specs.Reading.{unless_read, upper_read, range_of, range_read, bound_read, dimension_read, declarator_of, declarator_read, declarators_read}
-use Rattle.idl_grammar.proofs.Combine.{changed_exact, branch_exact, mark_begins, placed_exact, placed_begins, either, either_exact, either_begins, ident_exact, ident_has, ident_begins, before, unless_exact, before_meets}
+use Rattle.idl_grammar.proofs.Combine.{changed_exact, branch_exact, mark_begins, placed_exact, placed_begins, either, either_exact, either_begins, ident_exact, ident_has, ident_begins, before}
+use Rattle.idl_grammar.proofs.Combine.{unless_exact, before_meets}
 use Rattle.idl_grammar.proofs.OuterExact.{expr_firsts, expr_ends, outer_exact, outer_begins}
 use Rattle.idl_grammar.proofs.AttributesExact.{star_not_name}
 
@@ -120,15 +122,18 @@ module _ (depth : ℕ) where
     upper_exact : (i : ℕ) → i ≤ length t → Exact upper (stops expr_ends) t i (upper_read nesting t depth i)
     unfolding upper_read
     upper_exact i in_text =
-        branch_exact (marked symbol.Star) (outer false depth) upper upper_of (symbol.Star ∷ []) (expr_firsts false) (mark_begins symbol.Star refl) (outer_begins false depth) star_apart upper_forth upper_back
-        (stops expr_ends) t i (mark_read symbol.Star t i) (outer_read nesting false t depth i) (λ h. mark_exact symbol.Star refl (stops expr_ends) t i in_text) (outer_exact nesting false t depth i enough shallow in_text)
+        branch_exact (marked symbol.Star) (outer false depth) upper upper_of (symbol.Star ∷ []) (expr_firsts false) (mark_begins symbol.Star refl)
+        (outer_begins false depth) star_apart upper_forth upper_back
+        (stops expr_ends) t i (mark_read symbol.Star t i) (outer_read nesting false t depth i) (λ h. mark_exact symbol.Star refl (stops expr_ends) t i in_text)
+        (outer_exact nesting false t depth i enough shallow in_text)
 
     range_exact : (i : ℕ) → i ≤ length t → Exact ranges (stops bound_ends) t i (range_read nesting t depth i)
     unfolding range_read
     range_exact i in_text =
         made_exact range_of range_parts (stops bound_ends) t i _
         (pair_exact (outer false depth) (optional (symbol.DotDot ⊳ upper)) (stops expr_ends) (stops bound_ends)
-        (meets_or (optional (symbol.DotDot ⊳ upper)) (symbol.DotDot ∷ []) expr_ends bound_ends (option_begins (symbol.DotDot ⊳ upper) (symbol.DotDot ∷ []) (skip_begins symbol.DotDot upper)) dots_apart exprs_end)
+        (meets_or (optional (symbol.DotDot ⊳ upper)) (symbol.DotDot ∷ []) expr_ends bound_ends
+        (option_begins (symbol.DotDot ⊳ upper) (symbol.DotDot ∷ []) (skip_begins symbol.DotDot upper)) dots_apart exprs_end)
         (optional_has (symbol.DotDot ⊳ upper)) t i (outer_read nesting false t depth i) _ (outer_exact nesting false t depth i enough shallow in_text)
         (λ e m found.
         option_exact (symbol.DotDot ⊳ upper) (symbol.DotDot ∷ []) expr_ends bound_ends t m (skip_begins symbol.DotDot upper) dots_end exprs_end found.within
@@ -149,7 +154,8 @@ module _ (nesting : ℕ) (enough : 129 ≤ nesting) (t : Text) (depth : ℕ) whe
   pub dimension_exact : (i : ℕ) → i ≤ length t → Exact (dimension depth) (stops []) t i (dimension_read nesting t depth i)
   unfolding dimension dimension_read
   dimension_exact i in_text =
-      bracketed_exact depth symbol.OpenSquare symbol.CloseSquare (optional (bound (depth + 1))) refl refl (before (bound (depth + 1)) bound_firsts (bound_begins (depth + 1)) symbol.CloseSquare bound_no_close) (stops []) t i in_text
+      bracketed_exact depth symbol.OpenSquare symbol.CloseSquare (optional (bound (depth + 1))) refl refl
+      (before (bound (depth + 1)) bound_firsts (bound_begins (depth + 1)) symbol.CloseSquare bound_no_close) (stops []) t i in_text
       (before_meets symbol.CloseSquare) (optional_has (bound (depth + 1))) (unless_read symbol.CloseSquare t (bound_read nesting t (depth + 1)))
       (λ room m after in_m.
       unless_exact (bound (depth + 1)) bound_firsts (bound_begins (depth + 1)) symbol.CloseSquare bound_no_close (stops bound_ends)
@@ -168,7 +174,8 @@ declarator_parts depth = many (placed symbol.Star) ⊗ (ident false ⊗ many (di
 pub declarator_has : (depth : ℕ) → HasPhrase (declarator depth)
 unfolding declarator
 declarator_has depth =
-    turned_has (declarator_parts depth) (declarator depth) declarator_of (λ lifted x i j a ph. ph) (pair_has _ _ (many_has (placed symbol.Star)) (pair_has _ _ (ident_has false) (many_has (dimension depth))))
+    turned_has (declarator_parts depth) (declarator depth) declarator_of (λ lifted x i j a ph. ph)
+    (pair_has _ _ (many_has (placed symbol.Star)) (pair_has _ _ (ident_has false) (many_has (dimension depth))))
 
 -- what a declarator begins with
 unfoldable pub declarator_firsts : List ℕ
@@ -186,7 +193,8 @@ pub declarator_begins : (depth : ℕ) → Begins (declarator depth) declarator_f
 unfolding declarator
 declarator_begins depth lifted x i j c ph =
     or_pair_begins (many (placed symbol.Star)) (ident false ⊗ many (dimension depth)) (symbol.Star ∷ []) (names false) declarator_firsts
-    (list_begins (placed symbol.Star) (symbol.Star ∷ []) (placed_begins symbol.Star refl)) (pair_begins (ident false) (many (dimension depth)) (names false) (ident_begins false)) star_declares name_declares
+    (list_begins (placed symbol.Star) (symbol.Star ∷ []) (placed_begins symbol.Star refl))
+    (pair_begins (ident false) (many (dimension depth)) (names false) (ident_begins false)) star_declares name_declares
     lifted x i j (c.stars, (c.name, c.dimensions)) ph
 
 -- what goes on with a declarator, and with a list of them
@@ -211,7 +219,8 @@ module _ (nesting : ℕ) (enough : 129 ≤ nesting) (t : Text) (depth : ℕ) whe
       turned_exact (declarator_parts depth) (declarator depth) declarator_of (λ lifted x i j a ph. ph) (stops declarator_ends) t i
       (λ lifted x e c j ph stop. record { part = (c.stars, (c.name, c.dimensions)); is = refl; phrase = ph }) _
       (pair_exact (many (placed symbol.Star)) (ident false ⊗ many (dimension depth)) (stops (symbol.Star ∷ [])) (stops declarator_ends)
-      (meets_first (ident false ⊗ many (dimension depth)) (names false) (symbol.Star ∷ []) (stops declarator_ends) (pair_begins (ident false) (many (dimension depth)) (names false) (ident_begins false)) (star_not_name false))
+      (meets_first (ident false ⊗ many (dimension depth)) (names false) (symbol.Star ∷ []) (stops declarator_ends)
+      (pair_begins (ident false) (many (dimension depth)) (names false) (ident_begins false)) (star_not_name false))
       (pair_has _ _ (ident_has false) (many_has (dimension depth))) t i (list_read (symbol.Star ∷ []) t (placed_read symbol.Star t) i) _
       (list_exact (placed symbol.Star) (symbol.Star ∷ []) [] (symbol.Star ∷ []) (placed_begins symbol.Star refl) refl refl refl refl t i (placed_read symbol.Star t)
       (λ m based in_m. placed_exact symbol.Star refl (stops []) t m in_m) i (omega arith) in_text)

@@ -4,7 +4,8 @@ use Rattle.grammar_phrases.specs.Text.{Text, lexeme_at, is_in, Lifted, Rel, mark
 use Rattle.grammar_phrases.specs.Reading.{Read, then, turned, mark_read, located_read}
 use Rattle.grammar_phrases.proofs.Exact.{Exact, HasPhrase, Part, pair_exact}
 use Rattle.grammar_phrases.proofs.Parts.{marked, mark_exact, mark_has, pair_has, turned_has, optional_has}
-use Rattle.grammar_phrases.proofs.Sequences.{stops, Begins, subset, disjoint, meets_first, skip_exact, skip_has, skip_begins, end_exact, end_has, end_begins, pair_begins, or_pair_begins, located_exact, bracketed_exact, bracketed_has, made_exact, made_begins}
+use Rattle.grammar_phrases.proofs.Sequences.{stops, Begins, subset, disjoint, meets_first, skip_exact, skip_has, skip_begins, end_exact, end_has, end_begins, pair_begins, or_pair_begins}
+use Rattle.grammar_phrases.proofs.Sequences.{located_exact, bracketed_exact, bracketed_has, made_exact, made_begins}
 use Rattle.idl_grammar.specs.declared.words.Spelling.{Spelling}
 use Rattle.idl_grammar.specs.declared.types.SimpleType.{SimpleType}
 use Rattle.idl_grammar.specs.Symbols as symbol
@@ -14,8 +15,10 @@ use Rattle.idl_grammar.specs.Tree.{Expr, Attributes, Declarator, Init, TypeSpec,
 use Rattle.idl_grammar.specs.Expressions.{spelled, placed, ident, outer}
 use Rattle.idl_grammar.specs.ReadExpressions.{spelled_read, placed_read, ident_read, outer_read}
 use Rattle.idl_grammar.specs.Grammar.{flag, in_round, simple, attributes, declarators, type_spec, parameters, init}
-use Rattle.idl_grammar.specs.Reading.{flag_read, line_read, simple_read, maybe_attributes_read, declarators_read, type_firsts, member_firsts, type_read, parameters_read, init_read, typedef_read, const_read, signature_read, declared_of, declared_read}
-use Rattle.idl_grammar.proofs.Combine.{changed_exact, turned_twice, branch_exact, branch_begins, flag_exact, flag_has, flag_begins, mark_begins, spelled_exact, spelled_begins, placed_exact, placed_begins, ident_exact, ident_has, ident_begins, either, either_exact, either_begins, before_meets}
+use Rattle.idl_grammar.specs.Reading.{flag_read, line_read, simple_read, maybe_attributes_read, declarators_read, type_firsts, member_firsts, type_read, parameters_read, init_read, typedef_read}
+use Rattle.idl_grammar.specs.Reading.{const_read, signature_read, declared_of, declared_read}
+use Rattle.idl_grammar.proofs.Combine.{changed_exact, turned_twice, branch_exact, branch_begins, flag_exact, flag_has, flag_begins, mark_begins, spelled_exact, spelled_begins, placed_exact}
+use Rattle.idl_grammar.proofs.Combine.{placed_begins, ident_exact, ident_has, ident_begins, either, either_exact, either_begins, before_meets}
 use Rattle.idl_grammar.proofs.OuterExact.{expr_firsts, expr_ends, outer_exact, outer_has, outer_begins}
 use Rattle.idl_grammar.proofs.SimpleExact.{simple_ends, simple_exact, simple_has}
 use Rattle.idl_grammar.proofs.AttributesExact.{star_not_name}
@@ -157,7 +160,8 @@ module _ (depth : ℕ) where
 
   starred_begins : Begins starred declarator_firsts
   starred_begins =
-      or_pair_begins (flag symbol.Star) (ident false ⊗ valued) (symbol.Star ∷ []) (names false) declarator_firsts (flag_begins symbol.Star refl) (pair_begins (ident false) valued (names false) (ident_begins false)) star_declares name_declares
+      or_pair_begins (flag symbol.Star) (ident false ⊗ valued) (symbol.Star ∷ []) (names false) declarator_firsts (flag_begins symbol.Star refl)
+      (pair_begins (ident false) valued (names false) (ident_begins false)) star_declares name_declares
 
   starred_has : HasPhrase starred
   starred_has = pair_has _ _ (flag_has symbol.Star refl) (pair_has _ _ (ident_has false) valued_has)
@@ -218,7 +222,8 @@ module _ (depth : ℕ) where
 
   signed_begins : Begins signed (symbol.Semicolon ∷ names false)
   signed_begins =
-      branch_begins (marked symbol.Semicolon) signature signed signed_of (symbol.Semicolon ∷ []) (names false) (mark_begins symbol.Semicolon refl) signature_begins semicolon_no_name signed_forth signed_back (symbol.Semicolon ∷ names false) refl
+      branch_begins (marked symbol.Semicolon) signature signed signed_of (symbol.Semicolon ∷ []) (names false)
+      (mark_begins symbol.Semicolon refl) signature_begins semicolon_no_name signed_forth signed_back (symbol.Semicolon ∷ names false) refl
       names_signed
 
   signed_has : HasPhrase signed
@@ -250,10 +255,12 @@ module _ (depth : ℕ) where
     declared_line_exact : (i : ℕ) → i ≤ length t → Exact declared_line (stops []) t i (then (type_read fuel nesting t depth i) (λ c r. line_read t (declarators_read nesting t depth r)))
     declared_line_exact i in_text =
         pair_exact (type_spec depth) (declarators depth ⊲ symbol.Semicolon) (stops type_ends) (stops [])
-        (meets_first (declarators depth ⊲ symbol.Semicolon) declarator_firsts type_ends (stops []) (end_begins (declarators depth) symbol.Semicolon declarator_firsts (declarators_begin depth)) declarators_end_types)
+        (meets_first (declarators depth ⊲ symbol.Semicolon) declarator_firsts type_ends (stops [])
+        (end_begins (declarators depth) symbol.Semicolon declarator_firsts (declarators_begin depth)) declarators_end_types)
         (end_has (declarators depth) symbol.Semicolon refl (declarators_has depth)) t i (type_read fuel nesting t depth i) (λ c r. line_read t (declarators_read nesting t depth r))
         (type_exact nesting enough t fuel depth i shallow fueled in_text)
-        (λ c r found. end_exact (declarators depth) symbol.Semicolon declarators_ends (stops []) t r refl refl (declarators_read nesting t depth r) (declarators_exact nesting enough t depth r found.within))
+        (λ c r found. end_exact (declarators depth) symbol.Semicolon declarators_ends (stops []) t r refl refl (declarators_read nesting t depth r)
+        (declarators_exact nesting enough t depth r found.within))
 
     pub typedef_exact : (i : ℕ) → i ≤ length t → Exact (made typedef_of (located typedef_line)) (stops []) t i (typedef_read fuel nesting t depth (lexeme_at t i).at i)
     unfolding typedef_read
@@ -261,11 +268,14 @@ module _ (depth : ℕ) where
         at_exact typedef_of typedef_line (symbol.Typedef ∷ []) t i (skip_begins symbol.Typedef typedef_tail) refl _
         (skip_exact symbol.Typedef typedef_tail (stops []) t i refl in_text typedef_tail_has _
         (λ m after in_m.
-        pair_exact (optional (attributes depth)) piped (stops (symbol.OpenSquare ∷ [])) (stops []) (meets_first piped (symbol.Pipe ∷ type_firsts) (symbol.OpenSquare ∷ []) (stops []) piped_begins pipes_no_square) piped_has t m
+        pair_exact (optional (attributes depth)) piped (stops (symbol.OpenSquare ∷ [])) (stops [])
+        (meets_first piped (symbol.Pipe ∷ type_firsts) (symbol.OpenSquare ∷ []) (stops []) piped_begins pipes_no_square) piped_has t m
         (maybe_attributes_read nesting t depth m) _ (maybe_attributes_exact nesting enough t depth m in_m)
         (λ a o found.
-        pair_exact (flag symbol.Pipe) declared_line (stops (symbol.Pipe ∷ [])) (stops []) (meets_first declared_line type_firsts (symbol.Pipe ∷ []) (stops []) declared_line_begins types_no_pipe) declared_line_has t o
-        (flag_read symbol.Pipe t o) (λ pipe q. then (type_read fuel nesting t depth q) (λ c r. line_read t (declarators_read nesting t depth r))) (flag_exact symbol.Pipe refl (symbol.Pipe ∷ []) refl t o found.within)
+        pair_exact (flag symbol.Pipe) declared_line (stops (symbol.Pipe ∷ [])) (stops [])
+        (meets_first declared_line type_firsts (symbol.Pipe ∷ []) (stops []) declared_line_begins types_no_pipe) declared_line_has t o
+        (flag_read symbol.Pipe t o) (λ pipe q. then (type_read fuel nesting t depth q) (λ c r. line_read t (declarators_read nesting t depth r)))
+        (flag_exact symbol.Pipe refl (symbol.Pipe ∷ []) refl t o found.within)
         (λ pipe q found_q. declared_line_exact q found_q.within))))
 
     pub const_exact : (i : ℕ) → i ≤ length t → Exact (made const_of (located const_line)) (stops []) t i (const_read nesting t depth (lexeme_at t i).at i)
@@ -274,21 +284,25 @@ module _ (depth : ℕ) where
         at_exact const_of const_line (symbol.Const ∷ []) t i (skip_begins symbol.Const const_tail) refl _
         (skip_exact symbol.Const const_tail (stops []) t i refl in_text (pair_has _ _ simple_has starred_has) _
         (λ m after in_m.
-        pair_exact simple starred (stops simple_ends) (stops []) (meets_first starred declarator_firsts simple_ends (stops []) starred_begins declarators_end_simple) starred_has t m (simple_read t m) _ (simple_exact t m in_m)
+        pair_exact simple starred (stops simple_ends) (stops []) (meets_first starred declarator_firsts simple_ends (stops []) starred_begins declarators_end_simple) starred_has t m
+        (simple_read t m) _ (simple_exact t m in_m)
         (λ s o found.
         pair_exact (flag symbol.Star) (ident false ⊗ valued) (stops (symbol.Star ∷ [])) (stops [])
-        (meets_first (ident false ⊗ valued) (names false) (symbol.Star ∷ []) (stops []) (pair_begins (ident false) valued (names false) (ident_begins false)) (star_not_name false)) (pair_has _ _ (ident_has false) valued_has) t o
+        (meets_first (ident false ⊗ valued) (names false) (symbol.Star ∷ []) (stops []) (pair_begins (ident false) valued (names false) (ident_begins false)) (star_not_name false))
+        (pair_has _ _ (ident_has false) valued_has) t o
         (flag_read symbol.Star t o) _ (flag_exact symbol.Star refl (symbol.Star ∷ []) refl t o found.within)
         (λ star q found_q.
         pair_exact (ident false) valued (stops []) (stops []) (λ lifted x m j b ph stop. refl) valued_has t q (ident_read false t q) _ (ident_exact false (stops []) t q found_q.within)
         (λ name r found_r.
-        skip_exact symbol.Equals (init depth ⊲ symbol.Semicolon) (stops []) t r refl found_r.within (end_has (init depth) symbol.Semicolon refl (init_has depth)) (λ u. line_read t (init_read nesting t depth u))
+        skip_exact symbol.Equals (init depth ⊲ symbol.Semicolon) (stops []) t r refl found_r.within (end_has (init depth) symbol.Semicolon refl (init_has depth))
+        (λ u. line_read t (init_read nesting t depth u))
         (λ u past in_u. end_exact (init depth) symbol.Semicolon expr_ends (stops []) t u refl init_closes (init_read nesting t depth u) (init_exact depth nesting enough shallow t u in_u)))))))
 
     signature_exact : (i : ℕ) → i ≤ length t → Exact signature (stops []) t i (signature_read fuel nesting t depth i)
     unfolding signature_read
     signature_exact i in_text =
-        pair_exact (ident false) (bracketed_parameters ⊲ symbol.Semicolon) (stops []) (stops []) (λ lifted x m j b ph stop. refl) (end_has bracketed_parameters symbol.Semicolon refl bracketed_parameters_has) t i
+        pair_exact (ident false) (bracketed_parameters ⊲ symbol.Semicolon) (stops []) (stops []) (λ lifted x m j b ph stop. refl)
+        (end_has bracketed_parameters symbol.Semicolon refl bracketed_parameters_has) t i
         (ident_read false t i) _ (ident_exact false (stops []) t i in_text)
         (λ name m found.
         end_exact bracketed_parameters symbol.Semicolon [] (stops []) t m refl refl _
@@ -300,11 +314,13 @@ module _ (depth : ℕ) where
     unfolding declared_read
     typed_exact i in_text =
         at_exact typed_of typed_line member_firsts t i typed_line_begins members_real _
-        (pair_exact (optional (attributes depth)) typed (stops (symbol.OpenSquare ∷ [])) (stops []) (meets_first typed type_firsts (symbol.OpenSquare ∷ []) (stops []) typed_begins types_no_square) typed_has t i
+        (pair_exact (optional (attributes depth)) typed (stops (symbol.OpenSquare ∷ [])) (stops [])
+        (meets_first typed type_firsts (symbol.OpenSquare ∷ []) (stops []) typed_begins types_no_square) typed_has t i
         (maybe_attributes_read nesting t depth i) _ (maybe_attributes_exact nesting enough t depth i in_text)
         (λ a m found.
         pair_exact (type_spec depth) signed (stops type_ends) (stops []) (meets_first signed (symbol.Semicolon ∷ names false) type_ends (stops []) signed_begins signed_no_type) signed_has t m
         (type_read fuel nesting t depth m) _ (type_exact nesting enough t fuel depth m shallow fueled found.within)
         (λ c o found_c.
-        branch_exact (marked symbol.Semicolon) signature signed signed_of (symbol.Semicolon ∷ []) (names false) (mark_begins symbol.Semicolon refl) signature_begins semicolon_no_name signed_forth signed_back (stops []) t o
+        branch_exact (marked symbol.Semicolon) signature signed signed_of (symbol.Semicolon ∷ []) (names false)
+        (mark_begins symbol.Semicolon refl) signature_begins semicolon_no_name signed_forth signed_back (stops []) t o
         (mark_read symbol.Semicolon t o) (signature_read fuel nesting t depth o) (λ h. mark_exact symbol.Semicolon refl (stops []) t o found_c.within) (signature_exact o found_c.within))))

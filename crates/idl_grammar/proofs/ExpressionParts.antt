@@ -193,10 +193,15 @@ module _ (inside : Bool) where
   pub leaf_forth : (lifted : Lifted) (x : Text) (i j : ℕ) (a : Operand) → operand_token a lifted x i j → leaf inside a lifted x i j
   leaf_forth lifted x i j a ph =
       subst (λ (v : Operand). leaf inside v lifted x i j) (sym (ph.1 ∙ is_by_symbol (lexeme_at x i)))
-      (by_tests (is (lexeme_at x i).symbol symbol.Number) (is (lexeme_at x i).symbol symbol.Character) (is (lexeme_at x i).symbol symbol.True) (is (lexeme_at x i).symbol symbol.False) refl refl refl refl (is_in_list (symbol_at x i) ph.0)) where
-        by_tests : (n c t f : Bool) → is (lexeme_at x i).symbol symbol.Number ≡ n → is (lexeme_at x i).symbol symbol.Character ≡ c → is (lexeme_at x i).symbol symbol.True ≡ t → is (lexeme_at x i).symbol symbol.False ≡ f
+      (by_tests (is (lexeme_at x i).symbol symbol.Number) (is (lexeme_at x i).symbol symbol.Character) (is (lexeme_at x i).symbol symbol.True)
+      (is (lexeme_at x i).symbol symbol.False) refl refl refl refl (is_in_list (symbol_at x i) ph.0)) where
+        by_tests : (n c t f : Bool) → is (lexeme_at x i).symbol symbol.Number ≡ n → is (lexeme_at x i).symbol symbol.Character ≡ c → is (lexeme_at x i).symbol symbol.True ≡ t
+            → is (lexeme_at x i).symbol symbol.False ≡ f
             → (n || (c || (t || (f || is_in (names inside) (lexeme_at x i).symbol)))) ≡ true
-            → leaf inside (cond n (operand.Number (spelling (lexeme_at x i))) (cond c (operand.Character (spelling (lexeme_at x i))) (cond t (operand.True (lexeme_at x i).at) (cond f (operand.False (lexeme_at x i).at) (operand.Name (spelling (lexeme_at x i))))))) lifted x i j
+            → leaf inside
+            (cond n (operand.Number (spelling (lexeme_at x i)))
+            (cond c (operand.Character (spelling (lexeme_at x i)))
+            (cond t (operand.True (lexeme_at x i).at) (cond f (operand.False (lexeme_at x i).at) (operand.Name (spelling (lexeme_at x i))))))) lifted x i j
         by_tests true c t f e d g k h = (e, refl, ph.2)
         by_tests false true t f e d g k h = (d, refl, ph.2)
         by_tests false false true f e d g k h = (g, refl, ph.2)

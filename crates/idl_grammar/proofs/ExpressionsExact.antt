@@ -14,10 +14,12 @@ use Rattle.idl_grammar.specs.Symbols as symbol
 use Rattle.idl_grammar.specs.Limits.{level, symbol_level, is_unary, is_operator, operators, many_operators, binary_of, unary_of, binary_operators}
 use Rattle.idl_grammar.specs.Tree.{Expr, Leaf, Round, Unary, Binary, Conditional}
 use Rattle.idl_grammar.specs.Expressions.{spelled, placed, leaf, opening, counted, unary_sign, expr}
-use Rattle.idl_grammar.specs.ReadExpressions.{leaf_read, opening_read, unary_sign_read, binary_sign_read, question_read, fold, operation_read, level_read, conditional_of, choice_of_two_read, conditional_read, round_read, unary_read, expr_read}
+use Rattle.idl_grammar.specs.ReadExpressions.{leaf_read, opening_read, unary_sign_read, binary_sign_read, question_read, fold, operation_read, level_read, conditional_of, choice_of_two_read}
+use Rattle.idl_grammar.specs.ReadExpressions.{conditional_read, round_read, unary_read, expr_read}
 use Rattle.idl_grammar.proofs.Levels.{Sign, level_of_sign, at_level, item, split, whole}
 use Rattle.idl_grammar.proofs.Combine.{spelled_has}
-use Rattle.idl_grammar.proofs.ExpressionParts.{many_operators_depends, few_operators, operators_rise, operators_step, low_level, operand_not_unary, operand_not_round, unary_not_round, unary_real, unary_minus, colon_level, question_level, close_level, end_level, operator_of_unary, operator_of_question, leaf_back, leaf_exact}
+use Rattle.idl_grammar.proofs.ExpressionParts.{many_operators_depends, few_operators, operators_rise, operators_step, low_level, operand_not_unary, operand_not_round, unary_not_round, unary_real}
+use Rattle.idl_grammar.proofs.ExpressionParts.{unary_minus, colon_level, question_level, close_level, end_level, operator_of_unary, operator_of_question, leaf_back, leaf_exact}
 
 -- ## forward
 
@@ -32,8 +34,14 @@ expr_forward inside depth start n (Binary l at s r) lifted x i j ph =
 expr_forward inside depth start n (Conditional c at a b) lifted x i j ph =
     let w = ph.1 in
     let v = w.2.2 in
-    omega
-    (arith, expr_forward inside depth start 1 c lifted x i w.0 w.1, w.2.1.1.2, expr_forward inside depth start 0 a lifted x w.2.0 v.0 v.1, v.2.1.1, expr_forward inside depth start 0 b lifted x v.2.0 j v.2.2)
+    omega (
+      arith,
+      expr_forward inside depth start 1 c lifted x i w.0 w.1,
+      w.2.1.1.2,
+      expr_forward inside depth start 0 a lifted x w.2.0 v.0 v.1,
+      v.2.1.1,
+      expr_forward inside depth start 0 b lifted x v.2.0 j v.2.2,
+    )
 
 -- ## levels
 
@@ -161,7 +169,8 @@ module _ (inside : Bool) (start : ℕ) where
     level_exact : (k : ℕ) → k ≤ 10 → (i : ℕ) → base ≤ i → i ≤ length t → Exact (expr inside depth start (level_of k)) (stop_at k) t i (level_read start t unary k i)
     level_exact zero h i based in_text = unary_exact i based in_text
     level_exact (suc k) h i based in_text = level_step k (omega arith)
-        (λ i based in_text. subst (λ (n : ℕ). Exact (expr inside depth start n) (stop_at k) t i (level_read start t unary k i)) (level_of_next k (omega arith)) (level_exact k (omega arith) i based in_text)) i based in_text
+        (λ i based in_text. subst (λ (n : ℕ). Exact (expr inside depth start n) (stop_at k) t i (level_read start t unary k i)) (level_of_next k (omega arith))
+        (level_exact k (omega arith) i based in_text)) i based in_text
 
   -- ## the conditional
 

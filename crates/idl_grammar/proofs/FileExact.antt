@@ -4,7 +4,8 @@ use Rattle.grammar_phrases.specs.Text.{Text, is_in, Lifted, Rel, located, made, 
 use Rattle.grammar_phrases.specs.Reading.{then}
 use Rattle.grammar_phrases.proofs.Exact.{Exact, HasPhrase, pair_exact, turned_exact}
 use Rattle.grammar_phrases.proofs.Parts.{pair_has}
-use Rattle.grammar_phrases.proofs.Sequences.{stops, Begins, subset, disjoint, meets_or, skip_exact, skip_has, skip_begins, end_exact, end_has, located_begins, bracketed_exact, bracketed_has, made_begins}
+use Rattle.grammar_phrases.proofs.Sequences.{stops, Begins, subset, disjoint, meets_or, skip_exact, skip_has, skip_begins, end_exact, end_has, located_begins, bracketed_exact, bracketed_has}
+use Rattle.grammar_phrases.proofs.Sequences.{made_begins}
 use Rattle.idl_grammar.specs.declared.words.Spelling.{Spelling}
 use Rattle.idl_grammar.specs.Symbols as symbol
 use Rattle.idl_grammar.specs.Limits.{names}
@@ -14,7 +15,8 @@ use Rattle.idl_grammar.specs.Expressions.{spelled, ident}
 use Rattle.idl_grammar.specs.ReadExpressions.{spelled_read, ident_read}
 use Rattle.idl_grammar.specs.Grammar.{attributes, export}
 use Rattle.idl_grammar.specs.Reading.{type_firsts, member_firsts, export_read, export_firsts}
-use Rattle.idl_grammar.proofs.Combine.{changed_exact, turned_twice, branch_exact, branch_begins, flag_exact, flag_has, flag_begins, mark_begins, spelled_exact, spelled_begins, placed_exact, placed_begins, ident_exact, ident_has, ident_begins, either, either_exact, either_begins, before_meets}
+use Rattle.idl_grammar.proofs.Combine.{changed_exact, turned_twice, branch_exact, branch_begins, flag_exact, flag_has, flag_begins, mark_begins, spelled_exact, spelled_begins, placed_exact}
+use Rattle.idl_grammar.proofs.Combine.{placed_begins, ident_exact, ident_has, ident_begins, either, either_exact, either_begins, before_meets}
 use Rattle.grammar_phrases.specs.Text.{many, bracketed}
 use Rattle.grammar_phrases.proofs.Parts.{many_has}
 use Rattle.grammar_phrases.proofs.Sequences.{list_exact, list_begins, separated_exact, separated_has, ends_at}
@@ -114,7 +116,8 @@ module _ (depth : ℕ) where
 
   export_begins : Begins (export depth) export_firsts
   export_begins lifted x i j c ph =
-      either_begins typedefs (either consts typeds) (symbol.Typedef ∷ []) (symbol.Const ∷ member_firsts) typedefs_begin others_begin typedefs_apart export_firsts typedef_first const_first lifted x i j c (export_back lifted x i j c ph)
+      either_begins typedefs (either consts typeds) (symbol.Typedef ∷ [])
+      (symbol.Const ∷ member_firsts) typedefs_begin others_begin typedefs_apart export_firsts typedef_first const_first lifted x i j c (export_back lifted x i j c ph)
 
   module _ (fuel nesting : ℕ) (enough : 129 ≤ nesting) (shallow : depth ≤ 64) (fueled : 65 ≤ fuel + depth) (t : Text) where
     pub export_exact : (i : ℕ) → i ≤ length t → Exact (export depth) (stops []) t i (export_read fuel nesting t depth i)
@@ -151,7 +154,8 @@ import_exact t i in_text =
     (skip_exact symbol.Import (commas (spelled symbol.Quoted) ⊲ symbol.Semicolon) (stops []) t i refl in_text (end_has (commas (spelled symbol.Quoted)) symbol.Semicolon refl quoted_has) _
     (λ m after in_m.
     end_exact (commas (spelled symbol.Quoted)) symbol.Semicolon (symbol.Comma ∷ []) (stops []) t m refl refl (commas_read t (spelled_read symbol.Quoted t) m)
-    (separated_exact symbol.Comma (spelled symbol.Quoted) [] (symbol.Comma ∷ []) (Rattle.idl_grammar.proofs.Combine.spelled_has symbol.Quoted refl) refl refl refl refl t m (spelled_read symbol.Quoted t)
+    (separated_exact symbol.Comma (spelled symbol.Quoted) [] (symbol.Comma ∷ []) (Rattle.idl_grammar.proofs.Combine.spelled_has symbol.Quoted refl) refl refl refl refl t m
+    (spelled_read symbol.Quoted t)
     (λ o based in_o. spelled_exact symbol.Quoted refl (stops []) t o in_o) m (omega arith) in_m)))
 
 imports_exact : (t : Text) (i : ℕ) → i ≤ length t → Exact (many import) (stops (symbol.Import ∷ [])) t i (imports_read t i)

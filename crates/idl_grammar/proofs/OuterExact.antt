@@ -68,7 +68,8 @@ unary_listed s h = h
 pub expr_begins : (inside : Bool) (depth start n : ℕ) (lifted : Lifted) (x : Text) (i j : ℕ) (e : Expr) → expr inside depth start n e lifted x i j → is_in (expr_firsts inside) (symbol_at x i) ≡ true
 expr_begins inside depth start n lifted x i j (Leaf a) ph =
     in_more (operand_symbols inside) (expr_firsts inside) (symbol_at x i) (operands_first inside) (is_in_list inside (symbol_at x i) (leaf_back inside lifted x i j a ph).0)
-expr_begins inside depth start n lifted x i j (Round at e) ph = in_more (symbol.OpenRound ∷ []) (expr_firsts inside) (symbol_at x i) (round_first inside) (alone_in symbol.OpenRound (symbol_at x i) ph.1.1.0)
+expr_begins inside depth start n lifted x i j (Round at e) ph =
+    in_more (symbol.OpenRound ∷ []) (expr_firsts inside) (symbol_at x i) (round_first inside) (alone_in symbol.OpenRound (symbol_at x i) ph.1.1.0)
 expr_begins inside depth start n lifted x i j (Unary at s e) ph = in_more (symbols_of unary_operators) (expr_firsts inside) (symbol_at x i) (unary_first inside) (unary_listed (symbol_at x i) ph.1.1.0)
 expr_begins inside depth start n lifted x i j (Binary l at s r) ph = expr_begins inside depth start (level s) lifted x i ph.1.0 l ph.1.1
 expr_begins inside depth start n lifted x i j (Conditional c at a b) ph = expr_begins inside depth start 1 lifted x i ph.1.0 c ph.1.1
@@ -82,7 +83,8 @@ pub outer_has : (inside : Bool) (depth : ℕ) → HasPhrase (outer inside depth)
 unfolding outer
 outer_has inside depth = turned_has (spelled symbol.Number) (outer inside depth) (λ s. Leaf (operand.Number s)) (λ lifted x i j a ph. ph) (spelled_has symbol.Number refl)
 
-pub outer_exact : (nesting : ℕ) (inside : Bool) (t : Text) (depth i : ℕ) → 129 ≤ nesting → depth ≤ 64 → i ≤ length t → Exact (outer inside depth) (stops expr_ends) t i (outer_read nesting inside t depth i)
+pub outer_exact : (nesting : ℕ) (inside : Bool) (t : Text) (depth i : ℕ) → 129 ≤ nesting → depth ≤ 64 → i ≤ length t
+    → Exact (outer inside depth) (stops expr_ends) t i (outer_read nesting inside t depth i)
 unfolding outer outer_read
 outer_exact nesting inside t depth i enough shallow in_text =
     here_exact (expr inside depth i 0) (outer inside depth) (stops expr_ends) t i (λ lifted x j a ph. ph) (λ lifted x j a ph. ph) (outer_read nesting inside t depth i)

@@ -69,10 +69,12 @@ module _ (depth : ℕ) where
         turned_exact (located parameter_tail) (parameter depth) parameter_of (λ lifted x i j a ph. ph) (stops declarator_ends) t i
         (λ lifted x e c j ph stop. record { part = (c.at, (c.attributes, (c.type, c.declarator))); is = refl; phrase = ph }) _
         (located_exact parameter_tail member_firsts (stops declarator_ends) t i parameter_tail_begins members_real _
-        (pair_exact (optional (attributes depth)) field (stops (symbol.OpenSquare ∷ [])) (stops declarator_ends) (meets_first field type_firsts (symbol.OpenSquare ∷ []) (stops declarator_ends) field_begins types_no_square)
+        (pair_exact (optional (attributes depth)) field (stops (symbol.OpenSquare ∷ [])) (stops declarator_ends)
+        (meets_first field type_firsts (symbol.OpenSquare ∷ []) (stops declarator_ends) field_begins types_no_square)
         (pair_has _ _ (type_has depth) (declarator_has depth)) t i (maybe_attributes_read nesting t depth i) _ (maybe_attributes_exact nesting enough t depth i in_text)
         (λ a m found.
-        pair_exact (type_spec depth) (declarator depth) (stops type_ends) (stops declarator_ends) (meets_first (declarator depth) declarator_firsts type_ends (stops declarator_ends) (declarator_begins depth) declarators_end_types)
+        pair_exact (type_spec depth) (declarator depth) (stops type_ends) (stops declarator_ends)
+        (meets_first (declarator depth) declarator_firsts type_ends (stops declarator_ends) (declarator_begins depth) declarators_end_types)
         (declarator_has depth) t m (type_read fuel nesting t depth m) (λ c o. declarator_read nesting t depth o) (type_exact nesting enough t fuel depth m shallow fueled found.within)
         (λ c o found_c. declarator_exact nesting enough t depth o found_c.within))))
 
@@ -82,7 +84,8 @@ module _ (depth : ℕ) where
     more_exact i in_text =
         list_exact (symbol.Comma ⊳ parameter depth) (symbol.Comma ∷ []) declarator_ends declarators_ends (skip_begins symbol.Comma (parameter depth)) refl refl refl refl t i
         (behind_read symbol.Comma t (parameter_read fuel nesting t depth))
-        (λ m based in_m. skip_exact symbol.Comma (parameter depth) (stops declarator_ends) t m refl in_m parameter_has (parameter_read fuel nesting t depth) (λ o after in_o. parameter_exact o in_o)) i (omega arith) in_text
+        (λ m based in_m. skip_exact symbol.Comma (parameter depth) (stops declarator_ends) t m refl in_m parameter_has (parameter_read fuel nesting t depth)
+        (λ o after in_o. parameter_exact o in_o)) i (omega arith) in_text
 
     pub list_of_exact : (i : ℕ) → i ≤ length t → Exact (commas (parameter depth)) (stops declarators_ends) t i (commas_read t (parameter_read fuel nesting t depth) i)
     list_of_exact i in_text =

@@ -14,7 +14,8 @@ use Rattle.idl_grammar.specs.Tree.{Attributes, Declarator, TypeSpec, Parameter, 
 use Rattle.idl_grammar.specs.Expressions.{placed}
 use Rattle.idl_grammar.specs.ReadExpressions.{placed_read}
 use Rattle.idl_grammar.specs.Grammar.{commas, simple, declarator, parameter, parameters}
-use Rattle.idl_grammar.specs.Reading.{branch_read, bind_read, commas_read, declarator_read, type_firsts, member_firsts, parameter_of, parameter_read, more_parameters_read, void_parameters_read, parameters_read}
+use Rattle.idl_grammar.specs.Reading.{branch_read, bind_read, commas_read, declarator_read, type_firsts, member_firsts, parameter_of, parameter_read, more_parameters_read, void_parameters_read}
+use Rattle.idl_grammar.specs.Reading.{parameters_read}
 use Rattle.idl_grammar.proofs.Combine.{stopped_exact, bind_is, bind_alike, turned_twice, placed_exact}
 use Rattle.idl_grammar.proofs.AttributeLists.{attributes_begin}
 use Rattle.idl_grammar.proofs.DeclaratorsExact.{declarator_firsts, declarator_ends, declarators_ends, declarator_exact, declarator_begins}
@@ -25,7 +26,8 @@ use Rattle.idl_grammar.proofs.ParameterExact.{members_no_close, parameter_begins
 
 -- ## readings
 
-unless_case : {A C : Type 0} (make : Option A → C) (b : Bool) (r : Read A) (i : ℕ) → turned make (cond b (Ok (None, i)) (turned Some r)) ≡ cond (b || false) (Ok (make None, i)) (turned (λ (a : A). make (Some a)) r)
+unless_case : {A C : Type 0} (make : Option A → C) (b : Bool) (r : Read A) (i : ℕ)
+    → turned make (cond b (Ok (None, i)) (turned Some r)) ≡ cond (b || false) (Ok (make None, i)) (turned (λ (a : A). make (Some a)) r)
 unless_case make true r i = refl
 unless_case make false r i = turned_twice Some make r
 
@@ -96,7 +98,8 @@ module _ (depth : ℕ) where
         phrase = (ph.1.2.0, (eq-eqb (symbol_at x i) symbol.Void e, ph.0, past), (m, ph.1.2.2, others));
       }
 
-  void_back : (t : Text) (i : ℕ) → is_in (symbol.Void ∷ []) (symbol_at t i) ≡ true → (lifted : Lifted) (x : Text) → lexeme_at x i ≡ lexeme_at t i → (c : Parameters) (j : ℕ) → some_parameters c lifted x i j → closing x j
+  void_back : (t : Text) (i : ℕ) → is_in (symbol.Void ∷ []) (symbol_at t i) ≡ true → (lifted : Lifted) (x : Text) → lexeme_at x i ≡ lexeme_at t i → (c : Parameters) (j : ℕ)
+      → some_parameters c lifted x i j → closing x j
       → Void_part lifted x i j c
   void_back t i h lifted x e c j ph stop = by_case c ph where
     one : (b : Bool) → (b || false) ≡ true → b ≡ true
@@ -112,7 +115,8 @@ module _ (depth : ℕ) where
     by_case (tree.Listed []) ph = absurd ph
     by_case (tree.Listed (p ∷ ps)) ph = void_list_back lifted x i j ph.0 void_here p.at p.attributes p.type p.declarator ps ph.1 ph.2
 
-  list_back : (t : Text) (i : ℕ) → is_in (symbol.Void ∷ []) (symbol_at t i) ≡ false → (lifted : Lifted) (x : Text) → lexeme_at x i ≡ lexeme_at t i → (c : Parameters) (j : ℕ) → some_parameters c lifted x i j → closing x j
+  list_back : (t : Text) (i : ℕ) → is_in (symbol.Void ∷ []) (symbol_at t i) ≡ false → (lifted : Lifted) (x : Text) → lexeme_at x i ≡ lexeme_at t i → (c : Parameters) (j : ℕ)
+      → some_parameters c lifted x i j → closing x j
       → Part (commas (parameter depth)) some_parameters tree.Listed lifted x i j c
   list_back t i h lifted x e tree.Absent j ph stop = absurd ph
   list_back t i h lifted x e tree.Void j ph stop =
@@ -151,16 +155,19 @@ module _ (depth : ℕ) where
     behind_first_exact : (i : ℕ) → i ≤ length t → Exact behind_first (stops declarators_ends) t i (behind_first_read i)
     behind_first_exact i in_text =
         pair_exact (declarator depth) (many (symbol.Comma ⊳ parameter depth)) (stops declarator_ends) (stops declarators_ends)
-        (meets_or (many (symbol.Comma ⊳ parameter depth)) (symbol.Comma ∷ []) declarator_ends declarators_ends (list_begins (symbol.Comma ⊳ parameter depth) (symbol.Comma ∷ []) (skip_begins symbol.Comma (parameter depth))) refl refl)
+        (meets_or (many (symbol.Comma ⊳ parameter depth)) (symbol.Comma ∷ []) declarator_ends declarators_ends
+        (list_begins (symbol.Comma ⊳ parameter depth) (symbol.Comma ∷ []) (skip_begins symbol.Comma (parameter depth))) refl refl)
         (many_has (symbol.Comma ⊳ parameter depth)) t i (declarator_read nesting t depth i) (λ d m. more_parameters_read fuel nesting t depth m) (declarator_exact nesting enough t depth i in_text)
         (λ d m found. more_exact depth fuel nesting enough shallow fueled t m found.within)
 
     void_parts_exact : (i : ℕ) → i ≤ length t → Exact void_parts closing t i (then (placed_read symbol.Void t i) (λ at m. unless_read symbol.CloseRound t behind_first_read m))
     void_parts_exact i in_text =
-        pair_exact (placed symbol.Void) (optional behind_first) (stops []) closing (λ lifted x m j b ph stop. refl) (optional_has behind_first) t i (placed_read symbol.Void t i) (λ at m. unless_read symbol.CloseRound t behind_first_read m)
+        pair_exact (placed symbol.Void) (optional behind_first) (stops []) closing (λ lifted x m j b ph stop. refl) (optional_has behind_first) t i (placed_read symbol.Void t i)
+        (λ at m. unless_read symbol.CloseRound t behind_first_read m)
         (placed_exact symbol.Void refl (stops []) t i in_text)
         (λ at m found.
-        unless_exact behind_first declarator_firsts behind_first_begins symbol.CloseRound declarators_no_close (stops declarators_ends) closing_ends t m found.within behind_first_read (behind_first_exact m found.within))
+        unless_exact behind_first declarator_firsts behind_first_begins symbol.CloseRound declarators_no_close (stops declarators_ends) closing_ends t m found.within behind_first_read
+        (behind_first_exact m found.within))
 
     void_is : (i : ℕ) → turned void_of (then (placed_read symbol.Void t i) (λ at m. unless_read symbol.CloseRound t behind_first_read m))
         ≡ bind_read (placed_read symbol.Void t i) (λ at m. branch_read (symbol.CloseRound ∷ []) t m (Ok (tree.Void, m)) (void_parameters_read fuel nesting t depth at m))
@@ -178,7 +185,8 @@ module _ (depth : ℕ) where
     some_case : (i : ℕ) → i ≤ length t → (b : Bool) → is_in (symbol.Void ∷ []) (symbol_at t i) ≡ b → Exact some_parameters closing t i (cond b (void_read i) (list_read_of i))
     some_case i in_text true h =
         subst (λ (r : Read Parameters). Exact some_parameters closing t i r) (void_is i)
-        (turned_exact void_parts some_parameters void_of (λ lifted x i j a ph. void_forth lifted x i j a ph) closing t i (λ lifted x e c j ph stop. void_back t i h lifted x e c j ph stop) _ (void_parts_exact i in_text))
+        (turned_exact void_parts some_parameters void_of (λ lifted x i j a ph. void_forth lifted x i j a ph) closing t i (λ lifted x e c j ph stop. void_back t i h lifted x e c j ph stop) _
+        (void_parts_exact i in_text))
     some_case i in_text false h =
         turned_exact (commas (parameter depth)) some_parameters tree.Listed (λ lifted x i j a ph. ph) closing t i (λ lifted x e c j ph stop. list_back t i h lifted x e c j ph stop) _
         (stopped_exact (commas (parameter depth)) (stops declarators_ends) closing t i closing_ends _ (list_of_exact depth fuel nesting enough shallow fueled t i in_text))

@@ -19,7 +19,8 @@ use Rattle.idl_grammar.specs.Expressions.{ident}
 use Rattle.idl_grammar.specs.Grammar.{flag, one_of, width_words, width, integer, simple, switch_type}
 use Rattle.idl_grammar.specs.ReadExpressions.{ident_read}
 use Rattle.idl_grammar.specs.Reading.{flag_read, width_symbols, simple_words, simple_firsts, width_read, unsigned_read, integer_read, simple_read, switch_type_read}
-use Rattle.idl_grammar.proofs.Combine.{changed_exact, branch_exact, flag_exact, flag_has, flag_begins, mark_begins, one_of_exact, one_of_has, one_word, each_meant, either, either_exact, either_begins, ident_exact, ident_begins}
+use Rattle.idl_grammar.proofs.Combine.{changed_exact, branch_exact, flag_exact, flag_has, flag_begins, mark_begins, one_of_exact, one_of_has, one_word, each_meant, either, either_exact, either_begins}
+use Rattle.idl_grammar.proofs.Combine.{ident_exact, ident_begins}
 
 -- what goes on with a type without parts
 abbrev pub simple_ends : List ℕ
@@ -77,7 +78,8 @@ unsigned_exact : (t : Text) (i : ℕ) → i ≤ length t → Exact unsigned_rest
 unfolding unsigned_read
 unsigned_exact t i in_text =
     branch_exact (marked symbol.Char) (width ⊗ flag symbol.Int) unsigned_rest unsigned_of (symbol.Char ∷ []) width_symbols (mark_begins symbol.Char refl) sized_begins refl unsigned_forth unsigned_back
-    (stops simple_ends) t i (mark_read symbol.Char t i) (then (width_read t i) (λ w m. flag_read symbol.Int t m)) (λ h. mark_exact symbol.Char refl (stops simple_ends) t i in_text) (sized_exact t i in_text)
+    (stops simple_ends) t i (mark_read symbol.Char t i) (then (width_read t i) (λ w m. flag_read symbol.Int t m)) (λ h. mark_exact symbol.Char refl (stops simple_ends) t i in_text)
+    (sized_exact t i in_text)
 
 unsigned_has : HasPhrase unsigned_rest
 unsigned_has = turned_has (marked symbol.Char) unsigned_rest (λ u. types.Char true) (λ lifted x i j a ph. ph) (mark_has symbol.Char refl)
@@ -113,7 +115,8 @@ integer_exact : (t : Text) (i : ℕ) → i ≤ length t → Exact width_first (s
 unfolding integer_read
 integer_exact t i in_text =
     Rattle.grammar_phrases.proofs.Exact.turned_exact width_parts width_first width_of_parts (λ lifted x i j a ph. ph) (stops simple_ends) t i (λ lifted x e c j ph stop. width_back lifted x i j c ph) _
-    (pair_exact width (flag symbol.Unsigned ⊗ flag symbol.Int) (stops []) (stops simple_ends) (λ lifted x m j b ph stop. refl) (pair_has _ _ (flag_has symbol.Unsigned refl) (flag_has symbol.Int refl)) t i
+    (pair_exact width (flag symbol.Unsigned ⊗ flag symbol.Int) (stops []) (stops simple_ends) (λ lifted x m j b ph stop. refl)
+    (pair_has _ _ (flag_has symbol.Unsigned refl) (flag_has symbol.Int refl)) t i
     (width_read t i) (λ w m. then (flag_read symbol.Unsigned t m) (λ u o. flag_read symbol.Int t o))
     (width_exact [] t i in_text)
     (λ w m found.
@@ -214,7 +217,8 @@ names_not_simple false = refl
 pub switch_type_exact : (inside : Bool) (t : Text) (i : ℕ) → i ≤ length t → Exact (switch_type inside) (stops simple_ends) t i (switch_type_read inside t i)
 unfolding switch_type_read
 switch_type_exact inside t i in_text =
-    branch_exact simple (ident inside) (switch_type inside) switch_of simple_firsts (names inside) simple_begins (ident_begins inside) (names_not_simple inside) (switch_forth inside) (switch_back inside)
+    branch_exact simple (ident inside) (switch_type inside) switch_of simple_firsts (names inside) simple_begins (ident_begins inside) (names_not_simple inside) (switch_forth inside)
+    (switch_back inside)
     (stops simple_ends) t i (simple_read t i) (ident_read inside t i) (λ h. simple_exact t i in_text) (ident_exact inside (stops simple_ends) t i in_text)
 
 pub switch_type_has : (inside : Bool) → HasPhrase (switch_type inside)

@@ -30,7 +30,8 @@ module _ {B : Type 0} (alone : ℕ → Spelling → TypeSpec) (full : ℕ → Op
   abbrev pub tagged_of : ℕ × Tagging B → TypeSpec
   tagged_of p = tagging_of p.0 p.1
 
-  option_case : (at : ℕ) (tag : Spelling) (b : Bool) (r : Read B) (m : ℕ) → turned (with_tag at tag) (cond b (turned Some r) (Ok (None, m))) ≡ cond b (turned (full at (Some tag)) r) (Ok (alone at tag, m))
+  option_case : (at : ℕ) (tag : Spelling) (b : Bool) (r : Read B) (m : ℕ)
+      → turned (with_tag at tag) (cond b (turned Some r) (Ok (None, m))) ≡ cond b (turned (full at (Some tag)) r) (Ok (alone at tag, m))
   option_case at tag true r m = turned_twice Some (with_tag at tag) r
   option_case at tag false r m = refl
 

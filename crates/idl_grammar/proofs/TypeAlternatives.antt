@@ -94,7 +94,9 @@ module _ (depth : ℕ) where
   struct_of p = tagged_of struct_alone struct_full p
 
   abbrev pub struct_parts : Rel (ℕ × Tagging (List MemberParts))
-  struct_parts = tagged (struct_body depth inner inner_has inner_begins) (symbol.OpenCurly ∷ []) (struct_body_begins depth inner inner_has inner_begins) (struct_body_has depth inner inner_has inner_begins) refl curly_no_name symbol.Struct
+  struct_parts =
+      tagged (struct_body depth inner inner_has inner_begins) (symbol.OpenCurly ∷ []) (struct_body_begins depth inner inner_has inner_begins)
+      (struct_body_has depth inner inner_has inner_begins) refl curly_no_name symbol.Struct
 
   abbrev pub structs : Rel TypeSpec
   structs = made struct_of struct_parts
@@ -102,9 +104,11 @@ module _ (depth : ℕ) where
   pub structs_begin : Begins structs (symbol.Struct ∷ [])
   structs_begin =
       made_begins struct_of struct_parts (symbol.Struct ∷ [])
-      (tagged_begins (struct_body depth inner inner_has inner_begins) (symbol.OpenCurly ∷ []) (struct_body_begins depth inner inner_has inner_begins) (struct_body_has depth inner inner_has inner_begins) refl curly_no_name symbol.Struct refl)
+      (tagged_begins (struct_body depth inner inner_has inner_begins) (symbol.OpenCurly ∷ []) (struct_body_begins depth inner inner_has inner_begins)
+      (struct_body_has depth inner inner_has inner_begins) refl curly_no_name symbol.Struct refl)
 
-  pub members_in : (ms : List MemberParts) (lifted : Lifted) (x : Text) (i j : ℕ) → struct_body depth inner inner_has inner_begins ms lifted x i j → in_curly depth (some_members (depth + 1) (members_of ms)) lifted x i j
+  pub members_in : (ms : List MemberParts) (lifted : Lifted) (x : Text) (i j : ℕ) → struct_body depth inner inner_has inner_begins ms lifted x i j
+      → in_curly depth (some_members (depth + 1) (members_of ms)) lifted x i j
   members_in ms lifted x i j ph = (ph.0, ph.1, (ph.2.0, members_forth (depth + 1) inner_has inner_begins ms lifted x ph.0 ph.2.0 ph.2.1, ph.2.2))
 
   pub struct_forth : (p : ℕ × Tagging (List MemberParts)) (lifted : Lifted) (x : Text) (i j : ℕ) → struct_parts p lifted x i j → type_spec depth (struct_of p) lifted x i j
@@ -112,12 +116,14 @@ module _ (depth : ℕ) where
   struct_forth (at, inl (tag, Some ms)) lifted x i j ph = (ph.0, ph.1, (ph.2.0, ph.2.1, members_in ms lifted x ph.2.0 j ph.2.2))
   struct_forth (at, inr ms) lifted x i j ph = (ph.0, ph.1, (ph.0, refl, members_in ms lifted x ph.0 j ph.2))
 
-  pub members_out : (ms : Members) (lifted : Lifted) (x : Text) (i j : ℕ) → in_curly depth (some_members (depth + 1) ms) lifted x i j → Listed (struct_body depth inner inner_has inner_begins) members_of ms lifted x i j
+  pub members_out : (ms : Members) (lifted : Lifted) (x : Text) (i j : ℕ) → in_curly depth (some_members (depth + 1) ms) lifted x i j
+      → Listed (struct_body depth inner inner_has inner_begins) members_of ms lifted x i j
   members_out ms lifted x i j ph =
       let l = members_back (depth + 1) inner_has inner_begins ms lifted x ph.0 ph.2.0 ph.2.1 in
       record { items = l.items; is = l.is; phrase = (ph.0, ph.1, (ph.2.0, l.phrase, ph.2.2)) }
 
-  pub struct_back : (at : ℕ) (tag : Option Spelling) (ms : Members) (lifted : Lifted) (x : Text) (i j : ℕ) → type_spec depth (tree.Struct at tag ms) lifted x i j → structs (tree.Struct at tag ms) lifted x i j
+  pub struct_back : (at : ℕ) (tag : Option Spelling) (ms : Members) (lifted : Lifted) (x : Text) (i j : ℕ) → type_spec depth (tree.Struct at tag ms) lifted x i j
+      → structs (tree.Struct at tag ms) lifted x i j
   struct_back at None ms lifted x i j ph =
       let body = ph.2 in
       let l = members_out ms lifted x body.0 j body.2 in
@@ -144,7 +150,8 @@ module _ (depth : ℕ) where
 
   abbrev pub union_parts : Rel (ℕ × Tagging Union_body)
   union_parts =
-      tagged (union_body depth inner inner_has inner_begins) (symbol.Switch ∷ symbol.OpenCurly ∷ []) (union_body_begins depth inner inner_has inner_begins) (union_body_has depth inner inner_has inner_begins) refl switch_no_name symbol.Union
+      tagged (union_body depth inner inner_has inner_begins) (symbol.Switch ∷ symbol.OpenCurly ∷ []) (union_body_begins depth inner inner_has inner_begins)
+      (union_body_has depth inner inner_has inner_begins) refl switch_no_name symbol.Union
 
   abbrev pub unions : Rel TypeSpec
   unions = made union_of union_parts
@@ -152,12 +159,15 @@ module _ (depth : ℕ) where
   pub unions_begin : Begins unions (symbol.Union ∷ [])
   unions_begin =
       made_begins union_of union_parts (symbol.Union ∷ [])
-      (tagged_begins (union_body depth inner inner_has inner_begins) (symbol.Switch ∷ symbol.OpenCurly ∷ []) (union_body_begins depth inner inner_has inner_begins) (union_body_has depth inner inner_has inner_begins) refl switch_no_name symbol.Union refl)
+      (tagged_begins (union_body depth inner inner_has inner_begins) (symbol.Switch ∷ symbol.OpenCurly ∷ []) (union_body_begins depth inner inner_has inner_begins)
+      (union_body_has depth inner inner_has inner_begins) refl switch_no_name symbol.Union refl)
 
-  pub cases_in : (list : List (List Label × Arm)) (lifted : Lifted) (x : Text) (i j : ℕ) → cases_body depth inner inner_has inner_begins list lifted x i j → in_curly depth (some_cases (depth + 1) (cases_of list)) lifted x i j
+  pub cases_in : (list : List (List Label × Arm)) (lifted : Lifted) (x : Text) (i j : ℕ) → cases_body depth inner inner_has inner_begins list lifted x i j
+      → in_curly depth (some_cases (depth + 1) (cases_of list)) lifted x i j
   cases_in list lifted x i j ph = (ph.0, ph.1, (ph.2.0, cases_forth (depth + 1) inner_has inner_begins list lifted x ph.0 ph.2.0 ph.2.1, ph.2.2))
 
-  pub arms_in : (list : List Arm) (lifted : Lifted) (x : Text) (i j : ℕ) → arms_body depth inner inner_has inner_begins list lifted x i j → in_curly depth (some_arms (depth + 1) (arms_of list)) lifted x i j
+  pub arms_in : (list : List Arm) (lifted : Lifted) (x : Text) (i j : ℕ) → arms_body depth inner inner_has inner_begins list lifted x i j
+      → in_curly depth (some_arms (depth + 1) (arms_of list)) lifted x i j
   arms_in list lifted x i j ph = (ph.0, ph.1, (ph.2.0, arms_forth (depth + 1) inner_has inner_begins list lifted x ph.0 ph.2.0 ph.2.1, ph.2.2))
 
   pub union_forth : (p : ℕ × Tagging Union_body) (lifted : Lifted) (x : Text) (i j : ℕ) → union_parts p lifted x i j → type_spec depth (union_of p) lifted x i j
@@ -171,12 +181,14 @@ module _ (depth : ℕ) where
       (ph.0, ph.1, (ph.0, refl, (body.0, body.1, cases_in list lifted x body.0 j body.2)))
   union_forth (at, inr (inr list)) lifted x i j ph = (ph.0, ph.1, (ph.0, refl, arms_in list lifted x ph.0 j ph.2))
 
-  pub cases_out : (list : Cases) (lifted : Lifted) (x : Text) (i j : ℕ) → in_curly depth (some_cases (depth + 1) list) lifted x i j → Listed (cases_body depth inner inner_has inner_begins) cases_of list lifted x i j
+  pub cases_out : (list : Cases) (lifted : Lifted) (x : Text) (i j : ℕ) → in_curly depth (some_cases (depth + 1) list) lifted x i j
+      → Listed (cases_body depth inner inner_has inner_begins) cases_of list lifted x i j
   cases_out list lifted x i j ph =
       let l = cases_back (depth + 1) inner_has inner_begins list lifted x ph.0 ph.2.0 ph.2.1 in
       record { items = l.items; is = l.is; phrase = (ph.0, ph.1, (ph.2.0, l.phrase, ph.2.2)) }
 
-  pub arms_out : (list : Arms) (lifted : Lifted) (x : Text) (i j : ℕ) → in_curly depth (some_arms (depth + 1) list) lifted x i j → Listed (arms_body depth inner inner_has inner_begins) arms_of list lifted x i j
+  pub arms_out : (list : Arms) (lifted : Lifted) (x : Text) (i j : ℕ) → in_curly depth (some_arms (depth + 1) list) lifted x i j
+      → Listed (arms_body depth inner inner_has inner_begins) arms_of list lifted x i j
   arms_out list lifted x i j ph =
       let l = arms_back (depth + 1) inner_has inner_begins list lifted x ph.0 ph.2.0 ph.2.1 in
       record { items = l.items; is = l.is; phrase = (ph.0, ph.1, (ph.2.0, l.phrase, ph.2.2)) }

@@ -4,7 +4,8 @@ use Rattle.grammar_phrases.specs.Text.{Text, is_in, Lifted, Rel, mark, optional,
 use Rattle.grammar_phrases.specs.Reading.{Read, then, mark_read, choice_read}
 use Rattle.grammar_phrases.proofs.Exact.{Exact, HasPhrase, Part, pair_exact}
 use Rattle.grammar_phrases.proofs.Parts.{marked, mark_exact, mark_has, pair_has, turned_has, optional_has}
-use Rattle.grammar_phrases.proofs.Sequences.{stops, Begins, subset, disjoint, meets_first, ends_at, end_exact, end_has, end_begins, pair_begins, or_pair_begins, located_exact, located_has, located_begins, some_exact, some_has, bracketed_exact, bracketed_has, bracketed_begins, choice_exact, choice_begins, made_exact, made_begins, made_has}
+use Rattle.grammar_phrases.proofs.Sequences.{stops, Begins, subset, disjoint, meets_first, ends_at, end_exact, end_has, end_begins, pair_begins, or_pair_begins, located_exact, located_has}
+use Rattle.grammar_phrases.proofs.Sequences.{located_begins, some_exact, some_has, bracketed_exact, bracketed_has, bracketed_begins, choice_exact, choice_begins, made_exact, made_begins, made_has}
 use Rattle.idl_grammar.specs.declared.words.Spelling.{Spelling}
 use Rattle.idl_grammar.specs.declared.types.Discriminant.{Discriminant}
 use Rattle.idl_grammar.specs.Symbols as symbol
@@ -12,10 +13,12 @@ use Rattle.idl_grammar.specs.Limits.{names}
 use Rattle.idl_grammar.specs.Tree as tree
 use Rattle.idl_grammar.specs.Tree.{Attributes, Declarator, Label, TypeSpec, Arm}
 use Rattle.idl_grammar.specs.Grammar.{attributes, declarator, declarators, labels, union_switch}
-use Rattle.idl_grammar.specs.Reading.{line_read, maybe_attributes_read, declarator_read, declarators_read, labels_read, label_firsts, union_switch_read, type_firsts, member_firsts, arm_firsts, MemberParts, member_read, members_read, struct_body_read, arm_field_read, arm_read, case_read, cases_read, cases_body_read, arms_read, arms_body_read}
+use Rattle.idl_grammar.specs.Reading.{line_read, maybe_attributes_read, declarator_read, declarators_read, labels_read, label_firsts, union_switch_read, type_firsts, member_firsts, arm_firsts}
+use Rattle.idl_grammar.specs.Reading.{MemberParts, member_read, members_read, struct_body_read, arm_field_read, arm_read, case_read, cases_read, cases_body_read, arms_read, arms_body_read}
 use Rattle.idl_grammar.proofs.Combine.{branch_exact, branch_begins, mark_begins}
 use Rattle.idl_grammar.proofs.AttributeLists.{maybe_attributes_exact, maybe_attributes_begin}
-use Rattle.idl_grammar.proofs.DeclaratorsExact.{declarator_firsts, declarator_ends, declarators_ends, declarator_exact, declarator_has, declarator_begins, declarators_exact, declarators_has, declarators_begin}
+use Rattle.idl_grammar.proofs.DeclaratorsExact.{declarator_firsts, declarator_ends, declarators_ends, declarator_exact, declarator_has, declarator_begins, declarators_exact, declarators_has}
+use Rattle.idl_grammar.proofs.DeclaratorsExact.{declarators_begin}
 use Rattle.idl_grammar.proofs.BodiesExact.{labels_exact, labels_has, labels_begin, union_switch_exact, union_switch_begins}
 
 -- what goes on with a type
@@ -110,7 +113,8 @@ module _ (R : Rel TypeSpec) (R_has : HasPhrase R) (R_begins : Begins R type_firs
 
   member_tail_begins : Begins member_tail member_firsts
   member_tail_begins =
-      or_pair_begins (optional (attributes depth)) (R ⊗ (declarators depth ⊲ symbol.Semicolon)) (symbol.OpenSquare ∷ []) type_firsts member_firsts (maybe_attributes_begin depth) declared_begins square_member types_member
+      or_pair_begins (optional (attributes depth)) (R ⊗ (declarators depth ⊲ symbol.Semicolon)) (symbol.OpenSquare ∷ []) type_firsts member_firsts
+      (maybe_attributes_begin depth) declared_begins square_member types_member
 
   pub member_begins : Begins member_line member_firsts
   member_begins = located_begins member_tail member_firsts member_tail_begins
@@ -158,7 +162,8 @@ module _ (R : Rel TypeSpec) (R_has : HasPhrase R) (R_begins : Begins R type_firs
 
   tail_begins : Begins arm_tail (symbol.Semicolon ∷ type_firsts)
   tail_begins =
-      branch_begins (marked symbol.Semicolon) (R ⊗ (declarator depth ⊲ symbol.Semicolon)) arm_tail tail_of (symbol.Semicolon ∷ []) type_firsts (mark_begins symbol.Semicolon refl) field_begins types_no_semicolon
+      branch_begins (marked symbol.Semicolon) (R ⊗ (declarator depth ⊲ symbol.Semicolon)) arm_tail tail_of (symbol.Semicolon ∷ []) type_firsts
+      (mark_begins symbol.Semicolon refl) field_begins types_no_semicolon
       tail_forth tail_back (symbol.Semicolon ∷ type_firsts) refl types_tail
 
   tail_has : HasPhrase arm_tail
@@ -191,9 +196,11 @@ module _ (R : Rel TypeSpec) (R_has : HasPhrase R) (R_begins : Begins R type_firs
         (maybe_attributes_read nesting t depth i) _ (maybe_attributes_exact nesting enough t depth i in_text)
         (λ a m found.
         pair_exact R (declarators depth ⊲ symbol.Semicolon) (stops type_ends) (stops [])
-        (meets_first (declarators depth ⊲ symbol.Semicolon) declarator_firsts type_ends (stops []) (end_begins (declarators depth) symbol.Semicolon declarator_firsts (declarators_begin depth)) declarators_end_types)
+        (meets_first (declarators depth ⊲ symbol.Semicolon) declarator_firsts type_ends (stops [])
+        (end_begins (declarators depth) symbol.Semicolon declarator_firsts (declarators_begin depth)) declarators_end_types)
         (end_has (declarators depth) symbol.Semicolon refl (declarators_has depth)) t m (again m) (λ c o. line_read t (declarators_read nesting t depth o)) (exact m found.within)
-        (λ c o found_c. end_exact (declarators depth) symbol.Semicolon declarators_ends (stops []) t o refl refl (declarators_read nesting t depth o) (declarators_exact nesting enough t depth o found_c.within))))
+        (λ c o found_c. end_exact (declarators depth) symbol.Semicolon declarators_ends (stops []) t o refl refl (declarators_read nesting t depth o)
+        (declarators_exact nesting enough t depth o found_c.within))))
 
     pub members_exact : (i : ℕ) → i ≤ length t → Exact (some_of member_line) (stops member_firsts) t i (members_read nesting t depth again i)
     unfolding members_read
@@ -208,9 +215,11 @@ module _ (R : Rel TypeSpec) (R_has : HasPhrase R) (R_begins : Begins R type_firs
     unfolding arm_field_read
     arm_field_exact i in_text =
         pair_exact R (declarator depth ⊲ symbol.Semicolon) (stops type_ends) (stops [])
-        (meets_first (declarator depth ⊲ symbol.Semicolon) declarator_firsts type_ends (stops []) (end_begins (declarator depth) symbol.Semicolon declarator_firsts (declarator_begins depth)) declarators_end_types)
+        (meets_first (declarator depth ⊲ symbol.Semicolon) declarator_firsts type_ends (stops [])
+        (end_begins (declarator depth) symbol.Semicolon declarator_firsts (declarator_begins depth)) declarators_end_types)
         (end_has (declarator depth) symbol.Semicolon refl (declarator_has depth)) t i (again i) (λ c o. line_read t (declarator_read nesting t depth o)) (exact i in_text)
-        (λ c o found. end_exact (declarator depth) symbol.Semicolon declarator_ends (stops []) t o refl refl (declarator_read nesting t depth o) (declarator_exact nesting enough t depth o found.within))
+        (λ c o found. end_exact (declarator depth) symbol.Semicolon declarator_ends (stops []) t o refl refl (declarator_read nesting t depth o)
+        (declarator_exact nesting enough t depth o found.within))
 
     pub arm_exact : (i : ℕ) → i ≤ length t → Exact arm_line (stops []) t i (arm_read nesting t depth again i)
     unfolding arm_read
@@ -221,8 +230,10 @@ module _ (R : Rel TypeSpec) (R_has : HasPhrase R) (R_begins : Begins R type_firs
         (meets_first arm_tail (symbol.Semicolon ∷ type_firsts) (symbol.OpenSquare ∷ []) (stops []) tail_begins tails_no_square) tail_has t i
         (maybe_attributes_read nesting t depth i) _ (maybe_attributes_exact nesting enough t depth i in_text)
         (λ a m found.
-        branch_exact (marked symbol.Semicolon) (R ⊗ (declarator depth ⊲ symbol.Semicolon)) arm_tail tail_of (symbol.Semicolon ∷ []) type_firsts (mark_begins symbol.Semicolon refl) field_begins types_no_semicolon
-        tail_forth tail_back (stops []) t m (mark_read symbol.Semicolon t m) (arm_field_read nesting t depth again m) (λ h. mark_exact symbol.Semicolon refl (stops []) t m found.within) (arm_field_exact m found.within))))
+        branch_exact (marked symbol.Semicolon) (R ⊗ (declarator depth ⊲ symbol.Semicolon)) arm_tail tail_of (symbol.Semicolon ∷ []) type_firsts
+        (mark_begins symbol.Semicolon refl) field_begins types_no_semicolon
+        tail_forth tail_back (stops []) t m (mark_read symbol.Semicolon t m) (arm_field_read nesting t depth again m) (λ h. mark_exact symbol.Semicolon refl (stops []) t m found.within)
+        (arm_field_exact m found.within))))
 
     pub case_exact : (i : ℕ) → i ≤ length t → Exact case_line (stops []) t i (case_read nesting t depth again i)
     unfolding case_read
@@ -329,6 +340,7 @@ module _ (depth : ℕ) (R : Rel TypeSpec) (R_has : HasPhrase R) (R_begins : Begi
     union_body_exact i in_text =
         choice_exact (union_switch depth ⊗ cases_body) arms_body (symbol.Switch ∷ []) (symbol.OpenCurly ∷ []) switched_begins arms_body_begins refl (stops []) t i _ _
         (λ h.
-        pair_exact (union_switch depth) cases_body (stops (names false)) (stops []) (meets_first cases_body (symbol.OpenCurly ∷ []) (names false) (stops []) cases_body_begins curly_no_name) cases_body_has t i
+        pair_exact (union_switch depth) cases_body (stops (names false)) (stops [])
+        (meets_first cases_body (symbol.OpenCurly ∷ []) (names false) (stops []) cases_body_begins curly_no_name) cases_body_has t i
         (union_switch_read t depth i) (λ s m. cases_body_read nesting t depth again m) (union_switch_exact t depth i in_text) (λ s m found. cases_body_exact m found.within))
         (arms_body_exact i in_text)

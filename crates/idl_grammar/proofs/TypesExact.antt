@@ -15,14 +15,17 @@ use Rattle.idl_grammar.specs.Tree.{Enumerator, Label, TypeSpec, Members, Cases, 
 use Rattle.idl_grammar.specs.Expressions.{ident}
 use Rattle.idl_grammar.specs.ReadExpressions.{ident_read}
 use Rattle.idl_grammar.specs.Grammar.{simple, enumerators, type_spec}
-use Rattle.idl_grammar.specs.Reading.{branch_read, bind_read, simple_firsts, simple_read, enumerators_read, struct_body_read, struct_read, union_body_read, union_read, enum_read, tagged_read, type_read}
+use Rattle.idl_grammar.specs.Reading.{branch_read, bind_read, simple_firsts, simple_read, enumerators_read, struct_body_read, struct_read, union_body_read, union_read, enum_read, tagged_read}
+use Rattle.idl_grammar.specs.Reading.{type_read}
 use Rattle.idl_grammar.proofs.Combine.{changed_exact, either, either_exact, either_begins, branch_is, bind_alike, ident_exact, ident_begins}
 use Rattle.idl_grammar.proofs.SimpleExact.{simple_ends, simple_exact, simple_begins}
 use Rattle.idl_grammar.proofs.BodiesExact.{enumerators_exact, enumerators_has, enumerators_begin}
-use Rattle.idl_grammar.proofs.TypeParts.{type_ends, struct_body, union_body, struct_body_has, struct_body_begins, union_body_begins, union_body_has, struct_body_exact, union_parts_read, union_body_exact}
+use Rattle.idl_grammar.proofs.TypeParts.{type_ends, struct_body, union_body, struct_body_has, struct_body_begins, union_body_begins, union_body_has, struct_body_exact, union_parts_read}
+use Rattle.idl_grammar.proofs.TypeParts.{union_body_exact}
 use Rattle.idl_grammar.proofs.Tagged.{Tagging, tagged_of, tagging_read, tagged_is, tagged, tagged_begins, tagged_exact}
 use Rattle.idl_grammar.specs.ReadExpressions.{placed_read}
-use Rattle.idl_grammar.proofs.TypeAlternatives.{curly_no_name, switch_no_name, inner, inner_has, inner_begins, struct_alone, struct_full, struct_of, struct_parts, structs, structs_begin, struct_forth, struct_back, union_alone, union_full, Union_body, union_of, union_parts, unions, unions_begin, union_forth, cases_out, arms_out}
+use Rattle.idl_grammar.proofs.TypeAlternatives.{curly_no_name, switch_no_name, inner, inner_has, inner_begins, struct_alone, struct_full, struct_of, struct_parts, structs, structs_begin, struct_forth}
+use Rattle.idl_grammar.proofs.TypeAlternatives.{struct_back, union_alone, union_full, Union_body, union_of, union_parts, unions, unions_begin, union_forth, cases_out, arms_out}
 
 module _ (depth : ℕ) where
   abbrev body_of_union : Rel (Union_body depth)
@@ -76,14 +79,16 @@ module _ (depth : ℕ) where
 
   enums_begin : Begins enums (symbol.Enum ∷ [])
   enums_begin =
-      made_begins enum_of enum_parts (symbol.Enum ∷ []) (tagged_begins (enumerators depth) (symbol.OpenCurly ∷ []) (enumerators_begin depth) (enumerators_has depth) refl curly_no_name symbol.Enum refl)
+      made_begins enum_of enum_parts (symbol.Enum ∷ [])
+      (tagged_begins (enumerators depth) (symbol.OpenCurly ∷ []) (enumerators_begin depth) (enumerators_has depth) refl curly_no_name symbol.Enum refl)
 
   enum_forth : (p : ℕ × Tagging (List Enumerator)) (lifted : Lifted) (x : Text) (i j : ℕ) → enum_parts p lifted x i j → type_spec depth (enum_of p) lifted x i j
   enum_forth (at, inl (tag, None)) lifted x i j ph = (ph.0, ph.1, subst (λ (k : ℕ). ident false tag lifted x ph.0 k) (sym ph.2.2) ph.2.1)
   enum_forth (at, inl (tag, Some es)) lifted x i j ph = ph
   enum_forth (at, inr es) lifted x i j ph = (ph.0, ph.1, (ph.0, refl, ph.2))
 
-  enum_back : (at : ℕ) (tag : Option Spelling) (es : List Enumerator) (lifted : Lifted) (x : Text) (i j : ℕ) → type_spec depth (tree.Enum at tag es) lifted x i j → enums (tree.Enum at tag es) lifted x i j
+  enum_back : (at : ℕ) (tag : Option Spelling) (es : List Enumerator) (lifted : Lifted) (x : Text) (i j : ℕ) → type_spec depth (tree.Enum at tag es) lifted x i j
+      → enums (tree.Enum at tag es) lifted x i j
   enum_back at None es lifted x i j ph = ((at, inr es), refl, (ph.0, ph.1, subst (λ (k : ℕ). enumerators depth es lifted x k j) ph.2.1 ph.2.2))
   enum_back at (Some tag) es lifted x i j ph = ((at, inl (tag, Some es)), refl, ph)
 
@@ -187,7 +192,8 @@ module _ (depth : ℕ) where
     structs_exact : (i : ℕ) → i ≤ length t → Exact (structs depth) (stops type_ends) t i (bind_read (placed_read symbol.Struct t i) (λ at m. struct_read nesting t depth again at m))
     unfolding struct_read
     structs_exact i in_text =
-        subst (λ (r : Read TypeSpec). Exact (structs depth) (stops type_ends) t i r) (tagged_is (struct_alone depth) (struct_full depth) (symbol.OpenCurly ∷ []) t (struct_body_read nesting t depth again) symbol.Struct i)
+        subst (λ (r : Read TypeSpec). Exact (structs depth) (stops type_ends) t i r)
+        (tagged_is (struct_alone depth) (struct_full depth) (symbol.OpenCurly ∷ []) t (struct_body_read nesting t depth again) symbol.Struct i)
         (made_exact (struct_of depth) (struct_parts depth) (stops type_ends) t i _
         (tagged_exact (struct_body depth (inner depth) (inner_has depth) (inner_begins depth)) (symbol.OpenCurly ∷ []) (struct_body_begins depth (inner depth) (inner_has depth) (inner_begins depth))
         (struct_body_has depth (inner depth) (inner_has depth) (inner_begins depth)) refl curly_no_name symbol.Struct refl t i in_text (struct_body_read nesting t depth again)
@@ -230,7 +236,8 @@ module _ (depth : ℕ) where
     unions_exact i in_text =
         subst (λ (r : Read TypeSpec). Exact (unions depth) (stops type_ends) t i r) (union_is i)
         (made_exact (union_of depth) (union_parts depth) (stops type_ends) t i _
-        (tagged_exact body_of_union union_firsts (union_body_begins depth (inner depth) (inner_has depth) (inner_begins depth)) (union_body_has depth (inner depth) (inner_has depth) (inner_begins depth)) refl
+        (tagged_exact body_of_union union_firsts (union_body_begins depth (inner depth) (inner_has depth) (inner_begins depth))
+        (union_body_has depth (inner depth) (inner_has depth) (inner_begins depth)) refl
         switch_no_name symbol.Union refl t i in_text parts_of_union
         (λ m in_m. union_body_exact depth (inner depth) (inner_has depth) (inner_begins depth) nesting enough t again exact m in_m)))
 

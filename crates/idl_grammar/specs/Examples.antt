@@ -58,17 +58,63 @@ small_file = record {
 -- its tree
 abbrev pub small_tree : Tree
 small_tree = record {
-  attributes = (record { at = 0; list = record { at = 1; kind = tree.Uuid (spelled_at 6 (codes "00112233-4455-6677-8899-aabbccddeeff")) } ∷ record { at = 45; kind = tree.Version (spelled_at 53 (codes "1")) (Some (spelled_at 55 (codes "0"))) } ∷ record { at = 59; kind = tree.PointerDefault class.Full } ∷ [] });
+  attributes =
+      (record {
+        at = 0;
+        list = record { at = 1; kind = tree.Uuid (spelled_at 6 (codes "00112233-4455-6677-8899-aabbccddeeff")) }
+            ∷ record { at = 45; kind = tree.Version (spelled_at 53 (codes "1")) (Some (spelled_at 55 (codes "0"))) }
+            ∷ record { at = 59; kind = tree.PointerDefault class.Full } ∷ [];
+      });
   name = (spelled_at 91 (codes "a"));
   imports = record { files = (spelled_at 104 (codes "\"b.idl\"")) ∷ [] } ∷ [];
   exports =
-      tree.Const 115 (types.Integer (integers.WidthFirst widths.Long false false)) false (spelled_at 126 (codes "N")) (tree.Value (tree.Binary (tree.Leaf (operand.Number (spelled_at 130 (codes "2")))) 132 binary.Add (tree.Binary (tree.Leaf (operand.Number (spelled_at 134 (codes "3")))) 136 binary.Multiply (tree.Leaf (operand.Number (spelled_at 138 (codes "4")))))))
-      ∷ tree.Typedef 143 None false (tree.Enum 151 None (record { name = (spelled_at 158 (codes "X")); value = None } ∷ record { name = (spelled_at 161 (codes "Y")); value = Some (tree.Leaf (operand.Character (spelled_at 165 (codes "'y'")))) } ∷ [])) (record { stars = ([]); name = (spelled_at 171 (codes "e")); dimensions = ([]) } ∷ [])
-      ∷ tree.Typedef 176 (Some (record { at = 184; list = record { at = 185; kind = tree.String } ∷ [] })) false (tree.Simple (types.Char false)) (record { stars = (198 ∷ []); name = (spelled_at 199 (codes "text")); dimensions = (None ∷ []) } ∷ [])
-      ∷ tree.Tagged 209 None (tree.Struct 209 (Some (spelled_at 216 (codes "s"))) (tree.next_member 220 None (tree.Simple (types.Integer (integers.WidthFirst widths.Long false false))) (record { stars = ([]); name = (spelled_at 225 (codes "n")); dimensions = ([]) } ∷ []) (tree.next_member 228 (Some (record { at = 228; list = record { at = 229; kind = tree.Of variable.SizeIs (record { star = false; name = (spelled_at 237 (codes "n")) }) } ∷ [] })) (tree.Simple (types.Integer (integers.UnsignedFirst widths.Small false))) (record { stars = ([]); name = (spelled_at 256 (codes "data")); dimensions = (Some tree.Star ∷ []) } ∷ []) tree.no_members)))
-      ∷ tree.Typedef 270 None false (tree.EncapsulatedUnion 278 None (record { of = switches.Name (spelled_at 292 (codes "e")); name = (spelled_at 294 (codes "k")) }) (Some (spelled_at 297 (codes "u"))) (tree.next_case (tree.Value 301 (tree.Leaf (operand.Number (spelled_at 306 (codes "1")))) ∷ tree.Default 309 ∷ []) (tree.Typed 318 None (tree.Simple types.Byte) (record { stars = ([]); name = (spelled_at 323 (codes "b")); dimensions = ([]) })) (tree.next_case (tree.Value 326 (tree.Leaf (operand.Name (spelled_at 331 (codes "X")))) ∷ []) (tree.Empty 334 None) tree.no_cases))) (record { stars = ([]); name = (spelled_at 338 (codes "v")); dimensions = ([]) } ∷ [])
+      tree.Const 115 (types.Integer (integers.WidthFirst widths.Long false false)) false (spelled_at 126 (codes "N"))
+      (tree.Value
+      (tree.Binary (tree.Leaf (operand.Number (spelled_at 130 (codes "2")))) 132 binary.Add
+      (tree.Binary (tree.Leaf (operand.Number (spelled_at 134 (codes "3")))) 136 binary.Multiply
+      (tree.Leaf (operand.Number (spelled_at 138 (codes "4")))))))
+      ∷ tree.Typedef 143 None false
+      (tree.Enum 151 None
+      (record { name = (spelled_at 158 (codes "X")); value = None }
+      ∷ record { name = (spelled_at 161 (codes "Y")); value = Some (tree.Leaf (operand.Character (spelled_at 165 (codes "'y'")))) } ∷ []))
+      (record { stars = ([]); name = (spelled_at 171 (codes "e")); dimensions = ([]) } ∷ [])
+      ∷ tree.Typedef 176 (Some (record { at = 184; list = record { at = 185; kind = tree.String } ∷ [] })) false (tree.Simple (types.Char false))
+      (record { stars = (198 ∷ []); name = (spelled_at 199 (codes "text")); dimensions = (None ∷ []) } ∷ [])
+      ∷ tree.Tagged 209 None
+      (tree.Struct 209 (Some (spelled_at 216 (codes "s")))
+      (tree.next_member 220 None (tree.Simple (types.Integer (integers.WidthFirst widths.Long false false)))
+      (record { stars = ([]); name = (spelled_at 225 (codes "n")); dimensions = ([]) } ∷ [])
+      (tree.next_member 228
+      (Some (record {
+        at = 228;
+        list = record { at = 229; kind = tree.Of variable.SizeIs (record { star = false; name = (spelled_at 237 (codes "n")) }) } ∷ [];
+      }))
+      (tree.Simple (types.Integer (integers.UnsignedFirst widths.Small false)))
+      (record { stars = ([]); name = (spelled_at 256 (codes "data")); dimensions = (Some tree.Star ∷ []) } ∷ []) tree.no_members)))
+      ∷ tree.Typedef 270 None false
+      (tree.EncapsulatedUnion 278 None (record { of = switches.Name (spelled_at 292 (codes "e")); name = (spelled_at 294 (codes "k")) })
+      (Some (spelled_at 297 (codes "u")))
+      (tree.next_case (tree.Value 301 (tree.Leaf (operand.Number (spelled_at 306 (codes "1")))) ∷ tree.Default 309 ∷ [])
+      (tree.Typed 318 None (tree.Simple types.Byte) (record { stars = ([]); name = (spelled_at 323 (codes "b")); dimensions = ([]) }))
+      (tree.next_case (tree.Value 326 (tree.Leaf (operand.Name (spelled_at 331 (codes "X")))) ∷ []) (tree.Empty 334 None) tree.no_cases)))
+      (record { stars = ([]); name = (spelled_at 338 (codes "v")); dimensions = ([]) } ∷ [])
       ∷ tree.Operation 343 None (tree.Simple (types.Integer (integers.WidthFirst widths.Hyper false true))) (spelled_at 353 (codes "f")) tree.Void
-      ∷ tree.Operation 364 None (tree.Simple types.Void) (spelled_at 369 (codes "put")) (tree.Listed (record { at = 373; attributes = Some (record { at = 373; list = record { at = 374; kind = tree.In } ∷ [] }); type = tree.Simple types.Handle; declarator = record { stars = ([]); name = (spelled_at 387 (codes "h")); dimensions = ([]) } } ∷ record { at = 390; attributes = Some (record { at = 390; list = record { at = 391; kind = tree.Out } ∷ record { at = 396; kind = tree.Class class.Reference } ∷ [] }); type = tree.Simple (types.Integer (integers.WidthFirst widths.Long false false)); declarator = record { stars = (406 ∷ []); name = (spelled_at 407 (codes "p")); dimensions = ([]) } } ∷ []))
+      ∷ tree.Operation 364 None (tree.Simple types.Void) (spelled_at 369 (codes "put"))
+      (tree.Listed
+      (record {
+        at = 373;
+        attributes = Some (record { at = 373; list = record { at = 374; kind = tree.In } ∷ [] });
+        type = tree.Simple types.Handle;
+        declarator = record { stars = ([]); name = (spelled_at 387 (codes "h")); dimensions = ([]) };
+      }
+      ∷ record {
+        at = 390;
+        attributes =
+            Some (record { at = 390; list = record { at = 391; kind = tree.Out } ∷ record { at = 396; kind = tree.Class class.Reference } ∷ [] });
+        type = tree.Simple (types.Integer (integers.WidthFirst widths.Long false false));
+        declarator =
+            record { stars = (406 ∷ []); name = (spelled_at 407 (codes "p")); dimensions = ([]) };
+      } ∷ []))
       ∷ [];
 }
 

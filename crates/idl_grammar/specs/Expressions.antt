@@ -60,7 +60,9 @@ expr inside depth start n (Unary at s e) = counted start (unary_sign (at, s)) �
 expr inside depth start n (Binary l at s r) =
     only_if (leb n (level s)) (expr inside depth start (level s) l ▹ counted start (binary_sign (at, s)) ▹ expr inside depth start (level s + 1) r)
 expr inside depth start n (Conditional c at a b) =
-    only_if (eqb n 0) (expr inside depth start 1 c ▹ counted start (placed symbol.Question at) ▹ expr inside depth start 0 a ▹ mark symbol.Colon ▹ expr inside depth start 0 b)
+    only_if (eqb n 0)
+    (expr inside depth start 1 c ▹ counted start
+    (placed symbol.Question at) ▹ expr inside depth start 0 a ▹ mark symbol.Colon ▹ expr inside depth start 0 b)
 
 -- An outermost expression: its operators are counted from where it begins.
 unfoldable pub outer : (inside : Bool) (depth : ℕ) → Rel Expr

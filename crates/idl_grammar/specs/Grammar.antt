@@ -2,7 +2,8 @@
 -- where it begins and the place past it; each line is one alternative. depth is the number of brackets that are open where
 -- a phrase begins, round, square and curly ones together.
 use Rattle.std.specs.Prelude.{◌≡◌, ℕ, ◌+◌, Bool, true, false, List, [], ◌∷◌, Option}
-use Rattle.grammar_phrases.specs.Text.{Text, Phrase, Rel, Ban, Depth, many_brackets, nothing, never, mark, token, optional, unless, many, separated, some_of, bracketed, located, lexeme_at, symbol_at, is, is_in, ◌▹◌, ◌⊗◌, ◌⊳◌, ◌⊲◌}
+use Rattle.grammar_phrases.specs.Text.{Text, Phrase, Rel, Ban, Depth, many_brackets, nothing, never, mark, token, optional, unless, many, separated}
+use Rattle.grammar_phrases.specs.Text.{some_of, bracketed, located, lexeme_at, symbol_at, is, is_in, ◌▹◌, ◌⊗◌, ◌⊳◌, ◌⊲◌}
 use Rattle.grammar_phrases.specs.Reading.{to_unit}
 use Rattle.idl_grammar.specs.declared.words.Spelling.{Spelling}
 use Rattle.idl_grammar.specs.declared.attributes.PointerClass.{PointerClass}
@@ -24,7 +25,8 @@ use Rattle.idl_grammar.specs.declared.types.Discriminant.{Discriminant}
 use Rattle.idl_grammar.specs.Symbols as symbol
 use Rattle.idl_grammar.specs.Limits.{Meant, meant, symbols_of, value_of}
 use Rattle.idl_grammar.specs.Tree as tree
-use Rattle.idl_grammar.specs.Tree.{Expr, AttributeKind, Attribute, Attributes, Bound, Declarator, Init, Enumerator, Label, TypeSpec, Members, Cases, Arms, Arm, Import, Parameter, Parameters, Export, Tree}
+use Rattle.idl_grammar.specs.Tree.{Expr, AttributeKind, Attribute, Attributes, Bound, Declarator, Init, Enumerator, Label, TypeSpec, Members, Cases}
+use Rattle.idl_grammar.specs.Tree.{Arms, Arm, Import, Parameter, Parameters, Export, Tree}
 use Rattle.idl_grammar.specs.Expressions.{spelled, placed, ident, outer}
 
 -- ## Small parts
@@ -103,7 +105,8 @@ local u = unless Ban is_banned_attribute (token (λ a. is_in (symbol.Local ∷ s
 
 unfoldable pub attribute_kind : ℕ → Rel AttributeKind
 attribute_kind depth (tree.Uuid u) = (symbol.Uuid ⊳ in_round depth (spelled symbol.UuidValue)) u
-attribute_kind depth (tree.Version major minor) = (symbol.Version ⊳ in_round depth (spelled symbol.Number ⊗ optional (symbol.Dot ⊳ spelled symbol.Number))) (major, minor)
+attribute_kind depth (tree.Version major minor) =
+    (symbol.Version ⊳ in_round depth (spelled symbol.Number ⊗ optional (symbol.Dot ⊳ spelled symbol.Number))) (major, minor)
 attribute_kind depth (tree.Endpoint list) = (symbol.Endpoint ⊳ in_round depth (commas (spelled symbol.Quoted))) list
 attribute_kind depth tree.Local = local tt
 attribute_kind depth (tree.PointerDefault c) = (symbol.PointerDefault ⊳ in_round depth pointer_class) c
@@ -211,7 +214,8 @@ abbrev mutual
   type_spec depth (tree.Struct at tag ms) = placed symbol.Struct at ▹ optional (ident false) tag ▹ in_curly depth (some_members (depth + 1) ms)
   type_spec depth (tree.EncapsulatedUnion at tag d name cs) =
       placed symbol.Union at ▹ optional (ident false) tag ▹ union_switch depth (d, name) ▹ in_curly depth (some_cases (depth + 1) cs)
-  type_spec depth (tree.NonEncapsulatedUnion at tag a) = placed symbol.Union at ▹ optional (ident false) tag ▹ in_curly depth (some_arms (depth + 1) a)
+  type_spec depth (tree.NonEncapsulatedUnion at tag a) =
+      placed symbol.Union at ▹ optional (ident false) tag ▹ in_curly depth (some_arms (depth + 1) a)
   type_spec depth (tree.Enum at tag es) = placed symbol.Enum at ▹ optional (ident false) tag ▹ enumerators depth es
 
   -- member { member }
@@ -269,12 +273,17 @@ init depth (tree.Value e) = outer false depth e
 --        | [ attrs ] type ( ";" | Ident "(" [ params ] ")" ";" )
 unfoldable pub export : ℕ → Rel Export
 export depth (tree.Typedef at a pipe type ds) =
-    begins_at at (mark symbol.Typedef ▹ optional (attributes depth) a ▹ flag symbol.Pipe pipe ▹ type_spec depth type ▹ declarators depth ds ▹ mark symbol.Semicolon)
+    begins_at at
+    (mark symbol.Typedef ▹ optional
+    (attributes depth) a ▹ flag symbol.Pipe pipe ▹ type_spec depth type ▹ declarators depth ds ▹ mark symbol.Semicolon)
 export depth (tree.Const at type star name value) =
-    begins_at at (mark symbol.Const ▹ simple type ▹ flag symbol.Star star ▹ ident false name ▹ mark symbol.Equals ▹ init depth value ▹ mark symbol.Semicolon)
+    begins_at at
+    (mark symbol.Const ▹ simple type ▹ flag symbol.Star star ▹ ident false name ▹ mark symbol.Equals ▹ init depth value ▹ mark symbol.Semicolon)
 export depth (tree.Tagged at a type) = begins_at at (optional (attributes depth) a ▹ type_spec depth type ▹ mark symbol.Semicolon)
 export depth (tree.Operation at a result name ps) =
-    begins_at at (optional (attributes depth) a ▹ type_spec depth result ▹ ident false name ▹ in_round depth (parameters (depth + 1)) ps ▹ mark symbol.Semicolon)
+    begins_at at
+    (optional (attributes depth) a ▹ type_spec depth result ▹ ident false name ▹ in_round depth
+    (parameters (depth + 1)) ps ▹ mark symbol.Semicolon)
 
 -- import = "import" String { "," String } ";"
 unfoldable pub import : Rel Import

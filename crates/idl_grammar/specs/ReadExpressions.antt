@@ -1,7 +1,8 @@
 -- What the functions that read tokens and expressions give, on lists.
 use Rattle.std.specs.Prelude.{ℕ, zero, suc, ◌+◌, ◌-◌, Bool, true, false, eqb, List, [], ◌∷◌, cond, length, Option, Some, None, Err}
 use Rattle.grammar_phrases.specs.Text.{Lexeme, Text, symbol_at, is, is_in, Depth, many_brackets}
-use Rattle.grammar_phrases.specs.Reading.{Read, Passes, then, turned, token_read, ruled_read, mark_read, optional_read, many_read, end_with, behind_read}
+use Rattle.grammar_phrases.specs.Reading.{Read, Passes, then, turned, token_read, ruled_read, mark_read, optional_read, many_read, end_with}
+use Rattle.grammar_phrases.specs.Reading.{behind_read}
 use Rattle.idl_grammar.specs.declared.words.Spelling.{Spelling}
 use Rattle.idl_grammar.specs.declared.expressions.BinaryOperator.{BinaryOperator}
 use Rattle.idl_grammar.specs.declared.expressions.UnaryOperator.{UnaryOperator}
@@ -71,7 +72,8 @@ level_read start t unary zero i = unary i
 level_read start t unary (suc k) i =
     turned (λ p. fold p.0 p.1)
     (then (level_read start t unary k i)
-    (λ e m. many_read (λ a. eqb (symbol_level a.symbol) (10 - k)) (operation_read (10 - k) start t (level_read start t unary k)) t (suc (length t)) m))
+    (λ e m. many_read (λ a. eqb (symbol_level a.symbol) (10 - k)) (operation_read (10 - k) start t (level_read start t unary k)) t
+    (suc (length t)) m))
 
 abbrev pub conditional_of : Expr × Option (ℕ × (Expr × Expr)) → Expr
 conditional_of p = elim p.1 [ None ↦ p.0 | Some q ↦ Conditional p.0 q.0 q.1.0 q.1.1 ]
@@ -86,7 +88,8 @@ conditional_read start t first whole i =
 
 -- an expression in brackets
 abbrev pub round_read : ℕ → Text → (ℕ → ℕ → Read Expr) → ℕ → Read (ℕ × Expr)
-round_read depth t whole i = then (opening_read depth symbol.OpenRound t i) (λ at m. end_with (whole (depth + 1) m) (λ n. mark_read symbol.CloseRound t n))
+round_read depth t whole i =
+    then (opening_read depth symbol.OpenRound t i) (λ at m. end_with (whole (depth + 1) m) (λ n. mark_read symbol.CloseRound t n))
 
 abbrev pub unary_read : Bool → ℕ → ℕ → Text → (ℕ → ℕ → Read Expr) → (ℕ → ℕ → Read Expr) → ℕ → Read Expr
 unary_read inside start depth t unary whole i =
@@ -99,7 +102,8 @@ unary_read inside start depth t unary whole i =
 -- What is read with so many levels of nesting left: a whole expression, or one of the level of the unary operators.
 abbrev pub expr_read : ℕ → Bool → ℕ → Text → Bool → ℕ → ℕ → Read Expr
 expr_read zero inside start t whole depth i = Err (Passes Depth i)
-expr_read (suc f) inside start t false depth i = unary_read inside start depth t (expr_read f inside start t false) (expr_read f inside start t true) i
+expr_read (suc f) inside start t false depth i =
+    unary_read inside start depth t (expr_read f inside start t false) (expr_read f inside start t true) i
 expr_read (suc f) inside start t true depth i =
     conditional_read start t
     (level_read start t (unary_read inside start depth t (expr_read f inside start t false) (expr_read f inside start t true)) 10)

@@ -2,7 +2,8 @@
 -- levels that an expression may still nest, and fuel that of types; depth is the number of brackets that are open at the place.
 use Rattle.std.specs.Prelude.{ℕ, zero, suc, ◌+◌, Bool, true, false, List, [], ◌∷◌, cond, Option, Some, None, Ok, Err}
 use Rattle.grammar_phrases.specs.Text.{Text, lexeme_at, symbol_at, is, is_in, Depth, Ban}
-use Rattle.grammar_phrases.specs.Reading.{Read, Passes, then, turned, token_read, ruled_read, mark_read, to_unit, end_with, located_read, option_read, list_read, some_read, behind_read, separated_read, bracketed_read}
+use Rattle.grammar_phrases.specs.Reading.{Read, Passes, then, turned, token_read, ruled_read, mark_read, to_unit, end_with, located_read, option_read}
+use Rattle.grammar_phrases.specs.Reading.{list_read, some_read, behind_read, separated_read, bracketed_read}
 use Rattle.idl_grammar.specs.declared.words.Spelling.{Spelling}
 use Rattle.idl_grammar.specs.declared.attributes.PointerClass.{PointerClass}
 use Rattle.idl_grammar.specs.declared.attributes.PointerClass.TheVariants as class
@@ -21,7 +22,8 @@ use Rattle.idl_grammar.specs.declared.types.Discriminant.{Discriminant}
 use Rattle.idl_grammar.specs.Symbols as symbol
 use Rattle.idl_grammar.specs.Limits.{Meant, meant, symbols_of, value_of, names}
 use Rattle.idl_grammar.specs.Tree as tree
-use Rattle.idl_grammar.specs.Tree.{Expr, AttributeKind, Attribute, Attributes, Bound, Declarator, Init, Enumerator, Label, TypeSpec, Members, Cases, Arms, Arm, Import, Parameter, Parameters, Export, Tree}
+use Rattle.idl_grammar.specs.Tree.{Expr, AttributeKind, Attribute, Attributes, Bound, Declarator, Init, Enumerator, Label, TypeSpec, Members, Cases}
+use Rattle.idl_grammar.specs.Tree.{Arms, Arm, Import, Parameter, Parameters, Export, Tree}
 use Rattle.idl_grammar.specs.Grammar.{width_words, class_words, variable_words, is_banned_attribute}
 use Rattle.idl_grammar.specs.ReadExpressions.{spelled_read, placed_read, ident_read, outer_read}
 
@@ -68,11 +70,14 @@ abbrev pub width_symbols : List ℕ
 width_symbols = symbol.Small ∷ symbol.Short ∷ symbol.Long ∷ symbol.Hyper ∷ []
 
 abbrev pub simple_words : List (Meant SimpleType)
-simple_words = meant symbol.Char (types.Char false) ∷ meant symbol.Boolean types.Boolean ∷ meant symbol.Byte types.Byte ∷ meant symbol.Void types.Void ∷ meant symbol.HandleT types.Handle ∷ []
+simple_words =
+    meant symbol.Char (types.Char false) ∷ meant symbol.Boolean types.Boolean ∷ meant symbol.Byte types.Byte ∷ meant symbol.Void types.Void
+    ∷ meant symbol.HandleT types.Handle ∷ []
 
 unfoldable pub simple_firsts : List ℕ
 simple_firsts =
-    symbol.Unsigned ∷ symbol.Small ∷ symbol.Short ∷ symbol.Long ∷ symbol.Hyper ∷ symbol.Char ∷ symbol.Boolean ∷ symbol.Byte ∷ symbol.Void ∷ symbol.HandleT ∷ []
+    symbol.Unsigned ∷ symbol.Small ∷ symbol.Short ∷ symbol.Long ∷ symbol.Hyper ∷ symbol.Char ∷ symbol.Boolean ∷ symbol.Byte ∷ symbol.Void
+    ∷ symbol.HandleT ∷ []
 
 unfoldable pub width_read : Text → ℕ → Read Width
 width_read t i = one_of_read widths.Small width_words t i
@@ -87,7 +92,8 @@ unsigned_read t i =
 -- an integer that begins with its width
 unfoldable pub integer_read : Text → ℕ → Read SimpleType
 integer_read t i =
-    turned (λ p. types.Integer (integers.WidthFirst p.0 p.1.0 p.1.1)) (then (width_read t i) (λ w m. then (flag_read symbol.Unsigned t m) (λ u o. flag_read symbol.Int t o)))
+    turned (λ p. types.Integer (integers.WidthFirst p.0 p.1.0 p.1.1))
+    (then (width_read t i) (λ w m. then (flag_read symbol.Unsigned t m) (λ u o. flag_read symbol.Int t o)))
 
 unfoldable pub simple_read : Text → ℕ → Read SimpleType
 simple_read t i =
@@ -115,10 +121,12 @@ variable_name_read t i = turned variable_of (then (flag_read symbol.Star t i) (�
 abbrev pub plain_words : List (Meant AttributeKind)
 plain_words =
     meant symbol.In tree.In ∷ meant symbol.Out tree.Out ∷ meant symbol.String tree.String ∷ meant symbol.ContextHandle tree.ContextHandle
-    ∷ meant symbol.Default tree.Default ∷ meant symbol.Idempotent tree.Idempotent ∷ meant symbol.Broadcast tree.Broadcast ∷ meant symbol.Maybe tree.Maybe ∷ []
+    ∷ meant symbol.Default tree.Default ∷ meant symbol.Idempotent tree.Idempotent ∷ meant symbol.Broadcast tree.Broadcast
+    ∷ meant symbol.Maybe tree.Maybe ∷ []
 
 abbrev pub plain_symbols : List ℕ
-plain_symbols = symbol.In ∷ symbol.Out ∷ symbol.String ∷ symbol.ContextHandle ∷ symbol.Default ∷ symbol.Idempotent ∷ symbol.Broadcast ∷ symbol.Maybe ∷ []
+plain_symbols =
+    symbol.In ∷ symbol.Out ∷ symbol.String ∷ symbol.ContextHandle ∷ symbol.Default ∷ symbol.Idempotent ∷ symbol.Broadcast ∷ symbol.Maybe ∷ []
 
 abbrev pub class_symbols : List ℕ
 class_symbols = symbol.Ref ∷ symbol.Unique ∷ symbol.Ptr ∷ []
@@ -138,7 +146,8 @@ uuid_read t depth i = behind_read symbol.Uuid t (in_round_read depth t (spelled_
 
 -- Number [ "." Number ]
 unfoldable pub version_numbers_read : Text → ℕ → Read (Spelling × Option Spelling)
-version_numbers_read t i = then (spelled_read symbol.Number t i) (λ major m. option_read (symbol.Dot ∷ []) t (behind_read symbol.Dot t (spelled_read symbol.Number t)) m)
+version_numbers_read t i =
+    then (spelled_read symbol.Number t i) (λ major m. option_read (symbol.Dot ∷ []) t (behind_read symbol.Dot t (spelled_read symbol.Number t)) m)
 
 unfoldable pub version_read : Text → ℕ → ℕ → Read (Spelling × Option Spelling)
 version_read t depth i = behind_read symbol.Version t (in_round_read depth t (version_numbers_read t)) i
@@ -186,7 +195,8 @@ abbrev pub attributes_of : ℕ × List Attribute → Attributes
 attributes_of p = record { at = p.0; list = p.1 }
 
 unfoldable pub attributes_read : ℕ → Text → ℕ → ℕ → Read Attributes
-attributes_read nesting t depth i = turned attributes_of (located_read t i (in_square_read depth t (commas_read t (attribute_read nesting t (depth + 1))) i))
+attributes_read nesting t depth i =
+    turned attributes_of (located_read t i (in_square_read depth t (commas_read t (attribute_read nesting t (depth + 1))) i))
 
 -- [ attrs ]
 unfoldable pub maybe_attributes_read : ℕ → Text → ℕ → ℕ → Read (Option Attributes)
@@ -196,7 +206,8 @@ maybe_attributes_read nesting t depth i = option_read (symbol.OpenSquare ∷ [])
 
 -- `*`, for which there is nothing, or an expression
 unfoldable pub upper_read : ℕ → Text → ℕ → ℕ → Read (Option Expr)
-upper_read nesting t depth i = branch_read (symbol.Star ∷ []) t i (turned (λ u. None) (mark_read symbol.Star t i)) (turned Some (outer_read nesting false t depth i))
+upper_read nesting t depth i =
+    branch_read (symbol.Star ∷ []) t i (turned (λ u. None) (mark_read symbol.Star t i)) (turned Some (outer_read nesting false t depth i))
 
 abbrev pub range_of : Expr × Option (Option Expr) → Bound
 range_of p = elim p.1 [ None ↦ tree.Count p.0 | Some upper ↦ elim upper [ None ↦ tree.From p.0 | Some f ↦ tree.Between p.0 f ] ]
@@ -204,7 +215,9 @@ range_of p = elim p.1 [ None ↦ tree.Count p.0 | Some upper ↦ elim upper [ No
 -- expr [ ".." ( "*" | expr ) ]
 unfoldable pub range_read : ℕ → Text → ℕ → ℕ → Read Bound
 range_read nesting t depth i =
-    turned range_of (then (outer_read nesting false t depth i) (λ e m. option_read (symbol.DotDot ∷ []) t (behind_read symbol.DotDot t (upper_read nesting t depth)) m))
+    turned range_of
+    (then (outer_read nesting false t depth i)
+    (λ e m. option_read (symbol.DotDot ∷ []) t (behind_read symbol.DotDot t (upper_read nesting t depth)) m))
 
 unfoldable pub bound_read : ℕ → Text → ℕ → ℕ → Read Bound
 bound_read nesting t depth i = branch_read (symbol.Star ∷ []) t i (turned (λ u. tree.Star) (mark_read symbol.Star t i)) (range_read nesting t depth i)
@@ -231,7 +244,9 @@ enumerator_of p = record { name = p.0; value = p.1 }
 
 unfoldable pub enumerator_read : ℕ → Text → ℕ → ℕ → Read Enumerator
 enumerator_read nesting t depth i =
-    turned enumerator_of (then (ident_read false t i) (λ name m. option_read (symbol.Equals ∷ []) t (behind_read symbol.Equals t (outer_read nesting false t depth)) m))
+    turned enumerator_of
+    (then (ident_read false t i)
+    (λ name m. option_read (symbol.Equals ∷ []) t (behind_read symbol.Equals t (outer_read nesting false t depth)) m))
 
 unfoldable pub enumerators_read : ℕ → Text → ℕ → ℕ → Read (List Enumerator)
 enumerators_read nesting t depth i = in_curly_read depth t (commas_read t (enumerator_read nesting t (depth + 1))) i
@@ -239,7 +254,8 @@ enumerators_read nesting t depth i = in_curly_read depth t (commas_read t (enume
 unfoldable pub label_read : ℕ → Text → ℕ → ℕ → Read Label
 label_read nesting t depth i =
     branch_read (symbol.Case ∷ []) t i
-    (turned (λ p. tree.Value p.0 p.1) (then (placed_read symbol.Case t i) (λ at m. end_with (outer_read nesting false t depth m) (λ o. mark_read symbol.Colon t o))))
+    (turned (λ p. tree.Value p.0 p.1)
+    (then (placed_read symbol.Case t i) (λ at m. end_with (outer_read nesting false t depth m) (λ o. mark_read symbol.Colon t o))))
     (turned tree.Default (end_with (placed_read symbol.Default t i) (λ o. mark_read symbol.Colon t o)))
 
 abbrev pub label_firsts : List ℕ
@@ -264,7 +280,8 @@ union_switch_read t depth i = behind_read symbol.Switch t (λ m. then (in_round_
 -- what a type begins with
 unfoldable pub type_firsts : List ℕ
 type_firsts =
-    symbol.Unsigned ∷ symbol.Small ∷ symbol.Short ∷ symbol.Long ∷ symbol.Hyper ∷ symbol.Char ∷ symbol.Boolean ∷ symbol.Byte ∷ symbol.Void ∷ symbol.HandleT
+    symbol.Unsigned ∷ symbol.Small ∷ symbol.Short ∷ symbol.Long ∷ symbol.Hyper ∷ symbol.Char ∷ symbol.Boolean ∷ symbol.Byte ∷ symbol.Void
+    ∷ symbol.HandleT
     ∷ symbol.Struct ∷ symbol.Union ∷ symbol.Enum ∷ names false
 
 unfoldable pub member_firsts : List ℕ
@@ -279,7 +296,8 @@ MemberParts = ℕ × (Option Attributes × (TypeSpec × List Declarator))
 -- In what follows, again reads a type inside the brackets.
 unfoldable pub member_read : ℕ → Text → ℕ → (ℕ → Read TypeSpec) → ℕ → Read MemberParts
 member_read nesting t depth again i =
-    located_read t i (then (maybe_attributes_read nesting t depth i) (λ a m. then (again m) (λ c o. line_read t (declarators_read nesting t depth o))))
+    located_read t i
+    (then (maybe_attributes_read nesting t depth i) (λ a m. then (again m) (λ c o. line_read t (declarators_read nesting t depth o))))
 
 unfoldable pub members_read : ℕ → Text → ℕ → (ℕ → Read TypeSpec) → ℕ → Read (List MemberParts)
 members_read nesting t depth again i = some_read member_firsts t (member_read nesting t depth again) i
@@ -296,7 +314,8 @@ arm_read nesting t depth again i =
     turned (λ p. elim p.1.1 [ None ↦ tree.Empty p.0 p.1.0 | Some f ↦ tree.Typed p.0 p.1.0 f.0 f.1 ])
     (located_read t i
     (then (maybe_attributes_read nesting t depth i)
-    (λ a m. branch_read (symbol.Semicolon ∷ []) t m (turned (λ u. None) (mark_read symbol.Semicolon t m)) (turned Some (arm_field_read nesting t depth again m)))))
+    (λ a m. branch_read (symbol.Semicolon ∷ []) t m (turned (λ u. None) (mark_read symbol.Semicolon t m))
+    (turned Some (arm_field_read nesting t depth again m)))))
 
 unfoldable pub case_read : ℕ → Text → ℕ → (ℕ → Read TypeSpec) → ℕ → Read (List Label × Arm)
 case_read nesting t depth again i = then (labels_read nesting t depth i) (λ ls m. arm_read nesting t depth again m)
@@ -342,16 +361,19 @@ struct_read nesting t depth again at i =
 unfoldable pub union_body_read : ℕ → Text → ℕ → (ℕ → Read TypeSpec) → ℕ → Option Spelling → ℕ → Read TypeSpec
 union_body_read nesting t depth again at tag i =
     branch_read (symbol.Switch ∷ []) t i
-    (turned (λ p. tree.EncapsulatedUnion at tag p.0.0 p.0.1 (cases_of p.1)) (then (union_switch_read t depth i) (λ s m. cases_body_read nesting t depth again m)))
+    (turned (λ p. tree.EncapsulatedUnion at tag p.0.0 p.0.1 (cases_of p.1))
+    (then (union_switch_read t depth i) (λ s m. cases_body_read nesting t depth again m)))
     (turned (λ a. tree.NonEncapsulatedUnion at tag (arms_of a)) (arms_body_read nesting t depth again i))
 
 unfoldable pub union_read : ℕ → Text → ℕ → (ℕ → Read TypeSpec) → ℕ → ℕ → Read TypeSpec
 union_read nesting t depth again at i =
-    tagged_read (symbol.Switch ∷ symbol.OpenCurly ∷ []) t (λ tag. tree.Tag at tags.Union tag) (λ tag m. union_body_read nesting t depth again at tag m) i
+    tagged_read (symbol.Switch ∷ symbol.OpenCurly ∷ []) t (λ tag. tree.Tag at tags.Union tag)
+    (λ tag m. union_body_read nesting t depth again at tag m) i
 
 unfoldable pub enum_read : ℕ → Text → ℕ → ℕ → ℕ → Read TypeSpec
 enum_read nesting t depth at i =
-    tagged_read (symbol.OpenCurly ∷ []) t (λ tag. tree.Tag at tags.Enum tag) (λ tag m. turned (λ es. tree.Enum at tag es) (enumerators_read nesting t depth m)) i
+    tagged_read (symbol.OpenCurly ∷ []) t (λ tag. tree.Tag at tags.Enum tag)
+    (λ tag m. turned (λ es. tree.Enum at tag es) (enumerators_read nesting t depth m)) i
 
 -- A type, inside which so many levels of brackets may still open.
 abbrev pub type_read : ℕ → ℕ → Text → ℕ → ℕ → Read TypeSpec
@@ -374,7 +396,8 @@ parameter_of p = record { at = p.0; attributes = p.1.0; type = p.1.1.0; declarat
 unfoldable pub parameter_read : ℕ → ℕ → Text → ℕ → ℕ → Read Parameter
 parameter_read fuel nesting t depth i =
     turned parameter_of
-    (located_read t i (then (maybe_attributes_read nesting t depth i) (λ a m. then (type_read fuel nesting t depth m) (λ c o. declarator_read nesting t depth o))))
+    (located_read t i
+    (then (maybe_attributes_read nesting t depth i) (λ a m. then (type_read fuel nesting t depth m) (λ c o. declarator_read nesting t depth o))))
 
 -- the parameters after the first one
 unfoldable pub more_parameters_read : ℕ → ℕ → Text → ℕ → ℕ → Read (List Parameter)
@@ -390,7 +413,8 @@ unfoldable pub parameters_read : ℕ → ℕ → Text → ℕ → ℕ → Read P
 parameters_read fuel nesting t depth i =
     branch_read (symbol.CloseRound ∷ []) t i (Ok (tree.Absent, i))
     (branch_read (symbol.Void ∷ []) t i
-    (bind_read (placed_read symbol.Void t i) (λ at m. branch_read (symbol.CloseRound ∷ []) t m (Ok (tree.Void, m)) (void_parameters_read fuel nesting t depth at m)))
+    (bind_read (placed_read symbol.Void t i)
+    (λ at m. branch_read (symbol.CloseRound ∷ []) t m (Ok (tree.Void, m)) (void_parameters_read fuel nesting t depth at m)))
     (turned tree.Listed (commas_read t (parameter_read fuel nesting t depth) i)))
 
 unfoldable pub init_read : ℕ → Text → ℕ → ℕ → Read Init
@@ -405,7 +429,8 @@ typedef_read fuel nesting t depth at i =
     turned (λ p. tree.Typedef at p.0 p.1.0 p.1.1.0 p.1.1.1)
     (behind_read symbol.Typedef t
     (λ m. then (maybe_attributes_read nesting t depth m)
-    (λ a o. then (flag_read symbol.Pipe t o) (λ pipe q. then (type_read fuel nesting t depth q) (λ c r. line_read t (declarators_read nesting t depth r))))) i)
+    (λ a o. then (flag_read symbol.Pipe t o)
+    (λ pipe q. then (type_read fuel nesting t depth q) (λ c r. line_read t (declarators_read nesting t depth r))))) i)
 
 -- the same of a constant, from `const` on
 unfoldable pub const_read : ℕ → Text → ℕ → ℕ → ℕ → Read Export
@@ -413,7 +438,8 @@ const_read nesting t depth at i =
     turned (λ p. tree.Const at p.0 p.1.0 p.1.1.0 p.1.1.1)
     (behind_read symbol.Const t
     (λ m. then (simple_read t m)
-    (λ s o. then (flag_read symbol.Star t o) (λ star q. then (ident_read false t q) (λ name r. behind_read symbol.Equals t (λ u. line_read t (init_read nesting t depth u)) r)))) i)
+    (λ s o. then (flag_read symbol.Star t o)
+    (λ star q. then (ident_read false t q) (λ name r. behind_read symbol.Equals t (λ u. line_read t (init_read nesting t depth u)) r)))) i)
 
 -- Ident "(" [ params ] ")" ";"
 unfoldable pub signature_read : ℕ → ℕ → Text → ℕ → ℕ → Read (Spelling × Parameters)
@@ -429,7 +455,8 @@ declared_read fuel nesting t depth at i =
     turned (declared_of at)
     (then (maybe_attributes_read nesting t depth i)
     (λ a m. then (type_read fuel nesting t depth m)
-    (λ c o. branch_read (symbol.Semicolon ∷ []) t o (turned (λ u. None) (mark_read symbol.Semicolon t o)) (turned Some (signature_read fuel nesting t depth o)))))
+    (λ c o. branch_read (symbol.Semicolon ∷ []) t o (turned (λ u. None) (mark_read symbol.Semicolon t o))
+    (turned Some (signature_read fuel nesting t depth o)))))
 
 unfoldable pub export_read : ℕ → ℕ → Text → ℕ → ℕ → Read Export
 export_read fuel nesting t depth i =

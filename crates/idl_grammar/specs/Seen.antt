@@ -97,7 +97,8 @@ abbrev mutual
 
   pub seen_members : {s : _} → types.Row_of-Member s → tree.Members
   seen_members types.end_of-Member = tree.no_members
-  seen_members (types.more_of-Member at a type ds rest) = tree.next_member at (option_map seen_attributes a) (seen_type type) (map seen_declarator ds.items) (seen_members rest)
+  seen_members (types.more_of-Member at a type ds rest) =
+      tree.next_member at (option_map seen_attributes a) (seen_type type) (map seen_declarator ds.items) (seen_members rest)
 
   pub seen_cases : {s : _} → types.Row_of-Case s → tree.Cases
   seen_cases types.end_of-Case = tree.no_cases
@@ -117,7 +118,8 @@ abbrev pub seen_import : import.Import → tree.Import
 seen_import m = record { files = m.files.items }
 
 abbrev pub seen_parameter : parameter.Parameter → tree.Parameter
-seen_parameter p = record { at = p.at; attributes = option_map seen_attributes p.attributes; type = seen_type p.of; declarator = seen_declarator p.declarator }
+seen_parameter p =
+    record { at = p.at; attributes = option_map seen_attributes p.attributes; type = seen_type p.of; declarator = seen_declarator p.declarator }
 
 abbrev pub seen_parameters : lists.Parameters → tree.Parameters
 seen_parameters list.Absent = tree.Absent

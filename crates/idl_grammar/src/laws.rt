@@ -16,7 +16,8 @@ ghost use Rattle.idl_grammar.specs.Answers.{Answers, file_answer, is_banned};
 /// What is read of the tokens of a file is its one tree, or the first token at which no file of the language goes on, or the first one that a
 /// limit of depth or a ban refuses. Nothing else is right of these tokens. The numbers of levels are any that are large enough.
 pub fn file_is_judged()
-    ensures judged { (fuel nesting : ℕ) → 129 ≤ nesting → 64 ≤ fuel → (t : Text) → IsText t → Judges file t (whole_read (file_read fuel nesting t 0) t) }
+    ensures judged { (fuel nesting : ℕ) → 129 ≤ nesting → 64 ≤ fuel → (t : Text) → IsText t
+        → Judges file t (whole_read (file_read fuel nesting t 0) t) }
     ensures alone { (fuel nesting : ℕ) → 129 ≤ nesting → 64 ≤ fuel → (t : Text) → IsText t → (v : Result Tree Fault) → Judges file t v
         → v ≡ whole_read (file_read fuel nesting t 0) t }
 {}

@@ -1,5 +1,6 @@
 -- What the program makes of the types of a scene.
-use Rattle.std.proofs.Common.{◌≡◌, ℕ, ◌≤◌, drop, ◌<◌, Bool, true, false, ◌||◌, ◌&&◌, inl, inr, get_or, List, [], ◌∷◌, ◌++◌, map, length, Option, Some, None, is_none, option_map, ℤ, pos, refl, sym, ap, arith, ◌∙◌}
+use Rattle.std.proofs.Common.{◌≡◌, ℕ, ◌≤◌, drop, ◌<◌, Bool, true, false, ◌||◌, ◌&&◌, inl, inr, get_or, List, [], ◌∷◌, ◌++◌, map, length, Option, Some, None, is_none, option_map, ℤ, pos, refl, sym, ap}
+use Rattle.std.proofs.Common.{arith, ◌∙◌}
 use Rattle.std.specs.List.{flat_map, slice_get, list_any, list_all}
 use Rattle.std.specs.Prelude.{Result, IfOk, nat_le}
 use Rattle.std.proofs.lemmas.Result.{IfOk-weaker}
@@ -42,7 +43,8 @@ use Rattle.idl_constructs.specs.SeenNodes.{seen_construct}
 use Rattle.idl_type_numbers.specs.SeenTypes.{names_at, body_at, IsTypes}
 use Rattle.idl_type_numbers.specs.SeenOperations.{HasTags}
 use Rattle.idl_type_numbers.specs.SeenNumbers.{AreNumbers, seen_own, seen_needed}
-use Rattle.idl_rule_definitions.specs.Meaning.{number, field, arm_for, name_of_arm, type_of_arm, arm_by, labelled_arms, default_by, first_arm, default_arm, or_handle, or_zero, struct_of, defined_at, body_if, is_struct, is_union, is_enum, definition, types_of}
+use Rattle.idl_rule_definitions.specs.Meaning.{number, field, arm_for, name_of_arm, type_of_arm, arm_by, labelled_arms, default_by, first_arm, default_arm, or_handle, or_zero, struct_of, defined_at}
+use Rattle.idl_rule_definitions.specs.Meaning.{body_if, is_struct, is_union, is_enum, definition, types_of}
 use Rattle.nd_types.specs.Kinds.{basic_types}
 use Rattle.nd_types.specs.declared.TheConstants.{ELEMENT_LIMIT}
 use Rattle.nd_types.specs.Legal.{has_small_bound}
@@ -171,7 +173,8 @@ each_default s k b [] = refl
 each_default s k b (a ∷ xs) =
     let has = list_any is_none (map (label_value k) a.labels) in
     let more = flat_map (λ m. flat_map (λ l. default_by s b m (label_value k l)) m.labels) xs in
-    default_is has (arm_for (name_of_arm a.arm) (type_for (name_of_arm a.arm) (arm_ids s b (a ∷ xs))) (pos 0)) (default_with (map (valued k) xs) (types_past (name_of_arm a.arm) (arm_ids s b (a ∷ xs))))
+    default_is has (arm_for (name_of_arm a.arm) (type_for (name_of_arm a.arm) (arm_ids s b (a ∷ xs))) (pos 0))
+    (default_with (map (valued k) xs) (types_past (name_of_arm a.arm) (arm_ids s b (a ∷ xs))))
     ∙ (ap (λ o. or_default has (arm_for (name_of_arm a.arm) o (pos 0)) (default_with (map (valued k) xs) (types_past (name_of_arm a.arm) (arm_ids s b (a ∷ xs))))) (type_same s b a xs)
     ∙ (ap (or_default has (arm_for (name_of_arm a.arm) (type_of_arm s b a) (pos 0))) (ap (default_with (map (valued k) xs)) (rest_same s b a xs) ∙ each_default s k b xs)
     ∙ sym (first_default s k b a a.labels more)))
@@ -241,7 +244,8 @@ not_enum (type.Struct' at tag z row) h = refl
 not_enum (type.EncapsulatedUnion' at tag d name z row) h = refl
 not_enum (type.NonEncapsulatedUnion' at tag z row) h = refl
 
-pub struct_made_as : (s : Scene) (ks : List Kind) (t : Numbers) (place : Place) (f : FoundBody) (u : TypeSpec) → AreNumbers s ks t → IsFound s ks place f → seen_type f.body.now ≡ u → is_struct u ≡ true
+pub struct_made_as : (s : Scene) (ks : List Kind) (t : Numbers) (place : Place) (f : FoundBody) (u : TypeSpec) → AreNumbers s ks t → IsFound s ks place f → seen_type f.body.now ≡ u
+    → is_struct u ≡ true
     → struct_of (each_with (field_with (parts_declared (seen_construct f.construct.now) (seen_type f.body.now))) (parts_declared (seen_construct f.construct.now) (seen_type f.body.now))
     (ids_of ks t f.noted.now.parts.items))
     ≡ definition s (Struct place)

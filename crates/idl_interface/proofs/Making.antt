@@ -24,7 +24,8 @@ use Rattle.idl_rule_definitions.specs.World.{value_in}
 use Rattle.idl_rule_definitions.specs.ValueRules.{label_value}
 use Rattle.idl_rule_definitions.specs.VariableRules.{Listed, listed_from, variables}
 use Rattle.idl_rule_definitions.specs.Meaning.{index_in, attr_var, field_vars, way_of}
-use Rattle.idl_interface.specs.Made.{AreListed, index_or, attr_var_by, field_vars_by, field_by, field_with, parameter_by, parameter_with, each_with, ValuedArm, valued, seen_valued, value_said, type_for, types_past, arm_with, arms_with}
+use Rattle.idl_interface.specs.Made.{AreListed, index_or, attr_var_by, field_vars_by, field_by, field_with, parameter_by, parameter_with, each_with, ValuedArm, valued, seen_valued, value_said}
+use Rattle.idl_interface.specs.Made.{type_for, types_past, arm_with, arms_with}
 
 -- ## Members and parameters
 

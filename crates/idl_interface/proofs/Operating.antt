@@ -14,7 +14,8 @@ use Rattle.idl_type_numbers.specs.declared.numbering.Numbers.{Numbers}
 use Rattle.idl_type_numbers.specs.declared.types.OperationTypes.{OperationTypes}
 use Rattle.idl_type_numbers.specs.declared.types.Types.{Types}
 use Rattle.idl_constructs.proofs.Gathering.{gather, gathered}
-use Rattle.idl_rule_definitions.specs.Nodes.{Declared, Node, HeaderNode, AttributeNode, SwitchNode, TagNode, BodyNode, EnumeratorNode, LabelNode, EmptyArmNode, DeclaratorNode, ConstantNode, TypeNode, OperationNode}
+use Rattle.idl_rule_definitions.specs.Nodes.{Declared, Node, HeaderNode, AttributeNode, SwitchNode, TagNode, BodyNode, EnumeratorNode, LabelNode, EmptyArmNode, DeclaratorNode, ConstantNode, TypeNode}
+use Rattle.idl_rule_definitions.specs.Nodes.{OperationNode}
 use Rattle.idl_rule_definitions.specs.Types.{Names, type_of}
 use Rattle.idl_rule_definitions.specs.Scene.{Scene, Scoped}
 use Rattle.idl_declared_types.specs.Kinds.{type_at}

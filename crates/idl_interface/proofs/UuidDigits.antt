@@ -1,5 +1,6 @@
 -- The digits of a UUID are those of a number of 128 bits.
-use Rattle.std.proofs.Common.{◌≡◌, ℕ, zero, suc, ◌+◌, ◌-◌, ◌*◌, ◌^◌, ◌<◌, ◌≤◌, Bool, true, false, ◌||◌, ◌&&◌, cond, eqb, leb, List, [], ◌∷◌, length, drop, slice_index, refl, sym, ap, subst, arith, ◌∙◌}
+use Rattle.std.proofs.Common.{◌≡◌, ℕ, zero, suc, ◌+◌, ◌-◌, ◌*◌, ◌^◌, ◌<◌, ◌≤◌, Bool, true, false, ◌||◌, ◌&&◌, cond, eqb, leb, List, [], ◌∷◌, length, drop, slice_index, refl, sym, ap, subst, arith}
+use Rattle.std.proofs.Common.{◌∙◌}
 use Rattle.std.proofs.lemmas.Bool.{eqb-true, leb-true, leb-false}
 use Rattle.std.proofs.lemmas.List.{length-drop}
 use Rattle.grammar_phrases.proofs.Parts.{clash}
@@ -142,7 +143,8 @@ module _ (cs : List ℕ) (u : IsUuid cs) where
       let first_at = dash_at 8 cs (omega (arith, u.long)) (u.each 8 (omega arith)) in
       let second_at = dash_at 4 second (omega (arith, l.0)) (dash second 4 13 (index_drop 9 4 13 cs refl) (u.each 13 (omega arith))) in
       let third_at = dash_at 4 third_part (omega (arith, l.1)) (dash third_part 4 18 (index_drop 5 4 9 second refl ∙ index_drop 9 9 18 cs refl) (u.each 18 (omega arith))) in
-      let fourth_at = dash_at 4 fourth (omega (arith, l.2)) (dash fourth 4 23 (index_drop 5 4 9 third_part refl ∙ (index_drop 5 9 14 second refl ∙ index_drop 9 14 23 cs refl)) (u.each 23 (omega arith))) in
+      let fourth_at =
+      dash_at 4 fourth (omega (arith, l.2)) (dash fourth 4 23 (index_drop 5 4 9 third_part refl ∙ (index_drop 5 9 14 second refl ∙ index_drop 9 14 23 cs refl)) (u.each 23 (omega arith))) in
       let last = few_digits fifth in
       omega (arith, first_at, second_at, third_at, fourth_at, last, l.3)
 

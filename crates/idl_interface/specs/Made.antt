@@ -1,5 +1,6 @@
 -- Members, parameters and arms over the numbers of their types, as the program makes them.
-use Rattle.std.specs.Prelude.{◌≡◌, ◌≤◌, ℕ, ◌^◌, Bool, true, false, ltb, nat_le, List, [], ◌∷◌, ◌++◌, map, length, Vec, Option, Some, None, is_none, option_map, ℤ, pos, codes}
+use Rattle.std.specs.Prelude.{◌≡◌, ◌≤◌, ℕ, ◌^◌, Bool, true, false, ltb, nat_le, List, [], ◌∷◌, ◌++◌, map, length, Vec, Option, Some, None, is_none}
+use Rattle.std.specs.Prelude.{option_map, ℤ, pos, codes}
 use Rattle.std.specs.List.{flat_map, list_any}
 use Rattle.nd_types.specs.declared.types.TypeId.{TypeId}
 use Rattle.nd_types.specs.declared.types.Field.{Field}

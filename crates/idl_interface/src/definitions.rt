@@ -14,7 +14,8 @@ ghost use Rattle.idl_declared_types.specs.Kinds.{type_by, type_at, basic_in, see
 ghost use Rattle.idl_constructs.specs.SeenNodes.{seen_construct};
 ghost use Rattle.idl_type_numbers.specs.SeenNumbers.{number_at};
 ghost use Rattle.idl_interface.specs.Made as made;
-ghost use Rattle.idl_interface.specs.Made.{id, ids_of, tag_id, field_with, each_with, valued, arms_with, default_with, basic_made, is_narrow, has_few_parts, IsFound, IsProgram, scene_in};
+ghost use Rattle.idl_interface.specs.Made.{id, ids_of, tag_id, field_with, each_with, valued, arms_with, default_with, basic_made, is_narrow};
+ghost use Rattle.idl_interface.specs.Made.{has_few_parts, IsFound, IsProgram, scene_in};
 
 use crate::arms::{default_arm, labelled_arms, valued_arms};
 use crate::members::{fields, numbered};

@@ -23,7 +23,8 @@ fn narrow(index: usize) -> u32
 /// Gives a name its index, where it has none.
 fn put(table: &mut Table<u32>, name: &[u8], index: usize) -> Result<(), Memory>
     requires { index < 2 ^ 32 }
-    ensures { (before : List rules.Declared) (d : rules.Declared) → AreListed before table.old → length before ≡ index → d.declarator.name.octets ≡ name.now
+    ensures { (before : List rules.Declared) (d : rules.Declared) → AreListed before table.old → length before ≡ index
+        → d.declarator.name.octets ≡ name.now
         → OnOk result (AreListed (before ++ d ∷ []) table.new) }
 {
     if table.get(name).is_some() {

@@ -9,7 +9,8 @@ ghost use Rattle.idl_rule_definitions.specs.Attributes.{variable_word, in_word, 
 ghost use Rattle.idl_rule_definitions.specs.VariableRules.{variable_if};
 ghost use Rattle.idl_rule_definitions.specs.Meaning.{way_by};
 ghost use Rattle.idl_constructs.specs.SeenNodes.{seen_declared};
-ghost use Rattle.idl_interface.specs.Made.{ids_of, IsProgram, index_or, listed_if, attr_var_by, vars_by, size_vars_by, range_vars_by, field_vars_by, field_by, field_with, parameter_by, parameter_with, each_with};
+ghost use Rattle.idl_interface.specs.Made.{ids_of, IsProgram, index_or, listed_if, attr_var_by, vars_by, size_vars_by, range_vars_by, field_vars_by};
+ghost use Rattle.idl_interface.specs.Made.{field_by, field_with, parameter_by, parameter_with, each_with};
 
 use crate::definitions::{Program, number_of};
 use crate::listed::indexes;
@@ -236,7 +237,8 @@ pub(crate) fn fields(
 
 /// The directions of a parameter.
 fn way(attributes: &[Attribute]) -> Way
-    ensures { result ≡ way_by (attributes_of.has in_word (map seen_attribute attributes.now)) (attributes_of.has out_word (map seen_attribute attributes.now)) }
+    ensures { result
+        ≡ way_by (attributes_of.has in_word (map seen_attribute attributes.now)) (attributes_of.has out_word (map seen_attribute attributes.now)) }
 {
     match (has(attributes, Word::In), has(attributes, Word::Out)) {
         (true, true) => Way::InOut,

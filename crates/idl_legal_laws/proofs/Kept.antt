@@ -23,55 +23,245 @@ fails c rule true h = absurd (cc)
 
 pub keeps_use : (s : Scene) (u : Use) → breaches_of_use s u ≡ [] → KeepsUse s u
 keeps_use s u h_27 =
-    let p_27 = neither (broken_in u.construct Rule.VOID (holds_void u) ++ broken_in u.construct Rule.HANDLE (holds_handle u) ++ broken_in u.construct Rule.PIPES (holds_pipe u) ++ broken_in u.construct Rule.CONTEXT_HANDLE (is_no_context_handle u) ++ broken_in u.construct Rule.CONTEXT_HANDLES (holds_context_handle u) ++ broken_in u.construct Rule.NESTING (holds_deep_array s u) ++ broken_in u.construct Rule.ELEMENTS (has_wrong_counts u) ++ broken_in u.construct Rule.LOWER_BOUNDS (has_lower_bounds s.known u.it) ++ broken_in u.construct Rule.SEVERAL_DIMENSIONS (has_wrong_dimensions u) ++ broken_in u.construct Rule.ELEMENTS_OF_ARRAYS (has_wrong_elements s u) ++ broken_in u.construct Rule.MEMBERS_THAT_HOIST (hoists_before_last s u) ++ broken_in u.construct Rule.ARMS_THAT_HOIST (is_hoisting_arm s u) ++ broken_in u.construct Rule.ELEMENTS_OF_PIPES (holds_wrong_pipe s u) ++ broken_in u.construct Rule.CASES (is_wrongly_cased u.construct) ++ broken_in u.construct Rule.USES_OF_UNIONS (holds_nonencapsulated_union s u) ++ broken_in u.construct Rule.SWITCH_IS (has_wrong_switch s u) ++ broken_in u.construct Rule.CLASSES_ON_POINTERS (has_class_without_pointer u) ++ broken_in u.construct Rule.CLASS_OF_EACH_POINTER (holds_pointer_without_class u) ++ broken_in u.construct Rule.NO_POINTER_TO_REFERENCE (holds_pointer_to_reference u) ++ broken_in u.construct Rule.OUT_POINTERS (is_nullable_out u) ++ broken_in u.construct Rule.DIRECTIONS (lacks_direction u.construct) ++ broken_in u.construct Rule.OUT_PARAMETERS (is_wrong_out u) ++ broken_in u.construct Rule.RESULTS (is_wrong_result u) ++ broken_in u.construct Rule.TEXTS (is_wrong_text u) ++ broken_in u.construct Rule.SIZES (is_wrongly_sized u) ++ broken_in u.construct Rule.LENGTHS (is_wrongly_varying u) ++ broken_in u.construct Rule.VARIABLES (has_no_variable u)) (broken_in u.construct Rule.INTEGER_VARIABLES (has_wrong_variable s u)) h_27 in
+    let p_27 =
+    neither (broken_in u.construct Rule.VOID (holds_void u) ++ broken_in u.construct Rule.HANDLE (holds_handle u) ++ broken_in u.construct Rule.PIPES (holds_pipe u)
+    ++ broken_in u.construct Rule.CONTEXT_HANDLE (is_no_context_handle u) ++ broken_in u.construct Rule.CONTEXT_HANDLES (holds_context_handle u)
+    ++ broken_in u.construct Rule.NESTING (holds_deep_array s u) ++ broken_in u.construct Rule.ELEMENTS (has_wrong_counts u)
+    ++ broken_in u.construct Rule.LOWER_BOUNDS (has_lower_bounds s.known u.it) ++ broken_in u.construct Rule.SEVERAL_DIMENSIONS (has_wrong_dimensions u)
+    ++ broken_in u.construct Rule.ELEMENTS_OF_ARRAYS (has_wrong_elements s u) ++ broken_in u.construct Rule.MEMBERS_THAT_HOIST (hoists_before_last s u)
+    ++ broken_in u.construct Rule.ARMS_THAT_HOIST (is_hoisting_arm s u) ++ broken_in u.construct Rule.ELEMENTS_OF_PIPES (holds_wrong_pipe s u)
+    ++ broken_in u.construct Rule.CASES (is_wrongly_cased u.construct) ++ broken_in u.construct Rule.USES_OF_UNIONS (holds_nonencapsulated_union s u)
+    ++ broken_in u.construct Rule.SWITCH_IS (has_wrong_switch s u) ++ broken_in u.construct Rule.CLASSES_ON_POINTERS (has_class_without_pointer u)
+    ++ broken_in u.construct Rule.CLASS_OF_EACH_POINTER (holds_pointer_without_class u) ++ broken_in u.construct Rule.NO_POINTER_TO_REFERENCE (holds_pointer_to_reference u)
+    ++ broken_in u.construct Rule.OUT_POINTERS (is_nullable_out u) ++ broken_in u.construct Rule.DIRECTIONS (lacks_direction u.construct)
+    ++ broken_in u.construct Rule.OUT_PARAMETERS (is_wrong_out u) ++ broken_in u.construct Rule.RESULTS (is_wrong_result u) ++ broken_in u.construct Rule.TEXTS (is_wrong_text u)
+    ++ broken_in u.construct Rule.SIZES (is_wrongly_sized u) ++ broken_in u.construct Rule.LENGTHS (is_wrongly_varying u) ++ broken_in u.construct Rule.VARIABLES (has_no_variable u))
+    (broken_in u.construct Rule.INTEGER_VARIABLES (has_wrong_variable s u)) h_27 in
     let h_26 = p_27.0 in
-    let p_26 = neither (broken_in u.construct Rule.VOID (holds_void u) ++ broken_in u.construct Rule.HANDLE (holds_handle u) ++ broken_in u.construct Rule.PIPES (holds_pipe u) ++ broken_in u.construct Rule.CONTEXT_HANDLE (is_no_context_handle u) ++ broken_in u.construct Rule.CONTEXT_HANDLES (holds_context_handle u) ++ broken_in u.construct Rule.NESTING (holds_deep_array s u) ++ broken_in u.construct Rule.ELEMENTS (has_wrong_counts u) ++ broken_in u.construct Rule.LOWER_BOUNDS (has_lower_bounds s.known u.it) ++ broken_in u.construct Rule.SEVERAL_DIMENSIONS (has_wrong_dimensions u) ++ broken_in u.construct Rule.ELEMENTS_OF_ARRAYS (has_wrong_elements s u) ++ broken_in u.construct Rule.MEMBERS_THAT_HOIST (hoists_before_last s u) ++ broken_in u.construct Rule.ARMS_THAT_HOIST (is_hoisting_arm s u) ++ broken_in u.construct Rule.ELEMENTS_OF_PIPES (holds_wrong_pipe s u) ++ broken_in u.construct Rule.CASES (is_wrongly_cased u.construct) ++ broken_in u.construct Rule.USES_OF_UNIONS (holds_nonencapsulated_union s u) ++ broken_in u.construct Rule.SWITCH_IS (has_wrong_switch s u) ++ broken_in u.construct Rule.CLASSES_ON_POINTERS (has_class_without_pointer u) ++ broken_in u.construct Rule.CLASS_OF_EACH_POINTER (holds_pointer_without_class u) ++ broken_in u.construct Rule.NO_POINTER_TO_REFERENCE (holds_pointer_to_reference u) ++ broken_in u.construct Rule.OUT_POINTERS (is_nullable_out u) ++ broken_in u.construct Rule.DIRECTIONS (lacks_direction u.construct) ++ broken_in u.construct Rule.OUT_PARAMETERS (is_wrong_out u) ++ broken_in u.construct Rule.RESULTS (is_wrong_result u) ++ broken_in u.construct Rule.TEXTS (is_wrong_text u) ++ broken_in u.construct Rule.SIZES (is_wrongly_sized u) ++ broken_in u.construct Rule.LENGTHS (is_wrongly_varying u)) (broken_in u.construct Rule.VARIABLES (has_no_variable u)) h_26 in
+    let p_26 =
+    neither (broken_in u.construct Rule.VOID (holds_void u) ++ broken_in u.construct Rule.HANDLE (holds_handle u) ++ broken_in u.construct Rule.PIPES (holds_pipe u)
+    ++ broken_in u.construct Rule.CONTEXT_HANDLE (is_no_context_handle u) ++ broken_in u.construct Rule.CONTEXT_HANDLES (holds_context_handle u)
+    ++ broken_in u.construct Rule.NESTING (holds_deep_array s u) ++ broken_in u.construct Rule.ELEMENTS (has_wrong_counts u)
+    ++ broken_in u.construct Rule.LOWER_BOUNDS (has_lower_bounds s.known u.it) ++ broken_in u.construct Rule.SEVERAL_DIMENSIONS (has_wrong_dimensions u)
+    ++ broken_in u.construct Rule.ELEMENTS_OF_ARRAYS (has_wrong_elements s u) ++ broken_in u.construct Rule.MEMBERS_THAT_HOIST (hoists_before_last s u)
+    ++ broken_in u.construct Rule.ARMS_THAT_HOIST (is_hoisting_arm s u) ++ broken_in u.construct Rule.ELEMENTS_OF_PIPES (holds_wrong_pipe s u)
+    ++ broken_in u.construct Rule.CASES (is_wrongly_cased u.construct) ++ broken_in u.construct Rule.USES_OF_UNIONS (holds_nonencapsulated_union s u)
+    ++ broken_in u.construct Rule.SWITCH_IS (has_wrong_switch s u) ++ broken_in u.construct Rule.CLASSES_ON_POINTERS (has_class_without_pointer u)
+    ++ broken_in u.construct Rule.CLASS_OF_EACH_POINTER (holds_pointer_without_class u) ++ broken_in u.construct Rule.NO_POINTER_TO_REFERENCE (holds_pointer_to_reference u)
+    ++ broken_in u.construct Rule.OUT_POINTERS (is_nullable_out u) ++ broken_in u.construct Rule.DIRECTIONS (lacks_direction u.construct)
+    ++ broken_in u.construct Rule.OUT_PARAMETERS (is_wrong_out u) ++ broken_in u.construct Rule.RESULTS (is_wrong_result u) ++ broken_in u.construct Rule.TEXTS (is_wrong_text u)
+    ++ broken_in u.construct Rule.SIZES (is_wrongly_sized u) ++ broken_in u.construct Rule.LENGTHS (is_wrongly_varying u)) (broken_in u.construct Rule.VARIABLES (has_no_variable u)) h_26 in
     let h_25 = p_26.0 in
-    let p_25 = neither (broken_in u.construct Rule.VOID (holds_void u) ++ broken_in u.construct Rule.HANDLE (holds_handle u) ++ broken_in u.construct Rule.PIPES (holds_pipe u) ++ broken_in u.construct Rule.CONTEXT_HANDLE (is_no_context_handle u) ++ broken_in u.construct Rule.CONTEXT_HANDLES (holds_context_handle u) ++ broken_in u.construct Rule.NESTING (holds_deep_array s u) ++ broken_in u.construct Rule.ELEMENTS (has_wrong_counts u) ++ broken_in u.construct Rule.LOWER_BOUNDS (has_lower_bounds s.known u.it) ++ broken_in u.construct Rule.SEVERAL_DIMENSIONS (has_wrong_dimensions u) ++ broken_in u.construct Rule.ELEMENTS_OF_ARRAYS (has_wrong_elements s u) ++ broken_in u.construct Rule.MEMBERS_THAT_HOIST (hoists_before_last s u) ++ broken_in u.construct Rule.ARMS_THAT_HOIST (is_hoisting_arm s u) ++ broken_in u.construct Rule.ELEMENTS_OF_PIPES (holds_wrong_pipe s u) ++ broken_in u.construct Rule.CASES (is_wrongly_cased u.construct) ++ broken_in u.construct Rule.USES_OF_UNIONS (holds_nonencapsulated_union s u) ++ broken_in u.construct Rule.SWITCH_IS (has_wrong_switch s u) ++ broken_in u.construct Rule.CLASSES_ON_POINTERS (has_class_without_pointer u) ++ broken_in u.construct Rule.CLASS_OF_EACH_POINTER (holds_pointer_without_class u) ++ broken_in u.construct Rule.NO_POINTER_TO_REFERENCE (holds_pointer_to_reference u) ++ broken_in u.construct Rule.OUT_POINTERS (is_nullable_out u) ++ broken_in u.construct Rule.DIRECTIONS (lacks_direction u.construct) ++ broken_in u.construct Rule.OUT_PARAMETERS (is_wrong_out u) ++ broken_in u.construct Rule.RESULTS (is_wrong_result u) ++ broken_in u.construct Rule.TEXTS (is_wrong_text u) ++ broken_in u.construct Rule.SIZES (is_wrongly_sized u)) (broken_in u.construct Rule.LENGTHS (is_wrongly_varying u)) h_25 in
+    let p_25 =
+    neither (broken_in u.construct Rule.VOID (holds_void u) ++ broken_in u.construct Rule.HANDLE (holds_handle u) ++ broken_in u.construct Rule.PIPES (holds_pipe u)
+    ++ broken_in u.construct Rule.CONTEXT_HANDLE (is_no_context_handle u) ++ broken_in u.construct Rule.CONTEXT_HANDLES (holds_context_handle u)
+    ++ broken_in u.construct Rule.NESTING (holds_deep_array s u) ++ broken_in u.construct Rule.ELEMENTS (has_wrong_counts u)
+    ++ broken_in u.construct Rule.LOWER_BOUNDS (has_lower_bounds s.known u.it) ++ broken_in u.construct Rule.SEVERAL_DIMENSIONS (has_wrong_dimensions u)
+    ++ broken_in u.construct Rule.ELEMENTS_OF_ARRAYS (has_wrong_elements s u) ++ broken_in u.construct Rule.MEMBERS_THAT_HOIST (hoists_before_last s u)
+    ++ broken_in u.construct Rule.ARMS_THAT_HOIST (is_hoisting_arm s u) ++ broken_in u.construct Rule.ELEMENTS_OF_PIPES (holds_wrong_pipe s u)
+    ++ broken_in u.construct Rule.CASES (is_wrongly_cased u.construct) ++ broken_in u.construct Rule.USES_OF_UNIONS (holds_nonencapsulated_union s u)
+    ++ broken_in u.construct Rule.SWITCH_IS (has_wrong_switch s u) ++ broken_in u.construct Rule.CLASSES_ON_POINTERS (has_class_without_pointer u)
+    ++ broken_in u.construct Rule.CLASS_OF_EACH_POINTER (holds_pointer_without_class u) ++ broken_in u.construct Rule.NO_POINTER_TO_REFERENCE (holds_pointer_to_reference u)
+    ++ broken_in u.construct Rule.OUT_POINTERS (is_nullable_out u) ++ broken_in u.construct Rule.DIRECTIONS (lacks_direction u.construct)
+    ++ broken_in u.construct Rule.OUT_PARAMETERS (is_wrong_out u) ++ broken_in u.construct Rule.RESULTS (is_wrong_result u) ++ broken_in u.construct Rule.TEXTS (is_wrong_text u)
+    ++ broken_in u.construct Rule.SIZES (is_wrongly_sized u)) (broken_in u.construct Rule.LENGTHS (is_wrongly_varying u)) h_25 in
     let h_24 = p_25.0 in
-    let p_24 = neither (broken_in u.construct Rule.VOID (holds_void u) ++ broken_in u.construct Rule.HANDLE (holds_handle u) ++ broken_in u.construct Rule.PIPES (holds_pipe u) ++ broken_in u.construct Rule.CONTEXT_HANDLE (is_no_context_handle u) ++ broken_in u.construct Rule.CONTEXT_HANDLES (holds_context_handle u) ++ broken_in u.construct Rule.NESTING (holds_deep_array s u) ++ broken_in u.construct Rule.ELEMENTS (has_wrong_counts u) ++ broken_in u.construct Rule.LOWER_BOUNDS (has_lower_bounds s.known u.it) ++ broken_in u.construct Rule.SEVERAL_DIMENSIONS (has_wrong_dimensions u) ++ broken_in u.construct Rule.ELEMENTS_OF_ARRAYS (has_wrong_elements s u) ++ broken_in u.construct Rule.MEMBERS_THAT_HOIST (hoists_before_last s u) ++ broken_in u.construct Rule.ARMS_THAT_HOIST (is_hoisting_arm s u) ++ broken_in u.construct Rule.ELEMENTS_OF_PIPES (holds_wrong_pipe s u) ++ broken_in u.construct Rule.CASES (is_wrongly_cased u.construct) ++ broken_in u.construct Rule.USES_OF_UNIONS (holds_nonencapsulated_union s u) ++ broken_in u.construct Rule.SWITCH_IS (has_wrong_switch s u) ++ broken_in u.construct Rule.CLASSES_ON_POINTERS (has_class_without_pointer u) ++ broken_in u.construct Rule.CLASS_OF_EACH_POINTER (holds_pointer_without_class u) ++ broken_in u.construct Rule.NO_POINTER_TO_REFERENCE (holds_pointer_to_reference u) ++ broken_in u.construct Rule.OUT_POINTERS (is_nullable_out u) ++ broken_in u.construct Rule.DIRECTIONS (lacks_direction u.construct) ++ broken_in u.construct Rule.OUT_PARAMETERS (is_wrong_out u) ++ broken_in u.construct Rule.RESULTS (is_wrong_result u) ++ broken_in u.construct Rule.TEXTS (is_wrong_text u)) (broken_in u.construct Rule.SIZES (is_wrongly_sized u)) h_24 in
+    let p_24 =
+    neither (broken_in u.construct Rule.VOID (holds_void u) ++ broken_in u.construct Rule.HANDLE (holds_handle u) ++ broken_in u.construct Rule.PIPES (holds_pipe u)
+    ++ broken_in u.construct Rule.CONTEXT_HANDLE (is_no_context_handle u) ++ broken_in u.construct Rule.CONTEXT_HANDLES (holds_context_handle u)
+    ++ broken_in u.construct Rule.NESTING (holds_deep_array s u) ++ broken_in u.construct Rule.ELEMENTS (has_wrong_counts u)
+    ++ broken_in u.construct Rule.LOWER_BOUNDS (has_lower_bounds s.known u.it) ++ broken_in u.construct Rule.SEVERAL_DIMENSIONS (has_wrong_dimensions u)
+    ++ broken_in u.construct Rule.ELEMENTS_OF_ARRAYS (has_wrong_elements s u) ++ broken_in u.construct Rule.MEMBERS_THAT_HOIST (hoists_before_last s u)
+    ++ broken_in u.construct Rule.ARMS_THAT_HOIST (is_hoisting_arm s u) ++ broken_in u.construct Rule.ELEMENTS_OF_PIPES (holds_wrong_pipe s u)
+    ++ broken_in u.construct Rule.CASES (is_wrongly_cased u.construct) ++ broken_in u.construct Rule.USES_OF_UNIONS (holds_nonencapsulated_union s u)
+    ++ broken_in u.construct Rule.SWITCH_IS (has_wrong_switch s u) ++ broken_in u.construct Rule.CLASSES_ON_POINTERS (has_class_without_pointer u)
+    ++ broken_in u.construct Rule.CLASS_OF_EACH_POINTER (holds_pointer_without_class u) ++ broken_in u.construct Rule.NO_POINTER_TO_REFERENCE (holds_pointer_to_reference u)
+    ++ broken_in u.construct Rule.OUT_POINTERS (is_nullable_out u) ++ broken_in u.construct Rule.DIRECTIONS (lacks_direction u.construct)
+    ++ broken_in u.construct Rule.OUT_PARAMETERS (is_wrong_out u) ++ broken_in u.construct Rule.RESULTS (is_wrong_result u) ++ broken_in u.construct Rule.TEXTS (is_wrong_text u))
+    (broken_in u.construct Rule.SIZES (is_wrongly_sized u)) h_24 in
     let h_23 = p_24.0 in
-    let p_23 = neither (broken_in u.construct Rule.VOID (holds_void u) ++ broken_in u.construct Rule.HANDLE (holds_handle u) ++ broken_in u.construct Rule.PIPES (holds_pipe u) ++ broken_in u.construct Rule.CONTEXT_HANDLE (is_no_context_handle u) ++ broken_in u.construct Rule.CONTEXT_HANDLES (holds_context_handle u) ++ broken_in u.construct Rule.NESTING (holds_deep_array s u) ++ broken_in u.construct Rule.ELEMENTS (has_wrong_counts u) ++ broken_in u.construct Rule.LOWER_BOUNDS (has_lower_bounds s.known u.it) ++ broken_in u.construct Rule.SEVERAL_DIMENSIONS (has_wrong_dimensions u) ++ broken_in u.construct Rule.ELEMENTS_OF_ARRAYS (has_wrong_elements s u) ++ broken_in u.construct Rule.MEMBERS_THAT_HOIST (hoists_before_last s u) ++ broken_in u.construct Rule.ARMS_THAT_HOIST (is_hoisting_arm s u) ++ broken_in u.construct Rule.ELEMENTS_OF_PIPES (holds_wrong_pipe s u) ++ broken_in u.construct Rule.CASES (is_wrongly_cased u.construct) ++ broken_in u.construct Rule.USES_OF_UNIONS (holds_nonencapsulated_union s u) ++ broken_in u.construct Rule.SWITCH_IS (has_wrong_switch s u) ++ broken_in u.construct Rule.CLASSES_ON_POINTERS (has_class_without_pointer u) ++ broken_in u.construct Rule.CLASS_OF_EACH_POINTER (holds_pointer_without_class u) ++ broken_in u.construct Rule.NO_POINTER_TO_REFERENCE (holds_pointer_to_reference u) ++ broken_in u.construct Rule.OUT_POINTERS (is_nullable_out u) ++ broken_in u.construct Rule.DIRECTIONS (lacks_direction u.construct) ++ broken_in u.construct Rule.OUT_PARAMETERS (is_wrong_out u) ++ broken_in u.construct Rule.RESULTS (is_wrong_result u)) (broken_in u.construct Rule.TEXTS (is_wrong_text u)) h_23 in
+    let p_23 =
+    neither (broken_in u.construct Rule.VOID (holds_void u) ++ broken_in u.construct Rule.HANDLE (holds_handle u) ++ broken_in u.construct Rule.PIPES (holds_pipe u)
+    ++ broken_in u.construct Rule.CONTEXT_HANDLE (is_no_context_handle u) ++ broken_in u.construct Rule.CONTEXT_HANDLES (holds_context_handle u)
+    ++ broken_in u.construct Rule.NESTING (holds_deep_array s u) ++ broken_in u.construct Rule.ELEMENTS (has_wrong_counts u)
+    ++ broken_in u.construct Rule.LOWER_BOUNDS (has_lower_bounds s.known u.it) ++ broken_in u.construct Rule.SEVERAL_DIMENSIONS (has_wrong_dimensions u)
+    ++ broken_in u.construct Rule.ELEMENTS_OF_ARRAYS (has_wrong_elements s u) ++ broken_in u.construct Rule.MEMBERS_THAT_HOIST (hoists_before_last s u)
+    ++ broken_in u.construct Rule.ARMS_THAT_HOIST (is_hoisting_arm s u) ++ broken_in u.construct Rule.ELEMENTS_OF_PIPES (holds_wrong_pipe s u)
+    ++ broken_in u.construct Rule.CASES (is_wrongly_cased u.construct) ++ broken_in u.construct Rule.USES_OF_UNIONS (holds_nonencapsulated_union s u)
+    ++ broken_in u.construct Rule.SWITCH_IS (has_wrong_switch s u) ++ broken_in u.construct Rule.CLASSES_ON_POINTERS (has_class_without_pointer u)
+    ++ broken_in u.construct Rule.CLASS_OF_EACH_POINTER (holds_pointer_without_class u) ++ broken_in u.construct Rule.NO_POINTER_TO_REFERENCE (holds_pointer_to_reference u)
+    ++ broken_in u.construct Rule.OUT_POINTERS (is_nullable_out u) ++ broken_in u.construct Rule.DIRECTIONS (lacks_direction u.construct)
+    ++ broken_in u.construct Rule.OUT_PARAMETERS (is_wrong_out u) ++ broken_in u.construct Rule.RESULTS (is_wrong_result u)) (broken_in u.construct Rule.TEXTS (is_wrong_text u)) h_23 in
     let h_22 = p_23.0 in
-    let p_22 = neither (broken_in u.construct Rule.VOID (holds_void u) ++ broken_in u.construct Rule.HANDLE (holds_handle u) ++ broken_in u.construct Rule.PIPES (holds_pipe u) ++ broken_in u.construct Rule.CONTEXT_HANDLE (is_no_context_handle u) ++ broken_in u.construct Rule.CONTEXT_HANDLES (holds_context_handle u) ++ broken_in u.construct Rule.NESTING (holds_deep_array s u) ++ broken_in u.construct Rule.ELEMENTS (has_wrong_counts u) ++ broken_in u.construct Rule.LOWER_BOUNDS (has_lower_bounds s.known u.it) ++ broken_in u.construct Rule.SEVERAL_DIMENSIONS (has_wrong_dimensions u) ++ broken_in u.construct Rule.ELEMENTS_OF_ARRAYS (has_wrong_elements s u) ++ broken_in u.construct Rule.MEMBERS_THAT_HOIST (hoists_before_last s u) ++ broken_in u.construct Rule.ARMS_THAT_HOIST (is_hoisting_arm s u) ++ broken_in u.construct Rule.ELEMENTS_OF_PIPES (holds_wrong_pipe s u) ++ broken_in u.construct Rule.CASES (is_wrongly_cased u.construct) ++ broken_in u.construct Rule.USES_OF_UNIONS (holds_nonencapsulated_union s u) ++ broken_in u.construct Rule.SWITCH_IS (has_wrong_switch s u) ++ broken_in u.construct Rule.CLASSES_ON_POINTERS (has_class_without_pointer u) ++ broken_in u.construct Rule.CLASS_OF_EACH_POINTER (holds_pointer_without_class u) ++ broken_in u.construct Rule.NO_POINTER_TO_REFERENCE (holds_pointer_to_reference u) ++ broken_in u.construct Rule.OUT_POINTERS (is_nullable_out u) ++ broken_in u.construct Rule.DIRECTIONS (lacks_direction u.construct) ++ broken_in u.construct Rule.OUT_PARAMETERS (is_wrong_out u)) (broken_in u.construct Rule.RESULTS (is_wrong_result u)) h_22 in
+    let p_22 =
+    neither (broken_in u.construct Rule.VOID (holds_void u) ++ broken_in u.construct Rule.HANDLE (holds_handle u) ++ broken_in u.construct Rule.PIPES (holds_pipe u)
+    ++ broken_in u.construct Rule.CONTEXT_HANDLE (is_no_context_handle u) ++ broken_in u.construct Rule.CONTEXT_HANDLES (holds_context_handle u)
+    ++ broken_in u.construct Rule.NESTING (holds_deep_array s u) ++ broken_in u.construct Rule.ELEMENTS (has_wrong_counts u)
+    ++ broken_in u.construct Rule.LOWER_BOUNDS (has_lower_bounds s.known u.it) ++ broken_in u.construct Rule.SEVERAL_DIMENSIONS (has_wrong_dimensions u)
+    ++ broken_in u.construct Rule.ELEMENTS_OF_ARRAYS (has_wrong_elements s u) ++ broken_in u.construct Rule.MEMBERS_THAT_HOIST (hoists_before_last s u)
+    ++ broken_in u.construct Rule.ARMS_THAT_HOIST (is_hoisting_arm s u) ++ broken_in u.construct Rule.ELEMENTS_OF_PIPES (holds_wrong_pipe s u)
+    ++ broken_in u.construct Rule.CASES (is_wrongly_cased u.construct) ++ broken_in u.construct Rule.USES_OF_UNIONS (holds_nonencapsulated_union s u)
+    ++ broken_in u.construct Rule.SWITCH_IS (has_wrong_switch s u) ++ broken_in u.construct Rule.CLASSES_ON_POINTERS (has_class_without_pointer u)
+    ++ broken_in u.construct Rule.CLASS_OF_EACH_POINTER (holds_pointer_without_class u) ++ broken_in u.construct Rule.NO_POINTER_TO_REFERENCE (holds_pointer_to_reference u)
+    ++ broken_in u.construct Rule.OUT_POINTERS (is_nullable_out u) ++ broken_in u.construct Rule.DIRECTIONS (lacks_direction u.construct)
+    ++ broken_in u.construct Rule.OUT_PARAMETERS (is_wrong_out u)) (broken_in u.construct Rule.RESULTS (is_wrong_result u)) h_22 in
     let h_21 = p_22.0 in
-    let p_21 = neither (broken_in u.construct Rule.VOID (holds_void u) ++ broken_in u.construct Rule.HANDLE (holds_handle u) ++ broken_in u.construct Rule.PIPES (holds_pipe u) ++ broken_in u.construct Rule.CONTEXT_HANDLE (is_no_context_handle u) ++ broken_in u.construct Rule.CONTEXT_HANDLES (holds_context_handle u) ++ broken_in u.construct Rule.NESTING (holds_deep_array s u) ++ broken_in u.construct Rule.ELEMENTS (has_wrong_counts u) ++ broken_in u.construct Rule.LOWER_BOUNDS (has_lower_bounds s.known u.it) ++ broken_in u.construct Rule.SEVERAL_DIMENSIONS (has_wrong_dimensions u) ++ broken_in u.construct Rule.ELEMENTS_OF_ARRAYS (has_wrong_elements s u) ++ broken_in u.construct Rule.MEMBERS_THAT_HOIST (hoists_before_last s u) ++ broken_in u.construct Rule.ARMS_THAT_HOIST (is_hoisting_arm s u) ++ broken_in u.construct Rule.ELEMENTS_OF_PIPES (holds_wrong_pipe s u) ++ broken_in u.construct Rule.CASES (is_wrongly_cased u.construct) ++ broken_in u.construct Rule.USES_OF_UNIONS (holds_nonencapsulated_union s u) ++ broken_in u.construct Rule.SWITCH_IS (has_wrong_switch s u) ++ broken_in u.construct Rule.CLASSES_ON_POINTERS (has_class_without_pointer u) ++ broken_in u.construct Rule.CLASS_OF_EACH_POINTER (holds_pointer_without_class u) ++ broken_in u.construct Rule.NO_POINTER_TO_REFERENCE (holds_pointer_to_reference u) ++ broken_in u.construct Rule.OUT_POINTERS (is_nullable_out u) ++ broken_in u.construct Rule.DIRECTIONS (lacks_direction u.construct)) (broken_in u.construct Rule.OUT_PARAMETERS (is_wrong_out u)) h_21 in
+    let p_21 =
+    neither (broken_in u.construct Rule.VOID (holds_void u) ++ broken_in u.construct Rule.HANDLE (holds_handle u) ++ broken_in u.construct Rule.PIPES (holds_pipe u)
+    ++ broken_in u.construct Rule.CONTEXT_HANDLE (is_no_context_handle u) ++ broken_in u.construct Rule.CONTEXT_HANDLES (holds_context_handle u)
+    ++ broken_in u.construct Rule.NESTING (holds_deep_array s u) ++ broken_in u.construct Rule.ELEMENTS (has_wrong_counts u)
+    ++ broken_in u.construct Rule.LOWER_BOUNDS (has_lower_bounds s.known u.it) ++ broken_in u.construct Rule.SEVERAL_DIMENSIONS (has_wrong_dimensions u)
+    ++ broken_in u.construct Rule.ELEMENTS_OF_ARRAYS (has_wrong_elements s u) ++ broken_in u.construct Rule.MEMBERS_THAT_HOIST (hoists_before_last s u)
+    ++ broken_in u.construct Rule.ARMS_THAT_HOIST (is_hoisting_arm s u) ++ broken_in u.construct Rule.ELEMENTS_OF_PIPES (holds_wrong_pipe s u)
+    ++ broken_in u.construct Rule.CASES (is_wrongly_cased u.construct) ++ broken_in u.construct Rule.USES_OF_UNIONS (holds_nonencapsulated_union s u)
+    ++ broken_in u.construct Rule.SWITCH_IS (has_wrong_switch s u) ++ broken_in u.construct Rule.CLASSES_ON_POINTERS (has_class_without_pointer u)
+    ++ broken_in u.construct Rule.CLASS_OF_EACH_POINTER (holds_pointer_without_class u) ++ broken_in u.construct Rule.NO_POINTER_TO_REFERENCE (holds_pointer_to_reference u)
+    ++ broken_in u.construct Rule.OUT_POINTERS (is_nullable_out u) ++ broken_in u.construct Rule.DIRECTIONS (lacks_direction u.construct))
+    (broken_in u.construct Rule.OUT_PARAMETERS (is_wrong_out u)) h_21 in
     let h_20 = p_21.0 in
-    let p_20 = neither (broken_in u.construct Rule.VOID (holds_void u) ++ broken_in u.construct Rule.HANDLE (holds_handle u) ++ broken_in u.construct Rule.PIPES (holds_pipe u) ++ broken_in u.construct Rule.CONTEXT_HANDLE (is_no_context_handle u) ++ broken_in u.construct Rule.CONTEXT_HANDLES (holds_context_handle u) ++ broken_in u.construct Rule.NESTING (holds_deep_array s u) ++ broken_in u.construct Rule.ELEMENTS (has_wrong_counts u) ++ broken_in u.construct Rule.LOWER_BOUNDS (has_lower_bounds s.known u.it) ++ broken_in u.construct Rule.SEVERAL_DIMENSIONS (has_wrong_dimensions u) ++ broken_in u.construct Rule.ELEMENTS_OF_ARRAYS (has_wrong_elements s u) ++ broken_in u.construct Rule.MEMBERS_THAT_HOIST (hoists_before_last s u) ++ broken_in u.construct Rule.ARMS_THAT_HOIST (is_hoisting_arm s u) ++ broken_in u.construct Rule.ELEMENTS_OF_PIPES (holds_wrong_pipe s u) ++ broken_in u.construct Rule.CASES (is_wrongly_cased u.construct) ++ broken_in u.construct Rule.USES_OF_UNIONS (holds_nonencapsulated_union s u) ++ broken_in u.construct Rule.SWITCH_IS (has_wrong_switch s u) ++ broken_in u.construct Rule.CLASSES_ON_POINTERS (has_class_without_pointer u) ++ broken_in u.construct Rule.CLASS_OF_EACH_POINTER (holds_pointer_without_class u) ++ broken_in u.construct Rule.NO_POINTER_TO_REFERENCE (holds_pointer_to_reference u) ++ broken_in u.construct Rule.OUT_POINTERS (is_nullable_out u)) (broken_in u.construct Rule.DIRECTIONS (lacks_direction u.construct)) h_20 in
+    let p_20 =
+    neither (broken_in u.construct Rule.VOID (holds_void u) ++ broken_in u.construct Rule.HANDLE (holds_handle u) ++ broken_in u.construct Rule.PIPES (holds_pipe u)
+    ++ broken_in u.construct Rule.CONTEXT_HANDLE (is_no_context_handle u) ++ broken_in u.construct Rule.CONTEXT_HANDLES (holds_context_handle u)
+    ++ broken_in u.construct Rule.NESTING (holds_deep_array s u) ++ broken_in u.construct Rule.ELEMENTS (has_wrong_counts u)
+    ++ broken_in u.construct Rule.LOWER_BOUNDS (has_lower_bounds s.known u.it) ++ broken_in u.construct Rule.SEVERAL_DIMENSIONS (has_wrong_dimensions u)
+    ++ broken_in u.construct Rule.ELEMENTS_OF_ARRAYS (has_wrong_elements s u) ++ broken_in u.construct Rule.MEMBERS_THAT_HOIST (hoists_before_last s u)
+    ++ broken_in u.construct Rule.ARMS_THAT_HOIST (is_hoisting_arm s u) ++ broken_in u.construct Rule.ELEMENTS_OF_PIPES (holds_wrong_pipe s u)
+    ++ broken_in u.construct Rule.CASES (is_wrongly_cased u.construct) ++ broken_in u.construct Rule.USES_OF_UNIONS (holds_nonencapsulated_union s u)
+    ++ broken_in u.construct Rule.SWITCH_IS (has_wrong_switch s u) ++ broken_in u.construct Rule.CLASSES_ON_POINTERS (has_class_without_pointer u)
+    ++ broken_in u.construct Rule.CLASS_OF_EACH_POINTER (holds_pointer_without_class u) ++ broken_in u.construct Rule.NO_POINTER_TO_REFERENCE (holds_pointer_to_reference u)
+    ++ broken_in u.construct Rule.OUT_POINTERS (is_nullable_out u)) (broken_in u.construct Rule.DIRECTIONS (lacks_direction u.construct)) h_20 in
     let h_19 = p_20.0 in
-    let p_19 = neither (broken_in u.construct Rule.VOID (holds_void u) ++ broken_in u.construct Rule.HANDLE (holds_handle u) ++ broken_in u.construct Rule.PIPES (holds_pipe u) ++ broken_in u.construct Rule.CONTEXT_HANDLE (is_no_context_handle u) ++ broken_in u.construct Rule.CONTEXT_HANDLES (holds_context_handle u) ++ broken_in u.construct Rule.NESTING (holds_deep_array s u) ++ broken_in u.construct Rule.ELEMENTS (has_wrong_counts u) ++ broken_in u.construct Rule.LOWER_BOUNDS (has_lower_bounds s.known u.it) ++ broken_in u.construct Rule.SEVERAL_DIMENSIONS (has_wrong_dimensions u) ++ broken_in u.construct Rule.ELEMENTS_OF_ARRAYS (has_wrong_elements s u) ++ broken_in u.construct Rule.MEMBERS_THAT_HOIST (hoists_before_last s u) ++ broken_in u.construct Rule.ARMS_THAT_HOIST (is_hoisting_arm s u) ++ broken_in u.construct Rule.ELEMENTS_OF_PIPES (holds_wrong_pipe s u) ++ broken_in u.construct Rule.CASES (is_wrongly_cased u.construct) ++ broken_in u.construct Rule.USES_OF_UNIONS (holds_nonencapsulated_union s u) ++ broken_in u.construct Rule.SWITCH_IS (has_wrong_switch s u) ++ broken_in u.construct Rule.CLASSES_ON_POINTERS (has_class_without_pointer u) ++ broken_in u.construct Rule.CLASS_OF_EACH_POINTER (holds_pointer_without_class u) ++ broken_in u.construct Rule.NO_POINTER_TO_REFERENCE (holds_pointer_to_reference u)) (broken_in u.construct Rule.OUT_POINTERS (is_nullable_out u)) h_19 in
+    let p_19 =
+    neither (broken_in u.construct Rule.VOID (holds_void u) ++ broken_in u.construct Rule.HANDLE (holds_handle u) ++ broken_in u.construct Rule.PIPES (holds_pipe u)
+    ++ broken_in u.construct Rule.CONTEXT_HANDLE (is_no_context_handle u) ++ broken_in u.construct Rule.CONTEXT_HANDLES (holds_context_handle u)
+    ++ broken_in u.construct Rule.NESTING (holds_deep_array s u) ++ broken_in u.construct Rule.ELEMENTS (has_wrong_counts u)
+    ++ broken_in u.construct Rule.LOWER_BOUNDS (has_lower_bounds s.known u.it) ++ broken_in u.construct Rule.SEVERAL_DIMENSIONS (has_wrong_dimensions u)
+    ++ broken_in u.construct Rule.ELEMENTS_OF_ARRAYS (has_wrong_elements s u) ++ broken_in u.construct Rule.MEMBERS_THAT_HOIST (hoists_before_last s u)
+    ++ broken_in u.construct Rule.ARMS_THAT_HOIST (is_hoisting_arm s u) ++ broken_in u.construct Rule.ELEMENTS_OF_PIPES (holds_wrong_pipe s u)
+    ++ broken_in u.construct Rule.CASES (is_wrongly_cased u.construct) ++ broken_in u.construct Rule.USES_OF_UNIONS (holds_nonencapsulated_union s u)
+    ++ broken_in u.construct Rule.SWITCH_IS (has_wrong_switch s u) ++ broken_in u.construct Rule.CLASSES_ON_POINTERS (has_class_without_pointer u)
+    ++ broken_in u.construct Rule.CLASS_OF_EACH_POINTER (holds_pointer_without_class u) ++ broken_in u.construct Rule.NO_POINTER_TO_REFERENCE (holds_pointer_to_reference u))
+    (broken_in u.construct Rule.OUT_POINTERS (is_nullable_out u)) h_19 in
     let h_18 = p_19.0 in
-    let p_18 = neither (broken_in u.construct Rule.VOID (holds_void u) ++ broken_in u.construct Rule.HANDLE (holds_handle u) ++ broken_in u.construct Rule.PIPES (holds_pipe u) ++ broken_in u.construct Rule.CONTEXT_HANDLE (is_no_context_handle u) ++ broken_in u.construct Rule.CONTEXT_HANDLES (holds_context_handle u) ++ broken_in u.construct Rule.NESTING (holds_deep_array s u) ++ broken_in u.construct Rule.ELEMENTS (has_wrong_counts u) ++ broken_in u.construct Rule.LOWER_BOUNDS (has_lower_bounds s.known u.it) ++ broken_in u.construct Rule.SEVERAL_DIMENSIONS (has_wrong_dimensions u) ++ broken_in u.construct Rule.ELEMENTS_OF_ARRAYS (has_wrong_elements s u) ++ broken_in u.construct Rule.MEMBERS_THAT_HOIST (hoists_before_last s u) ++ broken_in u.construct Rule.ARMS_THAT_HOIST (is_hoisting_arm s u) ++ broken_in u.construct Rule.ELEMENTS_OF_PIPES (holds_wrong_pipe s u) ++ broken_in u.construct Rule.CASES (is_wrongly_cased u.construct) ++ broken_in u.construct Rule.USES_OF_UNIONS (holds_nonencapsulated_union s u) ++ broken_in u.construct Rule.SWITCH_IS (has_wrong_switch s u) ++ broken_in u.construct Rule.CLASSES_ON_POINTERS (has_class_without_pointer u) ++ broken_in u.construct Rule.CLASS_OF_EACH_POINTER (holds_pointer_without_class u)) (broken_in u.construct Rule.NO_POINTER_TO_REFERENCE (holds_pointer_to_reference u)) h_18 in
+    let p_18 =
+    neither (broken_in u.construct Rule.VOID (holds_void u) ++ broken_in u.construct Rule.HANDLE (holds_handle u) ++ broken_in u.construct Rule.PIPES (holds_pipe u)
+    ++ broken_in u.construct Rule.CONTEXT_HANDLE (is_no_context_handle u) ++ broken_in u.construct Rule.CONTEXT_HANDLES (holds_context_handle u)
+    ++ broken_in u.construct Rule.NESTING (holds_deep_array s u) ++ broken_in u.construct Rule.ELEMENTS (has_wrong_counts u)
+    ++ broken_in u.construct Rule.LOWER_BOUNDS (has_lower_bounds s.known u.it) ++ broken_in u.construct Rule.SEVERAL_DIMENSIONS (has_wrong_dimensions u)
+    ++ broken_in u.construct Rule.ELEMENTS_OF_ARRAYS (has_wrong_elements s u) ++ broken_in u.construct Rule.MEMBERS_THAT_HOIST (hoists_before_last s u)
+    ++ broken_in u.construct Rule.ARMS_THAT_HOIST (is_hoisting_arm s u) ++ broken_in u.construct Rule.ELEMENTS_OF_PIPES (holds_wrong_pipe s u)
+    ++ broken_in u.construct Rule.CASES (is_wrongly_cased u.construct) ++ broken_in u.construct Rule.USES_OF_UNIONS (holds_nonencapsulated_union s u)
+    ++ broken_in u.construct Rule.SWITCH_IS (has_wrong_switch s u) ++ broken_in u.construct Rule.CLASSES_ON_POINTERS (has_class_without_pointer u)
+    ++ broken_in u.construct Rule.CLASS_OF_EACH_POINTER (holds_pointer_without_class u)) (broken_in u.construct Rule.NO_POINTER_TO_REFERENCE (holds_pointer_to_reference u)) h_18 in
     let h_17 = p_18.0 in
-    let p_17 = neither (broken_in u.construct Rule.VOID (holds_void u) ++ broken_in u.construct Rule.HANDLE (holds_handle u) ++ broken_in u.construct Rule.PIPES (holds_pipe u) ++ broken_in u.construct Rule.CONTEXT_HANDLE (is_no_context_handle u) ++ broken_in u.construct Rule.CONTEXT_HANDLES (holds_context_handle u) ++ broken_in u.construct Rule.NESTING (holds_deep_array s u) ++ broken_in u.construct Rule.ELEMENTS (has_wrong_counts u) ++ broken_in u.construct Rule.LOWER_BOUNDS (has_lower_bounds s.known u.it) ++ broken_in u.construct Rule.SEVERAL_DIMENSIONS (has_wrong_dimensions u) ++ broken_in u.construct Rule.ELEMENTS_OF_ARRAYS (has_wrong_elements s u) ++ broken_in u.construct Rule.MEMBERS_THAT_HOIST (hoists_before_last s u) ++ broken_in u.construct Rule.ARMS_THAT_HOIST (is_hoisting_arm s u) ++ broken_in u.construct Rule.ELEMENTS_OF_PIPES (holds_wrong_pipe s u) ++ broken_in u.construct Rule.CASES (is_wrongly_cased u.construct) ++ broken_in u.construct Rule.USES_OF_UNIONS (holds_nonencapsulated_union s u) ++ broken_in u.construct Rule.SWITCH_IS (has_wrong_switch s u) ++ broken_in u.construct Rule.CLASSES_ON_POINTERS (has_class_without_pointer u)) (broken_in u.construct Rule.CLASS_OF_EACH_POINTER (holds_pointer_without_class u)) h_17 in
+    let p_17 =
+    neither (broken_in u.construct Rule.VOID (holds_void u) ++ broken_in u.construct Rule.HANDLE (holds_handle u) ++ broken_in u.construct Rule.PIPES (holds_pipe u)
+    ++ broken_in u.construct Rule.CONTEXT_HANDLE (is_no_context_handle u) ++ broken_in u.construct Rule.CONTEXT_HANDLES (holds_context_handle u)
+    ++ broken_in u.construct Rule.NESTING (holds_deep_array s u) ++ broken_in u.construct Rule.ELEMENTS (has_wrong_counts u)
+    ++ broken_in u.construct Rule.LOWER_BOUNDS (has_lower_bounds s.known u.it) ++ broken_in u.construct Rule.SEVERAL_DIMENSIONS (has_wrong_dimensions u)
+    ++ broken_in u.construct Rule.ELEMENTS_OF_ARRAYS (has_wrong_elements s u) ++ broken_in u.construct Rule.MEMBERS_THAT_HOIST (hoists_before_last s u)
+    ++ broken_in u.construct Rule.ARMS_THAT_HOIST (is_hoisting_arm s u) ++ broken_in u.construct Rule.ELEMENTS_OF_PIPES (holds_wrong_pipe s u)
+    ++ broken_in u.construct Rule.CASES (is_wrongly_cased u.construct) ++ broken_in u.construct Rule.USES_OF_UNIONS (holds_nonencapsulated_union s u)
+    ++ broken_in u.construct Rule.SWITCH_IS (has_wrong_switch s u) ++ broken_in u.construct Rule.CLASSES_ON_POINTERS (has_class_without_pointer u))
+    (broken_in u.construct Rule.CLASS_OF_EACH_POINTER (holds_pointer_without_class u)) h_17 in
     let h_16 = p_17.0 in
-    let p_16 = neither (broken_in u.construct Rule.VOID (holds_void u) ++ broken_in u.construct Rule.HANDLE (holds_handle u) ++ broken_in u.construct Rule.PIPES (holds_pipe u) ++ broken_in u.construct Rule.CONTEXT_HANDLE (is_no_context_handle u) ++ broken_in u.construct Rule.CONTEXT_HANDLES (holds_context_handle u) ++ broken_in u.construct Rule.NESTING (holds_deep_array s u) ++ broken_in u.construct Rule.ELEMENTS (has_wrong_counts u) ++ broken_in u.construct Rule.LOWER_BOUNDS (has_lower_bounds s.known u.it) ++ broken_in u.construct Rule.SEVERAL_DIMENSIONS (has_wrong_dimensions u) ++ broken_in u.construct Rule.ELEMENTS_OF_ARRAYS (has_wrong_elements s u) ++ broken_in u.construct Rule.MEMBERS_THAT_HOIST (hoists_before_last s u) ++ broken_in u.construct Rule.ARMS_THAT_HOIST (is_hoisting_arm s u) ++ broken_in u.construct Rule.ELEMENTS_OF_PIPES (holds_wrong_pipe s u) ++ broken_in u.construct Rule.CASES (is_wrongly_cased u.construct) ++ broken_in u.construct Rule.USES_OF_UNIONS (holds_nonencapsulated_union s u) ++ broken_in u.construct Rule.SWITCH_IS (has_wrong_switch s u)) (broken_in u.construct Rule.CLASSES_ON_POINTERS (has_class_without_pointer u)) h_16 in
+    let p_16 =
+    neither (broken_in u.construct Rule.VOID (holds_void u) ++ broken_in u.construct Rule.HANDLE (holds_handle u) ++ broken_in u.construct Rule.PIPES (holds_pipe u)
+    ++ broken_in u.construct Rule.CONTEXT_HANDLE (is_no_context_handle u) ++ broken_in u.construct Rule.CONTEXT_HANDLES (holds_context_handle u)
+    ++ broken_in u.construct Rule.NESTING (holds_deep_array s u) ++ broken_in u.construct Rule.ELEMENTS (has_wrong_counts u)
+    ++ broken_in u.construct Rule.LOWER_BOUNDS (has_lower_bounds s.known u.it) ++ broken_in u.construct Rule.SEVERAL_DIMENSIONS (has_wrong_dimensions u)
+    ++ broken_in u.construct Rule.ELEMENTS_OF_ARRAYS (has_wrong_elements s u) ++ broken_in u.construct Rule.MEMBERS_THAT_HOIST (hoists_before_last s u)
+    ++ broken_in u.construct Rule.ARMS_THAT_HOIST (is_hoisting_arm s u) ++ broken_in u.construct Rule.ELEMENTS_OF_PIPES (holds_wrong_pipe s u)
+    ++ broken_in u.construct Rule.CASES (is_wrongly_cased u.construct) ++ broken_in u.construct Rule.USES_OF_UNIONS (holds_nonencapsulated_union s u)
+    ++ broken_in u.construct Rule.SWITCH_IS (has_wrong_switch s u)) (broken_in u.construct Rule.CLASSES_ON_POINTERS (has_class_without_pointer u)) h_16 in
     let h_15 = p_16.0 in
-    let p_15 = neither (broken_in u.construct Rule.VOID (holds_void u) ++ broken_in u.construct Rule.HANDLE (holds_handle u) ++ broken_in u.construct Rule.PIPES (holds_pipe u) ++ broken_in u.construct Rule.CONTEXT_HANDLE (is_no_context_handle u) ++ broken_in u.construct Rule.CONTEXT_HANDLES (holds_context_handle u) ++ broken_in u.construct Rule.NESTING (holds_deep_array s u) ++ broken_in u.construct Rule.ELEMENTS (has_wrong_counts u) ++ broken_in u.construct Rule.LOWER_BOUNDS (has_lower_bounds s.known u.it) ++ broken_in u.construct Rule.SEVERAL_DIMENSIONS (has_wrong_dimensions u) ++ broken_in u.construct Rule.ELEMENTS_OF_ARRAYS (has_wrong_elements s u) ++ broken_in u.construct Rule.MEMBERS_THAT_HOIST (hoists_before_last s u) ++ broken_in u.construct Rule.ARMS_THAT_HOIST (is_hoisting_arm s u) ++ broken_in u.construct Rule.ELEMENTS_OF_PIPES (holds_wrong_pipe s u) ++ broken_in u.construct Rule.CASES (is_wrongly_cased u.construct) ++ broken_in u.construct Rule.USES_OF_UNIONS (holds_nonencapsulated_union s u)) (broken_in u.construct Rule.SWITCH_IS (has_wrong_switch s u)) h_15 in
+    let p_15 =
+    neither (broken_in u.construct Rule.VOID (holds_void u) ++ broken_in u.construct Rule.HANDLE (holds_handle u) ++ broken_in u.construct Rule.PIPES (holds_pipe u)
+    ++ broken_in u.construct Rule.CONTEXT_HANDLE (is_no_context_handle u) ++ broken_in u.construct Rule.CONTEXT_HANDLES (holds_context_handle u)
+    ++ broken_in u.construct Rule.NESTING (holds_deep_array s u) ++ broken_in u.construct Rule.ELEMENTS (has_wrong_counts u)
+    ++ broken_in u.construct Rule.LOWER_BOUNDS (has_lower_bounds s.known u.it) ++ broken_in u.construct Rule.SEVERAL_DIMENSIONS (has_wrong_dimensions u)
+    ++ broken_in u.construct Rule.ELEMENTS_OF_ARRAYS (has_wrong_elements s u) ++ broken_in u.construct Rule.MEMBERS_THAT_HOIST (hoists_before_last s u)
+    ++ broken_in u.construct Rule.ARMS_THAT_HOIST (is_hoisting_arm s u) ++ broken_in u.construct Rule.ELEMENTS_OF_PIPES (holds_wrong_pipe s u)
+    ++ broken_in u.construct Rule.CASES (is_wrongly_cased u.construct) ++ broken_in u.construct Rule.USES_OF_UNIONS (holds_nonencapsulated_union s u))
+    (broken_in u.construct Rule.SWITCH_IS (has_wrong_switch s u)) h_15 in
     let h_14 = p_15.0 in
-    let p_14 = neither (broken_in u.construct Rule.VOID (holds_void u) ++ broken_in u.construct Rule.HANDLE (holds_handle u) ++ broken_in u.construct Rule.PIPES (holds_pipe u) ++ broken_in u.construct Rule.CONTEXT_HANDLE (is_no_context_handle u) ++ broken_in u.construct Rule.CONTEXT_HANDLES (holds_context_handle u) ++ broken_in u.construct Rule.NESTING (holds_deep_array s u) ++ broken_in u.construct Rule.ELEMENTS (has_wrong_counts u) ++ broken_in u.construct Rule.LOWER_BOUNDS (has_lower_bounds s.known u.it) ++ broken_in u.construct Rule.SEVERAL_DIMENSIONS (has_wrong_dimensions u) ++ broken_in u.construct Rule.ELEMENTS_OF_ARRAYS (has_wrong_elements s u) ++ broken_in u.construct Rule.MEMBERS_THAT_HOIST (hoists_before_last s u) ++ broken_in u.construct Rule.ARMS_THAT_HOIST (is_hoisting_arm s u) ++ broken_in u.construct Rule.ELEMENTS_OF_PIPES (holds_wrong_pipe s u) ++ broken_in u.construct Rule.CASES (is_wrongly_cased u.construct)) (broken_in u.construct Rule.USES_OF_UNIONS (holds_nonencapsulated_union s u)) h_14 in
+    let p_14 =
+    neither (broken_in u.construct Rule.VOID (holds_void u) ++ broken_in u.construct Rule.HANDLE (holds_handle u) ++ broken_in u.construct Rule.PIPES (holds_pipe u)
+    ++ broken_in u.construct Rule.CONTEXT_HANDLE (is_no_context_handle u) ++ broken_in u.construct Rule.CONTEXT_HANDLES (holds_context_handle u)
+    ++ broken_in u.construct Rule.NESTING (holds_deep_array s u) ++ broken_in u.construct Rule.ELEMENTS (has_wrong_counts u)
+    ++ broken_in u.construct Rule.LOWER_BOUNDS (has_lower_bounds s.known u.it) ++ broken_in u.construct Rule.SEVERAL_DIMENSIONS (has_wrong_dimensions u)
+    ++ broken_in u.construct Rule.ELEMENTS_OF_ARRAYS (has_wrong_elements s u) ++ broken_in u.construct Rule.MEMBERS_THAT_HOIST (hoists_before_last s u)
+    ++ broken_in u.construct Rule.ARMS_THAT_HOIST (is_hoisting_arm s u) ++ broken_in u.construct Rule.ELEMENTS_OF_PIPES (holds_wrong_pipe s u)
+    ++ broken_in u.construct Rule.CASES (is_wrongly_cased u.construct)) (broken_in u.construct Rule.USES_OF_UNIONS (holds_nonencapsulated_union s u)) h_14 in
     let h_13 = p_14.0 in
-    let p_13 = neither (broken_in u.construct Rule.VOID (holds_void u) ++ broken_in u.construct Rule.HANDLE (holds_handle u) ++ broken_in u.construct Rule.PIPES (holds_pipe u) ++ broken_in u.construct Rule.CONTEXT_HANDLE (is_no_context_handle u) ++ broken_in u.construct Rule.CONTEXT_HANDLES (holds_context_handle u) ++ broken_in u.construct Rule.NESTING (holds_deep_array s u) ++ broken_in u.construct Rule.ELEMENTS (has_wrong_counts u) ++ broken_in u.construct Rule.LOWER_BOUNDS (has_lower_bounds s.known u.it) ++ broken_in u.construct Rule.SEVERAL_DIMENSIONS (has_wrong_dimensions u) ++ broken_in u.construct Rule.ELEMENTS_OF_ARRAYS (has_wrong_elements s u) ++ broken_in u.construct Rule.MEMBERS_THAT_HOIST (hoists_before_last s u) ++ broken_in u.construct Rule.ARMS_THAT_HOIST (is_hoisting_arm s u) ++ broken_in u.construct Rule.ELEMENTS_OF_PIPES (holds_wrong_pipe s u)) (broken_in u.construct Rule.CASES (is_wrongly_cased u.construct)) h_13 in
+    let p_13 =
+    neither (broken_in u.construct Rule.VOID (holds_void u) ++ broken_in u.construct Rule.HANDLE (holds_handle u) ++ broken_in u.construct Rule.PIPES (holds_pipe u)
+    ++ broken_in u.construct Rule.CONTEXT_HANDLE (is_no_context_handle u) ++ broken_in u.construct Rule.CONTEXT_HANDLES (holds_context_handle u)
+    ++ broken_in u.construct Rule.NESTING (holds_deep_array s u) ++ broken_in u.construct Rule.ELEMENTS (has_wrong_counts u)
+    ++ broken_in u.construct Rule.LOWER_BOUNDS (has_lower_bounds s.known u.it) ++ broken_in u.construct Rule.SEVERAL_DIMENSIONS (has_wrong_dimensions u)
+    ++ broken_in u.construct Rule.ELEMENTS_OF_ARRAYS (has_wrong_elements s u) ++ broken_in u.construct Rule.MEMBERS_THAT_HOIST (hoists_before_last s u)
+    ++ broken_in u.construct Rule.ARMS_THAT_HOIST (is_hoisting_arm s u) ++ broken_in u.construct Rule.ELEMENTS_OF_PIPES (holds_wrong_pipe s u))
+    (broken_in u.construct Rule.CASES (is_wrongly_cased u.construct)) h_13 in
     let h_12 = p_13.0 in
-    let p_12 = neither (broken_in u.construct Rule.VOID (holds_void u) ++ broken_in u.construct Rule.HANDLE (holds_handle u) ++ broken_in u.construct Rule.PIPES (holds_pipe u) ++ broken_in u.construct Rule.CONTEXT_HANDLE (is_no_context_handle u) ++ broken_in u.construct Rule.CONTEXT_HANDLES (holds_context_handle u) ++ broken_in u.construct Rule.NESTING (holds_deep_array s u) ++ broken_in u.construct Rule.ELEMENTS (has_wrong_counts u) ++ broken_in u.construct Rule.LOWER_BOUNDS (has_lower_bounds s.known u.it) ++ broken_in u.construct Rule.SEVERAL_DIMENSIONS (has_wrong_dimensions u) ++ broken_in u.construct Rule.ELEMENTS_OF_ARRAYS (has_wrong_elements s u) ++ broken_in u.construct Rule.MEMBERS_THAT_HOIST (hoists_before_last s u) ++ broken_in u.construct Rule.ARMS_THAT_HOIST (is_hoisting_arm s u)) (broken_in u.construct Rule.ELEMENTS_OF_PIPES (holds_wrong_pipe s u)) h_12 in
+    let p_12 =
+    neither (broken_in u.construct Rule.VOID (holds_void u) ++ broken_in u.construct Rule.HANDLE (holds_handle u) ++ broken_in u.construct Rule.PIPES (holds_pipe u)
+    ++ broken_in u.construct Rule.CONTEXT_HANDLE (is_no_context_handle u) ++ broken_in u.construct Rule.CONTEXT_HANDLES (holds_context_handle u)
+    ++ broken_in u.construct Rule.NESTING (holds_deep_array s u) ++ broken_in u.construct Rule.ELEMENTS (has_wrong_counts u)
+    ++ broken_in u.construct Rule.LOWER_BOUNDS (has_lower_bounds s.known u.it) ++ broken_in u.construct Rule.SEVERAL_DIMENSIONS (has_wrong_dimensions u)
+    ++ broken_in u.construct Rule.ELEMENTS_OF_ARRAYS (has_wrong_elements s u) ++ broken_in u.construct Rule.MEMBERS_THAT_HOIST (hoists_before_last s u)
+    ++ broken_in u.construct Rule.ARMS_THAT_HOIST (is_hoisting_arm s u)) (broken_in u.construct Rule.ELEMENTS_OF_PIPES (holds_wrong_pipe s u)) h_12 in
     let h_11 = p_12.0 in
-    let p_11 = neither (broken_in u.construct Rule.VOID (holds_void u) ++ broken_in u.construct Rule.HANDLE (holds_handle u) ++ broken_in u.construct Rule.PIPES (holds_pipe u) ++ broken_in u.construct Rule.CONTEXT_HANDLE (is_no_context_handle u) ++ broken_in u.construct Rule.CONTEXT_HANDLES (holds_context_handle u) ++ broken_in u.construct Rule.NESTING (holds_deep_array s u) ++ broken_in u.construct Rule.ELEMENTS (has_wrong_counts u) ++ broken_in u.construct Rule.LOWER_BOUNDS (has_lower_bounds s.known u.it) ++ broken_in u.construct Rule.SEVERAL_DIMENSIONS (has_wrong_dimensions u) ++ broken_in u.construct Rule.ELEMENTS_OF_ARRAYS (has_wrong_elements s u) ++ broken_in u.construct Rule.MEMBERS_THAT_HOIST (hoists_before_last s u)) (broken_in u.construct Rule.ARMS_THAT_HOIST (is_hoisting_arm s u)) h_11 in
+    let p_11 =
+    neither (broken_in u.construct Rule.VOID (holds_void u) ++ broken_in u.construct Rule.HANDLE (holds_handle u) ++ broken_in u.construct Rule.PIPES (holds_pipe u)
+    ++ broken_in u.construct Rule.CONTEXT_HANDLE (is_no_context_handle u) ++ broken_in u.construct Rule.CONTEXT_HANDLES (holds_context_handle u)
+    ++ broken_in u.construct Rule.NESTING (holds_deep_array s u) ++ broken_in u.construct Rule.ELEMENTS (has_wrong_counts u)
+    ++ broken_in u.construct Rule.LOWER_BOUNDS (has_lower_bounds s.known u.it) ++ broken_in u.construct Rule.SEVERAL_DIMENSIONS (has_wrong_dimensions u)
+    ++ broken_in u.construct Rule.ELEMENTS_OF_ARRAYS (has_wrong_elements s u) ++ broken_in u.construct Rule.MEMBERS_THAT_HOIST (hoists_before_last s u))
+    (broken_in u.construct Rule.ARMS_THAT_HOIST (is_hoisting_arm s u)) h_11 in
     let h_10 = p_11.0 in
-    let p_10 = neither (broken_in u.construct Rule.VOID (holds_void u) ++ broken_in u.construct Rule.HANDLE (holds_handle u) ++ broken_in u.construct Rule.PIPES (holds_pipe u) ++ broken_in u.construct Rule.CONTEXT_HANDLE (is_no_context_handle u) ++ broken_in u.construct Rule.CONTEXT_HANDLES (holds_context_handle u) ++ broken_in u.construct Rule.NESTING (holds_deep_array s u) ++ broken_in u.construct Rule.ELEMENTS (has_wrong_counts u) ++ broken_in u.construct Rule.LOWER_BOUNDS (has_lower_bounds s.known u.it) ++ broken_in u.construct Rule.SEVERAL_DIMENSIONS (has_wrong_dimensions u) ++ broken_in u.construct Rule.ELEMENTS_OF_ARRAYS (has_wrong_elements s u)) (broken_in u.construct Rule.MEMBERS_THAT_HOIST (hoists_before_last s u)) h_10 in
+    let p_10 =
+    neither (broken_in u.construct Rule.VOID (holds_void u) ++ broken_in u.construct Rule.HANDLE (holds_handle u) ++ broken_in u.construct Rule.PIPES (holds_pipe u)
+    ++ broken_in u.construct Rule.CONTEXT_HANDLE (is_no_context_handle u) ++ broken_in u.construct Rule.CONTEXT_HANDLES (holds_context_handle u)
+    ++ broken_in u.construct Rule.NESTING (holds_deep_array s u) ++ broken_in u.construct Rule.ELEMENTS (has_wrong_counts u)
+    ++ broken_in u.construct Rule.LOWER_BOUNDS (has_lower_bounds s.known u.it) ++ broken_in u.construct Rule.SEVERAL_DIMENSIONS (has_wrong_dimensions u)
+    ++ broken_in u.construct Rule.ELEMENTS_OF_ARRAYS (has_wrong_elements s u)) (broken_in u.construct Rule.MEMBERS_THAT_HOIST (hoists_before_last s u)) h_10 in
     let h_9 = p_10.0 in
-    let p_9 = neither (broken_in u.construct Rule.VOID (holds_void u) ++ broken_in u.construct Rule.HANDLE (holds_handle u) ++ broken_in u.construct Rule.PIPES (holds_pipe u) ++ broken_in u.construct Rule.CONTEXT_HANDLE (is_no_context_handle u) ++ broken_in u.construct Rule.CONTEXT_HANDLES (holds_context_handle u) ++ broken_in u.construct Rule.NESTING (holds_deep_array s u) ++ broken_in u.construct Rule.ELEMENTS (has_wrong_counts u) ++ broken_in u.construct Rule.LOWER_BOUNDS (has_lower_bounds s.known u.it) ++ broken_in u.construct Rule.SEVERAL_DIMENSIONS (has_wrong_dimensions u)) (broken_in u.construct Rule.ELEMENTS_OF_ARRAYS (has_wrong_elements s u)) h_9 in
+    let p_9 =
+    neither (broken_in u.construct Rule.VOID (holds_void u) ++ broken_in u.construct Rule.HANDLE (holds_handle u) ++ broken_in u.construct Rule.PIPES (holds_pipe u)
+    ++ broken_in u.construct Rule.CONTEXT_HANDLE (is_no_context_handle u) ++ broken_in u.construct Rule.CONTEXT_HANDLES (holds_context_handle u)
+    ++ broken_in u.construct Rule.NESTING (holds_deep_array s u) ++ broken_in u.construct Rule.ELEMENTS (has_wrong_counts u)
+    ++ broken_in u.construct Rule.LOWER_BOUNDS (has_lower_bounds s.known u.it) ++ broken_in u.construct Rule.SEVERAL_DIMENSIONS (has_wrong_dimensions u))
+    (broken_in u.construct Rule.ELEMENTS_OF_ARRAYS (has_wrong_elements s u)) h_9 in
     let h_8 = p_9.0 in
-    let p_8 = neither (broken_in u.construct Rule.VOID (holds_void u) ++ broken_in u.construct Rule.HANDLE (holds_handle u) ++ broken_in u.construct Rule.PIPES (holds_pipe u) ++ broken_in u.construct Rule.CONTEXT_HANDLE (is_no_context_handle u) ++ broken_in u.construct Rule.CONTEXT_HANDLES (holds_context_handle u) ++ broken_in u.construct Rule.NESTING (holds_deep_array s u) ++ broken_in u.construct Rule.ELEMENTS (has_wrong_counts u) ++ broken_in u.construct Rule.LOWER_BOUNDS (has_lower_bounds s.known u.it)) (broken_in u.construct Rule.SEVERAL_DIMENSIONS (has_wrong_dimensions u)) h_8 in
+    let p_8 =
+    neither (broken_in u.construct Rule.VOID (holds_void u) ++ broken_in u.construct Rule.HANDLE (holds_handle u) ++ broken_in u.construct Rule.PIPES (holds_pipe u)
+    ++ broken_in u.construct Rule.CONTEXT_HANDLE (is_no_context_handle u) ++ broken_in u.construct Rule.CONTEXT_HANDLES (holds_context_handle u)
+    ++ broken_in u.construct Rule.NESTING (holds_deep_array s u) ++ broken_in u.construct Rule.ELEMENTS (has_wrong_counts u)
+    ++ broken_in u.construct Rule.LOWER_BOUNDS (has_lower_bounds s.known u.it)) (broken_in u.construct Rule.SEVERAL_DIMENSIONS (has_wrong_dimensions u)) h_8 in
     let h_7 = p_8.0 in
-    let p_7 = neither (broken_in u.construct Rule.VOID (holds_void u) ++ broken_in u.construct Rule.HANDLE (holds_handle u) ++ broken_in u.construct Rule.PIPES (holds_pipe u) ++ broken_in u.construct Rule.CONTEXT_HANDLE (is_no_context_handle u) ++ broken_in u.construct Rule.CONTEXT_HANDLES (holds_context_handle u) ++ broken_in u.construct Rule.NESTING (holds_deep_array s u) ++ broken_in u.construct Rule.ELEMENTS (has_wrong_counts u)) (broken_in u.construct Rule.LOWER_BOUNDS (has_lower_bounds s.known u.it)) h_7 in
+    let p_7 =
+    neither (broken_in u.construct Rule.VOID (holds_void u) ++ broken_in u.construct Rule.HANDLE (holds_handle u) ++ broken_in u.construct Rule.PIPES (holds_pipe u)
+    ++ broken_in u.construct Rule.CONTEXT_HANDLE (is_no_context_handle u) ++ broken_in u.construct Rule.CONTEXT_HANDLES (holds_context_handle u)
+    ++ broken_in u.construct Rule.NESTING (holds_deep_array s u) ++ broken_in u.construct Rule.ELEMENTS (has_wrong_counts u))
+    (broken_in u.construct Rule.LOWER_BOUNDS (has_lower_bounds s.known u.it)) h_7 in
     let h_6 = p_7.0 in
-    let p_6 = neither (broken_in u.construct Rule.VOID (holds_void u) ++ broken_in u.construct Rule.HANDLE (holds_handle u) ++ broken_in u.construct Rule.PIPES (holds_pipe u) ++ broken_in u.construct Rule.CONTEXT_HANDLE (is_no_context_handle u) ++ broken_in u.construct Rule.CONTEXT_HANDLES (holds_context_handle u) ++ broken_in u.construct Rule.NESTING (holds_deep_array s u)) (broken_in u.construct Rule.ELEMENTS (has_wrong_counts u)) h_6 in
+    let p_6 =
+    neither (broken_in u.construct Rule.VOID (holds_void u) ++ broken_in u.construct Rule.HANDLE (holds_handle u) ++ broken_in u.construct Rule.PIPES (holds_pipe u)
+    ++ broken_in u.construct Rule.CONTEXT_HANDLE (is_no_context_handle u) ++ broken_in u.construct Rule.CONTEXT_HANDLES (holds_context_handle u)
+    ++ broken_in u.construct Rule.NESTING (holds_deep_array s u)) (broken_in u.construct Rule.ELEMENTS (has_wrong_counts u)) h_6 in
     let h_5 = p_6.0 in
-    let p_5 = neither (broken_in u.construct Rule.VOID (holds_void u) ++ broken_in u.construct Rule.HANDLE (holds_handle u) ++ broken_in u.construct Rule.PIPES (holds_pipe u) ++ broken_in u.construct Rule.CONTEXT_HANDLE (is_no_context_handle u) ++ broken_in u.construct Rule.CONTEXT_HANDLES (holds_context_handle u)) (broken_in u.construct Rule.NESTING (holds_deep_array s u)) h_5 in
+    let p_5 =
+    neither (broken_in u.construct Rule.VOID (holds_void u) ++ broken_in u.construct Rule.HANDLE (holds_handle u) ++ broken_in u.construct Rule.PIPES (holds_pipe u)
+    ++ broken_in u.construct Rule.CONTEXT_HANDLE (is_no_context_handle u) ++ broken_in u.construct Rule.CONTEXT_HANDLES (holds_context_handle u))
+    (broken_in u.construct Rule.NESTING (holds_deep_array s u)) h_5 in
     let h_4 = p_5.0 in
-    let p_4 = neither (broken_in u.construct Rule.VOID (holds_void u) ++ broken_in u.construct Rule.HANDLE (holds_handle u) ++ broken_in u.construct Rule.PIPES (holds_pipe u) ++ broken_in u.construct Rule.CONTEXT_HANDLE (is_no_context_handle u)) (broken_in u.construct Rule.CONTEXT_HANDLES (holds_context_handle u)) h_4 in
+    let p_4 =
+    neither (broken_in u.construct Rule.VOID (holds_void u) ++ broken_in u.construct Rule.HANDLE (holds_handle u) ++ broken_in u.construct Rule.PIPES (holds_pipe u)
+    ++ broken_in u.construct Rule.CONTEXT_HANDLE (is_no_context_handle u)) (broken_in u.construct Rule.CONTEXT_HANDLES (holds_context_handle u)) h_4 in
     let h_3 = p_4.0 in
-    let p_3 = neither (broken_in u.construct Rule.VOID (holds_void u) ++ broken_in u.construct Rule.HANDLE (holds_handle u) ++ broken_in u.construct Rule.PIPES (holds_pipe u)) (broken_in u.construct Rule.CONTEXT_HANDLE (is_no_context_handle u)) h_3 in
+    let p_3 =
+    neither (broken_in u.construct Rule.VOID (holds_void u) ++ broken_in u.construct Rule.HANDLE (holds_handle u) ++ broken_in u.construct Rule.PIPES (holds_pipe u))
+    (broken_in u.construct Rule.CONTEXT_HANDLE (is_no_context_handle u)) h_3 in
     let h_2 = p_3.0 in
     let p_2 = neither (broken_in u.construct Rule.VOID (holds_void u) ++ broken_in u.construct Rule.HANDLE (holds_handle u)) (broken_in u.construct Rule.PIPES (holds_pipe u)) h_2 in
     let h_1 = p_2.0 in

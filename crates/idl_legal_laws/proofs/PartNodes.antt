@@ -12,7 +12,8 @@ use Rattle.idl_rule_definitions.specs.Types.{IdlType, Void, Handle, ContextHandl
 use Rattle.idl_rule_definitions.specs.Scene.{Scene, Body, body_of, parts_declared, arm_declared, parts_of, parts_of_found, in_place, nests}
 use Rattle.idl_rule_definitions.specs.ValueRules.{label_value}
 use Rattle.idl_rule_definitions.specs.Numbering.{number_of_type, is_numbered}
-use Rattle.idl_rule_definitions.specs.Meaning.{definition, types_of, field, first_type, struct_of, defined_by, defined_at, body_if, is_struct, is_union, is_enum, type_of_arm, arm_by, labelled_arms, default_by, default_arm, first_arm}
+use Rattle.idl_rule_definitions.specs.Meaning.{definition, types_of, field, first_type, struct_of, defined_by, defined_at, body_if, is_struct, is_union, is_enum, type_of_arm, arm_by, labelled_arms}
+use Rattle.idl_rule_definitions.specs.Meaning.{default_by, default_arm, first_arm}
 use Rattle.idl_legal_laws.proofs.Numbers.{at_its_number}
 use Rattle.idl_legal_laws.proofs.Among.{Among, among_map, among_flat, Each, each_at, each_made, each_map, each_join, each_flat, each_every, each_then, all_each, each_all}
 use Rattle.idl_legal_laws.proofs.Scenes.{IsKept, BodyThere, KeptPart, kept_parts, part_numbered, found_there, inner_there}
@@ -37,7 +38,8 @@ struct_parts (f ∷ fs) = refl
 member_numbers : (s : Scene) (names : Names) (list ds : List Declared) → Each (PartNumber s names ds) (map (λ f. f.of.0) (map (field s names list) ds))
 member_numbers s names list ds =
     each_map (PartNumber s names ds) (λ f. f.of.0) (map (field s names list) ds)
-    (each_map (λ f. PartNumber s names ds f.of.0) (field s names list) ds (each_made (λ d. PartNumber s names ds (number_of_type s (type_of s.known names d))) ds (λ d i. record { it = d; among = i; number = refl })))
+    (each_map (λ f. PartNumber s names ds f.of.0) (field s names list) ds
+    (each_made (λ d. PartNumber s names ds (number_of_type s (type_of s.known names d))) ds (λ d i. record { it = d; among = i; number = refl })))
 
 -- ## Arms
 
@@ -53,11 +55,13 @@ arm_number s b a ds f = by_arm a.arm f
 abbrev ArmOk : Scene → Names → List Declared → arm.Arm → Type 0
 ArmOk s names ds a = Each (PartNumber s names ds) (layout.arm_type a)
 
-one_arm : (s : Scene) (b : Body) (a : LabelledArm) (ds : List Declared) (o : Option ℤ) → Each (PartNumber s b.names ds) (layout.type_list (type_of_arm s b a)) → Each (ArmOk s b.names ds) (arm_by s b a o)
+one_arm : (s : Scene) (b : Body) (a : LabelledArm) (ds : List Declared) (o : Option ℤ) → Each (PartNumber s b.names ds) (layout.type_list (type_of_arm s b a))
+    → Each (ArmOk s b.names ds) (arm_by s b a o)
 one_arm s b a ds (Some z) h = (h, tt)
 one_arm s b a ds None h = tt
 
-one_default : (s : Scene) (b : Body) (a : LabelledArm) (ds : List Declared) (o : Option ℤ) → Each (PartNumber s b.names ds) (layout.type_list (type_of_arm s b a)) → Each (ArmOk s b.names ds) (default_by s b a o)
+one_default : (s : Scene) (b : Body) (a : LabelledArm) (ds : List Declared) (o : Option ℤ) → Each (PartNumber s b.names ds) (layout.type_list (type_of_arm s b a))
+    → Each (ArmOk s b.names ds) (default_by s b a o)
 one_default s b a ds (Some z) h = tt
 one_default s b a ds None h = (h, tt)
 
@@ -78,12 +82,14 @@ arm_numbers s b ds e =
     (all_arms (PartNumber s b.names ds) (labelled_arms s b)
     (each_flat (ArmOk s b.names ds) (λ a. flat_map (λ l. arm_by s b a (label_value s.known l)) a.labels) (arms_of b.body)
     (each_then (λ a. Each (PartNumber s b.names ds) (layout.type_list (type_of_arm s b a))) (λ a. Each (ArmOk s b.names ds) (flat_map (λ l. arm_by s b a (label_value s.known l)) a.labels))
-    (λ a h. each_flat (ArmOk s b.names ds) (λ l. arm_by s b a (label_value s.known l)) a.labels (each_every (λ l. Each (ArmOk s b.names ds) (arm_by s b a (label_value s.known l))) (λ l. one_arm s b a ds (label_value s.known l) h) a.labels))
+    (λ a h. each_flat (ArmOk s b.names ds) (λ l. arm_by s b a (label_value s.known l)) a.labels
+    (each_every (λ l. Each (ArmOk s b.names ds) (arm_by s b a (label_value s.known l))) (λ l. one_arm s b a ds (label_value s.known l) h) a.labels))
     (arms_of b.body) each_arm)))
     (first_ok (ArmOk s b.names ds) (flat_map (λ a. flat_map (λ l. default_by s b a (label_value s.known l)) a.labels) (arms_of b.body))
     (each_flat (ArmOk s b.names ds) (λ a. flat_map (λ l. default_by s b a (label_value s.known l)) a.labels) (arms_of b.body)
     (each_then (λ a. Each (PartNumber s b.names ds) (layout.type_list (type_of_arm s b a))) (λ a. Each (ArmOk s b.names ds) (flat_map (λ l. default_by s b a (label_value s.known l)) a.labels))
-    (λ a h. each_flat (ArmOk s b.names ds) (λ l. default_by s b a (label_value s.known l)) a.labels (each_every (λ l. Each (ArmOk s b.names ds) (default_by s b a (label_value s.known l))) (λ l. one_default s b a ds (label_value s.known l) h) a.labels))
+    (λ a h. each_flat (ArmOk s b.names ds) (λ l. default_by s b a (label_value s.known l)) a.labels
+    (each_every (λ l. Each (ArmOk s b.names ds) (default_by s b a (label_value s.known l))) (λ l. one_default s b a ds (label_value s.known l) h) a.labels))
     (arms_of b.body) each_arm))
     (PartNumber s b.names ds) (λ a h. h))
 
@@ -166,5 +172,6 @@ nests_there s k (suc n) t h i =
     ap (λ o. list_all (layout.nests n (types_of s)) (layout.parts o)) (at_its_number s t h)
     ∙ each_all (layout.nests n (types_of s)) (layout.parts (Some (definition s t)))
     (each_then (Held s (in_place s t)) (λ m. layout.nests n (types_of s) m ≡ true)
-    (λ m p. subst (λ x. layout.nests n (types_of s) x ≡ true) p.number (nests_there s k n p.type p.there (each_at (λ u. nests n s u ≡ true) (in_place s t) (all_each (nests n s) (in_place s t) i) p.type p.held)))
+    (λ m p. subst (λ x. layout.nests n (types_of s) x ≡ true) p.number
+    (nests_there s k n p.type p.there (each_at (λ u. nests n s u ≡ true) (in_place s t) (all_each (nests n s) (in_place s t) i) p.type p.held)))
     (layout.parts (Some (definition s t))) (holds s k t h))

@@ -14,8 +14,10 @@ use Rattle.idl_grammar.specs.declared.words.Spelling.{Spelling}
 use Rattle.idl_grammar.specs.Tree.{TypeSpec}
 use Rattle.idl_grammar.specs.Tree as tree
 use Rattle.idl_scope.specs.Known.{Known}
-use Rattle.idl_rule_definitions.specs.Nodes.{Construct, Node, HeaderNode, AttributeNode, SwitchNode, TagNode, BodyNode, EnumeratorNode, LabelNode, EmptyArmNode, DeclaratorNode, ConstantNode, TypeNode, OperationNode}
-use Rattle.idl_rule_definitions.specs.Types.{IdlType, Void, Handle, ContextHandle, Basic, Struct, Union, Enum, Array, Text, Pointer, Pipe, Names, type_of, type_of_tag, is_void, is_handle, is_reference}
+use Rattle.idl_rule_definitions.specs.Nodes.{Construct, Node, HeaderNode, AttributeNode, SwitchNode, TagNode, BodyNode, EnumeratorNode, LabelNode, EmptyArmNode, DeclaratorNode, ConstantNode, TypeNode}
+use Rattle.idl_rule_definitions.specs.Nodes.{OperationNode}
+use Rattle.idl_rule_definitions.specs.Types.{IdlType, Void, Handle, ContextHandle, Basic, Struct, Union, Enum, Array, Text, Pointer, Pipe, Names, type_of, type_of_tag, is_void, is_handle}
+use Rattle.idl_rule_definitions.specs.Types.{is_reference}
 use Rattle.idl_rule_definitions.specs.Scene.{Scoped, Scene, Body, body_of, type_of_body}
 use Rattle.idl_rule_definitions.specs.Rules.{breaches_in}
 use Rattle.idl_rule_definitions.specs.PointerRules.{refers_to_reference}
@@ -109,7 +111,8 @@ tag_alone known file tag_kind.Struct tag = refl
 tag_alone known file tag_kind.Union tag = refl
 tag_alone known file tag_kind.Enum tag = refl
 
-body_alone : (c : Construct) (names : Names) (body : TypeSpec) → inner_of (type_of_body (record { construct = c; names = names; body = body })) ≡ type_of_body (record { construct = c; names = names; body = body })
+body_alone : (c : Construct) (names : Names) (body : TypeSpec)
+    → inner_of (type_of_body (record { construct = c; names = names; body = body })) ≡ type_of_body (record { construct = c; names = names; body = body })
 body_alone c names (tree.Struct at tag ms) = refl
 body_alone c names (tree.Enum at tag es) = refl
 body_alone c names (tree.EncapsulatedUnion at tag d name cases) = refl

@@ -13,7 +13,9 @@ use Rattle.idl_grammar.specs.Tree.{TypeSpec, Members, Cases, Arms, Arm, Declarat
 use Rattle.idl_grammar.specs.Tree as tree
 use Rattle.nd_base.specs.declared.octets.Place.{Place}
 use Rattle.idl_rule_definitions.specs.World.{World}
-use Rattle.idl_rule_definitions.specs.Nodes.{Construct, place_in, Position, InMember, InArm, InCasedArm, InHeader, InTypedef, InTaggedType, InParameter, InOperation, inside, Declared, declared, Node, HeaderNode, AttributeNode, SwitchNode, TagNode, BodyNode, EnumeratorNode, LabelNode, EmptyArmNode, DeclaratorNode, ConstantNode, TypeNode, OperationNode, declared_members, declarator_nodes, labels_of, label_nodes}
+use Rattle.idl_rule_definitions.specs.Nodes.{Construct, place_in, Position, InMember, InArm, InCasedArm, InHeader, InTypedef, InTaggedType, InParameter, InOperation, inside, Declared, declared, Node}
+use Rattle.idl_rule_definitions.specs.Nodes.{HeaderNode, AttributeNode, SwitchNode, TagNode, BodyNode, EnumeratorNode, LabelNode, EmptyArmNode, DeclaratorNode, ConstantNode, TypeNode, OperationNode}
+use Rattle.idl_rule_definitions.specs.Nodes.{declared_members, declarator_nodes, labels_of, label_nodes}
 use Rattle.idl_rule_definitions.specs.Types.{IdlType, Void, Handle, ContextHandle, Basic, Struct, Union, Enum, Array, Text, Pointer, Pipe, Names, type_of, is_void, is_handle}
 use Rattle.idl_rule_definitions.specs.Scene.{Scoped, Scene, scene_of, use_of, Body, bodies, body_by, body_among, body_of, place_of, same_place, parts_declared}
 use Rattle.idl_rule_definitions.specs.Rules.{breach, breaches, breaches_at, breaches_in}
@@ -142,7 +144,8 @@ members_placed c tree.no_members = tt
 members_placed c (tree.next_member at a type ds others) =
     each_join IsPlaced (map (declared (inside c InMember at a) type) ds) (declared_members c others) (line_placed c at a type ds) (members_placed c others)
 
-cases_placed : (c : Construct) (at : ℕ) (tag : Option Spelling) (d : Discriminant) (name : Option Spelling) (cases : Cases) → Each IsPlaced (parts_declared c (tree.EncapsulatedUnion at tag d name cases))
+cases_placed : (c : Construct) (at : ℕ) (tag : Option Spelling) (d : Discriminant) (name : Option Spelling) (cases : Cases)
+    → Each IsPlaced (parts_declared c (tree.EncapsulatedUnion at tag d name cases))
 cases_placed c at tag d name tree.no_cases = tt
 cases_placed c at tag d name (tree.next_case labels (tree.Empty at_arm a) others) = cases_placed c at tag d name others
 cases_placed c at tag d name (tree.next_case labels (tree.Typed at_arm a type dd) others) = (refl, cases_placed c at tag d name others)
@@ -246,10 +249,18 @@ is_made _ = false
 
 -- what a type in the table is made of is there too
 pub inner_there : (s : Scene) → IsKept s → (t : IdlType) → is_made t ≡ true → is_numbered s t ≡ true → is_numbered s (inner_of t) ≡ true
-inner_there s k (Array t m v) h i = numbered s t (untrue (is_void t || is_handle t) (own_fact (λ u. not (is_hollow u)) (own_types s) (Array t m v) (all_solid s k.none) i)) (own_fact (λ u. is_numbered_or_none s (inner_of u)) (own_types s) (Array t m v) (inner_numbered s) i)
-inner_there s k (Text t m) h i = numbered s t (untrue (is_void t || is_handle t) (own_fact (λ u. not (is_hollow u)) (own_types s) (Text t m) (all_solid s k.none) i)) (own_fact (λ u. is_numbered_or_none s (inner_of u)) (own_types s) (Text t m) (inner_numbered s) i)
-inner_there s k (Pointer c t) h i = numbered s t (untrue (is_void t || is_handle t) (own_fact (λ u. not (is_hollow u)) (own_types s) (Pointer c t) (all_solid s k.none) i)) (own_fact (λ u. is_numbered_or_none s (inner_of u)) (own_types s) (Pointer c t) (inner_numbered s) i)
-inner_there s k (Pipe t) h i = numbered s t (untrue (is_void t || is_handle t) (own_fact (λ u. not (is_hollow u)) (own_types s) (Pipe t) (all_solid s k.none) i)) (own_fact (λ u. is_numbered_or_none s (inner_of u)) (own_types s) (Pipe t) (inner_numbered s) i)
+inner_there s k (Array t m v) h i =
+    numbered s t (untrue (is_void t || is_handle t) (own_fact (λ u. not (is_hollow u)) (own_types s) (Array t m v) (all_solid s k.none) i))
+    (own_fact (λ u. is_numbered_or_none s (inner_of u)) (own_types s) (Array t m v) (inner_numbered s) i)
+inner_there s k (Text t m) h i =
+    numbered s t (untrue (is_void t || is_handle t) (own_fact (λ u. not (is_hollow u)) (own_types s) (Text t m) (all_solid s k.none) i))
+    (own_fact (λ u. is_numbered_or_none s (inner_of u)) (own_types s) (Text t m) (inner_numbered s) i)
+inner_there s k (Pointer c t) h i =
+    numbered s t (untrue (is_void t || is_handle t) (own_fact (λ u. not (is_hollow u)) (own_types s) (Pointer c t) (all_solid s k.none) i))
+    (own_fact (λ u. is_numbered_or_none s (inner_of u)) (own_types s) (Pointer c t) (inner_numbered s) i)
+inner_there s k (Pipe t) h i =
+    numbered s t (untrue (is_void t || is_handle t) (own_fact (λ u. not (is_hollow u)) (own_types s) (Pipe t) (all_solid s k.none) i))
+    (own_fact (λ u. is_numbered_or_none s (inner_of u)) (own_types s) (Pipe t) (inner_numbered s) i)
 inner_there s k Void h i = absurd (let e : false ≡ true = h in cc)
 inner_there s k Handle h i = absurd (let e : false ≡ true = h in cc)
 inner_there s k ContextHandle h i = absurd (let e : false ≡ true = h in cc)
@@ -317,7 +328,8 @@ kept_own n ns others false c e h i = i
 first_own : (before : List IdlType) (ns : List Needed) → all_are has_own_number (first_needed before ns) ≡ true
 first_own before [] = refl
 first_own before (n ∷ ns) =
-    kept_own n (first_needed (n.type ∷ before) ns) (first_needed before ns) (has_own_number n.type) (not (list_any (same_type n.type) before)) refl (first_own (n.type ∷ before) ns) (first_own before ns)
+    kept_own n (first_needed (n.type ∷ before) ns) (first_needed before ns) (has_own_number n.type) (not (list_any (same_type n.type) before)) refl (first_own (n.type ∷ before) ns)
+    (first_own before ns)
 
 -- the types from number 12 on are no basic ones
 pub all_own_numbers : (s : Scene) → all_are has_own_number (own_types s) ≡ true

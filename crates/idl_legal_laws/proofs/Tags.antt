@@ -11,7 +11,8 @@ use Rattle.idl_grammar.specs.Tree.{TypeSpec}
 use Rattle.idl_grammar.specs.Tree as tree
 use Rattle.idl_scope.specs.Tables.{found}
 use Rattle.idl_rule_definitions.specs.Nodes.{Construct, Node, SwitchNode, BodyNode, switch_node, label_nodes, labels_of}
-use Rattle.idl_rule_definitions.specs.Types.{IdlType, or_void, Void, Handle, ContextHandle, Basic, Struct, Union, Enum, Array, Text, Pointer, Pipe, Names, type_of, named_type, simple_type, switch_type, is_void, is_handle, is_pipe, is_context}
+use Rattle.idl_rule_definitions.specs.Types.{IdlType, or_void, Void, Handle, ContextHandle, Basic, Struct, Union, Enum, Array, Text, Pointer, Pipe, Names, type_of, named_type, simple_type}
+use Rattle.idl_rule_definitions.specs.Types.{switch_type, is_void, is_handle, is_pipe, is_context}
 use Rattle.idl_rule_definitions.specs.Scene.{Scene, Body, tag_type, tag_written, parts_declared}
 use Rattle.idl_rule_definitions.specs.Rules.{broken_in}
 use Rattle.idl_rule_definitions.specs.DeclarationRules.{lacks_switch_type}
@@ -78,7 +79,9 @@ no_not false h = absurd (let e : true ≡ false = h in cc)
 switch_kept : (s : Scene) → IsKept s → (names : Names) (c : Construct) (w : SwitchType) → There s names (SwitchNode c w) → may_be_switched (switch_type names w) ≡ true
 switch_kept s k names c w h =
     let t = switch_type names w in
-    let e = neither (broken_in c Rule.VOID (in_tag is_void t) ++ broken_in c Rule.HANDLE (in_tag is_handle t) ++ broken_in c Rule.PIPES (in_tag is_pipe t) ++ broken_in c Rule.CONTEXT_HANDLES (in_tag is_context t)) (broken_in c Rule.SWITCH_TYPES (may_not_be_switched t)) (keeps_there s k names (SwitchNode c w) h) in
+    let e = neither
+    (broken_in c Rule.VOID (in_tag is_void t) ++ broken_in c Rule.HANDLE (in_tag is_handle t) ++ broken_in c Rule.PIPES (in_tag is_pipe t)
+    ++ broken_in c Rule.CONTEXT_HANDLES (in_tag is_context t)) (broken_in c Rule.SWITCH_TYPES (may_not_be_switched t)) (keeps_there s k names (SwitchNode c w) h) in
     no_not (may_be_switched t) (fails c 21 (may_not_be_switched t) e.1)
 
 tag_of_switch : (s : Scene) → IsKept s → (b : Body) (w : SwitchType) → tag_written b.construct b.body ≡ Some w → There s b.names (SwitchNode b.construct w) → KeptTag s b
@@ -91,18 +94,22 @@ tag_of_switch s k b w e h =
       there = switch_numbered s (switch_type b.names w) m (tag_passes s b.names w (numbers_named s k b.names (SwitchNode b.construct w) h));
     }
 
-written : (o : Option SwitchType) → is_none o ≡ false → (c : Construct) (s : Scene) (names : Names) → Each (There s names) (switch_node c o) → (w : SwitchType) × (o ≡ Some w) × There s names (SwitchNode c w)
+written : (o : Option SwitchType) → is_none o ≡ false → (c : Construct) (s : Scene) (names : Names) → Each (There s names) (switch_node c o)
+    → (w : SwitchType) × (o ≡ Some w) × There s names (SwitchNode c w)
 written None h c s names i = absurd (let e : true ≡ false = h in cc)
 written (Some w) h c s names i = (w, refl, i.0)
 
 -- the tag of a union that breaks no rule
-pub kept_tag : (s : Scene) → IsKept s → (names : Names) (c : Construct) (body : TypeSpec) → is_union body ≡ true → There s names (BodyNode c body) → KeptTag s (record { construct = c; names = names; body = body })
+pub kept_tag : (s : Scene) → IsKept s → (names : Names) (c : Construct) (body : TypeSpec) → is_union body ≡ true → There s names (BodyNode c body)
+    → KeptTag s (record { construct = c; names = names; body = body })
 kept_tag s k names c (tree.EncapsulatedUnion at tag d name cases) u h =
-    tag_of_switch s k (record { construct = c; names = names; body = tree.EncapsulatedUnion at tag d name cases }) d.of refl (beside_there s k names (BodyNode c (tree.EncapsulatedUnion at tag d name cases)) h).0
+    tag_of_switch s k (record { construct = c; names = names; body = tree.EncapsulatedUnion at tag d name cases }) d.of refl
+    (beside_there s k names (BodyNode c (tree.EncapsulatedUnion at tag d name cases)) h).0
 kept_tag s k names c (tree.NonEncapsulatedUnion at tag arms) u h =
     let body = tree.NonEncapsulatedUnion at tag arms in
     let b : Body = record { construct = c; names = names; body = body } in
-    let e = neither (broken_in c Rule.NO_TYPE_IN_ITSELF (contains_itself s b) ++ broken_in c Rule.NESTING (is_deep_body s b)) (broken_in c Rule.CASES (lacks_switch_type c body)) (keeps_there s k names (BodyNode c body) h) in
+    let e = neither (broken_in c Rule.NO_TYPE_IN_ITSELF (contains_itself s b) ++ broken_in c Rule.NESTING (is_deep_body s b)) (broken_in c Rule.CASES (lacks_switch_type c body))
+    (keeps_there s k names (BodyNode c body) h) in
     let w = written (tag_written c body) (fails c 23 (lacks_switch_type c body) e.1) c s names
     (each_left (There s names) (switch_of c body) (label_nodes c body [] (labels_of body) ++ lone (parts_declared c body)) (beside_there s k names (BodyNode c body) h)) in
     tag_of_switch s k b w.0 w.1 w.2

@@ -12,7 +12,11 @@ use Rattle.idl_scope.specs.Known.{Known}
 use Rattle.idl_scope.specs.Steps.{parameters_of}
 use Rattle.idl_rule_definitions.specs.World.{World}
 use Rattle.idl_rule_definitions.specs.Attributes.{switch_type_in}
-use Rattle.idl_rule_definitions.specs.Nodes.{Construct, Position, InTypedef, InTaggedType, InMember, InParameter, InArm, InCasedArm, InOperation, inside, Declared, declared, ArmLabel, Node, HeaderNode, AttributeNode, SwitchNode, TagNode, BodyNode, EnumeratorNode, LabelNode, EmptyArmNode, DeclaratorNode, ConstantNode, TypeNode, OperationNode, attribute_nodes, attribute_nodes_from, switch_node, switch_nodes, declared_members, declared_parameters, parameter_construct, declarator_nodes, labels_of, label_nodes, type_nodes, member_nodes, case_nodes, arms_nodes, arm_nodes, parameter_nodes, typedef_node, result_of, operation_nodes, export_nodes, header_of, file_nodes, nodes}
+use Rattle.idl_rule_definitions.specs.Nodes.{Construct, Position, InTypedef, InTaggedType, InMember, InParameter, InArm, InCasedArm, InOperation, inside, Declared, declared, ArmLabel, Node}
+use Rattle.idl_rule_definitions.specs.Nodes.{HeaderNode, AttributeNode, SwitchNode, TagNode, BodyNode, EnumeratorNode, LabelNode, EmptyArmNode, DeclaratorNode, ConstantNode, TypeNode, OperationNode}
+use Rattle.idl_rule_definitions.specs.Nodes.{attribute_nodes, attribute_nodes_from, switch_node, switch_nodes, declared_members, declared_parameters, parameter_construct, declarator_nodes, labels_of}
+use Rattle.idl_rule_definitions.specs.Nodes.{label_nodes, type_nodes, member_nodes, case_nodes, arms_nodes, arm_nodes, parameter_nodes, typedef_node, result_of, operation_nodes, export_nodes}
+use Rattle.idl_rule_definitions.specs.Nodes.{header_of, file_nodes, nodes}
 use Rattle.idl_rule_definitions.specs.Types.{IdlType, Names, type_of}
 use Rattle.idl_rule_definitions.specs.Scene.{Scoped, scene_of, is_typedef, names_behind, scoped_from, parts_declared, tag_written}
 use Rattle.idl_legal_laws.proofs.Among.{Among, among_left, among_right, Sub, sub_left, sub_right, sub_join, sub_map, Each, each_join}
@@ -101,7 +105,8 @@ members_there c list index (tree.next_member at a type ds others) =
     let here = declarator_nodes list index mine in
     let front = attribute_nodes (inside c InMember at a) ++ type_nodes (inside c InMember at a) type in
     let rest = member_nodes c list (index + length ds) others in
-    let e = further list index mine (declared_members c others) ∙ ap (λ n. here ++ declarator_nodes list (index + n) (declared_members c others)) (as_many (declared (inside c InMember at a) type) ds) in
+    let e = further list index mine (declared_members c others)
+    ∙ ap (λ n. here ++ declarator_nodes list (index + n) (declared_members c others)) (as_many (declared (inside c InMember at a) type) ds) in
     subst (λ xs. Sub xs (front ++ here ++ rest)) (sym e)
     (sub_join here (declarator_nodes list (index + length ds) (declared_members c others)) (front ++ here ++ rest)
     (λ x i. among_left x (front ++ here) rest (among_right x front here i))
@@ -313,7 +318,8 @@ typedefs_bare c pipe type (d ∷ ds) = (refl, typedefs_bare c pipe type ds)
 -- ## Declarations
 
 -- a type of a declaration with its attributes and its switch_type
-head_fine : (c : Construct) (type : TypeSpec) → ((all : List Node) → Sub (switch_nodes c) all → Sub (switch_of c type) all) → Each (Fine (attribute_nodes c ++ switch_nodes c ++ type_nodes c type)) (attribute_nodes c ++ switch_nodes c ++ type_nodes c type)
+head_fine : (c : Construct) (type : TypeSpec) → ((all : List Node) → Sub (switch_nodes c) all → Sub (switch_of c type) all)
+    → Each (Fine (attribute_nodes c ++ switch_nodes c ++ type_nodes c type)) (attribute_nodes c ++ switch_nodes c ++ type_nodes c type)
 head_fine c type f =
     let a_ = attribute_nodes c in
     let s_ = switch_nodes c in
@@ -357,7 +363,8 @@ parameters_fine all c list index (p ∷ ps) h =
     (type_fine all cc_ p.type (in_parameter all c p.at p.attributes p.type) (sub_right a_ t_ all (sub_left (a_ ++ t_) (d_ ∷ r_) all h))))
     ((λ known names. refl, λ x i. absurd i), parameters_fine all c list (index + 1) ps (λ x i. sub_right (a_ ++ t_) (d_ ∷ r_) all h x (inr i)))
 
-operation_fine : (header : Construct) (at : ℕ) (a : Option Attributes) (result : TypeSpec) (name : Spelling) (ps : List Parameter) → Each (Fine (operation_nodes (inside header InOperation at a) result name ps)) (operation_nodes (inside header InOperation at a) result name ps)
+operation_fine : (header : Construct) (at : ℕ) (a : Option Attributes) (result : TypeSpec) (name : Spelling) (ps : List Parameter)
+    → Each (Fine (operation_nodes (inside header InOperation at a) result name ps)) (operation_nodes (inside header InOperation at a) result name ps)
 operation_fine header at a result name ps =
     let c = inside header InOperation at a in
     let list = declared_parameters c ps in

@@ -94,7 +94,8 @@ module _ (text : List ℕ) (from to : ℕ) (in_text : from < length text) (after
 
 -- ## UUIDs
 
-uuid_longest : (text : List ℕ) (from : ℕ) → from + 36 ≤ length text → IsUuid (slice_range text from (from + 36)) → (other : PieceKind) (n : ℕ) → n ≤ length text → IsOf other (slice_range text from n) → n ≤ from + 36
+uuid_longest : (text : List ℕ) (from : ℕ) → from + 36 ≤ length text → IsUuid (slice_range text from (from + 36)) → (other : PieceKind) (n : ℕ) → n ≤ length text → IsOf other (slice_range text from n)
+    → n ≤ from + 36
 uuid_longest text from within is other n h o = elim (dec_lt (from + 36) n) as (λ _. n ≤ from + 36) [
   | yes lt ↦ absurd (past other lt (word_kind other (slice_index text from) word (begins_at text from n other (omega arith) o)) o)
   | no ge ↦ omega arith
@@ -227,11 +228,15 @@ comment_alone text from to n h lt within a b =
     let k = to - from - 2 in
     let k_is : k ≡ length (slice_range text from to) - 2 = omega arith in
     let e : k + 1 ≡ length (slice_range text from to) - 1 = omega (arith, a.long) in
-    let star : slice_index (slice_range text from n) k ≡ 42 = range_at text from n k (omega (arith, a.long)) ∙ (sym (range_at text from to k (omega (arith, a.long))) ∙ (ap (λ (i : ℕ). slice_index (slice_range text from to) i) k_is ∙ a.closes.0)) in
-    let slash : slice_index (slice_range text from n) (k + 1) ≡ 47 = range_at text from n (k + 1) (omega (arith, a.long)) ∙ (sym (range_at text from to (k + 1) (omega (arith, a.long))) ∙ (ap (λ (i : ℕ). slice_index (slice_range text from to) i) e ∙ a.closes.1)) in
+    let star : slice_index (slice_range text from n) k ≡ 42 =
+    range_at text from n k (omega (arith, a.long)) ∙ (sym (range_at text from to k (omega (arith, a.long))) ∙ (ap (λ (i : ℕ). slice_index (slice_range text from to) i) k_is ∙ a.closes.0)) in
+    let slash : slice_index (slice_range text from n) (k + 1) ≡ 47 =
+    range_at text from n (k + 1) (omega (arith, a.long))
+    ∙ (sym (range_at text from to (k + 1) (omega (arith, a.long))) ∙ (ap (λ (i : ℕ). slice_index (slice_range text from to) i) e ∙ a.closes.1)) in
     b.first k (omega (arith, a.long)) (omega (arith, a.long)) star slash
 
-pub comment_cut : (text : List ℕ) (from to : ℕ) → OpensComment text from → (to ≤ length text) × IsComment (slice_range text from to) → IsCut text (record { kind = piece.Comment; from = from; to = to })
+pub comment_cut : (text : List ℕ) (from to : ℕ) → OpensComment text from → (to ≤ length text) × IsComment (slice_range text from to)
+    → IsCut text (record { kind = piece.Comment; from = from; to = to })
 comment_cut text from to opens found =
     let size = range_length text from to found.0 in
     record {
@@ -267,7 +272,11 @@ bad_octet text from in_text s w q a m = record {
   ];
   after = omega arith;
   within = in_text;
-  begins = (piece.Space, 32 ∷ [], (ap (λ (l : List ℕ). length (l ++ 32 ∷ [])) (range_empty text from from (omega arith)), ap (λ (l : List ℕ). is_space (slice_index (l ++ 32 ∷ []) 0)) (range_empty text from from (omega arith))));
+  begins = (
+    piece.Space,
+    32 ∷ [],
+    (ap (λ (l : List ℕ). length (l ++ 32 ∷ [])) (range_empty text from from (omega arith)), ap (λ (l : List ℕ). is_space (slice_index (l ++ 32 ∷ []) 0)) (range_empty text from from (omega arith))),
+  );
   ends = λ b.
       let e : slice_index (slice_range text from (from + 1) ++ b.1) 0 ≡ slice_index text from = ap (λ (l : List ℕ). slice_index (l ++ b.1) 0) (range_one text from in_text) in
       nothing_begins b.0 (slice_index text from) s w q a m (sym (ap (may_begin b.0) e) ∙ begins b.0 (slice_range text from (from + 1) ++ b.1) b.2);
@@ -278,7 +287,8 @@ bad_octet text from in_text s w q a m = record {
 
 -- ## as they are answered
 
-pub placed : (text : List ℕ) (kind : PieceKind) (from to : ℕ) (p : Piece) → p ≡ record { kind = kind; from = from; to = to } → IsCut text (record { kind = kind; from = from; to = to }) → IsCut text p × (p.from ≡ from)
+pub placed : (text : List ℕ) (kind : PieceKind) (from to : ℕ) (p : Piece) → p ≡ record { kind = kind; from = from; to = to } → IsCut text (record { kind = kind; from = from; to = to })
+    → IsCut text p × (p.from ≡ from)
 placed text kind from to p e is = (subst (λ (q : Piece). IsCut text q) (sym e) is, ap (λ (q : Piece). q.from) e)
 
 pub refused_as : (text : List ℕ) (from at : ℕ) (kind : LexKind) (r : Refusal) → r ≡ record { at = at; kind = kind } → IsRefused text from at kind → IsRefused text from r.at r.kind

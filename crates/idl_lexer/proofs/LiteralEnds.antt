@@ -155,7 +155,8 @@ is_bad text start first now at r lt feed steps = record {
   none = scanned text start first now at step.Bad r lt steps;
 }
 
-pub is_open : (text : List ℕ) (start : Due) (first : ℕ) (now : Due) (at : ℕ) → Reaches text start first now at → at ≤ length text → (at < length text → slice_index text at ≡ 10) → IsOpen text start first
+pub is_open : (text : List ℕ) (start : Due) (first : ℕ) (now : Due) (at : ℕ) → Reaches text start first now at → at ≤ length text → (at < length text → slice_index text at ≡ 10)
+    → IsOpen text start first
 is_open text start first now at r le feed = record {
   stop = at;
   now = now;
@@ -299,7 +300,8 @@ module _ (kind : TokenKind) (start : Due) (quote : ℕ) (no_feed : quote ≢ 10)
 differ : (a b : ℕ) → (eqb a b ≡ false) → a ≢ b
 differ a b h e = clash (eqb b b) (eq-eqb b b refl) (sym (ap (λ (c : ℕ). eqb c b) e) ∙ h)
 
-pub cut_as : (text : List ℕ) (kind : TokenKind) (start : Due) (from to : ℕ) → from < length text → Opens kind start (slice_index text from) → IsEnd text start (from + 1) to → IsCut text (record { kind = piece.Token kind; from = from; to = to })
+pub cut_as : (text : List ℕ) (kind : TokenKind) (start : Due) (from to : ℕ) → from < length text → Opens kind start (slice_index text from) → IsEnd text start (from + 1) to
+    → IsCut text (record { kind = piece.Token kind; from = from; to = to })
 cut_as text kind start from to in_text (inl o) e =
     subst (λ (j : TokenKind). IsCut text (record { kind = piece.Token j; from = from; to = to })) (sym o.0)
     (literal_cut token.Str due.Characters 34 (differ 34 10 refl) (differ 34 47 refl) (λ w. cc) (λ w. cc) string_kind (λ cs h. h) (λ cs h. h) text from in_text o.2 to
@@ -309,7 +311,8 @@ cut_as text kind start from to in_text (inr o) e =
     (literal_cut token.Char due.OneCharacter 39 (differ 39 10 refl) (differ 39 47 refl) (λ w. cc) (λ w. cc) char_kind (λ cs h. h) (λ cs h. h) text from in_text o.2 to
     (subst (λ (d : Due). IsEnd text d (from + 1) to) o.1 e))
 
-pub open_as : (text : List ℕ) (kind : TokenKind) (start : Due) (from : ℕ) → from < length text → Opens kind start (slice_index text from) → IsOpen text start (from + 1) → IsRefused text from from fault.OpenText
+pub open_as : (text : List ℕ) (kind : TokenKind) (start : Due) (from : ℕ) → from < length text → Opens kind start (slice_index text from) → IsOpen text start (from + 1)
+    → IsRefused text from from fault.OpenText
 open_as text kind start from in_text (inl o) e =
     open_text token.Str due.Characters 34 (differ 34 10 refl) (differ 34 47 refl) (λ w. cc) (λ w. cc) string_kind (λ cs h. h) (λ cs h. h) text from in_text o.2
     (subst (λ (d : Due). IsOpen text d (from + 1)) o.1 e)
@@ -317,7 +320,8 @@ open_as text kind start from in_text (inr o) e =
     open_text token.Char due.OneCharacter 39 (differ 39 10 refl) (differ 39 47 refl) (λ w. cc) (λ w. cc) char_kind (λ cs h. h) (λ cs h. h) text from in_text o.2
     (subst (λ (d : Due). IsOpen text d (from + 1)) o.1 e)
 
-pub bad_as : (text : List ℕ) (kind : TokenKind) (start : Due) (from at : ℕ) → from < length text → Opens kind start (slice_index text from) → IsBadAt text start (from + 1) at → IsRefused text from at fault.BadOctet
+pub bad_as : (text : List ℕ) (kind : TokenKind) (start : Due) (from at : ℕ) → from < length text → Opens kind start (slice_index text from) → IsBadAt text start (from + 1) at
+    → IsRefused text from at fault.BadOctet
 bad_as text kind start from at in_text (inl o) e =
     bad_in_literal token.Str due.Characters 34 (differ 34 10 refl) (differ 34 47 refl) (λ w. cc) (λ w. cc) string_kind (λ cs h. h) (λ cs h. h) text from in_text o.2 at
     (subst (λ (d : Due). IsBadAt text d (from + 1) at) o.1 e)

@@ -73,8 +73,10 @@ one_kind piece.Comment k octets a b =
       | inl e ↦ e
       | inr e ↦ absurd (comment_no_mark octets a (subst (λ (l : PieceKind). IsOf l octets) e b))
     ]
-one_kind (piece.Token token.Word) k octets a b = word_alone k octets (word_kind k (slice_index octets 0) (or_left (is_letter (slice_index octets 0)) (is_digit (slice_index octets 0)) a.begins) (begins k octets b)) a b
-one_kind (piece.Token token.Number) k octets a b = number_alone k octets (word_kind k (slice_index octets 0) (or_right (is_letter (slice_index octets 0)) (is_digit (slice_index octets 0)) a.begins) (begins k octets b)) a b
+one_kind (piece.Token token.Word) k octets a b =
+    word_alone k octets (word_kind k (slice_index octets 0) (or_left (is_letter (slice_index octets 0)) (is_digit (slice_index octets 0)) a.begins) (begins k octets b)) a b
+one_kind (piece.Token token.Number) k octets a b =
+    number_alone k octets (word_kind k (slice_index octets 0) (or_right (is_letter (slice_index octets 0)) (is_digit (slice_index octets 0)) a.begins) (begins k octets b)) a b
 one_kind (piece.Token token.Uuid) k octets a b = uuid_alone k octets (word_kind k (slice_index octets 0) (hex_word (slice_index octets 0) (a.each 0 (omega arith))) (begins k octets b)) a b
 one_kind (piece.Token token.Char) k octets a b = char_kind k (ap (may_begin k) (sym (equal_octets (slice_index octets 0) 39 (begins (piece.Token token.Char) octets a))) ∙ begins k octets b)
 one_kind (piece.Token token.Str) k octets a b = string_kind k (ap (may_begin k) (sym (equal_octets (slice_index octets 0) 34 (begins (piece.Token token.Str) octets a))) ∙ begins k octets b)
@@ -163,7 +165,8 @@ stuck_no_longest text from to kind s l = s kind to l.within l.is
 stuck_no_comment : (text : List ℕ) (from : ℕ) → from < length text → IsStuck text from → OpensComment text from → ⊥
 stuck_no_comment text from lt s o = s (piece.Token token.Mark) (from + 1) (omega arith) (slash_stands text from lt o)
 
-run_no_comment : (text : List ℕ) (from to : ℕ) (first : ℕ → Bool) (kind : PieceKind) → first 47 ≡ false → IsLongest text kind from to → IsRun first (slice_range text from to) → OpensComment text from → ⊥
+run_no_comment : (text : List ℕ) (from to : ℕ) (first : ℕ → Bool) (kind : PieceKind) → first 47 ≡ false → IsLongest text kind from to → IsRun first (slice_range text from to) → OpensComment text from
+    → ⊥
 run_no_comment text from to first kind none l r o =
     clash (first 47) (sym (ap first (range_first text from to l.forward ∙ o.0)) ∙ r.begins) none
 

@@ -38,7 +38,9 @@ few_tokens p = by_kind p.kind where
 
 token_within : (text : List ℕ) (p : Piece) → p.from ≤ p.to → p.to ≤ length text → All (λ (t : Token). (t.from ≤ t.to) × (t.to ≤ length text)) (token_of p)
 token_within text p after within = by_kind p.kind where
-  by_kind : (k : PieceKind) → All (λ (t : Token). (t.from ≤ t.to) × (t.to ≤ length text)) (elim k as (λ _. List Token) [ piece.Space ↦ [] | piece.Comment ↦ [] | piece.Token kind ↦ (record { kind = kind; from = p.from; to = p.to }) ∷ [] ])
+  by_kind : (k : PieceKind)
+      → All (λ (t : Token). (t.from ≤ t.to) × (t.to ≤ length text))
+      (elim k as (λ _. List Token) [ piece.Space ↦ [] | piece.Comment ↦ [] | piece.Token kind ↦ (record { kind = kind; from = p.from; to = p.to }) ∷ [] ])
   by_kind piece.Space = λ k d lt. absurd (omega arith)
   by_kind piece.Comment = λ k d lt. absurd (omega arith)
   by_kind (piece.Token kind) = All-push (λ (t : Token). (t.from ≤ t.to) × (t.to ≤ length text)) [] (record { kind = kind; from = p.from; to = p.to }) (λ k d lt. absurd (omega arith)) (after, within)
@@ -69,7 +71,8 @@ refused_verdict text at fault.LongName f = f
 refused_verdict text at fault.BadNumber f = f
 refused_verdict text at fault.TooLong f = absurd f.refused
 
-pub refused_there : (text : List ℕ) (tokens : List Token) (from at : ℕ) (kind : LexKind) → SoFar text tokens from → from < length text → length text ≤ text_limit → IsRefused text from at kind → IsVerdict text (Refused at kind)
+pub refused_there : (text : List ℕ) (tokens : List Token) (from at : ℕ) (kind : LexKind) → SoFar text tokens from → from < length text → length text ≤ text_limit → IsRefused text from at kind
+    → IsVerdict text (Refused at kind)
 refused_there text tokens from at kind s lt short r = refused_verdict text at kind (record { short = short; from = from; within = lt; pieces = s.pieces; cut = s.cut; refused = r })
 
 -- what is refused is refused in the text

@@ -59,7 +59,9 @@ pub record IsOpenText (text : List ℕ) (from : ℕ) : Type 0 where
 abbrev pub IsRefused : List ℕ → ℕ → ℕ → LexKind → Type 0
 IsRefused text from at fault.BadOctet = IsBadOctet text from at
 IsRefused text from at fault.OpenText = (at ≡ from) × IsOpenText text from
-IsRefused text from at fault.OpenComment = (at ≡ from) × OpensComment text from × ((to : ℕ) → to ≤ length text → IsOf piece.Comment (slice_range text from to) → ⊥)
+IsRefused text from at fault.OpenComment =
+    (at ≡ from) × OpensComment text from × ((to : ℕ) → to ≤ length text → IsOf piece.Comment (slice_range text from to) → ⊥)
 IsRefused text from at fault.LongName = (at ≡ from) × ((to : ℕ) × IsLongest text (piece.Token token.Word) from to × (from + 31 < to))
-IsRefused text from at fault.BadNumber = (at ≡ from) × ((to : ℕ) × IsLongest text (piece.Token token.Number) from to × (is_some (number_of (slice_range text from to)) ≡ false))
+IsRefused text from at fault.BadNumber =
+    (at ≡ from) × ((to : ℕ) × IsLongest text (piece.Token token.Number) from to × (is_some (number_of (slice_range text from to)) ≡ false))
 IsRefused text from at fault.TooLong = ⊥

@@ -68,4 +68,5 @@ refusal_of from (unended.Bad at) = record { at = at; kind = fault.BadOctet }
 
 -- a quote opens a literal of a kind, in which this is due next
 abbrev pub Opens : TokenKind → Due → ℕ → Type 0
-Opens kind start quote = ((kind ≡ token.Str) × (start ≡ due.Characters) × (quote ≡ 34)) ⊎ ((kind ≡ token.Char) × (start ≡ due.OneCharacter) × (quote ≡ 39))
+Opens kind start quote =
+    ((kind ≡ token.Str) × (start ≡ due.Characters) × (quote ≡ 34)) ⊎ ((kind ≡ token.Char) × (start ≡ due.OneCharacter) × (quote ≡ 39))

@@ -136,8 +136,10 @@ fn cut_comment(text: &[u8], from: usize) -> Result<Piece, Refusal>
 /// Whether a mark of two octets is at a place.
 fn pair_stands(text: &[u8], from: usize) -> bool
     requires { from < length text.now }
-    ensures pair { result ≡ true → (from + 1 < length text.now) × (classes.are_mark (slice_index text.now from) (slice_index text.now (from + 1)) ≡ true) }
-    ensures none { result ≡ false → from + 1 < length text.now → classes.are_mark (slice_index text.now from) (slice_index text.now (from + 1)) ≡ false }
+    ensures pair { result ≡ true
+        → (from + 1 < length text.now) × (classes.are_mark (slice_index text.now from) (slice_index text.now (from + 1)) ≡ true) }
+    ensures none { result ≡ false → from + 1 < length text.now
+        → classes.are_mark (slice_index text.now from) (slice_index text.now (from + 1)) ≡ false }
 {
     from + 1 < text.len() && are_mark(text[from], text[from + 1])
 }

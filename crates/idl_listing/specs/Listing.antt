@@ -1,7 +1,8 @@
 -- How an interface is listed for people: a line for its header, then the lines of each type that it declares, then the lines of each operation.
 -- How the lines look is this project's own choice.
 -- `t` is the number of a type, `d` what it is, `f` a member, `a` an arm, `v` an attribute with its variable, `o` an operation, `r` a root.
-use Rattle.std.specs.Prelude.{ℕ, ◌+◌, ◌^◌, ◌/◌, ◌%◌, zero, suc, Bool, true, false, cond, leb, List, [], ◌∷◌, ◌++◌, map, drop, length, slice_get, Option, Some, None, codes, decimal}
+use Rattle.std.specs.Prelude.{ℕ, ◌+◌, ◌^◌, ◌/◌, ◌%◌, zero, suc, Bool, true, false, cond, leb, List, [], ◌∷◌, ◌++◌, map, drop, length, slice_get}
+use Rattle.std.specs.Prelude.{Option, Some, None, codes, decimal}
 use Rattle.std.specs.List.{flat_map, enumerate_from}
 use Rattle.std.specs.Fmt.{signed_decimal}
 use Rattle.nd_types.specs.declared.types.TypeId.{TypeId}
@@ -100,7 +101,8 @@ form _ = []
 
 -- type N FORM align A, and hoists where it does
 abbrev pub type_line : Table → ℕ → TypeDef → List ℕ
-type_line types t d = line (codes "type" ∷ decimal t ∷ form d ++ codes "align" ∷ decimal (align_of types t) ∷ word_if (hoists types t) (codes "hoists"))
+type_line types t d =
+    line (codes "type" ∷ decimal t ∷ form d ++ codes "align" ∷ decimal (align_of types t) ∷ word_if (hoists types t) (codes "hoists"))
 
 -- member NAME T
 abbrev pub member_line : List Field → Field → List ℕ

@@ -1,5 +1,6 @@
 -- Parts of a walk, one after the other.
-use Rattle.std.proofs.Common.{◌≡◌, ◌⊎◌, inl, inr, ℕ, ◌+◌, ◌-◌, ◌^◌, ◌<◌, ◌≤◌, Bool, true, false, eqb, refl, sym, ap, subst, ◌∙◌, arith, List, [], ◌∷◌, ◌++◌, map, drop, length, get_or, Option, Some, None, min, Result, Ok, Err, IfErr}
+use Rattle.std.proofs.Common.{◌≡◌, ◌⊎◌, inl, inr, ℕ, ◌+◌, ◌-◌, ◌^◌, ◌<◌, ◌≤◌, Bool, true, false, eqb, refl, sym, ap, subst, ◌∙◌, arith, List, [], ◌∷◌, ◌++◌, map, drop, length, get_or, Option, Some}
+use Rattle.std.proofs.Common.{None, min, Result, Ok, Err, IfErr}
 use Rattle.std.specs.List.{flat_map}
 use Rattle.std.specs.Result.{IsErrAnd}
 use Rattle.std.proofs.lemmas.List.{append_assoc, append-nil, map-append, drop_more, drop_all}
@@ -260,7 +261,8 @@ steps_went {A} p file steps after (Err f) few h = by (is_memory f) refl
 
     by : (b : Bool) → is_memory f ≡ b → Went {A = A} p (map (Pass file) steps) (at_state p (with_known p.state after)) [] (Err f)
     by true is = subst (λ (g : NameFault). Went {A = A} p (map (Pass file) steps) (at_state p (with_known p.state after)) [] (Err g)) (sym (is_memory_is f is))
-        (stops p (at_state p (with_known p.state after)) (map (Pass file) steps) fault.Memory (λ rest. walk.short p.state (map (Pass file) steps ++ rest)) refl (none_asked p.asked p.state.sources) tt tt (omega arith) (omega arith) (omega arith) few)
+        (stops p (at_state p (with_known p.state after)) (map (Pass file) steps) fault.Memory (λ rest. walk.short p.state (map (Pass file) steps ++ rest)) refl
+        (none_asked p.asked p.state.sources) tt tt (omega arith) (omega arith) (omega arith) few)
     by false is =
         let e : walked file p.state.known steps ≡ Err f = h is in
         let n : OfNames {A = Known} (Err f) = subst (λ (r : Result Known NameFault). OfNames r) e (walked_of_names file p.state.known steps) in
@@ -351,7 +353,8 @@ pub unended_went : {A B : Type 0} (p q : Point) (file : ℕ) (t : Tree) (files :
 unended_went {B = B} p q file t files a f is w =
     subst (λ (g : NameFault). Went {A = B} p (all_of file t) (at_state q (record q.state { ended = files })) [] (Err g)) (sym is)
     (goes_on p q (at_state q (record q.state { ended = files })) (all_of file t) (End file t ∷ []) [] a (Err fault.Memory) w
-    (stops q (at_state q (record q.state { ended = files })) (End file t ∷ []) fault.Memory (λ rest. walk.short q.state (End file t ∷ rest)) refl (none_asked q.asked q.state.sources) tt tt (omega arith) (omega arith) (omega arith) w.few))
+    (stops q (at_state q (record q.state { ended = files })) (End file t ∷ []) fault.Memory (λ rest. walk.short q.state (End file t ∷ rest)) refl (none_asked q.asked q.state.sources) tt tt
+    (omega arith) (omega arith) (omega arith) w.few))
 
 -- a fault that is passed on
 pub passed_on : {A : Type 0} (p q : Point) (dues left : List Due) (r : Result A NameFault) (f : NameFault) → IsErrAnd r (λ y. y ≡ f) → Went {A = A} p dues q left (Err f) → Went p dues q [] r
@@ -393,12 +396,14 @@ module _ (p : Point) (place : Place) (name : List ℕ) (few : length p.state.sou
   pub cycle_went : {A : Type 0} (n : ℕ) → file_number p.state.sources name ≡ Some n → has_ended p.state.ended n ≡ false
       → Went {A = A} p (Load place name ∷ []) p [] (Err (fault.ImportCycle place))
   cycle_went n known not_done =
-      stops p p (Load place name ∷ []) (fault.ImportCycle place) (λ rest. walk.cycle p.state place name rest n known not_done) refl (none_asked p.asked p.state.sources) tt tt (omega arith) (omega arith) (omega arith) few
+      stops p p (Load place name ∷ []) (fault.ImportCycle place) (λ rest. walk.cycle p.state place name rest n known not_done) refl (none_asked p.asked p.state.sources) tt tt (omega arith)
+      (omega arith) (omega arith) few
 
   pub too_many_went : {A : Type 0} → file_number p.state.sources name ≡ None → most_files ≤ length p.state.sources
       → Went {A = A} p (Load place name ∷ []) p [] (Err (fault.TooMany place))
   too_many_went new full =
-      stops p p (Load place name ∷ []) (fault.TooMany place) (λ rest. walk.too_many p.state place name rest new full) refl (none_asked p.asked p.state.sources) tt tt (omega arith) (omega arith) (omega arith) few
+      stops p p (Load place name ∷ []) (fault.TooMany place) (λ rest. walk.too_many p.state place name rest new full) refl (none_asked p.asked p.state.sources) tt tt (omega arith) (omega arith)
+      (omega arith) few
 
   pub enters_went : {A : Type 0} (q r : Point) (e : Ended) (result : Result A NameFault) → file_number p.state.sources name ≡ None → length p.state.sources < most_files
       → IsLoaded p.held p.state.sources name q.state.sources e → q.state.ended ≡ p.state.ended → q.state.known ≡ p.state.known → q.held ≡ p.held

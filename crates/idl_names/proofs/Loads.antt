@@ -1,5 +1,6 @@
 -- Loads: where the token of a fault stands, and how a walk stops at a load.
-use Rattle.std.proofs.Common.{◌≡◌, ◌⊎◌, inl, inr, ℕ, ◌+◌, ◌<◌, ◌≤◌, Bool, true, false, cond, eqb, List, [], ◌∷◌, ◌++◌, map, set, get_or, length, refl, sym, ap, subst, ◌∙◌, arith, Option, Result, Ok, Err, IfOk, IfErr}
+use Rattle.std.proofs.Common.{◌≡◌, ◌⊎◌, inl, inr, ℕ, ◌+◌, ◌<◌, ◌≤◌, Bool, true, false, cond, eqb, List, [], ◌∷◌, ◌++◌, map, set, get_or, length, refl, sym, ap, subst, ◌∙◌, arith, Option, Result, Ok}
+use Rattle.std.proofs.Common.{Err, IfOk, IfErr}
 use Rattle.std.proofs.lemmas.List.{length-map, length-append, map-set}
 use Rattle.std.proofs.Math.ListN.{get_or-map}
 use Rattle.grammar_phrases.specs.Text.{Text, Rel, Depth, Ban}
@@ -125,7 +126,8 @@ module _ (held : Option (List ℕ → Option (List ℕ))) (s : State) (place : P
         (walk.no_file s place name rest text at f due content h.1)
     stops_at _ h = absurd h
 
-  pub unloaded_at : (load : FileFault) → (load ≡ file_fault.Absent → IsMissing held name) → Walk held s (Load place name ∷ rest) (Stopped (and_source s.sources name []) (told_load (length s.sources) load))
+  pub unloaded_at : (load : FileFault) → (load ≡ file_fault.Absent → IsMissing held name)
+      → Walk held s (Load place name ∷ rest) (Stopped (and_source s.sources name []) (told_load (length s.sources) load))
   unloaded_at file_fault.Absent h = walk.absent s place name rest due (h refl)
   unloaded_at file_fault.Failed h = walk.failed s place name rest due
   unloaded_at file_fault.Memory h = walk.short_in_load s place name rest due

@@ -27,7 +27,8 @@ pub stops : (file : ℕ) (k : Known) (a b : List Step) (f : NameFault) → walke
 stops file k a b f e = append_is file k a b ∙ ap (λ r. then r (λ next. walked file next b)) e
 
 -- what was answered on the steps after them is answered on all
-pub right_on : {A : Type 0} (file : ℕ) (k n last : Known) (a b : List Step) (r : Result A NameFault) → walked file k a ≡ Ok n → IsRight last r (walked file n b) → IsRight last r (walked file k (a ++ b))
+pub right_on : {A : Type 0} (file : ℕ) (k n last : Known) (a b : List Step) (r : Result A NameFault) → walked file k a ≡ Ok n → IsRight last r (walked file n b)
+    → IsRight last r (walked file k (a ++ b))
 right_on file k n last a b (Ok x) e t = goes_on file k n a b e ∙ t
 right_on file k n last a b (Err f) e t = λ h. goes_on file k n a b e ∙ t h
 
@@ -35,7 +36,8 @@ pub right_stop : (file : ℕ) (k : Known) (a b : List Step) (f : NameFault) → 
 right_stop file k a b f t h = stops file k a b f (t h)
 
 -- a fault of steps after others
-pub later_stop : (file : ℕ) (k n : Known) (a b : List Step) (f : NameFault) → walked file k a ≡ Ok n → (is_memory f ≡ false → walked file n b ≡ Err f) → is_memory f ≡ false → walked file k (a ++ b) ≡ Err f
+pub later_stop : (file : ℕ) (k n : Known) (a b : List Step) (f : NameFault) → walked file k a ≡ Ok n → (is_memory f ≡ false → walked file n b ≡ Err f) → is_memory f ≡ false
+    → walked file k (a ++ b) ≡ Err f
 later_stop file k n a b f e t h = goes_on file k n a b e ∙ t h
 
 -- steps and others after them, all passed
@@ -79,7 +81,8 @@ module _ {X Y : Type 0} (see : X → Y) (steps : Y → List Step) (xs : List X) 
 
 -- ## Items of a list whose steps depend on those before them
 
-module _ {X S : Type 0} (rest : S → List X → List Step) (one : S → X → List Step) (next : S → X → S) (cons : (s : S) (x : X) (more : List X) → rest s (x ∷ more) ≡ one s x ++ rest (next s x) more) (xs : List X) where
+module _ {X S : Type 0} (rest : S → List X → List Step) (one : S → X → List Step) (next : S → X → S) (cons : (s : S) (x : X) (more : List X) → rest s (x ∷ more) ≡ one s x ++ rest (next s x) more)
+    (xs : List X) where
   pub left : (s : S) (i : ℕ) (x : X) → i < length xs → x ≡ get_or xs i x → rest s (drop i xs) ≡ one s x ++ rest (next s x) (drop (i + 1) xs)
   left s i x below is = ap (λ l. rest s l) (drop_more xs i x below ∙ ap (λ y. y ∷ drop (i + 1) xs) (sym is)) ∙ cons s x (drop (i + 1) xs)
 

@@ -26,7 +26,8 @@ has_memory (Stopped sources fault.Memory) = false
 has_memory (Stopped sources _) = true
 
 -- The loads of a walk that fail are those of the names that pass the test.
-abbrev pub FailsAs : (fails : List ℕ → Bool) → {held : Option (List ℕ → Option (List ℕ))} {s : State} {dues : List Due} {e : Ending} → Walk held s dues e → Type 0
+abbrev pub FailsAs : (fails : List ℕ → Bool) → {held : Option (List ℕ → Option (List ℕ))} {s : State} {dues : List Due} {e : Ending}
+    → Walk held s dues e → Type 0
 FailsAs fails (walk.all_done s) = Unit {0}
 FailsAs fails (walk.goes_on s file step k rest e is w) = FailsAs fails w
 FailsAs fails (walk.faults s file step f rest is) = Unit {0}

@@ -47,7 +47,8 @@ load_of file string = Load (place_in file string) (file_named string.octets)
 -- all of a file
 abbrev pub all_of : ℕ → Tree → List Due
 all_of file t =
-    map (Pass file) (attribute_steps t.attributes) ++ map (load_of file) (imports_of t) ++ map (Pass file) (declaration_steps (eqb file 0) t) ++ End file t ∷ []
+    map (Pass file) (attribute_steps t.attributes) ++ map (load_of file) (imports_of t) ++ map (Pass file) (declaration_steps (eqb file 0) t)
+    ++ End file t ∷ []
 
 -- A file is to be loaded: it is not there yet, and not one too many.
 pub record IsDue (sources : List Source) (name : List ℕ) : Type 0 where
@@ -83,7 +84,8 @@ pub data Walk (held : Option (List ℕ → Option (List ℕ))) : State → List 
   cycle : (s : State) (place : Place) (name : List ℕ) (rest : List Due) (n : ℕ) → file_number s.sources name ≡ Some n → has_ended s.ended n ≡ false
       → Walk held s (Load place name ∷ rest) (Stopped s.sources (fault.ImportCycle place))
   -- it is resolved already
-  again : (s : State) (place : Place) (name : List ℕ) (rest : List Due) (e : Ending) (n : ℕ) → file_number s.sources name ≡ Some n → has_ended s.ended n ≡ true
+  again : (s : State) (place : Place) (name : List ℕ) (rest : List Due) (e : Ending) (n : ℕ) → file_number s.sources name ≡ Some n
+      → has_ended s.ended n ≡ true
       → Walk held s rest e → Walk held s (Load place name ∷ rest) e
   -- it would be one too many
   too_many : (s : State) (place : Place) (name : List ℕ) (rest : List Due) → file_number s.sources name ≡ None → most_files ≤ length s.sources
@@ -123,7 +125,8 @@ pub record IsResolved (held : Option (List ℕ → Option (List ℕ))) (main : L
   pub whole : first_undefined s.known s.known.uses ≡ None
 
 -- The whole walk is done, and the first tag after pointers that has no body of its kind is there.
-pub record IsUndefined (held : Option (List ℕ → Option (List ℕ))) (main : List Source) (t : Tree) (sources : List Source) (place : Place) : Type 0 where
+pub record IsUndefined (held : Option (List ℕ → Option (List ℕ))) (main : List Source) (t : Tree) (sources : List Source)
+    (place : Place) : Type 0 where
   pub state : State
   pub walk : Walk held (start main) (all_of 0 t) (Done state)
   pub sources_are : sources ≡ state.sources

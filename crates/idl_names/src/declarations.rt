@@ -3,7 +3,8 @@ ghost use Rattle.std.specs.Prelude.{◌≡◌, ◌++◌, [], ◌∷◌, map, not
 ghost use Rattle.idl_grammar.specs.Seen as seen;
 ghost use Rattle.idl_scope.specs.Known.{walked};
 ghost use Rattle.idl_scope.specs.Kept.{listed, IsRight};
-ghost use Rattle.idl_scope.specs.Steps.{is_pointer, typedef_steps, init_step, one_parameter_steps, parameter_steps, parameters_of, operation_steps, export_steps};
+ghost use Rattle.idl_scope.specs.Steps.{is_pointer, typedef_steps, init_step, one_parameter_steps, parameter_steps, parameters_of, operation_steps};
+ghost use Rattle.idl_scope.specs.Steps.{export_steps};
 ghost use Rattle.std.specs.List.{flat_map, list_all};
 
 use crate::types::{are_pointers, is_pointer, type_spec};
@@ -105,7 +106,9 @@ fn operation(
     name: &Identifier,
     taken: &Parameters,
 ) -> Result<(), NameFault>
-    ensures { IsRight names.new result (walked file names.old (operation_steps (option_map seen.seen_attributes list.now) (seen.seen_type of.now) name.now (seen.seen_parameters taken.now))) }
+    ensures { IsRight names.new result
+        (walked file names.old
+        (operation_steps (option_map seen.seen_attributes list.now) (seen.seen_type of.now) name.now (seen.seen_parameters taken.now))) }
 {
     optional_attributes(names, file, list)?;
     type_spec(alloc, names, file, of, false)?;

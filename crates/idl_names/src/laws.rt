@@ -11,6 +11,7 @@ ghost use Rattle.idl_names.specs.Walk.{State, Due, Ending, Walk};
 pub fn walks_have_one_ending()
     ensures decided { (held : List ℕ → Option (List ℕ)) (s : State) (dues : List Due) (a b : Ending) → is_decided a ≡ true → is_decided b ≡ true
         → Walk (Some held) s dues a → Walk (Some held) s dues b → a ≡ b }
-    ensures told { (held : List ℕ → Option (List ℕ)) (fails : List ℕ → Bool) (s : State) (dues : List Due) (a b : Ending) → has_memory a ≡ true → has_memory b ≡ true
+    ensures told { (held : List ℕ → Option (List ℕ)) (fails : List ℕ → Bool) (s : State) (dues : List Due) (a b : Ending) → has_memory a ≡ true
+        → has_memory b ≡ true
         → (v : Walk (Some held) s dues a) (w : Walk (Some held) s dues b) → FailsAs fails v → FailsAs fails w → a ≡ b }
 {}

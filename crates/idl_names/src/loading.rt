@@ -86,7 +86,8 @@ fn read(
     text: Octets,
 ) -> Result<FileTree, NameFault>
     requires { file < length sources.old }
-    ensures filled { (before : List Source) (name : List ℕ) → file ≡ length before → sources.old ≡ and_source before name [] → sources.new ≡ and_source before name text }
+    ensures filled { (before : List Source) (name : List ℕ) → file ≡ length before → sources.old ≡ and_source before name []
+        → sources.new ≡ and_source before name text }
     ensures number { IfOk result (λ f. f.file ≡ file) }
     ensures tree { IfOk result (λ f. IsFile text (seen_tree f.tree)) }
     ensures fault { IfErr result (IsFaultOf file text) }

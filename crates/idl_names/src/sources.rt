@@ -73,7 +73,8 @@ impl Sources {
     /// Gives the last file its text, in place of an empty one. Takes no memory.
     pub(crate) fn fill(&mut self, file: u16, text: Octets)
         requires { file < length self.old }
-        ensures { (before : List Source) (name : List ℕ) → file ≡ length before → self.old ≡ and_source before name [] → self.new ≡ and_source before name text }
+        ensures { (before : List Source) (name : List ℕ) → file ≡ length before → self.old ≡ and_source before name []
+            → self.new ≡ and_source before name text }
     {
         self.files[usize::from(file)].text = text;
     }

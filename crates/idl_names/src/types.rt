@@ -5,7 +5,8 @@ ghost use Rattle.idl_grammar.specs.Seen as seen;
 ghost use Rattle.idl_grammar.specs.Reading.{members_of, cases_of, arms_of};
 ghost use Rattle.idl_scope.specs.Known.{walked};
 ghost use Rattle.idl_scope.specs.Kept.{listed, IsRight};
-ghost use Rattle.idl_scope.specs.Steps.{optional_attribute_steps, label_steps, tag_steps, enumerator_steps, enlisted_steps, is_pointer, declared_name, type_steps, member_steps, case_steps, arms_steps, arm_steps};
+ghost use Rattle.idl_scope.specs.Steps.{optional_attribute_steps, label_steps, tag_steps, enumerator_steps, enlisted_steps, is_pointer};
+ghost use Rattle.idl_scope.specs.Steps.{declared_name, type_steps, member_steps, case_steps, arms_steps, arm_steps};
 
 use crate::walk::{dimensions, labels, listed_declarator, optional_attributes, switch_type};
 use idl_grammar::{Arm, Case, Declarator, Enumerator, Identifier, Member, TagKind, TypeSpec};
@@ -34,7 +35,8 @@ fn enumerator(
     previous: Option<&Identifier>,
     one: &Enumerator,
 ) -> Result<(), NameFault>
-    ensures { IsRight names.new result (walked file names.old (enumerator_steps (option_map (λ s. s.now) previous.entry) (seen.seen_enumerator one.now ∷ []))) }
+    ensures { IsRight names.new result
+        (walked file names.old (enumerator_steps (option_map (λ s. s.now) previous.entry) (seen.seen_enumerator one.now ∷ []))) }
 {
     match &one.value {
         Some(value) => {
@@ -148,7 +150,11 @@ fn member(
     list: &mut Table<u32>,
     member: &Member,
 ) -> Result<(), NameFault>
-    ensures right { IsRight names.new result (walked file names.old (optional_attribute_steps (option_map seen.seen_attributes member.now.attributes) ++ type_steps (list_all is_pointer (map seen.seen_declarator member.now.declarators.items)) (seen.seen_type member.now.of) ++ enlisted_steps (listed list.old) (map seen.seen_declarator member.now.declarators.items))) }
+    ensures right { IsRight names.new result
+        (walked file names.old
+        (optional_attribute_steps (option_map seen.seen_attributes member.now.attributes)
+        ++ type_steps (list_all is_pointer (map seen.seen_declarator member.now.declarators.items)) (seen.seen_type member.now.of)
+        ++ enlisted_steps (listed list.old) (map seen.seen_declarator member.now.declarators.items))) }
     ensures more { OnOk result (listed list.new ≡ listed list.old ++ map declared_name (map seen.seen_declarator member.now.declarators.items)) }
 {
     optional_attributes(names, file, &member.attributes)?;
@@ -177,7 +183,8 @@ fn members(
 /// A case of a union.
 #[cycle(types)]
 fn case(alloc: Global, names: &mut NameTables, file: u16, case: &Case) -> Result<(), NameFault>
-    ensures { IsRight names.new result (walked file names.old (flat_map label_steps (map seen.seen_label case.now.labels.items) ++ arm_steps (seen.seen_arm case.now.arm))) }
+    ensures { IsRight names.new result
+        (walked file names.old (flat_map label_steps (map seen.seen_label case.now.labels.items) ++ arm_steps (seen.seen_arm case.now.arm))) }
 {
     labels(names, file, &case.labels)?;
     arm(alloc, names, file, &case.arm)

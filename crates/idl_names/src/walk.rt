@@ -4,7 +4,8 @@ ghost use Rattle.std.specs.List.{flat_map};
 ghost use Rattle.idl_grammar.specs.Seen as seen;
 ghost use Rattle.idl_scope.specs.Known.{walked};
 ghost use Rattle.idl_scope.specs.Kept.{listed, IsRight};
-ghost use Rattle.idl_scope.specs.Steps.{value_steps, switch_steps, kind_steps, optional_attribute_steps, attribute_steps, bound_steps, dimension_steps, label_steps, listed_steps};
+ghost use Rattle.idl_scope.specs.Steps.{value_steps, switch_steps, kind_steps, optional_attribute_steps, attribute_steps, bound_steps};
+ghost use Rattle.idl_scope.specs.Steps.{dimension_steps, label_steps, listed_steps};
 
 use idl_grammar::{AttributeKind, Attributes, Bound, Declarator, Expr, Label, SwitchType};
 use idl_scope::{NameFault, NameTables, Table, enlist};

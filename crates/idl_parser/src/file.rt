@@ -2,7 +2,8 @@
 ghost use Rattle.std.specs.Prelude.{◌≡◌, ◌+◌, ◌≤◌, ◌<◌, [], ◌∷◌, length, map, option_map, IfOk};
 ghost use Rattle.grammar_phrases.specs.Text.{symbol_at, is_in};
 ghost use Rattle.grammar_phrases.specs.Gives.{Gives};
-ghost use Rattle.idl_grammar.specs.Reading.{export_firsts, typedef_read, const_read, signature_read, declared_read, export_read, import_read, imports_read, exports_read, file_read};
+ghost use Rattle.idl_grammar.specs.Reading.{export_firsts, typedef_read, const_read, signature_read, declared_read, export_read, import_read};
+ghost use Rattle.idl_grammar.specs.Reading.{imports_read, exports_read, file_read};
 ghost use Rattle.idl_grammar.specs.Seen.{seen_parameters, seen_export, seen_import, seen_tree};
 
 use crate::parameters::parameters;

@@ -73,7 +73,8 @@ fn parameters_from(
 ) -> Result<(Vec<Parameter>, usize), Refusal>
     requires within { at ≤ length parser.now }
     requires shallow { depth ≤ 64 }
-    ensures gives { Gives (λ v. map seen_parameter v.items) result (turned (λ l. seen_parameter first ∷ l) (more_parameters_read fuel nesting parser.now depth at)) }
+    ensures gives { Gives (λ v. map seen_parameter v.items) result
+        (turned (λ l. seen_parameter first ∷ l) (more_parameters_read fuel nesting parser.now depth at)) }
     ensures within { IfOk result (λ x. (at ≤ x.1) × (x.1 ≤ length parser.now)) }
 {
     let mut list = Vec::new(parser.alloc());

@@ -5,7 +5,9 @@ ghost use Rattle.grammar_phrases.specs.Text.{symbol_at, is_in};
 ghost use Rattle.grammar_phrases.specs.Reading.{turned};
 ghost use Rattle.grammar_phrases.specs.Gives.{Gives};
 ghost use Rattle.idl_grammar.specs.Tree as tree;
-ghost use Rattle.idl_grammar.specs.Reading.{type_firsts, member_firsts, arm_firsts, member_read, members_read, struct_body_read, members_of, struct_read, case_read, cases_read, cases_body_read, arm_read, arms_read, arms_body_read, union_body_read, union_read, type_read};
+ghost use Rattle.idl_grammar.specs.Reading.{type_firsts, member_firsts, arm_firsts, member_read, members_read, struct_body_read, members_of};
+ghost use Rattle.idl_grammar.specs.Reading.{struct_read, case_read, cases_read, cases_body_read, arm_read, arms_read, arms_body_read};
+ghost use Rattle.idl_grammar.specs.Reading.{union_body_read, union_read, type_read};
 ghost use Rattle.idl_grammar.specs.Seen.{seen_type, seen_arm, seen_member, seen_case};
 
 use grammar_phrases::Refusal;
@@ -147,7 +149,9 @@ fn struct_body(
 ) -> Result<(TypeSpec, usize), Refusal>
     requires within { at ≤ length parser.now }
     requires shallow { depth ≤ 64 }
-    ensures gives { Gives (seen_type) result (turned (λ ms. tree.Struct octet tag (members_of ms)) (struct_body_read nesting parser.now depth (type_read fuel nesting parser.now (depth + 1)) at)) }
+    ensures gives { Gives (seen_type) result
+        (turned (λ ms. tree.Struct octet tag (members_of ms))
+        (struct_body_read nesting parser.now depth (type_read fuel nesting parser.now (depth + 1)) at)) }
     ensures within { IfOk result (λ x. (at < x.1) × (x.1 ≤ length parser.now)) }
 {
     let next = parser.open(depth, symbol::OPEN_CURLY, at)?;
@@ -308,7 +312,8 @@ fn cases_body(
 ) -> Result<(Vec<Case>, usize), Refusal>
     requires within { at ≤ length parser.now }
     requires shallow { depth ≤ 64 }
-    ensures gives { Gives (λ v. map seen_case v.items) result (cases_body_read nesting parser.now depth (type_read fuel nesting parser.now (depth + 1)) at) }
+    ensures gives { Gives (λ v. map seen_case v.items) result
+        (cases_body_read nesting parser.now depth (type_read fuel nesting parser.now (depth + 1)) at) }
     ensures within { IfOk result (λ x. (at < x.1) × (x.1 ≤ length parser.now)) }
 {
     let next = parser.open(depth, symbol::OPEN_CURLY, at)?;
@@ -375,7 +380,8 @@ fn arms_body(
 ) -> Result<(Vec<Arm>, usize), Refusal>
     requires within { at ≤ length parser.now }
     requires shallow { depth ≤ 64 }
-    ensures gives { Gives (λ v. map seen_arm v.items) result (arms_body_read nesting parser.now depth (type_read fuel nesting parser.now (depth + 1)) at) }
+    ensures gives { Gives (λ v. map seen_arm v.items) result
+        (arms_body_read nesting parser.now depth (type_read fuel nesting parser.now (depth + 1)) at) }
     ensures within { IfOk result (λ x. (at < x.1) × (x.1 ≤ length parser.now)) }
 {
     let next = parser.open(depth, symbol::OPEN_CURLY, at)?;

@@ -1,7 +1,8 @@
 -- The rules of arrays, texts and pipes, and of what hoists a maximum count (C706, sections 4.2.15 to 4.2.17).
 -- "Hoists" means: a conformant array or conformant text, or a struct whose last member hoists. The dimensions of an array are its own and, where its
 -- element is an array, those of that element, also where a typedef names the element. For dimensions a text is no array.
-use Rattle.std.specs.Prelude.{ℕ, suc, zero, ◌+◌, Bool, true, false, not, ◌&&◌, ◌||◌, ltb, List, [], ◌∷◌, length, Option, Some, None, is_none, ℤ, pos, ◌*ℤ◌, int_le}
+use Rattle.std.specs.Prelude.{ℕ, suc, zero, ◌+◌, Bool, true, false, not, ◌&&◌, ◌||◌, ltb, List, [], ◌∷◌, length, Option, Some, None, is_none, ℤ, pos}
+use Rattle.std.specs.Prelude.{◌*ℤ◌, int_le}
 use Rattle.std.specs.List.{list_any}
 use Rattle.nd_types.specs.declared.TheConstants.{ELEMENT_LIMIT, NESTING_LIMIT}
 use Rattle.idl_rule_definitions.specs.Attributes.{has, has_one_of, string_word, lengths}

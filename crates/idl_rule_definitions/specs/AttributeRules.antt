@@ -6,7 +6,8 @@ use Rattle.idl_grammar.specs.declared.words.Spelling.{Spelling}
 use Rattle.idl_grammar.specs.Tree.{AttributeKind, Attribute}
 use Rattle.idl_grammar.specs.Tree as tree
 use Rattle.idl_rule_definitions.specs.Attributes.{word_of, is_word, has, has_one_of, is_class, classes, sizes, lengths}
-use Rattle.idl_rule_definitions.specs.Nodes.{Construct, Position, InHeader, InTypedef, InTaggedType, InMember, InParameter, InArm, InCasedArm, InOperation}
+use Rattle.idl_rule_definitions.specs.Nodes.{Construct, Position, InHeader, InTypedef, InTaggedType, InMember, InParameter, InArm, InCasedArm}
+use Rattle.idl_rule_definitions.specs.Nodes.{InOperation}
 
 -- Rule 1: an attribute stands only in its place.
 

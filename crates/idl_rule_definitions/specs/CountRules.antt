@@ -1,5 +1,5 @@
--- Rule 39: there are at most 4,096 types, 1,024 operations, 256 parameters of an operation, and 67,108,864 members of structs and arms of unions in all.
--- Each label of a union counts as an arm. The first that is one too many breaks the rule, and nothing after it does.
+-- Rule 39: there are at most 4,096 types, 1,024 operations, 256 parameters of an operation, and 67,108,864 members of structs and arms of unions in
+-- all. Each label of a union counts as an arm. The first that is one too many breaks the rule, and nothing after it does.
 use Rattle.std.specs.Prelude.{◌-◌, ℕ, List, [], ◌∷◌, ◌++◌, map, length, take, drop}
 use Rattle.std.specs.List.{flat_map}
 use Rattle.nd_types.specs.declared.TheConstants.{TYPE_LIMIT, OPERATION_LIMIT, PARAM_LIMIT, MEMBER_LIMIT}

@@ -1,4 +1,5 @@
--- The rule that is reported: the least broken one, at its first place. Places go by the files in the order in which their resolving ended, then by octets.
+-- The rule that is reported: the least broken one, at its first place. Places go by the files in the order in which their resolving ended, then by
+-- octets.
 use Rattle.std.specs.Prelude.{◌≡◌, ℕ, ◌+◌, Bool, true, false, ◌&&◌, ◌||◌, eqb, ltb, List, [], ◌∷◌, Option, Some, None}
 use Rattle.std.specs.List.{list_any}
 use Rattle.nd_base.specs.declared.octets.Place.{Place}

@@ -8,7 +8,8 @@ use Rattle.idl_grammar.specs.declared.attributes.PointerClass.{PointerClass}
 use Rattle.idl_grammar.specs.declared.types.SimpleType.{SimpleType}
 use Rattle.idl_grammar.specs.declared.types.SwitchType.{SwitchType}
 use Rattle.idl_grammar.specs.declared.types.TagKind.{TagKind}
-use Rattle.idl_grammar.specs.Tree.{Expr, Attribute, AttributeKind, Attributes, Declarator, Init, Enumerator, Label, TypeSpec, Members, Cases, Arms, Arm, Parameter, Export, Tree}
+use Rattle.idl_grammar.specs.Tree.{Expr, Attribute, AttributeKind, Attributes, Declarator, Init, Enumerator, Label, TypeSpec, Members, Cases, Arms}
+use Rattle.idl_grammar.specs.Tree.{Arm, Parameter, Export, Tree}
 use Rattle.idl_grammar.specs.Tree as tree
 use Rattle.idl_scope.specs.Ended.{Ended}
 use Rattle.idl_scope.specs.Steps.{parameters_of}
@@ -183,7 +184,8 @@ abbrev mutual
       BodyNode c (tree.EncapsulatedUnion at tag d name cases) ∷ SwitchNode c d.of
       ∷ label_nodes c (tree.EncapsulatedUnion at tag d name cases) [] (labels_of (tree.EncapsulatedUnion at tag d name cases)) ++ case_nodes c cases
   type_nodes c (tree.NonEncapsulatedUnion at tag arms) =
-      BodyNode c (tree.NonEncapsulatedUnion at tag arms) ∷ label_nodes c (tree.NonEncapsulatedUnion at tag arms) [] (labels_of (tree.NonEncapsulatedUnion at tag arms)) ++ arms_nodes c arms
+      BodyNode c (tree.NonEncapsulatedUnion at tag arms)
+      ∷ label_nodes c (tree.NonEncapsulatedUnion at tag arms) [] (labels_of (tree.NonEncapsulatedUnion at tag arms)) ++ arms_nodes c arms
   type_nodes c (tree.Enum at tag es) = BodyNode c (tree.Enum at tag es) ∷ map (λ e. EnumeratorNode c e.name) es
 
   -- members of a list, from this index on
@@ -204,7 +206,8 @@ abbrev mutual
   pub arm_nodes : Construct → Position → Arm → List Node
   arm_nodes c position (tree.Empty at a) = attribute_nodes (inside c position at a) ++ EmptyArmNode (inside c position at a) ∷ []
   arm_nodes c position (tree.Typed at a type d) =
-      attribute_nodes (inside c position at a) ++ type_nodes (inside c position at a) type ++ DeclaratorNode [] 0 (declared (inside c position at a) type d) ∷ []
+      attribute_nodes (inside c position at a) ++ type_nodes (inside c position at a) type
+      ++ DeclaratorNode [] 0 (declared (inside c position at a) type d) ∷ []
 
 -- ## Declarations
 
@@ -253,7 +256,8 @@ header_of f = record {
 
 abbrev pub file_nodes : Ended → List Node
 file_nodes f =
-    HeaderNode (header_of f) f.tree.attributes.at ∷ attribute_nodes (header_of f) ++ flat_map (export_nodes (eqb f.file 0) (header_of f)) f.tree.exports
+    HeaderNode (header_of f) f.tree.attributes.at ∷ attribute_nodes (header_of f)
+    ++ flat_map (export_nodes (eqb f.file 0) (header_of f)) f.tree.exports
 
 -- The files stand in the order in which their resolving ended.
 unfoldable pub nodes : World → List Node

@@ -1,6 +1,6 @@
--- The numbers of types. 0 to 11 are the basic types. From 12 on they stand in the order of the text: a struct, union or enum at the first place of its tag,
--- or where it has none of its first word; a pointer, array, text or pipe at the first declarator that needs it, after the types of which it is made.
--- Equal types have one number.
+-- The numbers of types. 0 to 11 are the basic types. From 12 on they stand in the order of the text: a struct, union or enum at the first place of
+-- its tag, or where it has none of its first word; a pointer, array, text or pipe at the first declarator that needs it, after the types of which it
+-- is made. Equal types have one number.
 use Rattle.std.specs.Prelude.{ℕ, ◌+◌, Bool, true, false, not, ◌&&◌, eqb, List, [], ◌∷◌, ◌++◌, map, length, Option, Some, None, ℤ}
 use Rattle.std.specs.List.{list_any, flat_map}
 use Rattle.std.specs.Ordering.{int_eq}
@@ -10,7 +10,8 @@ use Rattle.idl_grammar.specs.declared.attributes.PointerClass.{PointerClass}
 use Rattle.idl_grammar.specs.declared.attributes.PointerClass.TheVariants as class
 use Rattle.idl_scope.specs.Known.{Known}
 use Rattle.idl_rule_definitions.specs.Nodes.{Construct, Node, TagNode, BodyNode, DeclaratorNode}
-use Rattle.idl_rule_definitions.specs.Types.{IdlType, Void, Handle, ContextHandle, Basic, Struct, Union, Enum, Array, Text, Pointer, Pipe, Names, type_of, type_of_tag}
+use Rattle.idl_rule_definitions.specs.Types.{IdlType, Void, Handle, ContextHandle, Basic, Struct, Union, Enum, Array, Text, Pointer, Pipe, Names}
+use Rattle.idl_rule_definitions.specs.Types.{type_of, type_of_tag}
 use Rattle.idl_rule_definitions.specs.Scene.{Scene, same_place, type_of_body}
 
 -- ## Equal types
@@ -82,7 +83,8 @@ has_own_number _ = true
 abbrev pub first_needed : List IdlType → List Needed → List Needed
 first_needed before [] = []
 first_needed before (n ∷ ns) =
-    elim (has_own_number n.type && not (list_any (same_type n.type) before)) [ true ↦ n ∷ first_needed (n.type ∷ before) ns | false ↦ first_needed before ns ]
+    elim (has_own_number n.type
+    && not (list_any (same_type n.type) before)) [ true ↦ n ∷ first_needed (n.type ∷ before) ns | false ↦ first_needed before ns ]
 
 -- the types that all nodes need, in the order of the text
 unfoldable pub needed_types : Scene → List Needed

@@ -1,19 +1,26 @@
--- Which rules of the language are broken, and where. Each kind of node has the rules that speak of it; a rule is reported at the octet where the attribute, the
--- attribute list or the label begins that breaks it, and else where the innermost declaration, member, parameter, arm or enumerator begins in which it is broken.
+-- Which rules of the language are broken, and where. Each kind of node has the rules that speak of it; a rule is reported at the octet where the
+-- attribute, the attribute list or the label begins that breaks it, and else where the innermost declaration, member, parameter, arm or enumerator
+-- begins in which it is broken.
 use Rattle.std.specs.Prelude.{ℕ, Bool, true, false, List, [], ◌∷◌, ◌++◌, map}
 use Rattle.std.specs.List.{flat_map}
 use Rattle.nd_base.specs.declared.octets.Place.{Place}
 use Rattle.idl_rule_definitions.specs.World.{World}
-use Rattle.idl_rule_definitions.specs.Nodes.{Construct, place_in, Node, HeaderNode, AttributeNode, SwitchNode, TagNode, BodyNode, EnumeratorNode, LabelNode, EmptyArmNode, DeclaratorNode, ConstantNode, TypeNode, OperationNode}
+use Rattle.idl_rule_definitions.specs.Nodes.{Construct, place_in, Node, HeaderNode, AttributeNode, SwitchNode, TagNode, BodyNode, EnumeratorNode}
+use Rattle.idl_rule_definitions.specs.Nodes.{LabelNode, EmptyArmNode, DeclaratorNode, ConstantNode, TypeNode, OperationNode}
 use Rattle.idl_rule_definitions.specs.Types.{Names, switch_type, is_void, is_handle, is_pipe, is_context}
 use Rattle.idl_rule_definitions.specs.Scene.{Scene, scene_of, Body, Use, use_of, tag_type}
 use Rattle.idl_rule_definitions.specs.AttributeRules.{is_out_of_place, is_repeated, lacks_uuid_and_local, is_large_version, is_second_class}
 use Rattle.idl_rule_definitions.specs.DeclarationRules.{has_no_body, lacks_switch_type, is_wrongly_cased, has_class, has_string, lacks_direction}
-use Rattle.idl_rule_definitions.specs.ValueRules.{is_large_enumerator, has_lower_bounds, is_bad_label, is_wrong_constant, is_void_constant, is_handle_constant}
-use Rattle.idl_rule_definitions.specs.TypeRules.{holds_void, holds_handle, holds_pipe, is_no_context_handle, holds_context_handle, in_tag, contains_itself, is_deep_body, holds_deep_array, is_wrong_result}
-use Rattle.idl_rule_definitions.specs.ArrayRules.{has_wrong_counts, has_wrong_dimensions, has_wrong_elements, hoists_before_last, is_hoisting_arm, holds_wrong_pipe}
-use Rattle.idl_rule_definitions.specs.PointerRules.{has_class_without_pointer, holds_pointer_without_class, holds_pointer_to_reference, is_nullable_out, is_wrong_out}
-use Rattle.idl_rule_definitions.specs.VariableRules.{may_not_be_switched, holds_nonencapsulated_union, has_wrong_switch, is_wrong_text, is_wrongly_sized, is_wrongly_varying, has_no_variable, has_wrong_variable}
+use Rattle.idl_rule_definitions.specs.ValueRules.{is_large_enumerator, has_lower_bounds, is_bad_label, is_wrong_constant, is_void_constant}
+use Rattle.idl_rule_definitions.specs.ValueRules.{is_handle_constant}
+use Rattle.idl_rule_definitions.specs.TypeRules.{holds_void, holds_handle, holds_pipe, is_no_context_handle, holds_context_handle, in_tag}
+use Rattle.idl_rule_definitions.specs.TypeRules.{contains_itself, is_deep_body, holds_deep_array, is_wrong_result}
+use Rattle.idl_rule_definitions.specs.ArrayRules.{has_wrong_counts, has_wrong_dimensions, has_wrong_elements, hoists_before_last, is_hoisting_arm}
+use Rattle.idl_rule_definitions.specs.ArrayRules.{holds_wrong_pipe}
+use Rattle.idl_rule_definitions.specs.PointerRules.{has_class_without_pointer, holds_pointer_without_class, holds_pointer_to_reference}
+use Rattle.idl_rule_definitions.specs.PointerRules.{is_nullable_out, is_wrong_out}
+use Rattle.idl_rule_definitions.specs.VariableRules.{may_not_be_switched, holds_nonencapsulated_union, has_wrong_switch, is_wrong_text}
+use Rattle.idl_rule_definitions.specs.VariableRules.{is_wrongly_sized, is_wrongly_varying, has_no_variable, has_wrong_variable}
 use Rattle.idl_rule_definitions.specs.CountRules.{too_many}
 use Rattle.idl_rule_definitions.specs.declared.rule.TheConstants as Rule
 

@@ -7,7 +7,8 @@ use Rattle.nd_types.specs.declared.TheConstants.{NESTING_LIMIT}
 use Rattle.idl_grammar.specs.declared.attributes.PointerClass.TheVariants as class
 use Rattle.idl_rule_definitions.specs.Attributes.{has, context_handle_word, in_word, out_word}
 use Rattle.idl_rule_definitions.specs.Nodes.{Position, InTypedef, InParameter, InOperation}
-use Rattle.idl_rule_definitions.specs.Types.{IdlType, Void, Basic, Struct, Union, Enum, Array, Text, Pointer, Pipe, is_void, is_handle, is_pipe, is_context}
+use Rattle.idl_rule_definitions.specs.Types.{IdlType, Void, Basic, Struct, Union, Enum, Array, Text, Pointer, Pipe, is_void, is_handle, is_pipe}
+use Rattle.idl_rule_definitions.specs.Types.{is_context}
 use Rattle.idl_rule_definitions.specs.Scene.{Scene, Use, Body, bodies, place_of, type_of_body, same_place, parts_of, chain, below, nests}
 
 -- what is in a type below the reference pointer that it is, or else below itself

@@ -242,7 +242,8 @@ is_empty _ = false
 
 -- one pointer to `void`, with context_handle
 abbrev pub is_context_handle : Declared → IdlType → Bool
-is_context_handle d t = has context_handle_word d.construct.attributes && is_one_star d.declarator.stars && is_empty d.declarator.dimensions && is_void t
+is_context_handle d t =
+    has context_handle_word d.construct.attributes && is_one_star d.declarator.stars && is_empty d.declarator.dimensions && is_void t
 
 abbrev pub pipe_or_plain : Bool → IdlType → IdlType
 pipe_or_plain true t = Pipe t

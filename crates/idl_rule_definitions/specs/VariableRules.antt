@@ -10,7 +10,8 @@ use Rattle.idl_grammar.specs.Tree.{Attribute}
 use Rattle.idl_rule_definitions.specs.Attributes.{has, has_one_of, sizes, lengths, string_word, switch_is_word, variable_said}
 use Rattle.idl_rule_definitions.specs.Nodes.{Position, InTypedef, InMember, InParameter, Declared}
 use Rattle.idl_rule_definitions.specs.DeclarationRules.{is_parameter}
-use Rattle.idl_rule_definitions.specs.Types.{IdlType, Basic, Enum, Array, Text, Pointer, type_of, is_text, is_pointer, is_conformant_array, is_conformant_text}
+use Rattle.idl_rule_definitions.specs.Types.{IdlType, Basic, Enum, Array, Text, Pointer, type_of, is_text, is_pointer, is_conformant_array}
+use Rattle.idl_rule_definitions.specs.Types.{is_conformant_text}
 use Rattle.idl_rule_definitions.specs.Scene.{Scene, Use, is_nonencapsulated, chain, below}
 
 -- ## Variables
@@ -90,8 +91,8 @@ without_union u =
 abbrev pub holds_nonencapsulated_union : Scene → Use → Bool
 holds_nonencapsulated_union s u = list_any (is_nonencapsulated s) (without_union u)
 
--- Rule 25: switch_is stands only on such a member or parameter, and its variable, where its list of members or parameters has it, is, without `*`, of an
--- integer, char, boolean or enumerated type, or, with `*`, a parameter that is a reference pointer to one of these.
+-- Rule 25: switch_is stands only on such a member or parameter, and its variable, where its list of members or parameters has it, is, without `*`, of
+-- an integer, char, boolean or enumerated type, or, with `*`, a parameter that is a reference pointer to one of these.
 
 abbrev pub is_switched : Scene → IdlType → Bool
 is_switched s (Pointer class to) = is_nonencapsulated s to
@@ -120,8 +121,8 @@ may_be_text _ = false
 abbrev pub is_wrong_text : Use → Bool
 is_wrong_text u = has string_word u.construct.attributes && (not (may_be_text u.declared_as) || has_one_of lengths u.construct.attributes)
 
--- Rule 34: size_is and max_is stand only on a conformant array or a pointer that is no context handle, not both; a member or parameter whose own type is a
--- conformant array that is no text has one.
+-- Rule 34: size_is and max_is stand only on a conformant array or a pointer that is no context handle, not both; a member or parameter whose own type
+-- is a conformant array that is no text has one.
 
 abbrev pub may_be_sized : IdlType → Bool
 may_be_sized t = is_pointer t || is_conformant_array t || is_conformant_text t
@@ -138,8 +139,8 @@ is_wrongly_sized u =
       | false ↦ is_listed u.construct.position && is_conformant_array u.type
     ]
 
--- Rule 35: length_is, first_is and last_is stand only on an array that is no text, or on a pointer with size_is or max_is that does not point to a text;
--- length_is and last_is not both.
+-- Rule 35: length_is, first_is and last_is stand only on an array that is no text, or on a pointer with size_is or max_is that does not point to a
+-- text; length_is and last_is not both.
 
 abbrev pub may_vary : Bool → IdlType → Bool
 may_vary is_sized (Array t count varying) = true
@@ -161,8 +162,8 @@ is_other index (Some d) = not (eqb d.index index)
 abbrev pub has_no_variable : Use → Bool
 has_no_variable u = list_any (λ v. not (is_other u.index (variable_of u v))) (variables (switch_is_word ∷ sizes ++ lengths) u.construct.attributes)
 
--- Rule 37: the variable of size_is, max_is, first_is, length_is and last_is is, without `*`, an integer, or, with `*`, a parameter that is a reference
--- pointer to an integer.
+-- Rule 37: the variable of size_is, max_is, first_is, length_is and last_is is, without `*`, an integer, or, with `*`, a parameter that is a
+-- reference pointer to an integer.
 
 abbrev pub has_wrong_variable : Scene → Use → Bool
 has_wrong_variable s u = list_any (λ v. not (is_right_variable s u is_integer v)) (variables (sizes ++ lengths) u.construct.attributes)

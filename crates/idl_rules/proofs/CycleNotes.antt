@@ -5,7 +5,8 @@ use Rattle.std.proofs.lemmas.Bool.Decides.{nat_tests}
 use Rattle.std.proofs.lemmas.List.Concat.{flat_map-cons}
 use Rattle.std.proofs.lemmas.Grind.{flat_map-append}
 use Rattle.idl_rule_definitions.specs.World.{World}
-use Rattle.idl_rule_definitions.specs.Nodes.{Construct, Node, HeaderNode, AttributeNode, SwitchNode, TagNode, BodyNode, EnumeratorNode, LabelNode, EmptyArmNode, DeclaratorNode, ConstantNode, TypeNode, OperationNode}
+use Rattle.idl_rule_definitions.specs.Nodes.{Construct, Node, HeaderNode, AttributeNode, SwitchNode, TagNode, BodyNode, EnumeratorNode, LabelNode, EmptyArmNode, DeclaratorNode, ConstantNode, TypeNode}
+use Rattle.idl_rule_definitions.specs.Nodes.{OperationNode}
 use Rattle.idl_rule_definitions.specs.Types.{Names}
 use Rattle.idl_rule_definitions.specs.Scene.{Scene, Scoped, Body, body_by}
 use Rattle.idl_rule_definitions.specs.TypeRules.{contains_itself, is_deep_body}
@@ -149,7 +150,8 @@ cycles_at s names (EmptyArmNode c) = none_alone (of_others (breaches_at s names 
 cycles_at s names (DeclaratorNode list index d) = none_alone (of_others (breaches_at s names (DeclaratorNode list index d))) (node_rest s names (DeclaratorNode list index d) refl)
 cycles_at s names (ConstantNode c of star value) = none_alone (of_others (breaches_at s names (ConstantNode c of star value))) (node_rest s names (ConstantNode c of star value) refl)
 cycles_at s names (TypeNode c of) = none_alone (of_others (breaches_at s names (TypeNode c of))) (node_rest s names (TypeNode c of) refl)
-cycles_at s names (OperationNode c name parameters result) = none_alone (of_others (breaches_at s names (OperationNode c name parameters result))) (node_rest s names (OperationNode c name parameters result) refl)
+cycles_at s names (OperationNode c name parameters result) =
+    none_alone (of_others (breaches_at s names (OperationNode c name parameters result))) (node_rest s names (OperationNode c name parameters result) refl)
 
 all_alone : (s : Scene) (ns : List Scoped) → cycles_alone (flat_map (other_breaches_at s) ns) ≡ flat_map (cycle_of s) (flat_map (λ n. body_by n.names n.node) ns)
 all_alone s [] = refl

@@ -15,7 +15,8 @@ use Rattle.idl_rule_definitions.specs.World.{World}
 use Rattle.idl_rule_definitions.specs.AttributeRules.{is_out_of_place, is_repeated, is_large_version, is_second_class, lacks_uuid_and_local}
 use Rattle.idl_rule_definitions.specs.DeclarationRules.{has_no_body}
 use Rattle.idl_rule_definitions.specs.ValueRules.{is_large_enumerator, is_bad_label, is_wrong_constant, is_void_constant, is_handle_constant}
-use Rattle.idl_rule_definitions.specs.Nodes.{Construct, ArmLabel, Node, HeaderNode, AttributeNode, SwitchNode, TagNode, BodyNode, EnumeratorNode, LabelNode, EmptyArmNode, DeclaratorNode, ConstantNode, TypeNode, OperationNode, attribute_nodes_from, label_nodes, labels_of}
+use Rattle.idl_rule_definitions.specs.Nodes.{Construct, ArmLabel, Node, HeaderNode, AttributeNode, SwitchNode, TagNode, BodyNode, EnumeratorNode, LabelNode, EmptyArmNode, DeclaratorNode, ConstantNode}
+use Rattle.idl_rule_definitions.specs.Nodes.{TypeNode, OperationNode, attribute_nodes_from, label_nodes, labels_of}
 use Rattle.idl_rule_definitions.specs.Types.{Names, switch_type}
 use Rattle.idl_rule_definitions.specs.Scene.{Scene, Scoped, Body, body_by, scoped_from, names_behind, use_of, tag_type}
 use Rattle.idl_rule_definitions.specs.Rules.{Breach, broken_at, broken_in, breaches_at, breaches_of_use, breaches_of_body}
@@ -68,7 +69,8 @@ one_rest : (c : Construct) (rule at : ℕ) (t : Bool) → of_others (broken_at c
 one_rest c rule at t e f = same_part (broken_at c rule at t) (broken_at c rule at t) e f
 
 constant_rest : (c : Construct) (a b d : Bool)
-    → but_cycles (of_others (broken_in c Rule.VOID a ++ broken_in c Rule.HANDLE b ++ broken_in c Rule.CONSTANTS d)) ≡ of_others (broken_in c Rule.VOID a ++ broken_in c Rule.HANDLE b ++ broken_in c Rule.CONSTANTS d)
+    → but_cycles (of_others (broken_in c Rule.VOID a ++ broken_in c Rule.HANDLE b ++ broken_in c Rule.CONSTANTS d))
+    ≡ of_others (broken_in c Rule.VOID a ++ broken_in c Rule.HANDLE b ++ broken_in c Rule.CONSTANTS d)
 constant_rest c a b d =
     same_part (broken_in c Rule.VOID a ++ broken_in c Rule.HANDLE b ++ broken_in c Rule.CONSTANTS d) (broken_in c Rule.VOID a ++ broken_in c Rule.HANDLE b ++ broken_in c Rule.CONSTANTS d)
     (three_kept c c.at 6 7 38 a b d refl refl refl)

@@ -9,7 +9,8 @@ use Rattle.idl_rule_definitions.specs.ValueRules.{has_lower_bounds}
 use Rattle.idl_rule_definitions.specs.TypeRules.{holds_void, holds_handle, holds_pipe, is_no_context_handle, holds_context_handle, in_tag, is_deep_body, holds_deep_array, is_wrong_result}
 use Rattle.idl_rule_definitions.specs.ArrayRules.{has_wrong_counts, has_wrong_dimensions, has_wrong_elements, hoists_before_last, is_hoisting_arm, holds_wrong_pipe}
 use Rattle.idl_rule_definitions.specs.PointerRules.{has_class_without_pointer, holds_pointer_without_class, holds_pointer_to_reference, is_nullable_out, is_wrong_out}
-use Rattle.idl_rule_definitions.specs.VariableRules.{may_not_be_switched, holds_nonencapsulated_union, has_wrong_switch, is_wrong_text, is_wrongly_sized, is_wrongly_varying, has_no_variable, has_wrong_variable}
+use Rattle.idl_rule_definitions.specs.VariableRules.{may_not_be_switched, holds_nonencapsulated_union, has_wrong_switch, is_wrong_text, is_wrongly_sized, is_wrongly_varying, has_no_variable}
+use Rattle.idl_rule_definitions.specs.VariableRules.{has_wrong_variable}
 use Rattle.idl_rule_definitions.specs.Noted.{of_others}
 use Rattle.idl_rules.specs.Asked.{with_types, with_arrays, with_unions, with_pointers, with_variables, body_breaches, switch_breaches, empty_arm_breaches}
 use Rattle.idl_value_rules.specs.RestBreaches.{but_cycles}

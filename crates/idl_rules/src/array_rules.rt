@@ -21,7 +21,8 @@ use idl_rule_definitions::{Finder, rule};
 
 /// Rule 16: whether an array of more than one dimension is not fixed in each, or has length_is, first_is, last_is or `string`.
 fn has_wrong_dimensions(judge: &Judge<'_>, asked: &Asked<'_>) -> bool
-    ensures { (s : Scene) (u : Use) → AreMarks s judge.now.kinds.now judge.now.marks.now → result ≡ rules.has_wrong_dimensions (asked_use judge.now.kinds.now asked.now u) }
+    ensures { (s : Scene) (u : Use) → AreMarks s judge.now.kinds.now judge.now.marks.now
+        → result ≡ rules.has_wrong_dimensions (asked_use judge.now.kinds.now asked.now u) }
 {
     let declared_as = judge.mark(asked.typed.declared_as);
     let attributes = asked.construct.attributes;
@@ -32,7 +33,8 @@ fn has_wrong_dimensions(judge: &Judge<'_>, asked: &Asked<'_>) -> bool
 
 /// Rule 18: whether a member hoists that is not the last.
 fn hoists_before_last(judge: &Judge<'_>, asked: &Asked<'_>) -> bool
-    ensures { (s : Scene) (u : Use) → AreMarks s judge.now.kinds.now judge.now.marks.now → asked.now.followed ≡ is_followed u → result ≡ rules.hoists_before_last s (asked_use judge.now.kinds.now asked.now u) }
+    ensures { (s : Scene) (u : Use) → AreMarks s judge.now.kinds.now judge.now.marks.now → asked.now.followed ≡ is_followed u
+        → result ≡ rules.hoists_before_last s (asked_use judge.now.kinds.now asked.now u) }
 {
     asked.construct.position == Position::Member
         && asked.followed
@@ -41,7 +43,8 @@ fn hoists_before_last(judge: &Judge<'_>, asked: &Asked<'_>) -> bool
 
 /// Rule 19: whether an arm of a union hoists.
 fn is_hoisting_arm(judge: &Judge<'_>, asked: &Asked<'_>) -> bool
-    ensures { (s : Scene) (u : Use) → AreMarks s judge.now.kinds.now judge.now.marks.now → result ≡ rules.is_hoisting_arm s (asked_use judge.now.kinds.now asked.now u) }
+    ensures { (s : Scene) (u : Use) → AreMarks s judge.now.kinds.now judge.now.marks.now
+        → result ≡ rules.is_hoisting_arm s (asked_use judge.now.kinds.now asked.now u) }
 {
     matches!(asked.construct.position, Position::Arm | Position::CasedArm)
         && judge.mark(asked.typed.of).hoists

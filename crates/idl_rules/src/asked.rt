@@ -68,7 +68,8 @@ impl<'j> Judge<'j> {
 
     /// The same without the type after it, where it is a reference pointer.
     pub(crate) fn below_reference(&self, number: usize) -> Mark
-        ensures { (s : Scene) → AreMarks s self.now.kinds.now self.now.marks.now → Holds s (below_reference (type_at self.now.kinds.now number)) result }
+        ensures { (s : Scene) → AreMarks s self.now.kinds.now self.now.marks.now
+            → Holds s (below_reference (type_at self.now.kinds.now number)) result }
     {
         match self.kind(number).referent() {
             Some(to) => self.below(to),
@@ -78,7 +79,8 @@ impl<'j> Judge<'j> {
 
     /// The same without the type after it, where it is a pointer.
     pub(crate) fn below_pointer(&self, number: usize) -> Mark
-        ensures { (s : Scene) → AreMarks s self.now.kinds.now self.now.marks.now → Holds s (below_pointer (type_at self.now.kinds.now number)) result }
+        ensures { (s : Scene) → AreMarks s self.now.kinds.now self.now.marks.now
+            → Holds s (below_pointer (type_at self.now.kinds.now number)) result }
     {
         match self.kind(number).pointee() {
             Some(to) => self.below(to),

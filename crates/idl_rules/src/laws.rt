@@ -17,7 +17,8 @@ ghost use Rattle.idl_rule_definitions.specs.Answers.{Answers};
 
 /// No two answers are right of the same files, except when out of memory.
 pub fn one_answer_is_right()
-    ensures told { (w : World) (rule other : ℕ) (place elsewhere : Place) → Answers w (Err (fault.Broken rule place)) → Answers w (Err (fault.Broken other elsewhere))
+    ensures told { (w : World) (rule other : ℕ) (place elsewhere : Place) → Answers w (Err (fault.Broken rule place))
+        → Answers w (Err (fault.Broken other elsewhere))
         → breach rule place ≡ breach other elsewhere }
     ensures not_both { (w : World) (i : Interface) (rule : ℕ) (place : Place) → Answers w (Ok i) → Answers w (Err (fault.Broken rule place)) → ⊥ }
 {}

@@ -23,7 +23,8 @@ use idl_type_properties::marks::Mark;
 
 /// The types of a declarator in which no `void` may stand.
 fn without_void(judge: &Judge<'_>, asked: &Asked<'_>) -> Mark
-    ensures { (s : Scene) → AreMarks s judge.now.kinds.now judge.now.marks.now → Holds s (rules.without_void (seen_position asked.now.construct.position) (type_at judge.now.kinds.now asked.now.typed.of)) result }
+    ensures { (s : Scene) → AreMarks s judge.now.kinds.now judge.now.marks.now
+        → Holds s (rules.without_void (seen_position asked.now.construct.position) (type_at judge.now.kinds.now asked.now.typed.of)) result }
 {
     match asked.construct.position {
         Position::Operation => judge.below(asked.typed.of),
@@ -33,7 +34,9 @@ fn without_void(judge: &Judge<'_>, asked: &Asked<'_>) -> Mark
 
 /// Whether a declarator is `[in]`, and not `[out]`.
 fn is_in_alone(asked: &Asked<'_>) -> bool
-    ensures { result ≡ (has in_word (map seen_attribute asked.now.construct.attributes.now) && not (has out_word (map seen_attribute asked.now.construct.attributes.now))) }
+    ensures { result
+        ≡ (has in_word (map seen_attribute asked.now.construct.attributes.now)
+        && not (has out_word (map seen_attribute asked.now.construct.attributes.now))) }
 {
     has_word(asked.construct.attributes, Word::In)
         && !has_word(asked.construct.attributes, Word::Out)
@@ -41,7 +44,11 @@ fn is_in_alone(asked: &Asked<'_>) -> bool
 
 /// Those in which no `handle_t` may stand.
 fn without_handle(judge: &Judge<'_>, asked: &Asked<'_>) -> Mark
-    ensures { (s : Scene) → AreMarks s judge.now.kinds.now judge.now.marks.now → Holds s (rules.without_handle (seen_position asked.now.construct.position) (has in_word (map seen_attribute asked.now.construct.attributes.now) && not (has out_word (map seen_attribute asked.now.construct.attributes.now))) (type_at judge.now.kinds.now asked.now.typed.of)) result }
+    ensures { (s : Scene) → AreMarks s judge.now.kinds.now judge.now.marks.now
+        → Holds s
+        (rules.without_handle (seen_position asked.now.construct.position)
+        (has in_word (map seen_attribute asked.now.construct.attributes.now)
+        && not (has out_word (map seen_attribute asked.now.construct.attributes.now))) (type_at judge.now.kinds.now asked.now.typed.of)) result }
 {
     let alone = is_in_alone(asked);
     match (asked.construct.position, alone) {
@@ -52,7 +59,8 @@ fn without_handle(judge: &Judge<'_>, asked: &Asked<'_>) -> Mark
 
 /// Those in which neither pipe nor context handle may stand.
 fn without_pipe(judge: &Judge<'_>, asked: &Asked<'_>) -> Mark
-    ensures { (s : Scene) → AreMarks s judge.now.kinds.now judge.now.marks.now → Holds s (rules.without_pipe (seen_position asked.now.construct.position) (type_at judge.now.kinds.now asked.now.typed.of)) result }
+    ensures { (s : Scene) → AreMarks s judge.now.kinds.now judge.now.marks.now
+        → Holds s (rules.without_pipe (seen_position asked.now.construct.position) (type_at judge.now.kinds.now asked.now.typed.of)) result }
 {
     match asked.construct.position {
         Position::Typedef | Position::Parameter => judge.below_reference(asked.typed.of),

@@ -141,7 +141,8 @@ fn note_body(
     of: usize,
 )
     ensures files { finder.new.files.now ≡ finder.old.files.now }
-    ensures first { (w : World) (s : Scene) (b : Body) → w.files ≡ seen_files finder.old.files.now → AreMarks s judge.now.kinds.now judge.now.marks.now
+    ensures first { (w : World) (s : Scene) (b : Body) → w.files ≡ seen_files finder.old.files.now
+        → AreMarks s judge.now.kinds.now judge.now.marks.now
         → seen_construct construct.now ≡ b.construct → seen_type body.now ≡ b.body → type_at judge.now.kinds.now of ≡ type_of_body b
         → option_map seen_breach finder.new.first ≡ noted w (option_map seen_breach finder.old.first) (body_breaches s b) }
 {

@@ -33,7 +33,9 @@ pub(crate) fn may_not_be_switched(judge: &Judge<'_>, number: usize) -> bool
 
 /// Whether a non-encapsulated union may stand where a declarator does.
 fn is_switched_place(asked: &Asked<'_>) -> bool
-    ensures { result ≡ rules.is_switched_place (seen_position asked.now.construct.position) (has switch_is_word (map seen_attribute asked.now.construct.attributes.now)) }
+    ensures { result
+        ≡ rules.is_switched_place (seen_position asked.now.construct.position)
+        (has switch_is_word (map seen_attribute asked.now.construct.attributes.now)) }
 {
     match asked.construct.position {
         Position::Typedef => true,
@@ -46,7 +48,8 @@ fn is_switched_place(asked: &Asked<'_>) -> bool
 
 /// The types of a declarator in which no non-encapsulated union may stand.
 fn without_union(judge: &Judge<'_>, asked: &Asked<'_>) -> Mark
-    ensures { (s : Scene) (u : Use) → AreMarks s judge.now.kinds.now judge.now.marks.now → Holds s (rules.without_union (asked_use judge.now.kinds.now asked.now u)) result }
+    ensures { (s : Scene) (u : Use) → AreMarks s judge.now.kinds.now judge.now.marks.now
+        → Holds s (rules.without_union (asked_use judge.now.kinds.now asked.now u)) result }
 {
     if is_switched_place(asked) {
         judge.below_pointer(asked.typed.of)
@@ -67,7 +70,8 @@ fn is_switched(judge: &Judge<'_>, number: usize) -> bool
 
 /// Rule 25: whether it has switch_is and is no such union, or the variable is of a wrong type.
 fn has_wrong_switch(judge: &Judge<'_>, asked: &Asked<'_>) -> bool
-    ensures { (s : Scene) (u : Use) → AreMarks s judge.now.kinds.now judge.now.marks.now → IsAsked s judge.now.kinds.now u asked.now → result ≡ rules.has_wrong_switch s u }
+    ensures { (s : Scene) (u : Use) → AreMarks s judge.now.kinds.now judge.now.marks.now → IsAsked s judge.now.kinds.now u asked.now
+        → result ≡ rules.has_wrong_switch s u }
 {
     has_word(asked.construct.attributes, Word::SwitchIs)
         && (!is_switched(judge, asked.typed.of) || asked.typed.wrong_switch_variable)

@@ -73,8 +73,10 @@ pub unary_in_range : (meanings : List ℕ → Option Meaning) (at : ℕ) (s : Un
 unary_in_range meanings at s e = with_value_keeps (value meanings e) (λ a. in_range at (unary_value s a)) (λ a. in_range_keeps at (unary_value s a))
 
 pub binary_in_range : (meanings : List ℕ → Option Meaning) (l : Expr) (at : ℕ) (s : BinaryOperator) (r : Expr) (z : ℤ) → value meanings (Binary l at s r) ≡ Ok z → is_in_range z ≡ true
-binary_in_range meanings l at s r = with_value_keeps (value meanings l) _ (λ a. choice_keeps (is_decided s a) (Ok (truth (not (is_zero a)))) (with_value (value meanings r) (λ b. binary_value at s a b))
+binary_in_range meanings l at s r =
+    with_value_keeps (value meanings l) _ (λ a. choice_keeps (is_decided s a) (Ok (truth (not (is_zero a)))) (with_value (value meanings r) (λ b. binary_value at s a b))
     (truth_keeps (not (is_zero a))) (with_value_keeps (value meanings r) (λ b. binary_value at s a b) (λ b. binary_keeps at s a b)))
 
 pub conditional_in_range : (meanings : List ℕ → Option Meaning) (c : Expr) (at : ℕ) (a b : Expr) (z : ℤ) → value meanings (Conditional c at a b) ≡ Ok z → is_in_range z ≡ true
-conditional_in_range meanings c at a b = with_value_keeps (value meanings c) _ (λ t. with_value_keeps (elim (is_zero t) [ true ↦ value meanings b | false ↦ value meanings a ]) (λ v. in_range at v) (λ v. in_range_keeps at v))
+conditional_in_range meanings c at a b =
+    with_value_keeps (value meanings c) _ (λ t. with_value_keeps (elim (is_zero t) [ true ↦ value meanings b | false ↦ value meanings a ]) (λ v. in_range at v) (λ v. in_range_keeps at v))

@@ -128,9 +128,11 @@ abbrev pub passed : ℕ → Known → Step → Result Known NameFault
 -- the name has to be known as a type
 passed file k (UseType name) = where_known (is_type (meaning_in k name.octets)) (place_in file name) k
 -- the tag has to have a body of its kind, or waits for it
-passed file k (UseTag kind tag behind_pointers) = elim (is_defined k kind tag.octets) [ true ↦ Ok k | false ↦ tag_used file k kind tag behind_pointers ]
+passed file k (UseTag kind tag behind_pointers) =
+    elim (is_defined k kind tag.octets) [ true ↦ Ok k | false ↦ tag_used file k kind tag behind_pointers ]
 -- no tag has two bodies, whatever their kinds
-passed file k (DefineTag kind tag) = where_free (tag_place k tag.octets) (place_in file tag) (with_tag k tag (record { kind = kind; place = place_in file tag }))
+passed file k (DefineTag kind tag) =
+    where_free (tag_place k tag.octets) (place_in file tag) (with_tag k tag (record { kind = kind; place = place_in file tag }))
 -- no name is declared twice
 passed file k (Declare name) = where_free (found name.octets k.places) (place_in file name) (with_place k name (place_in file name))
 passed file k (Know name m) = Ok (with_meaning k name m)

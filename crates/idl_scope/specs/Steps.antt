@@ -6,7 +6,8 @@ use Rattle.idl_grammar.specs.declared.types.SwitchType.{SwitchType}
 use Rattle.idl_grammar.specs.declared.types.SwitchType.TheVariants as switch
 use Rattle.idl_grammar.specs.declared.types.TagKind.{TagKind}
 use Rattle.idl_grammar.specs.declared.types.TagKind.TheVariants as tag_kind
-use Rattle.idl_grammar.specs.Tree.{Expr, AttributeKind, Attribute, Attributes, Bound, Declarator, Init, Enumerator, Label, TypeSpec, Members, Cases, Arms, Arm, Import, Parameter, Parameters, Export, Tree}
+use Rattle.idl_grammar.specs.Tree.{Expr, AttributeKind, Attribute, Attributes, Bound, Declarator, Init, Enumerator, Label, TypeSpec, Members, Cases}
+use Rattle.idl_grammar.specs.Tree.{Arms, Arm, Import, Parameter, Parameters, Export, Tree}
 use Rattle.idl_grammar.specs.Tree as tree
 use Rattle.idl_scope.specs.declared.meaning.Meaning.{Meaning}
 use Rattle.idl_scope.specs.declared.meaning.Meaning.TheVariants as meaning
@@ -117,7 +118,8 @@ abbrev mutual
   pub member_steps : List Spelling → Members → List Step
   member_steps before tree.no_members = []
   member_steps before (tree.next_member at a type ds others) =
-      optional_attribute_steps a ++ type_steps (list_all is_pointer ds) type ++ enlisted_steps before ds ++ member_steps (before ++ map declared_name ds) others
+      optional_attribute_steps a ++ type_steps (list_all is_pointer ds) type ++ enlisted_steps before ds
+      ++ member_steps (before ++ map declared_name ds) others
 
   pub case_steps : Cases → List Step
   case_steps tree.no_cases = []
@@ -146,7 +148,8 @@ init_step name (tree.Value e) = KnowValue name e
 
 -- a parameter, after these of its list
 abbrev pub one_parameter_steps : List Spelling → Parameter → List Step
-one_parameter_steps before p = optional_attribute_steps p.attributes ++ type_steps (is_pointer p.declarator) p.type ++ listed_steps before p.declarator
+one_parameter_steps before p =
+    optional_attribute_steps p.attributes ++ type_steps (is_pointer p.declarator) p.type ++ listed_steps before p.declarator
 
 abbrev pub parameter_steps : List Spelling → List Parameter → List Step
 parameter_steps before [] = []

@@ -17,7 +17,8 @@ use Rattle.idl_scope.specs.Operators.{Outcome, fails, with_value, in_range, unar
 -- what C's escapes \a \b \f \n \r \t \v stand for; any other character after a backslash stands for itself
 abbrev pub escaped : ℕ → ℕ
 escaped c =
-    cond (eqb c 97) 7 (cond (eqb c 98) 8 (cond (eqb c 102) 12 (cond (eqb c 110) 10 (cond (eqb c 114) 13 (cond (eqb c 116) 9 (cond (eqb c 118) 11 c))))))
+    cond (eqb c 97) 7
+    (cond (eqb c 98) 8 (cond (eqb c 102) 12 (cond (eqb c 110) 10 (cond (eqb c 114) 13 (cond (eqb c 116) 9 (cond (eqb c 118) 11 c))))))
 
 -- the value of a character between its quotes: that of its octet, or of its escape
 abbrev pub character_value : List ℕ → ℕ
@@ -55,7 +56,8 @@ value meanings (Leaf a) = operand_value meanings a
 value meanings (Round at e) = value meanings e
 value meanings (Unary at s e) = with_value (value meanings e) (λ a. in_range at (unary_value s a))
 value meanings (Binary l at s r) = with_value (value meanings l) (λ a. joined at s a (value meanings r))
-value meanings (Conditional c at a b) = with_value (value meanings c) (λ z. with_value (chosen z (value meanings a) (value meanings b)) (λ v. in_range at v))
+value meanings (Conditional c at a b) =
+    with_value (value meanings c) (λ z. with_value (chosen z (value meanings a) (value meanings b)) (λ v. in_range at v))
 
 -- the reason alone
 abbrev pub constant : Outcome → Result ℤ ConstFault

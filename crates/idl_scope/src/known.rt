@@ -239,7 +239,8 @@ impl NameTables {
         name: &Identifier,
         previous: Option<&Identifier>,
     ) -> Result<(), NameFault>
-        ensures { IsRight self.new result (walked file self.old (Declare name.now ∷ KnowNext name.now (option_map (λ s. s.now) previous.entry) ∷ [])) }
+        ensures { IsRight self.new result
+            (walked file self.old (Declare name.now ∷ KnowNext name.now (option_map (λ s. s.now) previous.entry) ∷ [])) }
     {
         let place = place_of(file, name);
         if let Some(first) = self.places.get(name.as_slice()) {

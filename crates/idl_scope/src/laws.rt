@@ -22,7 +22,10 @@ pub fn bits_are_those_of_twos_complement()
 /// The value of an operator is from -2^63 to 2^64 - 1, whatever its operands are.
 #[tactic(auto, using(crate::proofs::Ranges::unary_in_range, crate::proofs::Ranges::binary_in_range, crate::proofs::Ranges::conditional_in_range))]
 pub fn operators_stay_in_range()
-    ensures unary { (meanings : List ℕ → Option Meaning) (at : ℕ) (s : UnaryOperator) (e : Expr) (z : ℤ) → value meanings (Unary at s e) ≡ Ok z → is_in_range z ≡ true }
-    ensures binary { (meanings : List ℕ → Option Meaning) (l : Expr) (at : ℕ) (s : BinaryOperator) (r : Expr) (z : ℤ) → value meanings (Binary l at s r) ≡ Ok z → is_in_range z ≡ true }
-    ensures conditional { (meanings : List ℕ → Option Meaning) (c : Expr) (at : ℕ) (a b : Expr) (z : ℤ) → value meanings (Conditional c at a b) ≡ Ok z → is_in_range z ≡ true }
+    ensures unary { (meanings : List ℕ → Option Meaning) (at : ℕ) (s : UnaryOperator) (e : Expr) (z : ℤ) → value meanings (Unary at s e) ≡ Ok z
+        → is_in_range z ≡ true }
+    ensures binary { (meanings : List ℕ → Option Meaning) (l : Expr) (at : ℕ) (s : BinaryOperator) (r : Expr) (z : ℤ)
+        → value meanings (Binary l at s r) ≡ Ok z → is_in_range z ≡ true }
+    ensures conditional { (meanings : List ℕ → Option Meaning) (c : Expr) (at : ℕ) (a b : Expr) (z : ℤ)
+        → value meanings (Conditional c at a b) ≡ Ok z → is_in_range z ≡ true }
 {}

@@ -5,7 +5,8 @@ ghost use Rattle.idl_grammar.specs.declared.types.SimpleType.TheVariants as type
 ghost use Rattle.grammar_phrases.specs.Text.{is};
 ghost use Rattle.grammar_phrases.specs.Gives.{Gives};
 ghost use Rattle.idl_grammar.specs.Grammar.{width_words};
-ghost use Rattle.idl_grammar.specs.Reading.{flag_read, one_of_read, simple_words, simple_firsts, width_read, unsigned_read, integer_read, simple_read, switch_type_read};
+ghost use Rattle.idl_grammar.specs.Reading.{flag_read, one_of_read, simple_words, simple_firsts, width_read, unsigned_read, integer_read};
+ghost use Rattle.idl_grammar.specs.Reading.{simple_read, switch_type_read};
 ghost use Rattle.idl_tokens.specs.Found.{found};
 
 use crate::parser::Parser;

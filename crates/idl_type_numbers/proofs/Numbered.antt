@@ -1,5 +1,6 @@
 -- The numbers that the program notes, and those of the definitions.
-use Rattle.std.proofs.Common.{◌≡◌, ℕ, zero, suc, ◌+◌, ◌<◌, ◌≤◌, Bool, true, false, not, ◌||◌, ◌&&◌, eqb, ltb, List, [], ◌∷◌, ◌++◌, map, length, set, reverse, Option, Some, None, is_some, slice_get, refl, sym, ap, ap₂, ◌∙◌, subst, arith, append-nil, append_assoc, true≢false}
+use Rattle.std.proofs.Common.{◌≡◌, ℕ, zero, suc, ◌+◌, ◌<◌, ◌≤◌, Bool, true, false, not, ◌||◌, ◌&&◌, eqb, ltb, List, [], ◌∷◌, ◌++◌, map, length, set, reverse, Option, Some, None, is_some, slice_get}
+use Rattle.std.proofs.Common.{refl, sym, ap, ap₂, ◌∙◌, subst, arith, append-nil, append_assoc, true≢false}
 use Rattle.std.specs.List.{list_any, list_all}
 use Rattle.std.proofs.lemmas.Option.{none-some, slice_get_within, slice_get_past, slice_get-get_or, same_Some}
 use Rattle.std.proofs.lemmas.List.{map-append, length-set, reverse-append}
@@ -16,7 +17,8 @@ use Rattle.idl_rule_definitions.specs.Types.{IdlType, or_void, Void, Handle, Con
 use Rattle.idl_rule_definitions.specs.Scene.{Scene}
 use Rattle.idl_rule_definitions.specs.Numbering.{Needed, needed, needed_types, built, has_own_number, same_type, own_types, number_among, number_of_type}
 use Rattle.idl_declared_types.specs.Kinds.{type_by, seen_types, type_at, inner_of, is_inside, AreOnce}
-use Rattle.idl_type_numbers.specs.SeenNumbers.{found_number, next_of, number_or, number_by, number_at, seen_own, seen_needed, AreNumbers, has_number, is_settled, IsClosed, given, Shows, Gives, grown, grown_by, along}
+use Rattle.idl_type_numbers.specs.SeenNumbers.{found_number, next_of, number_or, number_by, number_at, seen_own, seen_needed, AreNumbers, has_number, is_settled, IsClosed, given, Shows, Gives, grown}
+use Rattle.idl_type_numbers.specs.SeenNumbers.{grown_by, along}
 use Rattle.idl_rule_definitions.proofs.Equal.{type_is, both}
 use Rattle.idl_rule_definitions.proofs.Needed.{itself, conjunction, right}
 use Rattle.idl_declared_types.proofs.KindLists.{length-seen_types}
@@ -145,7 +147,9 @@ shows_next ks firsts old new c k place s at below none g = record {
   by j q true e =
       let same : k ≡ j = eqb_is k j e in
       ap (λ l. slice_get l j) g.numbers ∙ ap (λ i. slice_get (set old.numbers.items k (Some (next_of old))) i) (sym same) ∙ get_set old.numbers.items k (Some (next_of old)) room
-      ∙ ap (λ x. Some x) (sym (given_new 12 old.own.items (record { kind = k; place = place }) k (eqb_itself k) none) ∙ ap (given 12 (old.own.items ++ record { kind = k; place = place } ∷ [])) same ∙ ap (λ l. given 12 l j) (sym g.own))
+      ∙ ap (λ x. Some x)
+      (sym (given_new 12 old.own.items (record { kind = k; place = place }) k (eqb_itself k) none) ∙ ap (given 12 (old.own.items ++ record { kind = k; place = place } ∷ [])) same
+      ∙ ap (λ l. given 12 l j) (sym g.own))
   by j q false e =
       ap (λ l. slice_get l j) g.numbers ∙ get_other old.numbers.items k j (Some (next_of old)) e ∙ s.numbers j q
       ∙ ap (λ x. Some x) (sym (given_old 12 old.own.items (record { kind = k; place = place }) j e) ∙ ap (λ l. given 12 l j) (sym g.own))

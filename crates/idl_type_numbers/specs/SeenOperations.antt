@@ -37,7 +37,8 @@ pub record Called : Type 0 where
   pub result : TypeSpec
 
 abbrev pub called_by : Names → Node → List Called
-called_by names (OperationNode c name parameters result) = record { names = names; construct = c; name = name; parameters = parameters; result = result } ∷ []
+called_by names (OperationNode c name parameters result) =
+    record { names = names; construct = c; name = name; parameters = parameters; result = result } ∷ []
 called_by names _ = []
 
 -- all operations
@@ -47,7 +48,13 @@ called s = flat_map (λ n. called_by n.names n.node) s.nodes
 -- the operation that a node of the program is
 abbrev pub called_at : {A : Type 0} → List (Vec declared.Declared A) → Names → Option program_node.Node → Option Called
 called_at lists names (Some (node.Operation it parameters)) =
-    Some (record { names = names; construct = seen_construct it.construct; name = it.name.now; parameters = list_at lists parameters; result = seen_type it.of.now })
+    Some (record {
+      names = names;
+      construct = seen_construct it.construct;
+      name = it.name.now;
+      parameters = list_at lists parameters;
+      result = seen_type it.of.now;
+    })
 called_at lists names _ = None
 
 -- the node of an operation

@@ -18,7 +18,8 @@ use Rattle.idl_rule_definitions.specs.Attributes.{switch_is_word}
 use Rattle.idl_rule_definitions.specs.Nodes.{Declared, Node}
 use Rattle.idl_constructs.specs.SeenNodes.{seen_construct, seen_declared, seen_result, list_at, seen_node, seen_nodes}
 use Rattle.idl_rule_definitions.specs.Types.{IdlType, Names, declared_type, type_of, switch_type, type_of_tag}
-use Rattle.idl_rule_definitions.specs.Scene.{Scene, Scoped, scoped_from, names_behind, Body, bodies, body_of, place_of, type_of_body, is_nonencapsulated_body, parts_of, tag_type, enumerators_in, Use, use_of}
+use Rattle.idl_rule_definitions.specs.Scene.{Scene, Scoped, scoped_from, names_behind, Body, bodies, body_of, place_of, type_of_body}
+use Rattle.idl_rule_definitions.specs.Scene.{is_nonencapsulated_body, parts_of, tag_type, enumerators_in, Use, use_of}
 use Rattle.idl_rule_definitions.specs.VariableRules.{is_right_variable, variables, may_be_switched, has_no_variable, has_wrong_variable}
 use Rattle.idl_declared_types.specs.LabelValues.{Holds, values_of}
 use Rattle.idl_declared_types.specs.Kinds.{type_at}
@@ -70,7 +71,8 @@ IsTyped s names ks lists (node.Declarator list index it) t = IsTypedUse s ks (us
 IsTyped s names ks lists (node.Result it) t = IsTypedUse s ks (use_of s.known names [] 0 (seen_result it)) t
 IsTyped s names ks lists (node.Switch c of) t = type_at ks t.of ≡ switch_type names of.now
 IsTyped s names ks lists (node.Tag c kind tag) t = type_at ks t.of ≡ type_of_tag s.known c.file kind tag.now
-IsTyped s names ks lists (node.Body c body) t = type_at ks t.of ≡ type_of_body (record { construct = seen_construct c; names = names; body = seen_type body.now })
+IsTyped s names ks lists (node.Body c body) t =
+    type_at ks t.of ≡ type_of_body (record { construct = seen_construct c; names = names; body = seen_type body.now })
 IsTyped s names ks lists (node.Labels c body) t = tag_seen ks t ≡ tag_type (seen_construct c) names (seen_type body.now)
 IsTyped s names ks lists _ t = Unit {0}
 
@@ -107,6 +109,7 @@ pub record IsTypes (s : Scene) (n : program_nodes.Nodes) (t : program_types.Type
   pub typed : (i : ℕ) (it : program_node.Node) (typed : Typed) → slice_get n.items.items i ≡ Some it → slice_get t.typed.items i ≡ Some typed
       → IsTyped s (names_at s.known n i) t.kinds n.lists.items it typed
   pub body_count : length t.bodies.items ≡ length (bodies s)
-  pub body : (i : ℕ) (body : Body) (b : BodyTypes) → slice_get (bodies s) i ≡ Some body → slice_get t.bodies.items i ≡ Some b → IsBody s n t.kinds body b
+  pub body : (i : ℕ) (body : Body) (b : BodyTypes) → slice_get (bodies s) i ≡ Some body → slice_get t.bodies.items i ≡ Some b
+      → IsBody s n t.kinds body b
   -- the first body of a place
   pub first : (place : Place) → body_of s place ≡ option_and_then (λ i. slice_get (bodies s) i) (found_place place t.by_place)

@@ -9,7 +9,8 @@ ghost use Rattle.idl_rule_definitions.specs.Numbering.{Needed, needed, built};
 ghost use Rattle.idl_declared_types.specs.Kinds.{type_by, type_at};
 ghost use Rattle.idl_constructs.specs.SeenNodes.{seen_construct};
 ghost use Rattle.idl_type_numbers.specs.SeenTypes.{scene_seen, IsTypes};
-ghost use Rattle.idl_type_numbers.specs.SeenNumbers.{found_number, next_of, number_at, AreNumbers, along, needed_at, grown, grown_by, Gives, IsClosed, Shows};
+ghost use Rattle.idl_type_numbers.specs.SeenNumbers.{found_number, next_of, number_at, AreNumbers, along, needed_at, grown, grown_by, Gives};
+ghost use Rattle.idl_type_numbers.specs.SeenNumbers.{IsClosed, Shows};
 
 use crate::types::{Typed, Types};
 use idl_constructs::nodes::{Construct, Node, Nodes};
@@ -177,7 +178,8 @@ impl Numbers {
         construct: &Construct<'_>,
         of: usize,
     ) -> Result<(), Memory>
-        ensures { (firsts : List Needed) (c : rules.Construct) → place_in (seen_construct construct.now) construct.now.at ≡ place_in c c.at → Shows kinds.now firsts self.old → IsClosed firsts
+        ensures { (firsts : List Needed) (c : rules.Construct) → place_in (seen_construct construct.now) construct.now.at ≡ place_in c c.at
+            → Shows kinds.now firsts self.old → IsClosed firsts
             → OnOk result (Shows kinds.now (grown firsts (map (needed c) (built (type_at kinds.now of)))) self.new) }
     {
         self.need(alloc, kinds, of, construct.place(construct.at))?;
@@ -187,7 +189,9 @@ impl Numbers {
 
 /// The numbers of all types that nodes need. Takes memory for each type.
 pub fn of_types(alloc: Global, nodes: &Nodes<'_>, types: &Types) -> Result<Numbers, Memory>
-    ensures { IfOk result (λ t. (known : Known) → IsTypes (scene_seen known nodes.now) nodes.now types.now → AreNumbers (scene_seen known nodes.now) types.now.kinds t) }
+    ensures { IfOk result
+        (λ t. (known : Known) → IsTypes (scene_seen known nodes.now) nodes.now types.now
+        → AreNumbers (scene_seen known nodes.now) types.now.kinds t) }
 {
     let mut numbers = Numbers::new(alloc, &types.kinds)?;
     for at in 0..nodes.items.len() {

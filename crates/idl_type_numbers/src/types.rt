@@ -7,7 +7,8 @@ use idl_declared_types::places::Places;
 use idl_declared_types::value_set::ValueSet;
 use nd_base::Place;
 
-/// What is noted of a node: numbers of types, and what needs the names that stand before it. Where a node has no type the numbers are those of `void`.
+/// What is noted of a node: numbers of types, and what needs the names that stand before it. Where a node has no type the numbers are those of
+/// `void`.
 #[derive(Clone, Copy, Debug)]
 pub struct Typed {
     /// Of a declarator: its type, but for attributes other than a class.

@@ -112,7 +112,8 @@ impl Counted {
 
 /// What is counted of the type that a kind points to or is made of as an array, text or pipe; or of `void`.
 fn inner(kind: Kind, counts: &[Counted]) -> Counted
-    ensures { (types : List IdlType) → AreCounted types counts.now → is_inside (length counts.now) kind ≡ true → IsCounted (inner_type types kind) result }
+    ensures { (types : List IdlType) → AreCounted types counts.now → is_inside (length counts.now) kind ≡ true
+        → IsCounted (inner_type types kind) result }
 {
     let Some(number) = kind.inner() else {
         return Counted::plain();

@@ -72,7 +72,8 @@ fn held(alloc: Global, types: &Types, kind: Kind, count: usize) -> Result<Vec<us
 
 /// All types, and `void` after them, with what they hold in their place.
 fn places(alloc: Global, types: &Types, count: usize) -> Result<Graph, Memory>
-    ensures { (s : Scene) (n : program_nodes.Nodes) → IsTypes s n types.now → length types.now.kinds ≡ count → IfOk result (IsPlaces s types.now.kinds count) }
+    ensures { (s : Scene) (n : program_nodes.Nodes) → IsTypes s n types.now → length types.now.kinds ≡ count
+        → IfOk result (IsPlaces s types.now.kinds count) }
 {
     let mut graph = Graph::new(alloc);
     for number in 0..count {
@@ -158,7 +159,8 @@ pub(crate) fn properties_of(
     types: &Types,
     count: usize,
 ) -> Result<Properties, Memory>
-    ensures { (s : Scene) (n : program_nodes.Nodes) → IsTypes s n types.now → length types.now.kinds ≡ count → IfOk result (AreProperties s types.now.kinds count) }
+    ensures { (s : Scene) (n : program_nodes.Nodes) → IsTypes s n types.now → length types.now.kinds ≡ count
+        → IfOk result (AreProperties s types.now.kinds count) }
 {
     let graph = places(alloc, types, count)?;
     let hoists = hoists_rules(alloc, &types.kinds, count)?;

@@ -113,7 +113,8 @@ struct Own {
 
 /// Whether a type of this kind is a union without its tag.
 fn is_nonencapsulated(types: &Types, kind: Kind) -> bool
-    ensures { (s : Scene) (n : program_nodes.Nodes) → IsTypes s n types.now → result ≡ scene.is_nonencapsulated s (type_by (seen_types types.now.kinds) kind) }
+    ensures { (s : Scene) (n : program_nodes.Nodes) → IsTypes s n types.now
+        → result ≡ scene.is_nonencapsulated s (type_by (seen_types types.now.kinds) kind) }
 {
     let Kind::Union { file, at } = kind else {
         return false;
@@ -202,7 +203,8 @@ fn is_deep_array(kind: Kind, too_deep: bool) -> bool
 
 /// Whether an array of this kind has a wrong element, where that hoists or is barred elsewhere.
 fn has_wrong_element(types: &Types, kind: Kind, properties: &Properties) -> bool
-    ensures { (s : Scene) (count : ℕ) → length types.now.kinds ≡ count → is_inside count kind ≡ true → AreProperties s types.now.kinds count properties.now
+    ensures { (s : Scene) (count : ℕ) → length types.now.kinds ≡ count → is_inside count kind ≡ true
+        → AreProperties s types.now.kinds count properties.now
         → result ≡ arrays.has_wrong_element s (type_by (seen_types types.now.kinds) kind) }
 {
     let Kind::Array { element, .. } = kind else {
@@ -223,7 +225,8 @@ fn holds(property: &Vec<bool>, number: usize) -> bool
 
 /// Whether a pipe of this kind is of what no pipe may hold.
 fn is_wrong_pipe(types: &Types, kind: Kind, properties: &Properties) -> bool
-    ensures { (s : Scene) (count : ℕ) → length types.now.kinds ≡ count → is_inside count kind ≡ true → AreProperties s types.now.kinds count properties.now
+    ensures { (s : Scene) (count : ℕ) → length types.now.kinds ≡ count → is_inside count kind ≡ true
+        → AreProperties s types.now.kinds count properties.now
         → result ≡ arrays.is_wrong_pipe s (type_by (seen_types types.now.kinds) kind) }
 {
     let Kind::Pipe { element } = kind else {

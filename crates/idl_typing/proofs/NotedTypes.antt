@@ -49,7 +49,8 @@ pub noted_within : (ks : List Kind) (n : ℕ) (t : IdlType) (x : Typed) → Stan
 noted_within ks n t x stands is = let within = within_stands ks n t stands in subst (AreTypedWithin (length ks)) (sym is) (within, within)
 
 -- a declarator with its list, where kinds come between
-pub listed_is : (known : Known) (table : List (List ℕ × ℕ)) (first second third last : List Kind) (list : List Declared) (d : Declared) (index : ℕ) (none wrong wrong_switch : Bool) (declared_as of : ℕ)
+pub listed_is : (known : Known) (table : List (List ℕ × ℕ)) (first second third last : List Kind) (list : List Declared) (d : Declared) (index : ℕ) (none wrong wrong_switch : Bool)
+    (declared_as of : ℕ)
     → are_within (length first) table ≡ true → Keeps first second → Keeps second third
     → none ≡ has_no_variable (use_of known (seen_names first table) list index d)
     → wrong ≡ has_wrong_variable (bare known) (use_of known (seen_names first table) list index d)

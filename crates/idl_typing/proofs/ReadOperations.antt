@@ -160,6 +160,7 @@ operations_next known n i ks noted it o t here at h is parameters below =
     let e = called_front_next known n i it here ∙ ap (λ p. called_front known n i ++ called_list p) at in
     subst (λ (front : List Called). OperationsOver known n front ks (noted ++ t ∷ [])) (sym e) (operations_more known n (called_front known n i) ks noted o t h is parameters below)
 
-pub not_operation : {A : Type 0} (lists : List (Vec declared.Declared A)) (names : Names) (it : program_node.Node) → ((r : _) (parameters : ℕ) → it ≡ node.Operation r parameters → ⊥) → called_at lists names (Some it) ≡ None
+pub not_operation : {A : Type 0} (lists : List (Vec declared.Declared A)) (names : Names) (it : program_node.Node) → ((r : _) (parameters : ℕ) → it ≡ node.Operation r parameters → ⊥)
+    → called_at lists names (Some it) ≡ None
 not_operation lists names (node.Operation r parameters) h = absurd (h r parameters refl)
 not_operation lists names it h = refl

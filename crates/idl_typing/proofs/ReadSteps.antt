@@ -1,5 +1,6 @@
 -- One more node is read.
-use Rattle.std.proofs.Common.{◌≡◌, ℕ, zero, suc, ◌+◌, ◌<◌, ◌≤◌, Bool, true, false, cond, ◌&&◌, ltb, List, [], ◌∷◌, ◌++◌, map, length, Option, Some, None, option_map, is_some, slice_get, refl, sym, ap, ◌∙◌, subst, arith, Vec}
+use Rattle.std.proofs.Common.{◌≡◌, ℕ, zero, suc, ◌+◌, ◌<◌, ◌≤◌, Bool, true, false, cond, ◌&&◌, ltb, List, [], ◌∷◌, ◌++◌, map, length, Option, Some, None, option_map, is_some, slice_get, refl, sym, ap}
+use Rattle.std.proofs.Common.{◌∙◌, subst, arith, Vec}
 use Rattle.std.specs.List.{list_all}
 use Rattle.std.specs.Str.{bytes_eq}
 use Rattle.std.proofs.lemmas.Option.{none-some, same_Some, slice_get_within, slice_get_past}
@@ -169,7 +170,8 @@ declare_agree InOperation ks a table name u of same type = same
 
 node_agree : {A : Type 0} (known : Known) (ks : List Kind) (a : Names) (table : List (List ℕ × ℕ)) (lists : List (Vec declared.Declared A)) (it : program_node.Node) (t : Typed)
     → Same a (seen_names ks table) → IsTyped (bare known) a ks lists it t → Same (names_behind_node known a it) (seen_names ks (names_with table it t.of))
-node_agree known ks a table lists (node.Declarator list index d) t same h = declare_agree (seen_declared d).construct.position ks a table d.declarator.now.name.octets (type_of known a (seen_declared d)) t.of same h.of
+node_agree known ks a table lists (node.Declarator list index d) t same h =
+    declare_agree (seen_declared d).construct.position ks a table d.declarator.now.name.octets (type_of known a (seen_declared d)) t.of same h.of
 node_agree known ks a table lists (node.Result r) t same h = declare_agree (seen_result r).construct.position ks a table r.name.now.octets (type_of known a (seen_result r)) t.of same h.of
 node_agree known ks a table lists (node.Switch c of) t same h = same
 node_agree known ks a table lists (node.Tag c kind tag) t same h = same
@@ -217,7 +219,8 @@ node_within n table (node.Constant c of' star value) of h below = h
 node_within n table (node.Type c of') of h below = h
 node_within n table (node.Operation r parameters) of h below = h
 
-pub names_read_keeps : (known : Known) (n : program_nodes.Nodes) (i : ℕ) (old new : List Kind) (names : List (List ℕ × ℕ)) → Keeps old new → NamesRead known n i old names → NamesRead known n i new names
+pub names_read_keeps : (known : Known) (n : program_nodes.Nodes) (i : ℕ) (old new : List Kind) (names : List (List ℕ × ℕ)) → Keeps old new → NamesRead known n i old names
+    → NamesRead known n i new names
 names_read_keeps known n i old new names keeps h = record {
   within = are_within-keeps old new names keeps h.within;
   agree = λ x. h.agree x ∙ ap (found x) (sym (seen_names-keeps old new names keeps h.within));

@@ -1,5 +1,6 @@
 -- Types that a variable may have.
-use Rattle.std.proofs.Common.{◌≡◌, ℕ, zero, suc, ◌+◌, ◌<◌, ◌≤◌, Bool, true, false, ◌&&◌, ◌||◌, eqb, not, List, [], ◌∷◌, map, length, Option, Some, None, slice_get, option_map, refl, sym, ap, ◌∙◌, arith}
+use Rattle.std.proofs.Common.{◌≡◌, ℕ, zero, suc, ◌+◌, ◌<◌, ◌≤◌, Bool, true, false, ◌&&◌, ◌||◌, eqb, not, List, [], ◌∷◌, map, length, Option, Some, None, slice_get, option_map, refl, sym, ap, ◌∙◌}
+use Rattle.std.proofs.Common.{arith}
 use Rattle.std.proofs.lemmas.Option.{none-some, same_Some}
 use Rattle.nd_types.specs.declared.types.Primitive.{Primitive}
 use Rattle.nd_types.specs.Kinds.{is_integer_prim, is_switch_prim}
@@ -11,7 +12,9 @@ use Rattle.idl_typing.specs.declared.variables.Wanted.{Wanted}
 use Rattle.idl_typing.specs.declared.variables.Wanted.TheVariants as wanted
 use Rattle.idl_rule_definitions.specs.Attributes.{has, has_one_of, class_in, string_word, context_handle_word, sizes, lengths}
 use Rattle.idl_rule_definitions.specs.Nodes.{Declared}
-use Rattle.idl_rule_definitions.specs.Types.{IdlType, Void, Handle, ContextHandle, Basic, Struct, Union, Enum, Array, Text, Pointer, Pipe, Names, is_void, with_stars, with_dimensions, outermost_class, array_with, pointee_with, text_of, sized, class_or, with_attributes, is_one_star, is_empty, is_context_handle, type_before, declared_from, declared_type, type_of, with_declarator, count_of}
+use Rattle.idl_rule_definitions.specs.Types.{IdlType, Void, Handle, ContextHandle, Basic, Struct, Union, Enum, Array, Text, Pointer, Pipe, Names, is_void, with_stars, with_dimensions, outermost_class}
+use Rattle.idl_rule_definitions.specs.Types.{array_with, pointee_with, text_of, sized, class_or, with_attributes, is_one_star, is_empty, is_context_handle, type_before, declared_from, declared_type}
+use Rattle.idl_rule_definitions.specs.Types.{type_of, with_declarator, count_of}
 use Rattle.idl_rule_definitions.specs.VariableRules.{is_integer, may_be_switched, passes, Listed, listed_from}
 use Rattle.idl_declared_types.specs.Kinds.{basic_in}
 use Rattle.idl_typing.specs.Lookups.{wanted_test, is_enumerated}
@@ -136,7 +139,8 @@ pub dimensions_fail : (known : Known) (names : Names) (d : Declared) (w : Wanted
 dimensions_fail known names d w star parameter b bs h =
     let t = type_before known names d in
     let inner = with_stars d.construct.default (outermost_class d.construct d.declarator.dimensions) t d.declarator.stars in
-    let plain = plain_declared known names d (no_dimension (has context_handle_word d.construct.attributes) (is_one_star d.declarator.stars) (is_empty d.declarator.dimensions) (is_void t) (ap is_empty h)) in
+    let plain =
+    plain_declared known names d (no_dimension (has context_handle_word d.construct.attributes) (is_one_star d.declarator.stars) (is_empty d.declarator.dimensions) (is_void t) (ap is_empty h)) in
     ap (λ u. passes (wanted_test w) parameter star (with_attributes d.construct.attributes u)) (plain ∙ ap (with_dimensions known inner) h)
     ∙ array_with_fails d.construct.attributes w parameter star (with_dimensions known inner bs) (count_of known b) false
 
@@ -145,7 +149,8 @@ pub many_stars_fail : (known : Known) (names : Names) (d : Declared) (w : Wanted
 many_stars_fail known names d w star parameter s r stars h none =
     let t = type_before known names d in
     let outermost = outermost_class d.construct d.declarator.dimensions in
-    let plain = plain_declared known names d (no_and (has context_handle_word d.construct.attributes) (is_one_star d.declarator.stars) (is_empty d.declarator.dimensions) (is_void t) (ap is_one_star h)) in
+    let plain =
+    plain_declared known names d (no_and (has context_handle_word d.construct.attributes) (is_one_star d.declarator.stars) (is_empty d.declarator.dimensions) (is_void t) (ap is_one_star h)) in
     ap (λ u. passes (wanted_test w) parameter star (with_attributes d.construct.attributes u))
     (plain ∙ ap (with_dimensions known (with_stars d.construct.default outermost t d.declarator.stars)) none ∙ ap (with_stars d.construct.default outermost t) h)
     ∙ stars_fail d.construct.attributes w parameter star d.construct.default outermost t s r stars

@@ -43,7 +43,8 @@ abbrev pub and_place : List (Place × ℕ) → Place → ℕ → List (Place × 
 and_place places place number = elim (is_some (found_place place places)) [ true ↦ places | false ↦ places ++ (place, number) ∷ [] ]
 
 -- what is noted of these bodies
-pub record BodiesOver (known : Known) (n : program_nodes.Nodes) (front : List Body) (ks : List Kind) (noted : List BodyTypes) (places : List (Place × ℕ)) : Type 0 where
+pub record BodiesOver (known : Known) (n : program_nodes.Nodes) (front : List Body) (ks : List Kind) (noted : List BodyTypes)
+    (places : List (Place × ℕ)) : Type 0 where
   pub count : length noted ≡ length front
   pub body : (j : ℕ) (body : Body) (b : BodyTypes) → slice_get front j ≡ Some body → slice_get noted j ≡ Some b → IsBody (bare known) n ks body b
   pub within : (j : ℕ) (b : BodyTypes) → slice_get noted j ≡ Some b → are_below (length ks) b.parts.items ≡ true
@@ -78,9 +79,11 @@ abbrev pub called_front : Known → program_nodes.Nodes → ℕ → List Called
 called_front known n i = called_in (scoped_front known n i)
 
 -- what is noted of these operations
-pub record OperationsOver (known : Known) (n : program_nodes.Nodes) (front : List Called) (ks : List Kind) (noted : List OperationTypes) : Type 0 where
+pub record OperationsOver (known : Known) (n : program_nodes.Nodes) (front : List Called) (ks : List Kind)
+    (noted : List OperationTypes) : Type 0 where
   pub count : length noted ≡ length front
-  pub operation : (j : ℕ) (o : Called) (t : OperationTypes) → slice_get front j ≡ Some o → slice_get noted j ≡ Some t → IsOperation (bare known) n ks o t
+  pub operation : (j : ℕ) (o : Called) (t : OperationTypes) → slice_get front j ≡ Some o → slice_get noted j ≡ Some t
+      → IsOperation (bare known) n ks o t
   pub parameters : (j : ℕ) (t : OperationTypes) → slice_get noted j ≡ Some t → are_below (length ks) t.parameters.items ≡ true
   pub result : (j : ℕ) (t : OperationTypes) → slice_get noted j ≡ Some t → t.result < length ks
 

@@ -6,7 +6,8 @@ ghost use Rattle.idl_rule_definitions.specs.Types.{IdlType, Names};
 ghost use Rattle.idl_typing.specs.Lookups.{AreTables};
 ghost use Rattle.idl_typing.specs.ReadTypes.{and_place, is_tag_below, NamesRead, BodiesRead, TagsRead, OperationsRead, AreRead};
 ghost use Rattle.idl_type_numbers.specs.SeenOperations.{HasTags, HasOperations};
-ghost use Rattle.idl_rule_definitions.specs.Scene.{place_of_type, is_nonencapsulated_body, parts_declared, enumerators_in, tag_written, tag_type, type_of_body, use_of};
+ghost use Rattle.idl_rule_definitions.specs.Scene.{place_of_type, is_nonencapsulated_body, parts_declared, enumerators_in, tag_written, tag_type};
+ghost use Rattle.idl_rule_definitions.specs.Scene.{type_of_body, use_of};
 ghost use Rattle.idl_declared_types.specs.LabelValues.{Holds, values_of};
 ghost use Rattle.idl_declared_types.specs.Kinds.{type_by, type_at, is_inside, Keeps};
 ghost use Rattle.idl_declared_types.specs.SeenNames.{are_below, seen_names, are_within, and_name, declared_in, names_with};
@@ -48,7 +49,8 @@ fn place_of(construct: &Construct, body: &TypeSpec) -> Place
 
 /// What a body defines.
 fn body_kind(construct: &Construct, body: &TypeSpec) -> Kind
-    ensures seen { (names : Names) (ts : List IdlType) → type_by ts result ≡ type_of_body (record { construct = seen_construct construct.now; names = names; body = seen_type body.now }) }
+    ensures seen { (names : Names) (ts : List IdlType)
+        → type_by ts result ≡ type_of_body (record { construct = seen_construct construct.now; names = names; body = seen_type body.now }) }
     ensures inside { (n : ℕ) → is_inside n result ≡ true }
 {
     let place = place_of(construct, body);
@@ -74,7 +76,8 @@ fn tag_said<'t>(construct: &Construct<'t>, body: &'t TypeSpec) -> Option<&'t Swi
 
 /// What is noted of a node that is no declarator.
 fn note(of: usize) -> Typed
-    ensures { result ≡ record { declared_as = of; of = of; has_tag = false; no_variable = false; wrong_variable = false; wrong_switch_variable = false } }
+    ensures { result
+        ≡ record { declared_as = of; of = of; has_tag = false; no_variable = false; wrong_variable = false; wrong_switch_variable = false } }
 {
     Typed {
         declared_as: of,
@@ -94,8 +97,10 @@ pub(crate) fn note_declared(
     it: &Declared,
 ) -> Result<Typed, Memory>
     requires { are_within (length kinds.old) names.now ≡ true }
-    ensures declared_as { IfOk result (λ t. type_at kinds.new t.declared_as ≡ types.declared_type (known_in scope.now) (seen_names kinds.old names.now) (seen_declared it.now)) }
-    ensures of { IfOk result (λ t. type_at kinds.new t.of ≡ types.type_of (known_in scope.now) (seen_names kinds.old names.now) (seen_declared it.now)) }
+    ensures declared_as { IfOk result
+        (λ t. type_at kinds.new t.declared_as ≡ types.declared_type (known_in scope.now) (seen_names kinds.old names.now) (seen_declared it.now)) }
+    ensures of { IfOk result
+        (λ t. type_at kinds.new t.of ≡ types.type_of (known_in scope.now) (seen_names kinds.old names.now) (seen_declared it.now)) }
     ensures within { IfOk result (AreTypedWithin (length kinds.new)) }
     ensures keeps { Keeps kinds.old kinds.new }
 {
@@ -123,7 +128,10 @@ fn note_listed(
 ) -> Result<Typed, Memory>
     requires within { are_within (length kinds.old) names.now ≡ true }
     requires tables { AreTables tables.now nodes.now.lists.items }
-    ensures typed { IfOk result (λ t. IsTypedUse (bare (known_in scope.now)) kinds.new (use_of (known_in scope.now) (seen_names kinds.old names.now) (list_at nodes.now.lists.items slot.list) slot.index (seen_declared it.now)) t) }
+    ensures typed { IfOk result
+        (λ t. IsTypedUse (bare (known_in scope.now)) kinds.new
+        (use_of (known_in scope.now) (seen_names kinds.old names.now) (list_at nodes.now.lists.items slot.list) slot.index
+        (seen_declared it.now)) t) }
     ensures within { IfOk result (AreTypedWithin (length kinds.new)) }
     ensures keeps { Keeps kinds.old kinds.new }
 {
@@ -151,7 +159,9 @@ fn note_result(
     it: &Returned,
 ) -> Result<Typed, Memory>
     requires { are_within (length kinds.old) names.now ≡ true }
-    ensures typed { IfOk result (λ t. IsTypedUse (bare (known_in scope.now)) kinds.new (use_of (known_in scope.now) (seen_names kinds.old names.now) [] 0 (seen_result it.now)) t) }
+    ensures typed { IfOk result
+        (λ t. IsTypedUse (bare (known_in scope.now)) kinds.new
+        (use_of (known_in scope.now) (seen_names kinds.old names.now) [] 0 (seen_result it.now)) t) }
     ensures within { IfOk result (AreTypedWithin (length kinds.new)) }
     ensures keeps { Keeps kinds.old kinds.new }
 {
@@ -167,7 +177,8 @@ fn note_labels(
     body: &TypeSpec,
 ) -> Result<Typed, Memory>
     requires { are_within (length kinds.old) names.now ≡ true }
-    ensures typed { IfOk result (λ t. tag_seen kinds.new t ≡ tag_type (seen_construct construct.now) (seen_names kinds.old names.now) (seen_type body.now)) }
+    ensures typed { IfOk result
+        (λ t. tag_seen kinds.new t ≡ tag_type (seen_construct construct.now) (seen_names kinds.old names.now) (seen_type body.now)) }
     ensures within { IfOk result (AreTypedWithin (length kinds.new)) }
     ensures keeps { Keeps kinds.old kinds.new }
 {
@@ -260,7 +271,9 @@ fn note_tag(
 
 /// What is noted of a body.
 fn note_body(kinds: &mut Kinds, construct: &Construct, body: &TypeSpec) -> Result<Typed, Memory>
-    ensures typed { IfOk result (λ t. (names : Names) → type_at kinds.new t.of ≡ type_of_body (record { construct = seen_construct construct.now; names = names; body = seen_type body.now })) }
+    ensures typed { IfOk result
+        (λ t. (names : Names)
+        → type_at kinds.new t.of ≡ type_of_body (record { construct = seen_construct construct.now; names = names; body = seen_type body.now })) }
     ensures within { IfOk result (AreTypedWithin (length kinds.new)) }
     ensures keeps { Keeps kinds.old kinds.new }
 {
@@ -323,7 +336,9 @@ fn part_types(
     parts: &[Declared],
 ) -> Result<Vec<usize>, Memory>
     requires { are_within (length kinds.old) names.now ≡ true }
-    ensures types { IfOk result (λ v. map (type_at kinds.new) v.items ≡ map (types.type_of (known_in scope.now) (seen_names kinds.old names.now)) (map seen_declared parts.now)) }
+    ensures types { IfOk result
+        (λ v. map (type_at kinds.new) v.items
+        ≡ map (types.type_of (known_in scope.now) (seen_names kinds.old names.now)) (map seen_declared parts.now)) }
     ensures within { IfOk result (λ v. are_below (length kinds.new) v.items ≡ true) }
     ensures keeps { Keeps kinds.old kinds.new }
 {
@@ -354,7 +369,8 @@ fn tag_number(
     body: &TypeSpec,
 ) -> Result<Option<usize>, Memory>
     requires { are_within (length kinds.old) names.now ≡ true }
-    ensures tag { IfOk result (λ o. option_map (type_at kinds.new) o ≡ tag_type (seen_construct construct.now) (seen_names kinds.old names.now) (seen_type body.now)) }
+    ensures tag { IfOk result
+        (λ o. option_map (type_at kinds.new) o ≡ tag_type (seen_construct construct.now) (seen_names kinds.old names.now) (seen_type body.now)) }
     ensures within { IfOk result (λ o. is_tag_below (length kinds.new) o ≡ true) }
     ensures keeps { Keeps kinds.old kinds.new }
 {
@@ -380,9 +396,11 @@ fn body_types(
     ensures nonencapsulated { IfOk result (λ b. b.nonencapsulated ≡ is_nonencapsulated_body (seen_type body.now)) }
     ensures node { IfOk result (λ b. b.node ≡ node) }
     ensures parts { IfOk result (λ b. map (type_at kinds.new) b.parts.items
-        ≡ map (types.type_of (known_in scope.now) (seen_names kinds.old names.now)) (parts_declared (seen_construct construct.now) (seen_type body.now))) }
+        ≡ map (types.type_of (known_in scope.now) (seen_names kinds.old names.now))
+        (parts_declared (seen_construct construct.now) (seen_type body.now))) }
     ensures within { IfOk result (λ b. are_below (length kinds.new) b.parts.items ≡ true) }
-    ensures tag { IfOk result (λ b. option_map (type_at kinds.new) b.tag ≡ tag_type (seen_construct construct.now) (seen_names kinds.old names.now) (seen_type body.now)) }
+    ensures tag { IfOk result
+        (λ b. option_map (type_at kinds.new) b.tag ≡ tag_type (seen_construct construct.now) (seen_names kinds.old names.now) (seen_type body.now)) }
     ensures tag_within { IfOk result (λ b. is_tag_below (length kinds.new) b.tag ≡ true) }
     ensures values { IfOk result (λ b. Holds b.values (values_of (known_in scope.now) (enumerators_in (seen_type body.now)))) }
     ensures keeps { Keeps kinds.old kinds.new }
@@ -471,7 +489,9 @@ fn parameter_types(
     list: usize,
 ) -> Result<Vec<usize>, Memory>
     requires { are_within (length kinds.old) names.now ≡ true }
-    ensures types { IfOk result (λ v. map (type_at kinds.new) v.items ≡ map (types.type_of (known_in scope.now) (seen_names kinds.old names.now)) (list_at nodes.now.lists.items list)) }
+    ensures types { IfOk result
+        (λ v. map (type_at kinds.new) v.items
+        ≡ map (types.type_of (known_in scope.now) (seen_names kinds.old names.now)) (list_at nodes.now.lists.items list)) }
     ensures within { IfOk result (λ v. are_below (length kinds.new) v.items ≡ true) }
     ensures keeps { Keeps kinds.old kinds.new }
 {

@@ -92,7 +92,9 @@ fn is_no_other(nodes: &Nodes, tables: &[Table<usize>], slot: Slot, variable: &Va
 /// Whether an attribute's variable is no other member or parameter of the same list.
 fn says_no_other(nodes: &Nodes, tables: &[Table<usize>], slot: Slot, attribute: &Attribute) -> bool
     requires { AreTables tables.now nodes.now.lists.items }
-    ensures { result ≡ list_any (no_other (list_at nodes.now.lists.items slot.list) slot.index) (variable_if (switch_is_word ∷ sizes ++ lengths) (variable_said (seen_kind attribute.now.kind))) }
+    ensures { result
+        ≡ list_any (no_other (list_at nodes.now.lists.items slot.list) slot.index)
+        (variable_if (switch_is_word ∷ sizes ++ lengths) (variable_said (seen_kind attribute.now.kind))) }
 {
     match &attribute.kind {
         AttributeKind::Of(_, variable) => is_no_other(nodes, tables, slot, variable),
@@ -108,7 +110,8 @@ pub(crate) fn has_no_variable(
     it: &Declared,
 ) -> bool
     requires { AreTables tables.now nodes.now.lists.items }
-    ensures { (known : Known) (names : Names) → result ≡ has_no_variable (use_of known names (list_at nodes.now.lists.items slot.list) slot.index (seen_declared it.now)) }
+    ensures { (known : Known) (names : Names)
+        → result ≡ has_no_variable (use_of known names (list_at nodes.now.lists.items slot.list) slot.index (seen_declared it.now)) }
 {
     for attribute in it.construct.attributes {
         if says_no_other(nodes, tables, slot, attribute) {
@@ -242,7 +245,9 @@ fn is_found_right(
     wanted: Wanted,
 ) -> Result<bool, Memory>
     requires { are_within (length kinds.old) names.now ≡ true }
-    ensures right { IfOk result (λ b. b ≡ passes_it (known_in scope.now) (seen_names kinds.old names.now) (wanted_test wanted) star (option_map (λ d. seen_declared d.now) found.entry)) }
+    ensures right { IfOk result
+        (λ b. b ≡ passes_it (known_in scope.now) (seen_names kinds.old names.now) (wanted_test wanted) star
+        (option_map (λ d. seen_declared d.now) found.entry)) }
     ensures keeps { Keeps kinds.old kinds.new }
 {
     match found {
@@ -263,7 +268,8 @@ fn says_wrong(
 ) -> Result<bool, Memory>
     requires within { are_within (length kinds.old) names.now ≡ true }
     requires tables { AreTables tables.now nodes.now.lists.items }
-    ensures wrong { IfOk result (λ b. b ≡ list_any (fails_in (known_in scope.now) (seen_names kinds.old names.now) rules.is_integer (list_at nodes.now.lists.items list))
+    ensures wrong { IfOk result
+        (λ b. b ≡ list_any (fails_in (known_in scope.now) (seen_names kinds.old names.now) rules.is_integer (list_at nodes.now.lists.items list))
         (variable_if (sizes ++ lengths) (variable_said (seen_kind attribute.now.kind)))) }
     ensures keeps { Keeps kinds.old kinds.new }
 {
@@ -290,7 +296,8 @@ fn says_wrong_switch(
 ) -> Result<bool, Memory>
     requires within { are_within (length kinds.old) names.now ≡ true }
     requires tables { AreTables tables.now nodes.now.lists.items }
-    ensures wrong { IfOk result (λ b. b ≡ list_any (fails_in (known_in scope.now) (seen_names kinds.old names.now) rules.may_be_switched (list_at nodes.now.lists.items list))
+    ensures wrong { IfOk result
+        (λ b. b ≡ list_any (fails_in (known_in scope.now) (seen_names kinds.old names.now) rules.may_be_switched (list_at nodes.now.lists.items list))
         (variable_if (switch_is_word ∷ []) (variable_said (seen_kind attribute.now.kind)))) }
     ensures keeps { Keeps kinds.old kinds.new }
 {
@@ -316,7 +323,9 @@ pub(crate) fn has_wrong_variable(
 ) -> Result<bool, Memory>
     requires within { are_within (length kinds.old) names.now ≡ true }
     requires tables { AreTables tables.now nodes.now.lists.items }
-    ensures wrong { IfOk result (λ b. b ≡ has_wrong_variable (bare (known_in scope.now)) (use_of (known_in scope.now) (seen_names kinds.old names.now) (list_at nodes.now.lists.items slot.list) slot.index (seen_declared it.now))) }
+    ensures wrong { IfOk result
+        (λ b. b ≡ has_wrong_variable (bare (known_in scope.now))
+        (use_of (known_in scope.now) (seen_names kinds.old names.now) (list_at nodes.now.lists.items slot.list) slot.index (seen_declared it.now))) }
     ensures keeps { Keeps kinds.old kinds.new }
 {
     for attribute in it.construct.attributes {
@@ -339,7 +348,9 @@ pub(crate) fn has_wrong_switch_variable(
 ) -> Result<bool, Memory>
     requires within { are_within (length kinds.old) names.now ≡ true }
     requires tables { AreTables tables.now nodes.now.lists.items }
-    ensures wrong { IfOk result (λ b. b ≡ has_wrong_switch_variable (bare (known_in scope.now)) (use_of (known_in scope.now) (seen_names kinds.old names.now) (list_at nodes.now.lists.items slot.list) slot.index (seen_declared it.now))) }
+    ensures wrong { IfOk result
+        (λ b. b ≡ has_wrong_switch_variable (bare (known_in scope.now))
+        (use_of (known_in scope.now) (seen_names kinds.old names.now) (list_at nodes.now.lists.items slot.list) slot.index (seen_declared it.now))) }
     ensures keeps { Keeps kinds.old kinds.new }
 {
     for attribute in it.construct.attributes {

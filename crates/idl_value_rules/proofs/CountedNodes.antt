@@ -163,7 +163,8 @@ four : (w : World) (a b c d : List Construct) (zeroth first second third fourth 
     → first ≡ noted w zeroth (map one_too_many a) → second ≡ noted w first (map one_too_many b) → third ≡ noted w second (map one_too_many c) → fourth ≡ noted w third (map one_too_many d)
     → fourth ≡ noted w zeroth (map one_too_many (a ++ b ++ c ++ d))
 four w a b c d zeroth first second third fourth e f g h =
-    h ∙ ap (λ o. noted w o (map one_too_many d)) (g ∙ ap (λ o. noted w o (map one_too_many c)) (f ∙ ap (λ o. noted w o (map one_too_many b)) e ∙ both a b) ∙ both (a ++ b) c) ∙ both (a ++ b ++ c) d where
+    h ∙ ap (λ o. noted w o (map one_too_many d)) (g ∙ ap (λ o. noted w o (map one_too_many c)) (f ∙ ap (λ o. noted w o (map one_too_many b)) e ∙ both a b) ∙ both (a ++ b) c)
+    ∙ both (a ++ b ++ c) d where
       both : (l k : List Construct) → noted w (noted w zeroth (map one_too_many l)) (map one_too_many k) ≡ noted w zeroth (map one_too_many (l ++ k))
       both l k = sym (noted_more w zeroth (map one_too_many l) (map one_too_many k)) ∙ ap (noted w zeroth) (sym (map-append one_too_many l k))
 
@@ -177,7 +178,8 @@ pub all_too_many : (w : World) (known : Known) (ks : List Kind) (n : program_nod
 all_too_many w known ks n t types operations parameters parts zeroth first second third fourth are e f g h =
     let s = scene_seen known n in
     let lists = n.lists.items in
-    four w (first_past types (map (λ m. m.construct) (own_types s))) (first_past operations (flat_map (λ m. operation_in m.node) s.nodes)) (flat_map (λ m. first_past parameters (parameters_in m.node)) s.nodes)
+    four w (first_past types (map (λ m. m.construct) (own_types s))) (first_past operations (flat_map (λ m. operation_in m.node) s.nodes))
+    (flat_map (λ m. first_past parameters (parameters_in m.node)) s.nodes)
     (first_past parts (flat_map (λ m. part_in m.node) s.nodes)) zeroth first second third fourth
     (e ∙ ap (noted w zeroth) (sym (types_are ks types (own_types s) t.own.items are.own)))
     (f ∙ ap (λ l. noted w first (map one_too_many (first_past operations l)))

@@ -1,5 +1,6 @@
 -- The least value of a body that contains itself is the least key of a node of the graph of bodies that does.
-use Rattle.std.proofs.Common.{◌≡◌, ◌∙◌, ◌⊎◌, inl, inr, ℕ, zero, suc, ◌<◌, ◌≤◌, Bool, true, false, eqb, ◌||◌, List, [], ◌∷◌, ◌++◌, length, get_or, Option, Some, None, slice_get, refl, ap, sym, arith, true≢false}
+use Rattle.std.proofs.Common.{◌≡◌, ◌∙◌, ◌⊎◌, inl, inr, ℕ, zero, suc, ◌<◌, ◌≤◌, Bool, true, false, eqb, ◌||◌, List, [], ◌∷◌, ◌++◌, length, get_or, Option, Some, None, slice_get, refl, ap, sym, arith}
+use Rattle.std.proofs.Common.{true≢false}
 use Rattle.std.specs.Prelude.{slice_index}
 use Rattle.std.specs.List.{list_any}
 use Rattle.std.specs.Option.{option_and_then}
@@ -112,7 +113,8 @@ module _ (s : Scene) (n : program_nodes.Nodes) (t : program_types.Types) (is : I
         let two = key.least j (omega (arith, l, m, size)) (sym (itself_by_first c b j found there same) ∙ has) in
         omega (arith, one, two)
 
-    with_value : (b : Body) → contains_itself s b ≡ true → (i : ℕ) × (c : Body) × (slice_get (bodies s) i ≡ Some c) × (place_of c ≡ place_of b) × (slice_get values i ≡ Some v) → IsLeastOf s values (Some v)
+    with_value : (b : Body) → contains_itself s b ≡ true → (i : ℕ) × (c : Body) × (slice_get (bodies s) i ≡ Some c) × (place_of c ≡ place_of b) × (slice_get values i ≡ Some v)
+        → IsLeastOf s values (Some v)
     with_value b has (i, c, at, same, valued) = record {
       number = i;
       body = c;
@@ -122,7 +124,8 @@ module _ (s : Scene) (n : program_nodes.Nodes) (t : program_types.Types) (is : I
       least = λ i d w at valued has. below_all i d w valued at has (first_of_place i d at);
     }
 
-    by : ((x : Body) × (key.node < length (bodies s)) × (slice_get (bodies s) key.node ≡ Some x) × (get_or (bodies s) key.node x ≡ x)) ⊎ ((length (bodies s) ≤ key.node) × (slice_get (bodies s) key.node ≡ None))
+    by : ((x : Body) × (key.node < length (bodies s)) × (slice_get (bodies s) key.node ≡ Some x) × (get_or (bodies s) key.node x ≡ x))
+        ⊎ ((length (bodies s) ≤ key.node) × (slice_get (bodies s) key.node ≡ None))
         → IsLeastOf s values (Some v)
     by (inl (b, below, there, _)) =
         let first = contained_is_first key.node b there key.contains in

@@ -43,10 +43,12 @@ first_number t number = option_and_then (λ (b : BodyTypes). found_place b.place
 pub record AreOfPlaces (s : Scene) (t : program_types.Types) (values least : List ℕ) : Type 0 where
   pub count : length least ≡ length values
   -- it is the value of a body of the place
-  pub is_value : (j : ℕ) (b : Body) (v : ℕ) → slice_get (bodies s) j ≡ Some b → found_place (place_of b) t.by_place ≡ Some j → slice_get least j ≡ Some v
+  pub is_value : (j : ℕ) (b : Body) (v : ℕ) → slice_get (bodies s) j ≡ Some b → found_place (place_of b) t.by_place ≡ Some j
+      → slice_get least j ≡ Some v
       → (i : ℕ) × (c : Body) × (slice_get (bodies s) i ≡ Some c) × (place_of c ≡ place_of b) × (slice_get values i ≡ Some v)
   -- no body of the place has a lesser one
-  pub no_less : (i : ℕ) (b : Body) (v j w : ℕ) → slice_get (bodies s) i ≡ Some b → slice_get values i ≡ Some v → found_place (place_of b) t.by_place ≡ Some j
+  pub no_less : (i : ℕ) (b : Body) (v j w : ℕ) → slice_get (bodies s) i ≡ Some b → slice_get values i ≡ Some v
+      → found_place (place_of b) t.by_place ≡ Some j
       → slice_get least j ≡ Some w → w ≤ v
 
 -- the key by which a breach of a body comes first

@@ -31,7 +31,8 @@ use nd_types::{BASIC_TYPES, MEMBER_LIMIT, OPERATION_LIMIT, PARAM_LIMIT, TYPE_LIM
 fn types(finder: &mut Finder<'_>, own: &[Own], limit: usize)
     ensures files { finder.new.files.now ≡ finder.old.files.now }
     ensures first { (w : World) → w.files ≡ seen_files finder.old.files.now
-        → option_map seen_breach finder.new.first ≡ noted w (option_map seen_breach finder.old.first) (map (λ o. breach Rule.COUNTS o.place) (first_past limit own.now)) }
+        → option_map seen_breach finder.new.first
+        ≡ noted w (option_map seen_breach finder.old.first) (map (λ o. breach Rule.COUNTS o.place) (first_past limit own.now)) }
 {
     if let Some(first) = own.get(limit) {
         finder.note(rule::COUNTS, first.place, true);
@@ -67,7 +68,8 @@ fn operation(finder: &mut Finder<'_>, node: &Node<'_>, due: usize) -> usize
     ensures due { result ≡ due - length (operations_at node.now) }
     ensures files { finder.new.files.now ≡ finder.old.files.now }
     ensures first { (w : World) → w.files ≡ seen_files finder.old.files.now
-        → option_map seen_breach finder.new.first ≡ noted w (option_map seen_breach finder.old.first) (map one_too_many (numbered due (operations_at node.now))) }
+        → option_map seen_breach finder.new.first
+        ≡ noted w (option_map seen_breach finder.old.first) (map one_too_many (numbered due (operations_at node.now))) }
 {
     match node {
         Node::Operation { it, .. } => pass(finder, &it.construct, 1, due),
@@ -92,7 +94,8 @@ fn operations(finder: &mut Finder<'_>, nodes: &[Node<'_>], number: usize)
 fn note_one(finder: &mut Finder<'_>, construct: &Construct<'_>)
     ensures files { finder.new.files.now ≡ finder.old.files.now }
     ensures first { (w : World) → w.files ≡ seen_files finder.old.files.now
-        → option_map seen_breach finder.new.first ≡ noted w (option_map seen_breach finder.old.first) (one_too_many (seen_construct construct.now) ∷ []) }
+        → option_map seen_breach finder.new.first
+        ≡ noted w (option_map seen_breach finder.old.first) (one_too_many (seen_construct construct.now) ∷ []) }
 {
     finder.note(rule::COUNTS, construct.place(construct.at), true);
 }
@@ -129,7 +132,8 @@ fn parameters(finder: &mut Finder<'_>, nodes: &Nodes<'_>, limit: usize)
     ensures files { finder.new.files.now ≡ finder.old.files.now }
     ensures first { (w : World) → w.files ≡ seen_files finder.old.files.now
         → option_map seen_breach finder.new.first
-        ≡ noted w (option_map seen_breach finder.old.first) (map one_too_many (flat_map (seen.parameters_at nodes.now.lists.items limit) nodes.now.items.items)) }
+        ≡ noted w (option_map seen_breach finder.old.first)
+        (map one_too_many (flat_map (seen.parameters_at nodes.now.lists.items limit) nodes.now.items.items)) }
 {
     for node in &nodes.items {
         parameters_at(finder, nodes, node, limit);
@@ -158,7 +162,9 @@ fn labels_in(
     ensures files { finder.new.files.now ≡ finder.old.files.now }
     ensures first { (w : World) → w.files ≡ seen_files finder.old.files.now
         → option_map seen_breach finder.new.first
-        ≡ noted w (option_map seen_breach finder.old.first) (map one_too_many (numbered number (replicate (length (of_rules.labels_in (map seen_attribute attributes.now))) (seen_construct construct.now)))) }
+        ≡ noted w (option_map seen_breach finder.old.first)
+        (map one_too_many
+        (numbered number (replicate (length (of_rules.labels_in (map seen_attribute attributes.now))) (seen_construct construct.now)))) }
 {
     let mut due = number;
     for attribute in attributes {
@@ -178,7 +184,11 @@ fn labels_of_arms(
     ensures files { finder.new.files.now ≡ finder.old.files.now }
     ensures first { (w : World) → w.files ≡ seen_files finder.old.files.now
         → option_map seen_breach finder.new.first
-        ≡ noted w (option_map seen_breach finder.old.first) (map one_too_many (numbered number (replicate (length (flat_map (λ a. a.labels) (of_rules.arms_of_arms (arms_of (map seen_arm arms.now.items))))) (seen_construct construct.now)))) }
+        ≡ noted w (option_map seen_breach finder.old.first)
+        (map one_too_many
+        (numbered number
+        (replicate (length (flat_map (λ a. a.labels) (of_rules.arms_of_arms (arms_of (map seen_arm arms.now.items)))))
+        (seen_construct construct.now)))) }
 {
     let mut due = number;
     for arm in arms {
@@ -205,7 +215,11 @@ fn labels_of_cases(
     ensures files { finder.new.files.now ≡ finder.old.files.now }
     ensures first { (w : World) → w.files ≡ seen_files finder.old.files.now
         → option_map seen_breach finder.new.first
-        ≡ noted w (option_map seen_breach finder.old.first) (map one_too_many (numbered number (replicate (length (flat_map (λ a. a.labels) (of_rules.arms_of_cases (cases_of (map seen_case cases.now.items))))) (seen_construct construct.now)))) }
+        ≡ noted w (option_map seen_breach finder.old.first)
+        (map one_too_many
+        (numbered number
+        (replicate (length (flat_map (λ a. a.labels) (of_rules.arms_of_cases (cases_of (map seen_case cases.now.items)))))
+        (seen_construct construct.now)))) }
 {
     let mut due = number;
     for case in cases {
@@ -220,7 +234,8 @@ fn labels(finder: &mut Finder<'_>, construct: &Construct<'_>, body: &TypeSpec, d
     ensures files { finder.new.files.now ≡ finder.old.files.now }
     ensures first { (w : World) → w.files ≡ seen_files finder.old.files.now
         → option_map seen_breach finder.new.first
-        ≡ noted w (option_map seen_breach finder.old.first) (map one_too_many (numbered due (replicate (length (of_rules.labels_of (seen_type body.now))) (seen_construct construct.now)))) }
+        ≡ noted w (option_map seen_breach finder.old.first)
+        (map one_too_many (numbered due (replicate (length (of_rules.labels_of (seen_type body.now))) (seen_construct construct.now)))) }
 {
     match body {
         TypeSpec::EncapsulatedUnion { cases, .. } => labels_of_cases(finder, construct, cases, due),
@@ -235,7 +250,8 @@ fn member(finder: &mut Finder<'_>, construct: &Construct<'_>, due: usize) -> usi
     ensures files { finder.new.files.now ≡ finder.old.files.now }
     ensures first { (w : World) → w.files ≡ seen_files finder.old.files.now
         → option_map seen_breach finder.new.first
-        ≡ noted w (option_map seen_breach finder.old.first) (map one_too_many (numbered due (rules.member_of (seen_construct construct.now).position (seen_construct construct.now)))) }
+        ≡ noted w (option_map seen_breach finder.old.first)
+        (map one_too_many (numbered due (rules.member_of (seen_construct construct.now).position (seen_construct construct.now)))) }
 {
     match construct.position {
         Position::Member => pass(finder, construct, 1, due),
@@ -248,7 +264,8 @@ fn part(finder: &mut Finder<'_>, node: &Node<'_>, due: usize) -> usize
     ensures due { result ≡ due - length (parts_at node.now) }
     ensures files { finder.new.files.now ≡ finder.old.files.now }
     ensures first { (w : World) → w.files ≡ seen_files finder.old.files.now
-        → option_map seen_breach finder.new.first ≡ noted w (option_map seen_breach finder.old.first) (map one_too_many (numbered due (parts_at node.now))) }
+        → option_map seen_breach finder.new.first
+        ≡ noted w (option_map seen_breach finder.old.first) (map one_too_many (numbered due (parts_at node.now))) }
 {
     match node {
         Node::Declarator { it, .. } => member(finder, &it.construct, due),
@@ -274,7 +291,8 @@ fn parts(finder: &mut Finder<'_>, nodes: &[Node<'_>], number: usize)
 /// Notes the first type, the first operation, the first parameter of each operation, and the first member or label that are one too many.
 pub fn too_many(finder: &mut Finder<'_>, nodes: &Nodes<'_>, numbers: &Numbers)
     ensures files { finder.new.files.now ≡ finder.old.files.now }
-    ensures first { (w : World) (known : Known) (ks : List program_kind) → w.files ≡ seen_files finder.old.files.now → AreNumbers (scene_seen known nodes.now) ks numbers.now
+    ensures first { (w : World) (known : Known) (ks : List program_kind) → w.files ≡ seen_files finder.old.files.now
+        → AreNumbers (scene_seen known nodes.now) ks numbers.now
         → option_map seen_breach finder.new.first
         ≡ noted w (option_map seen_breach finder.old.first) (map one_too_many (rules.too_many (scene_seen known nodes.now))) }
 {

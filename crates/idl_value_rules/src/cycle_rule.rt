@@ -1,5 +1,6 @@
 // Rule 11: no struct or union contains itself in place (C706, section 4.2.8).
-ghost use Rattle.std.specs.Prelude.{◌≡◌, ◌+◌, ◌*◌, ℕ, List, ◌∷◌, [], map, Some, None, true, length, min, option_map, slice_get, slice_index_or, slice_set, IfOk, OnOk};
+ghost use Rattle.std.specs.Prelude.{◌≡◌, ◌+◌, ◌*◌, ℕ, List, ◌∷◌, [], map, Some, None, true, length, min, option_map, slice_get, slice_index_or};
+ghost use Rattle.std.specs.Prelude.{slice_set, IfOk, OnOk};
 ghost use Rattle.std.specs.List.{flat_map};
 ghost use Rattle.idl_scope.specs.Seen.{seen_files, known_in};
 ghost use Rattle.idl_scope.specs.Known.{Known};
@@ -14,7 +15,8 @@ ghost use Rattle.idl_type_numbers.specs.SeenTypes.{scene_seen, names_at, body_at
 ghost use Rattle.idl_rule_definitions.specs.Noted.{noted};
 ghost use Rattle.idl_rule_definitions.specs.Found.{seen_breach};
 ghost use Rattle.idl_value_rules.specs.RestBreaches.{cycle_breaches};
-ghost use Rattle.idl_value_rules.specs.Cycles.{option_list, AreInnermost, AreInnermostBelow, numbers_of, first_number, AreHeldBy, AreOfPlaces, AreKeys, AreNumbersWith, IsLeastOf};
+ghost use Rattle.idl_value_rules.specs.Cycles.{option_list, AreInnermost, AreInnermostBelow, numbers_of, first_number, AreHeldBy, AreOfPlaces};
+ghost use Rattle.idl_value_rules.specs.Cycles.{AreKeys, AreNumbersWith, IsLeastOf};
 
 use idl_constructs::nodes::{Node, Nodes};
 use idl_cycles::{Graph, least_key};
@@ -251,7 +253,8 @@ pub fn note_cycles<'t>(
     types: &Types,
 ) -> Result<(), Memory>
     ensures files { finder.new.files.now ≡ finder.old.files.now }
-    ensures first { (w : World) (s : Scene) → w.files ≡ seen_files finder.old.files.now → s ≡ scene_seen (known_in scope.now) nodes.now → IsTypes s nodes.now types.now
+    ensures first { (w : World) (s : Scene) → w.files ≡ seen_files finder.old.files.now → s ≡ scene_seen (known_in scope.now) nodes.now
+        → IsTypes s nodes.now types.now
         → OnOk result (option_map seen_breach finder.new.first ≡ noted w (option_map seen_breach finder.old.first) (cycle_breaches s)) }
 {
     let graph = graph_of(alloc, types)?;

@@ -43,7 +43,8 @@ enum Accepted<'t> {
 
 /// What labels may be where the tag is the enum of a place.
 fn accepted_in<'t>(types: &'t Types, place: Place) -> Accepted<'t>
-    ensures { (s : Scene) (n : program_nodes.Nodes) → IsTypes s n types.now → (z : ℤ) → accepted_labels.accepts result z ≡ is_value_of s (Some (Enum place)) z }
+    ensures { (s : Scene) (n : program_nodes.Nodes) → IsTypes s n types.now → (z : ℤ)
+        → accepted_labels.accepts result z ≡ is_value_of s (Some (Enum place)) z }
 {
     let Some(number) = types.body_of(place) else {
         return Accepted::Nothing;
@@ -56,7 +57,8 @@ fn accepted_in<'t>(types: &'t Types, place: Place) -> Accepted<'t>
 
 /// What labels may be where the tag has a type of this kind.
 fn accepted_by<'t>(types: &'t Types, kind: Kind) -> Accepted<'t>
-    ensures { (s : Scene) (n : program_nodes.Nodes) (ts : List IdlType) → IsTypes s n types.now → (z : ℤ) → accepted_labels.accepts result z ≡ is_value_of s (Some (type_by ts kind)) z }
+    ensures { (s : Scene) (n : program_nodes.Nodes) (ts : List IdlType) → IsTypes s n types.now → (z : ℤ)
+        → accepted_labels.accepts result z ≡ is_value_of s (Some (type_by ts kind)) z }
 {
     if let Some(primitive) = kind.primitive() {
         return Accepted::Range(primitive);
@@ -69,7 +71,8 @@ fn accepted_by<'t>(types: &'t Types, kind: Kind) -> Accepted<'t>
 
 /// What labels may be whose tag has this type.
 fn accepted_of<'t>(types: &'t Types, typed: &Typed) -> Accepted<'t>
-    ensures { (s : Scene) (n : program_nodes.Nodes) → IsTypes s n types.now → (z : ℤ) → accepted_labels.accepts result z ≡ is_value_of s (tag_seen types.now.kinds typed.now) z }
+    ensures { (s : Scene) (n : program_nodes.Nodes) → IsTypes s n types.now → (z : ℤ)
+        → accepted_labels.accepts result z ≡ is_value_of s (tag_seen types.now.kinds typed.now) z }
 {
     if !typed.has_tag {
         return Accepted::All;
@@ -104,7 +107,8 @@ fn label(
     ensures holds { (done : List (Option ℤ)) → Holds before.old done → OnOk result (Holds before.new (done ++ it.now.value ∷ [])) }
     ensures first { (w : World) (done : List (Option ℤ)) → w.files ≡ seen_files finder.old.files.now → Holds before.old done
         → OnOk result (option_map seen_breach finder.new.first
-        ≡ noted w (option_map seen_breach finder.old.first) (value_breaches (accepted_labels.accepts accepted.now) (seen_construct construct.now) done (it.now ∷ []))) }
+        ≡ noted w (option_map seen_breach finder.old.first)
+        (value_breaches (accepted_labels.accepts accepted.now) (seen_construct construct.now) done (it.now ∷ []))) }
 {
     let repeated = before.add(it.value)?;
     let broken = !accepts(accepted, it.value) || repeated;
@@ -123,7 +127,8 @@ fn each_label(
     ensures files { finder.new.files.now ≡ finder.old.files.now }
     ensures first { (w : World) → w.files ≡ seen_files finder.old.files.now
         → OnOk result (option_map seen_breach finder.new.first
-        ≡ noted w (option_map seen_breach finder.old.first) (value_breaches (accepted_labels.accepts accepted.now) (seen_construct construct.now) [] list.now)) }
+        ≡ noted w (option_map seen_breach finder.old.first)
+        (value_breaches (accepted_labels.accepts accepted.now) (seen_construct construct.now) [] list.now)) }
 {
     let mut before = ValueSet::new(alloc);
     for one in list {
@@ -143,7 +148,8 @@ pub fn labels(
     typed: &Typed,
 ) -> Result<(), Memory>
     ensures files { finder.new.files.now ≡ finder.old.files.now }
-    ensures first { (w : World) (s : Scene) (n : program_nodes.Nodes) (names : Names) → w.files ≡ seen_files finder.old.files.now → s.known ≡ known_in scope.now → IsTypes s n types.now
+    ensures first { (w : World) (s : Scene) (n : program_nodes.Nodes) (names : Names) → w.files ≡ seen_files finder.old.files.now
+        → s.known ≡ known_in scope.now → IsTypes s n types.now
         → tag_seen types.now.kinds typed.now ≡ tag_type (seen_construct construct.now) names (seen_type body.now)
         → OnOk result (option_map seen_breach finder.new.first
         ≡ noted w (option_map seen_breach finder.old.first)

@@ -28,7 +28,8 @@ use Rattle.idl_rule_definitions.specs.Types.{IdlType, Void, Handle, ContextHandl
 use Rattle.idl_rule_definitions.specs.Scene.{Scene, use_of, is_nonencapsulated, chain}
 use Rattle.idl_rule_definitions.specs.Rules.{breaches_in}
 use Rattle.idl_rule_definitions.specs.DeclarationRules.{is_parameter}
-use Rattle.idl_rule_definitions.specs.VariableRules.{Listed, listed_from, passes, passes_listed, is_right_variable, variable_if, variables, is_integer, may_be_switched, is_switched, is_switched_place, below_pointer, is_other}
+use Rattle.idl_rule_definitions.specs.VariableRules.{Listed, listed_from, passes, passes_listed, is_right_variable, variable_if, variables, is_integer, may_be_switched, is_switched, is_switched_place}
+use Rattle.idl_rule_definitions.specs.VariableRules.{below_pointer, is_other}
 use Rattle.idl_rule_definitions.specs.Numbering.{number_of_type}
 use Rattle.idl_rule_definitions.specs.Meaning.{index_in, attr_var, vars_of, field_vars, field, types_of}
 use Rattle.idl_legal_laws.proofs.KeptTypes.{none_of}
@@ -285,7 +286,8 @@ switched_by : (s : Scene) (names : Names) (is_param : Bool) (list : List Declare
 switched_by s names is_param list index d st true e =
     let u = use_of s.known names list index d in
     let right = is_right_variable s u may_be_switched in
-    let x = switch_right (has switch_is_word d.construct.attributes) (is_switched s (type_of s.known names d)) (list_any (λ v. not (right v)) (variables (switch_is_word ∷ []) d.construct.attributes)) e
+    let x = switch_right (has switch_is_word d.construct.attributes) (is_switched s (type_of s.known names d))
+    (list_any (λ v. not (right v)) (variables (switch_is_word ∷ []) d.construct.attributes)) e
     st.keeps.switches in
     narrow right switch_is_word (switch_is_word ∷ []) refl d.construct.attributes x.1
 switched_by s names is_param list index d st false e =

@@ -64,9 +64,12 @@ referent_there s kept k (Pointer (Some class.Reference) to) h i =
 referent_there s kept k (Pointer (Some class.Unique) to) h i = k.nothing
 referent_there s kept k (Pointer (Some class.Full) to) h i = k.nothing
 referent_there s kept k (Pointer None to) h i = k.nothing
-referent_there s kept k (Struct p) h i = tag_none (referent (types_of s) k.q) (record { structs = λ fs. k.nothing; unions = λ t e a d. k.nothing; enums = λ vs. k.nothing }) s (body_if is_struct (body_of s p))
-referent_there s kept k (Union p) h i = tag_none (referent (types_of s) k.q) (record { structs = λ fs. k.nothing; unions = λ t e a d. k.nothing; enums = λ vs. k.nothing }) s (body_if is_union (body_of s p))
-referent_there s kept k (Enum p) h i = tag_none (referent (types_of s) k.q) (record { structs = λ fs. k.nothing; unions = λ t e a d. k.nothing; enums = λ vs. k.nothing }) s (body_if is_enum (body_of s p))
+referent_there s kept k (Struct p) h i =
+    tag_none (referent (types_of s) k.q) (record { structs = λ fs. k.nothing; unions = λ t e a d. k.nothing; enums = λ vs. k.nothing }) s (body_if is_struct (body_of s p))
+referent_there s kept k (Union p) h i =
+    tag_none (referent (types_of s) k.q) (record { structs = λ fs. k.nothing; unions = λ t e a d. k.nothing; enums = λ vs. k.nothing }) s (body_if is_union (body_of s p))
+referent_there s kept k (Enum p) h i =
+    tag_none (referent (types_of s) k.q) (record { structs = λ fs. k.nothing; unions = λ t e a d. k.nothing; enums = λ vs. k.nothing }) s (body_if is_enum (body_of s p))
 referent_there s kept k (Array t m v) h i = k.nothing
 referent_there s kept k (Text t m) h i = k.nothing
 referent_there s kept k (Pipe t) h i = k.nothing
@@ -218,8 +221,10 @@ made_alone s kept k uses (Array t m v) h i = one_free s k (number_of_type s t) (
 made_alone s kept k uses (Text t m) h i = one_free s k (number_of_type s t) (chain_free s kept k t (inner_there s kept (Text t m) refl i) (own_bad s kept k uses (Text t m) i))
 made_alone s kept k uses (Pipe t) h i = one_free s k (number_of_type s t) (chain_free s kept k t (inner_there s kept (Pipe t) refl i) (own_bad s kept k uses (Pipe t) i))
 made_alone s kept k uses (Pointer (Some class.Reference) t) h i = refl
-made_alone s kept k uses (Pointer (Some class.Unique) t) h i = one_free s k (number_of_type s t) (chain_free s kept k t (inner_there s kept (Pointer (Some class.Unique) t) refl i) (own_bad s kept k uses (Pointer (Some class.Unique) t) i))
-made_alone s kept k uses (Pointer (Some class.Full) t) h i = one_free s k (number_of_type s t) (chain_free s kept k t (inner_there s kept (Pointer (Some class.Full) t) refl i) (own_bad s kept k uses (Pointer (Some class.Full) t) i))
+made_alone s kept k uses (Pointer (Some class.Unique) t) h i =
+    one_free s k (number_of_type s t) (chain_free s kept k t (inner_there s kept (Pointer (Some class.Unique) t) refl i) (own_bad s kept k uses (Pointer (Some class.Unique) t) i))
+made_alone s kept k uses (Pointer (Some class.Full) t) h i =
+    one_free s k (number_of_type s t) (chain_free s kept k t (inner_there s kept (Pointer (Some class.Full) t) refl i) (own_bad s kept k uses (Pointer (Some class.Full) t) i))
 made_alone s kept k uses (Pointer None t) h i = one_free s k (number_of_type s t) (chain_free s kept k t (inner_there s kept (Pointer None t) refl i) (own_bad s kept k uses (Pointer None t) i))
 made_alone s kept k uses Void h i = absurd (let e : false ≡ true = h in cc)
 made_alone s kept k uses Handle h i = absurd (let e : false ≡ true = h in cc)
@@ -433,7 +438,8 @@ below_right s (Array t m v) h = neither_one (is_switched s t) (list_any (wrong s
 below_right s (Text t m) h = neither_one (is_switched s t) (list_any (wrong s) (chain t)) (chain_switched s t h) (below_right s t (further (is_nonencapsulated s) t h).1)
 below_right s (Pipe t) h = neither_one (is_switched s t) (list_any (wrong s) (chain t)) (chain_switched s t h) (below_right s t (further (is_nonencapsulated s) t h).1)
 below_right s (Pointer c t) h =
-    neither_one (is_pointer t && is_switched s t) (list_any (wrong s) (chain t)) (pointed (is_pointer t) (is_switched s t) (chain_switched s t h)) (below_right s t (further (is_nonencapsulated s) t h).1)
+    neither_one (is_pointer t && is_switched s t) (list_any (wrong s) (chain t)) (pointed (is_pointer t) (is_switched s t) (chain_switched s t h))
+    (below_right s t (further (is_nonencapsulated s) t h).1)
 below_right s Void h = refl
 below_right s Handle h = refl
 below_right s ContextHandle h = refl

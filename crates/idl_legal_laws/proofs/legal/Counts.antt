@@ -24,8 +24,11 @@ use Rattle.idl_grammar.specs.Tree.{Attribute, Bound, TypeSpec}
 use Rattle.idl_grammar.specs.Tree as tree
 use Rattle.idl_scope.specs.Known.{Known}
 use Rattle.idl_rule_definitions.specs.Attributes.{has, has_one_of, sizes, lengths, string_word}
-use Rattle.idl_rule_definitions.specs.Nodes.{Declared, Node, HeaderNode, AttributeNode, SwitchNode, TagNode, BodyNode, EnumeratorNode, LabelNode, EmptyArmNode, DeclaratorNode, ConstantNode, TypeNode, OperationNode}
-use Rattle.idl_rule_definitions.specs.Types.{IdlType, Void, Handle, ContextHandle, Basic, Struct, Union, Enum, Array, Text, Pointer, Pipe, Names, type_of, is_array, is_text, is_conformant_text, is_varying_array, simple_type, tagged_type, written_type, with_stars, with_dimensions, with_declarator, outermost_class, text_of, sized, with_attributes, pipe_or_plain, type_before, declared_from, declared_type, is_context_handle}
+use Rattle.idl_rule_definitions.specs.Nodes.{Declared, Node, HeaderNode, AttributeNode, SwitchNode, TagNode, BodyNode, EnumeratorNode, LabelNode, EmptyArmNode, DeclaratorNode, ConstantNode, TypeNode}
+use Rattle.idl_rule_definitions.specs.Nodes.{OperationNode}
+use Rattle.idl_rule_definitions.specs.Types.{IdlType, Void, Handle, ContextHandle, Basic, Struct, Union, Enum, Array, Text, Pointer, Pipe, Names, type_of, is_array, is_text, is_conformant_text}
+use Rattle.idl_rule_definitions.specs.Types.{is_varying_array, simple_type, tagged_type, written_type, with_stars, with_dimensions, with_declarator, outermost_class, text_of, sized, with_attributes}
+use Rattle.idl_rule_definitions.specs.Types.{pipe_or_plain, type_before, declared_from, declared_type, is_context_handle}
 use Rattle.idl_rule_definitions.specs.Scene.{Scoped, Scene, use_of, Body, body_of, chain, type_of_body, hoists}
 use Rattle.idl_rule_definitions.specs.ArrayRules.{dimensions, is_few, is_right_count, times, product, has_wrong_count, are_many, has_many_not_fixed, has_wrong_element}
 use Rattle.idl_rule_definitions.specs.VariableRules.{is_octet, may_be_text}
@@ -263,7 +266,8 @@ used : (s : Scene) (names : Names) (list : List Declared) (index : ℕ) (d : Dec
 used s names list index d k =
     let t = declared_type s.known names d in
     let a = d.construct.attributes in
-    let e = none_of (list_any has_many_not_fixed (chain t) || list_any has_many_not_fixed (chain (with_attributes a t))) (are_many (dimensions t) && (has_one_of lengths a || has string_word a)) k.dimensions in
+    let e = none_of (list_any has_many_not_fixed (chain t) || list_any has_many_not_fixed (chain (with_attributes a t)))
+    (are_many (dimensions t) && (has_one_of lengths a || has string_word a)) k.dimensions in
     record {
       texts = k.texts;
       counts = k.counts;
@@ -647,7 +651,8 @@ array_most s k n u None v z o h r e f = absurd (cc)
 array_most s k n u (Some a) v z None h r e f = absurd (cc)
 array_most s k n u (Some a) v z (Some q) h r e f = array_step s n u a v z q h r e (f q refl)
 
-elements_most : (s : Scene) → IsKept s → (t : IdlType) → is_numbered s t ≡ true → (z : ℤ) → product (dimensions t) ≡ Some z → (n : ℕ) → AtMost z (legal.elements_within n (types_of s) (number_of_type s t))
+elements_most : (s : Scene) → IsKept s → (t : IdlType) → is_numbered s t ≡ true → (z : ℤ) → product (dimensions t) ≡ Some z → (n : ℕ)
+    → AtMost z (legal.elements_within n (types_of s) (number_of_type s t))
 elements_most s k (Array u m v) h z e n =
     array_most s k n u m v z (product (dimensions u)) h (counts_of s k u m v h).0 e (λ q p i. elements_most s k u (inner_there s k (Array u m v) refl h) q p i)
 elements_most s k (Struct p) h z e n = one_most z _ e (plain_elements s n (Struct p) h refl)
@@ -690,7 +695,8 @@ open_many a (d ∷ ds) h = some_open (d ∷ ds) h
 abbrev few_elements : Scene → TypeDef → Bool
 few_elements s d = nat_le (elements_by (legal.elements_within 31 (types_of s)) (Some d)) ELEMENT_LIMIT
 
-array_few : (s : Scene) → IsKept s → (u : IdlType) (m : Option ℤ) (v : Bool) (o : Option ℤ) → is_numbered s (Array u m v) ≡ true → product (dimensions u) ≡ o → few_elements s (definition s (Array u m v)) ≡ true
+array_few : (s : Scene) → IsKept s → (u : IdlType) (m : Option ℤ) (v : Bool) (o : Option ℤ) → is_numbered s (Array u m v) ≡ true → product (dimensions u) ≡ o
+    → few_elements s (definition s (Array u m v)) ≡ true
 array_few s k u None v o h e = refl
 array_few s k u (Some a) v None h e = absurd (let p : true ≡ false = sym (open_many a (dimensions u) e) ∙ own_many s k (Array u (Some a) v) h in cc)
 array_few s k u (Some a) v (Some q) h e =

@@ -198,12 +198,14 @@ body_nests : (s : Scene) → IsKept s → (b : Body) → BodyThere s b → list_
 body_nests s k b h i =
     each_all (nest s) (layout.parts (Some (defined_by s b b.body)))
     (each_then (Held s (parts_of s.known b)) (λ n. nest s n ≡ true)
-    (λ n p. subst (λ m. nest s m ≡ true) p.number (nests_there s k 31 p.type p.there (each_at (λ u. nests 31 s u ≡ true) (parts_of s.known b) (all_each (nests 31 s) (parts_of s.known b) i) p.type p.held)))
+    (λ n p. subst (λ m. nest s m ≡ true) p.number
+    (nests_there s k 31 p.type p.there (each_at (λ u. nests 31 s u ≡ true) (parts_of s.known b) (all_each (nests 31 s) (parts_of s.known b) i) p.type p.held)))
     (layout.parts (Some (defined_by s b b.body))) (body_held s k b h))
 
 deep_body : (s : Scene) → IsKept s → (b : Body) → BodyThere s b → is_deep_body s b ≡ false
 deep_body s k b h =
-    let e = neither (broken_in b.construct Rule.NO_TYPE_IN_ITSELF (contains_itself s b) ++ broken_in b.construct Rule.NESTING (is_deep_body s b)) (broken_in b.construct Rule.CASES (lacks_switch_type b.construct b.body))
+    let e = neither (broken_in b.construct Rule.NO_TYPE_IN_ITSELF (contains_itself s b) ++ broken_in b.construct Rule.NESTING (is_deep_body s b))
+    (broken_in b.construct Rule.CASES (lacks_switch_type b.construct b.body))
     (keeps_there s k b.names (BodyNode b.construct b.body) h) in
     let f = neither (broken_in b.construct Rule.NO_TYPE_IN_ITSELF (contains_itself s b)) (broken_in b.construct Rule.NESTING (is_deep_body s b)) e.0 in
     fails b.construct 12 (is_deep_body s b) f.1
@@ -211,7 +213,8 @@ deep_body s k b h =
 body_shallow : (s : Scene) → IsKept s → (b : Body) → BodyThere s b → body_of s (place_of b) ≡ Some b → list_all (nest s) (layout.parts (Some (defined_by s b b.body))) ≡ true
 body_shallow s k b h e = by_form b.construct b.names b.body h e (shallow s (type_of_body b) (deep_body s k b h))
   where
-    by_form : (c : Construct) (names : Names) (t : TypeSpec) → There s names (BodyNode c t) → body_of s (place_of (record { construct = c; names = names; body = t })) ≡ Some (record { construct = c; names = names; body = t })
+    by_form : (c : Construct) (names : Names) (t : TypeSpec) → There s names (BodyNode c t)
+        → body_of s (place_of (record { construct = c; names = names; body = t })) ≡ Some (record { construct = c; names = names; body = t })
         → nests 32 s (type_of_body (record { construct = c; names = names; body = t })) ≡ true
         → list_all (nest s) (layout.parts (Some (defined_by s (record { construct = c; names = names; body = t }) t))) ≡ true
     by_form c names (tree.Struct at tag ms) i e2 j =

@@ -447,7 +447,8 @@ body_arms : (s : Scene) → IsKept s → (b : Body) → BodyThere s b → list_a
 body_arms s k b h =
     each_all (λ t. not (layout.hoists (types_of s) t)) (legal.arms_of (defined_by s b b.body))
     (arms_each s k (λ n. not (layout.hoists (types_of s) n) ≡ true)
-    (λ names d p a. ap not (hoists_there s k (type_of s.known names d) (part_numbered s names d p) (second (is_arm d.construct.position) (hoists s (type_of s.known names d)) p.keeps.no_hoisting_arm a)))
+    (λ names d p a. ap not
+    (hoists_there s k (type_of s.known names d) (part_numbered s names d p) (second (is_arm d.construct.position) (hoists s (type_of s.known names d)) p.keeps.no_hoisting_arm a)))
     b.names b.construct b.body h)
 
 made_no_arms : (types : Table) (s : Scene) (t : IdlType) → is_made t ≡ true → list_all (λ n. not (layout.hoists types n)) (legal.arms_of (definition s t)) ≡ true

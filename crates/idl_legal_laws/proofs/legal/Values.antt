@@ -49,7 +49,8 @@ small_values : (s : Scene) → IsKept s → (names : Names) (c : Construct) (es 
 small_values s k names c [] h = refl
 small_values s k names c (e ∷ es) h =
     let z = or_zero (world.number_of s.known e.name.octets) in
-    conjunction (int_le (pos 0) z && int_le z (pos ENUMERATOR_LIMIT)) (list_all (λ z. int_le (pos 0) z && int_le z (pos ENUMERATOR_LIMIT)) (map (λ e. or_zero (world.number_of s.known e.name.octets)) es))
+    conjunction (int_le (pos 0) z && int_le z (pos ENUMERATOR_LIMIT))
+    (list_all (λ z. int_le (pos 0) z && int_le z (pos ENUMERATOR_LIMIT)) (map (λ e. or_zero (world.number_of s.known e.name.octets)) es))
     (small_value (world.number_of s.known e.name.octets) (fails_at c 13 e.name.at (is_large_enumerator s.known e.name) (keeps_there s k names (EnumeratorNode c e.name) h.0)))
     (small_values s k names c es h.1)
 
@@ -57,7 +58,8 @@ struct_small : (fs : List Field) → has_small_values (struct_of fs) ≡ true
 struct_small [] = refl
 struct_small (f ∷ fs) = refl
 
-body_small : (s : Scene) → IsKept s → (names : Names) (c : Construct) (t : TypeSpec) → There s names (BodyNode c t) → has_small_values (defined_by s (record { construct = c; names = names; body = t }) t) ≡ true
+body_small : (s : Scene) → IsKept s → (names : Names) (c : Construct) (t : TypeSpec) → There s names (BodyNode c t)
+    → has_small_values (defined_by s (record { construct = c; names = names; body = t }) t) ≡ true
 body_small s k names c (tree.Enum at tag es) h = small_values s k names c es (beside_there s k names (BodyNode c (tree.Enum at tag es)) h)
 body_small s k names c (tree.Struct at tag ms) h = struct_small _
 body_small s k names c (tree.EncapsulatedUnion at tag d name cases) h = refl
@@ -113,7 +115,9 @@ some_enumerator s (e ∷ es) z h = by_test (same_value (world.number_of s.known 
     by_test : (b : Bool) → same_value (world.number_of s.known e.name.octets) (Some z) ≡ b → (b || list_any (λ x. same_value (world.number_of s.known x.name.octets) (Some z)) es) ≡ true
         → (list_any (λ x. same_value (world.number_of s.known x.name.octets) (Some z)) es ≡ true → list_any (int_eq z) (map (λ x. or_zero (world.number_of s.known x.name.octets)) es) ≡ true)
         → (int_eq z (or_zero (world.number_of s.known e.name.octets)) || list_any (int_eq z) (map (λ x. or_zero (world.number_of s.known x.name.octets)) es)) ≡ true
-    by_test true p i f = left (int_eq z (or_zero (world.number_of s.known e.name.octets))) (list_any (int_eq z) (map (λ x. or_zero (world.number_of s.known x.name.octets)) es)) (flipped (world.number_of s.known e.name.octets) z p)
+    by_test true p i f =
+        left (int_eq z (or_zero (world.number_of s.known e.name.octets))) (list_any (int_eq z) (map (λ x. or_zero (world.number_of s.known x.name.octets)) es))
+        (flipped (world.number_of s.known e.name.octets) z p)
     by_test false p i f = right (int_eq z (or_zero (world.number_of s.known e.name.octets))) (list_any (int_eq z) (map (λ x. or_zero (world.number_of s.known x.name.octets)) es)) (f i)
 
 enum_value : (s : Scene) (o : Option Body) (z : ℤ) → list_any (λ e. same_value (world.number_of s.known e.name.octets) (Some z)) (enumerators_found o) ≡ true
@@ -164,7 +168,8 @@ labels_have s b tag h =
     (each_flat (HasValue s b) (λ a. flat_map (λ l. arm_by s b a (label_value s.known l)) a.labels) (arms_of b.body)
     (each_then (λ a. GoodLabels s b.names b.construct b.body a.labels) (λ a. Each (HasValue s b) (flat_map (λ l. arm_by s b a (label_value s.known l)) a.labels))
     (λ a i. each_flat (HasValue s b) (λ l. arm_by s b a (label_value s.known l)) a.labels
-    (each_then (λ l. is_label_of s (tag_type b.construct b.names b.body) (label_value s.known l) ≡ true) (λ l. Each (HasValue s b) (arm_by s b a (label_value s.known l))) (λ l j. one_label s b tag a (label_value s.known l) j) a.labels i))
+    (each_then (λ l. is_label_of s (tag_type b.construct b.names b.body) (label_value s.known l) ≡ true) (λ l. Each (HasValue s b) (arm_by s b a (label_value s.known l)))
+    (λ l j. one_label s b tag a (label_value s.known l) j) a.labels i))
     (arms_of b.body) (each_unflat (λ l. is_label_of s (tag_type b.construct b.names b.body) (label_value s.known l) ≡ true) (λ a. a.labels) (arms_of b.body) h)))
 
 -- the labels of a union, each after those before it
@@ -233,7 +238,8 @@ distinct_arms : (tag : TypeId) (encapsulated : Bool) (default : Option arm.Arm) 
     → has_distinct_labels (def.Union tag encapsulated arms default) ≡ true
 distinct_arms tag encapsulated default [] h = refl
 distinct_arms tag encapsulated default (a ∷ more) h =
-    conjunction (not (list_any (int_eq a.label) (map (λ x. x.label) more))) (has_distinct_labels (def.Union tag encapsulated more default)) (ap not h.0) (distinct_arms tag encapsulated default more h.1)
+    conjunction (not (list_any (int_eq a.label) (map (λ x. x.label) more))) (has_distinct_labels (def.Union tag encapsulated more default)) (ap not h.0)
+    (distinct_arms tag encapsulated default more h.1)
 
 later_differs : (s : Scene) → IsKept s → (names : Names) (c : Construct) (body : TypeSpec) (m : ArmLabel) (before ls : List ArmLabel) → Among m before
     → Each (There s names) (label_nodes c body before ls) → Each (λ l. same_value (label_value s.known m) (label_value s.known l) ≡ false) ls
@@ -244,7 +250,8 @@ later_differs s k names c body m before (l ∷ ls) i h = (
   later_differs s k names c body m (before ++ l ∷ []) ls (among_left m before (l ∷ []) i) h.1,
 )
 
-none_same : (known : Known) (z : ℤ) (ls : List ArmLabel) → Each (λ l. same_value (Some z) (label_value known l) ≡ false) ls → list_any (int_eq z) (flat_map (λ l. listed (label_value known l)) ls) ≡ false
+none_same : (known : Known) (z : ℤ) (ls : List ArmLabel) → Each (λ l. same_value (Some z) (label_value known l) ≡ false) ls
+    → list_any (int_eq z) (flat_map (λ l. listed (label_value known l)) ls) ≡ false
 none_same known z [] h = refl
 none_same known z (l ∷ ls) h = by_value (label_value known l) h.0 (none_same known z ls h.1)
   where
@@ -265,7 +272,8 @@ values_differ s k names c body before (l ∷ ls) h =
     by_value None i j = j
     by_value (Some z) i j = (none_same s.known z ls i, j)
 
-arm_labels : (s : Scene) (b : Body) (a : LabelledArm) (ls : List ArmLabel) → map (λ x. x.label) (flat_map (λ l. arm_by s b a (label_value s.known l)) ls) ≡ flat_map (λ l. listed (label_value s.known l)) ls
+arm_labels : (s : Scene) (b : Body) (a : LabelledArm) (ls : List ArmLabel)
+    → map (λ x. x.label) (flat_map (λ l. arm_by s b a (label_value s.known l)) ls) ≡ flat_map (λ l. listed (label_value s.known l)) ls
 arm_labels s b a [] = refl
 arm_labels s b a (l ∷ ls) = by_value (label_value s.known l) (arm_labels s b a ls)
   where
@@ -298,10 +306,12 @@ body_distinct : (s : Scene) → IsKept s → (names : Names) (c : Construct) (t 
     → has_distinct_labels (defined_by s (record { construct = c; names = names; body = t }) t) ≡ true
 body_distinct s k names c (tree.EncapsulatedUnion at tag d name cases) h =
     let b : Body = record { construct = c; names = names; body = tree.EncapsulatedUnion at tag d name cases } in
-    distinct_arms (number s (or_handle (tag_type c names (tree.EncapsulatedUnion at tag d name cases)))) true (default_arm s b) (labelled_arms s b) (union_distinct s k names c (tree.EncapsulatedUnion at tag d name cases) refl h)
+    distinct_arms (number s (or_handle (tag_type c names (tree.EncapsulatedUnion at tag d name cases)))) true (default_arm s b) (labelled_arms s b)
+    (union_distinct s k names c (tree.EncapsulatedUnion at tag d name cases) refl h)
 body_distinct s k names c (tree.NonEncapsulatedUnion at tag arms) h =
     let b : Body = record { construct = c; names = names; body = tree.NonEncapsulatedUnion at tag arms } in
-    distinct_arms (number s (or_handle (tag_type c names (tree.NonEncapsulatedUnion at tag arms)))) false (default_arm s b) (labelled_arms s b) (union_distinct s k names c (tree.NonEncapsulatedUnion at tag arms) refl h)
+    distinct_arms (number s (or_handle (tag_type c names (tree.NonEncapsulatedUnion at tag arms)))) false (default_arm s b) (labelled_arms s b)
+    (union_distinct s k names c (tree.NonEncapsulatedUnion at tag arms) refl h)
 body_distinct s k names c (tree.Enum at tag es) h = refl
 body_distinct s k names c (tree.Struct at tag ms) h = struct_distinct _
 body_distinct s k names c (tree.Simple t) h = refl

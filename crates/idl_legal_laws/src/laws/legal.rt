@@ -11,5 +11,6 @@ ghost use Rattle.idl_rule_definitions.specs.FirstBroken.{first_broken};
 pub fn meaning_is_legal()
     ensures tables { (w : World) → breaches w ≡ [] → HasIdentifiers (types_of (scene_of w)) (operations_of (scene_of w))
         → IsLegal (types_of (scene_of w)) (operations_of (scene_of w)) }
-    ensures meanings { (w : World) → first_broken w ≡ None → All (λ m. HasIdentifiers m.types m.operations → IsLegal m.types m.operations) (meaning w) }
+    ensures meanings { (w : World) → first_broken w ≡ None
+        → All (λ m. HasIdentifiers m.types m.operations → IsLegal m.types m.operations) (meaning w) }
 {}

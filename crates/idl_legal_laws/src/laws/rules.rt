@@ -14,13 +14,14 @@ ghost use Rattle.idl_rule_definitions.specs.Meaning.{types_of, operations_of, de
 ghost use Rattle.idl_rule_definitions.specs.Rules.{breaches, breaches_in, breaches_of_use};
 ghost use Rattle.idl_rule_definitions.specs.FirstBroken.{first_broken, IsLeast};
 
-/// The rule that is reported is broken at its place, no lesser rule is broken anywhere, and this one at no earlier place. Where none is reported, none is
-/// broken.
+/// The rule that is reported is broken at its place, no lesser rule is broken anywhere, and this one at no earlier place. Where none is reported,
+/// none is broken.
 pub fn least_rule_is_told()
     ensures { (w : World) → IsLeast w (breaches w) (first_broken w) }
 {}
 
-/// At the number of a type the table has what the type is, and each type that a declarator needs, down to the innermost, has a number, except `void` and `handle_t`.
+/// At the number of a type the table has what the type is, and each type that a declarator needs, down to the innermost, has a number, except `void`
+/// and `handle_t`.
 pub fn types_stand_at_their_numbers()
     ensures needed { (s : Scene) → list_all (λ n. is_numbered_or_none s n.type) (needed_types s) ≡ true }
     ensures stands { (s : Scene) (t : IdlType) → is_numbered s t ≡ true → type_at (types_of s) (number_of_type s t) ≡ Some (definition s t) }

@@ -8,7 +8,9 @@ use Rattle.acf_reader.proofs.body.body.Given as goal
 
 -- what is gathered so far
 abbrev pub invariant-loop-list : goal.invariant-loop-list
-invariant-loop-list l = Gathered (λ a. is_in (element_firsts) a.symbol) (element_read l.parser l.depth) l.parser (list_read (element_firsts) l.parser (element_read l.parser l.depth) l.at) (map seen_element l.list.items) l.here × (l.at ≤ l.here)
+invariant-loop-list l =
+    Gathered (λ a. is_in (element_firsts) a.symbol) (element_read l.parser l.depth) l.parser (list_read (element_firsts) l.parser (element_read l.parser l.depth) l.at)
+    (map seen_element l.list.items) l.here × (l.at ≤ l.here)
 
 abbrev pub decreases-loop-list : goal.decreases-loop-list
 decreases-loop-list l = length l.parser - l.here

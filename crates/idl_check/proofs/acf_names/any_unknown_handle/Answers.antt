@@ -10,13 +10,15 @@ loop-attribute-init c = ap (λ l. list_any (λ a. has_unknown_handle (known_in c
 
 pub returns-then-has_unknown_handle : goal.returns-then-has_unknown_handle
 returns-then-has_unknown_handle c =
-    found_there (λ a. a) (λ a. has_unknown_handle (known_in c.args.scope.now) a.kind) c.args.attributes.now c.loop-attribute.attribute-index c.attribute-item.result c.loop-attribute-test.true c.attribute-item.is
+    found_there (λ a. a)
+    (λ a. has_unknown_handle (known_in c.args.scope.now) a.kind) c.args.attributes.now c.loop-attribute.attribute-index c.attribute-item.result c.loop-attribute-test.true c.attribute-item.is
     (sym c.if-has_unknown_handle.true ∙ c.has_unknown_handle.ensures)
     ∙ c.loop-attribute.invariant
 
 pub loop-attribute-preserved : goal.loop-attribute-preserved
 loop-attribute-preserved c =
-    sym (not_there (λ a. a) (λ a. has_unknown_handle (known_in c.args.scope.now) a.kind) c.args.attributes.now c.loop-attribute.attribute-index c.attribute-item.result c.loop-attribute-test.true c.attribute-item.is
+    sym (not_there (λ a. a)
+    (λ a. has_unknown_handle (known_in c.args.scope.now) a.kind) c.args.attributes.now c.loop-attribute.attribute-index c.attribute-item.result c.loop-attribute-test.true c.attribute-item.is
     (sym c.if-has_unknown_handle.false ∙ c.has_unknown_handle.ensures))
     ∙ c.loop-attribute.invariant
 

@@ -7,4 +7,5 @@ use Rattle.idl_check.proofs.acf_names.any_unknown_handle.Given as goal
 
 -- one of those that are left, or none
 abbrev pub invariant-loop-attribute : goal.invariant-loop-attribute
-invariant-loop-attribute l = any_from (λ a. a) (λ a. has_unknown_handle (known_in l.scope) a.kind) l.attributes l.attribute-index ≡ list_any (λ a. has_unknown_handle (known_in l.scope) a.kind) l.attributes
+invariant-loop-attribute l =
+    any_from (λ a. a) (λ a. has_unknown_handle (known_in l.scope) a.kind) l.attributes l.attribute-index ≡ list_any (λ a. has_unknown_handle (known_in l.scope) a.kind) l.attributes

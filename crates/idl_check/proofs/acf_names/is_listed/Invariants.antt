@@ -7,4 +7,6 @@ use Rattle.idl_check.proofs.acf_names.is_listed.Given as goal
 
 -- one of those that are left, or none
 abbrev pub invariant-loop-parameter : goal.invariant-loop-parameter
-invariant-loop-parameter l = any_from seen_parameter (λ q. bytes_eq l.name.octets q.declarator.name.octets) l.parameters l.parameter-index ≡ list_any (λ q. bytes_eq l.name.octets q.declarator.name.octets) (map seen_parameter l.parameters)
+invariant-loop-parameter l =
+    any_from seen_parameter (λ q. bytes_eq l.name.octets q.declarator.name.octets) l.parameters l.parameter-index
+    ≡ list_any (λ q. bytes_eq l.name.octets q.declarator.name.octets) (map seen_parameter l.parameters)

@@ -5,4 +5,5 @@ use Rattle.idl_constructs.proofs.parts.cases_declared.Given as goal
 
 -- what is there, with what is left
 abbrev pub invariant-loop-case : goal.invariant-loop-case
-invariant-loop-case l = map seen_declared l.list.items ++ rests.cases_declared (seen_construct l.construct) (drop l.case-index l.case-items) ≡ rests.cases_declared (seen_construct l.construct) l.case-items
+invariant-loop-case l =
+    map seen_declared l.list.items ++ rests.cases_declared (seen_construct l.construct) (drop l.case-index l.case-items) ≡ rests.cases_declared (seen_construct l.construct) l.case-items

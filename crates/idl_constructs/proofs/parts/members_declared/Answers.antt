@@ -22,5 +22,6 @@ pub returns : goal.returns
 returns c =
     let k = seen_construct c.args.construct.now in
     let xs = c.deref-member-items.result.now in
-    gathered (rests.members_declared k) (rests.member_declared k) (rests.members_declared_cons k) xs (rests.members_declared k xs) (map seen_declared c.loop-member.list.items) c.loop-member.member-index (omega arith) refl c.loop-member.invariant
+    gathered (rests.members_declared k) (rests.member_declared k) (rests.members_declared_cons k) xs (rests.members_declared k xs)
+    (map seen_declared c.loop-member.list.items) c.loop-member.member-index (omega arith) refl c.loop-member.invariant
     ∙ ap (rests.members_declared k) c.deref-member-items.ensures.value

@@ -5,4 +5,5 @@ use Rattle.idl_constructs.proofs.parts.members_declared.Given as goal
 
 -- what is there, with what is left
 abbrev pub invariant-loop-member : goal.invariant-loop-member
-invariant-loop-member l = map seen_declared l.list.items ++ rests.members_declared (seen_construct l.construct) (drop l.member-index l.member-items) ≡ rests.members_declared (seen_construct l.construct) l.member-items
+invariant-loop-member l =
+    map seen_declared l.list.items ++ rests.members_declared (seen_construct l.construct) (drop l.member-index l.member-items) ≡ rests.members_declared (seen_construct l.construct) l.member-items

@@ -22,4 +22,5 @@ pub returns : goal.returns
 returns c =
     let k = seen_construct c.args.construct.now in
     let xs = c.args.parameters.now in
-    gathered (rests.parameters_declared k) (rests.parameter_declared k) (rests.parameters_declared_cons k) xs (rests.parameters_declared k xs) (map seen_declared c.loop-parameter.list.items) c.loop-parameter.parameter-index (omega arith) refl c.loop-parameter.invariant
+    gathered (rests.parameters_declared k) (rests.parameter_declared k) (rests.parameters_declared_cons k) xs (rests.parameters_declared k xs)
+    (map seen_declared c.loop-parameter.list.items) c.loop-parameter.parameter-index (omega arith) refl c.loop-parameter.invariant

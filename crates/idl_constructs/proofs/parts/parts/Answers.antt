@@ -11,7 +11,8 @@ pub returns-in-Struct : goal.returns-in-Struct
 returns-in-Struct c =
     let k = seen_construct c.args.construct.now in
     let e = ap seen_type c.in-Struct.is ∙ struct_is c.in-Struct.at c.in-Struct.tag c.in-Struct.members in
-    IfOk-weaker c.members_declared.result (λ v. map seen_declared v.items ≡ rests.members_declared k c.in-Struct.members.items) (λ v. map seen_declared v.items ≡ parts_declared k (seen_type c.args.body.now))
+    IfOk-weaker c.members_declared.result (λ v. map seen_declared v.items ≡ rests.members_declared k c.in-Struct.members.items)
+    (λ v. map seen_declared v.items ≡ parts_declared k (seen_type c.args.body.now))
     (λ v h. h ∙ ap (parts_declared k) (sym e)) c.members_declared.ensures
 
 pub returns-in-EncapsulatedUnion : goal.returns-in-EncapsulatedUnion

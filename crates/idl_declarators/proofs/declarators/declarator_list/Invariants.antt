@@ -9,7 +9,9 @@ use Rattle.idl_declarators.proofs.declarators.declarator_list.Given as goal
 
 -- what is gathered so far
 abbrev pub invariant-loop-list : goal.invariant-loop-list
-invariant-loop-list l = Gathered (λ a. is_in (symbol.Comma ∷ []) a.symbol) (behind_read symbol.Comma l.parser (declarator_read l.nesting l.parser l.depth)) l.parser (separated_read symbol.Comma l.parser (declarator_read l.nesting l.parser l.depth) l.at) (map seen_declarator l.list.items) l.here × (l.at < l.here)
+invariant-loop-list l =
+    Gathered (λ a. is_in (symbol.Comma ∷ []) a.symbol) (behind_read symbol.Comma l.parser (declarator_read l.nesting l.parser l.depth)) l.parser
+    (separated_read symbol.Comma l.parser (declarator_read l.nesting l.parser l.depth) l.at) (map seen_declarator l.list.items) l.here × (l.at < l.here)
 
 abbrev pub decreases-loop-list : goal.decreases-loop-list
 decreases-loop-list l = length l.parser - l.here

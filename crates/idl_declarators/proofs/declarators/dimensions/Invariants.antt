@@ -9,7 +9,9 @@ use Rattle.idl_declarators.proofs.declarators.dimensions.Given as goal
 
 -- what is gathered so far
 abbrev pub invariant-loop-list : goal.invariant-loop-list
-invariant-loop-list l = Gathered (λ a. is_in (symbol.OpenSquare ∷ []) a.symbol) (dimension_read l.nesting l.parser l.depth) l.parser (list_read (symbol.OpenSquare ∷ []) l.parser (dimension_read l.nesting l.parser l.depth) l.at) (map (option_map seen_bound) l.list.items) l.here × (l.at ≤ l.here)
+invariant-loop-list l =
+    Gathered (λ a. is_in (symbol.OpenSquare ∷ []) a.symbol) (dimension_read l.nesting l.parser l.depth) l.parser
+    (list_read (symbol.OpenSquare ∷ []) l.parser (dimension_read l.nesting l.parser l.depth) l.at) (map (option_map seen_bound) l.list.items) l.here × (l.at ≤ l.here)
 
 abbrev pub decreases-loop-list : goal.decreases-loop-list
 decreases-loop-list l = length l.parser - l.here

@@ -8,7 +8,9 @@ use Rattle.idl_declarators.proofs.declarators.stars.Given as goal
 
 -- what is gathered so far
 abbrev pub invariant-loop-list : goal.invariant-loop-list
-invariant-loop-list l = Gathered (λ a. is_in (symbol.Star ∷ []) a.symbol) (placed_read symbol.Star l.parser) l.parser (list_read (symbol.Star ∷ []) l.parser (placed_read symbol.Star l.parser) l.at) l.list.items l.here × (l.at ≤ l.here)
+invariant-loop-list l =
+    Gathered (λ a. is_in (symbol.Star ∷ []) a.symbol) (placed_read symbol.Star l.parser) l.parser (list_read (symbol.Star ∷ []) l.parser (placed_read symbol.Star l.parser) l.at) l.list.items l.here
+    × (l.at ≤ l.here)
 
 abbrev pub decreases-loop-list : goal.decreases-loop-list
 decreases-loop-list l = length l.parser - l.here

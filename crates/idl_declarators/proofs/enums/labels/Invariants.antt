@@ -9,7 +9,9 @@ use Rattle.idl_declarators.proofs.enums.labels.Given as goal
 
 -- what is gathered so far
 abbrev pub invariant-loop-list : goal.invariant-loop-list
-invariant-loop-list l = Gathered (λ a. is_in (label_firsts) a.symbol) (label_read l.nesting l.parser l.depth) l.parser (some_read (label_firsts) l.parser (label_read l.nesting l.parser l.depth) l.at) (map seen_label l.list.items) l.here × (l.at < l.here)
+invariant-loop-list l =
+    Gathered (λ a. is_in (label_firsts) a.symbol) (label_read l.nesting l.parser l.depth) l.parser (some_read (label_firsts) l.parser (label_read l.nesting l.parser l.depth) l.at)
+    (map seen_label l.list.items) l.here × (l.at < l.here)
 
 abbrev pub decreases-loop-list : goal.decreases-loop-list
 decreases-loop-list l = length l.parser - l.here

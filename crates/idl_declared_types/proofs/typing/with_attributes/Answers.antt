@@ -20,6 +20,8 @@ returns-in_default c = record {
   stands =
       let seen = c.kind.ensures.seen in
       stands_within c.args.kinds.now c.args.of c.requires
-      ∙ ap Some (sym seen ∙ plain (map seen_attribute c.args.attributes.now) (seen_types c.args.kinds.now) c.kind.result c.in_default.not-Array c.in_default.not-Pointer ∙ ap (with_attributes (map seen_attribute c.args.attributes.now)) seen);
+      ∙ ap Some
+      (sym seen ∙ plain (map seen_attribute c.args.attributes.now) (seen_types c.args.kinds.now) c.kind.result c.in_default.not-Array c.in_default.not-Pointer
+      ∙ ap (with_attributes (map seen_attribute c.args.attributes.now)) seen);
   keeps = λ n t h. h;
 }

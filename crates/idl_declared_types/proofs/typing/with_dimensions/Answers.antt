@@ -13,7 +13,8 @@ use Rattle.idl_declared_types.proofs.Dimensions.{dimension_next}
 use Rattle.idl_declared_types.proofs.typing.with_dimensions.Goals as goal
 
 -- one dimension more
-more : {B : Type 0} (new : List Kind) (number : ℕ) (known : Known) (t u : IdlType) (f : B → Option Bound) (xs : List B) (done at : ℕ) (x : B) (count : Option ℤ) → at ≡ length xs - 1 - done → done < length xs
+more : {B : Type 0} (new : List Kind) (number : ℕ) (known : Known) (t u : IdlType) (f : B → Option Bound) (xs : List B) (done at : ℕ) (x : B) (count : Option ℤ) → at ≡ length xs - 1 - done
+    → done < length xs
     → slice_get xs at ≡ Some x → count ≡ count_of known (f x) → u ≡ with_dimensions known t (map f (drop (length xs - done) xs))
     → Stands new number (Array u count false) → type_at new number ≡ with_dimensions known t (map f (drop (length xs - (done + 1)) xs))
 more new number known t u f xs done at x count place below here counted is stands =

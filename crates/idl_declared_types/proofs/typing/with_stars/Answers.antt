@@ -18,7 +18,8 @@ more : (new : List Kind) (number : ℕ) (d o : Option PointerClass) (t : IdlType
     → with_stars d o t (drop i stars) ≡ with_stars d o (type_at new number) (drop (i + 1) stars)
 more new number d o t stars i below stands =
     let next : suc i ≡ i + 1 = omega arith in
-    star_next d o t stars i below ∙ ap (λ u. with_stars d o u (drop (suc i) stars)) (sym (type_at-stands new number (Pointer d t) stands)) ∙ ap (λ j. with_stars d o (type_at new number) (drop j stars)) next
+    star_next d o t stars i below ∙ ap (λ u. with_stars d o u (drop (suc i) stars)) (sym (type_at-stands new number (Pointer d t) stands))
+    ∙ ap (λ j. with_stars d o (type_at new number) (drop j stars)) next
 
 pub loop-index-preserved : goal.loop-index-preserved
 loop-index-preserved c = record {
@@ -27,7 +28,8 @@ loop-index-preserved c = record {
   same =
       let below : c.loop-index.index + 1 < length c.args.stars.now = omega (arith, c.in-Some.ensures) in
       c.loop-index.invariant.same
-      ∙ more c.add.new.self c.in_ok-to.to (seen_class c.args.default) (seen_class c.args.outermost) (type_at c.loop-index.kinds c.loop-index.to) c.args.stars.now c.loop-index.index below c.in_ok-to.ensures.stands;
+      ∙ more c.add.new.self c.in_ok-to.to (seen_class c.args.default) (seen_class c.args.outermost)
+      (type_at c.loop-index.kinds c.loop-index.to) c.args.stars.now c.loop-index.index below c.in_ok-to.ensures.stands;
 }
 
 pub returns-clause-stands : goal.returns-clause-stands

@@ -12,7 +12,8 @@ loop-at-preserved c =
     let l = c.loop-at in
     let x = seen_file c.in-Some.found.now in
     λ end rest. l.invariant end
-    (turn (flat_map file_nodes) file_nodes (λ y more. refl) xs l.nodes c.file.new.nodes l.at x (omega (arith, c.len-at-end.ensures, c.loop-at-test.true)) (sym (get_or_from_slice_get xs l.at x x (sym c.in-Some.ensures)))
+    (turn (flat_map file_nodes) file_nodes (λ y more. refl) xs l.nodes c.file.new.nodes l.at x (omega (arith, c.len-at-end.ensures, c.loop-at-test.true))
+    (sym (get_or_from_slice_get xs l.at x x (sym c.in-Some.ensures)))
     c.in_ok-file.ensures end rest)
 
 pub returns : goal.returns

@@ -19,4 +19,5 @@ pub returns : goal.returns
 returns c =
     let k = seen_construct c.args.construct.now in
     let l = c.loop-one in
-    l.invariant.adds l.nodes (over_of (rests.parameters_from k) (rests.one_parameter k) rests.one_more (rests.parameters_cons k) c.args.parameters.now l.nodes c.args.list l.index l.one-index (omega arith) (λ all. refl))
+    l.invariant.adds l.nodes
+    (over_of (rests.parameters_from k) (rests.one_parameter k) rests.one_more (rests.parameters_cons k) c.args.parameters.now l.nodes c.args.list l.index l.one-index (omega arith) (λ all. refl))

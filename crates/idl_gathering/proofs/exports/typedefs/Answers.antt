@@ -11,7 +11,8 @@ loop-declarator-preserved c =
     let t = seen_type c.args.of.now in
     let l = c.loop-declarator in
     λ end rest. l.invariant end
-    (turn (rests.typedefs_from k c.args.pipe t) (rests.one_typedef k c.args.pipe t) (rests.typedefs_cons k c.args.pipe t) c.args.declarators.now l.nodes c.unlisted.new.nodes l.declarator-index c.declarator-item.result (omega arith) c.declarator-item.is
+    (turn (rests.typedefs_from k c.args.pipe t) (rests.one_typedef k c.args.pipe t)
+    (rests.typedefs_cons k c.args.pipe t) c.args.declarators.now l.nodes c.unlisted.new.nodes l.declarator-index c.declarator-item.result (omega arith) c.declarator-item.is
     c.in_ok-unlisted.ensures end rest)
 
 pub returns : goal.returns
@@ -19,4 +20,5 @@ returns c =
     let k = seen_construct c.args.construct.now in
     let t = seen_type c.args.of.now in
     let l = c.loop-declarator in
-    l.invariant l.nodes (over (rests.typedefs_from k c.args.pipe t) (rests.one_typedef k c.args.pipe t) (rests.typedefs_cons k c.args.pipe t) c.args.declarators.now l.nodes l.declarator-index (omega arith) refl)
+    l.invariant l.nodes
+    (over (rests.typedefs_from k c.args.pipe t) (rests.one_typedef k c.args.pipe t) (rests.typedefs_cons k c.args.pipe t) c.args.declarators.now l.nodes l.declarator-index (omega arith) refl)

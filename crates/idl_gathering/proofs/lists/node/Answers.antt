@@ -7,5 +7,6 @@ use Rattle.idl_gathering.proofs.lists.node.Goals as goal
 pub returns-in_default : goal.returns-in_default
 returns-in_default c = record {
   files = refl;
-  first = λ w nodes files. sym (ap (λ l. noted w (option_map seen_breach c.args.finder.now.first) l) (nothing_there nodes.lists.items c.args.node.now c.in_default.not-Header c.in_default.not-Attributes));
+  first = λ w nodes files. sym
+      (ap (λ l. noted w (option_map seen_breach c.args.finder.now.first) l) (nothing_there nodes.lists.items c.args.node.now c.in_default.not-Header c.in_default.not-Attributes));
 }

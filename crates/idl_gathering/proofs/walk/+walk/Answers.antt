@@ -5,7 +5,8 @@ use Rattle.idl_grammar.specs.Seen.{seen_type, seen_declarator, seen_enumerator, 
 use Rattle.idl_grammar.specs.Reading.{members_of, cases_of, arms_of}
 use Rattle.idl_grammar.specs.Seen as seen
 use Rattle.idl_grammar.proofs.Rows.{struct_is, cases_are, arms_are}
-use Rattle.idl_rule_definitions.specs.Nodes.{BodyNode, SwitchNode, EnumeratorNode, DeclaratorNode, attribute_nodes, type_nodes, member_nodes, declared_members, label_nodes, labels_of, case_nodes, arms_nodes, arm_nodes}
+use Rattle.idl_rule_definitions.specs.Nodes.{BodyNode, SwitchNode, EnumeratorNode, DeclaratorNode, attribute_nodes, type_nodes, member_nodes, declared_members, label_nodes, labels_of, case_nodes}
+use Rattle.idl_rule_definitions.specs.Nodes.{arms_nodes, arm_nodes}
 use Rattle.idl_constructs.specs.SeenNodes.{seen_construct, seen_position, seen_declared}
 use Rattle.idl_constructs.specs.Growing.{Adds, member_front, member_rest}
 use Rattle.idl_constructs.proofs.Adding.{adds_as, adds_both, pushed, of_all, of_both, turn, over, turn_of, over_of}
@@ -74,7 +75,8 @@ type_spec-returns-in_ok-body-in-Enum t c =
     let b = c.body-in-Enum.new.nodes in
     let d = c.enumerators.new.nodes in
     on_ok_weaker c.enumerators.result
-    (λ x. adds_as a d ((BodyNode k of ∷ []) ++ map (λ e. EnumeratorNode k e.name) (map seen_enumerator u.list.items)) (type_nodes k of) (enum_nodes k of u.at u.tag (map seen_enumerator u.list.items) (ap seen_type u.is))
+    (λ x. adds_as a d ((BodyNode k of ∷ []) ++ map (λ e. EnumeratorNode k e.name) (map seen_enumerator u.list.items)) (type_nodes k of)
+    (enum_nodes k of u.at u.tag (map seen_enumerator u.list.items) (ap seen_type u.is))
     (adds_both a b d (BodyNode k of ∷ []) (map (λ e. EnumeratorNode k e.name) (map seen_enumerator u.list.items)) c.in_ok-body-in-Enum.ensures
     (subst (λ es. Adds b d (map (λ e. EnumeratorNode k e.name) (map seen_enumerator es))) c.as_slice.ensures.value x)))
     c.enumerators.ensures
@@ -91,7 +93,8 @@ arm-returns-in_ok-type_spec-in-Typed t c =
     let f = c.type_spec.new.nodes in
     on_ok_weaker c.unlisted.result
     (λ x. adds_as a c.unlisted.new.nodes (attribute_nodes i ++ type_nodes i of ++ (DeclaratorNode [] 0 d ∷ [])) (arm_nodes k (seen_position c.args.position) (seen_arm c.args.arm.now))
-    (typed_nodes k (seen_position c.args.position) (seen_arm c.args.arm.now) u.at (option_map seen_attributes u.list) of (seen_declarator u.declarator) i d (ap seen_arm u.is) c.inside-inner-in-Typed.ensures c.declared.ensures)
+    (typed_nodes k (seen_position c.args.position) (seen_arm c.args.arm.now) u.at (option_map seen_attributes u.list) of (seen_declarator u.declarator) i d
+    (ap seen_arm u.is) c.inside-inner-in-Typed.ensures c.declared.ensures)
     (adds_both a f c.unlisted.new.nodes (attribute_nodes i ++ type_nodes i of) (DeclaratorNode [] 0 d ∷ [])
     (adds_both a b f (attribute_nodes i) (type_nodes i of) c.in_ok-attributes-in-Typed.ensures c.in_ok-type_spec-in-Typed.ensures) x))
     c.unlisted.ensures
@@ -129,7 +132,8 @@ members-loop-one-preserved t c =
       adds = λ end rest. l.invariant.adds end
           (turn_of (rests.members_from k) (rests.one_member k) rests.count_of (rests.members_cons k) xs l.nodes new number l.index c.in_ok-index.index l.one-index x (omega arith) c.one-item.is
           c.in_ok-index.ensures.next
-          (of_both l.nodes middle new number (λ _. front) (λ all. member_rest k l.index (seen.seen_member x) all) (of_all l.nodes middle number front c.in_ok-member.ensures) c.in_ok-index.ensures.adds) end rest);
+          (of_both l.nodes middle new number (λ _. front) (λ all. member_rest k l.index (seen.seen_member x) all)
+          (of_all l.nodes middle number front c.in_ok-member.ensures) c.in_ok-index.ensures.adds) end rest);
     }
 
 pub members-member_declarators-requires : goal.members-member_declarators-requires
@@ -169,7 +173,8 @@ cases-loop-one-preserved t c =
     let k = seen_construct c.args.construct.now in
     let xs = c.deref-one-items.result.now in
     let l = c.loop-one in
-    λ end rest. l.invariant end (turn (rests.cases_from k) (rests.one_case k) (rests.cases_cons k) xs l.nodes c.arm.new.nodes l.one-index c.one-item.result (omega arith) c.one-item.is c.in_ok-arm.ensures end rest)
+    λ end rest. l.invariant end
+    (turn (rests.cases_from k) (rests.one_case k) (rests.cases_cons k) xs l.nodes c.arm.new.nodes l.one-index c.one-item.result (omega arith) c.one-item.is c.in_ok-arm.ensures end rest)
 
 pub cases-returns : goal.cases-returns
 cases-returns t c =
@@ -184,7 +189,8 @@ arms-loop-one-preserved t c =
     let k = seen_construct c.args.construct.now in
     let xs = c.deref-one-items.result.now in
     let l = c.loop-one in
-    λ end rest. l.invariant end (turn (rests.arms_from k) (rests.one_arm k) (rests.arms_cons k) xs l.nodes c.arm.new.nodes l.one-index c.one-item.result (omega arith) c.one-item.is c.in_ok-arm.ensures end rest)
+    λ end rest. l.invariant end
+    (turn (rests.arms_from k) (rests.one_arm k) (rests.arms_cons k) xs l.nodes c.arm.new.nodes l.one-index c.one-item.result (omega arith) c.one-item.is c.in_ok-arm.ensures end rest)
 
 pub arms-returns : goal.arms-returns
 arms-returns t c =

@@ -16,7 +16,8 @@ invariant-members-loop-one l = record {
 -- whatever is added by what is left, all is added
 abbrev pub invariant-cases-loop-one : goal.invariant-cases-loop-one
 invariant-cases-loop-one l =
-    (end : Nodes) → Adds l.nodes end (rests.cases_from (seen_construct l.construct) (drop l.one-index l.one-items)) → Adds l.initial.nodes end (rests.cases_from (seen_construct l.construct) l.one-items)
+    (end : Nodes) → Adds l.nodes end (rests.cases_from (seen_construct l.construct) (drop l.one-index l.one-items))
+    → Adds l.initial.nodes end (rests.cases_from (seen_construct l.construct) l.one-items)
 
 -- whatever is added by what is left, all is added
 abbrev pub invariant-arms-loop-one : goal.invariant-arms-loop-one

@@ -16,7 +16,8 @@ loop-declarator-preserved c =
     record {
       next = omega (arith, l.invariant.next);
       adds = λ end rest. l.invariant.adds end
-          (turn_of (rests.declarators_from k t) (rests.one_declarator k t) rests.one_more (rests.declarators_cons k t) c.args.declarators.now l.nodes c.listed.new.nodes c.args.list l.index (l.index + 1)
+          (turn_of (rests.declarators_from k t) (rests.one_declarator k t) rests.one_more (rests.declarators_cons k t) c.args.declarators.now l.nodes c.listed.new.nodes c.args.list l.index
+          (l.index + 1)
           l.declarator-index c.declarator-item.result (omega arith) c.declarator-item.is refl
           (subst (λ (d : Declared). AddsOf l.nodes c.listed.new.nodes c.args.list (λ all. DeclaratorNode all l.index d ∷ [])) c.declared.ensures c.in_ok-listed.ensures) end rest);
     }
@@ -30,4 +31,5 @@ returns-clause-adds c =
     let t = seen_type c.args.of.now in
     let l = c.loop-declarator in
     l.invariant.adds l.nodes
-    (over_of (rests.declarators_from k t) (rests.one_declarator k t) rests.one_more (rests.declarators_cons k t) c.args.declarators.now l.nodes c.args.list l.index l.declarator-index (omega arith) (λ all. refl))
+    (over_of (rests.declarators_from k t) (rests.one_declarator k t) rests.one_more (rests.declarators_cons k t) c.args.declarators.now l.nodes c.args.list l.index l.declarator-index (omega arith)
+    (λ all. refl))

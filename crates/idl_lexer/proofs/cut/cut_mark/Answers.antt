@@ -8,4 +8,5 @@ returns-then-pair_stands-clause-cut c =
 
 pub returns-else-pair_stands-clause-cut : goal.returns-else-pair_stands-clause-cut
 returns-else-pair_stands-clause-cut c =
-    (placed _ _ _ _ _ c.token-else-pair_stands.ensures (single_cut c.args.text.now c.args.from c.requires.within c.requires.mark c.requires.alone (c.pair_stands.ensures.none c.if-pair_stands.false))).0
+    (placed _ _ _ _ _ c.token-else-pair_stands.ensures
+    (single_cut c.args.text.now c.args.from c.requires.within c.requires.mark c.requires.alone (c.pair_stands.ensures.none c.if-pair_stands.false))).0

@@ -9,7 +9,9 @@ use Rattle.idl_listing.proofs.type_lines.attributes.Goals as goal
 pub loop-at-preserved : goal.loop-at-preserved
 loop-at-preserved c =
     let l = c.loop-at in
-    ap (λ t. t ++ behind (flat_map (attr_words c.args.members.now) (drop (l.at + 1) c.args.vars.now))) (c.in_ok-attribute.ensures ∙ ap (λ n. l.text ++ behind (attr_word c.in-Some.var.now.attr ∷ (star c.in-Some.var.now.star ++ n) ∷ [])) c.member_name.ensures) ∙ words_more (attr_words c.args.members.now) c.args.vars.now l.at c.in-Some.var.now l.text c.in-Some.ensures.some ∙ l.invariant
+    ap (λ t. t ++ behind (flat_map (attr_words c.args.members.now) (drop (l.at + 1) c.args.vars.now)))
+    (c.in_ok-attribute.ensures ∙ ap (λ n. l.text ++ behind (attr_word c.in-Some.var.now.attr ∷ (star c.in-Some.var.now.star ++ n) ∷ [])) c.member_name.ensures)
+    ∙ words_more (attr_words c.args.members.now) c.args.vars.now l.at c.in-Some.var.now l.text c.in-Some.ensures.some ∙ l.invariant
 
 pub returns : goal.returns
 returns c =

@@ -8,7 +8,8 @@ use Rattle.idl_listing.proofs.type_lines.member_lines.Goals as goal
 pub loop-at-preserved : goal.loop-at-preserved
 loop-at-preserved c =
     let l = c.loop-at in
-    ap (λ t. t ++ flat_map (member_line c.args.members.now) (drop (l.at + 1) c.args.members.now)) c.in_ok-member_line.ensures ∙ line_more (member_line c.args.members.now) c.args.members.now l.at c.in-Some.member.now l.text c.in-Some.ensures.some ∙ l.invariant
+    ap (λ t. t ++ flat_map (member_line c.args.members.now) (drop (l.at + 1) c.args.members.now)) c.in_ok-member_line.ensures
+    ∙ line_more (member_line c.args.members.now) c.args.members.now l.at c.in-Some.member.now l.text c.in-Some.ensures.some ∙ l.invariant
 
 pub returns : goal.returns
 returns c =

@@ -32,12 +32,15 @@ returns-in_err-type_spec-in-Typedef c =
     let ts = λ (b : Bool). steps.type_steps b (seen.seen_type c.in-Typedef.of) in
     let u : List Step = ts (not c.in-Typedef.pipe && list_all steps.is_pointer (map seen.seen_declarator c.in-Typedef.declarators.items)) in
     let d : List Step = flat_map steps.typedef_steps (map seen.seen_declarator c.in-Typedef.declarators.items) in
-    let bp : c.is_behind_pointers-behind_pointers.result ≡ (not c.in-Typedef.pipe && list_all steps.is_pointer (map seen.seen_declarator c.in-Typedef.declarators.items)) = c.is_behind_pointers-behind_pointers.ensures ∙ ap (λ (xs : List Declarator). not c.in-Typedef.pipe && list_all steps.is_pointer (map seen.seen_declarator xs)) c.as_slice.ensures.value in
-    subst (λ (x : Export). IsRight c.type_spec.new.names c.from_residual-in_err-type_spec-in-Typedef.result (walked file k (steps.export_steps c.args.is_main (seen.seen_export x)))) (sym c.in-Typedef.is)
+    let bp : c.is_behind_pointers-behind_pointers.result ≡ (not c.in-Typedef.pipe && list_all steps.is_pointer (map seen.seen_declarator c.in-Typedef.declarators.items)) =
+    c.is_behind_pointers-behind_pointers.ensures ∙ ap (λ (xs : List Declarator). not c.in-Typedef.pipe && list_all steps.is_pointer (map seen.seen_declarator xs)) c.as_slice.ensures.value in
+    subst (λ (x : Export). IsRight c.type_spec.new.names c.from_residual-in_err-type_spec-in-Typedef.result (walked file k (steps.export_steps c.args.is_main (seen.seen_export x))))
+    (sym c.in-Typedef.is)
     (at_fault c.type_spec.new.names c.from_residual-in_err-type_spec-in-Typedef.result c.in_err-type_spec-in-Typedef.field-0.0 (walked file k (o ++ u ++ d))
     (told_fault c.from_residual-in_err-type_spec-in-Typedef.result c.in_err-type_spec-in-Typedef.field-0.0 c.from_residual-in_err-type_spec-in-Typedef.ensures.1)
     (right_stop file k (o ++ u) d c.in_err-type_spec-in-Typedef.field-0.0
-    (later_stop file k k o u c.in_err-type_spec-in-Typedef.field-0.0 c.in_ok-optional_attributes-in-Typedef.ensures (subst (λ b. is_memory c.in_err-type_spec-in-Typedef.field-0.0 ≡ false → walked file k (ts b) ≡ Err c.in_err-type_spec-in-Typedef.field-0.0) bp c.in_err-type_spec-in-Typedef.ensures))))
+    (later_stop file k k o u c.in_err-type_spec-in-Typedef.field-0.0 c.in_ok-optional_attributes-in-Typedef.ensures
+    (subst (λ b. is_memory c.in_err-type_spec-in-Typedef.field-0.0 ≡ false → walked file k (ts b) ≡ Err c.in_err-type_spec-in-Typedef.field-0.0) bp c.in_err-type_spec-in-Typedef.ensures))))
 
 pub returns-in_ok-type_spec-in-Typedef : goal.returns-in_ok-type_spec-in-Typedef
 returns-in_ok-type_spec-in-Typedef c =
@@ -47,10 +50,12 @@ returns-in_ok-type_spec-in-Typedef c =
     let ts = λ (b : Bool). steps.type_steps b (seen.seen_type c.in-Typedef.of) in
     let u : List Step = ts (not c.in-Typedef.pipe && list_all steps.is_pointer (map seen.seen_declarator c.in-Typedef.declarators.items)) in
     let d : List Step = flat_map steps.typedef_steps (map seen.seen_declarator c.in-Typedef.declarators.items) in
-    let bp : c.is_behind_pointers-behind_pointers.result ≡ (not c.in-Typedef.pipe && list_all steps.is_pointer (map seen.seen_declarator c.in-Typedef.declarators.items)) = c.is_behind_pointers-behind_pointers.ensures ∙ ap (λ (xs : List Declarator). not c.in-Typedef.pipe && list_all steps.is_pointer (map seen.seen_declarator xs)) c.as_slice.ensures.value in
+    let bp : c.is_behind_pointers-behind_pointers.result ≡ (not c.in-Typedef.pipe && list_all steps.is_pointer (map seen.seen_declarator c.in-Typedef.declarators.items)) =
+    c.is_behind_pointers-behind_pointers.ensures ∙ ap (λ (xs : List Declarator). not c.in-Typedef.pipe && list_all steps.is_pointer (map seen.seen_declarator xs)) c.as_slice.ensures.value in
     subst (λ (x : Export). IsRight c.typedefs.new.names c.typedefs.result (walked file k (steps.export_steps c.args.is_main (seen.seen_export x)))) (sym c.in-Typedef.is)
     (right_on file k c.type_spec.new.names c.typedefs.new.names (o ++ u) d c.typedefs.result
-    (both_on file k k c.type_spec.new.names o u c.in_ok-optional_attributes-in-Typedef.ensures (subst (λ b. walked file k (ts b) ≡ Ok c.type_spec.new.names) bp c.in_ok-type_spec-in-Typedef.ensures)) c.typedefs.ensures)
+    (both_on file k k c.type_spec.new.names o u c.in_ok-optional_attributes-in-Typedef.ensures
+    (subst (λ b. walked file k (ts b) ≡ Ok c.type_spec.new.names) bp c.in_ok-type_spec-in-Typedef.ensures)) c.typedefs.ensures)
 
 pub returns-in_err-optional_attributes-in-Tagged : goal.returns-in_err-optional_attributes-in-Tagged
 returns-in_err-optional_attributes-in-Tagged c =

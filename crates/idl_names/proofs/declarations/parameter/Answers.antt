@@ -35,7 +35,8 @@ returns-in_err-type_spec-clause-right c =
     at_fault c.type_spec.new.names c.from_residual-in_err-type_spec.result c.in_err-type_spec.field-0.0 (walked file k (o ++ t ++ l))
     (told_fault c.from_residual-in_err-type_spec.result c.in_err-type_spec.field-0.0 c.from_residual-in_err-type_spec.ensures.1)
     (right_stop file k (o ++ t) l c.in_err-type_spec.field-0.0
-    (later_stop file k k o t c.in_err-type_spec.field-0.0 c.in_ok-optional_attributes.ensures (subst (λ b. is_memory c.in_err-type_spec.field-0.0 ≡ false → walked file k (ts b) ≡ Err c.in_err-type_spec.field-0.0) c.is_pointer-behind_pointers.ensures c.in_err-type_spec.ensures)))
+    (later_stop file k k o t c.in_err-type_spec.field-0.0 c.in_ok-optional_attributes.ensures
+    (subst (λ b. is_memory c.in_err-type_spec.field-0.0 ≡ false → walked file k (ts b) ≡ Err c.in_err-type_spec.field-0.0) c.is_pointer-behind_pointers.ensures c.in_err-type_spec.ensures)))
 
 pub returns-clause-right : goal.returns-clause-right
 returns-clause-right c =
@@ -48,4 +49,5 @@ returns-clause-right c =
     let t : List Step = ts pointer in
     let l : List Step = steps.listed_steps before (seen.seen_declarator c.args.parameter.now.declarator) in
     right_on file k c.type_spec.new.names c.type_spec.new.names (o ++ t) l c.listed_declarator.result
-    (both_on file k k c.type_spec.new.names o t c.in_ok-optional_attributes.ensures (subst (λ b. walked file k (ts b) ≡ Ok c.type_spec.new.names) c.is_pointer-behind_pointers.ensures c.in_ok-type_spec.ensures)) c.listed_declarator.ensures.told
+    (both_on file k k c.type_spec.new.names o t c.in_ok-optional_attributes.ensures
+    (subst (λ b. walked file k (ts b) ≡ Ok c.type_spec.new.names) c.is_pointer-behind_pointers.ensures c.in_ok-type_spec.ensures)) c.listed_declarator.ensures.told

@@ -22,13 +22,17 @@ use Rattle.idl_names.proofs.resolving.+files.Goals as goal
 
 pub import-returns-in_err-name : goal.import-returns-in_err-name
 import-returns-in_err-name g t c =
-    let p : Point = point (g.F.Files.held c.args.files.now) (g.F.Files.asked c.args.files.now) (g.F.Files.absences c.args.files.now) (g.F.Files.faults c.args.files.now) (seen_state c.args.sources.now c.args.state.now) in
+    let p : Point =
+    point (g.F.Files.held c.args.files.now) (g.F.Files.asked c.args.files.now) (g.F.Files.absences c.args.files.now) (g.F.Files.faults c.args.files.now)
+    (seen_state c.args.sources.now c.args.state.now) in
     let dues = load_of c.args.file c.args.string.now ∷ [] in
     passed_on p p dues [] c.from_residual.result fault.Memory c.from_residual.ensures.1 (going.stops_short p dues fault.Memory refl c.requires)
 
 pub import-returns-in-Some : goal.import-returns-in-Some
 import-returns-in-Some g t c =
-    let p : Point = point (g.F.Files.held c.args.files.now) (g.F.Files.asked c.args.files.now) (g.F.Files.absences c.args.files.now) (g.F.Files.faults c.args.files.now) (seen_state c.args.sources.now c.args.state.now) in
+    let p : Point =
+    point (g.F.Files.held c.args.files.now) (g.F.Files.asked c.args.files.now) (g.F.Files.absences c.args.files.now) (g.F.Files.faults c.args.files.now)
+    (seen_state c.args.sources.now c.args.state.now) in
     let name = file_named c.args.string.now.octets in
     let is : c.as_str.result.now ≡ name = c.as_str.ensures.value ∙ (c.in_ok-name.ensures ∙ ap file_named c.as_slice.ensures) in
     going.again_went p (place_in c.args.file c.args.string.now) name c.requires c.in-Some.number tt
@@ -36,7 +40,9 @@ import-returns-in-Some g t c =
 
 pub import-returns-in-Some-2 : goal.import-returns-in-Some-2
 import-returns-in-Some-2 g t c =
-    let p : Point = point (g.F.Files.held c.args.files.now) (g.F.Files.asked c.args.files.now) (g.F.Files.absences c.args.files.now) (g.F.Files.faults c.args.files.now) (seen_state c.args.sources.now c.args.state.now) in
+    let p : Point =
+    point (g.F.Files.held c.args.files.now) (g.F.Files.asked c.args.files.now) (g.F.Files.absences c.args.files.now) (g.F.Files.faults c.args.files.now)
+    (seen_state c.args.sources.now c.args.state.now) in
     let name = file_named c.args.string.now.octets in
     let is : c.as_str.result.now ≡ name = c.as_str.ensures.value ∙ (c.in_ok-name.ensures ∙ ap file_named c.as_slice.ensures) in
     going.cycle_went p (place_in c.args.file c.args.string.now) name c.requires c.in-Some.number
@@ -44,7 +50,9 @@ import-returns-in-Some-2 g t c =
 
 pub import-returns-in-None : goal.import-returns-in-None
 import-returns-in-None g t c =
-    let p : Point = point (g.F.Files.held c.args.files.now) (g.F.Files.asked c.args.files.now) (g.F.Files.absences c.args.files.now) (g.F.Files.faults c.args.files.now) (seen_state c.args.sources.now c.args.state.now) in
+    let p : Point =
+    point (g.F.Files.held c.args.files.now) (g.F.Files.asked c.args.files.now) (g.F.Files.absences c.args.files.now) (g.F.Files.faults c.args.files.now)
+    (seen_state c.args.sources.now c.args.state.now) in
     let name = file_named c.args.string.now.octets in
     let is : c.as_str.result.now ≡ name = c.as_str.ensures.value ∙ (c.in_ok-name.ensures ∙ ap file_named c.as_slice.ensures) in
     going.too_many_went p (place_in c.args.file c.args.string.now) name c.requires
@@ -52,60 +60,95 @@ import-returns-in-None g t c =
 
 pub import-returns : goal.import-returns
 import-returns g t c =
-    let p : Point = point (g.F.Files.held c.args.files.now) (g.F.Files.asked c.args.files.now) (g.F.Files.absences c.args.files.now) (g.F.Files.faults c.args.files.now) (seen_state c.args.sources.now c.args.state.now) in
-    let q : Point = point (g.F.Files.held c.load.new.files) (g.F.Files.asked c.load.new.files) (g.F.Files.absences c.load.new.files) (g.F.Files.faults c.load.new.files) (seen_state c.load.new.sources c.args.state.now) in
-    let r : Point = point (g.F.Files.held c.whole.new.files) (g.F.Files.asked c.whole.new.files) (g.F.Files.absences c.whole.new.files) (g.F.Files.faults c.whole.new.files) (seen_state c.whole.new.sources c.whole.new.state) in
+    let p : Point =
+    point (g.F.Files.held c.args.files.now) (g.F.Files.asked c.args.files.now) (g.F.Files.absences c.args.files.now) (g.F.Files.faults c.args.files.now)
+    (seen_state c.args.sources.now c.args.state.now) in
+    let q : Point =
+    point (g.F.Files.held c.load.new.files) (g.F.Files.asked c.load.new.files) (g.F.Files.absences c.load.new.files) (g.F.Files.faults c.load.new.files)
+    (seen_state c.load.new.sources c.args.state.now) in
+    let r : Point =
+    point (g.F.Files.held c.whole.new.files) (g.F.Files.asked c.whole.new.files) (g.F.Files.absences c.whole.new.files) (g.F.Files.faults c.whole.new.files)
+    (seen_state c.whole.new.sources c.whole.new.state) in
     let name = file_named c.args.string.now.octets in
     let is : c.as_str.result.now ≡ name = c.as_str.ensures.value ∙ (c.in_ok-name.ensures ∙ ap file_named c.as_slice.ensures) in
     let same : c.as_str-in-None-2.result.now ≡ name = c.as_str-in-None-2.ensures.value ∙ (c.in_ok-name.ensures ∙ ap file_named c.as_slice.ensures) in
     going.enters_went p (place_in c.args.file c.args.string.now) name c.requires q r (seen_file c.in_ok-loaded-in-None-2.loaded) c.whole.result
     (ap (file_number c.args.sources.now) (sym is) ∙ sym c.in-None.ensures) (omega (arith, c.if-count-ge-WALK_LIMIT.false, c.count.ensures))
     (subst (λ (n : List ℕ). IsLoaded p.held p.state.sources n q.state.sources (seen_file c.in_ok-loaded-in-None-2.loaded)) same c.in_ok-loaded-in-None-2.ensures.ok)
-    refl refl c.in_ok-loaded-in-None-2.ensures.same c.in_ok-loaded-in-None-2.ensures.asked c.in_ok-loaded-in-None-2.ensures.later c.in_ok-loaded-in-None-2.ensures.absences_later c.in_ok-loaded-in-None-2.ensures.more
+    refl refl c.in_ok-loaded-in-None-2.ensures.same c.in_ok-loaded-in-None-2.ensures.asked c.in_ok-loaded-in-None-2.ensures.later c.in_ok-loaded-in-None-2.ensures.absences_later
+    c.in_ok-loaded-in-None-2.ensures.more
     c.whole.ensures.went
 
 -- ## import_all
 
 pub import_all-returns-in_err-import : goal.import_all-returns-in_err-import
 import_all-returns-in_err-import g t c =
-    let p : Point = point (g.F.Files.held c.args.files.now) (g.F.Files.asked c.args.files.now) (g.F.Files.absences c.args.files.now) (g.F.Files.faults c.args.files.now) (seen_state c.args.sources.now c.args.state.now) in
-    let q : Point = point (g.F.Files.held c.loop-string.files) (g.F.Files.asked c.loop-string.files) (g.F.Files.absences c.loop-string.files) (g.F.Files.faults c.loop-string.files) (seen_state c.loop-string.sources c.loop-string.state) in
-    let r : Point = point (g.F.Files.held c.import.new.files) (g.F.Files.asked c.import.new.files) (g.F.Files.absences c.import.new.files) (g.F.Files.faults c.import.new.files) (seen_state c.import.new.sources c.import.new.state) in
-    passed_on p r (loads c.args.file c.args.strings.now) (loads c.args.file (drop (c.loop-string.string-index + 1) c.args.strings.now)) c.from_residual.result c.in_err-import.field-0.0 c.from_residual.ensures.1
-    (going.next_item (loads c.args.file) (λ x. load_of c.args.file x ∷ []) refl (one_load c.args.file) c.args.strings.now p q r (loads c.args.file c.args.strings.now) c.loop-string.string-index c.string-item.result
+    let p : Point =
+    point (g.F.Files.held c.args.files.now) (g.F.Files.asked c.args.files.now) (g.F.Files.absences c.args.files.now) (g.F.Files.faults c.args.files.now)
+    (seen_state c.args.sources.now c.args.state.now) in
+    let q : Point =
+    point (g.F.Files.held c.loop-string.files) (g.F.Files.asked c.loop-string.files) (g.F.Files.absences c.loop-string.files) (g.F.Files.faults c.loop-string.files)
+    (seen_state c.loop-string.sources c.loop-string.state) in
+    let r : Point =
+    point (g.F.Files.held c.import.new.files) (g.F.Files.asked c.import.new.files) (g.F.Files.absences c.import.new.files) (g.F.Files.faults c.import.new.files)
+    (seen_state c.import.new.sources c.import.new.state) in
+    passed_on p r (loads c.args.file c.args.strings.now)
+    (loads c.args.file (drop (c.loop-string.string-index + 1) c.args.strings.now)) c.from_residual.result c.in_err-import.field-0.0 c.from_residual.ensures.1
+    (going.next_item (loads c.args.file) (λ x. load_of c.args.file x ∷ []) refl (one_load c.args.file) c.args.strings.now p q r
+    (loads c.args.file c.args.strings.now) c.loop-string.string-index c.string-item.result
     0 (Err c.in_err-import.field-0.0) (omega arith) c.string-item.is c.loop-string.invariant c.in_err-import.ensures)
 
 pub import_all-returns : goal.import_all-returns
 import_all-returns g t c =
-    let p : Point = point (g.F.Files.held c.args.files.now) (g.F.Files.asked c.args.files.now) (g.F.Files.absences c.args.files.now) (g.F.Files.faults c.args.files.now) (seen_state c.args.sources.now c.args.state.now) in
-    let q : Point = point (g.F.Files.held c.loop-string.files) (g.F.Files.asked c.loop-string.files) (g.F.Files.absences c.loop-string.files) (g.F.Files.faults c.loop-string.files) (seen_state c.loop-string.sources c.loop-string.state) in
+    let p : Point =
+    point (g.F.Files.held c.args.files.now) (g.F.Files.asked c.args.files.now) (g.F.Files.absences c.args.files.now) (g.F.Files.faults c.args.files.now)
+    (seen_state c.args.sources.now c.args.state.now) in
+    let q : Point =
+    point (g.F.Files.held c.loop-string.files) (g.F.Files.asked c.loop-string.files) (g.F.Files.absences c.loop-string.files) (g.F.Files.faults c.loop-string.files)
+    (seen_state c.loop-string.sources c.loop-string.state) in
     going.any_value p q (loads c.args.file c.args.strings.now) [] 0 tt
-    (going.no_item (loads c.args.file) (λ x. load_of c.args.file x ∷ []) refl (one_load c.args.file) c.args.strings.now p q (loads c.args.file c.args.strings.now) c.loop-string.string-index 0 (omega arith) c.loop-string.invariant)
+    (going.no_item (loads c.args.file) (λ x. load_of c.args.file x ∷ []) refl (one_load c.args.file) c.args.strings.now p q (loads c.args.file c.args.strings.now) c.loop-string.string-index 0
+    (omega arith) c.loop-string.invariant)
 
 -- ## imports
 
 pub imports-returns-in_err-import_all : goal.imports-returns-in_err-import_all
 imports-returns-in_err-import_all g t c =
-    let p : Point = point (g.F.Files.held c.args.files.now) (g.F.Files.asked c.args.files.now) (g.F.Files.absences c.args.files.now) (g.F.Files.faults c.args.files.now) (seen_state c.args.sources.now c.args.state.now) in
-    let q : Point = point (g.F.Files.held c.loop-one.files) (g.F.Files.asked c.loop-one.files) (g.F.Files.absences c.loop-one.files) (g.F.Files.faults c.loop-one.files) (seen_state c.loop-one.sources c.loop-one.state) in
-    let r : Point = point (g.F.Files.held c.import_all.new.files) (g.F.Files.asked c.import_all.new.files) (g.F.Files.absences c.import_all.new.files) (g.F.Files.faults c.import_all.new.files) (seen_state c.import_all.new.sources c.import_all.new.state) in
-    passed_on p r (loads_of c.args.file c.args.list.now) (loads_of c.args.file (drop (c.loop-one.one-index + 1) c.args.list.now)) c.from_residual.result c.in_err-import_all.field-0.0 c.from_residual.ensures.1
-    (going.next_item (loads_of c.args.file) (λ m. loads c.args.file m.files.items) refl (one_import c.args.file) c.args.list.now p q r (loads_of c.args.file c.args.list.now) c.loop-one.one-index c.one-item.result
+    let p : Point =
+    point (g.F.Files.held c.args.files.now) (g.F.Files.asked c.args.files.now) (g.F.Files.absences c.args.files.now) (g.F.Files.faults c.args.files.now)
+    (seen_state c.args.sources.now c.args.state.now) in
+    let q : Point =
+    point (g.F.Files.held c.loop-one.files) (g.F.Files.asked c.loop-one.files) (g.F.Files.absences c.loop-one.files) (g.F.Files.faults c.loop-one.files)
+    (seen_state c.loop-one.sources c.loop-one.state) in
+    let r : Point =
+    point (g.F.Files.held c.import_all.new.files) (g.F.Files.asked c.import_all.new.files) (g.F.Files.absences c.import_all.new.files) (g.F.Files.faults c.import_all.new.files)
+    (seen_state c.import_all.new.sources c.import_all.new.state) in
+    passed_on p r (loads_of c.args.file c.args.list.now)
+    (loads_of c.args.file (drop (c.loop-one.one-index + 1) c.args.list.now)) c.from_residual.result c.in_err-import_all.field-0.0 c.from_residual.ensures.1
+    (going.next_item (loads_of c.args.file) (λ m. loads c.args.file m.files.items) refl (one_import c.args.file) c.args.list.now p q r
+    (loads_of c.args.file c.args.list.now) c.loop-one.one-index c.one-item.result
     0 (Err c.in_err-import_all.field-0.0) (omega arith) c.one-item.is c.loop-one.invariant
     (subst (λ (l : List Spelling). Went {A = Unit {0}} q (loads c.args.file l) r [] (Err c.in_err-import_all.field-0.0)) c.as_slice.ensures.value c.in_err-import_all.ensures))
 
 pub imports-returns : goal.imports-returns
 imports-returns g t c =
-    let p : Point = point (g.F.Files.held c.args.files.now) (g.F.Files.asked c.args.files.now) (g.F.Files.absences c.args.files.now) (g.F.Files.faults c.args.files.now) (seen_state c.args.sources.now c.args.state.now) in
-    let q : Point = point (g.F.Files.held c.loop-one.files) (g.F.Files.asked c.loop-one.files) (g.F.Files.absences c.loop-one.files) (g.F.Files.faults c.loop-one.files) (seen_state c.loop-one.sources c.loop-one.state) in
+    let p : Point =
+    point (g.F.Files.held c.args.files.now) (g.F.Files.asked c.args.files.now) (g.F.Files.absences c.args.files.now) (g.F.Files.faults c.args.files.now)
+    (seen_state c.args.sources.now c.args.state.now) in
+    let q : Point =
+    point (g.F.Files.held c.loop-one.files) (g.F.Files.asked c.loop-one.files) (g.F.Files.absences c.loop-one.files) (g.F.Files.faults c.loop-one.files)
+    (seen_state c.loop-one.sources c.loop-one.state) in
     going.any_value p q (loads_of c.args.file c.args.list.now) [] 0 tt
-    (going.no_item (loads_of c.args.file) (λ m. loads c.args.file m.files.items) refl (one_import c.args.file) c.args.list.now p q (loads_of c.args.file c.args.list.now) c.loop-one.one-index 0 (omega arith) c.loop-one.invariant)
+    (going.no_item (loads_of c.args.file) (λ m. loads c.args.file m.files.items) refl (one_import c.args.file) c.args.list.now p q (loads_of c.args.file c.args.list.now) c.loop-one.one-index 0
+    (omega arith) c.loop-one.invariant)
 
 -- ## whole
 
 pub whole-returns-in_err-attributes-clause-went : goal.whole-returns-in_err-attributes-clause-went
 whole-returns-in_err-attributes-clause-went g t c =
-    let p : Point = point (g.F.Files.held c.args.files.now) (g.F.Files.asked c.args.files.now) (g.F.Files.absences c.args.files.now) (g.F.Files.faults c.args.files.now) (seen_state c.args.sources.now c.args.state.now) in
+    let p : Point =
+    point (g.F.Files.held c.args.files.now) (g.F.Files.asked c.args.files.now) (g.F.Files.absences c.args.files.now) (g.F.Files.faults c.args.files.now)
+    (seen_state c.args.sources.now c.args.state.now) in
     let file = c.args.of.file in
     let t = seen_tree c.args.of.tree in
     passed_on p p (all_of file t) (going.behind_attributes file t) c.from_residual.result c.in_err-attributes.field-0.0 c.from_residual.ensures.1
@@ -113,8 +156,12 @@ whole-returns-in_err-attributes-clause-went g t c =
 
 pub whole-returns-in_err-imports-clause-went : goal.whole-returns-in_err-imports-clause-went
 whole-returns-in_err-imports-clause-went g t c =
-    let p : Point = point (g.F.Files.held c.args.files.now) (g.F.Files.asked c.args.files.now) (g.F.Files.absences c.args.files.now) (g.F.Files.faults c.args.files.now) (seen_state c.args.sources.now c.args.state.now) in
-    let q : Point = point (g.F.Files.held c.imports.new.files) (g.F.Files.asked c.imports.new.files) (g.F.Files.absences c.imports.new.files) (g.F.Files.faults c.imports.new.files) (seen_state c.imports.new.sources c.imports.new.state) in
+    let p : Point =
+    point (g.F.Files.held c.args.files.now) (g.F.Files.asked c.args.files.now) (g.F.Files.absences c.args.files.now) (g.F.Files.faults c.args.files.now)
+    (seen_state c.args.sources.now c.args.state.now) in
+    let q : Point =
+    point (g.F.Files.held c.imports.new.files) (g.F.Files.asked c.imports.new.files) (g.F.Files.absences c.imports.new.files) (g.F.Files.faults c.imports.new.files)
+    (seen_state c.imports.new.sources c.imports.new.state) in
     let file = c.args.of.file in
     let t = seen_tree c.args.of.tree in
     let strings : List Spelling = flat_map (λ m. m.files) (map seen_import c.as_slice.result.now) in
@@ -125,21 +172,30 @@ whole-returns-in_err-imports-clause-went g t c =
 
 pub whole-returns-in_err-exports-clause-went : goal.whole-returns-in_err-exports-clause-went
 whole-returns-in_err-exports-clause-went g t c =
-    let p : Point = point (g.F.Files.held c.args.files.now) (g.F.Files.asked c.args.files.now) (g.F.Files.absences c.args.files.now) (g.F.Files.faults c.args.files.now) (seen_state c.args.sources.now c.args.state.now) in
-    let q : Point = point (g.F.Files.held c.imports.new.files) (g.F.Files.asked c.imports.new.files) (g.F.Files.absences c.imports.new.files) (g.F.Files.faults c.imports.new.files) (seen_state c.imports.new.sources c.imports.new.state) in
+    let p : Point =
+    point (g.F.Files.held c.args.files.now) (g.F.Files.asked c.args.files.now) (g.F.Files.absences c.args.files.now) (g.F.Files.faults c.args.files.now)
+    (seen_state c.args.sources.now c.args.state.now) in
+    let q : Point =
+    point (g.F.Files.held c.imports.new.files) (g.F.Files.asked c.imports.new.files) (g.F.Files.absences c.imports.new.files) (g.F.Files.faults c.imports.new.files)
+    (seen_state c.imports.new.sources c.imports.new.state) in
     let file = c.args.of.file in
     let t = seen_tree c.args.of.tree in
     let strings : List Spelling = flat_map (λ m. m.files) (map seen_import c.as_slice.result.now) in
     let is : strings ≡ imports_of t = ap (λ l. flat_map (λ m. m.files) (map seen_import l)) c.as_slice.ensures.value in
-    passed_on p (going.at_state q (with_known q.state c.exports.new.names)) (all_of file t) (End file t ∷ []) c.from_residual-in_err-exports.result c.in_err-exports.field-0.0 c.from_residual-in_err-exports.ensures.1
+    passed_on p (going.at_state q (with_known q.state c.exports.new.names)) (all_of file t)
+    (End file t ∷ []) c.from_residual-in_err-exports.result c.in_err-exports.field-0.0 c.from_residual-in_err-exports.ensures.1
     (going.exports_went p q file t c.exports.new.names c.in_ok-imports.field-0 (Err c.in_err-exports.field-0.0)
     (going.imports_went p q file t strings c.in_ok-attributes.field-0 (Ok c.in_ok-imports.field-0) is
     (going.attributes_went p file t (Ok c.in_ok-attributes.field-0) c.requires c.in_ok-attributes.ensures) c.in_ok-imports.ensures) c.in_err-exports.ensures)
 
 pub whole-returns-in_err-push-clause-went : goal.whole-returns-in_err-push-clause-went
 whole-returns-in_err-push-clause-went g t c =
-    let p : Point = point (g.F.Files.held c.args.files.now) (g.F.Files.asked c.args.files.now) (g.F.Files.absences c.args.files.now) (g.F.Files.faults c.args.files.now) (seen_state c.args.sources.now c.args.state.now) in
-    let q : Point = point (g.F.Files.held c.imports.new.files) (g.F.Files.asked c.imports.new.files) (g.F.Files.absences c.imports.new.files) (g.F.Files.faults c.imports.new.files) (seen_state c.imports.new.sources c.imports.new.state) in
+    let p : Point =
+    point (g.F.Files.held c.args.files.now) (g.F.Files.asked c.args.files.now) (g.F.Files.absences c.args.files.now) (g.F.Files.faults c.args.files.now)
+    (seen_state c.args.sources.now c.args.state.now) in
+    let q : Point =
+    point (g.F.Files.held c.imports.new.files) (g.F.Files.asked c.imports.new.files) (g.F.Files.absences c.imports.new.files) (g.F.Files.faults c.imports.new.files)
+    (seen_state c.imports.new.sources c.imports.new.state) in
     let file = c.args.of.file in
     let t = seen_tree c.args.of.tree in
     let strings : List Spelling = flat_map (λ m. m.files) (map seen_import c.as_slice.result.now) in
@@ -153,8 +209,12 @@ whole-returns-in_err-push-clause-went g t c =
 
 pub whole-returns-clause-went : goal.whole-returns-clause-went
 whole-returns-clause-went g t c =
-    let p : Point = point (g.F.Files.held c.args.files.now) (g.F.Files.asked c.args.files.now) (g.F.Files.absences c.args.files.now) (g.F.Files.faults c.args.files.now) (seen_state c.args.sources.now c.args.state.now) in
-    let q : Point = point (g.F.Files.held c.imports.new.files) (g.F.Files.asked c.imports.new.files) (g.F.Files.absences c.imports.new.files) (g.F.Files.faults c.imports.new.files) (seen_state c.imports.new.sources c.imports.new.state) in
+    let p : Point =
+    point (g.F.Files.held c.args.files.now) (g.F.Files.asked c.args.files.now) (g.F.Files.absences c.args.files.now) (g.F.Files.faults c.args.files.now)
+    (seen_state c.args.sources.now c.args.state.now) in
+    let q : Point =
+    point (g.F.Files.held c.imports.new.files) (g.F.Files.asked c.imports.new.files) (g.F.Files.absences c.imports.new.files) (g.F.Files.faults c.imports.new.files)
+    (seen_state c.imports.new.sources c.imports.new.state) in
     let file = c.args.of.file in
     let t = seen_tree c.args.of.tree in
     let strings : List Spelling = flat_map (λ m. m.files) (map seen_import c.as_slice.result.now) in

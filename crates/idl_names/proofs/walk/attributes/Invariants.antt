@@ -8,4 +8,6 @@ use Rattle.idl_names.proofs.walk.attributes.Given as goal
 
 -- the steps of the items that are left come to what those of all come to
 abbrev pub invariant-loop-one : goal.invariant-loop-one
-invariant-loop-one l = walked l.file l.names (from seen.seen_attribute (λ x. steps.kind_steps x.kind) l.one-items l.one-index) ≡ walked l.file l.names (flat_map (λ x. steps.kind_steps x.kind) (map seen.seen_attribute l.one-items))
+invariant-loop-one l =
+    walked l.file l.names (from seen.seen_attribute (λ x. steps.kind_steps x.kind) l.one-items l.one-index)
+    ≡ walked l.file l.names (flat_map (λ x. steps.kind_steps x.kind) (map seen.seen_attribute l.one-items))

@@ -8,7 +8,8 @@ use Rattle.idl_names.proofs.walk.dimensions.Goals as goal
 
 pub loop-one-preserved : goal.loop-one-preserved
 loop-one-preserved c =
-    next_item (option_map seen.seen_bound) steps.bound_steps c.deref-one-items.result.now c.args.file c.args.names.now c.args.names.now c.loop-one.one-index c.one-item.result (omega arith) c.one-item.is c.in_ok-bound.ensures
+    next_item (option_map seen.seen_bound) steps.bound_steps c.deref-one-items.result.now c.args.file c.args.names.now c.args.names.now c.loop-one.one-index c.one-item.result
+    (omega arith) c.one-item.is c.in_ok-bound.ensures
     ∙ c.loop-one.invariant
 
 pub returns : goal.returns

@@ -8,4 +8,6 @@ use Rattle.idl_names.proofs.walk.dimensions.Given as goal
 
 -- the steps of the items that are left come to what those of all come to
 abbrev pub invariant-loop-one : goal.invariant-loop-one
-invariant-loop-one l = walked l.file l.names (from (option_map seen.seen_bound) steps.bound_steps l.one-items l.one-index) ≡ walked l.file l.names (flat_map steps.bound_steps (map (option_map seen.seen_bound) l.one-items))
+invariant-loop-one l =
+    walked l.file l.names (from (option_map seen.seen_bound) steps.bound_steps l.one-items l.one-index)
+    ≡ walked l.file l.names (flat_map steps.bound_steps (map (option_map seen.seen_bound) l.one-items))

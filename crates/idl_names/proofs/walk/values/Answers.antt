@@ -8,7 +8,8 @@ use Rattle.idl_names.proofs.walk.values.Goals as goal
 
 pub loop-expression-preserved : goal.loop-expression-preserved
 loop-expression-preserved c =
-    next_item seen.seen_expr steps.value_steps c.deref-expression-items.result.now c.args.file c.args.names.now c.args.names.now c.loop-expression.expression-index c.expression-item.result (omega arith) c.expression-item.is c.in_ok-check_value.ensures
+    next_item seen.seen_expr steps.value_steps c.deref-expression-items.result.now c.args.file c.args.names.now c.args.names.now c.loop-expression.expression-index c.expression-item.result
+    (omega arith) c.expression-item.is c.in_ok-check_value.ensures
     ∙ c.loop-expression.invariant
 
 pub returns : goal.returns

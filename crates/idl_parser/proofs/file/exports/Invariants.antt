@@ -9,7 +9,9 @@ use Rattle.idl_parser.proofs.file.exports.Given as goal
 
 -- what is gathered so far
 abbrev pub invariant-loop-list : goal.invariant-loop-list
-invariant-loop-list l = Gathered (λ a. is_in (export_firsts) a.symbol) (export_read l.fuel l.nesting l.parser l.depth) l.parser (list_read (export_firsts) l.parser (export_read l.fuel l.nesting l.parser l.depth) l.at) (map seen_export l.list.items) l.here × (l.at ≤ l.here)
+invariant-loop-list l =
+    Gathered (λ a. is_in (export_firsts) a.symbol) (export_read l.fuel l.nesting l.parser l.depth) l.parser (list_read (export_firsts) l.parser (export_read l.fuel l.nesting l.parser l.depth) l.at)
+    (map seen_export l.list.items) l.here × (l.at ≤ l.here)
 
 abbrev pub decreases-loop-list : goal.decreases-loop-list
 decreases-loop-list l = length l.parser - l.here

@@ -21,7 +21,10 @@ returns-in_err-next-clause-gives c =
     let p = err_from_is_err_and c.from_residual.result c.from_residual.ensures.1 in
     let h0 : is (symbol_at c.args.parser.now c.loop-list.here) symbol.Import ≡ true = cc in
     let h : is_in (symbol.Import ∷ []) (symbol_at c.args.parser.now c.loop-list.here) ≡ true = alone c.args.parser.now c.loop-list.here symbol.Import true h0 in
-    rw (p.1, p.2) (gathering_fails (λ a. is_in (symbol.Import ∷ []) a.symbol) (import_read c.args.parser.now) c.args.parser.now (list_read (symbol.Import ∷ []) c.args.parser.now (import_read c.args.parser.now) c.args.at) (map seen_import c.loop-list.list.items) c.loop-list.here c.loop-list.invariant.0 h c.in_err-next.field-0.0 c.in_err-next.ensures.gives)
+    rw (p.1, p.2)
+    (gathering_fails (λ a. is_in (symbol.Import ∷ []) a.symbol) (import_read c.args.parser.now) c.args.parser.now
+    (list_read (symbol.Import ∷ []) c.args.parser.now (import_read c.args.parser.now) c.args.at)
+    (map seen_import c.loop-list.list.items) c.loop-list.here c.loop-list.invariant.0 h c.in_err-next.field-0.0 c.in_err-next.ensures.gives)
 
 pub loop-list-smaller : goal.loop-list-smaller
 loop-list-smaller c = omega (arith, c.in_ok-next.ensures.within)
@@ -31,13 +34,19 @@ unfolding imports_read
 loop-list-preserved c =
     let h0 : is (symbol_at c.args.parser.now c.loop-list.here) symbol.Import ≡ true = cc in
     let h : is_in (symbol.Import ∷ []) (symbol_at c.args.parser.now c.loop-list.here) ≡ true = alone c.args.parser.now c.loop-list.here symbol.Import true h0 in
-    let e : (map seen_import c.push.new.self.items) ≡ (map seen_import c.loop-list.list.items) ++ (seen_import c.in_ok-next.next) ∷ [] = rw c.in_ok-push.ensures.items (map_push seen_import c.loop-list.list.items c.in_ok-next.next) in
-    rw e
-    (gathers (λ a. is_in (symbol.Import ∷ []) a.symbol) (import_read c.args.parser.now) c.args.parser.now (list_read (symbol.Import ∷ []) c.args.parser.now (import_read c.args.parser.now) c.args.at) (map seen_import c.loop-list.list.items) c.loop-list.here c.loop-list.invariant.0 h (seen_import c.in_ok-next.next) c.in_ok-next.past c.in_ok-next.ensures.gives c.in_ok-next.ensures.within.0 c.in_ok-next.ensures.within.1, omega (arith, c.in_ok-next.ensures.within, c.loop-list.invariant.1))
+    let e : (map seen_import c.push.new.self.items) ≡ (map seen_import c.loop-list.list.items) ++ (seen_import c.in_ok-next.next) ∷ [] =
+    rw c.in_ok-push.ensures.items (map_push seen_import c.loop-list.list.items c.in_ok-next.next) in
+    rw e (
+      gathers (λ a. is_in (symbol.Import ∷ []) a.symbol) (import_read c.args.parser.now) c.args.parser.now (list_read (symbol.Import ∷ []) c.args.parser.now (import_read c.args.parser.now) c.args.at)
+          (map seen_import c.loop-list.list.items) c.loop-list.here c.loop-list.invariant.0 h
+          (seen_import c.in_ok-next.next) c.in_ok-next.past c.in_ok-next.ensures.gives c.in_ok-next.ensures.within.0 c.in_ok-next.ensures.within.1,
+      omega (arith, c.in_ok-next.ensures.within, c.loop-list.invariant.1),
+    )
 
 pub returns-clause-gives : goal.returns-clause-gives
 unfolding imports_read
 returns-clause-gives c =
     let h0 : is (symbol_at c.args.parser.now c.loop-list.here) symbol.Import ≡ false = cc in
     let h : is_in (symbol.Import ∷ []) (symbol_at c.args.parser.now c.loop-list.here) ≡ false = alone c.args.parser.now c.loop-list.here symbol.Import false h0 in
-    gathered (λ a. is_in (symbol.Import ∷ []) a.symbol) (import_read c.args.parser.now) c.args.parser.now (list_read (symbol.Import ∷ []) c.args.parser.now (import_read c.args.parser.now) c.args.at) (map seen_import c.loop-list.list.items) c.loop-list.here c.loop-list.invariant.0 h
+    gathered (λ a. is_in (symbol.Import ∷ []) a.symbol) (import_read c.args.parser.now) c.args.parser.now (list_read (symbol.Import ∷ []) c.args.parser.now (import_read c.args.parser.now) c.args.at)
+    (map seen_import c.loop-list.list.items) c.loop-list.here c.loop-list.invariant.0 h

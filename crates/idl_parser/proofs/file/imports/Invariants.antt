@@ -9,7 +9,9 @@ use Rattle.idl_parser.proofs.file.imports.Given as goal
 
 -- what is gathered so far
 abbrev pub invariant-loop-list : goal.invariant-loop-list
-invariant-loop-list l = Gathered (λ a. is_in (symbol.Import ∷ []) a.symbol) (import_read l.parser) l.parser (list_read (symbol.Import ∷ []) l.parser (import_read l.parser) l.at) (map seen_import l.list.items) l.here × (l.at ≤ l.here)
+invariant-loop-list l =
+    Gathered (λ a. is_in (symbol.Import ∷ []) a.symbol) (import_read l.parser) l.parser (list_read (symbol.Import ∷ []) l.parser (import_read l.parser) l.at) (map seen_import l.list.items) l.here
+    × (l.at ≤ l.here)
 
 abbrev pub decreases-loop-list : goal.decreases-loop-list
 decreases-loop-list l = length l.parser - l.here

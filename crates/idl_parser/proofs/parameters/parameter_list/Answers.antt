@@ -8,5 +8,6 @@ use Rattle.idl_parser.proofs.parameters.parameter_list.Goals as goal
 pub returns-clause-gives : goal.returns-clause-gives
 unfolding more_parameters_read
 returns-clause-gives c =
-    rw (first_and_others symbol.Comma c.args.parser.now (parameter_read c.args.fuel c.args.nesting c.args.parser.now c.args.depth) c.args.at (seen_parameter c.in_ok-first.first) c.in_ok-first.next c.in_ok-first.ensures.gives)
+    rw (first_and_others symbol.Comma c.args.parser.now (parameter_read c.args.fuel c.args.nesting c.args.parser.now c.args.depth) c.args.at
+    (seen_parameter c.in_ok-first.first) c.in_ok-first.next c.in_ok-first.ensures.gives)
     c.parameters_from.ensures.gives

@@ -9,7 +9,10 @@ use Rattle.idl_parser.proofs.parameters.parameters_from.Given as goal
 
 -- what is gathered so far
 abbrev pub invariant-loop-list : goal.invariant-loop-list
-invariant-loop-list l = Gathered (λ a. is_in (symbol.Comma ∷ []) a.symbol) (behind_read symbol.Comma l.parser (parameter_read l.fuel l.nesting l.parser l.depth)) l.parser (turned (λ ps. seen_parameter l.fn.first ∷ ps) (list_read (symbol.Comma ∷ []) l.parser (behind_read symbol.Comma l.parser (parameter_read l.fuel l.nesting l.parser l.depth)) l.at)) (map seen_parameter l.list.items) l.here × (l.at ≤ l.here)
+invariant-loop-list l =
+    Gathered (λ a. is_in (symbol.Comma ∷ []) a.symbol) (behind_read symbol.Comma l.parser (parameter_read l.fuel l.nesting l.parser l.depth)) l.parser
+    (turned (λ ps. seen_parameter l.fn.first ∷ ps) (list_read (symbol.Comma ∷ []) l.parser (behind_read symbol.Comma l.parser (parameter_read l.fuel l.nesting l.parser l.depth)) l.at))
+    (map seen_parameter l.list.items) l.here × (l.at ≤ l.here)
 
 abbrev pub decreases-loop-list : goal.decreases-loop-list
 decreases-loop-list l = length l.parser - l.here

@@ -27,7 +27,8 @@ returns-clause-answer c =
     let t : Text = lexemes c.args.tokens.now in
     let e : c.new-parser.result ≡ t = c.new-parser.ensures ∙ (ap text_of c.deref.ensures.value ∙ c.in_ok-list.ensures.text) in
     told_for (λ a. file_answer c.fuel.result c.nesting.result c.new-parser.result ≡ a) (Answers file t)
-    (λ v h. subst (λ (w : Result tree.Tree Fault). Answers file t w) (ap (λ (x : Text). file_answer c.fuel.result c.nesting.result x) (sym e) ∙ h) (file_answered c.fuel.result c.nesting.result c.nesting.ensures c.fuel.ensures t (lexemes_real c.args.tokens.now)))
+    (λ v h. subst (λ (w : Result tree.Tree Fault). Answers file t w) (ap (λ (x : Text). file_answer c.fuel.result c.nesting.result x) (sym e) ∙ h)
+    (file_answered c.fuel.result c.nesting.result c.nesting.ensures c.fuel.ensures t (lexemes_real c.args.tokens.now)))
     c.answer.result c.answer.ensures
 
 pub returns-clause-only : goal.returns-clause-only
@@ -35,5 +36,6 @@ returns-clause-only c v right =
     let t : Text = lexemes c.args.tokens.now in
     let e : c.new-parser.result ≡ t = c.new-parser.ensures ∙ (ap text_of c.deref.ensures.value ∙ c.in_ok-list.ensures.text) in
     told_for (λ a. file_answer c.fuel.result c.nesting.result c.new-parser.result ≡ a) (λ a. v ≡ a)
-    (λ w h. file_answered_alone c.fuel.result c.nesting.result c.nesting.ensures c.fuel.ensures t (lexemes_real c.args.tokens.now) v right ∙ (ap (λ (x : Text). file_answer c.fuel.result c.nesting.result x) (sym e) ∙ h))
+    (λ w h. file_answered_alone c.fuel.result c.nesting.result c.nesting.ensures c.fuel.ensures t (lexemes_real c.args.tokens.now) v right
+    ∙ (ap (λ (x : Text). file_answer c.fuel.result c.nesting.result x) (sym e) ∙ h))
     c.answer.result c.answer.ensures

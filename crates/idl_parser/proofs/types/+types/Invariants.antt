@@ -48,21 +48,27 @@ decreases-arm l = 20 * l.fuel + 13
 
 -- what is gathered so far
 abbrev pub invariant-members-loop-list : goal.invariant-members-loop-list
-invariant-members-loop-list l = Gathered (λ a. is_in (member_firsts) a.symbol) (member_read l.nesting l.parser l.depth (type_read l.fuel l.nesting l.parser l.depth)) l.parser (some_read (member_firsts) l.parser (member_read l.nesting l.parser l.depth (type_read l.fuel l.nesting l.parser l.depth)) l.at) (map seen_member l.list.items) l.here × (l.at < l.here)
+invariant-members-loop-list l =
+    Gathered (λ a. is_in (member_firsts) a.symbol) (member_read l.nesting l.parser l.depth (type_read l.fuel l.nesting l.parser l.depth)) l.parser
+    (some_read (member_firsts) l.parser (member_read l.nesting l.parser l.depth (type_read l.fuel l.nesting l.parser l.depth)) l.at) (map seen_member l.list.items) l.here × (l.at < l.here)
 
 abbrev pub decreases-members-loop-list : goal.decreases-members-loop-list
 decreases-members-loop-list l = length l.parser - l.here
 
 -- what is gathered so far
 abbrev pub invariant-cases-loop-list : goal.invariant-cases-loop-list
-invariant-cases-loop-list l = Gathered (λ a. is_in (label_firsts) a.symbol) (case_read l.nesting l.parser l.depth (type_read l.fuel l.nesting l.parser l.depth)) l.parser (some_read (label_firsts) l.parser (case_read l.nesting l.parser l.depth (type_read l.fuel l.nesting l.parser l.depth)) l.at) (map seen_case l.list.items) l.here × (l.at < l.here)
+invariant-cases-loop-list l =
+    Gathered (λ a. is_in (label_firsts) a.symbol) (case_read l.nesting l.parser l.depth (type_read l.fuel l.nesting l.parser l.depth)) l.parser
+    (some_read (label_firsts) l.parser (case_read l.nesting l.parser l.depth (type_read l.fuel l.nesting l.parser l.depth)) l.at) (map seen_case l.list.items) l.here × (l.at < l.here)
 
 abbrev pub decreases-cases-loop-list : goal.decreases-cases-loop-list
 decreases-cases-loop-list l = length l.parser - l.here
 
 -- what is gathered so far
 abbrev pub invariant-arms-loop-list : goal.invariant-arms-loop-list
-invariant-arms-loop-list l = Gathered (λ a. is_in (arm_firsts) a.symbol) (arm_read l.nesting l.parser l.depth (type_read l.fuel l.nesting l.parser l.depth)) l.parser (some_read (arm_firsts) l.parser (arm_read l.nesting l.parser l.depth (type_read l.fuel l.nesting l.parser l.depth)) l.at) (map seen_arm l.list.items) l.here × (l.at < l.here)
+invariant-arms-loop-list l =
+    Gathered (λ a. is_in (arm_firsts) a.symbol) (arm_read l.nesting l.parser l.depth (type_read l.fuel l.nesting l.parser l.depth)) l.parser
+    (some_read (arm_firsts) l.parser (arm_read l.nesting l.parser l.depth (type_read l.fuel l.nesting l.parser l.depth)) l.at) (map seen_arm l.list.items) l.here × (l.at < l.here)
 
 abbrev pub decreases-arms-loop-list : goal.decreases-arms-loop-list
 decreases-arms-loop-list l = length l.parser - l.here

@@ -13,8 +13,11 @@ loop-token-init c = ap text_of c.in_ok-list.ensures.items
 
 pub loop-token-preserved : goal.loop-token-preserved
 loop-token-preserved c =
-    let more = one_more c.args.tokens.now c.loop-token.token c.symbol_of.result c.at.result c.kind.result c.text-octets.result.now c.kind.ensures c.text-octets.ensures c.at.ensures c.symbol_of.ensures in
-    ap text_of c.in_ok-push.ensures.items ∙ (map_push seen_lexeme c.loop-token.list.items _ ∙ (ap (λ (ls : List phrases.Lexeme). ls ++ (record { symbol = c.symbol_of.result; at = c.at.result; octets = c.text-octets.result.now }) ∷ []) c.loop-token.invariant ∙ sym more))
+    let more =
+    one_more c.args.tokens.now c.loop-token.token c.symbol_of.result c.at.result c.kind.result c.text-octets.result.now c.kind.ensures c.text-octets.ensures c.at.ensures c.symbol_of.ensures in
+    ap text_of c.in_ok-push.ensures.items
+    ∙ (map_push seen_lexeme c.loop-token.list.items _
+    ∙ (ap (λ (ls : List phrases.Lexeme). ls ++ (record { symbol = c.symbol_of.result; at = c.at.result; octets = c.text-octets.result.now }) ∷ []) c.loop-token.invariant ∙ sym more))
 
 pub returns-clause-text : goal.returns-clause-text
 returns-clause-text c =

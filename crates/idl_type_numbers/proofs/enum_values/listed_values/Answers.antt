@@ -17,7 +17,8 @@ loop-one-init c v = ap (is_among v) c.new-set.ensures
 
 pub loop-one-preserved : goal.loop-one-preserved
 loop-one-preserved c =
-    holds_next (λ e. number_of (known_in c.args.scope.now) e.name.octets) c.args.list.now c.loop-one.one-index c.one-item.result c.number_of.result c.add.new.self (omega arith) c.one-item.is c.number_of.ensures
+    holds_next (λ e. number_of (known_in c.args.scope.now) e.name.octets) c.args.list.now c.loop-one.one-index c.one-item.result c.number_of.result c.add.new.self
+    (omega arith) c.one-item.is c.number_of.ensures
     (c.in_ok-add.ensures.holds _ c.loop-one.invariant)
 
 pub returns : goal.returns

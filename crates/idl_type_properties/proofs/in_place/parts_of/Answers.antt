@@ -15,7 +15,8 @@ returns-in-Some-get c s n is size =
     let found : found_place c.args.place t.by_place ≡ Some c.in-Some.number = sym c.body_of.ensures ∙ c.in-Some.is in
     let within : c.in-Some.number < length c.deref.result.now = ltb-true c.in-Some.number (length c.deref.result.now) (sym c.in-Some-get.ensures.lookup.0) in
     let below : c.in-Some.number < length t.bodies.items = subst (λ (l : List BodyTypes). c.in-Some.number < length l) c.deref.ensures.value within in
-    let same : c.in-Some-get.body.now ≡ get_or t.bodies.items c.in-Some.number c.in-Some-get.body.now = c.in-Some-get.ensures.lookup.1 ∙ ap (λ l. get_or l c.in-Some.number c.in-Some-get.body.now) c.deref.ensures.value in
+    let same : c.in-Some-get.body.now ≡ get_or t.bodies.items c.in-Some.number c.in-Some-get.body.now =
+    c.in-Some-get.ensures.lookup.1 ∙ ap (λ l. get_or l c.in-Some.number c.in-Some-get.body.now) c.deref.ensures.value in
     let parts = ap (map (type_at t.kinds)) c.as_slice.ensures.value ∙ parts_found s n t is c.args.place c.in-Some.number c.in-Some-get.body.now found below same in
     subst (λ (l : List IdlType). IfOk c.nodes.result (λ v. AreHeld t.kinds c.args.count v.items l)) parts (c.nodes.ensures t.kinds size)
 

@@ -6,8 +6,10 @@ use Rattle.idl_type_numbers.proofs.PlacesFilled.{Each, HeldBy, place_more, void_
 use Rattle.idl_type_properties.proofs.in_place.places.Goals as goal
 
 pub loop-number-init : goal.loop-number-init
-loop-number-init c =
-    (ap length c.new-graph.ensures, (λ s n is size. subst (λ (g : List (List ℕ)). Each (HeldBy s c.args.types.now.kinds c.args.count) [] g) (sym c.new-graph.ensures) (λ i below. absurd (omega (arith, below)))))
+loop-number-init c = (
+  ap length c.new-graph.ensures,
+  (λ s n is size. subst (λ (g : List (List ℕ)). Each (HeldBy s c.args.types.now.kinds c.args.count) [] g) (sym c.new-graph.ensures) (λ i below. absurd (omega (arith, below)))),
+)
 
 pub loop-number-preserved : goal.loop-number-preserved
 loop-number-preserved c =

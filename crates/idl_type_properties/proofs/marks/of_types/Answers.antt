@@ -22,7 +22,8 @@ loop-number-preserved c =
       ap length c.in-Ok.ensures.items ∙ length-append c.loop-number.marks.items.items (c.next_mark-mark.result ∷ []) ∙ ap (λ k. k + 1) c.loop-number.invariant.0,
       (λ s n is. subst (λ (l : List Mark). MarksTo s ks (number + 1) l) (sym c.in-Ok.ensures.items)
           (one_more s ks number c.loop-number.marks.items.items c.next_mark-mark.result c.loop-number.invariant.0 (c.loop-number.invariant.1 s n is)
-          (c.next_mark-mark.ensures s n c.len-count.result is size below (c.in_ok-properties.ensures s n is size) (c.in_ok-counted.ensures.each number c.in-Some.one.now one) (c.loop-number.invariant.1 s n is)))),
+          (c.next_mark-mark.ensures s n c.len-count.result is size below (c.in_ok-properties.ensures s n is size) (c.in_ok-counted.ensures.each number c.in-Some.one.now one)
+          (c.loop-number.invariant.1 s n is)))),
     )
 
 pub returns : goal.returns

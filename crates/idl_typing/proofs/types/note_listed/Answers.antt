@@ -17,6 +17,8 @@ note_declared-requires c =
 pub returns-clause-typed : goal.returns-clause-typed
 returns-clause-typed c =
     listed_is (known_in c.args.scope.now) c.args.names.now c.args.kinds.now c.has_wrong_variable.new.kinds c.has_wrong_switch_variable.new.kinds c.note_declared.new.kinds
-    (list_at c.args.nodes.now.lists.items c.args.slot.list) (seen_declared c.args.it.now) c.args.slot.index c.has_no_variable-no_variable.result c.in_ok-wrong_variable.wrong_variable c.in_ok-wrong_switch_variable.wrong_switch_variable
+    (list_at c.args.nodes.now.lists.items c.args.slot.list)
+    (seen_declared c.args.it.now) c.args.slot.index c.has_no_variable-no_variable.result c.in_ok-wrong_variable.wrong_variable c.in_ok-wrong_switch_variable.wrong_switch_variable
     c.in_ok-noted.noted.declared_as c.in_ok-noted.noted.of c.requires.within c.in_ok-wrong_variable.ensures.keeps c.in_ok-wrong_switch_variable.ensures.keeps
-    (c.has_no_variable-no_variable.ensures (known_in c.args.scope.now) (seen_names c.args.kinds.now c.args.names.now)) c.in_ok-wrong_variable.ensures.wrong c.in_ok-wrong_switch_variable.ensures.wrong c.in_ok-noted.ensures.declared_as c.in_ok-noted.ensures.of
+    (c.has_no_variable-no_variable.ensures (known_in c.args.scope.now)
+    (seen_names c.args.kinds.now c.args.names.now)) c.in_ok-wrong_variable.ensures.wrong c.in_ok-wrong_switch_variable.ensures.wrong c.in_ok-noted.ensures.declared_as c.in_ok-noted.ensures.of

@@ -28,5 +28,6 @@ loop-part-preserved c =
     record {
       keeps = λ n t h. keeps n t (c.loop-part.invariant.keeps n t h);
       within = ap (are_below (length new)) push ∙ below-push (length new) numbers k (below-le old new numbers keeps c.loop-part.invariant.within) c.in_ok-noted.ensures.within.1;
-      is = ap (map (type_at new)) push ∙ part_next old new numbers f seen_declared c.args.parts.now c.loop-part.part-index c.part-item.result k keeps c.loop-part.invariant.within c.loop-part.invariant.is here type;
+      is = ap (map (type_at new)) push
+          ∙ part_next old new numbers f seen_declared c.args.parts.now c.loop-part.part-index c.part-item.result k keeps c.loop-part.invariant.within c.loop-part.invariant.is here type;
     }

@@ -46,7 +46,8 @@ returns-clause-bodies c =
       place = c.in_ok-noted.ensures.place;
       nonencapsulated = c.in_ok-noted.ensures.nonencapsulated;
       parts = c.in_ok-noted.ensures.parts
-          ∙ types_same known (seen_names c.args.types.now.kinds c.args.names.now) names (parts_declared (seen_construct c.in-Body.construct) (seen_type c.in-Body.body.now)) (λ x. sym (c.requires.names.agree x));
+          ∙ types_same known (seen_names c.args.types.now.kinds c.args.names.now) names (parts_declared (seen_construct c.in-Body.construct) (seen_type c.in-Body.body.now))
+          (λ x. sym (c.requires.names.agree x));
       values = c.in_ok-noted.ensures.values;
       node = ap (λ k. body_at (names_at known n k) (slice_get n.items.items k)) place ∙ ap (λ o. body_at names o) here ∙ at;
     } in

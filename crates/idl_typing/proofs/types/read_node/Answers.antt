@@ -16,7 +16,8 @@ use Rattle.idl_typing.proofs.types.read_node.Goals as goal
 
 pub read_operation-requires-clause-names : goal.read_operation-requires-clause-names
 read_operation-requires-clause-names c =
-    names_read_keeps (known_in c.args.scope.now) c.args.nodes.now c.args.index c.args.types.now.kinds c.read_body.new.types.kinds c.args.names.now c.in_ok-read_body.ensures.keeps c.requires.read.names_read
+    names_read_keeps
+    (known_in c.args.scope.now) c.args.nodes.now c.args.index c.args.types.now.kinds c.read_body.new.types.kinds c.args.names.now c.in_ok-read_body.ensures.keeps c.requires.read.names_read
 
 pub read_operation-requires-clause-operations : goal.read_operation-requires-clause-operations
 read_operation-requires-clause-operations c =

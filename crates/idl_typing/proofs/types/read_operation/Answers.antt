@@ -58,7 +58,8 @@ returns-clause-operations c =
       parameters = types-keeps second ks c.in_ok-parameters.parameters.items c.in_ok-result.ensures.keeps c.in_ok-parameters.ensures.within
           ∙ c.in_ok-parameters.ensures.types ∙ types_same known seen names list (λ x. sym (c.requires.names.agree x));
       result = type_at-stands ks c.in_ok-result.result (written_type known (seen_names second c.args.names.now) file of) c.in_ok-result.ensures.stands
-          ∙ ap (λ m. written_type known m file of) same ∙ sym (without_attributes (written_type known seen file of)) ∙ type_same known seen names (seen_result it) (λ x. sym (c.requires.names.agree x));
+          ∙ ap (λ m. written_type known m file of) same ∙ sym (without_attributes (written_type known seen file of))
+          ∙ type_same known seen names (seen_result it) (λ x. sym (c.requires.names.agree x));
       node = ap (λ x. called_at lists names x) here ∙ at;
     } in
     let before = operations_keeps known n _ second ks c.args.types.now.operations.items c.in_ok-result.ensures.keeps

@@ -10,4 +10,5 @@ use Rattle.idl_typing.proofs.variables.has_no_variable.Given as goal
 abbrev pub invariant-loop-attribute : goal.invariant-loop-attribute
 invariant-loop-attribute l =
     list_any (no_other (list_at l.nodes.lists.items l.slot.list) l.slot.index) (variables (switch_is_word ∷ sizes ++ lengths) (map seen_attribute l.it.construct.attributes.now))
-    ≡ list_any (no_other (list_at l.nodes.lists.items l.slot.list) l.slot.index) (variables (switch_is_word ∷ sizes ++ lengths) (map seen_attribute (drop l.attribute-index l.it.construct.attributes.now)))
+    ≡ list_any (no_other (list_at l.nodes.lists.items l.slot.list) l.slot.index)
+    (variables (switch_is_word ∷ sizes ++ lengths) (map seen_attribute (drop l.attribute-index l.it.construct.attributes.now)))

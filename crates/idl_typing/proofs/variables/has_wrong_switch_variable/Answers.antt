@@ -25,7 +25,9 @@ returns-then-branch-clause-wrong c =
     let x = c.attribute-item.result in
     let here = slice_get_read xs (length xs) i x refl c.loop-attribute-test.true c.attribute-item.is in
     let e = seen_names-keeps c.args.kinds.now c.loop-attribute.kinds c.args.names.now c.loop-attribute.invariant.keeps c.requires.within in
-    let says = ap (λ n. list_any (fails_in known n may_be_switched list) (variable_if (switch_is_word ∷ []) (variable_said (seen_kind x.kind)))) (sym e) ∙ sym c.in_ok-says_wrong_switch.ensures.wrong ∙ c.if-branch.true in
+    let says =
+    ap (λ n. list_any (fails_in known n may_be_switched list) (variable_if (switch_is_word ∷ []) (variable_said (seen_kind x.kind)))) (sym e) ∙ sym c.in_ok-says_wrong_switch.ensures.wrong
+    ∙ c.if-branch.true in
     sym (wrong_switch_is known names list c.args.slot.index (seen_declared c.args.it.now)
     ∙ one_says (fails_in known names may_be_switched list) (switch_is_word ∷ []) seen_attribute xs i x _ here c.loop-attribute.invariant.same says)
 
@@ -39,7 +41,9 @@ loop-attribute-preserved c =
     let x = c.attribute-item.result in
     let here = slice_get_read xs (length xs) i x refl c.loop-attribute-test.true c.attribute-item.is in
     let e = seen_names-keeps c.args.kinds.now c.loop-attribute.kinds c.args.names.now c.loop-attribute.invariant.keeps c.requires.within in
-    let says = ap (λ n. list_any (fails_in known n may_be_switched list) (variable_if (switch_is_word ∷ []) (variable_said (seen_kind x.kind)))) (sym e) ∙ sym c.in_ok-says_wrong_switch.ensures.wrong ∙ c.if-branch.false in
+    let says =
+    ap (λ n. list_any (fails_in known n may_be_switched list) (variable_if (switch_is_word ∷ []) (variable_said (seen_kind x.kind)))) (sym e) ∙ sym c.in_ok-says_wrong_switch.ensures.wrong
+    ∙ c.if-branch.false in
     record {
       keeps = λ n t h. c.in_ok-says_wrong_switch.ensures.keeps n t (c.loop-attribute.invariant.keeps n t h);
       same = none_says (fails_in known names may_be_switched list) (switch_is_word ∷ []) seen_attribute xs i x _ here c.loop-attribute.invariant.same says;

@@ -13,6 +13,8 @@ use Rattle.idl_typing.proofs.variables.has_wrong_switch_variable.Given as goal
 abbrev pub invariant-loop-attribute : goal.invariant-loop-attribute
 invariant-loop-attribute l = record {
   keeps : Keeps l.fn.kinds l.kinds;
-  same : list_any (fails_in (known_in l.scope) (seen_names l.fn.kinds l.names) may_be_switched (list_at l.nodes.lists.items l.slot.list)) (variables (switch_is_word ∷ []) (map seen_attribute l.it.construct.attributes.now))
-      ≡ list_any (fails_in (known_in l.scope) (seen_names l.fn.kinds l.names) may_be_switched (list_at l.nodes.lists.items l.slot.list)) (variables (switch_is_word ∷ []) (map seen_attribute (drop l.attribute-index l.it.construct.attributes.now)));
+  same : list_any (fails_in (known_in l.scope) (seen_names l.fn.kinds l.names) may_be_switched (list_at l.nodes.lists.items l.slot.list))
+      (variables (switch_is_word ∷ []) (map seen_attribute l.it.construct.attributes.now))
+      ≡ list_any (fails_in (known_in l.scope) (seen_names l.fn.kinds l.names) may_be_switched (list_at l.nodes.lists.items l.slot.list))
+      (variables (switch_is_word ∷ []) (map seen_attribute (drop l.attribute-index l.it.construct.attributes.now)));
 }

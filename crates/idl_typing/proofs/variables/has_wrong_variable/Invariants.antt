@@ -13,6 +13,8 @@ use Rattle.idl_typing.proofs.variables.has_wrong_variable.Given as goal
 abbrev pub invariant-loop-attribute : goal.invariant-loop-attribute
 invariant-loop-attribute l = record {
   keeps : Keeps l.fn.kinds l.kinds;
-  same : list_any (fails_in (known_in l.scope) (seen_names l.fn.kinds l.names) is_integer (list_at l.nodes.lists.items l.slot.list)) (variables (sizes ++ lengths) (map seen_attribute l.it.construct.attributes.now))
-      ≡ list_any (fails_in (known_in l.scope) (seen_names l.fn.kinds l.names) is_integer (list_at l.nodes.lists.items l.slot.list)) (variables (sizes ++ lengths) (map seen_attribute (drop l.attribute-index l.it.construct.attributes.now)));
+  same : list_any (fails_in (known_in l.scope) (seen_names l.fn.kinds l.names) is_integer (list_at l.nodes.lists.items l.slot.list))
+      (variables (sizes ++ lengths) (map seen_attribute l.it.construct.attributes.now))
+      ≡ list_any (fails_in (known_in l.scope) (seen_names l.fn.kinds l.names) is_integer (list_at l.nodes.lists.items l.slot.list))
+      (variables (sizes ++ lengths) (map seen_attribute (drop l.attribute-index l.it.construct.attributes.now)));
 }

@@ -10,7 +10,8 @@ use Rattle.idl_value_rules.proofs.counts.parameters.Goals as goal
 pub loop-node-init : goal.loop-node-init
 loop-node-init c = (
   refl,
-  (λ w files. ap (λ l. noted w (option_map seen_breach c.args.finder.now.first) (map one_too_many (flat_map (parameters_at c.args.nodes.now.lists.items c.args.limit) l))) c.deref-node-items.ensures.value),
+  (λ w files. ap
+      (λ l. noted w (option_map seen_breach c.args.finder.now.first) (map one_too_many (flat_map (parameters_at c.args.nodes.now.lists.items c.args.limit) l))) c.deref-node-items.ensures.value),
 )
 
 pub loop-node-preserved : goal.loop-node-preserved

@@ -11,7 +11,8 @@ pub returns-in-Some-clause-first : goal.returns-in-Some-clause-first
 returns-in-Some-clause-first c w files =
     c.note_one.ensures.first w files
     ∙ ap (noted w (option_map seen_breach c.args.finder.now.first))
-    (one_past (λ p. one_too_many (seen_construct p.construct)) c.args.list.now c.args.limit c.in-Some.first.now (ltb-true c.args.limit (length c.args.list.now) (sym c.in-Some.ensures.lookup.0)) c.in-Some.ensures.lookup.1)
+    (one_past (λ p. one_too_many (seen_construct p.construct)) c.args.list.now c.args.limit c.in-Some.first.now
+    (ltb-true c.args.limit (length c.args.list.now) (sym c.in-Some.ensures.lookup.0)) c.in-Some.ensures.lookup.1)
 
 pub returns-in_default-clause-first : goal.returns-in_default-clause-first
 returns-in_default-clause-first c w files =

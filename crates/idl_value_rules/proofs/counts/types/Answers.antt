@@ -11,7 +11,8 @@ pub returns-in-Some-clause-first : goal.returns-in-Some-clause-first
 returns-in-Some-clause-first c w files =
     c.note.ensures.first w files
     ∙ ap (noted w (option_map seen_breach c.args.finder.now.first))
-    (one_past (λ o. breach Rule.COUNTS o.place) c.args.own.now c.args.limit c.in-Some.first.now (ltb-true c.args.limit (length c.args.own.now) (sym c.in-Some.ensures.lookup.0)) c.in-Some.ensures.lookup.1)
+    (one_past (λ o. breach Rule.COUNTS o.place) c.args.own.now c.args.limit c.in-Some.first.now
+    (ltb-true c.args.limit (length c.args.own.now) (sym c.in-Some.ensures.lookup.0)) c.in-Some.ensures.lookup.1)
 
 pub returns-in_default-clause-first : goal.returns-in_default-clause-first
 returns-in_default-clause-first c w files =

@@ -19,7 +19,8 @@ returns-in-Some-get c s n is inner =
     let found : found_place c.args.place t.by_place ≡ Some c.in-Some.number = sym c.body_of.ensures ∙ c.in-Some.is in
     let within : c.in-Some.number < length c.deref.result.now = ltb-true c.in-Some.number (length c.deref.result.now) (sym c.in-Some-get.ensures.lookup.0) in
     let below : c.in-Some.number < length t.bodies.items = subst (λ (l : List BodyTypes). c.in-Some.number < length l) c.deref.ensures.value within in
-    let same : c.in-Some-get.body.now ≡ get_or t.bodies.items c.in-Some.number c.in-Some-get.body.now = c.in-Some-get.ensures.lookup.1 ∙ ap (λ l. get_or l c.in-Some.number c.in-Some-get.body.now) c.deref.ensures.value in
+    let same : c.in-Some-get.body.now ≡ get_or t.bodies.items c.in-Some.number c.in-Some-get.body.now =
+    c.in-Some-get.ensures.lookup.1 ∙ ap (λ l. get_or l c.in-Some.number c.in-Some-get.body.now) c.deref.ensures.value in
     let parts = ap (map (type_at t.kinds)) c.as_slice.ensures.value ∙ parts_found s n t is c.args.place c.in-Some.number c.in-Some-get.body.now found below same in
     let whole = ap (flat_map innermost) parts ∙ sym (held_parts s c.args.place) in
     subst (λ (l : List Place). IfOk c.row.result (λ v. v.items ≡ numbers_of t l)) whole (c.row.ensures t.kinds inner)

@@ -5,7 +5,8 @@ use Rattle.idl_value_rules.proofs.cycle_rule.with_key.Goals.{then-one-key, else-
 use Rattle.idl_value_rules.proofs.cycle_rule.with_key.Goals as goal
 
 pub loop-number-init : goal.loop-number-init
-loop-number-init c = (ap length c.new-numbers.ensures.items, subst (λ (l : List ℕ). Each (NumberWith c.args.keys.now c.args.key) 0 l) (sym c.new-numbers.ensures.items) (λ i below. absurd (omega (arith, below))))
+loop-number-init c =
+    (ap length c.new-numbers.ensures.items, subst (λ (l : List ℕ). Each (NumberWith c.args.keys.now c.args.key) 0 l) (sym c.new-numbers.ensures.items) (λ i below. absurd (omega (arith, below))))
 
 pub loop-number-preserved : goal.loop-number-preserved
 loop-number-preserved c =

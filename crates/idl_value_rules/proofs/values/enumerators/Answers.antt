@@ -18,7 +18,8 @@ loop-one-preserved c =
     let k = seen_construct c.args.construct.now in
     let e = c.one-item.result in (
       c.note.ensures.files ∙ c.loop-one.invariant.0,
-      (λ w s names files known. item_noted (enumerator_breach s k) (enumerator_breaches s names k) (enumerators_cons s names k) refl c.args.list.now w c.loop-one.one-index e _ _ _ (omega arith) c.one-item.is
+      (λ w s names files known. item_noted (enumerator_breach s k) (enumerator_breaches s names k) (enumerators_cons s names k) refl c.args.list.now w c.loop-one.one-index e _ _ _
+          (omega arith) c.one-item.is
           (c.note.ensures.first w (files ∙ ap seen_files (sym c.loop-one.invariant.0))
           ∙ ap₂ (λ p b. noted w (option_map seen_breach c.loop-one.finder.first) (if_broken 13 p b)) (c.place.ensures ∙ ap (place_in k) c.at.ensures)
           (c.is_large_enumerator-broken.ensures ∙ ap (λ n. is_large_enumerator n e.name) (sym known))
@@ -32,4 +33,5 @@ returns-clause-files c = c.loop-one.invariant.0
 pub returns-clause-first : goal.returns-clause-first
 returns-clause-first c w s names files known =
     let k = seen_construct c.args.construct.now in
-    all_noted (enumerator_breach s k) (enumerator_breaches s names k) (enumerators_cons s names k) refl c.args.list.now w c.loop-one.one-index _ _ (omega arith) (c.loop-one.invariant.1 w s names files known)
+    all_noted (enumerator_breach s k) (enumerator_breaches s names k) (enumerators_cons s names k) refl c.args.list.now w c.loop-one.one-index _ _ (omega arith)
+    (c.loop-one.invariant.1 w s names files known)

@@ -24,7 +24,8 @@ loop-one-preserved c =
     let broken = ap₂ (λ a b. a && b) c.is_class-class.ensures c.loop-one.invariant.1 in (
       c.note.ensures.files ∙ c.loop-one.invariant.0,
       class_next xs i x c.loop-one.found _ (omega arith) c.one-item.is c.loop-one.invariant.1 c.is_class-class.ensures,
-      (λ w s names files. part_noted w (broken_at k Rule.CLASSES_ON_POINTERS k.at (is_second_class (map seen_attribute (take i xs)) (seen_attribute x))) (class_breaches s names k xs (i + 1)) (class_breaches s names k xs i) _ _ _
+      (λ w s names files. part_noted w (broken_at k Rule.CLASSES_ON_POINTERS k.at (is_second_class (map seen_attribute (take i xs)) (seen_attribute x))) (class_breaches s names k xs (i + 1))
+          (class_breaches s names k xs i) _ _ _
           (classes_left s names k xs i x (omega arith) c.one-item.is)
           (c.note.ensures.first w (files ∙ ap seen_files (sym c.loop-one.invariant.0))
           ∙ ap₂ (λ p b. noted w (option_map seen_breach c.loop-one.finder.first) (if_broken 26 p b)) c.place.ensures broken
