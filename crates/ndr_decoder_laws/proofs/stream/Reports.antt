@@ -22,7 +22,7 @@ use Rattle.ndr_decoder_laws.specs.verdict.InOrder.{HasOwnNumbers, IsRefusedInOrd
 use Rattle.ndr_decoder_laws.proofs.verdict.Alone.{represents_alone}
 use Rattle.ndr_decoder_laws.proofs.verdict.Counted.{is_counted}
 use Rattle.ndr_decoder_laws.proofs.verdict.ReadThrough.{read_in_part}
-use Rattle.ndr_decoder_laws.proofs.verdict.Refused.{own_numbers, refused_there, stays_refused, no_graph}
+use Rattle.ndr_decoder_laws.proofs.verdict.Refused.{refused_numbered, refused_there, stays_refused, no_graph}
 use Rattle.ndr_decoder_laws.specs.stream.Report.{AreCells, IsReported, StreamRefused, StreamCut, the_stream}
 
 module _ (w : Setting) (side : IsLegalSide w) (order : Order) (s : SourceSeen) (t : DecodingSeen) where
@@ -44,10 +44,7 @@ module _ (w : Setting) (side : IsLegalSide w) (order : Order) (s : SourceSeen) (
   refused_with fetched noted n place why r reported left ended none_left =
       let stop : (read_stream w order fetched).progress.stop ≡ Some (place, why) = ap (λ (p : Progress). p.stop) r.stops in
       let seen_is : (read_stream w order fetched).progress.seen ≡ r.seen = ap (λ (p : Progress). p.seen) r.stops in
-      let x = refused_there w side order fetched r.octets place why stop r.needed in
-      let bad = x.0 in
-      let earlier = x.1 in
-      let ends = x.2 in
+      let (bad, earlier, ends, numbers) = refused_numbered w side order fetched r.octets place why stop r.needed in
       let e : r.seen ≡ bad.earlier = sym seen_is ∙ sym earlier in
       let through : IsReadThrough w order fetched r.seen = read_in_part w side order fetched r.octets r.seen [] (seen_is ∙ sym (append-nil r.seen)) in (
         record {
@@ -62,7 +59,7 @@ module _ (w : Setting) (side : IsLegalSide w) (order : Order) (s : SourceSeen) (
           stays = stays_refused w side order fetched r.octets place why stop;
           no_graph = no_graph w side order fetched r.octets place why stop;
         },
-        (refl, sym e, own_numbers w side order fetched r.octets place why stop r.needed),
+        (refl, sym e, numbers),
       )
 
   pub refused_so : (fetched : List ℕ) (noted : List Item) (n place : ℕ) (why : Reason) → (r : StreamRefused the_stream w order fetched noted n place why) → IsReported noted n t

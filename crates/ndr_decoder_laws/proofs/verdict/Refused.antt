@@ -1,6 +1,6 @@
 -- Octets that the reader refuses: where the refused entry ends, that they stay refused whatever follows, and that no graph is among them.
-use Rattle.std.proofs.Common.{◌≡◌, ◌⊎◌, inl, inr, ℕ, ◌+◌, ◌<◌, ◌≤◌, zero, suc, Bool, true, false, ◌&&◌, List, [], ◌∷◌, ◌++◌, length, length-append, Option, Some, None, refl, ap, sym, ◌∙◌, subst, arith}
-use Rattle.std.specs.Prelude.{ltb, not, eqb, cond, ◌||◌, ℤ, option_map}
+use Rattle.std.proofs.Common.{◌≡◌, ◌⊎◌, inl, inr, ℕ, ◌+◌, ◌<◌, ◌≤◌, Bool, true, false, ◌&&◌, List, [], ◌∷◌, ◌++◌, length, length-append, Option, Some, None, refl, ap, sym, ◌∙◌, subst, arith}
+use Rattle.std.specs.Prelude.{ltb, not, eqb, cond, ℤ, option_map}
 use Rattle.std.specs.Ordering.{int_eq}
 use Rattle.std.specs.List.{AllByRecursion}
 use Rattle.std.proofs.lemmas.Bool.{ltb-false, cases_lt}
@@ -28,12 +28,12 @@ use Rattle.nd_grammar.proofs.OneRefusal.{one_bad}
 use Rattle.nd_grammar.proofs.ReaderLaws.{reader_refuses}
 use Rattle.nd_grammar.proofs.StaysBad.{stays_bad, judged_alike}
 use Rattle.nd_grammar.proofs.next.Spelt.{piece_left}
-use Rattle.nd_grammar.proofs.reader.ReaderStream.{Pipes, G, ms, numbering, is_partial, is_stream, numbered, ends_in_octets}
+use Rattle.nd_grammar.proofs.reader.ReaderStream.{G, ms, numbering, is_partial, is_stream, numbered, ends_in_octets}
 use Rattle.nd_grammar.specs.decoded.Needed.{IsNeeded}
 use Rattle.nd_grammar.specs.decoded.Verdict.{MayFollow, fetched_to}
 use Rattle.ndr_decoder_laws.specs.verdict.InOrder.{HasOwnNumbers}
 use Rattle.ndr_decoder_laws.proofs.verdict.NamedInTurn.{reader_numbered}
-use Rattle.ndr_decoder_laws.proofs.verdict.ReadThrough.{Gone, stream_gone}
+use Rattle.ndr_decoder_laws.proofs.verdict.ReadThrough.{stream_gone}
 
 -- ## An entry is judged alike by octets that end later
 
@@ -265,13 +265,13 @@ module _ (w : Setting) (side : IsLegalSide w) (order : Order) (octets : List ℕ
             sym (judged_alike order part more b.earlier a b.here l) ∙ ap (λ u. refusal order u b.earlier b.here) (sym q) ∙ b.refused) in
             exactly (length octets) size (ltb-false (length octets) size g) h ∙ sym (ends_of_kind why (length octets) b.here x y)
 
-    -- The refused entry ends the octets.
+    -- The refused entry ends the octets. The cells of the graph so far have their own numbers.
+    pub refused_numbered : (bad : Bad w order octets place why) × (bad.earlier ≡ (read_stream w order octets).progress.seen)
+        × (length octets ≡ fetched_to why (length octets) bad.here) × HasOwnNumbers bad.partial bad.entries
+    refused_numbered = (bad_there.bad, bad_there.earlier, ends, bad_there.numbers)
+
     pub refused_there : (bad : Bad w order octets place why) × (bad.earlier ≡ (read_stream w order octets).progress.seen) × (length octets ≡ fetched_to why (length octets) bad.here)
     refused_there = (bad_there.bad, bad_there.earlier, ends)
-
-    -- And the cells of the graph so far have their own numbers.
-    pub own_numbers : HasOwnNumbers refused_there.0.partial refused_there.0.entries
-    own_numbers = bad_there.numbers
 
   -- They stay refused, whatever follows.
   pub stays_refused : (more : List ℕ) → MayFollow why more → Bad w order (octets ++ more) place why
