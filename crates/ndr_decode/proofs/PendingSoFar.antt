@@ -29,8 +29,6 @@ use Rattle.ndr_decode.specs.Streaming.{ArePaid, FaultOf, IsAtReferent, IsStreami
 use Rattle.ndr_decode.proofs.PendingTurns.{HasNext, none_due, stands_next}
 use Rattle.ndr_decode.proofs.Standing.{then_fault, then_went_taking, went_nowhere}
 
--- ## The list of those that are pending
-
 -- ## Calls one after the other
 
 abbrev pub source_by : Option (List ℕ) → Option (List ℕ) → Bool → ℕ → ℕ → SourceSeen
