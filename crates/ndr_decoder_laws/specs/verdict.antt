@@ -1,2 +1,1 @@
 pub mod CellsSeen
-pub mod InOrder
