@@ -1,5 +1,5 @@
 -- The commands that the words of a command line are.
-use Rattle.std.specs.Prelude.{ℕ, Bool, true, false, ◌&&◌, nat_le, List, [], ◌∷◌, Option, None, Some, if◌then◌else◌, nat_eq, codes, decimal}
+use Rattle.std.specs.Prelude.{ℕ, Bool, ◌&&◌, nat_le, List, [], ◌∷◌, Option, None, Some, if◌then◌else◌, nat_eq, codes, decimal}
 use Rattle.std.specs.Cmp.Lexicographic.{pointwise}
 use Rattle.std.specs.Str.Parse.{digits_value}
 use Rattle.nd_base.specs.declared.octets.Order.{Order}
@@ -156,6 +156,7 @@ command (verb ∷ idl ∷ acf ∷ op ∷ side ∷ order ∷ chunk ∷ []) =
 command (how ∷ idl ∷ acf ∷ op ∷ side ∷ order ∷ given ∷ text ∷ []) =
     if is_word given (codes "given") then read_beside (reading_of how) idl acf op (side_of side) (order_of order) text else None
 command (verb ∷ idl ∷ acf ∷ op ∷ side ∷ order ∷ chunk ∷ given ∷ text ∷ []) =
-    if is_word verb (codes "encode") && is_word given (codes "given") then encode_beside idl acf op (side_of side) (order_of order) (chunk_of chunk) text
+    if is_word verb (codes "encode")
+    && is_word given (codes "given") then encode_beside idl acf op (side_of side) (order_of order) (chunk_of chunk) text
     else None
 command _ = None

@@ -1,14 +1,13 @@
 -- The sum of the values of a graph that is the same up to the numbers of its cells.
-use Rattle.std.proofs.Common.{◌≡◌, ℕ, zero, suc, ◌+◌, ◌-◌, ◌*◌, ◌<◌, ◌≤◌, ℤ, pos, negsuc, Bool, true, false, List, [], ◌∷◌, ◌++◌, length, Option, Some, None, refl, ap, ap₂, sym, ◌∙◌, subst, inl, inr, ◌⊎◌, arith}
-use Rattle.std.specs.Prelude.{if◌then◌else◌, nat_lt, pred, eqb}
+use Rattle.std.proofs.Common.{◌≡◌, ℕ, zero, suc, ◌+◌, ◌-◌, ◌<◌, ◌≤◌, List, [], ◌∷◌, length, Option, Some, None, refl, ap, ap₂, sym, ◌∙◌, subst, inl, inr, ◌⊎◌, arith}
+use Rattle.std.specs.Prelude.{pred}
 use Rattle.std.specs.List.{slice_get, AllByRecursion}
 use Rattle.std.proofs.lemmas.Bool.{cases_eq, lt-ltb}
-use Rattle.std.proofs.lemmas.Option.{same_Some}
 use Rattle.nd_value.specs.declared.value.Graph.{Graph}
 use Rattle.nd_value.specs.Tree as tree
-use Rattle.nd_value.specs.Tree.{Tree, Trees, Referent, node, none, more, trees}
+use Rattle.nd_value.specs.Tree.{Tree, Trees, Referent, node, none, more}
 use Rattle.nd_value.specs.Same.{Same, renumbered, renumbered_label}
-use Rattle.command_sample.specs.Nodes.{next_state, sample_node, sample_nodes, sample_graph, sample_sum, value_by}
+use Rattle.command_sample.specs.Nodes.{next_state, sample_nodes, sample_graph, sample_sum, value_by}
 use Rattle.command_sample.specs.Values.{small_in, value_of, values_sum}
 use Rattle.command_sample.proofs.Conforming.{length_is, value_small}
 
@@ -236,7 +235,8 @@ module _ (g h : Graph) (s : Same g h) where
   pub same_sum : values_sum h.cells ≡ values_sum g.cells
   same_sum =
       by_places h.cells ∙ ap (total at_image) (sym s.as_many)
-      ∙ sym (rearranged at_image (length g.cells) (images (length g.cells)) (distinct_images (length g.cells) (omega arith)) (below_images (length g.cells) (omega arith)) (length_images (length g.cells)))
+      ∙ sym (rearranged at_image (length g.cells) (images (length g.cells)) (distinct_images (length g.cells) (omega arith)) (below_images (length g.cells) (omega arith))
+      (length_images (length g.cells)))
       ∙ images_total (length g.cells)
       ∙ total_same (λ c. at_image (pred (s.image (suc c)))) (λ c. value_in (slice_get g.cells c)) (length g.cells) value_at_image
       ∙ sym (by_places g.cells)

@@ -1,6 +1,5 @@
 -- Texts that are fitted, from what the steps answer.
-use Rattle.std.proofs.Common.{◌≡◌, ℕ, ◌≤◌, List, length, Option, None, Result, Ok, Err, IfOk, IfErr, sym, ap, subst, inl, inr}
-use Rattle.nd_base.specs.declared.TheConstants.{FILE_LIMIT}
+use Rattle.std.proofs.Common.{◌≡◌, ℕ, List, Option, None, Result, Ok, Err, IfOk, IfErr, sym, subst}
 use Rattle.nd_types.specs.declared.interface.Interface.{Interface}
 use Rattle.nd_types.specs.declared.types.Operation.{Operation}
 use Rattle.nd_types.specs.declared.types.Side.{Side}
@@ -15,7 +14,8 @@ use Rattle.text_grammar.specs.declared.fault.TextFault.{TextFault}
 use Rattle.text_grammar.specs.declared.fault.TextFault.TheVariants as fault
 use Rattle.text_grammar.specs.Reads.{ReadsAs, IsFault}
 use Rattle.command_refusals.specs.declared.refusal.Refusal.{Refusal}
-use Rattle.command_refusals.specs.declared.refusal.Refusal.TheVariants.{Memory, Absent, FileFailed, BadIdl, NoOperation, ReadFault, BadOctets, BadText, BadValue, TooLong, BadRequest, BadLabel, ShortLabel, TooFewEnds, EndFailed}
+use Rattle.command_refusals.specs.declared.refusal.Refusal.TheVariants.{Memory, Absent, FileFailed, BadIdl, NoOperation, ReadFault, BadOctets, BadText, BadValue, TooLong, BadRequest, BadLabel}
+use Rattle.command_refusals.specs.declared.refusal.Refusal.TheVariants.{ShortLabel, TooFewEnds, EndFailed}
 use Rattle.command_text.specs.Fitted.{IsTextCause, IsValueCause, IsMisfitAt}
 use Rattle.command_text.proofs.Beside.{reads_beside, fault_beside, path_beside}
 use Rattle.command_text.proofs.Paths.{misfit_path}

@@ -3,7 +3,7 @@ use Rattle.std.specs.Prelude.{ℕ, pos, List, [], ◌∷◌}
 use Rattle.nd_types.specs.declared.types.TypeDef.TheVariants as def
 use Rattle.nd_value.specs.declared.value.Graph.{Graph}
 use Rattle.nd_value.specs.Tree as tree
-use Rattle.nd_value.specs.Tree.{Tree, node, none}
+use Rattle.nd_value.specs.Tree.{node, none}
 use Rattle.nd_value.specs.Setting.{Setting}
 use Rattle.nd_grammar.specs.ExampleParts.{request, param, num}
 
@@ -47,7 +47,8 @@ handle = request [] (param 11 ∷ [])
 
 abbrev pub a_handle : Graph
 a_handle = record {
-  roots = node (tree.Context 0 (0 ∷ 0x11 ∷ 0x22 ∷ 0x33 ∷ 0x44 ∷ 0x55 ∷ 0x66 ∷ 0x77 ∷ 0x88 ∷ 0x99 ∷ 0xAA ∷ 0xBB ∷ 0xCC ∷ 0xDD ∷ 0xEE ∷ 0xFF ∷ [])) none ∷ [];
+  roots = node
+      (tree.Context 0 (0 ∷ 0x11 ∷ 0x22 ∷ 0x33 ∷ 0x44 ∷ 0x55 ∷ 0x66 ∷ 0x77 ∷ 0x88 ∷ 0x99 ∷ 0xAA ∷ 0xBB ∷ 0xCC ∷ 0xDD ∷ 0xEE ∷ 0xFF ∷ [])) none ∷ [];
   cells = [];
 }
 

@@ -1,5 +1,6 @@
 -- The second pass, as it goes over the pointers, finds the first that shares its cell wrongly.
-use Rattle.std.proofs.Common.{◌≡◌, ℕ, ◌+◌, ◌<◌, zero, suc, Bool, true, false, not, ◌&&◌, eqb, List, [], ◌∷◌, ◌++◌, length, Option, Some, None, refl, ap, ap₂, sym, ◌∙◌, arith, subst, map, append_assoc, cond, set, replicate}
+use Rattle.std.proofs.Common.{◌≡◌, ℕ, ◌+◌, ◌<◌, zero, suc, Bool, true, false, not, ◌&&◌, eqb, List, [], ◌∷◌, ◌++◌, length, Option, Some, None, refl, ap, ap₂, sym, ◌∙◌, arith, subst, map, append_assoc}
+use Rattle.std.proofs.Common.{cond, set, replicate}
 use Rattle.std.specs.Prelude.{◌||◌, flat_map}
 use Rattle.std.specs.List.{list_any, AllByRecursion}
 use Rattle.std.proofs.lemmas.Bool.{eqb-true, eq-eqb, ne_eqb, eqb-false}
@@ -181,9 +182,6 @@ null_named p qs c e = ap (λ o. elim (same_cell o (Some c)) [ true ↦ worse (na
 null_none : (p : Pending) → p.cell ≡ None → (qs : List Pending) → list_any (clashes p) qs ≡ false
 null_none p e [] = refl
 null_none p e (q ∷ qs) = ap (λ o. (same_cell o q.cell && not (is_full p.class && is_full q.class)) || list_any (clashes p) qs) e ∙ null_none p e qs
-
-shared_pointer : Pending → MisfitAt
-shared_pointer p = record { home = p.home; node = p.node; reason = misfit.Shared }
 
 module _ (limit : ℕ) where
   noted_on : (names : List Naming) (earlier : List Pending) (p : Pending) (c : ℕ) → p.cell ≡ Some c → c < limit → Noted limit names earlier

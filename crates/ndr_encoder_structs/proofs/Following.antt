@@ -13,7 +13,8 @@ use Rattle.ndr_encoder_laws.specs.declared.frames.Frame.TheVariants.{Call}
 use Rattle.ndr_encoder_laws.specs.written.Run.{here, later, after, past_checks, stepped, run}
 use Rattle.ndr_encoder_structs.specs.declared.members.Member.{Member}
 use Rattle.ndr_encoder_structs.specs.declared.members.StructRun.{StructRun}
-use Rattle.ndr_encoder_structs.specs.Structs.{member_gap, member_piece, member_pieces, members_pieces, members_of, IsMember, IsNode, IsMemberRun, IsMemberCall, HasBegun, HasClosed, HasEnded, IsStructRun}
+use Rattle.ndr_encoder_structs.specs.Structs.{member_gap, member_piece, member_pieces, members_pieces, members_of, IsMember, IsNode, IsMemberRun, IsMemberCall, HasBegun, HasClosed, HasEnded}
+use Rattle.ndr_encoder_structs.specs.Structs.{IsStructRun}
 
 -- one step
 step_here : (code : List Instr) (m k n pc : ℕ) (frames : List Frame) (fs : List Flat)
@@ -134,9 +135,6 @@ closed code at e r = record {
       steps_are code m k (2 + n) (suc (suc n)) at [] fs (omega arith) ∙ step_by code m k (suc n) at [] fs (Some op.Close) e
       ∙ step_by code m k n (at + 1) [] fs (Some op.Ret) r;
 }
-
-pub closed_ended : (code : List Instr) (at : ℕ) → HasClosed code at → HasEnded code at
-closed_ended code at h = let most = h.few in record { steps = h.steps; few = omega (arith, most); same = h.same }
 
 pub checked_ended : (code : List Instr) (at : ℕ) (attr : Attr) (field var : ℕ) (star : Bool) → slice_get code at ≡ Some (op.Check attr field var star)
     → HasClosed code (past_checks (drop (at + 1) code) (at + 1)) → HasEnded code at

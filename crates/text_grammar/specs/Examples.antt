@@ -12,7 +12,7 @@ use Rattle.nd_types.specs.declared.types.Way.TheVariants as way
 use Rattle.nd_types.specs.Kinds.{basic_types}
 use Rattle.nd_value.specs.declared.value.Graph.{Graph}
 use Rattle.nd_value.specs.Tree as tree
-use Rattle.nd_value.specs.Tree.{Tree, Trees, node, none, more, Referent}
+use Rattle.nd_value.specs.Tree.{Tree, Trees, node, none, more}
 use Rattle.nd_value.specs.Setting.{Setting}
 use Rattle.nd_value.specs.WorkedFit.{add, one_two_three}
 use Rattle.nd_grammar.specs.ExampleParts.{id, num, pointer_to, null, one, two, struct_of, cell}
@@ -82,7 +82,9 @@ abbrev pub putting : Setting
 putting =
     request_of (codes "put")
     (def.Enum (pos 0 ∷ pos 4 ∷ []) ∷ def.Union (id 12) false (file ∷ folder ∷ []) None
-    ∷ def.Struct (member (codes "kind") 12 ∷ member (codes "detail") 13 ∷ member (codes "name") 15 ∷ member (codes "parent") 16 ∷ member (codes "next") 17 ∷ [])
+    ∷ def.Struct
+    (member (codes "kind") 12 ∷ member (codes "detail") 13 ∷ member (codes "name") 15 ∷ member (codes "parent") 16 ∷ member (codes "next") 17
+    ∷ [])
     ∷ def.Text (id 1) (Some 16) ∷ def.Pointer Full (id 14) ∷ def.Pointer Unique (id 14) ∷ def.Array (id 2) None false ∷ [])
     (input (codes "e") 17 ∷ input (codes "n") 8 ∷ input (codes "data") 18 ∷ [])
 

@@ -1,6 +1,7 @@
 -- What comes next in a text is a token, its end, or none of them.
 -- `c` is an octet, `text` and `rest` are what is left of a text, `t` is a token.
-use Rattle.std.proofs.Common.{◌≡◌, ◌⊎◌, inl, inr, ℕ, zero, suc, ◌-◌, ◌<◌, ◌≤◌, ◌^◌, pos, negsuc, Bool, true, false, not, ◌&&◌, ◌||◌, eqb, List, [], ◌∷◌, length, take, drop, Option, Some, None, refl, ap, ap₂, sym, ◌∙◌, subst, arith, take-append-drop}
+use Rattle.std.proofs.Common.{◌≡◌, ◌⊎◌, inl, inr, ℕ, zero, suc, ◌-◌, ◌<◌, ◌≤◌, ◌^◌, pos, negsuc, Bool, true, false, not, ◌&&◌, ◌||◌, eqb, List, [], ◌∷◌, length, take, drop, Option, Some, None, refl}
+use Rattle.std.proofs.Common.{ap, ap₂, sym, ◌∙◌, subst, arith, take-append-drop}
 use Rattle.std.proofs.lemmas.Option.{same_Some}
 use Rattle.std.proofs.lemmas.Bool.{and_parts, both_ways, eqb-true, eq-eqb, cases_lt}
 use Rattle.nd_base.specs.Text.{is_letter, is_hex_digit, has_form, uuid_form}
@@ -136,10 +137,6 @@ bytes_front : (s : List ℕ) → begins_bytes s ≡ true → (body : List ℕ) �
 bytes_front [] h = cc
 bytes_front (c ∷ []) h = cc
 bytes_front (c ∷ d ∷ cs) h = let p = and_parts (eqb c 120) (eqb d 34) h in (cs, ap₂ (λ x y. x ∷ y ∷ cs) (eqb-true c 120 p.0) (eqb-true d 34 p.1))
-
-bytes_token : (t : Token) → is_bytes t ≡ true → (octets : List ℕ) × (t ≡ Bytes octets)
-bytes_token (Bytes octets) e = (octets, refl)
-bytes_token t e = cc
 
 module _ (how : Cutting) (text : List ℕ) where
   abbrev s : List ℕ

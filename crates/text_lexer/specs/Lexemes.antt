@@ -1,13 +1,14 @@
 -- What the scanner says of a text.
 -- `v` is a version, `t` a token, `l` a lexeme, `rest` is what follows it.
-use Rattle.std.specs.Prelude.{◌≡◌, ◌≢◌, ℕ, ℤ, Bool, true, false, ◌==◌, not, ◌&&◌, ◌||◌, List, [], ◌∷◌, Option, None, Some, if◌then◌else◌, codes}
+use Rattle.std.specs.Prelude.{◌≡◌, ◌≢◌, ℕ, ℤ, Bool, true, false, ◌==◌, not, ◌&&◌, ◌||◌, List, [], Option, None, Some, if◌then◌else◌, codes}
 use Rattle.std.specs.Str.{bytes_eq}
 use Rattle.nd_base.specs.Text.{is_letter}
 use Rattle.nd_value.specs.Misfit.{is_count}
 use Rattle.text_grammar.specs.declared.version.Version.{Version}
 use Rattle.text_grammar.specs.declared.fault.TextReason.{TextReason}
 use Rattle.text_grammar.specs.declared.fault.TextReason.TheVariants as reason
-use Rattle.text_grammar.specs.Tokens.{Token, Word, Number, Cell, Str, Bytes, Mark, Spells, is_uuid, is_bytes, is_mark, begins_bytes, skip, IsString, IsByteString, Cutting, IsCut}
+use Rattle.text_grammar.specs.Tokens.{Token, Word, Number, Cell, Str, Bytes, Mark, Spells, is_uuid, is_bytes, is_mark, begins_bytes, skip, IsString}
+use Rattle.text_grammar.specs.Tokens.{IsByteString, Cutting, IsCut}
 use Rattle.text_grammar.specs.Reads.{IsNext, Bad}
 use Rattle.text_grammar.specs.Dues.{is_count_token, version_of}
 use Rattle.text_reading_laws.specs.Settled.{is_two}

@@ -1,8 +1,7 @@
 -- What is kept stays right while entries of a pipe are passed; the gap before the count of a chunk.
-use Rattle.std.proofs.Common.{◌≡◌, ◌≤◌, ◌<◌, ℕ, ◌+◌, ◌*◌, zero, suc, List, [], ◌∷◌, ◌++◌, length, Option, Some, None, refl, ap, sym, ◌∙◌, subst, arith, append_assoc, length-append}
+use Rattle.std.proofs.Common.{◌≡◌, ◌≤◌, ◌<◌, ℕ, ◌+◌, ◌*◌, suc, List, [], ◌∷◌, ◌++◌, length, Option, Some, None, refl, ap, sym, ◌∙◌, subst, arith, append_assoc, length-append}
 use Rattle.std.specs.List.{AllByRecursion}
 use Rattle.nd_base.specs.declared.octets.Order.{Order}
-use Rattle.nd_types.specs.declared.types.Attr.{Attr}
 use Rattle.nd_types.specs.declared.types.TypeId.{TypeId}
 use Rattle.nd_types.specs.Number.{AreOctets}
 use Rattle.nd_types.specs.Roots.{Root}
@@ -14,8 +13,8 @@ use Rattle.nd_value.specs.Tree.{Tree, Trees, node_count}
 use Rattle.nd_value.proofs.Apart.{all_append, all_left}
 use Rattle.nd_grammar.specs.declared.reason.Reason.{Reason}
 use Rattle.nd_grammar.specs.declared.reason.Reason.TheVariants as reason
-use Rattle.nd_grammar.specs.Entry.{Entry, EntryAt, gap, Align, Chunk}
-use Rattle.nd_grammar.specs.Refusal.{refusal, tested_at}
+use Rattle.nd_grammar.specs.Entry.{Entry, EntryAt, gap, Align}
+use Rattle.nd_grammar.specs.Refusal.{refusal}
 use Rattle.nd_grammar.specs.Reader.{Names, Progress, pass}
 use Rattle.nd_grammar.specs.StreamReader.{read_stream}
 use Rattle.ndr_decoder_laws.specs.reader.Around.{going, stopped}
@@ -23,14 +22,14 @@ use Rattle.ndr_decoder_laws.proofs.reader.Continuing.{passed, refused}
 use Rattle.ndr_decoder_laws.proofs.reader.Fetched.{cut_refused}
 use Rattle.ndr_decoder_laws.specs.steps.Good.{Told}
 use Rattle.ndr_decoder_laws.specs.steps.StepItems.{gap_items}
-use Rattle.ndr_decoder_laws.specs.steps.Steps.{Place, place_of, no_place}
+use Rattle.ndr_decoder_laws.specs.steps.Steps.{Place}
 use Rattle.ndr_decoder_laws.proofs.steps.Passing.{gap_noted, items_it, judged, lies_it, silent, told_passed, tested_passed}
 use Rattle.ndr_decoder_laws.specs.stream.Added.{Goes}
 use Rattle.ndr_decoder_laws.proofs.stream.Needing.{NeededAfter, needed_more}
 use Rattle.ndr_decoder_laws.proofs.stream.Others.{others_silent, told_other}
 use Rattle.ndr_decoder_laws.specs.pipes.Reading.{Reads, count_then, of_pipe}
 use Rattle.ndr_decoder_laws.specs.pipes.Pipes.{Position, Stands, InPipe, at_chunk, at_count, past_gap}
-use Rattle.ndr_decoder_laws.proofs.pipes.Staying.{chunks_go, count_goes, count_stays, reads_go, reads_stop}
+use Rattle.ndr_decoder_laws.proofs.pipes.Staying.{chunks_go, count_stays, reads_go, reads_stop}
 
 -- the octets of two lists
 pub both_octets : (xs ys : List ℕ) → AreOctets xs → AreOctets ys → AreOctets (xs ++ ys)
@@ -60,7 +59,8 @@ module _ (w : Setting) (order : Order) (fetched : List ℕ) (noted : List Item) 
 
 -- ## The gap before a count
 
-module _ (w : Setting) (order : Order) (fetched : List ℕ) (noted : List Item) (direct : ℕ) (first : Names) (i : ℕ) (rs : List Root) (roots : List Tree) (elem : TypeId) (done : Trees) (max_at : Option ℕ) (k : Position)
+module _ (w : Setting) (order : Order) (fetched : List ℕ) (noted : List Item) (direct : ℕ) (first : Names) (i : ℕ) (rs : List Root) (roots : List Tree) (elem : TypeId) (done : Trees)
+    (max_at : Option ℕ) (k : Position)
     (p : InPipe w order fetched noted direct first i rs roots elem done max_at 4 (at_chunk w order i elem done k) k) where
   abbrev h : Home
   h = home.Root i
@@ -99,7 +99,8 @@ module _ (w : Setting) (order : Order) (fetched : List ℕ) (noted : List Item) 
     gap_told : Told (noted ++ gap_items h k.at os) direct order (fetched ++ os) h (k.seen ++ x ∷ []) k.names k.cells k.numbers max_at n []
     gap_told =
         told_passed (gap_items h k.at os) order fetched os h k.seen k.names k.cells k.numbers max_at n [] x
-        (items_it order fetched os [] k.at p.stands.reached m k.seen (sym size) ∙ gap_noted order h 0 4 k.at os (sym size)) tt tt refl (lies_it order fetched os [] k.at p.stands.reached m k.seen (sym size)) p.told
+        (items_it order fetched os [] k.at p.stands.reached m k.seen (sym size) ∙ gap_noted order h 0 4 k.at os (sym size)) tt tt refl
+        (lies_it order fetched os [] k.at p.stands.reached m k.seen (sym size)) p.told
 
     goes_past : (later : List ℕ) → pass order ((fetched ++ os) ++ later) m (going k.at k.seen) ≡ going (k.at + length os) (k.seen ++ x ∷ [])
     goes_past later =
@@ -107,7 +108,8 @@ module _ (w : Setting) (order : Order) (fetched : List ℕ) (noted : List Item) 
         ∙ ap (λ a. going (k.at + a) (k.seen ++ x ∷ [])) (sym size)
 
     -- after the gap the count is due
-    pub gap_passes : InPipe w order (fetched ++ os) (noted ++ gap_items (home.Root i) k.at os) direct first i rs roots elem done max_at 4 (at_count w order i elem done (past_gap i os k)) (past_gap i os k)
+    pub gap_passes : InPipe w order (fetched ++ os) (noted ++ gap_items (home.Root i) k.at os) direct first i rs roots elem done max_at 4 (at_count w order i elem done (past_gap i os k))
+        (past_gap i os k)
     gap_passes = record {
       stands = stands_on w order fetched noted direct first i k p.stands os all (noted ++ gap_items h k.at os) (past_gap i os k) (x ∷ []) refl (refl, tt)
           (length-append fetched os ∙ ap (λ a. a + length os) p.stands.reached) max_at n [] gap_told needs;

@@ -1,6 +1,5 @@
 -- The octets of the steps end within the limit of a stream.
-use Rattle.std.proofs.Common.{◌≡◌, ◌≤◌, ◌⊎◌, inl, inr, ℕ, ◌+◌, ◌-◌, ◌%◌, List, [], ◌∷◌, ◌++◌, length, Option, Some, refl, ap, sym, ◌∙◌, subst, arith, append_assoc, length-append}
-use Rattle.std.specs.Prelude.{slice_get}
+use Rattle.std.proofs.Common.{◌≡◌, ◌≤◌, ◌⊎◌, inl, inr, ℕ, ◌+◌, ◌-◌, List, [], ◌++◌, length, refl, ap, sym, subst, arith, append_assoc, length-append}
 use Rattle.std.proofs.lemmas.List.{append-nil}
 use Rattle.nd_base.specs.declared.octets.Order.{Order}
 use Rattle.nd_base.specs.declared.TheConstants.{STREAM_LIMIT}
@@ -104,4 +103,5 @@ module _ (values : List EnumList) (order : Order) (code : List Instr) (table : T
       let inner : IsInner i = inner_there order (f0 ++ fetched) code table h own limit (n0 ++ noted) direct target s g i there in
       let at_short : s.at ≤ STREAM_LIMIT = at_within order (f0 ++ fetched) code table h own limit (n0 ++ noted) direct target s g l in
       subst (λ k. length k ≤ STREAM_LIMIT) (append_assoc f0 fetched os)
-      (step_end (f0 ++ fetched) os (wants values i s) s.at l has (wanting order (f0 ++ fetched) code values table h own limit (n0 ++ noted) direct target s i g there) (wanted_end values os s at_short i inner has))
+      (step_end (f0 ++ fetched) os (wants values i s) s.at l has (wanting order (f0 ++ fetched) code values table h own limit (n0 ++ noted) direct target s i g there)
+      (wanted_end values os s at_short i inner has))

@@ -1,6 +1,6 @@
 -- A node is added: what is kept of it, and a value that has no children is whole then.
 -- `y` is the node, `place` where its actual count or tag is, `q` what the state keeps.
-use Rattle.std.proofs.Common.{◌≡◌, ◌≤◌, ◌<◌, ◌⊎◌, inl, inr, ℕ, ◌+◌, zero, suc, Bool, true, false, List, [], ◌∷◌, ◌++◌, length, Option, Some, None, refl, ap, ap₂, sym, ◌∙◌, subst, arith, append_assoc, length-append, map}
+use Rattle.std.proofs.Common.{◌≡◌, ◌⊎◌, inl, inr, ℕ, ◌+◌, zero, suc, false, List, [], ◌∷◌, ◌++◌, length, Option, Some, None, refl, ap, ap₂, sym, ◌∙◌, subst, arith, append_assoc, length-append, map}
 use Rattle.std.specs.Prelude.{ℤ}
 use Rattle.std.specs.List.{slice_get}
 use Rattle.std.proofs.lemmas.Option.{same_Some}
@@ -13,7 +13,7 @@ use Rattle.nd_types.specs.Table.{Table}
 use Rattle.nd_value.specs.declared.item.Home.{Home}
 use Rattle.nd_value.specs.declared.item.Item.{Item}
 use Rattle.nd_value.specs.Tree as tree
-use Rattle.nd_value.specs.Tree.{Tree, Trees, node, none, more, Flat, Label}
+use Rattle.nd_value.specs.Tree.{node, none, more, Flat, Label}
 use Rattle.nd_grammar.specs.Entry.{Entry, EntryAt}
 use Rattle.nd_grammar.specs.Refusal.{tested_at, refusal}
 use Rattle.nd_grammar.specs.declared.reason.Reason.{Reason}
@@ -26,11 +26,10 @@ use Rattle.ndr_decoder_laws.proofs.reader.Continuing.{finish_stays}
 use Rattle.ndr_decoder_laws.specs.declared.first.First.{First}
 use Rattle.ndr_decoder_laws.specs.declared.first.Member.{Member}
 use Rattle.ndr_decoder_laws.specs.declared.frame.Frame.{Frame}
-use Rattle.ndr_decoder_laws.specs.declared.frame.Frame.TheVariants as frame
-use Rattle.ndr_decoder_laws.specs.steps.Spots.{Inside, IsFrame, in_struct, in_array, in_union, in_pipe, AtEnd, IsShaped, FitsPointer}
-use Rattle.ndr_decoder_laws.specs.steps.Steps.{State, Owed, Place, no_place, begun, place_of, place_in, first_of, own_by, firsts_by}
+use Rattle.ndr_decoder_laws.specs.steps.Spots.{Inside, in_struct, in_array, in_union, in_pipe, AtEnd, IsShaped, FitsPointer}
+use Rattle.ndr_decoder_laws.specs.steps.Steps.{State, Owed, Place, begun, place_of, place_in, first_of, own_by, firsts_by}
 use Rattle.ndr_decoder_laws.specs.steps.Good.{Told, Kept, Good, OwnIn, members_around, members_of, read_members, open_member, owed, due_member, place_at}
-use Rattle.ndr_decoder_laws.proofs.steps.Passing.{kept_longer, own_map, none_ahead}
+use Rattle.ndr_decoder_laws.proofs.steps.Passing.{kept_longer, none_ahead}
 use Rattle.ndr_decoder_laws.proofs.steps.Arriving.{Parts, Within, KeptAll, KeptOwn}
 
 pub get_joined : {X : Type 0} (xs : List X) (x : X) (i : ℕ) (z : X) → slice_get (xs ++ x ∷ []) i ≡ Some z → (slice_get xs i ≡ Some z) ⊎ ((i ≡ length xs) × (x ≡ z))
@@ -121,7 +120,8 @@ added code table h own limit seen depth fs t q y place w found =
     (node_kept code table h seen q.max_at q.nodes y place found)
 
 -- the nodes after one that is added have no count or tag yet
-pub told_node : {noted : List Item} {direct : ℕ} (order : Order) (fetched : List ℕ) (h : Home) (seen : List EntryAt) (names : Names) (cells : List ℕ) (numbers : List (ℕ × Known)) (max_at : Option ℕ) (nodes : List Flat) (y : Flat) (half : List Place)
+pub told_node : {noted : List Item} {direct : ℕ} (order : Order) (fetched : List ℕ) (h : Home) (seen : List EntryAt) (names : Names) (cells : List ℕ) (numbers : List (ℕ × Known)) (max_at : Option ℕ)
+    (nodes : List Flat) (y : Flat) (half : List Place)
     → Told noted direct order fetched h seen names cells numbers max_at (length nodes) half → Told noted direct order fetched h seen names cells numbers max_at (length (nodes ++ y ∷ [])) []
 told_node order fetched h seen names cells numbers max_at nodes y half t = record {
   noted_are = t.noted_are;
@@ -135,7 +135,8 @@ told_node order fetched h seen names cells numbers max_at nodes y half t = recor
 }
 
 -- what is found of a node that has no count or tag
-pub none_found : {noted : List Item} {direct : ℕ} (order : Order) (fetched : List ℕ) (h : Home) (seen : List EntryAt) (names : Names) (cells : List ℕ) (numbers : List (ℕ × Known)) (max_at : Option ℕ) (n : ℕ) (half : List Place)
+pub none_found : {noted : List Item} {direct : ℕ} (order : Order) (fetched : List ℕ) (h : Home) (seen : List EntryAt) (names : Names) (cells : List ℕ) (numbers : List (ℕ × Known)) (max_at : Option ℕ)
+    (n : ℕ) (half : List Place)
     → Told noted direct order fetched h seen names cells numbers max_at n half → (a : Attr) → tested_at seen a h n ≡ place_of a max_at (place_at half 0)
 none_found order fetched h seen names cells numbers max_at n half t a = let z : n ≡ n + 0 = omega arith in ap (tested_at seen a h) z ∙ t.ahead a 0
 
@@ -173,7 +174,8 @@ after_leaf q pc at max tag carrier fresh cells numbers y place = record {
   numbers = numbers;
 }
 
-pub leaf_good : (order : Order) (fetched : List ℕ) (code : List Instr) (table : Table) (h : Home) (own limit : ℕ) (noted : List Item) (direct : ℕ) (target : List ℕ → Read) (q : Parts) (pc at max : ℕ) (tag : ℤ) (carrier : Primitive)
+pub leaf_good : (order : Order) (fetched : List ℕ) (code : List Instr) (table : Table) (h : Home) (own limit : ℕ) (noted : List Item) (direct : ℕ) (target : List ℕ → Read) (q : Parts) (pc at max : ℕ)
+    (tag : ℤ) (carrier : Primitive)
     (fresh : List Owed) (cells : List ℕ) (numbers : List (ℕ × Known)) (l : Label) (place : Option ℕ) (half : List Place) (seen : List EntryAt) (names : Names) (depth : ℕ) (fs : List Around) (t : ℕ)
     → Within code table h own limit seen depth fs t q
     → ((a : Attr) → tested_at seen a h (length q.nodes) ≡ place_of a q.max_at (place_in (first_of (l, 0) place)))
@@ -214,7 +216,8 @@ leaf_good order fetched code table h own limit noted direct target q pc at max t
 -- ## Refusals
 
 -- a value at which reading stops stops the home
-pub stop_by : (order : Order) (octets : List ℕ) (table : Table) (h : Home) (k m : ℕ) (fs : List Around) (r target : Read) (at : ℕ) (seen : List EntryAt) (why : ℕ × Reason) → r.progress ≡ stopped at seen why
+pub stop_by : (order : Order) (octets : List ℕ) (table : Table) (h : Home) (k m : ℕ) (fs : List Around) (r target : Read) (at : ℕ) (seen : List EntryAt) (why : ℕ × Reason)
+    → r.progress ≡ stopped at seen why
     → finish order octets table h m k fs r ≡ target → target.progress ≡ stopped at seen why
 stop_by order octets table h k m fs r target at seen why e rest = ap (λ u. u.progress) (sym rest) ∙ finish_stays order octets table h at seen why k m fs r e
 

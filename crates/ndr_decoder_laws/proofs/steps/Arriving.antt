@@ -1,7 +1,7 @@
 -- A value that is due: what the state keeps around it, and how the decoder comes to it.
-use Rattle.std.proofs.Common.{◌≡◌, ◌≤◌, ◌<◌, ◌⊎◌, inl, inr, ℕ, ◌+◌, zero, suc, Bool, true, false, List, [], ◌∷◌, ◌++◌, length, Option, Some, None, refl, ap, ap₂, sym, ◌∙◌, subst, arith, append_assoc, length-append, map}
+use Rattle.std.proofs.Common.{◌≡◌, ◌≤◌, ◌<◌, ◌⊎◌, inl, inr, ℕ, ◌+◌, zero, suc, Bool, true, false, List, [], ◌∷◌, ◌++◌, length, Option, Some, None, refl, ap, sym, ◌∙◌, subst, arith, length-append, map}
 use Rattle.std.specs.Prelude.{eqb, ℤ}
-use Rattle.std.specs.List.{AllByRecursion, slice_get}
+use Rattle.std.specs.List.{slice_get}
 use Rattle.std.proofs.lemmas.Bool.{eqb-true}
 use Rattle.std.proofs.lemmas.List.{append-nil}
 use Rattle.std.proofs.lemmas.Option.{slice_get_within}
@@ -9,25 +9,22 @@ use Rattle.nd_base.specs.declared.octets.Order.{Order}
 use Rattle.nd_types.specs.declared.types.Attr.{Attr}
 use Rattle.nd_types.specs.declared.types.TypeDef.{TypeDef}
 use Rattle.nd_types.specs.declared.types.TypeDef.TheVariants as def
-use Rattle.nd_types.specs.declared.types.Arm.{Arm}
-use Rattle.nd_types.specs.declared.types.TypeId.{TypeId}
 use Rattle.nd_types.specs.declared.types.Primitive.{Primitive}
 use Rattle.nd_types.specs.Table.{Table, type_at, width}
 use Rattle.nd_types.specs.Layout.{align_of, align_by, align_within}
 use Rattle.nd_value.specs.declared.item.Home.{Home}
 use Rattle.nd_value.specs.declared.item.Item.{Item}
 use Rattle.nd_value.specs.Tree.{Flat}
-use Rattle.nd_grammar.specs.Entry.{Entry, EntryAt, gap, Align, size_at}
+use Rattle.nd_grammar.specs.Entry.{Entry, EntryAt, gap, Align}
 use Rattle.nd_grammar.specs.Refusal.{refusal, refused_if}
-use Rattle.nd_grammar.specs.declared.reason.Reason.{Reason}
 use Rattle.nd_grammar.specs.declared.reason.Reason.TheVariants.{Truncated}
-use Rattle.nd_grammar.specs.Reader.{Names, Read, Progress, pass, entry, read_in_place}
+use Rattle.nd_grammar.specs.Reader.{Names, Read, pass, entry, read_in_place}
 use Rattle.ndr_code.specs.declared.instr.Instr.{Instr}
 use Rattle.ndr_code.specs.declared.instr.Instr.TheVariants as op
 use Rattle.ndr_code.specs.declared.lists.EnumList.{EnumList}
-use Rattle.ndr_code.specs.Code.{place_at, whole_at, id, gap_run, place_run}
+use Rattle.ndr_code.specs.Code.{place_at, whole_at, id, place_run}
 use Rattle.ndr_code.specs.Runs.{IsRunAt}
-use Rattle.ndr_decoder_laws.specs.reader.Halves.{gap_of, past_gap, tag_gap, after_gap}
+use Rattle.ndr_decoder_laws.specs.reader.Halves.{gap_of, past_gap, tag_gap}
 use Rattle.ndr_decoder_laws.specs.reader.Around.{Around, going, finish, nodes_around, pointers_around, Numbered, Tied}
 use Rattle.ndr_decoder_laws.specs.reader.Points.{Point, TagForm, IsTagForm, due, opened, hoisting, counting, called, between, checking, has, type_of, held, read_at}
 use Rattle.ndr_decoder_laws.proofs.reader.Continuing.{passed}
@@ -36,7 +33,7 @@ use Rattle.ndr_decoder_laws.specs.declared.first.First.{First}
 use Rattle.ndr_decoder_laws.specs.declared.first.Member.{Member}
 use Rattle.ndr_decoder_laws.specs.declared.frame.Frame.{Frame}
 use Rattle.ndr_decoder_laws.specs.steps.Spots.{IsFine, IsDue, IsFormed, IsPlanned, Inside, Fits, Spot, body_run}
-use Rattle.ndr_decoder_laws.specs.steps.Steps.{State, Owed, Phase, begun}
+use Rattle.ndr_decoder_laws.specs.steps.Steps.{State, Owed, begun}
 use Rattle.ndr_decoder_laws.specs.steps.Good.{Told, Kept, Good, OwnIn, Begin, HasRegisters, Holds, members_around, owed, due_member, half_at, phase_at}
 use Rattle.ndr_decoder_laws.proofs.steps.Passing.{items_it, told_passed, kept_passed, own_map, silent, speaks, no_less, Lies}
 
@@ -111,7 +108,8 @@ IsPlain _ = Unit {0}
 
 module _ (order : Order) (fetched : List ℕ) (code : List Instr) (table : Table) (h : Home) (own limit : ℕ) (noted : List Item) (direct : ℕ) (target : List ℕ → Read) where
   pub plain_good : (p : Point) → IsPlain p → (s : State) (depth : ℕ) (fs : List Around) (seen : List EntryAt) (names : Names)
-      → Within code table h own limit seen depth fs (type_of p) (parts_of s) → Spot code table h s.max depth s.pc p → s.phase ≡ phase_at p → HasRegisters p s → length fetched ≡ s.at + held p → Holds order fetched s.at p
+      → Within code table h own limit seen depth fs (type_of p) (parts_of s) → Spot code table h s.max depth s.pc p → s.phase ≡ phase_at p → HasRegisters p s → length fetched ≡ s.at + held p
+      → Holds order fetched s.at p
       → Told noted direct order fetched h seen names s.cells s.numbers s.max_at (length s.nodes) (half_at p s.at)
       → ((later : List ℕ)
       → finish order (fetched ++ later) table h s.max depth fs (read_at order (fetched ++ later) table h s.max depth p (length (nodes_around fs)) (going s.at seen) names)
@@ -207,7 +205,8 @@ module _ (code : List Instr) (table : Table) where
 
 -- ## The decoder is sent to the place run of a type that is due
 
-module _ (order : Order) (fetched : List ℕ) (code : List Instr) (values : List EnumList) (table : Table) (h : Home) (own limit : ℕ) (noted : List Item) (direct : ℕ) (target : List ℕ → Read) (planned : IsPlanned code values table) where
+module _ (order : Order) (fetched : List ℕ) (code : List Instr) (values : List EnumList) (table : Table) (h : Home) (own limit : ℕ) (noted : List Item) (direct : ℕ) (target : List ℕ → Read)
+    (planned : IsPlanned code values table) where
   one_gap : (at : ℕ) → gap at 1 ≡ 0
   one_gap at = omega arith
 
@@ -221,8 +220,10 @@ module _ (order : Order) (fetched : List ℕ) (code : List Instr) (values : List
       ap (λ b. refused_if b (length octets, Truncated) None) (no_less (length octets) (at + gap at 1) (omega (arith, z, within))) in
       passed order octets m at seen r ∙ ap (λ a. going a (seen ++ record { at = at; entry = m } ∷ [])) z
 
-  module _ (s : State) (k : ℕ) (fs : List Around) (seen : List EntryAt) (names : Names) (t : ℕ) (d : TypeDef) (fine : IsDue (IsFine table k) table t) (e : type_at table t ≡ Some d) (phase : s.phase ≡ begun)
-      (w : Within code table h own limit seen (suc k) fs t (parts_of s)) (told : Told noted direct order fetched h seen names s.cells s.numbers s.max_at (length s.nodes) []) (reached : length fetched ≡ s.at)
+  module _ (s : State) (k : ℕ) (fs : List Around) (seen : List EntryAt) (names : Names) (t : ℕ) (d : TypeDef) (fine : IsDue (IsFine table k) table t) (e : type_at table t ≡ Some d)
+      (phase : s.phase ≡ begun)
+      (w : Within code table h own limit seen (suc k) fs t (parts_of s)) (told : Told noted direct order fetched h seen names s.cells s.numbers s.max_at (length s.nodes) [])
+      (reached : length fetched ≡ s.at)
       (rest : (later : List ℕ) → finish order (fetched ++ later) table h s.max (suc k) fs
       (read_in_place order (fetched ++ later) table h (suc k) s.max t (length (nodes_around fs)) (going s.at seen) names) ≡ target (fetched ++ later)) where
     at_zero : length fetched ≡ s.at + 0
@@ -234,7 +235,8 @@ module _ (order : Order) (fetched : List ℕ) (code : List Instr) (values : List
         (λ later.
         ap (finish order (fetched ++ later) table h s.max (suc k) fs)
         (sym (due_opens order (fetched ++ later) table h s.max k t (length (nodes_around fs)) d (going s.at seen) names e
-        ∙ ap (λ g. read_at order (fetched ++ later) table h s.max (suc k) (opened t d) (length (nodes_around fs)) (past_gap order (fetched ++ later) table h (length (nodes_around fs)) g (going s.at seen)) names) ea))
+        ∙ ap (λ g. read_at order (fetched ++ later) table h s.max (suc k) (opened t d) (length (nodes_around fs))
+        (past_gap order (fetched ++ later) table h (length (nodes_around fs)) g (going s.at seen)) names) ea))
         ∙ rest later)
     by_entrance (gapped a ea (inr run)) =
         plain_good order fetched code table h own limit noted direct target (due t) tt s (suc k) fs seen names w (fine, (a, (d, e, ea, run))) phase tt at_zero tt told rest
@@ -243,7 +245,8 @@ module _ (order : Order) (fetched : List ℕ) (code : List Instr) (values : List
         let x : EntryAt = record { at = s.at; entry = record { home = h; node = n; kind = Align 1 } } in
         let z : s.at + gap s.at 1 ≡ s.at = let g : gap s.at 1 ≡ 0 = one_gap s.at in omega (arith, g) in
         let lies : Lies (fetched ++ []) x = omega (arith, z, reached, length-append fetched []) in
-        plain_good order fetched code table h own limit noted direct target (opened t d) tt s (suc k) fs (seen ++ x ∷ []) names (within_passed code table h own limit seen (suc k) fs t (parts_of s) x (λ a n l. silent a h n x tt) w) (fine, e, run) phase tt at_zero tt
+        plain_good order fetched code table h own limit noted direct target (opened t d) tt s (suc k) fs (seen ++ x ∷ []) names
+        (within_passed code table h own limit seen (suc k) fs t (parts_of s) x (λ a n l. silent a h n x tt) w) (fine, e, run) phase tt at_zero tt
         (subst (λ ns. Told ns direct order fetched h (seen ++ x ∷ []) names s.cells s.numbers s.max_at (length s.nodes) []) (append-nil noted)
         (subst (λ f. Told (noted ++ []) direct order f h (seen ++ x ∷ []) names s.cells s.numbers s.max_at (length s.nodes) []) (append-nil fetched)
         (told_passed [] order fetched [] h seen names s.cells s.numbers s.max_at (length s.nodes) [] x (items_it order fetched [] [] s.at reached x.entry seen (one_gap s.at)) tt tt refl lies told)))

@@ -1,5 +1,5 @@
 -- The beginning of a home's value: the state at its whole run means what the plain reader has to read.
-use Rattle.std.proofs.Common.{◌≡◌, ◌<◌, ℕ, ◌+◌, zero, suc, true, false, List, [], ◌∷◌, ◌++◌, length, Option, Some, None, refl, ap, sym, ◌∙◌, subst, arith, map}
+use Rattle.std.proofs.Common.{◌≡◌, ℕ, ◌+◌, true, false, List, [], ◌∷◌, ◌++◌, length, Some, refl, ap, sym, ◌∙◌, arith}
 use Rattle.std.specs.List.{slice_get}
 use Rattle.nd_base.specs.declared.octets.Order.{Order}
 use Rattle.nd_types.specs.Table.{Table}
@@ -22,7 +22,8 @@ use Rattle.ndr_decoder_laws.specs.steps.Steps.{State}
 use Rattle.ndr_decoder_laws.specs.steps.Good.{Kept, Good, IsBegun, due_member}
 use Rattle.ndr_decoder_laws.proofs.steps.Arriving.{Within, parts_of, arrives}
 
-module _ (order : Order) (fetched : List ℕ) (code : List Instr) (values : List EnumList) (table : Table) (h : Home) (own : ℕ) (noted : List Item) (direct : ℕ) (planned : IsPlanned code values table) (s : State) (seen : List EntryAt) (names : Names)
+module _ (order : Order) (fetched : List ℕ) (code : List Instr) (values : List EnumList) (table : Table) (h : Home) (own : ℕ) (noted : List Item) (direct : ℕ) (planned : IsPlanned code values table)
+    (s : State) (seen : List EntryAt) (names : Names)
     (fine : IsFine table 32 own) (begins : IsBegun noted direct order fetched h seen names s) where
   abbrev target : List ℕ → Read
   target octets = read_whole order octets table h own (going s.at seen) names

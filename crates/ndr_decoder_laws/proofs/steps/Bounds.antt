@@ -1,5 +1,5 @@
 -- A state that means something is at an address of the code, at an instruction of a home's value, and few frames are open.
-use Rattle.std.proofs.Common.{◌≡◌, ◌≤◌, ◌<◌, ℕ, ◌+◌, zero, suc, true, false, List, [], ◌∷◌, ◌++◌, length, Option, Some, None, refl, ap, sym, ◌∙◌, subst, arith}
+use Rattle.std.proofs.Common.{◌≡◌, ◌≤◌, ◌<◌, ℕ, ◌+◌, zero, suc, true, false, List, [], ◌∷◌, ◌++◌, length, Option, Some, None, ap, sym, ◌∙◌, subst, arith}
 use Rattle.std.specs.List.{slice_get}
 use Rattle.std.proofs.lemmas.Option.{same_Some, slice_get_within}
 use Rattle.nd_base.specs.declared.octets.Order.{Order}
@@ -8,7 +8,7 @@ use Rattle.nd_types.specs.declared.types.AttrVar.{AttrVar}
 use Rattle.nd_types.specs.declared.types.Field.{Field}
 use Rattle.nd_types.specs.declared.types.TypeDef.{TypeDef}
 use Rattle.nd_types.specs.declared.types.TypeDef.TheVariants as def
-use Rattle.nd_types.specs.Table.{Table, type_at}
+use Rattle.nd_types.specs.Table.{Table}
 use Rattle.nd_value.specs.declared.item.Home.{Home}
 use Rattle.nd_value.specs.declared.item.Item.{Item}
 use Rattle.nd_value.specs.Agreement.{Agreement}
@@ -118,7 +118,8 @@ waiting_at code table (text_counted t max c) top stack fs inside = at_most (leng
 waiting_at code table (tagged t d form arms default z) top stack fs inside = at_most (length stack) (length fs) (waiting code table top stack fs inside)
 waiting_at code table (has t v) top stack fs inside = at_most (length stack) (length fs) (waiting code table top stack fs inside)
 
-module _ (order : Order) (fetched : List ℕ) (code : List Instr) (table : Table) (h : Home) (own limit : ℕ) (noted : List Item) (direct : ℕ) (target : List ℕ → Read) (s : State) (g : Good order fetched code table h own limit noted direct target s) where
+module _ (order : Order) (fetched : List ℕ) (code : List Instr) (table : Table) (h : Home) (own limit : ℕ) (noted : List Item) (direct : ℕ) (target : List ℕ → Read) (s : State)
+    (g : Good order fetched code table h own limit noted direct target s) where
   pub address_within : s.pc < length code
   address_within = let here_it = at_point code table h s.max s.pc g.depth g.point g.spot in slice_get_within code s.pc here_it.0 here_it.1
 

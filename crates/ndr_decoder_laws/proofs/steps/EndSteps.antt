@@ -1,22 +1,19 @@
 -- The end of a value: the next member of its struct, the next element, the end of its array, union or pipe, or that of the home.
-use Rattle.std.proofs.Common.{◌≡◌, ◌≤◌, ◌<◌, ℕ, ◌+◌, zero, suc, Bool, true, false, List, [], ◌∷◌, ◌++◌, length, Option, Some, None, refl, ap, ap₂, sym, ◌∙◌, subst, arith, append_assoc, length-append, map, flat_map}
+use Rattle.std.proofs.Common.{◌≡◌, ℕ, ◌+◌, zero, suc, Bool, true, false, List, [], ◌∷◌, ◌++◌, length, Some, refl, ap, ap₂, sym, ◌∙◌, subst, arith, append_assoc, length-append, map, flat_map}
 use Rattle.std.specs.Prelude.{replicate}
 use Rattle.std.specs.List.{AllByRecursion}
 use Rattle.std.proofs.lemmas.List.{append-nil, length-replicate}
 use Rattle.std.proofs.lemmas.Grind.{flat_map-append}
 use Rattle.nd_base.specs.declared.octets.Order.{Order}
-use Rattle.nd_types.specs.declared.types.TypeDef.{TypeDef}
 use Rattle.nd_types.specs.declared.types.TypeDef.TheVariants as def
-use Rattle.nd_types.specs.declared.types.Field.{Field}
-use Rattle.nd_types.specs.declared.types.TypeId.{TypeId}
 use Rattle.nd_types.specs.Table.{Table, type_at}
 use Rattle.nd_value.specs.declared.item.Home.{Home}
 use Rattle.nd_value.specs.declared.item.Item.{Item}
 use Rattle.nd_value.specs.Nodes.{child_agreements, nodes_of}
 use Rattle.nd_value.specs.Deferral.{pointer, home_pointers}
 use Rattle.nd_value.specs.Tree as tree
-use Rattle.nd_value.specs.Tree.{Tree, Trees, node, none, more, joined, Label, Flat, flat, count, node_count, is_pointer}
-use Rattle.nd_grammar.specs.Entry.{Entry, EntryAt}
+use Rattle.nd_value.specs.Tree.{Tree, Trees, node, none, more, joined, Label, flat, count, node_count, is_pointer}
+use Rattle.nd_grammar.specs.Entry.{EntryAt}
 use Rattle.nd_grammar.specs.InPlace.{child_tests, own_tests}
 use Rattle.nd_grammar.specs.Reader.{Names, Read, read_in_place, tree_nodes, pass_all}
 use Rattle.ndr_code.specs.declared.instr.Instr.{Instr}
@@ -29,13 +26,12 @@ use Rattle.ndr_decoder_laws.specs.reader.Points.{between, has}
 use Rattle.ndr_decoder_laws.proofs.reader.Continuing.{moves, goes_on}
 use Rattle.ndr_decoder_laws.proofs.reader.FlatNodes.{length_flat, count_joined, nodes_moved, node_closed, length_more}
 use Rattle.ndr_decoder_laws.proofs.reader.HomePointers.{nodes_joined, pointers_moved, pointers_node, of_array, of_union}
-use Rattle.ndr_decoder_laws.specs.declared.first.Member.{Member}
 use Rattle.ndr_decoder_laws.specs.declared.frame.Frame.{Frame}
 use Rattle.ndr_decoder_laws.specs.declared.frame.Frame.TheVariants as frame
-use Rattle.ndr_decoder_laws.specs.steps.Spots.{IsFine, IsPlanned, IsStruct, IsArray, IsUnion, IsPipe, IsFrame, in_struct, in_array, in_union, in_pipe, Inside, Fits, at_ret, IsShaped, AreShaped, FitsPointer}
-use Rattle.ndr_decoder_laws.specs.steps.Steps.{State, Outcome, goes, whole, begun, back_to, jumped, popped_to, with_frames}
-use Rattle.ndr_decoder_laws.specs.steps.Good.{Told, Good, IsRight, owed, Begin, BeginsAt, BeginStruct, members_around, members_of, read_members, open_member}
-use Rattle.ndr_decoder_laws.proofs.steps.Arriving.{Within, KeptAll, KeptOwn, parts_of, arrives}
+use Rattle.ndr_decoder_laws.specs.steps.Spots.{IsFine, IsPlanned, IsFrame, in_struct, in_array, in_union, in_pipe, Inside, Fits, at_ret, IsShaped, AreShaped, FitsPointer}
+use Rattle.ndr_decoder_laws.specs.steps.Steps.{State, Outcome, goes, back_to, jumped, popped_to, with_frames}
+use Rattle.ndr_decoder_laws.specs.steps.Good.{Told, IsRight, owed, Begin, BeginsAt, BeginStruct, members_around, members_of, read_members, open_member}
+use Rattle.ndr_decoder_laws.proofs.steps.Arriving.{KeptAll, KeptOwn, arrives}
 use Rattle.ndr_decoder_laws.proofs.steps.Adding.{no_pointer}
 use Rattle.ndr_decoder_laws.proofs.steps.StructSteps.{deeper}
 
@@ -52,7 +48,8 @@ snoc : (n t : ℕ) → replicate n t ++ t ∷ [] ≡ replicate (suc n) t
 snoc zero t = refl
 snoc (suc n) t = ap (λ xs. t ∷ xs) (snoc n t)
 
-shaped_moved : (table : Table) (us : List ℕ) (t : ℕ) (ts : Trees) (v : Tree) → length us ≡ count ts → AreShaped table us ts → IsShaped table t v → AreShaped table (us ++ t ∷ []) (joined ts (more v none))
+shaped_moved : (table : Table) (us : List ℕ) (t : ℕ) (ts : Trees) (v : Tree) → length us ≡ count ts → AreShaped table us ts → IsShaped table t v
+    → AreShaped table (us ++ t ∷ []) (joined ts (more v none))
 shaped_moved table [] t none v e a b = (b, tt)
 shaped_moved table [] t (more x xs) v e a b = absurd (omega (arith, e))
 shaped_moved table (u ∷ us) t none v e a b = absurd (omega (arith, e))
@@ -108,7 +105,8 @@ module _ (table : Table) (h : Home) where
       (ap₂ (λ u n. pointers table h f.before (f.node + 1) f.done ++ pointers table h (u ∷ []) n (more v none)) et (before_child f fs numbered)
       ∙ sym (pointers_moved table h f.before f.child (f.node + 1) f.done v many))
 
-module _ (order : Order) (fetched : List ℕ) (code : List Instr) (values : List EnumList) (table : Table) (h : Home) (own limit : ℕ) (noted : List Item) (direct : ℕ) (target : List ℕ → Read) (planned : IsPlanned code values table) where
+module _ (order : Order) (fetched : List ℕ) (code : List Instr) (values : List EnumList) (table : Table) (h : Home) (own limit : ℕ) (noted : List Item) (direct : ℕ) (target : List ℕ → Read)
+    (planned : IsPlanned code values table) where
   abbrev Right : ℕ → List EntryAt → Outcome → Type 0
   Right at seen o = IsRight order fetched code table h own limit noted direct target at seen o
 
@@ -249,7 +247,8 @@ module _ (order : Order) (fetched : List ℕ) (code : List Instr) (values : List
           let e : length (pointers_around table h (f ∷ fs)) ≡ ps + length (pointers table h f.before (f.node + 1) f.done) =
           length-append (pointers_around table h fs) (pointers table h f.before (f.node + 1) f.done) in
           ap (λ l. members_around table h fs ++ (read_members table h l f fs ++ open_member table h l f fs)) is.label
-          ∙ ap₂ (λ (a : ℕ) (b : ℕ). members_around table h fs ++ (members_of table h ps f.before (f.node + 1) f.done ++ record { node = a; pending = b } ∷ [])) (numbered.1 ∙ before_child table h f fs numbered) e
+          ∙ ap₂ (λ (a : ℕ) (b : ℕ). members_around table h fs ++ (members_of table h ps f.before (f.node + 1) f.done ++ record { node = a; pending = b } ∷ []))
+          (numbered.1 ∙ before_child table h f fs numbered) e
           ∙ ap (λ xs. members_around table h fs ++ xs) (sym (members_moved table h ps f.before f.child (f.node + 1) f.done v is.many))
           ∙ ap (λ l. members_around table h fs ++ read_members table h l g fs) (sym is.label) in
           record {

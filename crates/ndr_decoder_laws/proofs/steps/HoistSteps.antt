@@ -1,5 +1,5 @@
 -- The maximum count before a home's value: its gap, the count, and the call of the value.
-use Rattle.std.proofs.Common.{◌≡◌, ◌≤◌, ◌<◌, ◌⊎◌, inl, inr, ℕ, ◌+◌, zero, suc, Bool, true, false, ◌&&◌, List, [], ◌∷◌, ◌++◌, length, Option, Some, None, refl, ap, ap₂, sym, ◌∙◌, subst, arith, append_assoc, length-append, map}
+use Rattle.std.proofs.Common.{◌≡◌, ◌≤◌, ℕ, ◌+◌, Bool, true, false, ◌&&◌, List, [], ◌∷◌, ◌++◌, length, Some, None, refl, ap, sym, ◌∙◌, subst, arith, length-append}
 use Rattle.std.specs.Prelude.{pos, ◌||◌, eqb}
 use Rattle.std.specs.List.{slice_get}
 use Rattle.nd_base.specs.declared.octets.Order.{Order}
@@ -11,31 +11,30 @@ use Rattle.nd_types.specs.Table.{Table}
 use Rattle.nd_value.specs.declared.item.Home.{Home}
 use Rattle.nd_value.specs.declared.item.Item.{Item}
 use Rattle.nd_value.specs.declared.item.ItemKind.TheVariants as item
-use Rattle.nd_grammar.specs.declared.reason.Reason.{Reason}
-use Rattle.nd_grammar.specs.Entry.{Kind, Entry, EntryAt, size_at, gap, Align, Max}
+use Rattle.nd_grammar.specs.Entry.{Entry, EntryAt, gap, Align, Max}
 use Rattle.nd_grammar.specs.Refusal.{refusal, tested_at, same_home}
-use Rattle.nd_grammar.specs.Reader.{Progress, Names, Read, pass, taken, number_in, read_in_place, read_hoisted}
+use Rattle.nd_grammar.specs.Reader.{Names, Read, pass, taken, number_in, read_in_place, read_hoisted}
 use Rattle.ndr_code.specs.declared.instr.Instr.{Instr}
 use Rattle.ndr_code.specs.declared.instr.Instr.TheVariants as op
 use Rattle.ndr_code.specs.declared.lists.EnumList.{EnumList}
 use Rattle.ndr_code.specs.Code.{place_at}
 use Rattle.ndr_code.specs.Runs.{IsRunAt}
 use Rattle.ndr_code.proofs.Runs.{next_at}
-use Rattle.ndr_refs.specs.declared.referents.Known.{Known}
 use Rattle.ndr_decoder_laws.specs.reader.Halves.{hoisted_after}
-use Rattle.ndr_decoder_laws.specs.reader.Around.{Around, going, stopped, finish}
-use Rattle.ndr_decoder_laws.specs.reader.Points.{hoisting, counting, called}
+use Rattle.ndr_decoder_laws.specs.reader.Around.{going, stopped, finish}
+use Rattle.ndr_decoder_laws.specs.reader.Points.{counting, called}
 use Rattle.ndr_decoder_laws.proofs.reader.Continuing.{passed, refused as stops_at, in_place_stays}
 use Rattle.ndr_decoder_laws.proofs.reader.FromPoint.{hoisted_in_halves}
 use Rattle.ndr_decoder_laws.specs.declared.first.First.{First}
 use Rattle.ndr_decoder_laws.specs.declared.first.Member.{Member}
 use Rattle.ndr_decoder_laws.specs.declared.frame.Frame.TheVariants as frame
 use Rattle.ndr_decoder_laws.specs.steps.Spots.{IsFine, IsPlanned}
-use Rattle.ndr_decoder_laws.specs.steps.Steps.{State, Outcome, goes, begun, gap_read, past, done_after, with_max, call_from, place_of, no_place}
-use Rattle.ndr_decoder_laws.specs.steps.Good.{Told, Kept, Good, IsRight, place_at as place_of_node}
+use Rattle.ndr_decoder_laws.specs.steps.Steps.{State, Outcome, goes, gap_read, past, done_after, with_max, call_from, place_of, no_place}
+use Rattle.ndr_decoder_laws.specs.steps.Good.{Told, IsRight, place_at as place_of_node}
 use Rattle.ndr_decoder_laws.specs.steps.StepItems.{item_here, gap_items, count_items}
 use Rattle.ndr_decoder_laws.proofs.steps.CountedCells.{none_named}
-use Rattle.ndr_decoder_laws.proofs.steps.Passing.{items_it, gap_noted, noted_joined, onward, no_less, silent, told_passed, known_joined, lie_joined, lie_longer, judged, taken_it, lies_it, same_homes, tested_now, tested_passed}
+use Rattle.ndr_decoder_laws.proofs.steps.Passing.{items_it, gap_noted, noted_joined, onward, no_less, silent, told_passed, known_joined, lie_joined, lie_longer, judged, taken_it, lies_it, same_homes}
+use Rattle.ndr_decoder_laws.proofs.steps.Passing.{tested_now, tested_passed}
 use Rattle.ndr_decoder_laws.proofs.steps.Arriving.{Within, parts_of, within_passed, arrives}
 use Rattle.ndr_decoder_laws.proofs.steps.Adding.{stop_by, Stops}
 
@@ -59,9 +58,11 @@ module _ (order : Order) (octets : List ℕ) (table : Table) (h : Home) (m at : 
       (ap (λ p. (read_in_place order octets table h 32 v t 0 p names).progress) (stops_at order octets e at seen why r)
       ∙ in_place_stays order octets table h at seen why 32 v t 0 names) rest
 
-module _ (order : Order) (fetched os : List ℕ) (code : List Instr) (values : List EnumList) (table : Table) (h : Home) (own limit : ℕ) (noted : List Item) (direct : ℕ) (target : List ℕ → Read) (planned : IsPlanned code values table)
+module _ (order : Order) (fetched os : List ℕ) (code : List Instr) (values : List EnumList) (table : Table) (h : Home) (own limit : ℕ) (noted : List Item) (direct : ℕ) (target : List ℕ → Read)
+    (planned : IsPlanned code values table)
     (s : State) (seen : List EntryAt) (names : Names) (t : ℕ) (fine : IsFine table 32 t) (w : Within code table h own limit seen 32 [] t (parts_of s)) (reached : length fetched ≡ s.at)
-    (run : IsRunAt code s.pc (op.Hoist ∷ op.Call (place_at table t) ∷ op.Ret ∷ [])) (told : Told noted direct order fetched h seen names s.cells s.numbers s.max_at (length s.nodes) []) (no_max : s.max_at ≡ None) where
+    (run : IsRunAt code s.pc (op.Hoist ∷ op.Call (place_at table t) ∷ op.Ret ∷ [])) (told : Told noted direct order fetched h seen names s.cells s.numbers s.max_at (length s.nodes) [])
+    (no_max : s.max_at ≡ None) where
   abbrev Right : List Item → Outcome → Type 0
   Right news o = IsRight order (fetched ++ os) code table h own limit (noted ++ news) direct target s.at seen o
 
@@ -184,7 +185,8 @@ module _ (order : Order) (fetched os : List ℕ) (code : List Instr) (values : L
       ahead attr.Switch j = tested_passed seen x attr.Switch h (length s.nodes + j) refl ∙ none_yet attr.Switch j refl
 
 -- the call of a home's value
-pub jump_right : (order : Order) (fetched : List ℕ) (code : List Instr) (values : List EnumList) (table : Table) (h : Home) (own limit : ℕ) (noted : List Item) (direct : ℕ) (target : List ℕ → Read) → IsPlanned code values table
+pub jump_right : (order : Order) (fetched : List ℕ) (code : List Instr) (values : List EnumList) (table : Table) (h : Home) (own limit : ℕ) (noted : List Item) (direct : ℕ) (target : List ℕ → Read)
+    → IsPlanned code values table
     → (s : State) (depth : ℕ) (seen : List EntryAt) (names : Names) (t : ℕ) → IsFine table depth t → Within code table h own limit seen depth [] t (parts_of s) → length fetched ≡ s.at
     → Told noted direct order fetched h seen names s.cells s.numbers s.max_at (length s.nodes) []
     → ((later : List ℕ) → finish order (fetched ++ later) table h s.max depth [] (read_in_place order (fetched ++ later) table h depth s.max t 0 (going s.at seen) names) ≡ target (fetched ++ later))

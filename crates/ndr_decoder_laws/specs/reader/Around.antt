@@ -34,10 +34,6 @@ pub record Around : Type 0 where
   pub child : ℕ
   pub before : List ℕ
 
--- a node whose children begin here: its first child is due, and the others after it
-abbrev pub opened : ℕ → ℕ → Option TypeDef → ℕ → Label → List ℕ → Around
-opened ty t d n l types = record { node = n; of = d; label = l; done = none; next = n + 1; left = types; typed = ty; child = t; before = [] }
-
 -- the child that was read joins those before it, and the next of these types is due
 abbrev pub moved : Around → Tree → ℕ → List ℕ → Around
 moved f v t types = record {
@@ -54,7 +50,17 @@ moved f v t types = record {
 
 abbrev pub with_left : Around → List ℕ → Around
 with_left f types =
-    record { node = f.node; of = f.of; label = f.label; done = f.done; next = f.next; left = types; typed = f.typed; child = f.child; before = f.before }
+    record {
+      node = f.node;
+      of = f.of;
+      label = f.label;
+      done = f.done;
+      next = f.next;
+      left = types;
+      typed = f.typed;
+      child = f.child;
+      before = f.before;
+    }
 
 abbrev pub with_child : Around → ℕ → List ℕ → Around
 with_child f t types =

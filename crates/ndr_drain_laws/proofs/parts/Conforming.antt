@@ -1,5 +1,6 @@
 -- The graph that a head and chunks make conforms.
-use Rattle.std.proofs.Common.{◌≡◌, ◌<◌, ◌≤◌, ◌∙◌, ap, ap₂, sym, subst, refl, ℕ, ◌+◌, ◌^◌, zero, suc, true, List, [], ◌∷◌, ◌++◌, length, length-append, take, drop, map, append_assoc, replicate, Option, Some, None, arith}
+use Rattle.std.proofs.Common.{◌≡◌, ◌<◌, ◌≤◌, ◌∙◌, ap, ap₂, sym, subst, refl, ℕ, ◌+◌, ◌^◌, zero, suc, true, List, [], ◌∷◌, ◌++◌, length, length-append, take, drop, map, append_assoc, replicate, Option}
+use Rattle.std.proofs.Common.{Some, None, arith}
 use Rattle.std.specs.List.{AllByRecursion, list_all, slice_get}
 use Rattle.std.proofs.lemmas.Bool.{and_from, and_parts}
 use Rattle.std.proofs.lemmas.List.{append-nil}
@@ -79,9 +80,6 @@ module _ (w : Setting) (order : Order) where
   good_pipes (p ∷ ps) s vs a h = by_elements s vs (length p.octets) p.elements ps (λ s' vs' a' h'. good_pipes ps s' vs' a' h') a.1 a.0.elements a.0.few_nodes h
 
 -- ## The nodes of roots
-
-no_nodes : (w : Setting) (k : Graph) (i j : ℕ) (vs : List Tree) → root_nodes w k i [] vs ≡ root_nodes w k j [] vs
-no_nodes w k i j vs = refl
 
 -- the nodes of roots, in two parts
 node_parts : (w : Setting) (k : Graph) (i : ℕ) (rs : List Root) (us vs : List Tree)

@@ -3,7 +3,7 @@ use Rattle.std.proofs.lemmas.Int.{to_z-of_z}
 use mir.Val.{SFits}
 use mir.Syntax.{w128}
 use Rattle.nd_value.specs.Tree as tree
-use Rattle.nd_value.specs.Tree.{Tree, node, none}
+use Rattle.nd_value.specs.Tree.{node, none}
 use Rattle.text_grammar.specs.Tokens.{hex_pair}
 use Rattle.text_reading_laws.proofs.Quoted.{pair_quote}
 use Rattle.text_lexer.proofs.Scanning.{begun, one_more, whole}
@@ -19,7 +19,8 @@ loop-octet-preserved c =
     let i = c.loop-octet.invariant in
     let fits : SFits w128 c.from.result = search rules in (
       i.0 ++ c.in-Some.octet ∷ [],
-      byte_more c.loop-octet.vals i.0 c.in-Some.octet c.push.new.self i.1 (c.in-Ok.ensures.ok ∙ ap (λ (y : ℤ). c.loop-octet.vals ++ node (tree.Num y) none ∷ []) (to_z-of_z w128 c.from.result fits ∙ c.from.ensures)),
+      byte_more c.loop-octet.vals i.0 c.in-Some.octet c.push.new.self i.1
+          (c.in-Ok.ensures.ok ∙ ap (λ (y : ℤ). c.loop-octet.vals ++ node (tree.Num y) none ∷ []) (to_z-of_z w128 c.from.result fits ∙ c.from.ensures)),
       one_more hex_pair pair_quote c.args.body.now i.0 c.loop-octet.rest.now c.in-Some.after.now c.in-Some.octet i.2 (sym c.in-Some.ensures.is),
     )
 
