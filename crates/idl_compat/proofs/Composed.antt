@@ -113,13 +113,11 @@ selves_same (suc n) t u (inr h) = let a = selves_same n t u h in let l : t < n =
 
 selves_has : (n t : ℕ) → t < n → IsPair (selves n) t t
 selves_has zero t l = absurd (omega (arith, l))
-selves_has (suc n) t l = by (eqb t n) refl
+selves_has (suc n) t l = by (λ k. selves_has n t k) (eqb t n) refl
   where
-    by : (b : Bool) → eqb t n ≡ b → IsPair (selves (suc n)) t t
-    by true e = inl (eqb-true t n e, eqb-true t n e)
-    by false e =
-        let differ : t ≡ n → ⊥ = eqb-false t n e in
-        inr (selves_has n t (below t n l differ))
+    by : (t < n → IsPair (selves n) t t) → (b : Bool) → eqb t n ≡ b → IsPair (selves (suc n)) t t
+    by rest true e = inl (eqb-true t n e, eqb-true t n e)
+    by rest false e = let differ : t ≡ n → ⊥ = eqb-false t n e in inr (rest (below t n l differ))
 
 all_among : {X : Type 0} (p : X → Bool) (xs : List X) → list_all p xs ≡ true → (x : X) → Among xs x → p x ≡ true
 all_among p [] e x h = absurd h
@@ -137,10 +135,10 @@ some_at (x ∷ xs) zero l e = cc
 some_at (x ∷ xs) (suc i) l e = some_at xs i (omega (arith, l)) e
 
 module _ (i : Interface) where
-  n : ℕ
+  abbrev n : ℕ
   n = length i.types
 
-  self : ℕ → ℕ → Type 0
+  abbrev self : ℕ → ℕ → Type 0
   self = IsPair (selves n)
 
   known : (v : ℕ) → is_in_table i.types v ≡ true → self v v

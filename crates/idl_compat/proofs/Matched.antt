@@ -21,7 +21,7 @@ pub itself : (ps : List TypePair) → Includes ps ps
 itself [] = tt
 itself (p ∷ ps) = (inl (refl, refl), grown ps (p ∷ ps) ps (λ t u h. inr h) (itself ps))
 
-one_of : (m w : List TypePair) (i : ℕ) (p : TypePair) → Includes m w → slice_get w i ≡ Some p → IsPair m p.old.0 p.new.0
+pub one_of : (m w : List TypePair) (i : ℕ) (p : TypePair) → Includes m w → slice_get w i ≡ Some p → IsPair m p.old.0 p.new.0
 one_of m [] i p a e = cc
 one_of m (q ∷ w) zero p a e = subst (λ z. IsPair m z.old.0 z.new.0) (same_Some q p e) a.0
 one_of m (q ∷ w) (suc i) p a e = one_of m w i p a.1 e

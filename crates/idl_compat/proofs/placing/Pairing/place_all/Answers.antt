@@ -24,3 +24,8 @@ loop-at-preserved c = λ k.
     let clear : c.in_ok-place.field-0 ≡ placing.Clash → ⊥ = search rules in
     turn c.args.self.now c.loop-at.self c.args.wanted.now c.loop-at.at c.in-Some.pair.now is (c.loop-at.invariant k)
     c.place.new.self c.in_ok-place.field-0 (c.in_ok-place.ensures (c.loop-at.invariant k).paired) clear
+
+pub returns : goal.returns
+returns c = λ k.
+    let past : length c.args.wanted.now ≤ c.loop-at.at = search rules in
+    over c.args.self.now c.loop-at.self c.args.wanted.now c.loop-at.at past (c.loop-at.invariant k)

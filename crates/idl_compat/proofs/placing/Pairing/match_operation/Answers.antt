@@ -4,7 +4,7 @@ use Rattle.idl_compat.specs.Alike.{IsPair, AlikeFound}
 use Rattle.idl_compat.specs.Matching.{HasMet, AreExpanded}
 use Rattle.idl_compat.proofs.Matched.{met_true, met_false}
 use Rattle.idl_compat.proofs.Operating as operating
-use Rattle.idl_compat.proofs.matching.Pairing.match_operation.Goals as goal
+use Rattle.idl_compat.proofs.placing.Pairing.match_operation.Goals as goal
 
 pub returns-in_default : goal.returns-in_default
 returns-in_default c = λ k.

@@ -1,5 +1,5 @@
 use Rattle.idl_compat.specs.Matching.{IsMatched}
-use Rattle.idl_compat.proofs.matching.Pairing.match_operations.Given as goal
+use Rattle.idl_compat.proofs.placing.Pairing.match_operations.Given as goal
 
 -- the operations so far are matched
 abbrev pub invariant-loop-at : goal.invariant-loop-at

@@ -1,7 +1,7 @@
 use Rattle.std.proofs.Common.{rules, arith, ◌≡◌, ◌≤◌, ◌<◌, ◌*◌, length, suc, true, false, Bool}
 use Rattle.idl_compat.specs.Matching.{IsMatched, MatchesOne}
 use Rattle.idl_compat.proofs.Operating.{first_other, next_matched, all_matched, one_true, one_false}
-use Rattle.idl_compat.proofs.matching.Pairing.match_operations.Goals as goal
+use Rattle.idl_compat.proofs.placing.Pairing.match_operations.Goals as goal
 
 pub loop-at-init : goal.loop-at-init
 loop-at-init c = λ k. k

@@ -3,7 +3,7 @@ use Rattle.idl_compat.specs.Alike.{IsPair, AlikeFound}
 use Rattle.idl_compat.specs.Asking.{Asks}
 use Rattle.idl_compat.proofs.AskingLaws.{from_none_true, from_none_false}
 use Rattle.idl_compat.proofs.Matched.{never_met, asked_met}
-use Rattle.idl_compat.proofs.matching.Pairing.place_operation.Goals as goal
+use Rattle.idl_compat.proofs.placing.Pairing.place_operation.Goals as goal
 
 pub returns-then-not-branch : goal.returns-then-not-branch
 returns-then-not-branch c = λ k.

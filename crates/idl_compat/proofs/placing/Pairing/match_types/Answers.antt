@@ -4,7 +4,7 @@ use Rattle.nd_types.specs.Table.{type_at}
 use Rattle.idl_compat.specs.Alike.{IsPair, AlikeTypes}
 use Rattle.idl_compat.proofs.Matched.{met_true, met_false}
 use Rattle.idl_compat.proofs.Expanding.{start, turn, stop, over, few_pairs, past}
-use Rattle.idl_compat.proofs.matching.Pairing.match_types.Goals as goal
+use Rattle.idl_compat.proofs.placing.Pairing.match_types.Goals as goal
 
 pub loop-at-init : goal.loop-at-init
 loop-at-init c = λ k e a. start c.args.types.now c.args.others.now c.args.self.now c.args.from k a

@@ -4,7 +4,7 @@ use Rattle.idl_compat.specs.Alike.{IsPair, AlikeTypes}
 use Rattle.idl_compat.specs.Asking.{Asks}
 use Rattle.idl_compat.proofs.AskingLaws.{from_none_true, from_none_false}
 use Rattle.idl_compat.proofs.Expanding.{no_old, no_new, pair_refused, pair_met}
-use Rattle.idl_compat.proofs.matching.Pairing.match_pair.Goals as goal
+use Rattle.idl_compat.proofs.placing.Pairing.match_pair.Goals as goal
 
 pub returns-in_default : goal.returns-in_default
 returns-in_default c = λ k m o all a.

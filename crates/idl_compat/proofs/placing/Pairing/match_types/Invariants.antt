@@ -2,7 +2,7 @@ use Rattle.std.proofs.Common.{◌≡◌, length}
 use Rattle.idl_compat.specs.Placing.{IsPaired}
 use Rattle.idl_compat.specs.Matching.{AreExpanded}
 use Rattle.idl_compat.proofs.Expanding.{IsExpanding}
-use Rattle.idl_compat.proofs.matching.Pairing.match_types.Given as goal
+use Rattle.idl_compat.proofs.placing.Pairing.match_types.Given as goal
 
 -- the types of the pairs so far are alike
 abbrev pub invariant-loop-at : goal.invariant-loop-at
