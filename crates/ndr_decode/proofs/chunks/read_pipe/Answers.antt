@@ -1,4 +1,4 @@
-use Rattle.std.proofs.Common.{◌++◌, refl, ap, sym, ◌∙◌, subst, arith, le_refl, le_trans}
+use Rattle.std.proofs.Common.{◌≤◌, ◌<◌, ◌+◌, ◌^◌, ◌++◌, refl, ap, sym, ◌∙◌, subst, arith, le_refl, le_trans}
 use Rattle.nd_base.specs.Over.{count, source_seen}
 use Rattle.nd_flat.specs.Building.{Building}
 use Rattle.nd_grammar.specs.decoded.Verdict.{decoding_seen}
