@@ -19,7 +19,7 @@ use Rattle.nd_flat.specs.Building.{Building, CanClose, closed, opened}
 use Rattle.nd_grammar.specs.Entry.{EntryAt}
 use Rattle.nd_grammar.specs.LegalSide.{IsLegalSide}
 use Rattle.nd_grammar.specs.StreamReader.{Reading}
-use Rattle.nd_grammar.proofs.reader.ReaderMoves.{paid}
+use Rattle.nd_grammar.specs.ReaderState.{paid}
 use Rattle.nd_grammar.proofs.reader.ReaderNames.{longer}
 use Rattle.nd_grammar.proofs.reader.ReaderStates.{WholeRead, read_wholly}
 use Rattle.ndr_decoder_laws.specs.reader.Around.{going}
