@@ -56,7 +56,12 @@ built_for plan number way q i x z b same e f g =
 
 -- what a fit is of
 pub fit_of : (f : Fitting) (z : Stream) (p : Purpose) → f ≡ fitting z.machine.builder → purpose_of z ≡ p → (f.op ≡ p.op) × (f.side ≡ p.side) × (f.interface ≡ p.interface)
-fit_of f z p e h = (ap (λ (k : Fitting). k.op) e ∙ ap (λ (k : Purpose). k.op) h, ap (λ (k : Fitting). k.side) e ∙ ap (λ (k : Purpose). k.side) h, ap (λ (k : Fitting). k.interface) e ∙ ap (λ (k : Purpose). k.interface) h)
+fit_of f z p e h = (
+  ap (λ (k : Fitting). k.op) e ∙ ap (λ (k : Purpose). k.op) h,
+  ap (λ (k : Fitting). k.side) e ∙ ap (λ (k : Purpose). k.side) h,
+  ap (λ (k : Fitting). k.interface) e
+      ∙ ap (λ (k : Purpose). k.interface) h,
+)
 
 pub fit_beside : (f : Fitting) (z : Stream) (p : Purpose) → f ≡ fitting z.machine.builder → purpose_of z ≡ p → f.given ≡ p.given
 fit_beside f z p e h = ap (λ (k : Fitting). k.given) e ∙ ap (λ (k : Purpose). k.given) h

@@ -20,14 +20,16 @@ reported_of source t octets items n p = let e = p.steps in record { logged = p.l
 cut_reported : (w : Setting) → IsLegalSide w → (order : Order) (source : SourceSeen) (t : DecodingSeen) → CutOff the_stream w order [] [] 0 source t → IsCutOff w order source t
 cut_reported w legal order source t x = law.cut_report w legal order source t x.octets x.items x.n' x.cut (reported_of source t x.octets x.items x.n' x.took) x.took.left
 
-pub fault_reported : (w : Setting) → IsLegalSide w → (order : Order) (source : SourceSeen) (t : DecodingSeen) (e : DecodeFault) → FaultOf the_stream w order [] [] 0 source t e → IsFault w order source e t
+pub fault_reported : (w : Setting) → IsLegalSide w → (order : Order) (source : SourceSeen) (t : DecodingSeen) (e : DecodeFault) → FaultOf the_stream w order [] [] 0 source t e
+    → IsFault w order source e t
 fault_reported w legal order source t (fault.Bad place why) x =
     law.refused_report w legal order source t x.octets x.items x.n' place why x.refused (reported_of source t x.octets x.items x.n' x.took) x.took.left x.ended x.none_left
 fault_reported w legal order source t fault.ReadFault (x, risen) =
     law.unread_report w legal order source t x.octets x.items x.n' x.short (reported_of source t x.octets x.items x.n' x.took) x.took.left
 fault_reported w legal order source t fault.Memory x = cut_reported w legal order source t x
 
-pub in_order_reported : (w : Setting) → IsLegalSide w → (order : Order) (source : SourceSeen) (t : DecodingSeen) (e : DecodeFault) → FaultOf the_stream w order [] [] 0 source t e → IsInOrder w order source e t
+pub in_order_reported : (w : Setting) → IsLegalSide w → (order : Order) (source : SourceSeen) (t : DecodingSeen) (e : DecodeFault) → FaultOf the_stream w order [] [] 0 source t e
+    → IsInOrder w order source e t
 in_order_reported w legal order source t (fault.Bad place why) x =
     law.refused_in_order w legal order source t x.octets x.items x.n' place why x.refused (reported_of source t x.octets x.items x.n' x.took) x.took.left x.ended x.none_left
 in_order_reported w legal order source t fault.ReadFault x = tt

@@ -48,10 +48,10 @@ pub struct Decoded {
 /// up to the numbers of cells, and no shorter part of them represents one. The source has the octets after them left.
 ///
 /// At `Bad` the octets are refused at the first faulty place, for the one reason that applies there; no octets that begin with those fetched
-/// represent a conforming graph, except at `Truncated`, where the source has ended. The octets fetched end with the item that is refused; at `TooLong`
-/// where that item would begin, at a failed agreement with the last item before it. The item is one of a partial graph whose cells are numbered in the
-/// order in which its stream comes to them. `ReadFault` is answered only if the source's count of faults rose, or is at the greatest value of a `u64`;
-/// then the octets fetched are cut short where they end, as the next item lacks some of its own.
+/// represent a conforming graph, except at `Truncated`, where the source has ended. The octets fetched end with the item that is refused; at
+/// `TooLong` where that item would begin, at a failed agreement with the last item before it. The item is one of a partial graph whose cells are
+/// numbered in the order in which its stream comes to them. `ReadFault` is answered only if the source's count of faults rose, or is at the greatest
+/// value of a `u64`; then the octets fetched are cut short where they end, as the next item lacks some of its own.
 ///
 /// A log that keeps items gets each item as soon as it is whole and not refused. At `Ok` `steps` has risen by one for each of these except the gaps,
 /// and for each cell; at a fault by no more than that, and never by more than the octets fetched and the roots, whatever counts the octets state.

@@ -109,7 +109,8 @@ finish-requires-clause-fits g c =
     let (o, there) = item_at p.tie.operations n c.requires.known in
     let read = c.in_ok-read_side.ensures.reads (setting_beside p.tie o s q) (call.legal p n s q o there k) (call.setting p n s q o there k) refl in
     let z = c.read_side.new.stream in
-    let purpose = call.built_for p n s q c.again.result x c.read_side.new.stream c.begin-builder.result c.in_ok-read_side.ensures.same c.begin-stream.ensures.builder c.begin-builder.ensures c.again.ensures in
+    let purpose =
+    call.built_for p n s q c.again.result x c.read_side.new.stream c.begin-builder.result c.in_ok-read_side.ensures.same c.begin-stream.ensures.builder c.begin-builder.ensures c.again.ensures in
     let is = call.side_ends p n s q o there k x c.begin-stream.ensures.begins a t z read in
     call.is_fit p n s q o there k z purpose is.graph.conforms (call.given_fits p.tie n o s c.args.given (λ f. f.now) there c.beside-request.ensures.conforms c.requires.request)
 
@@ -135,7 +136,8 @@ returns-clause-of g c =
     let q = option_map (λ f. f.now.graph) c.args.given in
     let k = c.args.order in
     let x = c.begin-stream.result in
-    let purpose = call.built_for p n s q c.again.result x c.read_side.new.stream c.begin-builder.result c.in_ok-read_side.ensures.same c.begin-stream.ensures.builder c.begin-builder.ensures c.again.ensures in
+    let purpose =
+    call.built_for p n s q c.again.result x c.read_side.new.stream c.begin-builder.result c.in_ok-read_side.ensures.same c.begin-stream.ensures.builder c.begin-builder.ensures c.again.ensures in
     call.fit_of c.finish.result.fit c.read_side.new.stream (call.purpose_by p n s q) c.finish.ensures.fit purpose
 
 pub returns-clause-beside : goal.returns-clause-beside
@@ -146,5 +148,6 @@ returns-clause-beside g c =
     let q = option_map (λ f. f.now.graph) c.args.given in
     let k = c.args.order in
     let x = c.begin-stream.result in
-    let purpose = call.built_for p n s q c.again.result x c.read_side.new.stream c.begin-builder.result c.in_ok-read_side.ensures.same c.begin-stream.ensures.builder c.begin-builder.ensures c.again.ensures in
+    let purpose =
+    call.built_for p n s q c.again.result x c.read_side.new.stream c.begin-builder.result c.in_ok-read_side.ensures.same c.begin-stream.ensures.builder c.begin-builder.ensures c.again.ensures in
     call.fit_beside c.finish.result.fit c.read_side.new.stream (call.purpose_by p n s q) c.finish.ensures.fit purpose
