@@ -58,7 +58,9 @@ pub one_turn : (turns : ℕ) (x : Stream) (q : Option Owed) (y y' : Stream) (o :
 one_turn turns x q y y' o q' z t same e paid =
     let at : y'.machine.at ≡ y.machine.at = ap (λ (m : Machine). m.at) same in
     let one_more : suc (length (with_taken None y').pending) ≡ length (with_taken q y).pending = ap (λ (b : Between). length b.pending) e in
-    omega (arith, t, paid, at, one_more)
+    let before : 4 * (turns + length (with_taken q y).pending) + x.machine.at ≤ 4 * length (with_taken None x).pending + y.machine.at = t in
+    let now : 4 * length (with_taken q' z).pending + y'.machine.at ≤ 4 * length (with_taken None y').pending + z.machine.at = paid in
+    omega (arith, before, now, at, one_more)
 
 -- what was read so far
 abbrev pub SoFar : Plan → Order → Stream → SourceSeen → DecodingSeen → Option Owed → Stream → Type 0
@@ -125,7 +127,8 @@ module _ (plan : Plan) (order : Order) (x : Stream) (q : Option Owed) (y : Strea
       let is : x.todo.len ≡ length x.todo.items = x.todo.ok.0 in
       let room : x.todo.len ≤ x.todo.cap = x.todo.ok.1 in
       let small : x.todo.cap < 2 ^ 63 = x.todo.small in
-      omega (arith, t, many, within, listed, is, room, small)
+      let taken : 4 * (turns + length (with_taken q y).pending) + x.machine.at ≤ 4 * length (pending_in x.wanted.items x.todo.items) + y.machine.at = t in
+      omega (arith, taken, many, within, listed, is, room, small)
 
   module _ (later : f0 ≤ f1) where
     -- ## A turn
