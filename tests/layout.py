@@ -6,8 +6,8 @@
 - crates.txt has floors, `# N. heading` in order, and a line `# what it has` before each crate. A crate uses only crates that come before it:
   those of lower floors, and those above it on its own floor. Each crate is a folder of crates/, and each folder a crate.
 - No crate's former name appears in any file.
-
-tests/sources.py has the checks of definitions and lemmas.
+- No line of src/ or specs/ is over 150 characters, none of proofs/ over 200.
+- No file of specs/ imports another crate's proofs/.
 """
 
 from __future__ import annotations
@@ -22,6 +22,7 @@ from typing import Iterator, List, Tuple
 sys.dont_write_bytecode = True
 
 ROOT = Path(__file__).resolve().parent.parent
+LONGEST = {"src": 150, "specs": 150, "proofs": 200}
 FLOOR = re.compile(r"# (\d+)\. \S.*")
 CRATE = re.compile(r"(?P<name>\w+)[^:#]*:(?P<uses>[^#]*)")
 
@@ -105,11 +106,29 @@ def faults_of_names(path: Path, text: str) -> Iterator[str]:
             yield f"{path}:{number}: {found} is the former name of a crate"
 
 
+def faults_of_lines(path: Path, text: str) -> Iterator[str]:
+    """Where a file of a crate has too long a line."""
+    parts = path.parts
+    most = LONGEST.get(parts[2]) if len(parts) > 3 and parts[0] == "crates" and path.suffix in (".rt", ".antt") else None
+    for number, line in enumerate(text.splitlines(), 1) if most else ():
+        if len(line) > most:
+            yield f"{path}:{number}: {len(line)} characters, more than {most}"
+
+
+def faults_of_imports(path: Path, text: str) -> Iterator[str]:
+    """Where a file of definitions imports proofs of another crate. Lemmas of the toolchain's libraries are all in proofs."""
+    parts = path.parts
+    if len(parts) > 3 and parts[0] == "crates" and parts[2] == "specs":
+        for crate in sorted(set(re.findall(r"\bRattle\.(\w+)\.proofs\b", text)) - {parts[1], "std"}):
+            yield f"{path}: it imports proofs of {crate}"
+
+
 def faults(root: Path = ROOT) -> List[str]:
     """What is wrong with the layout, a line each."""
     wrong = faults_of_floors(root)
     for path, text in texts(root):
-        wrong += faults_of_names(path, text)
+        for find in (faults_of_names, faults_of_lines, faults_of_imports):
+            wrong += find(path, text)
     return wrong
 
 

@@ -10,8 +10,10 @@ LIST = "# The map.\n\n# 0. Base\n# octets\nlow: thiserror\n# more octets\nmid: l
 FILES = {
     "crates.txt": LIST,
     "crates/low/src/lib.rt": "//! Low.\n",
+    "crates/low/specs/Low.antt": "use Rattle.low.proofs.Lib\n",
     "crates/mid/src/lib.rt": "//! Mid, with its phrases and refusals.\n",
-    "crates/top/src/lib.rt": "",
+    "crates/mid/proofs/lib.antt": "-" * 200 + "\n",
+    "crates/top/src/lib.rt": "x" * 150 + "\n",
 }
 OLD, WORD = "ndr_" + "kept", "`" + "phrases`"
 WRONG = [
@@ -23,6 +25,9 @@ WRONG = [
     ({"crates/new/src/lib.rt": ""}, "crates/new is not in crates.txt"),
     ({"docs/PAGE.md": f"what `{OLD}` has\n"}, f"docs/PAGE.md:1: {OLD} is the former name"),
     ({"docs/PAGE.md": f"\nwhat {WORD} has\n"}, f"docs/PAGE.md:2: {WORD} is the former name"),
+    ({"crates/mid/src/lib.rt": "x" * 151}, "151 characters, more than 150"),
+    ({"crates/mid/proofs/lib.antt": "x" * 201}, "201 characters, more than 200"),
+    ({"crates/mid/specs/Mid.antt": "use Rattle.low.proofs.Lib\n"}, "it imports proofs of low"),
 ]
 
 
@@ -46,6 +51,6 @@ def find() -> list:
 
 
 CASES = [
-    Check("layout: floors and names", layout.faults),
+    Check("layout: floors, names, lengths of lines and imports", layout.faults),
     Check("layout: what is wrong is found", find),
 ]
