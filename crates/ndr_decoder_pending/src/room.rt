@@ -1,5 +1,5 @@
 // Room for what is read.
-ghost use Rattle.std.specs.Prelude.{◌≡◌, ◌≤◌};
+ghost use Rattle.std.specs.Prelude.{◌≡◌, ◌<◌, ◌≤◌};
 ghost use Rattle.ndr_decoder_pending.specs.Seen.{IsSame};
 
 use crate::KeptCells;
