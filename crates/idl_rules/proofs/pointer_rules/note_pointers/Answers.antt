@@ -11,7 +11,8 @@ use Rattle.idl_rule_definitions.specs.declared.rule.TheConstants as Rule
 pub returns-clause-next : goal.returns-clause-next
 returns-clause-next c w s u first before files are h start =
     let e = asked_is s c.args.judge.now.kinds.now u c.args.asked.now h in
-    let n1 = c.note.ensures.next w first before u.construct (has_class_without_pointer u) files h.construct (c.has_class_without_pointer-misplaced.ensures u ∙ ap has_class_without_pointer e) start in
+    let n1 = c.note.ensures.next w first before u.construct (has_class_without_pointer u) files h.construct
+    (c.has_class_without_pointer-misplaced.ensures u ∙ ap has_class_without_pointer e) start in
     let f1 = files ∙ ap seen_files (sym c.note.ensures.files) in
     let b1 = before ++ broken_in u.construct Rule.CLASSES_ON_POINTERS (has_class_without_pointer u) in
     let n2 = c.note-2.ensures.next w first b1 u.construct (holds_pointer_without_class u) f1 h.construct ((c.mark-declared.ensures.is s are).holds_classless ∙ ap holds_pointer_without_class e) n1 in
