@@ -256,7 +256,15 @@ module _ (s : SourceSeen) (octets : List ℕ) (given : AreGiven s octets) (i : I
   causes_here P wanting refused stub (BadPdu place fragments.Trailing) h = refused place fragments.Trailing (trailed_here place h)
   causes_here P wanting refused stub (BadPdu place (fragments.NoOperation n)) h = refused place (fragments.NoOperation n) (none_here place n h)
   causes_here P wanting refused stub (BadOctets place why) h =
-      stub place why (record { order = h.order; call = h.call; operation = h.operation; stub = h.stub; is_call = call_here h.octets h.order h.call h.operation h.stub h.whole h.is_call; cause = h.cause })
+      stub place why
+      (record {
+        order = h.order;
+        call = h.call;
+        operation = h.operation;
+        stub = h.stub;
+        is_call = call_here h.octets h.order h.call h.operation h.stub h.whole h.is_call;
+        cause = h.cause;
+      })
   causes_here P wanting refused stub (Absent file) h = absurd h
   causes_here P wanting refused stub (FileFailed file) h = absurd h
   causes_here P wanting refused stub (BadIdl file line column reason) h = absurd h
