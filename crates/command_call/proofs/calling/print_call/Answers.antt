@@ -16,7 +16,7 @@ returns-in_err-end-clause-refused g c =
     let s = source_seen g.S.Source.left g.S.Source.ended g.S.Source.faults c.args.input.now c.joined_fragments.new.input in
     let t = source_seen g.S.Source.left g.S.Source.ended g.S.Source.faults c.joined_fragments.new.input c.end.new.input in
     rw (p.1, p.2) (no_end s t c.args.interface.now c.args.op c.in_ok-joined.joined c.in_ok-joined.ensures.joined refl c.in_ok-joined.ensures.later refl _
-        c.in_err-end.ensures.refused)
+    c.in_err-end.ensures.refused)
 
 pub returns-in_err-number-clause-refused : goal.returns-in_err-number-clause-refused
 returns-in_err-number-clause-refused g c =
@@ -24,7 +24,7 @@ returns-in_err-number-clause-refused g c =
     let s = source_seen g.S.Source.left g.S.Source.ended g.S.Source.faults c.args.input.now c.joined_fragments.new.input in
     let t = source_seen g.S.Source.left g.S.Source.ended g.S.Source.faults c.joined_fragments.new.input c.end.new.input in
     rw (p.1, p.2) (no_number s t c.args.interface.now c.args.op c.in_ok-joined.joined c.in_ok-joined.ensures.joined refl c.in_ok-end.ensures.ended _
-        c.in_err-number.ensures.refused)
+    c.in_err-number.ensures.refused)
 
 pub returns-in_err-text-clause-refused : goal.returns-in_err-text-clause-refused
 returns-in_err-text-clause-refused g c =
@@ -33,7 +33,7 @@ returns-in_err-text-clause-refused g c =
     let t = source_seen g.S.Source.left g.S.Source.ended g.S.Source.faults c.joined_fragments.new.input c.end.new.input in
     let there = operation_there c.args.interface.now c.in_ok-number.number c.in_ok-number.ensures.known in
     rw (p.1, p.2) (bad_stub s t c.args.interface.now c.args.op c.in_ok-joined.joined c.in_ok-joined.ensures.joined refl c.in_ok-end.ensures.ended
-        c.in_ok-number.number c.in_ok-number.ensures.number there.0 there.1 _ (c.in_err-text.ensures.refused there.0 there.1))
+    c.in_ok-number.number c.in_ok-number.ensures.number there.0 there.1 _ (c.in_err-text.ensures.refused there.0 there.1))
 
 pub returns-clause-printed : goal.returns-clause-printed
 returns-clause-printed g c =
