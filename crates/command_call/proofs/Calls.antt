@@ -122,7 +122,7 @@ pub if_err : {T E : Type 0} (r : Result T E) (P Q : E → Type 0) → ((e : E) �
 if_err (Ok t) P Q f h = h
 if_err (Err e) P Q f h = f e h
 
-no_rise : Rose 0 0 → ⊥
+pub no_rise : Rose 0 0 → ⊥
 no_rise h = omega (arith, h)
 
 -- ## The whole
