@@ -1,6 +1,7 @@
 // The line of an interface that is not compatible with an older one.
 ghost use Rattle.std.specs.Prelude.{◌≡◌, [], ◌∷◌, codes, decimal, IfOk};
 ghost use Rattle.nd_base.specs.Text.{joined};
+ghost use Rattle.command_refusals.specs.declared.refusal.Refusal.TheVariants.{NotCompatible};
 ghost use Rattle.command_refusals.specs.Lines.{line_of, compat_fault_text, two_numbers as two_numbers_text};
 
 use crate::refusal::CompatFault;
@@ -11,7 +12,7 @@ use std::alloc::Global;
 
 // An interface that is not compatible with an older one.
 pub(crate) fn compat_line(alloc: Global, fault: &CompatFault) -> Result<Octets, Memory>
-    ensures { IfOk result (λ line. line ≡ line_of [] [] (Refusal.NotCompatible fault.now)) }
+    ensures { IfOk result (λ line. line ≡ line_of [] [] (NotCompatible fault.now)) }
 {
     let why = why_not_compatible(alloc, fault)?;
     join(alloc, &[b"refused: compat: ", why.as_slice(), b"\n"])

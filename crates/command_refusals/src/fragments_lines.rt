@@ -1,6 +1,7 @@
 // The line of fragments that are refused.
 ghost use Rattle.std.specs.Prelude.{◌≡◌, [], ◌∷◌, codes, decimal, IfOk};
 ghost use Rattle.nd_base.specs.Text.{joined};
+ghost use Rattle.command_refusals.specs.declared.refusal.Refusal.TheVariants.{BadPdu};
 ghost use Rattle.command_refusals.specs.Lines.{line_of, fragments_fault_text, no_operation_text, pdu_reason_name as name_of_pdu_reason};
 
 use crate::refusal::FragmentsFault;
@@ -16,7 +17,7 @@ pub(crate) fn fragments_line(
     place: u32,
     why: FragmentsFault,
 ) -> Result<Octets, Memory>
-    ensures { IfOk result (λ line. line ≡ line_of [] [] (Refusal.BadPdu place why)) }
+    ensures { IfOk result (λ line. line ≡ line_of [] [] (BadPdu place why)) }
 {
     let why = why_refused(alloc, why)?;
     let mut digits = Buffer::new();
