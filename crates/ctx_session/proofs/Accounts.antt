@@ -1,5 +1,6 @@
 -- Each resource that a session opened is accounted for.
-use Rattle.std.proofs.Common.{◌≡◌, ◌∙◌, ap, sym, refl, subst, ℕ, zero, suc, ◌+◌, Bool, true, false, true≢false, List, [], ◌∷◌, ◌++◌, map, Option, Some, None, option_map, position, eqb, arith, append_assoc, append-nil, remove, slice_set, if◌then◌else◌}
+use Rattle.std.proofs.Common.{◌≡◌, ◌∙◌, ap, sym, refl, subst, ℕ, zero, suc, ◌+◌, Bool, true, false, true≢false, List, [], ◌∷◌, ◌++◌, map, Option, Some, None, option_map, position, eqb, arith}
+use Rattle.std.proofs.Common.{append_assoc, append-nil, remove, slice_set, if◌then◌else◌}
 use Rattle.std.specs.List.{slice_get}
 use Rattle.std.specs.Str.{bytes_eq}
 use Rattle.std.proofs.lemmas.Option.{slice_get-map, slice_get_within, same_Some}
@@ -16,7 +17,8 @@ use Rattle.ctx_session.specs.declared.answer.Answer.TheVariants as answer
 use Rattle.ctx_session.specs.Script.{Line, Open, Use, Close, Down}
 use Rattle.ctx_session.specs.Session as session
 use Rattle.ctx_session.specs.Session.{State, EndsClient, DoesLine, DoesLines, EndsAll, IsSession}
-use Rattle.ctx_session.specs.Accounts.{Effect, Accepted, FailedUse, Closed, FailedClose, RunDown, Nothing, effect, life_by, life_of, Opening, openings, opened_of, HasServed, AreServed, none, one, IsAccounted}
+use Rattle.ctx_session.specs.Accounts.{Effect, Accepted, FailedUse, Closed, FailedClose, RunDown, Nothing, effect, life_by, life_of, Opening, openings, opened_of, HasServed, AreServed, none, one}
+use Rattle.ctx_session.specs.Accounts.{IsAccounted}
 use Rattle.ctx_session.proofs.Places.{FirstAt, at_first, at_later, Apart, first_at, apart, passes, apart_append, apart_set, apart_remove, get_left}
 use Rattle.ctx_session.proofs.Serving.{Covers, cover_none, cover, covers_same, covers_append, served_more, closed_served, failed_close_served, run_down_served, accepted_served, failed_served}
 use Rattle.ctx_session.proofs.UnderWay.{none_first}

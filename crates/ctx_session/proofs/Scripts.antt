@@ -1,5 +1,6 @@
 -- A script under check: what is before a place are lines.
-use Rattle.std.proofs.Common.{◌≡◌, ◌⊎◌, ◌∙◌, ap, sym, refl, subst, ℕ, zero, suc, ◌+◌, ◌<◌, ◌≤◌, List, [], ◌∷◌, ◌++◌, length, take, drop, Option, Some, None, arith, append_assoc, length-append, length-drop, inl, inr, append-nil}
+use Rattle.std.proofs.Common.{◌≡◌, ◌⊎◌, ◌∙◌, ap, sym, refl, subst, ℕ, zero, suc, ◌+◌, ◌<◌, ◌≤◌, List, [], ◌∷◌, ◌++◌, length, take, drop, Option, Some, None, arith, append_assoc, length-append}
+use Rattle.std.proofs.Common.{length-drop, inl, inr, append-nil}
 use Rattle.std.proofs.lemmas.Option.{same_Some}
 use Rattle.ctx_session.specs.Script.{Line, line_of, feed_of, BeginsWith, HasLine, AreLines, none, more, IsOther, IsBadLine, here, later, AreScript, opens_of, opens_in, Open, Use, Close, Down}
 use Rattle.ctx_session.specs.Lines.{line_meant}

@@ -1,5 +1,6 @@
 -- What one line does, where a session is shown by lists.
-use Rattle.std.proofs.Common.{◌≡◌, ◌∙◌, ap, sym, refl, subst, ℕ, suc, ◌+◌, ◌<◌, ◌≤◌, Bool, true, false, true≢false, List, [], ◌∷◌, ◌++◌, length, map, Option, Some, None, ◌==◌, arith, length-append, remove, slice_set, nat_le, if◌then◌else◌, is_some, Result, Ok, Err, MatchResult, OnOk}
+use Rattle.std.proofs.Common.{◌≡◌, ◌∙◌, ap, sym, refl, subst, ℕ, suc, ◌+◌, ◌<◌, ◌≤◌, Bool, true, false, true≢false, List, [], ◌∷◌, ◌++◌, length, map, Option, Some, None, ◌==◌, arith, length-append}
+use Rattle.std.proofs.Common.{remove, slice_set, nat_le, if◌then◌else◌, is_some, Result, Ok, Err, MatchResult, OnOk}
 use Rattle.std.specs.List.{slice_get}
 use Rattle.std.proofs.lemmas.List.{length-set}
 use Rattle.std.proofs.lemmas.List.Edits.{length-remove}

@@ -1,5 +1,6 @@
 -- Loops of a session: what was done so far, and what is left.
-use Rattle.std.proofs.Common.{◌≡◌, ◌∙◌, ap, sym, refl, subst, ℕ, suc, ◌+◌, ◌*◌, ◌<◌, ◌≤◌, Bool, true, false, not, List, [], ◌∷◌, ◌++◌, length, drop, take, eq-eqb, Option, Some, None, option_map, eqb, position, arith, append_assoc, append-nil, cond, nat_lt}
+use Rattle.std.proofs.Common.{◌≡◌, ◌∙◌, ap, sym, refl, subst, ℕ, suc, ◌+◌, ◌*◌, ◌<◌, ◌≤◌, Bool, true, false, not, List, [], ◌∷◌, ◌++◌, length, drop, take, eq-eqb, Option, Some, None, option_map, eqb}
+use Rattle.std.proofs.Common.{position, arith, append_assoc, append-nil, cond, nat_lt}
 use Rattle.std.specs.List.{slice_get, position_or_len}
 use Rattle.std.proofs.lemmas.List.Edits.{length-remove}
 use Rattle.std.proofs.lemmas.Option.{slice_get_within, same_Some}

@@ -8,8 +8,8 @@ use Rattle.ctx_session.specs.declared.answer.Answer.{Answer}
 use Rattle.ctx_session.specs.declared.answer.Answer.TheVariants.{Done, Failed}
 use Rattle.ctx_session.specs.Script.{Line, Open, Use, Close, Down}
 
--- what a line with its answer is to a live resource: its text was accepted; it failed; it was ended by its identifier, and failed or not; it was ended
--- with its client; or nothing
+-- what a line with its answer is to a live resource: its text was accepted; it failed; it was ended by its identifier, and failed or not; it was
+-- ended with its client; or nothing
 pub data Effect : Type 0 where
   Accepted : (text : List ℕ) → Effect
   FailedUse : Effect

@@ -1,5 +1,6 @@
 -- What a script is: lines, each with a line feed.
-use Rattle.std.specs.Prelude.{◌≡◌, ◌≢◌, ◌⊎◌, ℕ, suc, ◌+◌, Bool, List, [], ◌∷◌, length, take, drop, position, Option, Some, None, option_map, nat_le, ◌==◌, ◌&&◌, if◌then◌else◌, codes}
+use Rattle.std.specs.Prelude.{◌≡◌, ◌≢◌, ◌⊎◌, ℕ, suc, ◌+◌, Bool, List, [], ◌∷◌, length, take, drop, position, Option, Some, None, option_map, nat_le}
+use Rattle.std.specs.Prelude.{◌==◌, ◌&&◌, if◌then◌else◌, codes}
 use Rattle.std.specs.List.{list_all}
 use Rattle.uuid.specs.Text.{parsed}
 use Rattle.ctx_session.specs.Numbers.{is_word, number_of}

@@ -175,9 +175,9 @@ fn end_all<R: Resource>(store: &mut StoreOf<R>, stock: &mut StockOf<R>)
     }
 }
 
-/// Runs a script: its lines open, use and end the resources of a stock, whose fresh ones were never ended, and then all that is live is ended. What each
-/// line comes to is a line of the text that is given. All memory is taken before the first line is done. If the script is not run, the stock is as
-/// before.
+/// Runs a script: its lines open, use and end the resources of a stock, whose fresh ones were never ended, and then all that is live is ended.
+/// What each line comes to is a line of the text that is given. All memory is taken before the first line is done. If the script is not run, the
+/// stock is as before.
 pub fn run_script<R: Resource>(
     alloc: Global,
     script: &[u8],

@@ -1,5 +1,6 @@
 // The resources that a session may open, and those that it ended.
-ghost use Rattle.std.specs.Prelude.{◌≡◌, ◌+◌, ◌<◌, ◌≤◌, ◌++◌, [], ◌∷◌, length, false, OnOk, OnErr, IfErr, IfSome, IfNone, Some, None, MatchOption, ◌==◌};
+ghost use Rattle.std.specs.Prelude.{◌≡◌, ◌+◌, ◌<◌, ◌≤◌, ◌++◌, [], ◌∷◌, length, false, OnOk, OnErr, IfErr, IfSome, IfNone, Some, None, MatchOption};
+ghost use Rattle.std.specs.Prelude.{◌==◌};
 ghost use Rattle.std.specs.List.{slice_get};
 
 use ctx_store::Resource;
@@ -84,7 +85,8 @@ impl<R: Resource> StockOf<R> {
 
     // Takes the first fresh resource. Takes no memory.
     pub(crate) fn take(&mut self) -> Option<R>
-        ensures taken { MatchOption result (fresh_seen R.shows self.old ≡ []) (λ r. fresh_seen R.shows self.old ≡ R.shows r ∷ fresh_seen R.shows self.new) }
+        ensures taken { MatchOption result (fresh_seen R.shows self.old ≡ [])
+            (λ r. fresh_seen R.shows self.old ≡ R.shows r ∷ fresh_seen R.shows self.new) }
         ensures none { IfNone result (fresh_seen R.shows self.new ≡ []) }
         ensures spent { spent_seen R.shows self.new ≡ spent_seen R.shows self.old }
         ensures room { spent_room self.new ≡ spent_room self.old }

@@ -7,8 +7,11 @@ fn resources_are_opened_used_and_ended(rt: HostRuntime) -> Result<(), Fail> {
     let mut stock = StockOf::new(rt.alloc());
     assert!(rt; stock.push(MemResource::new(rt.alloc(), 8, &[])?).is_ok());
     assert!(rt; stock.push(MemResource::new(rt.alloc(), 8, &[])?).is_ok());
-    let script =
-        b"open 1 00112233-4455-6677-8899-aabbccddeeff\nopen 1 00112233-4455-6677-8899-aabbccddeeff\nuse 00112233-4455-6677-8899-aabbccddeeff hi\ndown 1\nclose 00112233-4455-6677-8899-AABBCCDDEEFF\n";
+    let script = b"open 1 00112233-4455-6677-8899-aabbccddeeff\n\
+open 1 00112233-4455-6677-8899-aabbccddeeff\n\
+use 00112233-4455-6677-8899-aabbccddeeff hi\n\
+down 1\n\
+close 00112233-4455-6677-8899-AABBCCDDEEFF\n";
     match run_script(rt.alloc(), script.as_slice(), &mut stock) {
         Ok(out) => {
             assert_eq!(rt;
@@ -36,8 +39,11 @@ fn failures_are_reported(rt: HostRuntime) -> Result<(), Fail> {
             .push(MemResource::new(rt.alloc(), 8, &[1, 2])?)
             .is_ok()
     );
-    let script =
-        b"open 1 00000000-0000-0000-0000-000000000000\nopen 1 00112233-4455-6677-8899-aabbccddeeff\nuse 00112233-4455-6677-8899-aabbccddeeff a\nclose 00112233-4455-6677-8899-aabbccddeeff\nopen 1 00112233-4455-6677-8899-aabbccddeeff\n";
+    let script = b"open 1 00000000-0000-0000-0000-000000000000\n\
+open 1 00112233-4455-6677-8899-aabbccddeeff\n\
+use 00112233-4455-6677-8899-aabbccddeeff a\n\
+close 00112233-4455-6677-8899-aabbccddeeff\n\
+open 1 00112233-4455-6677-8899-aabbccddeeff\n";
     match run_script(rt.alloc(), script.as_slice(), &mut stock) {
         Ok(out) => {
             assert_eq!(rt;

@@ -111,8 +111,3 @@ union_asked x n t u xs ys d e is before mid last after ok a b c =
     (λ m p. alike_unions t u n xs ys d e p.0.0 p.0.1 p.1) (λ m q. let r = parts_of (IsPair m) n n t u xs ys d e q in ((r.tags, r.arms), r.defaults)) before after ok
     (both_last (λ m. IsPair m t.0 u.0 × OneByOne (AlikeArms (IsPair m)) xs ys) (λ m. AlikeDefaults (IsPair m) d e) before last after ok
     (both_last (λ m. IsPair m t.0 u.0) (λ m. OneByOne (AlikeArms (IsPair m)) xs ys) before mid last true a b) c))
-
-pub union_arms : (x : TypeDef) (n : Bool) (t u : TypeId) (xs ys : List Arm) (d e : Option Arm) → x ≡ def.Union u n ys e → (mid last : List TypePair)
-    → Asks (λ m. OneByOne (AlikeArms (IsPair m)) xs ys) mid last false → (m : List TypePair) → AlikeTypes (IsPair m) (Some (def.Union t n xs d)) (Some x) → ⊥
-union_arms x n t u xs ys d e is mid last a m p =
-    a m (parts_of (IsPair m) n n t u xs ys d e (subst (λ z. AlikeTypes (IsPair m) (Some (def.Union t n xs d)) (Some z)) is p)).arms
