@@ -15,9 +15,6 @@ use Rattle.nd_value.specs.Setting.{Setting}
 use Rattle.nd_value.specs.Fitting.{setting_of}
 use Rattle.rpc_pdu.specs.declared.pdu.Wanted.{Wanted}
 use Rattle.rpc_pdu.specs.declared.pdu.Joined.{Joined}
-use Rattle.rpc_pdu.specs.declared.pdu.PduFault.{PduFault}
-use Rattle.rpc_pdu.specs.declared.pdu.PduFault.TheVariants as fault
-use Rattle.rpc_pdu.specs.declared.pdu.PduReason.{PduReason}
 use Rattle.rpc_pdu.specs.Fragments.{Fragments}
 use Rattle.rpc_pdu.specs.Joined as pdu
 use Rattle.command_decode.specs.Printed.{IsDecoding, IsWhole, IsPrinted, IsInputCause}
@@ -33,14 +30,6 @@ abbrev pub over : SourceSeen → SourceSeen → SourceSeen
 over s t = record { left = s.left; left_now = t.left_now; ended = t.ended; faults = record { before = s.faults.before; now = t.faults.now } }
 
 -- ## Fragments
-
--- fragments that are refused
-pub bad_is : (want : Wanted) (s : SourceSeen) (e : PduFault) (place : ℕ) (why : PduReason) → e ≡ fault.Bad place why → pdu.IsJoinCause want s e
-    → pdu.IsRefused want s place why
-bad_is want s e place why is h = subst (λ x. pdu.IsJoinCause want s x) is h
-
-pub rose_is : (want : Wanted) (s : SourceSeen) (e : PduFault) → e ≡ fault.ReadFault → pdu.IsJoinCause want s e → HasRisen s.faults
-rose_is want s e is h = subst (λ x. pdu.IsJoinCause want s x) is h
 
 -- where fragments are not joined, nothing is printed
 pub unjoined : (s : SourceSeen) (i : Interface) (op : Option ℕ) (r : Refusal) → IsUnjoined (called.wanted op) s r → IsCallCause s i op r
@@ -113,14 +102,15 @@ stub_refused p stub w order source (NotCompatible differing) h = absurd h
 stub_refused p stub w order source (BadScript row) h = absurd h
 stub_refused p stub w order source LongScript h = absurd h
 
+pub stub_refused_by : (result : Result (List ℕ) Refusal) (p : SourceSeen) (stub : List ℕ) (w : Setting) (order : Order) → IfErr result (IsInputCause p w order)
+    → IsStubSource p stub → IfErr result (IsStubCause stub w order)
+stub_refused_by (Ok made) p stub w order h source = tt
+stub_refused_by (Err e) p stub w order h source = stub_refused p stub w order source e h
+
 -- an answer that says more says this
 pub if_ok : {T E : Type 0} (r : Result T E) (P Q : T → Type 0) → ((t : T) → P t → Q t) → IfOk r P → IfOk r Q
 if_ok (Ok t) P Q f h = f t h
 if_ok (Err e) P Q f h = h
-
-pub if_err : {T E : Type 0} (r : Result T E) (P Q : E → Type 0) → ((e : E) → P e → Q e) → IfErr r P → IfErr r Q
-if_err (Ok t) P Q f h = h
-if_err (Err e) P Q f h = f e h
 
 pub no_rise : Rose 0 0 → ⊥
 no_rise h = omega (arith, h)

@@ -1,8 +1,7 @@
-use Rattle.std.proofs.Common.{sym, subst}
+use Rattle.std.proofs.Common.{subst}
 use Rattle.nd_base.specs.Over.{source_seen}
 use Rattle.rpc_pdu.specs.Fragments.{HasNumber}
-use Rattle.rpc_pdu.specs.Joined.{IsJoined, IsJoinCause}
-use Rattle.command_call.proofs.Calls.{bad_is, rose_is}
+use Rattle.rpc_pdu.specs.Joined.{IsJoined}
 use Rattle.command_call.proofs.calling.joined_fragments.Goals as goal
 
 pub returns-in-Ok-clause-joined : goal.returns-in-Ok-clause-joined
@@ -11,8 +10,3 @@ returns-in-Ok-clause-joined g c =
 
 pub returns-in-Ok-clause-number : goal.returns-in-Ok-clause-number
 returns-in-Ok-clause-number g c = subst (λ w. HasNumber w c.in-Ok.joined.opnum) c.wanted.ensures c.in-Ok.ensures.number
-
-pub returns-clause-refused : goal.returns-clause-refused
-returns-clause-refused g c =
-    let s = source_seen g.S.Source.left g.S.Source.ended g.S.Source.faults c.args.input.now c.join.new.source in
-    bad_is _ s _ _ _ c.in-Err-Bad.field-0-is (subst (λ w. IsJoinCause w s _) c.wanted.ensures c.in-Err-Bad.ensures.refused)

@@ -1,6 +1,7 @@
-use Rattle.std.proofs.Common.{◌≡◌, refl}
+use Rattle.std.proofs.Common.{◌≡◌, ◌∙◌, ◌++◌, refl, ap}
 use Rattle.std.proofs.lemmas.Result.{err_from_is_err_and}
 use Rattle.nd_base.specs.Over.{source_seen}
+use Rattle.command_call.specs.Called.{call_line}
 use Rattle.command_call.proofs.Calls.{operation_there, unjoined, no_end, no_number, bad_stub, called_is}
 use Rattle.command_call.proofs.calling.print_call.Goals as goal
 
@@ -41,4 +42,5 @@ returns-clause-printed g c =
     let t = source_seen g.S.Source.left g.S.Source.ended g.S.Source.faults c.joined_fragments.new.input c.end.new.input in
     let there = operation_there c.args.interface.now c.in_ok-number.number c.in_ok-number.ensures.known in
     called_is s t c.args.interface.now c.args.op c.in_ok-joined.joined c.in_ok-joined.ensures.joined refl c.in_ok-end.ensures.ended
-    c.in_ok-number.number c.in_ok-number.ensures.number there.0 there.1 c.in_ok-text.text _ (c.in_ok-text.ensures.printed there.0 there.1) c.in_ok-with_call_line.ensures
+    c.in_ok-number.number c.in_ok-number.ensures.number there.0 there.1 c.in_ok-text.text _ (c.in_ok-text.ensures.printed there.0 there.1)
+    (c.in_ok-with_call_line.ensures ∙ ap (λ l. call_line c.in_ok-joined.joined.call ++ l) c.as_slice.ensures)

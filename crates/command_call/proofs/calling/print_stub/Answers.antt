@@ -2,7 +2,7 @@ use Rattle.std.proofs.Common.{Some, IfOk, IfErr, ap, subst}
 use Rattle.nd_value.specs.Fitting.{setting_of}
 use Rattle.command_decode.specs.Printed.{IsDecoding}
 use Rattle.command_call.specs.Called.{IsStubCause}
-use Rattle.command_call.proofs.Calls.{if_ok, if_err, stub_printed, stub_refused, no_rise}
+use Rattle.command_call.proofs.Calls.{if_ok, stub_printed, stub_refused_by, no_rise}
 use Rattle.command_call.proofs.calling.print_stub.Goals as goal
 
 pub returns-clause-printed : goal.returns-clause-printed
@@ -14,6 +14,5 @@ returns-clause-printed c o there =
 pub returns-clause-refused : goal.returns-clause-refused
 returns-clause-refused c o there =
     subst (λ k. IfErr c.print_octets.result (IsStubCause c.args.stub (setting_of c.args.interface.now o k) c.args.order)) c.side.ensures
-    (if_err c.print_octets.result _ _
-    (λ r h. stub_refused _ c.args.stub _ c.args.order (record { left = ap (λ os. Some os) c.new-source.ensures.left; reads = no_rise }) r h)
-    (c.print_octets.ensures.refused o there))
+    (stub_refused_by c.print_octets.result _ c.args.stub _ c.args.order (c.print_octets.ensures.refused o there)
+    (record { left = ap (λ os. Some os) c.new-source.ensures.left; reads = no_rise }))
