@@ -21,6 +21,7 @@ use Rattle.command_compile.specs.Idl.{main_file, IsMainFault, IsNameFault, IsDue
 use Rattle.idl_lexer.specs.declared.tokens.LexFault.TheVariants as lexical
 use Rattle.nd_base.specs.Outside.{IsContent, IsMissing}
 use Rattle.command_refusals.specs.declared.refusal.Refusal.TheVariants.{Absent, FileFailed, BadIdl, NoOperation, ReadFault, BadOctets, BadText, BadValue, TooLong, BadRequest, BadLabel, ShortLabel, TooFewEnds, EndFailed}
+use Rattle.command_refusals.specs.declared.refusal.Refusal.TheVariants.{BadPdu, NotCompatible, BadScript, LongScript}
 use Rattle.nd_base.proofs.Rising.{rose_later}
 use Rattle.nd_base.specs.Counts.{Rose}
 use Rattle.nd_base.specs.Over.{FilesSeen, HasRisen}
@@ -173,6 +174,10 @@ after f g idl text acf (BadLabel fault) same low now low' now' cause = absurd ca
 after f g idl text acf ShortLabel same low now low' now' cause = absurd cause
 after f g idl text acf (TooFewEnds wanted found) same low now low' now' cause = absurd cause
 after f g idl text acf (EndFailed which) same low now low' now' cause = absurd cause
+after f g idl text acf (BadPdu spot because) same low now low' now' cause = absurd cause
+after f g idl text acf (NotCompatible differing) same low now low' now' cause = absurd cause
+after f g idl text acf (BadScript row) same low now low' now' cause = absurd cause
+after f g idl text acf LongScript same low now low' now' cause = absurd cause
 
 -- why a main file that was loaded means nothing is why the files do
 loaded_cause : (f : FilesSeen) (idl text : List ℕ) (acf : Option (List ℕ)) (r : Refusal) → IsContent f.held idl text → IsTextCause f idl text acf r → IsIdlCause f idl acf r
@@ -191,6 +196,10 @@ loaded_cause f idl text acf (BadLabel fault) content cause = absurd cause
 loaded_cause f idl text acf ShortLabel content cause = absurd cause
 loaded_cause f idl text acf (TooFewEnds wanted found) content cause = absurd cause
 loaded_cause f idl text acf (EndFailed which) content cause = absurd cause
+loaded_cause f idl text acf (BadPdu spot because) content cause = absurd cause
+loaded_cause f idl text acf (NotCompatible differing) content cause = absurd cause
+loaded_cause f idl text acf (BadScript row) content cause = absurd cause
+loaded_cause f idl text acf LongScript content cause = absurd cause
 
 -- what came after the load of the main file
 pub after_load : (f g : FilesSeen) (idl text : List ℕ) (acf : Option (List ℕ)) (r : Refusal) → IsContent f.held idl text → g.held ≡ f.held
@@ -215,6 +224,10 @@ main_not_loaded f idl acf (BadLabel fault) cause = absurd cause
 main_not_loaded f idl acf ShortLabel cause = absurd cause
 main_not_loaded f idl acf (TooFewEnds wanted found) cause = absurd cause
 main_not_loaded f idl acf (EndFailed which) cause = absurd cause
+main_not_loaded f idl acf (BadPdu spot because) cause = absurd cause
+main_not_loaded f idl acf (NotCompatible differing) cause = absurd cause
+main_not_loaded f idl acf (BadScript row) cause = absurd cause
+main_not_loaded f idl acf LongScript cause = absurd cause
 
 -- ## Names asked for
 

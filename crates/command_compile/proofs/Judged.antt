@@ -24,6 +24,7 @@ use Rattle.command_refusals.specs.declared.refusal.IdlReason.{IdlReason}
 use Rattle.command_refusals.specs.declared.refusal.IdlReason.TheVariants as reason
 use Rattle.command_refusals.specs.declared.refusal.Refusal.{Refusal}
 use Rattle.command_refusals.specs.declared.refusal.Refusal.TheVariants.{Memory, Absent, FileFailed, BadIdl, NoOperation, ReadFault, BadOctets, BadText, BadValue, TooLong, BadRequest, BadLabel, ShortLabel, TooFewEnds, EndFailed}
+use Rattle.command_refusals.specs.declared.refusal.Refusal.TheVariants.{BadPdu, NotCompatible, BadScript, LongScript}
 use Rattle.command_compile.specs.AcfFile.{AcfFile, IsBeside, tree_beside}
 use Rattle.nd_base.specs.Over.{FilesSeen}
 use Rattle.command_compile.specs.Idl.{AreResolved, Means, resolved_world, IsBroken, by_acf, by_rules, reported_by, reported_rule, reported_beside, word_at, IsAcfFault}
@@ -127,6 +128,10 @@ module _ (f : FilesSeen) (idl text : List ℕ) (state : State) (resolved : AreRe
   acf_refused name ShortLabel cause = absurd cause
   acf_refused name (TooFewEnds wanted found) cause = absurd cause
   acf_refused name (EndFailed which) cause = absurd cause
+  acf_refused name (BadPdu spot because) cause = absurd cause
+  acf_refused name (NotCompatible differing) cause = absurd cause
+  acf_refused name (BadScript row) cause = absurd cause
+  acf_refused name LongScript cause = absurd cause
 
   pub beside_refused : (acf : Option (List ℕ)) (r : Refusal) → IsBesideCause f acf r → IsTextCause f idl text acf r
   beside_refused None r cause = absurd cause
@@ -149,6 +154,10 @@ acf_unread f name text (BadLabel fault) content cause = absurd cause
 acf_unread f name text ShortLabel content cause = absurd cause
 acf_unread f name text (TooFewEnds wanted found) content cause = absurd cause
 acf_unread f name text (EndFailed which) content cause = absurd cause
+acf_unread f name text (BadPdu spot because) content cause = absurd cause
+acf_unread f name text (NotCompatible differing) content cause = absurd cause
+acf_unread f name text (BadScript row) content cause = absurd cause
+acf_unread f name text LongScript content cause = absurd cause
 
 -- nor one that is not loaded
 pub acf_unloaded : (f : FilesSeen) (name : List ℕ) (r : Refusal) → IsLoadCause f name r → IsAcfCause f name r
@@ -167,3 +176,7 @@ acf_unloaded f name (BadLabel fault) cause = absurd cause
 acf_unloaded f name ShortLabel cause = absurd cause
 acf_unloaded f name (TooFewEnds wanted found) cause = absurd cause
 acf_unloaded f name (EndFailed which) cause = absurd cause
+acf_unloaded f name (BadPdu spot because) cause = absurd cause
+acf_unloaded f name (NotCompatible differing) cause = absurd cause
+acf_unloaded f name (BadScript row) cause = absurd cause
+acf_unloaded f name LongScript cause = absurd cause

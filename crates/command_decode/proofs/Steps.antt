@@ -22,6 +22,7 @@ use Rattle.text_grammar.specs.Printed.{IsText}
 use Rattle.command_refusals.specs.declared.refusal.Refusal.{Refusal}
 use Rattle.command_refusals.specs.declared.refusal.Refusal.TheVariants.{Memory, Absent, FileFailed, BadIdl, NoOperation, ReadFault, BadOctets, BadText, BadValue, TooLong, BadRequest, BadLabel}
 use Rattle.command_refusals.specs.declared.refusal.Refusal.TheVariants.{ShortLabel, TooFewEnds, EndFailed}
+use Rattle.command_refusals.specs.declared.refusal.Refusal.TheVariants.{BadPdu, NotCompatible, BadScript, LongScript}
 use Rattle.command_refusals.specs.declared.refusal.OctetsFault.TheVariants as octets_fault
 use Rattle.command_decode.specs.Printed.{IsPrinted, IsInputCause, IsRefusedInput}
 use Rattle.command_decode.specs.Taken.{IsTaken, IsEnd, IsNoEnd}
@@ -115,3 +116,7 @@ module _ (s t : SourceSeen) (w : Setting) (order : Order) (taken : ℕ) (g : Gra
   no_end later same ShortLabel never = absurd never
   no_end later same (TooFewEnds wanted found) never = absurd never
   no_end later same (EndFailed which) never = absurd never
+  no_end later same (BadPdu spot because) never = absurd never
+  no_end later same (NotCompatible differing) never = absurd never
+  no_end later same (BadScript row) never = absurd never
+  no_end later same LongScript never = absurd never

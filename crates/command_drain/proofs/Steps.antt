@@ -27,6 +27,7 @@ use Rattle.text_grammar.specs.Printed.{IsText}
 use Rattle.command_refusals.specs.declared.refusal.Refusal.{Refusal}
 use Rattle.command_refusals.specs.declared.refusal.Refusal.TheVariants.{Memory, Absent, FileFailed, BadIdl, NoOperation, ReadFault, BadOctets, BadText, BadValue, TooLong, BadRequest, BadLabel}
 use Rattle.command_refusals.specs.declared.refusal.Refusal.TheVariants.{ShortLabel, TooFewEnds, EndFailed}
+use Rattle.command_refusals.specs.declared.refusal.Refusal.TheVariants.{BadPdu, NotCompatible, BadScript, LongScript}
 use Rattle.command_refusals.specs.declared.refusal.OctetsFault.TheVariants as octets_fault
 use Rattle.command_drain.specs.Printed.{AreEnough, IsDrainRefusal, IsPrinted, IsTakenWhole}
 use Rattle.command_drain.specs.Taken.{IsNotTaken, IsTaken}
@@ -89,6 +90,10 @@ not_taken s e w order Memory h = inr (inl h)
 not_taken s e w order (BadOctets place (octets_fault.Refused why)) h = h
 not_taken s e w order (BadOctets place octets_fault.Trailing) never = absurd never
 not_taken s e w order (EndFailed which) h = h
+not_taken s e w order (BadPdu spot because) never = absurd never
+not_taken s e w order (NotCompatible differing) never = absurd never
+not_taken s e w order (BadScript row) never = absurd never
+not_taken s e w order LongScript never = absurd never
 not_taken s e w order (TooFewEnds wanted found) h = h
 not_taken s e w order (Absent file) never = absurd never
 not_taken s e w order (FileFailed file) never = absurd never
@@ -166,3 +171,7 @@ module _ (s u : SourceSeen) (e : EndsSeen) (w : Setting) (order : Order) (taken 
   no_end later same ShortLabel never = absurd never
   no_end later same (TooFewEnds wanted found) never = absurd never
   no_end later same (EndFailed which) never = absurd never
+  no_end later same (BadPdu spot because) never = absurd never
+  no_end later same (NotCompatible differing) never = absurd never
+  no_end later same (BadScript row) never = absurd never
+  no_end later same LongScript never = absurd never

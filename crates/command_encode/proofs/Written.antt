@@ -12,6 +12,7 @@ use Rattle.ndr_encode.specs.Work.{WorkSeen, IsWorkFor, IsTooLong, IsChosen}
 use Rattle.command_refusals.specs.declared.refusal.Refusal.{Refusal}
 use Rattle.command_refusals.specs.declared.refusal.Refusal.TheVariants.{Memory, Absent, FileFailed, BadIdl, NoOperation, ReadFault, BadOctets, BadText, BadValue, TooLong, BadRequest, BadLabel}
 use Rattle.command_refusals.specs.declared.refusal.Refusal.TheVariants.{ShortLabel, TooFewEnds, EndFailed}
+use Rattle.command_refusals.specs.declared.refusal.Refusal.TheVariants.{BadPdu, NotCompatible, BadScript, LongScript}
 use Rattle.command_encode.specs.Written.{IsWritten, IsLong, IsWritingCause}
 use Rattle.command_encode.specs.Prepared.{IsUnprepared}
 
@@ -51,6 +52,10 @@ cause_own f k o there (BadLabel fault) cause = absurd cause
 cause_own f k o there ShortLabel cause = absurd cause
 cause_own f k o there (TooFewEnds wanted found) cause = absurd cause
 cause_own f k o there (EndFailed which) cause = absurd cause
+cause_own f k o there (BadPdu spot because) cause = absurd cause
+cause_own f k o there (NotCompatible differing) cause = absurd cause
+cause_own f k o there (BadScript row) cause = absurd cause
+cause_own f k o there LongScript cause = absurd cause
 
 -- ## Under the interface of the call
 

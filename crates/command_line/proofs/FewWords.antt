@@ -1,4 +1,4 @@
--- Two words, four and more than nine are no command.
+-- Two words and more than nine are no command.
 use Rattle.std.proofs.Common.{◌≡◌, ℕ, ◌<◌, ◌≤◌, List, [], ◌∷◌, length, map, None, refl, arith}
 use Rattle.command_line.specs.Words.{command}
 
@@ -8,14 +8,6 @@ module _ {X : Type 0} (f : X → List ℕ) where
   two_words (x0 ∷ []) least most = absurd (omega (arith, least))
   two_words (x0 ∷ x1 ∷ []) least most = refl
   two_words (x0 ∷ x1 ∷ x2 ∷ xs) least most = absurd (omega (arith, most))
-
-  pub four_words : (xs : List X) → 4 ≤ length xs → length xs < 5 → None ≡ command (map f xs)
-  four_words [] least most = absurd (omega (arith, least))
-  four_words (x0 ∷ []) least most = absurd (omega (arith, least))
-  four_words (x0 ∷ x1 ∷ []) least most = absurd (omega (arith, least))
-  four_words (x0 ∷ x1 ∷ x2 ∷ []) least most = absurd (omega (arith, least))
-  four_words (x0 ∷ x1 ∷ x2 ∷ x3 ∷ []) least most = refl
-  four_words (x0 ∷ x1 ∷ x2 ∷ x3 ∷ x4 ∷ xs) least most = absurd (omega (arith, most))
 
   pub many_words : (xs : List X) → 10 ≤ length xs → None ≡ command (map f xs)
   many_words [] least = absurd (omega (arith, least))

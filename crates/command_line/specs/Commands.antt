@@ -3,12 +3,12 @@ use Rattle.std.specs.Prelude.{◌≡◌, ◌≤◌, Option, None, Some, option_m
 use Rattle.nd_types.specs.declared.types.Side.{Side}
 use Rattle.nd_types.specs.declared.types.Side.TheVariants.{Out}
 use Rattle.command_line.specs.Words as words
-use Rattle.command_line.specs.declared.TheConstants.{COUNT_LIMIT}
+use Rattle.command_line.specs.declared.TheConstants.{COUNT_LIMIT, LEAST_MAX}
 use Rattle.command_line.specs.declared.command.Subject.{Subject}
 use Rattle.command_line.specs.declared.command.Command.{Command}
 use Rattle.command_line.specs.declared.command.Task.{Task}
 use Rattle.command_line.specs.declared.command.Task.TheVariants.{Read, Encode, Migrate}
-use Rattle.command_line.specs.declared.command.Command.TheVariants.{Values, Compile, Plan, Sample, Help, Version}
+use Rattle.command_line.specs.declared.command.Command.TheVariants.{Values, Compile, Plan, Call, Wrap, Sample, Help, Version}
 
 abbrev pub subject_of : Subject → words.Subject
 subject_of of = record { idl = of.idl.now; acf = option_map (λ a. a.now) of.acf; op = of.op.now; side = of.side }
@@ -17,6 +17,8 @@ abbrev pub command_of : Command → words.Command
 command_of (Values task of given) = words.Values task (subject_of of) (option_map (λ t. t.now) given)
 command_of (Compile idl acf) = words.Compile idl.now (option_map (λ a. a.now) acf)
 command_of (Plan idl acf) = words.Plan idl.now (option_map (λ a. a.now) acf)
+command_of (Call idl acf op) = words.Call idl.now (option_map (λ a. a.now) acf) (option_map (λ a. a.now) op)
+command_of (Wrap of order call max) = words.Wrap (subject_of of) order call max
 command_of (Sample seed count) = words.Sample seed count
 command_of Help = words.Help
 command_of Version = words.Version
@@ -35,5 +37,6 @@ IsJudged side (Some text) = side ≡ Out
 -- what its words say of the parts of a command
 abbrev pub IsWellFormed : Command → Type 0
 IsWellFormed (Values task of given) = HasChunks task × IsJudged of.side given
+IsWellFormed (Wrap of order call max) = LEAST_MAX ≤ max
 IsWellFormed (Sample seed count) = (1 ≤ count) × (count ≤ COUNT_LIMIT)
 IsWellFormed _ = ⊤

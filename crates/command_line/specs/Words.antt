@@ -1,12 +1,12 @@
 -- The commands that the words of a command line are.
-use Rattle.std.specs.Prelude.{ℕ, Bool, ◌&&◌, nat_le, List, [], ◌∷◌, Option, None, Some, if◌then◌else◌, nat_eq, codes, decimal}
+use Rattle.std.specs.Prelude.{ℕ, Bool, false, ◌&&◌, nat_le, List, [], ◌∷◌, Option, None, Some, if◌then◌else◌, nat_eq, codes, decimal}
 use Rattle.std.specs.Cmp.Lexicographic.{pointwise}
 use Rattle.std.specs.Str.Parse.{digits_value}
 use Rattle.nd_base.specs.declared.octets.Order.{Order}
 use Rattle.nd_base.specs.declared.octets.Order.TheVariants.{Little, Big}
 use Rattle.nd_types.specs.declared.types.Side.{Side}
 use Rattle.nd_types.specs.declared.types.Side.TheVariants.{In, Out}
-use Rattle.command_line.specs.declared.TheConstants.{CHUNK_LIMIT, COUNT_LIMIT}
+use Rattle.command_line.specs.declared.TheConstants.{CHUNK_LIMIT, COUNT_LIMIT, LEAST_MAX}
 use Rattle.command_line.specs.declared.command.Reading.{Reading}
 use Rattle.command_line.specs.declared.command.Reading.TheVariants.{Decode, Explain, Drain}
 use Rattle.command_line.specs.declared.command.OrderWord.{OrderWord}
@@ -29,6 +29,10 @@ pub data Command : Type 0 where
   Compile : (idl : List ℕ) (acf : Option (List ℕ)) → Command
   -- the listing of its plan
   Plan : (idl : List ℕ) (acf : Option (List ℕ)) → Command
+  -- fragments are joined, and the text of the values of their stub data is written: those of a response to an operation, or of a request
+  Call : (idl : List ℕ) (acf : Option (List ℕ)) (op : Option (List ℕ)) → Command
+  -- the input's text is read, and its octets are written as the stub data of fragments, with a call id and so many octets each at most
+  Wrap : (of : Subject) (order : Order) (call max : ℕ) → Command
   -- a graph of so many cells, made from a seed, is encoded and decoded
   Sample : (seed count : ℕ) → Command
   Help : Command
@@ -39,10 +43,14 @@ abbrev pub idl_of : Command → List ℕ
 idl_of (Values task of given) = of.idl
 idl_of (Compile idl acf) = idl
 idl_of (Plan idl acf) = idl
+idl_of (Call idl acf op) = idl
+idl_of (Wrap of order call max) = of.idl
 idl_of _ = []
 
 abbrev pub op_of : Command → List ℕ
 op_of (Values task of given) = of.op
+op_of (Call idl acf (Some op)) = op
+op_of (Wrap of order call max) = of.op
 op_of _ = []
 
 -- the order in which octets are written: after a format label it is little endian
@@ -66,6 +74,16 @@ order_of word =
     if is_word word (codes "little") then Some (Fixed Little)
     else if is_word word (codes "big") then Some (Fixed Big)
     else if is_word word (codes "label") then Some Label else None
+
+-- the operation that a word names: `-` names none
+abbrev pub operation_of : List ℕ → Option (List ℕ)
+operation_of word = if is_word word (codes "-") then None else Some word
+
+-- the order of octets that a word names, without a format label
+abbrev pub fixed_order_of : List ℕ → Option Order
+fixed_order_of word =
+    if is_word word (codes "little") then Some Little
+    else if is_word word (codes "big") then Some Big else None
 
 -- the way of reading octets that a word names
 abbrev pub reading_of : List ℕ → Option Reading
@@ -99,6 +117,13 @@ seed_of word = number_of 0 4294967295 word
 abbrev pub count_of : List ℕ → Option ℕ
 count_of word = number_of 1 COUNT_LIMIT word
 
+-- the call id that a word names, and the most octets of a fragment
+abbrev pub call_id_of : List ℕ → Option ℕ
+call_id_of word = number_of 0 4294967295 word
+
+abbrev pub max_of : List ℕ → Option ℕ
+max_of word = number_of LEAST_MAX 65535 word
+
 abbrev pub subject : List ℕ → List ℕ → List ℕ → Side → Subject
 subject idl acf op side = record { idl = idl; acf = acf_of acf; op = op; side = side }
 
@@ -127,6 +152,16 @@ abbrev pub migrate : List ℕ → List ℕ → List ℕ → Option Side → Opti
 migrate idl acf op (Some side) = Some (Values Migrate (subject idl acf op side) None)
 migrate idl acf op None = None
 
+-- `wrap`, if its words are a side, an order, a call id and the most octets of a fragment
+abbrev pub wrap : List ℕ → List ℕ → List ℕ → Option Side → Option Order → Option ℕ → Option ℕ → Option Command
+wrap idl acf op (Some side) (Some order) (Some call) (Some max) = Some (Wrap (subject idl acf op side) order call max)
+wrap idl acf op _ _ _ _ = None
+
+-- a command of eight words that reads octets beside the request of a file
+abbrev pub read_beside_words : List ℕ → List ℕ → List ℕ → List ℕ → List ℕ → List ℕ → List ℕ → List ℕ → Option Command
+read_beside_words how idl acf op side order given text =
+    if is_word given (codes "given") then read_beside (reading_of how) idl acf op (side_of side) (order_of order) text else None
+
 -- `compile` or `plan`
 abbrev pub listing : List ℕ → List ℕ → List ℕ → Option Command
 listing verb idl acf =
@@ -138,9 +173,10 @@ abbrev pub sample : Option ℕ → Option ℕ → Option Command
 sample (Some seed) (Some count) = Some (Sample seed count)
 sample _ _ = None
 
--- The command that words are, if they are one: `compile IDL ACF`, `plan IDL ACF`, `sample SEED COUNT`, `migrate IDL ACF OP SIDE`,
--- `decode IDL ACF OP SIDE ORDER`, `decode IDL ACF OP out ORDER given TEXT`, the same of `explain` and `drain`, `encode IDL ACF OP SIDE ORDER CHUNK`,
--- `encode IDL ACF OP out ORDER CHUNK given TEXT`, `--help` or `--version`. No words are `sample 1 2`.
+-- The command that words are, if they are one: `compile IDL ACF`, `plan IDL ACF`, `sample SEED COUNT`, `call IDL ACF OP` or `call IDL ACF -`,
+-- `migrate IDL ACF OP SIDE`, `decode IDL ACF OP SIDE ORDER`,
+-- `decode IDL ACF OP out ORDER given TEXT`, the same of `explain` and `drain`, `encode IDL ACF OP SIDE ORDER CHUNK`,
+-- `encode IDL ACF OP out ORDER CHUNK given TEXT`, `wrap IDL ACF OP SIDE ORDER CALL MAX`, `--help` or `--version`. No words are `sample 1 2`.
 abbrev pub command : List (List ℕ) → Option Command
 command [] = Some (Sample 1 2)
 command (word ∷ []) =
@@ -148,15 +184,22 @@ command (word ∷ []) =
     else if is_word word (codes "--version") then Some Version else None
 command (verb ∷ first ∷ second ∷ []) =
     if is_word verb (codes "sample") then sample (seed_of first) (count_of second) else listing verb first second
+command (verb ∷ idl ∷ acf ∷ op ∷ []) =
+    if is_word verb (codes "call") then Some (Call idl (acf_of acf) (operation_of op)) else None
 command (verb ∷ idl ∷ acf ∷ op ∷ side ∷ []) =
     if is_word verb (codes "migrate") then migrate idl acf op (side_of side) else None
 command (how ∷ idl ∷ acf ∷ op ∷ side ∷ order ∷ []) = read (reading_of how) idl acf op (side_of side) (order_of order)
 command (verb ∷ idl ∷ acf ∷ op ∷ side ∷ order ∷ chunk ∷ []) =
     if is_word verb (codes "encode") then encode idl acf op (side_of side) (order_of order) (chunk_of chunk) else None
-command (how ∷ idl ∷ acf ∷ op ∷ side ∷ order ∷ given ∷ text ∷ []) =
-    if is_word given (codes "given") then read_beside (reading_of how) idl acf op (side_of side) (order_of order) text else None
+command (verb ∷ idl ∷ acf ∷ op ∷ side ∷ order ∷ seventh ∷ eighth ∷ []) =
+    if is_word verb (codes "wrap") then wrap idl acf op (side_of side) (fixed_order_of order) (call_id_of seventh) (max_of eighth)
+    else read_beside_words verb idl acf op side order seventh eighth
 command (verb ∷ idl ∷ acf ∷ op ∷ side ∷ order ∷ chunk ∷ given ∷ text ∷ []) =
-    if is_word verb (codes "encode")
-    && is_word given (codes "given") then encode_beside idl acf op (side_of side) (order_of order) (chunk_of chunk) text
-    else None
+    if is_word verb (codes "encode") && is_word given (codes "given")
+    then encode_beside idl acf op (side_of side) (order_of order) (chunk_of chunk) text else None
 command _ = None
+
+-- the one word that runs a script over resources, and is no command
+abbrev pub is_session : List (List ℕ) → Bool
+is_session (word ∷ []) = is_word word (codes "session")
+is_session _ = false

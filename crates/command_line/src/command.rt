@@ -80,6 +80,22 @@ pub enum Command<'a> {
         idl: &'a str,
         acf: Option<&'a str>,
     },
+    /// The fragments of one call are joined, and the text of the values of their stub data is written.
+    Call {
+        idl: &'a str,
+        acf: Option<&'a str>,
+        /// The operation of the response that is read. If there is none, a request is read, and it states its operation.
+        op: Option<&'a str>,
+    },
+    /// The text of the input is read, and the octets of its values are written as the stub data of fragments.
+    Wrap {
+        of: Subject<'a>,
+        order: Order,
+        /// The call id.
+        call: u32,
+        /// How many octets a fragment has at most: at least 1,024.
+        max: u16,
+    },
     /// A sample of so many cells, made from a seed, is encoded and decoded.
     Sample {
         seed: u32,

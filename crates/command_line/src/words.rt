@@ -1,15 +1,17 @@
 // The words of a command line, and the command that they are.
 ghost use Rattle.std.specs.Prelude.{◌≡◌, ◌≤◌, ◌<◌, [], ◌∷◌, ◌++◌, length, map, OnOk, OnErr, IfSome, option_map};
 ghost use Rattle.std.specs.String.{string_bytes};
-ghost use Rattle.command_line.specs.Words.{command, acf_of, order_of, side_of, reading_of, chunk_of, read as read_of, read_beside as read_beside_of};
+ghost use Rattle.command_line.specs.Words.{command, acf_of, order_of, side_of, reading_of, read as read_of, read_beside as read_beside_of};
 ghost use Rattle.command_line.specs.Words.{encode as encode_of, encode_beside as encode_beside_of, migrate as migrate_of, sample as sample_of};
 ghost use Rattle.command_line.specs.Words.{listing as listing_of, subject as subject_by};
-ghost use Rattle.command_line.specs.declared.TheConstants.{COUNT_LIMIT};
+ghost use Rattle.command_line.specs.Words.{is_session as is_session_of, operation_of, fixed_order_of, wrap as wrap_of};
+ghost use Rattle.command_line.specs.Words.{read_beside_words as read_beside_words_of};
+ghost use Rattle.command_line.specs.declared.TheConstants.{COUNT_LIMIT, LEAST_MAX};
 ghost use Rattle.command_line.specs.Commands.{command_of, subject_of, IsWellFormed};
 
 use crate::command::{Command, OrderWord, Reading, Subject, Task};
 use crate::numbers::number_named;
-use crate::{CHUNK_LIMIT, COUNT_LIMIT};
+use crate::{CHUNK_LIMIT, COUNT_LIMIT, LEAST_MAX};
 use nd_base::{Memory, Order};
 use nd_types::Side;
 use std::alloc::Global;
@@ -53,6 +55,16 @@ impl Words {
         }
     }
 
+    /// Whether the one word is `session`, which is no command: it runs a script over resources that a caller hands in. Takes no memory.
+    pub fn is_session(&self) -> bool
+        ensures { result ≡ is_session_of self.now }
+    {
+        match self.items.as_slice() {
+            [word] => word.as_str() == "session",
+            _ => false,
+        }
+    }
+
     /// The command that the words are, or None if they are none. Takes no memory.
     pub fn command(&self) -> Option<Command<'_>>
         ensures command { option_map command_of result ≡ command self.now }
@@ -68,7 +80,7 @@ impl Words {
 }
 
 // The command that at most five words are.
-#[tactic(auto, using(crate::proofs::FewWords::two_words, crate::proofs::FewWords::four_words))]
+#[tactic(auto, using(crate::proofs::FewWords::two_words))]
 fn command_of_few(words: &[String]) -> Option<Command<'_>>
     requires { length words.now ≤ 5 }
     ensures command { option_map command_of result ≡ command (map string_bytes words.now) }
@@ -78,6 +90,7 @@ fn command_of_few(words: &[String]) -> Option<Command<'_>>
         [] => Some(Command::Sample { seed: 1, count: 2 }),
         [word] => short_command(word.as_str()),
         [verb, first, second] => three_words(verb.as_str(), first.as_str(), second.as_str()),
+        [verb, idl, acf, op] => four_words(verb.as_str(), idl.as_str(), acf.as_str(), op.as_str()),
         [verb, idl, acf, op, side] => {
             if verb.as_str() == "migrate" {
                 migrate_command(
@@ -136,7 +149,7 @@ fn command_of_most(words: &[String]) -> Option<Command<'_>>
     ensures formed { IfSome result IsWellFormed }
 {
     match words {
-        [verb, idl, acf, op, side, order, given, text] => read_beside_words(
+        [verb, idl, acf, op, side, order, given, text] => eight_words(
             verb.as_str(),
             idl.as_str(),
             acf.as_str(),
@@ -186,6 +199,78 @@ fn three_words<'a>(verb: &str, first: &'a str, second: &'a str) -> Option<Comman
         )
     } else {
         listing_command(verb, first, second)
+    }
+}
+
+// The command that four words are: `call`.
+fn four_words<'a>(verb: &str, idl: &'a str, acf: &'a str, op: &'a str) -> Option<Command<'a>>
+    ensures command { option_map command_of result ≡ command (verb.now ∷ idl.now ∷ acf.now ∷ op.now ∷ []) }
+    ensures formed { IfSome result IsWellFormed }
+{
+    if verb == "call" {
+        Some(Command::Call {
+            idl,
+            acf: acf_named(acf),
+            op: operation_named(op),
+        })
+    } else {
+        None
+    }
+}
+
+// The command that eight words are: `wrap`, or one that reads octets beside a request.
+fn eight_words<'a>(
+    verb: &str,
+    idl: &'a str,
+    acf: &'a str,
+    op: &'a str,
+    side: &str,
+    order: &str,
+    seventh: &str,
+    eighth: &'a str,
+) -> Option<Command<'a>>
+    ensures command { option_map command_of result
+        ≡ command (verb.now ∷ idl.now ∷ acf.now ∷ op.now ∷ side.now ∷ order.now ∷ seventh.now ∷ eighth.now ∷ []) }
+    ensures formed { IfSome result IsWellFormed }
+{
+    if verb == "wrap" {
+        wrap_command(
+            idl,
+            acf,
+            op,
+            side_named(side),
+            fixed_order_named(order),
+            number_named(seventh, 0, u32::MAX),
+            number_named(eighth, LEAST_MAX, 65_535),
+        )
+    } else {
+        read_beside_words(verb, idl, acf, op, side, order, seventh, eighth)
+    }
+}
+
+// `wrap`, if its words are a side, an order of octets, a call id and the most octets of a fragment.
+fn wrap_command<'a>(
+    idl: &'a str,
+    acf: &'a str,
+    op: &'a str,
+    side: Option<Side>,
+    order: Option<Order>,
+    call: Option<u32>,
+    max: Option<u32>,
+) -> Option<Command<'a>>
+    requires least { IfSome max (λ n. LEAST_MAX ≤ n) }
+    requires most { IfSome max (λ n. n ≤ 65535) }
+    ensures command { option_map command_of result ≡ wrap_of idl.now acf.now op.now side order call max }
+    ensures formed { IfSome result IsWellFormed }
+{
+    match (side, order, call, max) {
+        (Some(side), Some(order), Some(call), Some(max)) => Some(Command::Wrap {
+            of: subject_named(idl, acf, op, side),
+            order,
+            call,
+            max: max as u16,
+        }),
+        _ => None,
     }
 }
 
@@ -289,7 +374,7 @@ fn encode_command<'a>(
     }
 }
 
-// The command that eight words are: one that reads octets beside a request.
+// A command of eight words that reads octets beside a request.
 fn read_beside_words<'a>(
     how: &str,
     idl: &'a str,
@@ -301,7 +386,7 @@ fn read_beside_words<'a>(
     text: &'a str,
 ) -> Option<Command<'a>>
     ensures command { option_map command_of result
-        ≡ command (how.now ∷ idl.now ∷ acf.now ∷ op.now ∷ side.now ∷ order.now ∷ given.now ∷ text.now ∷ []) }
+        ≡ read_beside_words_of how.now idl.now acf.now op.now side.now order.now given.now text.now }
     ensures formed { IfSome result IsWellFormed }
 {
     if given == "given" {
@@ -410,6 +495,24 @@ fn acf_named(word: &str) -> Option<&str>
     ensures { option_map (λ a. a.now) result ≡ acf_of word.now }
 {
     if word == "-" { None } else { Some(word) }
+}
+
+// The operation that a word names: `-` names none.
+fn operation_named(word: &str) -> Option<&str>
+    ensures { option_map (λ a. a.now) result ≡ operation_of word.now }
+{
+    if word == "-" { None } else { Some(word) }
+}
+
+// The order of octets that a word names, without a format label.
+fn fixed_order_named(word: &str) -> Option<Order>
+    ensures { result ≡ fixed_order_of word.now }
+{
+    match word {
+        "little" => Some(Order::Little),
+        "big" => Some(Order::Big),
+        _ => None,
+    }
 }
 
 // The order of octets that a word names.

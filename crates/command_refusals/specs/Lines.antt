@@ -13,9 +13,17 @@ use Rattle.ndr_prim.specs.declared.label.LabelFault.{LabelFault}
 use Rattle.ndr_prim.specs.declared.label.LabelFault.TheVariants as label_fault
 use Rattle.text_grammar.specs.declared.fault.TextReason.{TextReason}
 use Rattle.text_grammar.specs.declared.fault.TextReason.TheVariants as text
+use Rattle.rpc_pdu.specs.declared.pdu.PduReason.{PduReason}
+use Rattle.rpc_pdu.specs.declared.pdu.PduReason.TheVariants as pdu_reason
 use Rattle.nd_base.specs.Text.{joined}
 use Rattle.command_refusals.specs.declared.refusal.Refusal.{Refusal}
-use Rattle.command_refusals.specs.declared.refusal.Refusal.TheVariants.{Memory, Absent, FileFailed, BadIdl, NoOperation, ReadFault, BadOctets, BadText, BadValue, TooLong, BadRequest, BadLabel, ShortLabel, TooFewEnds, EndFailed}
+use Rattle.command_refusals.specs.declared.refusal.Refusal.TheVariants.{Memory, Absent, FileFailed, BadIdl, NoOperation, ReadFault, BadOctets}
+use Rattle.command_refusals.specs.declared.refusal.Refusal.TheVariants.{BadText, BadValue, TooLong, BadRequest, BadLabel, ShortLabel, TooFewEnds}
+use Rattle.command_refusals.specs.declared.refusal.Refusal.TheVariants.{EndFailed, BadPdu, NotCompatible, BadScript, LongScript}
+use Rattle.command_refusals.specs.declared.refusal.FragmentsFault.{FragmentsFault}
+use Rattle.command_refusals.specs.declared.refusal.FragmentsFault.TheVariants as fragments
+use Rattle.command_refusals.specs.declared.refusal.CompatFault.{CompatFault}
+use Rattle.command_refusals.specs.declared.refusal.CompatFault.TheVariants as compat
 use Rattle.command_refusals.specs.declared.refusal.IdlReason.{IdlReason}
 use Rattle.command_refusals.specs.declared.refusal.IdlReason.TheVariants as idl_reason
 use Rattle.command_refusals.specs.declared.refusal.OctetsFault.{OctetsFault}
@@ -33,6 +41,10 @@ status_of (BadRequest fault) = 1
 status_of (BadLabel fault) = 1
 status_of ShortLabel = 1
 status_of (TooFewEnds wanted found) = 1
+status_of (BadPdu place why) = 1
+status_of (NotCompatible fault) = 1
+status_of (BadScript line) = 1
+status_of LongScript = 1
 status_of ReadFault = 3
 status_of Memory = 5
 status_of (BadIdl file line column reason) = 6
@@ -143,6 +155,43 @@ abbrev pub request_line : RequestFault → List ℕ
 request_line (request.Text line column reason) = text_line (codes "refused: given: text ") line column reason
 request_line (request.Value path reason) = value_line (codes "refused: given: value at ") path reason
 
+-- the name of a reason why fragments are refused
+abbrev pub pdu_reason_name : PduReason → List ℕ
+pdu_reason_name pdu_reason.Short = codes "Short"
+pdu_reason_name pdu_reason.Version = codes "Version"
+pdu_reason_name pdu_reason.Kind = codes "Kind"
+pdu_reason_name pdu_reason.Flags = codes "Flags"
+pdu_reason_name pdu_reason.Label = codes "Label"
+pdu_reason_name pdu_reason.OtherOrder = codes "OtherOrder"
+pdu_reason_name pdu_reason.Length = codes "Length"
+pdu_reason_name pdu_reason.Auth = codes "Auth"
+pdu_reason_name pdu_reason.OtherCall = codes "OtherCall"
+pdu_reason_name pdu_reason.OtherOperation = codes "OtherOperation"
+pdu_reason_name pdu_reason.EmptyPiece = codes "EmptyPiece"
+pdu_reason_name pdu_reason.StubLong = codes "StubLong"
+
+-- an operation number that the interface does not have
+abbrev pub no_operation_text : ℕ → List ℕ
+no_operation_text number = joined (codes "NoOperation " ∷ decimal number ∷ [])
+
+-- why fragments are refused, as a line reports it
+abbrev pub fragments_fault_text : FragmentsFault → List ℕ
+fragments_fault_text (fragments.Refused reason) = pdu_reason_name reason
+fragments_fault_text fragments.Trailing = codes "Trailing"
+fragments_fault_text (fragments.NoOperation number) = no_operation_text number
+
+-- a reason with its two numbers
+abbrev pub two_numbers : List ℕ → ℕ → ℕ → List ℕ
+two_numbers what old new = joined (what ∷ decimal old ∷ codes " " ∷ decimal new ∷ [])
+
+-- why an interface is not compatible with an older one, as a line reports it
+abbrev pub compat_fault_text : CompatFault → List ℕ
+compat_fault_text compat.OtherUuid = codes "OtherUuid"
+compat_fault_text (compat.OtherMajor old new) = two_numbers (codes "OtherMajor ") old new
+compat_fault_text (compat.OlderMinor old new) = two_numbers (codes "OlderMinor ") old new
+compat_fault_text (compat.Fewer old new) = two_numbers (codes "Fewer ") old new
+compat_fault_text (compat.Differs name) = joined (codes "Differs " ∷ name ∷ [])
+
 -- the line of a refusal
 abbrev pub line_of : List ℕ → List ℕ → Refusal → List ℕ
 line_of idl op (BadOctets place why) = joined (codes "refused: octets at " ∷ decimal place ∷ codes ": " ∷ fault_text why ∷ codes "\n" ∷ [])
@@ -152,8 +201,13 @@ line_of idl op (TooLong length) = joined (codes "refused: TooLong " ∷ decimal 
 line_of idl op (BadRequest fault) = request_line fault
 line_of idl op (BadLabel fault) = joined (codes "refused: label: " ∷ label_fault_name fault ∷ codes "\n" ∷ [])
 line_of idl op ShortLabel = codes "refused: label: Truncated\n"
-line_of idl op (TooFewEnds wanted found) = joined (codes "refused: TooFewEnds wanted " ∷ decimal wanted ∷ codes " found " ∷ decimal found ∷ codes "\n" ∷ [])
+line_of idl op (TooFewEnds wanted found) =
+    joined (codes "refused: TooFewEnds wanted " ∷ decimal wanted ∷ codes " found " ∷ decimal found ∷ codes "\n" ∷ [])
 line_of idl op (EndFailed which) = joined (codes "pipe end " ∷ decimal which ∷ codes " failed\n" ∷ [])
+line_of idl op (BadPdu place why) = joined (codes "refused: pdu at " ∷ decimal place ∷ codes ": " ∷ fragments_fault_text why ∷ codes "\n" ∷ [])
+line_of idl op (NotCompatible fault) = joined (codes "refused: compat: " ∷ compat_fault_text fault ∷ codes "\n" ∷ [])
+line_of idl op (BadScript line) = joined (codes "refused: script " ∷ decimal line ∷ codes "\n" ∷ [])
+line_of idl op LongScript = codes "refused: script TooLong\n"
 line_of idl op ReadFault = codes "read fault\n"
 line_of idl op Memory = codes "want of memory\n"
 line_of idl op (BadIdl file line column reason) =

@@ -1,8 +1,14 @@
 // The status and the line of each refusal.
 ghost use Rattle.std.specs.Prelude.{◌≡◌, [], ◌∷◌, codes, IfOk};
 ghost use Rattle.nd_base.specs.Text.{joined};
-ghost use Rattle.command_refusals.specs.Lines.{status_of, line_of, text_line as line_of_text, value_line as line_of_value, request_line as line_of_request, idl_reason_text, lex_kind_name as name_of_lex_kind, const_fault_name as name_of_const_fault, fault_text, reason_text, misfit_text, label_fault_name as name_of_label_fault, disagreement as disagreement_text, reason_name as name_of_reason, misfit_name as name_of_misfit, text_reason_name as name_of_text_reason};
+ghost use Rattle.command_refusals.specs.Lines.{status_of, line_of, text_line as line_of_text, value_line as line_of_value};
+ghost use Rattle.command_refusals.specs.Lines.{request_line as line_of_request, idl_reason_text, fault_text, reason_text, misfit_text};
+ghost use Rattle.command_refusals.specs.Lines.{disagreement as disagreement_text, lex_kind_name as name_of_lex_kind};
+ghost use Rattle.command_refusals.specs.Lines.{const_fault_name as name_of_const_fault, label_fault_name as name_of_label_fault};
+ghost use Rattle.command_refusals.specs.Lines.{reason_name as name_of_reason, misfit_name as name_of_misfit, text_reason_name as name_of_text_reason};
 
+use crate::compat_lines::compat_line;
+use crate::fragments_lines::fragments_line;
 use crate::refusal::{IdlReason, OctetsFault, Refusal, RequestFault};
 use idl_lexer::LexKind;
 use idl_scope::ConstFault;
@@ -20,7 +26,8 @@ use text_grammar::TextReason;
 /// | Status | Meaning |
 /// |---|---|
 /// | 0 | success |
-/// | 1 | the label, the octets, the text or the values of the input are refused, or the request beside which a response is judged, or the octets would be too many, or there are fewer pipe ends than pipes |
+/// | 1 | the input is refused: its label, octets, fragments, text, script or values; or the request beside which a response is judged |
+/// | 1 | the octets would be too many, there are fewer pipe ends than pipes, or an interface is not compatible with an older one |
 /// | 2 | the command line is not valid |
 /// | 3 | the input failed |
 /// | 4 | standard output or standard error failed; this status replaces any other |
@@ -48,7 +55,11 @@ pub fn status(refusal: &Refusal) -> Status
         | Refusal::BadRequest(_)
         | Refusal::BadLabel(_)
         | Refusal::ShortLabel
-        | Refusal::TooFewEnds { .. } => 1,
+        | Refusal::TooFewEnds { .. }
+        | Refusal::BadPdu { .. }
+        | Refusal::NotCompatible(_)
+        | Refusal::BadScript { .. }
+        | Refusal::LongScript => 1,
         Refusal::EndFailed { .. } => 8,
     }
 }
@@ -89,7 +100,22 @@ pub fn line(alloc: Global, idl: &str, op: &str, refusal: &Refusal) -> Result<Oct
         Refusal::ShortLabel => Octets::copy(alloc, b"refused: label: Truncated\n"),
         Refusal::TooFewEnds { wanted, found } => ends_line(alloc, *wanted, *found),
         Refusal::EndFailed { which } => end_line(alloc, *which),
+        Refusal::BadPdu { place, why } => fragments_line(alloc, *place, *why),
+        Refusal::NotCompatible(fault) => compat_line(alloc, fault),
+        Refusal::BadScript { line } => script_line(alloc, *line),
+        Refusal::LongScript => Octets::copy(alloc, b"refused: script TooLong\n"),
     }
+}
+
+// A line of a script that is refused.
+fn script_line(alloc: Global, number: u32) -> Result<Octets, Memory>
+    ensures { IfOk result (λ line. line ≡ line_of [] [] (Refusal.BadScript number)) }
+{
+    let mut digits = Buffer::new();
+    join(
+        alloc,
+        &[b"refused: script ", digits.format(number).as_bytes(), b"\n"],
+    )
 }
 
 // A format label that is refused.

@@ -5,6 +5,7 @@ use nd_base::{Memory, Octets};
 use nd_grammar::Reason;
 use nd_value::MisfitReason;
 use ndr_prim::LabelFault;
+use rpc_pdu::PduReason;
 use text_grammar::TextReason;
 use thiserror::Error;
 
@@ -70,6 +71,40 @@ pub enum RequestFault {
         path: Octets,
         reason: MisfitReason,
     },
+}
+
+/// Why the fragments of a request or response are refused.
+#[derive(Clone, Copy, Debug, PartialEq, Eq, Error)]
+pub enum FragmentsFault {
+    /// They are not the fragments of one request or response.
+    #[error("the octets are not the fragments of a call")]
+    Refused(PduReason),
+    /// An octet follows the last fragment.
+    #[error("an octet follows the last fragment")]
+    Trailing,
+    /// The interface has no operation of this number, which a request states.
+    #[error("no operation {0}")]
+    NoOperation(u16),
+}
+
+/// Why an interface is not compatible with an older one.
+#[derive(Debug, Drop, Error)]
+pub enum CompatFault {
+    /// The uuids differ, or one is absent.
+    #[error("another uuid")]
+    OtherUuid,
+    /// The major versions differ.
+    #[error("major versions {old} and {new}")]
+    OtherMajor { old: u16, new: u16 },
+    /// The minor version is less than the old one.
+    #[error("minor versions {old} and {new}")]
+    OlderMinor { old: u16, new: u16 },
+    /// It has fewer operations than the old interface.
+    #[error("{old} and {new} operations")]
+    Fewer { old: u32, new: u32 },
+    /// The operation of this name in the old interface is the first that differs.
+    #[error("an operation differs")]
+    Differs { name: Octets },
 }
 
 /// Why a task is refused.
@@ -147,6 +182,23 @@ pub enum Refusal {
     EndFailed {
         which: u32,
     },
+    /// The fragments of the input are refused at a place, in octets from the first fragment.
+    #[error("fragments refused at {place}")]
+    BadPdu {
+        place: u32,
+        why: FragmentsFault,
+    },
+    /// The second interface is not compatible with the first.
+    #[error("not compatible: {0}")]
+    NotCompatible(CompatFault),
+    /// A line of the script, counted from 1, is none of a script.
+    #[error("script refused at line {line}")]
+    BadScript {
+        line: u32,
+    },
+    /// The script has too many octets.
+    #[error("the script is too long")]
+    LongScript,
 }
 
 impl From<Memory> for Refusal {

@@ -16,6 +16,7 @@ use Rattle.text_grammar.specs.Reads.{ReadsAs, IsFault}
 use Rattle.command_refusals.specs.declared.refusal.Refusal.{Refusal}
 use Rattle.command_refusals.specs.declared.refusal.Refusal.TheVariants.{Memory, Absent, FileFailed, BadIdl, NoOperation, ReadFault, BadOctets, BadText, BadValue, TooLong, BadRequest, BadLabel}
 use Rattle.command_refusals.specs.declared.refusal.Refusal.TheVariants.{ShortLabel, TooFewEnds, EndFailed}
+use Rattle.command_refusals.specs.declared.refusal.Refusal.TheVariants.{BadPdu, NotCompatible, BadScript, LongScript}
 use Rattle.command_text.specs.Fitted.{IsTextCause, IsValueCause, IsMisfitAt}
 use Rattle.command_text.proofs.Beside.{reads_beside, fault_beside, path_beside}
 use Rattle.command_text.proofs.Paths.{misfit_path}
@@ -40,6 +41,10 @@ module _ (w : Setting) (text : List ℕ) (g : Graph) (reads : ReadsAs w text g) 
   text_cause ShortLabel cause = absurd cause
   text_cause (TooFewEnds wanted found) cause = absurd cause
   text_cause (EndFailed which) cause = absurd cause
+  text_cause (BadPdu spot because) cause = absurd cause
+  text_cause (NotCompatible differing) cause = absurd cause
+  text_cause (BadScript row) cause = absurd cause
+  text_cause LongScript cause = absurd cause
 
   pub text_refused : (result : Result Fitting Refusal) → IfErr result (IsValueCause w g) → IfErr result (IsTextCause w text)
   text_refused (Ok f) cause = tt

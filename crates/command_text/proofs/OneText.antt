@@ -16,6 +16,7 @@ use Rattle.text_reading_laws.proofs.Stated.{never_both, one_graph, one_fault}
 use Rattle.command_refusals.specs.declared.refusal.Refusal.{Refusal}
 use Rattle.command_refusals.specs.declared.refusal.Refusal.TheVariants.{Memory, Absent, FileFailed, BadIdl, NoOperation, ReadFault, BadOctets, BadText, BadValue, TooLong, BadRequest, BadLabel}
 use Rattle.command_refusals.specs.declared.refusal.Refusal.TheVariants.{ShortLabel, TooFewEnds, EndFailed}
+use Rattle.command_refusals.specs.declared.refusal.Refusal.TheVariants.{BadPdu, NotCompatible, BadScript, LongScript}
 use Rattle.command_refusals.specs.declared.refusal.RequestFault.{RequestFault}
 use Rattle.command_refusals.specs.declared.refusal.RequestFault.TheVariants.{Text, Value}
 use Rattle.command_text.specs.Fitted.{IsTextCause, IsMisfitAt}
@@ -40,6 +41,10 @@ module _ (w : Setting) (side : IsLegalSide w) (text : List ℕ) where
   good_cause g reads conforms ShortLabel cause = absurd cause
   good_cause g reads conforms (TooFewEnds wanted found) cause = absurd cause
   good_cause g reads conforms (EndFailed which) cause = absurd cause
+  good_cause g reads conforms (BadPdu spot because) cause = absurd cause
+  good_cause g reads conforms (NotCompatible differing) cause = absurd cause
+  good_cause g reads conforms (BadScript row) cause = absurd cause
+  good_cause g reads conforms LongScript cause = absurd cause
   good_cause g reads conforms (BadOctets place why) cause = absurd cause
 
   -- a text with a fault is refused there
@@ -61,6 +66,10 @@ module _ (w : Setting) (side : IsLegalSide w) (text : List ℕ) where
   fault_cause line column why fault ShortLabel cause = absurd cause
   fault_cause line column why fault (TooFewEnds wanted found) cause = absurd cause
   fault_cause line column why fault (EndFailed which) cause = absurd cause
+  fault_cause line column why fault (BadPdu spot because) cause = absurd cause
+  fault_cause line column why fault (NotCompatible differing) cause = absurd cause
+  fault_cause line column why fault (BadScript row) cause = absurd cause
+  fault_cause line column why fault LongScript cause = absurd cause
   fault_cause line column why fault (BadOctets place because) cause = absurd cause
 
   one_place : (g : Graph) (path other : List ℕ) (why because : MisfitReason) → IsMisfitAt w g path why → IsMisfitAt w g other because → BadValue other because ≡ BadValue path why
@@ -87,6 +96,10 @@ module _ (w : Setting) (side : IsLegalSide w) (text : List ℕ) where
   misfit_cause g path why reads m ShortLabel cause = absurd cause
   misfit_cause g path why reads m (TooFewEnds wanted found) cause = absurd cause
   misfit_cause g path why reads m (EndFailed which) cause = absurd cause
+  misfit_cause g path why reads m (BadPdu spot because) cause = absurd cause
+  misfit_cause g path why reads m (NotCompatible differing) cause = absurd cause
+  misfit_cause g path why reads m (BadScript row) cause = absurd cause
+  misfit_cause g path why reads m LongScript cause = absurd cause
   misfit_cause g path why reads m (BadOctets place because) cause = absurd cause
 
 -- ## The text of a request

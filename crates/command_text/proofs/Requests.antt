@@ -7,6 +7,7 @@ use Rattle.nd_value.specs.Fitting.{Fitting}
 use Rattle.command_refusals.specs.declared.refusal.Refusal.{Refusal}
 use Rattle.command_refusals.specs.declared.refusal.Refusal.TheVariants.{Memory, Absent, FileFailed, BadIdl, NoOperation, ReadFault, BadOctets, BadText, BadValue, TooLong, BadRequest, BadLabel}
 use Rattle.command_refusals.specs.declared.refusal.Refusal.TheVariants.{ShortLabel, TooFewEnds, EndFailed}
+use Rattle.command_refusals.specs.declared.refusal.Refusal.TheVariants.{BadPdu, NotCompatible, BadScript, LongScript}
 use Rattle.command_text.specs.Request.{IsRequestText, IsTextRefusal, HoldsRequest, HoldsNoRequest}
 
 module _ (f : FilesSeen) (name : List ℕ) (w : Setting) where
@@ -27,6 +28,10 @@ module _ (f : FilesSeen) (name : List ℕ) (w : Setting) where
     unread ShortLabel cause = absurd cause
     unread (TooFewEnds wanted found) cause = absurd cause
     unread (EndFailed which) cause = absurd cause
+    unread (BadPdu spot because) cause = absurd cause
+    unread (NotCompatible differing) cause = absurd cause
+    unread (BadScript row) cause = absurd cause
+    unread LongScript cause = absurd cause
 
     pub text_refused : (result : Result Fitting Refusal) → IfErr result (IsTextRefusal w text) → IfErr result (HoldsNoRequest f name w)
     text_refused (Ok fit) cause = tt

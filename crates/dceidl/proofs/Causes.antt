@@ -22,12 +22,13 @@ use Rattle.dceidl.specs.Encode.{IsLabelledEncoding, IsEncodingCause, IsMigration
 use Rattle.command_refusals.specs.declared.refusal.Refusal.{Refusal}
 use Rattle.command_refusals.specs.declared.refusal.Refusal.TheVariants.{Memory, Absent, FileFailed, BadIdl, NoOperation, ReadFault, BadOctets, BadText, BadValue, TooLong, BadRequest, BadLabel}
 use Rattle.command_refusals.specs.declared.refusal.Refusal.TheVariants.{ShortLabel, TooFewEnds, EndFailed}
+use Rattle.command_refusals.specs.declared.refusal.Refusal.TheVariants.{BadPdu, NotCompatible, BadScript, LongScript}
 use Rattle.nd_base.specs.Over.{FilesSeen, SourceSeen}
 use Rattle.dceidl.specs.Ready.{IsFound, IsReady, IsReadyCause, IsNotFound}
 use Rattle.command_compile.specs.Compiled.{IsCompiled, IsIdlCause}
 use Rattle.dceidl.specs.Input.{AreRead, OfText, IsMadeOf, IsTaskCause, IsInputTextCause, IsInputEncodingCause}
 
-item_at : {X : Type 0} (xs : List X) (i : ℕ) → i < length xs → (x : X) × (slice_get xs i ≡ Some x)
+pub item_at : {X : Type 0} (xs : List X) (i : ℕ) → i < length xs → (x : X) × (slice_get xs i ≡ Some x)
 item_at [] i h = absurd (omega (arith, h))
 item_at (x ∷ xs) zero h = (x, refl)
 item_at (x ∷ xs) (suc i) h = item_at xs i (omega (arith, h))
@@ -47,7 +48,7 @@ found_is f of i compiled (Ok r) same named sided known =
     )
 found_is f of i compiled (Err e) same named sided known = tt
 
-not_found : (f : FilesSeen) (of : Subject) (i : Interface) → IsCompiled f of.idl of.acf i → (e : Refusal) → IsNotFound i of.op e
+pub not_found : (f : FilesSeen) (of : Subject) (i : Interface) → IsCompiled f of.idl of.acf i → (e : Refusal) → IsNotFound i of.op e
     → IsReadyCause f of e
 not_found f of i compiled NoOperation cause = (i, compiled, cause)
 not_found f of i compiled (TooLong many) cause = absurd cause
@@ -64,6 +65,10 @@ not_found f of i compiled (BadLabel fault) cause = absurd cause
 not_found f of i compiled ShortLabel cause = absurd cause
 not_found f of i compiled (TooFewEnds wanted found) cause = absurd cause
 not_found f of i compiled (EndFailed which) cause = absurd cause
+not_found f of i compiled (BadPdu spot because) cause = absurd cause
+not_found f of i compiled (NotCompatible differing) cause = absurd cause
+not_found f of i compiled (BadScript row) cause = absurd cause
+not_found f of i compiled LongScript cause = absurd cause
 
 -- an operation that is not found is the cause
 pub find_refused : (f : FilesSeen) (of : Subject) (i : Interface) → IsCompiled f of.idl of.acf i → (result : Result Ready Refusal)
@@ -88,6 +93,10 @@ idl_refused f of (BadLabel fault) cause = absurd cause
 idl_refused f of ShortLabel cause = absurd cause
 idl_refused f of (TooFewEnds wanted found) cause = absurd cause
 idl_refused f of (EndFailed which) cause = absurd cause
+idl_refused f of (BadPdu spot because) cause = absurd cause
+idl_refused f of (NotCompatible differing) cause = absurd cause
+idl_refused f of (BadScript row) cause = absurd cause
+idl_refused f of LongScript cause = absurd cause
 
 pub take_whole : (n : ℕ) (xs : List ℕ) → length xs ≤ n → take n xs ≡ xs
 take_whole zero [] h = refl
@@ -114,6 +123,10 @@ module _ (s : SourceSeen) (w : Setting) (text : List ℕ) (read : AreRead s TEXT
   text_cause ShortLabel cause = (text, read, cause)
   text_cause (TooFewEnds wanted found) cause = (text, read, cause)
   text_cause (EndFailed which) cause = (text, read, cause)
+  text_cause (BadPdu spot because) cause = (text, read, cause)
+  text_cause (NotCompatible differing) cause = (text, read, cause)
+  text_cause (BadScript row) cause = (text, read, cause)
+  text_cause LongScript cause = (text, read, cause)
 
   encoding_cause : (chunk : ℕ) (e : Refusal) → IsEncodingCause w chunk text e → IsInputEncodingCause s w chunk e
   encoding_cause chunk (TooLong many) cause = (text, read, cause)
@@ -131,6 +144,10 @@ module _ (s : SourceSeen) (w : Setting) (text : List ℕ) (read : AreRead s TEXT
   encoding_cause chunk ShortLabel cause = (text, read, cause)
   encoding_cause chunk (TooFewEnds wanted found) cause = (text, read, cause)
   encoding_cause chunk (EndFailed which) cause = (text, read, cause)
+  encoding_cause chunk (BadPdu spot because) cause = (text, read, cause)
+  encoding_cause chunk (NotCompatible differing) cause = (text, read, cause)
+  encoding_cause chunk (BadScript row) cause = (text, read, cause)
+  encoding_cause chunk LongScript cause = (text, read, cause)
 
   pub text_refused : (result : Result (List ℕ) Refusal) → IfErr result (IsTextCause w text) → IfErr result (IsInputTextCause s w)
   text_refused (Ok made) cause = tt

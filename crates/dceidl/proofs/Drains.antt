@@ -16,6 +16,7 @@ use Rattle.command_decode.proofs.Steps.{refused_is}
 use Rattle.command_refusals.specs.declared.refusal.Refusal.{Refusal}
 use Rattle.command_refusals.specs.declared.refusal.Refusal.TheVariants.{Memory, Absent, FileFailed, BadIdl, NoOperation, ReadFault, BadOctets, BadText, BadValue, TooLong, BadRequest, BadLabel}
 use Rattle.command_refusals.specs.declared.refusal.Refusal.TheVariants.{ShortLabel, TooFewEnds, EndFailed}
+use Rattle.command_refusals.specs.declared.refusal.Refusal.TheVariants.{BadPdu, NotCompatible, BadScript, LongScript}
 use Rattle.command_refusals.specs.declared.refusal.OctetsFault.TheVariants.{Refused, Trailing}
 use Rattle.dceidl.specs.Rows.{AreGiven, AreSound, EndRose}
 use Rattle.dceidl.proofs.OneReading.{IsOctetsCause, refused_here, trailing_here}
@@ -97,6 +98,10 @@ module _ (s : SourceSeen) (e : EndsSeen) (w : Setting) (order : Order) where
         conforms = c.pipes.conforms;
       }))
   drain_causes octets input sound P wanting by (EndFailed which) cause = absurd (sound.ends which (refused_rose which cause))
+  drain_causes octets input sound P wanting by (BadPdu spot because) cause = absurd cause
+  drain_causes octets input sound P wanting by (NotCompatible differing) cause = absurd cause
+  drain_causes octets input sound P wanting by (BadScript row) cause = absurd cause
+  drain_causes octets input sound P wanting by LongScript cause = absurd cause
   drain_causes octets input sound P wanting by (TooFewEnds wanted found) (t, few) =
       let enough = sound.enough in
       let wanted_is = few.wanted_is in
@@ -128,6 +133,10 @@ module _ (s : SourceSeen) (e : EndsSeen) (w : Setting) (order : Order) where
     few_cause (BadOctets place (Refused why)) (enough, cause) = absurd (never_enough enough)
     few_cause (BadOctets place Trailing) c = absurd (never_enough c.pipes.enough)
     few_cause (EndFailed which) (enough, cause) = absurd (never_enough enough)
+    few_cause (BadPdu spot because) cause = absurd cause
+    few_cause (NotCompatible differing) cause = absurd cause
+    few_cause (BadScript row) cause = absurd cause
+    few_cause LongScript cause = absurd cause
     few_cause (TooFewEnds others other) (t, few) = inr (ap₂ TooFewEnds (few.wanted_is ∙ sym wanted_is) (few.found_is ∙ sym found_is))
     few_cause (Absent other) cause = absurd cause
     few_cause (FileFailed other) cause = absurd cause

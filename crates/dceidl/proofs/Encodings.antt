@@ -17,6 +17,7 @@ use Rattle.text_grammar.specs.Reads.{ReadsAs}
 use Rattle.command_refusals.specs.declared.refusal.Refusal.{Refusal}
 use Rattle.command_refusals.specs.declared.refusal.Refusal.TheVariants.{Memory, Absent, FileFailed, BadIdl, NoOperation, ReadFault, BadOctets, BadText, BadValue, TooLong, BadRequest, BadLabel}
 use Rattle.command_refusals.specs.declared.refusal.Refusal.TheVariants.{ShortLabel, TooFewEnds, EndFailed}
+use Rattle.command_refusals.specs.declared.refusal.Refusal.TheVariants.{BadPdu, NotCompatible, BadScript, LongScript}
 use Rattle.dceidl.specs.Encode.{IsEncoding, IsEncodingCause, IsMigration}
 
 -- why a text is refused is why it is not encoded
@@ -36,6 +37,10 @@ text_cause w chunk text (BadLabel fault) cause = cause
 text_cause w chunk text ShortLabel cause = cause
 text_cause w chunk text (TooFewEnds wanted found) cause = cause
 text_cause w chunk text (EndFailed which) cause = cause
+text_cause w chunk text (BadPdu spot because) cause = absurd cause
+text_cause w chunk text (NotCompatible differing) cause = absurd cause
+text_cause w chunk text (BadScript row) cause = absurd cause
+text_cause w chunk text LongScript cause = absurd cause
 
 -- ## A fit of an operation's side
 
@@ -89,6 +94,10 @@ module _ (f : Fitting) (i : Interface) (n : ℕ) (s : Side) (q : Option Graph) (
   cause_of chunk text reads fit ShortLabel cause = absurd cause
   cause_of chunk text reads fit (TooFewEnds wanted found) cause = absurd cause
   cause_of chunk text reads fit (EndFailed which) cause = absurd cause
+  cause_of chunk text reads fit (BadPdu spot because) cause = absurd cause
+  cause_of chunk text reads fit (NotCompatible differing) cause = absurd cause
+  cause_of chunk text reads fit (BadScript row) cause = absurd cause
+  cause_of chunk text reads fit LongScript cause = absurd cause
 
   pub encoding_cause : (chunk : ℕ) (text : List ℕ) → ReadsAs (setting_beside i o s q) text f.graph → IsFit f → (e : Refusal)
       → IsWritingCause (setting_beside i o f.side f.given) chunk f.graph e → IsEncodingCause (setting_beside i o s q) chunk text e

@@ -1,5 +1,5 @@
 -- Which outcome a command has where no load fails and notes do not.
-use Rattle.std.proofs.Common.{◌≡◌, ℕ, ◌<◌, List, length, Option, refl, sym, ◌∙◌, ap, subst, inl, inr, ◌⊎◌}
+use Rattle.std.proofs.Common.{◌≡◌, ℕ, ◌<◌, List, length, Option, Some, None, refl, sym, ◌∙◌, ap, subst, inl, inr, ◌⊎◌}
 use Rattle.nd_base.specs.declared.octets.Order.{Order}
 use Rattle.nd_base.specs.Over.{FilesSeen, SourceSeen, SinkSeen, HasRisen, Got}
 use Rattle.nd_value.specs.Setting.{Setting}
@@ -16,6 +16,7 @@ use Rattle.command_refusals.specs.declared.refusal.OctetsFault.{OctetsFault}
 use Rattle.command_refusals.specs.declared.refusal.Refusal.{Refusal}
 use Rattle.command_refusals.specs.declared.refusal.Refusal.TheVariants.{Memory, Absent, FileFailed, BadIdl, NoOperation, ReadFault, BadOctets, BadText, BadValue, TooLong, BadRequest, BadLabel}
 use Rattle.command_refusals.specs.declared.refusal.Refusal.TheVariants.{ShortLabel, TooFewEnds, EndFailed}
+use Rattle.command_refusals.specs.declared.refusal.Refusal.TheVariants.{BadPdu, NotCompatible, BadScript, LongScript}
 use Rattle.command_refusals.specs.declared.refusal.OctetsFault.TheVariants.{Refused, Trailing}
 use Rattle.command_refusals.specs.declared.refusal.RequestFault.{RequestFault}
 use Rattle.command_refusals.specs.Lines.{status_of, line_of}
@@ -33,37 +34,28 @@ use Rattle.dceidl.specs.Input.{OfText, IsMadeOf, IsTaskCause, IsInputTextCause, 
 use Rattle.dceidl.specs.Rows.{IsSound, AreAccepted, IsInput, AreGiven, AreGivenIn, IsRefusedAt, HasEnds, CanBeMade, MustBeUnready, MustBeNoRequest, MustBeNoLabel, MustBeNoOctets, MustBeNoText}
 use Rattle.dceidl.specs.Rows.{MustBeNoEncoding, MustBeNoInput, CanBeDone, MustBeRefused, IsCompleted, Refuses}
 use Rattle.dceidl.specs.Seen.{Seen}
-use Rattle.command_line.specs.Words.{Command, Subject, Values, Compile, Plan, Sample, Help, Version, idl_of, op_of, order_in}
-use Rattle.dceidl.proofs.HeldFiles.{compiled_cause, no_idl, no_idl_cause}
+use Rattle.command_line.specs.Words.{Command, Subject, Values, Compile, Plan, Call, Wrap, Sample, Help, Version, idl_of, op_of, order_in}
+use Rattle.nd_types.specs.Meant.{Meant, meant_by}
+use Rattle.nd_types.specs.declared.interface.Interface.{Interface}
+use Rattle.nd_types.specs.declared.types.Side.TheVariants.{Out}
+use Rattle.nd_value.specs.Fitting.{setting_of}
+use Rattle.command_call.specs.Called.{IsCalled, IsCallCause}
+use Rattle.dceidl.specs.Ready.{IsReady, IsNumbered, IsCallReady, IsCallUnready}
+use Rattle.dceidl.specs.Wrapped.{HasCalled, IsNoCall, IsWrapped, IsNoWrap, wrap_task}
+use Rattle.dceidl.specs.Rows.{IsAccepted, IsCallAccepted, MustBeNoCall, MustBeNoFragments}
+use Rattle.dceidl.specs.declared.TheConstants.{WRAP_CHUNK}
+use Rattle.dceidl.proofs.Calls.{cause_over, called_over, refused_calls, refused_unmade, good_call, bad_stub, bad_unmade}
+use Rattle.dceidl.proofs.HeldFiles.{compiled_cause, no_idl, no_idl_cause, same_number, one_meaning, means_here, one_setting}
+use Rattle.dceidl.proofs.HeldFiles.{accepted_cause, unready, unready_cause}
 use Rattle.dceidl.proofs.OneInput.{same_octets}
 use Rattle.dceidl.proofs.Labels.{given_after, one_order, never_unopened, bad_opened, bad_cause, short_opened, short_cause}
 use Rattle.dceidl.proofs.HeldRequests.{legal_all, all_one, all_cause, all_unready, all_unready_cause, no_request, no_request_cause}
-use Rattle.dceidl.proofs.OneReading.{IsOctetsCause, refused_here, trailing_here, whole_here, decoded_cause, refused_value, refused_cause}
+use Rattle.dceidl.proofs.OneReading.{IsOctetsCause, read_causes, whole_here, decoded_cause, refused_value, refused_cause}
 use Rattle.dceidl.proofs.Drains.{drain_causes, few_made, few_cause}
 use Rattle.dceidl.proofs.OneWriting.{IsGood, migrated_good, fault_good, misfit_good, encodes_cause, text_cause, long_cause, labelled_good, long_labelled}
 use Rattle.dceidl.proofs.Rows.{Ended, ended_done, ended_refused, ended_wanting, ended_unwritten, ended_unreported}
 
 -- ## The input, by what its octets come to
-
--- the octets of the input are known, and no fetch failed: they are refused as they must be
-read_causes : (s : SourceSeen) (w : Setting) (order : Order) (octets : List ℕ) → AreGiven s octets → (P : Refusal → Type 0) → P Memory
-    → ((r : Refusal) → IsOctetsCause w order octets r → P r) → (r : Refusal) → IsInputCause s w order r → P r
-read_causes s w order octets input P wanting by Memory cause = wanting
-read_causes s w order octets input P wanting by ReadFault rose = absurd (input.reads rose)
-read_causes s w order octets input P wanting by (BadOctets place (Refused why)) cause = by (BadOctets place (Refused why)) (refused_here s octets input w order place why cause)
-read_causes s w order octets input P wanting by (BadOctets place Trailing) cause = by (BadOctets place Trailing) (trailing_here s octets input w order place cause)
-read_causes s w order octets input P wanting by (Absent other) cause = absurd cause
-read_causes s w order octets input P wanting by (FileFailed other) cause = absurd cause
-read_causes s w order octets input P wanting by (BadIdl file line column reason) cause = absurd cause
-read_causes s w order octets input P wanting by NoOperation cause = absurd cause
-read_causes s w order octets input P wanting by (BadText line column reason) cause = absurd cause
-read_causes s w order octets input P wanting by (BadValue path reason) cause = absurd cause
-read_causes s w order octets input P wanting by (TooLong many) cause = absurd cause
-read_causes s w order octets input P wanting by (BadRequest fault) cause = absurd cause
-read_causes s w order octets input P wanting by (BadLabel fault) cause = absurd cause
-read_causes s w order octets input P wanting by ShortLabel cause = absurd cause
-read_causes s w order octets input P wanting by (TooFewEnds wanted found) cause = absurd cause
-read_causes s w order octets input P wanting by (EndFailed which) cause = absurd cause
 
 -- all octets that are read of the input to its end or past a limit are those that count
 of_text : (s : SourceSeen) (text : List ℕ) → IsInput s TEXT_LIMIT text → (P : List ℕ → Type 0) → OfText s P → P text
@@ -87,6 +79,10 @@ text_causes s w text input P wanting by (BadLabel fault) cause = by (BadLabel fa
 text_causes s w text input P wanting by ShortLabel cause = by ShortLabel (of_text s text input (λ l. IsTextCause w l ShortLabel) cause)
 text_causes s w text input P wanting by (TooFewEnds wanted found) cause = by (TooFewEnds wanted found) (of_text s text input (λ l. IsTextCause w l (TooFewEnds wanted found)) cause)
 text_causes s w text input P wanting by (EndFailed which) cause = by (EndFailed which) (of_text s text input (λ l. IsTextCause w l (EndFailed which)) cause)
+text_causes s w text input P wanting by (BadPdu spot because) cause = by (BadPdu spot because) (of_text s text input (λ l. IsTextCause w l (BadPdu spot because)) cause)
+text_causes s w text input P wanting by (NotCompatible differing) cause = by (NotCompatible differing) (of_text s text input (λ l. IsTextCause w l (NotCompatible differing)) cause)
+text_causes s w text input P wanting by (BadScript row) cause = by (BadScript row) (of_text s text input (λ l. IsTextCause w l (BadScript row)) cause)
+text_causes s w text input P wanting by LongScript cause = by LongScript (of_text s text input (λ l. IsTextCause w l LongScript) cause)
 
 -- the same of a text that is encoded
 encoding_causes : (s : SourceSeen) (w : Setting) (chunk : ℕ) (text : List ℕ) → IsInput s TEXT_LIMIT text → (P : Refusal → Type 0) → P Memory
@@ -107,6 +103,10 @@ encoding_causes s w chunk text input P wanting by (BadLabel fault) cause = by (B
 encoding_causes s w chunk text input P wanting by ShortLabel cause = by ShortLabel (of_text s text input (λ l. IsTextCause w l ShortLabel) cause)
 encoding_causes s w chunk text input P wanting by (TooFewEnds wanted found) cause = by (TooFewEnds wanted found) (of_text s text input (λ l. IsTextCause w l (TooFewEnds wanted found)) cause)
 encoding_causes s w chunk text input P wanting by (EndFailed which) cause = by (EndFailed which) (of_text s text input (λ l. IsTextCause w l (EndFailed which)) cause)
+encoding_causes s w chunk text input P wanting by (BadPdu spot because) cause = by (BadPdu spot because) (of_text s text input (λ l. IsTextCause w l (BadPdu spot because)) cause)
+encoding_causes s w chunk text input P wanting by (NotCompatible differing) cause = by (NotCompatible differing) (of_text s text input (λ l. IsTextCause w l (NotCompatible differing)) cause)
+encoding_causes s w chunk text input P wanting by (BadScript row) cause = by (BadScript row) (of_text s text input (λ l. IsTextCause w l (BadScript row)) cause)
+encoding_causes s w chunk text input P wanting by LongScript cause = by LongScript (of_text s text input (λ l. IsTextCause w l LongScript) cause)
 
 -- ## The input, by what is done
 
@@ -167,6 +167,10 @@ module _ (s : SourceSeen) (e : EndsSeen) (w : Setting) (legal : IsLegalSide w) w
   no_label how Label (BadRequest fault) must = absurd must
   no_label how Label (TooFewEnds wanted found) must = absurd must
   no_label how Label (EndFailed which) must = absurd must
+  no_label how Label (BadPdu spot because) must = absurd must
+  no_label how Label (NotCompatible differing) must = absurd must
+  no_label how Label (BadScript row) must = absurd must
+  no_label how Label LongScript must = absurd must
 
   -- octets that must be refused
   module _ (word : OrderWord) (place : ℕ) (why : OctetsFault) (order : Order) (octets : List ℕ) (given : AreGivenIn s word order octets)
@@ -232,6 +236,10 @@ module _ (s : SourceSeen) (e : EndsSeen) (w : Setting) (legal : IsLegalSide w) w
   no_octets Decode word (TooFewEnds wanted found) must = absurd must
   no_octets Explain word (TooFewEnds wanted found) must = absurd must
   no_octets how word (EndFailed which) must = absurd must
+  no_octets how word (BadPdu spot because) must = absurd must
+  no_octets how word (NotCompatible differing) must = absurd must
+  no_octets how word (BadScript row) must = absurd must
+  no_octets how word LongScript must = absurd must
 
   -- the text of an input that must be refused
   pub record IsBadText (r : Refusal) : Type 0 where
@@ -266,6 +274,10 @@ module _ (s : SourceSeen) (e : EndsSeen) (w : Setting) (legal : IsLegalSide w) w
   bad_text ShortLabel must = absurd must
   bad_text (TooFewEnds wanted found) must = absurd must
   bad_text (EndFailed which) must = absurd must
+  bad_text (BadPdu spot because) must = absurd must
+  bad_text (NotCompatible differing) must = absurd must
+  bad_text (BadScript row) must = absurd must
+  bad_text LongScript must = absurd must
 
   no_migration : (r : Refusal) → IsBadText r → Refuted Migrate r
   no_migration r b = (
@@ -298,6 +310,10 @@ module _ (s : SourceSeen) (e : EndsSeen) (w : Setting) (legal : IsLegalSide w) w
   encoding_refuted order chunk ShortLabel must = absurd must
   encoding_refuted order chunk (TooFewEnds wanted found) must = absurd must
   encoding_refuted order chunk (EndFailed which) must = absurd must
+  encoding_refuted order chunk (BadPdu spot because) must = absurd must
+  encoding_refuted order chunk (NotCompatible differing) must = absurd must
+  encoding_refuted order chunk (BadScript row) must = absurd must
+  encoding_refuted order chunk LongScript must = absurd must
 
   input_refuted : (task : Task) (r : Refusal) → MustBeNoInput s e task w r → Refuted task r
   input_refuted (Read how word) r must = no_octets how word r must
@@ -340,6 +356,143 @@ module _ (x : Seen) (loads : HasRisen x.files.faults → ⊥) where
         let (unmade, only) = input_refuted x.input x.ends w (legal_all x.files of given w a) task r must in
         ((λ made m. unmade made (values_made w a made m)), of_values w a (λ q. (q ≡ Memory) ⊎ (q ≡ r)) (inl refl) only)
 
+  -- ## Calls
+
+  -- a response to the operation of a name
+  abbrev response_to : List ℕ → Option (List ℕ) → List ℕ → Subject
+  response_to idl acf name = record { idl = idl; acf = acf; op = name; side = Out }
+
+  same_operation_number : (op : Option (List ℕ)) (i j : Interface) (n m : Option ℕ) → meant_by j ≡ meant_by i → IsNumbered j op m → IsNumbered i op n → m ≡ n
+  same_operation_number None i j n m e x y = x ∙ sym y
+  same_operation_number (Some name) i j n m e (k, o, named, is) (k', o', named', is') =
+      is ∙ ap (λ (z : ℕ). Some z) (same_number j i name k k' o o' e named named') ∙ sym is'
+
+  module _ (idl : List ℕ) (acf : Option (List ℕ)) where
+    -- what it speaks of is not refused where it is accepted
+    call_files : (op : Option (List ℕ)) (i : Interface) (number : Option ℕ) → IsCallAccepted x.files idl acf op i number → (r : Refusal)
+        → IsCallUnready x.files idl acf op r → r ≡ Memory
+    call_files None i number a r cause = compiled_cause x.files idl acf loads a.file i a.held a.means r cause
+    call_files (Some name) i number a r cause =
+        let (n, o, named, is) = a.numbered in
+        accepted_cause x.files (response_to idl acf name) loads (setting_of i o Out)
+        (record { file = a.file; interface = i; number = n; operation = o; held = a.held; means = a.means; named = named; setting_is = refl }) r cause
+
+    -- where it is refused it is not ready
+    call_unready : (op : Option (List ℕ)) (r : Refusal) → MustBeNoCall x.files idl acf op r → (i : Interface) (number : Option ℕ)
+        → IsCallReady x.files idl acf op i number → ⊥
+    call_unready None r must i number ready = no_idl x.files idl acf loads r must i ready.compiled
+    call_unready (Some name) r must i number ready =
+        let (n, o, named, is) = ready.numbered in
+        unready x.files (response_to idl acf name) loads r must (setting_of i o Out)
+        (record { interface = i; number = n; operation = o; found = record { compiled = ready.compiled; named = named }; setting_is = refl })
+
+    call_unready_cause : (op : Option (List ℕ)) (r : Refusal) → MustBeNoCall x.files idl acf op r → (q : Refusal) → IsCallUnready x.files idl acf op q
+        → (q ≡ Memory) ⊎ (q ≡ r)
+    call_unready_cause None r must q cause = no_idl_cause x.files idl acf loads r must q cause
+    call_unready_cause (Some name) r must q cause = unready_cause x.files (response_to idl acf name) loads r must q cause
+
+    module _ (op : Option (List ℕ)) where
+      -- the causes of a call, once what it speaks of is accepted
+      of_call : (i : Interface) (number : Option ℕ) → IsCallAccepted x.files idl acf op i number → (P : Refusal → Type 0) → P Memory
+          → ((r : Refusal) → IsCallCause x.input i number r → P r) → (r : Refusal) → IsNoCall x.files x.input idl acf op r → P r
+      of_call i number a P wanting by r (inl (cause, before)) = subst P (sym (call_files op i number a r cause)) wanting
+      of_call i number a P wanting by r (inr (j, m, ready, cause)) =
+          let meant : meant_by j ≡ meant_by i = one_meaning x.files idl a.file acf a.held j i (means_here x.files idl a.file acf a.held j ready.compiled) a.means in
+          let same : m ≡ number = same_operation_number op i j number m meant ready.numbered a.numbered in
+          by r (cause_over i j (ap (λ (z : Meant). z.types) meant) (ap (λ (z : Meant). z.operations) meant) x.input number r
+          (subst (λ (n : Option ℕ). IsCallCause x.input j n r) same cause))
+
+      of_called : (i : Interface) (number : Option ℕ) → IsCallAccepted x.files idl acf op i number → (made : List ℕ) → HasCalled x.files x.input idl acf op made
+          → IsCalled x.input i number made
+      of_called i number a made (j, m, ready, h) =
+          let meant : meant_by j ≡ meant_by i = one_meaning x.files idl a.file acf a.held j i (means_here x.files idl a.file acf a.held j ready.compiled) a.means in
+          let same : m ≡ number = same_operation_number op i j number m meant ready.numbered a.numbered in
+          called_over i j (ap (λ (z : Meant). z.types) meant) (ap (λ (z : Meant). z.operations) meant) x.input number made
+          (subst (λ (n : Option ℕ). IsCalled x.input j n made) same h)
+
+      abbrev Settled_call : Refusal → Type 0
+      Settled_call r =
+          ((made : List ℕ) → HasCalled x.files x.input idl acf op made → ⊥) × ((q : Refusal) → IsNoCall x.files x.input idl acf op q → (q ≡ Memory) ⊎ (q ≡ r))
+
+      call_no_files : (r : Refusal) → MustBeNoCall x.files idl acf op r → Settled_call r
+      call_no_files r must = (never, by)
+        where
+          never : (made : List ℕ) → HasCalled x.files x.input idl acf op made → ⊥
+          never made (i, number, ready, h) = call_unready op r must i number ready
+
+          by : (q : Refusal) → IsNoCall x.files x.input idl acf op q → (q ≡ Memory) ⊎ (q ≡ r)
+          by q (inl (cause, before)) = call_unready_cause op r must q cause
+          by q (inr (i, number, ready, cause)) = absurd (call_unready op r must i number ready)
+
+      call_no_fragments : (r : Refusal) (i : Interface) (number : Option ℕ) → IsCallAccepted x.files idl acf op i number → MustBeNoFragments x.input i number r
+          → Settled_call r
+      call_no_fragments (BadPdu place why) i number a (octets, given, bad) = (
+        λ made m. refused_unmade x.input octets given i number place why bad made (of_called i number a made m),
+        of_call i number a (λ q. (q ≡ Memory) ⊎ (q ≡ BadPdu place why)) (inl refl) (refused_calls x.input octets given i number place why bad),
+      )
+      call_no_fragments (BadOctets place why) i number a (order, operation, stub, g, bad) = (
+        λ made m. bad_unmade x.input g.octets g.given i number order g.call operation stub g.is_call place why bad made (of_called i number a made m),
+        of_call i number a (λ q. (q ≡ Memory) ⊎ (q ≡ BadOctets place why)) (inl refl)
+            (bad_stub x.input g.octets g.given i number order g.call operation stub g.is_call place why bad),
+      )
+      call_no_fragments Memory i number a must = absurd must
+      call_no_fragments (Absent other) i number a must = absurd must
+      call_no_fragments (FileFailed other) i number a must = absurd must
+      call_no_fragments ReadFault i number a must = absurd must
+      call_no_fragments (BadText line column why) i number a must = absurd must
+      call_no_fragments (BadValue path why) i number a must = absurd must
+      call_no_fragments (TooLong many) i number a must = absurd must
+      call_no_fragments (BadRequest why) i number a must = absurd must
+      call_no_fragments (BadLabel why) i number a must = absurd must
+      call_no_fragments ShortLabel i number a must = absurd must
+      call_no_fragments (TooFewEnds wanted found) i number a must = absurd must
+      call_no_fragments (EndFailed which) i number a must = absurd must
+      call_no_fragments (NotCompatible differing) i number a must = absurd must
+      call_no_fragments (BadScript row) i number a must = absurd must
+      call_no_fragments LongScript i number a must = absurd must
+      call_no_fragments (BadIdl file line column why) i number a must = absurd must
+      call_no_fragments NoOperation i number a must = absurd must
+
+  -- ## Fragments of the values of a text
+
+  module _ (of : Subject) (order : Order) where
+    -- the causes, once what it speaks of is accepted
+    of_wrap : (w : Setting) → IsAccepted x.files of w → (P : Refusal → Type 0) → P Memory → ((r : Refusal) → IsTaskCause x.input x.ends (wrap_task order) w r → P r)
+        → (r : Refusal) → IsNoWrap x.files x.input of r → P r
+    of_wrap w a P wanting by r (inl (cause, before)) = subst P (sym (accepted_cause x.files of loads w a r cause)) wanting
+    of_wrap w a P wanting by r (inr (v, ready, cause)) =
+        by r (subst (λ (u : Setting). IsInputEncodingCause x.input u WRAP_CHUNK r) (one_setting x.files of w v a ready) cause)
+
+    module _ (call max : ℕ) where
+      wrap_ready : (made : List ℕ) → (m : IsWrapped x.files x.input of order call max made) → IsReady x.files of (setting_of m.interface m.operation of.side)
+      wrap_ready made m = record { interface = m.interface; number = m.number; operation = m.operation; found = m.found; setting_is = refl }
+
+      wrap_made : (w : Setting) → IsAccepted x.files of w → (made : List ℕ) → IsWrapped x.files x.input of order call max made
+          → (stub : List ℕ) × IsMadeOf x.input x.ends (wrap_task order) w stub
+      wrap_made w a made m = (
+        m.stub,
+        subst (λ (u : Setting). IsMadeOf x.input x.ends (wrap_task order) u m.stub)
+            (one_setting x.files of w (setting_of m.interface m.operation of.side) a (wrap_ready made m)) m.encoded,
+      )
+
+      abbrev Settled_wrap : Refusal → Type 0
+      Settled_wrap r =
+          ((made : List ℕ) → IsWrapped x.files x.input of order call max made → ⊥) × ((q : Refusal) → IsNoWrap x.files x.input of q → (q ≡ Memory) ⊎ (q ≡ r))
+
+      wrap_unready : (r : Refusal) → MustBeUnready x.files of r → Settled_wrap r
+      wrap_unready r must = (λ made m. unready x.files of loads r must (setting_of m.interface m.operation of.side) (wrap_ready made m), by)
+        where
+          by : (q : Refusal) → IsNoWrap x.files x.input of q → (q ≡ Memory) ⊎ (q ≡ r)
+          by q (inl (cause, before)) = unready_cause x.files of loads r must q cause
+          by q (inr (w, ready, cause)) = absurd (unready x.files of loads r must w ready)
+
+      wrap_no_input : (r : Refusal) (w : Setting) → IsAccepted x.files of w → MustBeNoInput x.input x.ends (wrap_task order) w r → Settled_wrap r
+      wrap_no_input r w a must =
+          let (unmade, only) = input_refuted x.input x.ends w (legal_all x.files of None w a) (wrap_task order) r must in (
+            λ made m. let (stub, is) = wrap_made w a made m in unmade stub is,
+            of_wrap w a (λ q. (q ≡ Memory) ⊎ (q ≡ r)) (inl refl) only,
+          )
+
   -- ## Commands that can be done
 
   pub not_refused : (c : Command) → CanBeDone x c → (r : Refusal) → IsCause x c r → r ≡ Memory
@@ -347,6 +500,11 @@ module _ (x : Seen) (loads : HasRisen x.files.faults → ⊥) where
       of_values task of given w a (λ q. q ≡ Memory) refl (made_cause x.input x.ends w (legal_all x.files of given w a) task can) r cause
   not_refused (Compile idl acf) (text, i, held, means) r cause = compiled_cause x.files idl acf loads text i held means r cause
   not_refused (Plan idl acf) (text, i, held, means) r cause = compiled_cause x.files idl acf loads text i held means r cause
+  not_refused (Call idl acf op) (i, number, a, (order, operation, stub, g, given, represents, conforms)) r cause =
+      of_call idl acf op i number a (λ q. q ≡ Memory) refl
+      (good_call x.input given.octets given.given i number order given.call operation stub given.is_call g represents conforms) r cause
+  not_refused (Wrap of order call max) (w, a, can) r cause =
+      of_wrap of order w a (λ q. q ≡ Memory) refl (made_cause x.input x.ends w (legal_all x.files of None w a) (wrap_task order) can) r cause
   not_refused (Sample seed count) can r cause = cause
   not_refused Help can r cause = cause
   not_refused Version can r cause = cause
@@ -372,8 +530,50 @@ module _ (x : Seen) (loads : HasRisen x.files.faults → ⊥) where
   settled (Values task of given) ShortLabel (w, a, must) = values_no_input task of given ShortLabel w a must
   settled (Values task of given) (TooFewEnds wanted found) (w, a, must) = values_no_input task of given (TooFewEnds wanted found) w a must
   settled (Values task of given) (EndFailed which) (w, a, must) = values_no_input task of given (EndFailed which) w a must
+  settled (Values task of given) (BadPdu spot because) (w, a, must) = values_no_input task of given (BadPdu spot because) w a must
+  settled (Values task of given) (NotCompatible differing) (w, a, must) = values_no_input task of given (NotCompatible differing) w a must
+  settled (Values task of given) (BadScript row) (w, a, must) = values_no_input task of given (BadScript row) w a must
+  settled (Values task of given) LongScript (w, a, must) = values_no_input task of given LongScript w a must
   settled (Compile idl acf) r must = (λ made m. no_idl x.files idl acf loads r must m.interface m.compiled, no_idl_cause x.files idl acf loads r must)
   settled (Plan idl acf) r must = (λ made m. no_idl x.files idl acf loads r must m.interface m.compiled, no_idl_cause x.files idl acf loads r must)
+  settled (Call idl acf op) NoOperation must = call_no_files idl acf op NoOperation must
+  settled (Call idl acf op) (BadIdl file line column why) must = call_no_files idl acf op (BadIdl file line column why) must
+  settled (Call idl acf op) Memory (i, number, a, must) = call_no_fragments idl acf op Memory i number a must
+  settled (Call idl acf op) (Absent other) (i, number, a, must) = call_no_fragments idl acf op (Absent other) i number a must
+  settled (Call idl acf op) (FileFailed other) (i, number, a, must) = call_no_fragments idl acf op (FileFailed other) i number a must
+  settled (Call idl acf op) ReadFault (i, number, a, must) = call_no_fragments idl acf op ReadFault i number a must
+  settled (Call idl acf op) (BadOctets place why) (i, number, a, must) = call_no_fragments idl acf op (BadOctets place why) i number a must
+  settled (Call idl acf op) (BadText line column why) (i, number, a, must) = call_no_fragments idl acf op (BadText line column why) i number a must
+  settled (Call idl acf op) (BadValue path why) (i, number, a, must) = call_no_fragments idl acf op (BadValue path why) i number a must
+  settled (Call idl acf op) (TooLong many) (i, number, a, must) = call_no_fragments idl acf op (TooLong many) i number a must
+  settled (Call idl acf op) (BadRequest why) (i, number, a, must) = call_no_fragments idl acf op (BadRequest why) i number a must
+  settled (Call idl acf op) (BadLabel why) (i, number, a, must) = call_no_fragments idl acf op (BadLabel why) i number a must
+  settled (Call idl acf op) ShortLabel (i, number, a, must) = call_no_fragments idl acf op ShortLabel i number a must
+  settled (Call idl acf op) (TooFewEnds wanted found) (i, number, a, must) = call_no_fragments idl acf op (TooFewEnds wanted found) i number a must
+  settled (Call idl acf op) (EndFailed which) (i, number, a, must) = call_no_fragments idl acf op (EndFailed which) i number a must
+  settled (Call idl acf op) (BadPdu spot because) (i, number, a, must) = call_no_fragments idl acf op (BadPdu spot because) i number a must
+  settled (Call idl acf op) (NotCompatible differing) (i, number, a, must) = call_no_fragments idl acf op (NotCompatible differing) i number a must
+  settled (Call idl acf op) (BadScript row) (i, number, a, must) = call_no_fragments idl acf op (BadScript row) i number a must
+  settled (Call idl acf op) LongScript (i, number, a, must) = call_no_fragments idl acf op LongScript i number a must
+  settled (Wrap of order call max) NoOperation must = wrap_unready of order call max NoOperation must
+  settled (Wrap of order call max) (BadIdl file line column why) must = wrap_unready of order call max (BadIdl file line column why) must
+  settled (Wrap of order call max) Memory (w, a, must) = wrap_no_input of order call max Memory w a must
+  settled (Wrap of order call max) (Absent other) (w, a, must) = wrap_no_input of order call max (Absent other) w a must
+  settled (Wrap of order call max) (FileFailed other) (w, a, must) = wrap_no_input of order call max (FileFailed other) w a must
+  settled (Wrap of order call max) ReadFault (w, a, must) = wrap_no_input of order call max ReadFault w a must
+  settled (Wrap of order call max) (BadOctets place why) (w, a, must) = wrap_no_input of order call max (BadOctets place why) w a must
+  settled (Wrap of order call max) (BadText line column why) (w, a, must) = wrap_no_input of order call max (BadText line column why) w a must
+  settled (Wrap of order call max) (BadValue path why) (w, a, must) = wrap_no_input of order call max (BadValue path why) w a must
+  settled (Wrap of order call max) (TooLong many) (w, a, must) = wrap_no_input of order call max (TooLong many) w a must
+  settled (Wrap of order call max) (BadRequest why) (w, a, must) = wrap_no_input of order call max (BadRequest why) w a must
+  settled (Wrap of order call max) (BadLabel why) (w, a, must) = wrap_no_input of order call max (BadLabel why) w a must
+  settled (Wrap of order call max) ShortLabel (w, a, must) = wrap_no_input of order call max ShortLabel w a must
+  settled (Wrap of order call max) (TooFewEnds wanted found) (w, a, must) = wrap_no_input of order call max (TooFewEnds wanted found) w a must
+  settled (Wrap of order call max) (EndFailed which) (w, a, must) = wrap_no_input of order call max (EndFailed which) w a must
+  settled (Wrap of order call max) (BadPdu spot because) (w, a, must) = wrap_no_input of order call max (BadPdu spot because) w a must
+  settled (Wrap of order call max) (NotCompatible differing) (w, a, must) = wrap_no_input of order call max (NotCompatible differing) w a must
+  settled (Wrap of order call max) (BadScript row) (w, a, must) = wrap_no_input of order call max (BadScript row) w a must
+  settled (Wrap of order call max) LongScript (w, a, must) = wrap_no_input of order call max LongScript w a must
   settled (Sample seed count) r must = absurd must
   settled Help r must = absurd must
   settled Version r must = absurd must

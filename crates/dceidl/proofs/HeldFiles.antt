@@ -17,6 +17,7 @@ use Rattle.command_refusals.specs.declared.refusal.IdlReason.{IdlReason}
 use Rattle.command_refusals.specs.declared.refusal.Refusal.{Refusal}
 use Rattle.command_refusals.specs.declared.refusal.Refusal.TheVariants.{Memory, Absent, FileFailed, BadIdl, NoOperation, ReadFault, BadOctets, BadText, BadValue, TooLong, BadRequest, BadLabel}
 use Rattle.command_refusals.specs.declared.refusal.Refusal.TheVariants.{ShortLabel, TooFewEnds, EndFailed}
+use Rattle.command_refusals.specs.declared.refusal.Refusal.TheVariants.{BadPdu, NotCompatible, BadScript, LongScript}
 use Rattle.command_line.specs.Words.{Subject}
 use Rattle.command_compile.specs.Idl.{Means, IsIdlFault, IsDueAfter, IsDueFile}
 use Rattle.dceidl.specs.Ready.{IsNamed, IsReady, IsReadyCause}
@@ -43,7 +44,7 @@ held_there f name file (held, told, there) missing =
 -- The main file is held: what its files mean, and how they are refused.
 module _ (f : FilesSeen) (idl text : List ℕ) (acf : Option (List ℕ)) (held : IsHeld f idl text) where
   -- they mean one interface, as far as it is read from them
-  one_meaning : (i j : Interface) → Means f.held idl text acf i → Means f.held idl text acf j → meant_by i ≡ meant_by j
+  pub one_meaning : (i j : Interface) → Means f.held idl text acf i → Means f.held idl text acf j → meant_by i ≡ meant_by j
   one_meaning i j x y =
       means_one held.0 idl text acf i j (subst (λ (h : Contents). Means h idl text acf i) held.1 x) (subst (λ (h : Contents). Means h idl text acf j) held.1 y)
 
@@ -82,7 +83,7 @@ module _ (f : FilesSeen) (idl text : List ℕ) (acf : Option (List ℕ)) (held :
   fault_here r other content x = subst (λ t. IsIdlFault f.held idl t acf r) (held_only f idl text other held content) x
 
 -- interfaces of one meaning have the same operations by name and number
-same_number : (i j : Interface) (op : List ℕ) (n m : ℕ) (o q : Operation) → meant_by i ≡ meant_by j → IsNamed i op n o → IsNamed j op m q → n ≡ m
+pub same_number : (i j : Interface) (op : List ℕ) (n m : ℕ) (o q : Operation) → meant_by i ≡ meant_by j → IsNamed i op n o → IsNamed j op m q → n ≡ m
 same_number i j op n m o q e x y = same_Some _ _ (sym x.found ∙ ap (λ (z : Meant). operation_named z.operations op) e ∙ y.found)
 
 same_operation : (i j : Interface) (op : List ℕ) (n m : ℕ) (o q : Operation) → meant_by i ≡ meant_by j → IsNamed i op n o → IsNamed j op m q → o ≡ q
@@ -116,6 +117,10 @@ module _ (f : FilesSeen) (idl : List ℕ) (acf : Option (List ℕ)) (loads : Has
   compiled_cause text i held means ShortLabel cause = absurd cause
   compiled_cause text i held means (TooFewEnds wanted found) cause = absurd cause
   compiled_cause text i held means (EndFailed which) cause = absurd cause
+  compiled_cause text i held means (BadPdu spot because) cause = absurd cause
+  compiled_cause text i held means (NotCompatible differing) cause = absurd cause
+  compiled_cause text i held means (BadScript row) cause = absurd cause
+  compiled_cause text i held means LongScript cause = absurd cause
 
   -- files that are refused mean no interface, and are refused in one way
   pub no_idl : (r : Refusal) → MustBeNoIdl f idl acf r → (i : Interface) → IsCompiled f idl acf i → ⊥
@@ -135,6 +140,10 @@ module _ (f : FilesSeen) (idl : List ℕ) (acf : Option (List ℕ)) (loads : Has
   no_idl ShortLabel must i compiled = absurd must
   no_idl (TooFewEnds wanted found) must i compiled = absurd must
   no_idl (EndFailed which) must i compiled = absurd must
+  no_idl (BadPdu spot because) must i compiled = absurd must
+  no_idl (NotCompatible differing) must i compiled = absurd must
+  no_idl (BadScript row) must i compiled = absurd must
+  no_idl LongScript must i compiled = absurd must
 
   only_bad : (file : List ℕ) (line column : ℕ) (why : IdlReason) → MustBeNoIdl f idl acf (BadIdl file line column why) → (r : Refusal) → IsIdlCause f idl acf r
       → (r ≡ Memory) ⊎ (r ≡ BadIdl file line column why)
@@ -154,6 +163,10 @@ module _ (f : FilesSeen) (idl : List ℕ) (acf : Option (List ℕ)) (loads : Has
   only_bad file line column why must ShortLabel cause = absurd cause
   only_bad file line column why must (TooFewEnds wanted found) cause = absurd cause
   only_bad file line column why must (EndFailed which) cause = absurd cause
+  only_bad file line column why must (BadPdu spot because) cause = absurd cause
+  only_bad file line column why must (NotCompatible differing) cause = absurd cause
+  only_bad file line column why must (BadScript row) cause = absurd cause
+  only_bad file line column why must LongScript cause = absurd cause
 
   pub no_idl_cause : (r : Refusal) → MustBeNoIdl f idl acf r → (q : Refusal) → IsIdlCause f idl acf q → (q ≡ Memory) ⊎ (q ≡ r)
   no_idl_cause (BadIdl a b c d) must q cause = only_bad a b c d must q cause
@@ -171,6 +184,10 @@ module _ (f : FilesSeen) (idl : List ℕ) (acf : Option (List ℕ)) (loads : Has
   no_idl_cause ShortLabel must q cause = absurd must
   no_idl_cause (TooFewEnds wanted found) must q cause = absurd must
   no_idl_cause (EndFailed which) must q cause = absurd must
+  no_idl_cause (BadPdu spot because) must q cause = absurd must
+  no_idl_cause (NotCompatible differing) must q cause = absurd must
+  no_idl_cause (BadScript row) must q cause = absurd must
+  no_idl_cause LongScript must q cause = absurd must
 
 -- ## What a command on values speaks of
 
@@ -207,6 +224,10 @@ module _ (f : FilesSeen) (of : Subject) where
     accepted_cause w a ShortLabel cause = compiled_cause f of.idl of.acf loads a.file a.interface a.held a.means ShortLabel cause
     accepted_cause w a (TooFewEnds wanted found) cause = compiled_cause f of.idl of.acf loads a.file a.interface a.held a.means (TooFewEnds wanted found) cause
     accepted_cause w a (EndFailed which) cause = compiled_cause f of.idl of.acf loads a.file a.interface a.held a.means (EndFailed which) cause
+    accepted_cause w a (BadPdu spot because) cause = compiled_cause f of.idl of.acf loads a.file a.interface a.held a.means (BadPdu spot because) cause
+    accepted_cause w a (NotCompatible differing) cause = compiled_cause f of.idl of.acf loads a.file a.interface a.held a.means (NotCompatible differing) cause
+    accepted_cause w a (BadScript row) cause = compiled_cause f of.idl of.acf loads a.file a.interface a.held a.means (BadScript row) cause
+    accepted_cause w a LongScript cause = compiled_cause f of.idl of.acf loads a.file a.interface a.held a.means LongScript cause
 
     -- what is refused is not ready
     pub unready : (r : Refusal) → MustBeUnready f of r → (w : Setting) → IsReady f of w → ⊥
@@ -227,6 +248,10 @@ module _ (f : FilesSeen) (of : Subject) where
     unready ShortLabel must w ready = no_idl f of.idl of.acf loads ShortLabel must ready.interface ready.found.compiled
     unready (TooFewEnds wanted found) must w ready = no_idl f of.idl of.acf loads (TooFewEnds wanted found) must ready.interface ready.found.compiled
     unready (EndFailed which) must w ready = no_idl f of.idl of.acf loads (EndFailed which) must ready.interface ready.found.compiled
+    unready (BadPdu spot because) must w ready = no_idl f of.idl of.acf loads (BadPdu spot because) must ready.interface ready.found.compiled
+    unready (NotCompatible differing) must w ready = no_idl f of.idl of.acf loads (NotCompatible differing) must ready.interface ready.found.compiled
+    unready (BadScript row) must w ready = no_idl f of.idl of.acf loads (BadScript row) must ready.interface ready.found.compiled
+    unready LongScript must w ready = no_idl f of.idl of.acf loads LongScript must ready.interface ready.found.compiled
 
     -- an interface without the operation is refused as that alone
     only_unknown : MustBeUnready f of NoOperation → (r : Refusal) → IsReadyCause f of r → (r ≡ Memory) ⊎ (r ≡ NoOperation)
@@ -245,6 +270,10 @@ module _ (f : FilesSeen) (of : Subject) where
     only_unknown (text, i, held, means, none) ShortLabel cause = inl (compiled_cause f of.idl of.acf loads text i held means ShortLabel cause)
     only_unknown (text, i, held, means, none) (TooFewEnds wanted found) cause = inl (compiled_cause f of.idl of.acf loads text i held means (TooFewEnds wanted found) cause)
     only_unknown (text, i, held, means, none) (EndFailed which) cause = inl (compiled_cause f of.idl of.acf loads text i held means (EndFailed which) cause)
+    only_unknown (text, i, held, means, none) (BadPdu spot because) cause = inl (compiled_cause f of.idl of.acf loads text i held means (BadPdu spot because) cause)
+    only_unknown (text, i, held, means, none) (NotCompatible differing) cause = inl (compiled_cause f of.idl of.acf loads text i held means (NotCompatible differing) cause)
+    only_unknown (text, i, held, means, none) (BadScript row) cause = inl (compiled_cause f of.idl of.acf loads text i held means (BadScript row) cause)
+    only_unknown (text, i, held, means, none) LongScript cause = inl (compiled_cause f of.idl of.acf loads text i held means LongScript cause)
 
     only_no_idl : (r : Refusal) → MustBeNoIdl f of.idl of.acf r → (q : Refusal) → IsReadyCause f of q → (q ≡ Memory) ⊎ (q ≡ r)
     only_no_idl r must NoOperation (i, compiled, none) = absurd (no_idl f of.idl of.acf loads r must i compiled)
@@ -262,6 +291,10 @@ module _ (f : FilesSeen) (of : Subject) where
     only_no_idl r must ShortLabel cause = no_idl_cause f of.idl of.acf loads r must ShortLabel cause
     only_no_idl r must (TooFewEnds wanted found) cause = no_idl_cause f of.idl of.acf loads r must (TooFewEnds wanted found) cause
     only_no_idl r must (EndFailed which) cause = no_idl_cause f of.idl of.acf loads r must (EndFailed which) cause
+    only_no_idl r must (BadPdu spot because) cause = no_idl_cause f of.idl of.acf loads r must (BadPdu spot because) cause
+    only_no_idl r must (NotCompatible differing) cause = no_idl_cause f of.idl of.acf loads r must (NotCompatible differing) cause
+    only_no_idl r must (BadScript row) cause = no_idl_cause f of.idl of.acf loads r must (BadScript row) cause
+    only_no_idl r must LongScript cause = no_idl_cause f of.idl of.acf loads r must LongScript cause
 
     -- it is refused in one way
     pub unready_cause : (r : Refusal) → MustBeUnready f of r → (q : Refusal) → IsReadyCause f of q → (q ≡ Memory) ⊎ (q ≡ r)
@@ -280,3 +313,7 @@ module _ (f : FilesSeen) (of : Subject) where
     unready_cause ShortLabel must q cause = only_no_idl ShortLabel must q cause
     unready_cause (TooFewEnds wanted found) must q cause = only_no_idl (TooFewEnds wanted found) must q cause
     unready_cause (EndFailed which) must q cause = only_no_idl (EndFailed which) must q cause
+    unready_cause (BadPdu spot because) must q cause = only_no_idl (BadPdu spot because) must q cause
+    unready_cause (NotCompatible differing) must q cause = only_no_idl (NotCompatible differing) must q cause
+    unready_cause (BadScript row) must q cause = only_no_idl (BadScript row) must q cause
+    unready_cause LongScript must q cause = only_no_idl LongScript must q cause

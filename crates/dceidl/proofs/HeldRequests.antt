@@ -8,6 +8,7 @@ use Rattle.nd_grammar.specs.LegalSide.{IsLegalSide}
 use Rattle.command_refusals.specs.declared.refusal.Refusal.{Refusal}
 use Rattle.command_refusals.specs.declared.refusal.Refusal.TheVariants.{Memory, Absent, FileFailed, BadIdl, NoOperation, ReadFault, BadOctets, BadText, BadValue, TooLong, BadRequest, BadLabel}
 use Rattle.command_refusals.specs.declared.refusal.Refusal.TheVariants.{ShortLabel, TooFewEnds, EndFailed}
+use Rattle.command_refusals.specs.declared.refusal.Refusal.TheVariants.{BadPdu, NotCompatible, BadScript, LongScript}
 use Rattle.command_refusals.specs.declared.refusal.RequestFault.{RequestFault}
 use Rattle.command_text.specs.Request.{inputs, beside, IsRequestText, IsRequestFault, HoldsRequest, HoldsNoRequest}
 use Rattle.command_text.proofs.OneText.{request_or_fault, one_request, one_request_fault}
@@ -61,6 +62,10 @@ module _ (f : FilesSeen) (of : Subject) (asked : List (List ℕ)) where
   must_up_to ShortLabel must = absurd must
   must_up_to (TooFewEnds wanted found) must = absurd must
   must_up_to (EndFailed which) must = absurd must
+  must_up_to (BadPdu spot because) must = absurd must
+  must_up_to (NotCompatible differing) must = absurd must
+  must_up_to (BadScript row) must = absurd must
+  must_up_to LongScript must = absurd must
 
 module _ (f : FilesSeen) (of : Subject) (name : List ℕ) where
   -- what has the request asked for is ready in one way
@@ -101,6 +106,10 @@ module _ (f : FilesSeen) (of : Subject) (name : List ℕ) where
     held_cause w own a same ShortLabel cause = absurd cause
     held_cause w own a same (TooFewEnds _ _) cause = absurd cause
     held_cause w own a same (EndFailed _) cause = absurd cause
+    held_cause w own a same (BadPdu spot because) cause = absurd cause
+    held_cause w own a same (NotCompatible differing) cause = absurd cause
+    held_cause w own a same (BadScript row) cause = absurd cause
+    held_cause w own a same LongScript cause = absurd cause
 
     -- a request that is held and refused is refused in this way alone
     fault_cause : (own w : Setting) (text : List ℕ) (why : RequestFault) → IsAccepted f of own → IsHeld f name text → IsRequestFault own text why → w ≡ own
@@ -123,6 +132,10 @@ module _ (f : FilesSeen) (of : Subject) (name : List ℕ) where
     fault_cause own w text why a held fault same ShortLabel cause = absurd cause
     fault_cause own w text why a held fault same (TooFewEnds _ _) cause = absurd cause
     fault_cause own w text why a held fault same (EndFailed _) cause = absurd cause
+    fault_cause own w text why a held fault same (BadPdu spot because) cause = absurd cause
+    fault_cause own w text why a held fault same (NotCompatible differing) cause = absurd cause
+    fault_cause own w text why a held fault same (BadScript row) cause = absurd cause
+    fault_cause own w text why a held fault same LongScript cause = absurd cause
 
 -- ## With a request or without one
 

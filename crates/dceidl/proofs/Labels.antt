@@ -14,6 +14,7 @@ use Rattle.ndr_prim.specs.Label.{order_of_label}
 use Rattle.command_refusals.specs.declared.refusal.Refusal.{Refusal}
 use Rattle.command_refusals.specs.declared.refusal.Refusal.TheVariants.{Memory, Absent, FileFailed, BadIdl, NoOperation, ReadFault, BadOctets, BadText, BadValue, TooLong, BadRequest, BadLabel}
 use Rattle.command_refusals.specs.declared.refusal.Refusal.TheVariants.{ShortLabel, TooFewEnds, EndFailed}
+use Rattle.command_refusals.specs.declared.refusal.Refusal.TheVariants.{BadPdu, NotCompatible, BadScript, LongScript}
 use Rattle.command_line.specs.declared.command.Reading.{Reading}
 use Rattle.command_line.specs.declared.command.OrderWord.{OrderWord}
 use Rattle.command_line.specs.declared.command.OrderWord.TheVariants.{Fixed, Label}
@@ -151,6 +152,10 @@ module _ (s : SourceSeen) (order : Order) (octets : List ℕ) where
   labelled_cause g (BadRequest fault) cause = absurd cause
   labelled_cause g (TooFewEnds wanted found) cause = absurd cause
   labelled_cause g (EndFailed which) cause = absurd cause
+  labelled_cause g (BadPdu spot because) cause = absurd cause
+  labelled_cause g (NotCompatible differing) cause = absurd cause
+  labelled_cause g (BadScript row) cause = absurd cause
+  labelled_cause g LongScript cause = absurd cause
 
   pub never_unopened : (word : OrderWord) → AreGivenIn s word order octets → (r : Refusal) → IsUnopened word s r → ⊥
   never_unopened (Fixed named) g r cause = cause
@@ -181,6 +186,10 @@ module _ (s : SourceSeen) (label octets : List ℕ) (given : AreGiven s (label +
   bad_cause (BadRequest fault) cause = absurd cause
   bad_cause (TooFewEnds wanted found) cause = absurd cause
   bad_cause (EndFailed which) cause = absurd cause
+  bad_cause (BadPdu spot because) cause = absurd cause
+  bad_cause (NotCompatible differing) cause = absurd cause
+  bad_cause (BadScript row) cause = absurd cause
+  bad_cause LongScript cause = absurd cause
 
 -- The same of an input that is shorter than a label.
 module _ (s : SourceSeen) (octets : List ℕ) (given : AreGiven s octets) (few : length octets < 4) where
@@ -205,3 +214,7 @@ module _ (s : SourceSeen) (octets : List ℕ) (given : AreGiven s octets) (few :
   short_cause (BadRequest fault) cause = absurd cause
   short_cause (TooFewEnds wanted found) cause = absurd cause
   short_cause (EndFailed which) cause = absurd cause
+  short_cause (BadPdu spot because) cause = absurd cause
+  short_cause (NotCompatible differing) cause = absurd cause
+  short_cause (BadScript row) cause = absurd cause
+  short_cause LongScript cause = absurd cause

@@ -11,4 +11,6 @@ pub mod OneWriting
 pub mod RoundTrip
 pub mod HeldFiles
 pub mod HeldRequests
+pub mod Calls
+pub mod Calling
 pub mod Exact

@@ -13,6 +13,7 @@ use Rattle.nd_grammar.proofs.OneRefusal.{one_bad}
 use Rattle.command_refusals.specs.declared.refusal.Refusal.{Refusal}
 use Rattle.command_refusals.specs.declared.refusal.Refusal.TheVariants.{Memory, Absent, FileFailed, BadIdl, NoOperation, ReadFault, BadOctets, BadText, BadValue, TooLong, BadRequest, BadLabel}
 use Rattle.command_refusals.specs.declared.refusal.Refusal.TheVariants.{ShortLabel, TooFewEnds, EndFailed}
+use Rattle.command_refusals.specs.declared.refusal.Refusal.TheVariants.{BadPdu, NotCompatible, BadScript, LongScript}
 use Rattle.command_refusals.specs.declared.refusal.OctetsFault.{OctetsFault}
 use Rattle.command_refusals.specs.declared.refusal.OctetsFault.TheVariants as fault
 use Rattle.nd_base.specs.Over.{SourceSeen, HasRisen}
@@ -21,7 +22,7 @@ use Rattle.nd_grammar.specs.declared.reason.Reason.TheVariants as reason
 use Rattle.nd_grammar.specs.Bad.{Bad}
 use Rattle.nd_grammar.specs.decoded.Verdict.{MayFollow}
 use Rattle.std.specs.Io.KnownBytes.{IsAtEnd}
-use Rattle.command_decode.specs.Printed.{IsWhole, IsRefusedInput, IsTrailedInput}
+use Rattle.command_decode.specs.Printed.{IsWhole, IsInputCause, IsRefusedInput, IsTrailedInput}
 use Rattle.dceidl.specs.Rows.{IsRefusedAt, IsTrailing, AreGiven}
 use Rattle.dceidl.proofs.OneInput.{split_input, take_front}
 use Rattle.dceidl.proofs.Sides.{whole_begins}
@@ -78,6 +79,30 @@ module _ (s : SourceSeen) (octets : List ℕ) (input : AreGiven s octets) (w : S
       let none : rest ≡ [] = subst IsAtEnd now whole.none_left in
       subst P (sym (all ∙ ap (λ u. own ++ u) none ∙ append-nil own)) p
 
+-- the octets of the input are known, and no fetch failed: they are refused as they must be
+pub read_causes : (s : SourceSeen) (w : Setting) (order : Order) (octets : List ℕ) → AreGiven s octets → (P : Refusal → Type 0) → P Memory
+    → ((r : Refusal) → IsOctetsCause w order octets r → P r) → (r : Refusal) → IsInputCause s w order r → P r
+read_causes s w order octets input P wanting by Memory cause = wanting
+read_causes s w order octets input P wanting by ReadFault rose = absurd (input.reads rose)
+read_causes s w order octets input P wanting by (BadOctets place (fault.Refused why)) cause = by (BadOctets place (fault.Refused why)) (refused_here s octets input w order place why cause)
+read_causes s w order octets input P wanting by (BadOctets place fault.Trailing) cause = by (BadOctets place fault.Trailing) (trailing_here s octets input w order place cause)
+read_causes s w order octets input P wanting by (Absent other) cause = absurd cause
+read_causes s w order octets input P wanting by (FileFailed other) cause = absurd cause
+read_causes s w order octets input P wanting by (BadIdl file line column reason) cause = absurd cause
+read_causes s w order octets input P wanting by NoOperation cause = absurd cause
+read_causes s w order octets input P wanting by (BadText line column reason) cause = absurd cause
+read_causes s w order octets input P wanting by (BadValue path reason) cause = absurd cause
+read_causes s w order octets input P wanting by (TooLong many) cause = absurd cause
+read_causes s w order octets input P wanting by (BadRequest because) cause = absurd cause
+read_causes s w order octets input P wanting by (BadLabel because) cause = absurd cause
+read_causes s w order octets input P wanting by ShortLabel cause = absurd cause
+read_causes s w order octets input P wanting by (TooFewEnds wanted found) cause = absurd cause
+read_causes s w order octets input P wanting by (EndFailed which) cause = absurd cause
+read_causes s w order octets input P wanting by (BadPdu spot because) cause = absurd cause
+read_causes s w order octets input P wanting by (NotCompatible differing) cause = absurd cause
+read_causes s w order octets input P wanting by (BadScript row) cause = absurd cause
+read_causes s w order octets input P wanting by LongScript cause = absurd cause
+
 -- ## Octets
 
 module _ (w : Setting) (side : IsLegalSide w) (order : Order) (octets : List ℕ) where
@@ -102,6 +127,10 @@ module _ (w : Setting) (side : IsLegalSide w) (order : Order) (octets : List ℕ
   decoded_cause g represents conforms ShortLabel cause = absurd cause
   decoded_cause g represents conforms (TooFewEnds wanted found) cause = absurd cause
   decoded_cause g represents conforms (EndFailed which) cause = absurd cause
+  decoded_cause g represents conforms (BadPdu spot because) cause = absurd cause
+  decoded_cause g represents conforms (NotCompatible differing) cause = absurd cause
+  decoded_cause g represents conforms (BadScript row) cause = absurd cause
+  decoded_cause g represents conforms LongScript cause = absurd cause
 
   -- octets that are refused represent no graph that conforms
   pub refused_value : (place : ℕ) (why : OctetsFault) → IsRefusedAt w order octets place why → (g : Graph) → Represents w order octets g → Conforms w g → ⊥
@@ -138,3 +167,7 @@ module _ (w : Setting) (side : IsLegalSide w) (order : Order) (octets : List ℕ
   refused_cause place why refused ShortLabel cause = absurd cause
   refused_cause place why refused (TooFewEnds wanted found) cause = absurd cause
   refused_cause place why refused (EndFailed which) cause = absurd cause
+  refused_cause place why refused (BadPdu spot because) cause = absurd cause
+  refused_cause place why refused (NotCompatible differing) cause = absurd cause
+  refused_cause place why refused (BadScript row) cause = absurd cause
+  refused_cause place why refused LongScript cause = absurd cause

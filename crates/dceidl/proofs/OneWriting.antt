@@ -19,6 +19,7 @@ use Rattle.command_text.proofs.OneText.{good_cause, fault_cause, misfit_cause}
 use Rattle.command_refusals.specs.declared.refusal.Refusal.{Refusal}
 use Rattle.command_refusals.specs.declared.refusal.Refusal.TheVariants.{Memory, Absent, FileFailed, BadIdl, NoOperation, ReadFault, BadOctets, BadText, BadValue, TooLong, BadRequest, BadLabel}
 use Rattle.command_refusals.specs.declared.refusal.Refusal.TheVariants.{ShortLabel, TooFewEnds, EndFailed}
+use Rattle.command_refusals.specs.declared.refusal.Refusal.TheVariants.{BadPdu, NotCompatible, BadScript, LongScript}
 use Rattle.command_line.specs.Words.{order_in}
 use Rattle.command_line.specs.declared.command.OrderWord.{OrderWord}
 use Rattle.dceidl.specs.Encode.{IsEncoding, IsLabelledEncoding, IsLongEncoding, IsEncodingCause, IsMigration}
@@ -85,6 +86,10 @@ module _ (w : Setting) (side : IsLegalSide w) (text : List ℕ) where
     encodes_cause g order octets reads conforms is ShortLabel cause = absurd cause
     encodes_cause g order octets reads conforms is (TooFewEnds wanted found) cause = absurd cause
     encodes_cause g order octets reads conforms is (EndFailed which) cause = absurd cause
+    encodes_cause g order octets reads conforms is (BadPdu spot because) cause = absurd cause
+    encodes_cause g order octets reads conforms is (NotCompatible differing) cause = absurd cause
+    encodes_cause g order octets reads conforms is (BadScript row) cause = absurd cause
+    encodes_cause g order octets reads conforms is LongScript cause = absurd cause
 
     -- what is refused as a text is refused so if it is to be encoded
     module _ (bad : IsGood w text → ⊥) (r : Refusal) (by : (q : Refusal) → IsTextCause w text q → (q ≡ Memory) ⊎ (q ≡ r)) where
@@ -104,6 +109,10 @@ module _ (w : Setting) (side : IsLegalSide w) (text : List ℕ) where
       text_cause ShortLabel cause = absurd cause
       text_cause (TooFewEnds wanted found) cause = absurd cause
       text_cause (EndFailed which) cause = absurd cause
+      text_cause (BadPdu spot because) cause = absurd cause
+      text_cause (NotCompatible differing) cause = absurd cause
+      text_cause (BadScript row) cause = absurd cause
+      text_cause LongScript cause = absurd cause
 
     module _ (g : Graph) (reads : ReadsAs w text g) (conforms : Conforms w g) (many : ℕ) (long : IsLong w chunk g many) where
       -- a text whose octets are too many is refused as that alone
@@ -124,6 +133,10 @@ module _ (w : Setting) (side : IsLegalSide w) (text : List ℕ) where
       long_cause ShortLabel cause = absurd cause
       long_cause (TooFewEnds wanted found) cause = absurd cause
       long_cause (EndFailed which) cause = absurd cause
+      long_cause (BadPdu spot because) cause = absurd cause
+      long_cause (NotCompatible differing) cause = absurd cause
+      long_cause (BadScript row) cause = absurd cause
+      long_cause LongScript cause = absurd cause
 
       -- and is not encoded
       long_made : (order : Order) (made : List ℕ) → IsEncoding w order chunk text made → ⊥

@@ -13,6 +13,7 @@ use Rattle.nd_value.specs.Setting.{Setting}
 use Rattle.command_refusals.specs.declared.refusal.Refusal.{Refusal}
 use Rattle.command_refusals.specs.declared.refusal.Refusal.TheVariants.{Memory, Absent, FileFailed, BadIdl, NoOperation, ReadFault, BadOctets, BadText, BadValue, TooLong, BadRequest, BadLabel}
 use Rattle.command_refusals.specs.declared.refusal.Refusal.TheVariants.{ShortLabel, TooFewEnds, EndFailed}
+use Rattle.command_refusals.specs.declared.refusal.Refusal.TheVariants.{BadPdu, NotCompatible, BadScript, LongScript}
 use Rattle.command_text.specs.Request.{beside, HoldsRequest, HoldsNoRequest}
 use Rattle.command_compile.specs.Asked.{AsksFiles, AreAsked, all_due}
 use Rattle.ndr_pipe.specs.Ends.{EndsSeen}
@@ -80,6 +81,10 @@ module _ (f g : FilesSeen) (follows : Follows f g) (name : List ℕ) where
   refused_over w ShortLabel cause = absurd cause
   refused_over w (TooFewEnds wanted found) cause = absurd cause
   refused_over w (EndFailed which) cause = absurd cause
+  refused_over w (BadPdu spot because) cause = absurd cause
+  refused_over w (NotCompatible differing) cause = absurd cause
+  refused_over w (BadScript row) cause = absurd cause
+  refused_over w LongScript cause = absurd cause
 
   module _ (of : Subject) (asked : g.asked_now ≡ g.asked ++ name ∷ []) where
     -- the request is asked for when it is due

@@ -8,7 +8,9 @@ use Rattle.dceidl.specs.declared.outcome.Outcome.TheVariants.{Done, Refused, Wan
 use Rattle.command_refusals.specs.declared.refusal.Refusal.{Refusal}
 use Rattle.command_refusals.specs.declared.refusal.Refusal.TheVariants.{Memory, Absent, FileFailed, BadIdl, NoOperation, ReadFault, BadOctets, BadText, BadValue, TooLong, BadRequest, BadLabel}
 use Rattle.command_refusals.specs.declared.refusal.Refusal.TheVariants.{ShortLabel, TooFewEnds, EndFailed}
+use Rattle.command_refusals.specs.declared.refusal.Refusal.TheVariants.{BadPdu, NotCompatible, BadScript, LongScript}
 use Rattle.dceidl.specs.Causes.{IsMade, IsCause, statuses_of, values_statuses}
+use Rattle.dceidl.specs.Wrapped.{IsNoCall, IsNoWrap}
 use Rattle.command_refusals.specs.Lines.{status_of, line_of}
 use Rattle.command_compile.specs.Compiled.{IsIdlCause}
 use Rattle.dceidl.specs.Asked.{IsRequestDue, asks_files, asks_input, drains}
@@ -29,7 +31,7 @@ use Rattle.dceidl.specs.Rows.{IsOneOf, IsDone, IsRefusedWith, ReadsInput, IsDueO
 use Rattle.dceidl.specs.Run.{HasRun, IsOutcome, IsCommandOutcome, IsDelivered}
 use Rattle.dceidl.specs.Seen.{Seen}
 use Rattle.nd_value.specs.Setting.{Setting}
-use Rattle.command_line.specs.Words.{Command, Subject, Values, Compile, Plan, Sample, Help, Version, command, idl_of, op_of}
+use Rattle.command_line.specs.Words.{Command, Subject, Values, Compile, Plan, Call, Wrap, Sample, Help, Version, command, idl_of, op_of}
 
 -- a refusal has none of the statuses 0, 2 and 4
 pub not_zero : (r : Refusal) → status_of r ≡ 0 → ⊥
@@ -48,6 +50,10 @@ not_zero (BadLabel fault) e = cc
 not_zero ShortLabel e = cc
 not_zero (TooFewEnds wanted found) e = cc
 not_zero (EndFailed which) e = cc
+not_zero (BadPdu spot because) e = cc
+not_zero (NotCompatible differing) e = cc
+not_zero (BadScript row) e = cc
+not_zero LongScript e = cc
 
 -- How a run of a command ends: done, refused, out of memory, or with a fault of out or notes in place of its own status.
 pub data Ended (x : Seen) (out notes : SinkSeen) (c : Command) (status : ℕ) : Type 0 where
@@ -134,7 +140,15 @@ of_values false status ShortLabel ends e = inr (inl e)
 of_values true status (TooFewEnds wanted found) ends e = inr (inl e)
 of_values false status (TooFewEnds wanted found) ends e = inr (inl e)
 of_values true status (EndFailed which) ends e = inr (inr (inr (inr (inr (inr (inr (inl e)))))))
+of_values true status (BadPdu spot because) ends e = inr (inl e)
+of_values true status (NotCompatible differing) ends e = inr (inl e)
+of_values true status (BadScript row) ends e = inr (inl e)
+of_values true status LongScript ends e = inr (inl e)
 of_values false status (EndFailed which) ends e = let never = ends which refl in cc
+of_values false status (BadPdu spot because) ends e = inr (inl e)
+of_values false status (NotCompatible differing) ends e = inr (inl e)
+of_values false status (BadScript row) ends e = inr (inl e)
+of_values false status LongScript ends e = inr (inl e)
 
 zero_of_values : (t : Bool) (status : ℕ) → status ≡ 0 → IsOneOf (values_statuses t) status
 zero_of_values true status e = inl e
@@ -164,6 +178,10 @@ of_files f idl acf status (BadLabel fault) cause e = absurd cause
 of_files f idl acf status ShortLabel cause e = absurd cause
 of_files f idl acf status (TooFewEnds wanted found) cause e = absurd cause
 of_files f idl acf status (EndFailed which) cause e = absurd cause
+of_files f idl acf status (BadPdu spot because) cause e = absurd cause
+of_files f idl acf status (NotCompatible differing) cause e = absurd cause
+of_files f idl acf status (BadScript row) cause e = absurd cause
+of_files f idl acf status LongScript cause e = absurd cause
 
 -- an end fails only if a command drains
 ends_drain : (x : Seen) (task : Task) (of : Subject) (given : Option (List ℕ)) (which : ℕ) → IsCause x (Values task of given) (EndFailed which) → drains task ≡ true
@@ -180,11 +198,25 @@ ends_drain x (Read Explain word) of given which (inr (w, ready, inr (rest, order
 ends_drain x (Encode word chunk) of given which (inr (w, ready, (text, read, cause))) = absurd cause
 ends_drain x Migrate of given which (inr (w, ready, (text, read, cause))) = absurd cause
 
+-- `call` and `wrap` call no end
+call_ends : (x : Seen) (idl : List ℕ) (acf op : Option (List ℕ)) (which : ℕ) → IsNoCall x.files x.input idl acf op (EndFailed which) → ⊥
+call_ends x idl acf None which (inl (cause, before)) = cause
+call_ends x idl acf (Some name) which (inl (cause, before)) = cause
+call_ends x idl acf op which (inr (i, number, ready, cause)) = cause
+
+wrap_ends : (x : Seen) (of : Subject) (which : ℕ) → IsNoWrap x.files x.input of (EndFailed which) → ⊥
+wrap_ends x of which (inl (cause, before)) = cause
+wrap_ends x of which (inr (w, ready, (text, read, cause))) = cause
+
 refused_status : (x : Seen) (c : Command) (status : ℕ) (r : Refusal) → IsCause x c r → status ≡ status_of r → IsOneOf (statuses_of c) status
 refused_status x (Values task of given) status r cause e =
     of_values (drains task) status r (λ which same. ends_drain x task of given which (subst (IsCause x (Values task of given)) same cause)) e
 refused_status x (Compile idl acf) status r cause e = of_files x.files idl acf status r cause e
 refused_status x (Plan idl acf) status r cause e = of_files x.files idl acf status r cause e
+refused_status x (Call idl acf op) status r cause e =
+    of_values false status r (λ which same. absurd (call_ends x idl acf op which (subst (IsCause x (Call idl acf op)) same cause))) e
+refused_status x (Wrap of order call max) status r cause e =
+    of_values false status r (λ which same. absurd (wrap_ends x of which (subst (IsCause x (Wrap of order call max)) same cause))) e
 refused_status x (Sample seed count) status r cause e = inr (inr (inl (e ∙ ap status_of cause)))
 refused_status x Help status r cause e = inr (inr (inl (e ∙ ap status_of cause)))
 refused_status x Version status r cause e = inr (inr (inl (e ∙ ap status_of cause)))
@@ -193,6 +225,8 @@ zero_in : (c : Command) (status : ℕ) → status ≡ 0 → IsOneOf (statuses_of
 zero_in (Values task of given) status e = zero_of_values (drains task) status e
 zero_in (Compile idl acf) status e = inl e
 zero_in (Plan idl acf) status e = inl e
+zero_in (Call idl acf op) status e = zero_of_values false status e
+zero_in (Wrap of order call max) status e = zero_of_values false status e
 zero_in (Sample seed count) status e = inl e
 zero_in Help status e = inl e
 zero_in Version status e = inl e
@@ -201,6 +235,8 @@ four_in : (c : Command) (status : ℕ) → status ≡ 4 → IsOneOf (statuses_of
 four_in (Values task of given) status e = four_of_values (drains task) status e
 four_in (Compile idl acf) status e = inr (inl e)
 four_in (Plan idl acf) status e = inr (inl e)
+four_in (Call idl acf op) status e = four_of_values false status e
+four_in (Wrap of order call max) status e = four_of_values false status e
 four_in (Sample seed count) status e = inr (inl e)
 four_in Help status e = inr (inl e)
 four_in Version status e = inr (inl e)
@@ -209,6 +245,8 @@ five_in : (c : Command) (status : ℕ) → status ≡ 5 → IsOneOf (statuses_of
 five_in (Values task of given) status e = five_of_values (drains task) status e
 five_in (Compile idl acf) status e = inr (inr (inl e))
 five_in (Plan idl acf) status e = inr (inr (inl e))
+five_in (Call idl acf op) status e = five_of_values false status e
+five_in (Wrap of order call max) status e = five_of_values false status e
 five_in (Sample seed count) status e = inr (inr (inl e))
 five_in Help status e = inr (inr (inl e))
 five_in Version status e = inr (inr (inl e))
@@ -287,6 +325,10 @@ module _ (x : Seen) where
   idl_read idl acf ShortLabel cause e = cc
   idl_read idl acf (TooFewEnds wanted found) cause e = cc
   idl_read idl acf (EndFailed which) cause e = cc
+  idl_read idl acf (BadPdu spot because) cause e = cc
+  idl_read idl acf (NotCompatible differing) cause e = cc
+  idl_read idl acf (BadScript row) cause e = cc
+  idl_read idl acf LongScript cause e = cc
 
   opened_failed : (s rest : SourceSeen) (word : OrderWord) (order : Order) → IsOpened word s rest order → HasRisen rest.faults → HasRisen s.faults
   opened_failed s rest (Fixed named) order (same, is) rose = subst (λ r. HasRisen r.faults) same rose
@@ -299,6 +341,51 @@ module _ (x : Seen) where
   octets_failed s ends Decode word w (inr (rest, order, opened, rose)) = opened_failed s rest word order opened rose
   octets_failed s ends Explain word w (inr (rest, order, opened, rose)) = opened_failed s rest word order opened rose
   octets_failed s ends Drain word w (inr (rest, order, opened, (rose, enough, cause))) = opened_failed s rest word order opened rose
+
+  call_read : (idl : List ℕ) (acf op : Option (List ℕ)) (r : Refusal) → IsNoCall x.files x.input idl acf op r → status_of r ≡ 3 → HasRisen x.input.faults
+  call_read idl acf None ReadFault (inl (cause, before)) e = absurd cause
+  call_read idl acf (Some name) ReadFault (inl (cause, before)) e = absurd cause
+  call_read idl acf op ReadFault (inr (i, number, ready, rose)) e = rose
+  call_read idl acf op Memory cause e = cc
+  call_read idl acf op (Absent file) cause e = cc
+  call_read idl acf op (FileFailed file) cause e = cc
+  call_read idl acf op (BadIdl file line column reason) cause e = cc
+  call_read idl acf op NoOperation cause e = cc
+  call_read idl acf op (TooLong many) cause e = cc
+  call_read idl acf op (BadOctets place why) cause e = cc
+  call_read idl acf op (BadText line column reason) cause e = cc
+  call_read idl acf op (BadValue path reason) cause e = cc
+  call_read idl acf op (BadRequest fault) cause e = cc
+  call_read idl acf op (BadLabel fault) cause e = cc
+  call_read idl acf op ShortLabel cause e = cc
+  call_read idl acf op (TooFewEnds wanted found) cause e = cc
+  call_read idl acf op (EndFailed which) cause e = cc
+  call_read idl acf op (BadPdu spot because) cause e = cc
+  call_read idl acf op (NotCompatible differing) cause e = cc
+  call_read idl acf op (BadScript row) cause e = cc
+  call_read idl acf op LongScript cause e = cc
+
+  wrap_read : (of : Subject) (r : Refusal) → IsNoWrap x.files x.input of r → status_of r ≡ 3 → HasRisen x.input.faults
+  wrap_read of ReadFault (inl (cause, before)) e = absurd cause
+  wrap_read of ReadFault (inr (w, ready, rose)) e = rose
+  wrap_read of Memory cause e = cc
+  wrap_read of (Absent file) cause e = cc
+  wrap_read of (FileFailed file) cause e = cc
+  wrap_read of (BadIdl file line column reason) cause e = cc
+  wrap_read of NoOperation cause e = cc
+  wrap_read of (TooLong many) cause e = cc
+  wrap_read of (BadOctets place why) cause e = cc
+  wrap_read of (BadText line column reason) cause e = cc
+  wrap_read of (BadValue path reason) cause e = cc
+  wrap_read of (BadRequest fault) cause e = cc
+  wrap_read of (BadLabel fault) cause e = cc
+  wrap_read of ShortLabel cause e = cc
+  wrap_read of (TooFewEnds wanted found) cause e = cc
+  wrap_read of (EndFailed which) cause e = cc
+  wrap_read of (BadPdu spot because) cause e = cc
+  wrap_read of (NotCompatible differing) cause e = cc
+  wrap_read of (BadScript row) cause e = cc
+  wrap_read of LongScript cause e = cc
 
   -- the input is refused only as the input
   read_fault : (c : Command) (r : Refusal) → IsCause x c r → status_of r ≡ 3 → HasRisen x.input.faults × (asks_input c ≡ true)
@@ -322,8 +409,14 @@ module _ (x : Seen) where
   read_fault (Values task of given) ShortLabel cause e = cc
   read_fault (Values task of given) (TooFewEnds wanted found) cause e = cc
   read_fault (Values task of given) (EndFailed which) cause e = cc
+  read_fault (Values task of given) (BadPdu spot because) cause e = cc
+  read_fault (Values task of given) (NotCompatible differing) cause e = cc
+  read_fault (Values task of given) (BadScript row) cause e = cc
+  read_fault (Values task of given) LongScript cause e = cc
   read_fault (Compile idl acf) r cause e = absurd (idl_read idl acf r cause e)
   read_fault (Plan idl acf) r cause e = absurd (idl_read idl acf r cause e)
+  read_fault (Call idl acf op) r cause e = (call_read idl acf op r cause e, refl)
+  read_fault (Wrap of order call max) r cause e = (wrap_read of r cause e, refl)
   read_fault (Sample seed count) r cause e = let never : status_of Memory ≡ 3 = sym (ap status_of cause) ∙ e in cc
   read_fault Help r cause e = let never : status_of Memory ≡ 3 = sym (ap status_of cause) ∙ e in cc
   read_fault Version r cause e = let never : status_of Memory ≡ 3 = sym (ap status_of cause) ∙ e in cc
@@ -346,6 +439,57 @@ module _ (x : Seen) where
   idl_absent idl acf ShortLabel cause e = cc
   idl_absent idl acf (TooFewEnds wanted found) cause e = cc
   idl_absent idl acf (EndFailed which) cause e = cc
+  idl_absent idl acf (BadPdu spot because) cause e = cc
+  idl_absent idl acf (NotCompatible differing) cause e = cc
+  idl_absent idl acf (BadScript row) cause e = cc
+  idl_absent idl acf LongScript cause e = cc
+
+  call_absent : (idl : List ℕ) (acf op : Option (List ℕ)) (r : Refusal) → IsNoCall x.files x.input idl acf op r → status_of r ≡ 7
+      → HasRisen x.files.absences × ((file : List ℕ) × (r ≡ Absent file) × IsDueOf x.files.held (Some (record { idl = idl; acf = acf })) file × IsMissing x.files.held file)
+  call_absent idl acf None (Absent file) (inl ((rose, due, missing), before)) e = (rose, (file, refl, due, missing))
+  call_absent idl acf (Some name) (Absent file) (inl ((rose, due, missing), before)) e = (rose, (file, refl, due, missing))
+  call_absent idl acf op (Absent file) (inr (i, number, ready, cause)) e = absurd cause
+  call_absent idl acf op Memory cause e = cc
+  call_absent idl acf op (FileFailed file) cause e = cc
+  call_absent idl acf op (BadIdl file line column reason) cause e = cc
+  call_absent idl acf op NoOperation cause e = cc
+  call_absent idl acf op (TooLong many) cause e = cc
+  call_absent idl acf op ReadFault cause e = cc
+  call_absent idl acf op (BadOctets place why) cause e = cc
+  call_absent idl acf op (BadText line column reason) cause e = cc
+  call_absent idl acf op (BadValue path reason) cause e = cc
+  call_absent idl acf op (BadRequest fault) cause e = cc
+  call_absent idl acf op (BadLabel fault) cause e = cc
+  call_absent idl acf op ShortLabel cause e = cc
+  call_absent idl acf op (TooFewEnds wanted found) cause e = cc
+  call_absent idl acf op (EndFailed which) cause e = cc
+  call_absent idl acf op (BadPdu spot because) cause e = cc
+  call_absent idl acf op (NotCompatible differing) cause e = cc
+  call_absent idl acf op (BadScript row) cause e = cc
+  call_absent idl acf op LongScript cause e = cc
+
+  wrap_absent : (of : Subject) (r : Refusal) → IsNoWrap x.files x.input of r → status_of r ≡ 7
+      → HasRisen x.files.absences × ((file : List ℕ) × (r ≡ Absent file) × IsDueOf x.files.held (Some (record { idl = of.idl; acf = of.acf })) file × IsMissing x.files.held file)
+  wrap_absent of (Absent file) (inl ((rose, due, missing), before)) e = (rose, (file, refl, due, missing))
+  wrap_absent of (Absent file) (inr (w, ready, (text, read, cause))) e = absurd cause
+  wrap_absent of Memory cause e = cc
+  wrap_absent of (FileFailed file) cause e = cc
+  wrap_absent of (BadIdl file line column reason) cause e = cc
+  wrap_absent of NoOperation cause e = cc
+  wrap_absent of (TooLong many) cause e = cc
+  wrap_absent of ReadFault cause e = cc
+  wrap_absent of (BadOctets place why) cause e = cc
+  wrap_absent of (BadText line column reason) cause e = cc
+  wrap_absent of (BadValue path reason) cause e = cc
+  wrap_absent of (BadRequest fault) cause e = cc
+  wrap_absent of (BadLabel fault) cause e = cc
+  wrap_absent of ShortLabel cause e = cc
+  wrap_absent of (TooFewEnds wanted found) cause e = cc
+  wrap_absent of (EndFailed which) cause e = cc
+  wrap_absent of (BadPdu spot because) cause e = cc
+  wrap_absent of (NotCompatible differing) cause e = cc
+  wrap_absent of (BadScript row) cause e = cc
+  wrap_absent of LongScript cause e = cc
 
   abbrev IsDueFor : Command → List ℕ → Type 0
   IsDueFor c file = IsDueOf x.files.held (asks_files c) file ⊎ IsDueRequest x.files.held c file
@@ -394,8 +538,14 @@ module _ (x : Seen) where
   absent_is (Values task of given) ShortLabel cause e = cc
   absent_is (Values task of given) (TooFewEnds wanted found) cause e = cc
   absent_is (Values task of given) (EndFailed which) cause e = cc
+  absent_is (Values task of given) (BadPdu spot because) cause e = cc
+  absent_is (Values task of given) (NotCompatible differing) cause e = cc
+  absent_is (Values task of given) (BadScript row) cause e = cc
+  absent_is (Values task of given) LongScript cause e = cc
   absent_is (Compile idl acf) r cause e = let (rose, (file, same, due, missing)) = idl_absent idl acf r cause e in (rose, (file, same, inl due, missing))
   absent_is (Plan idl acf) r cause e = let (rose, (file, same, due, missing)) = idl_absent idl acf r cause e in (rose, (file, same, inl due, missing))
+  absent_is (Call idl acf op) r cause e = let (rose, (file, same, due, missing)) = call_absent idl acf op r cause e in (rose, (file, same, inl due, missing))
+  absent_is (Wrap of order call max) r cause e = let (rose, (file, same, due, missing)) = wrap_absent of r cause e in (rose, (file, same, inl due, missing))
   absent_is (Sample seed count) r cause e = let never : status_of Memory ≡ 7 = sym (ap status_of cause) ∙ e in cc
   absent_is Help r cause e = let never : status_of Memory ≡ 7 = sym (ap status_of cause) ∙ e in cc
   absent_is Version r cause e = let never : status_of Memory ≡ 7 = sym (ap status_of cause) ∙ e in cc
@@ -418,6 +568,57 @@ module _ (x : Seen) where
   idl_failed idl acf ShortLabel cause e = cc
   idl_failed idl acf (TooFewEnds wanted found) cause e = cc
   idl_failed idl acf (EndFailed which) cause e = cc
+  idl_failed idl acf (BadPdu spot because) cause e = cc
+  idl_failed idl acf (NotCompatible differing) cause e = cc
+  idl_failed idl acf (BadScript row) cause e = cc
+  idl_failed idl acf LongScript cause e = cc
+
+  call_failed : (idl : List ℕ) (acf op : Option (List ℕ)) (r : Refusal) → IsNoCall x.files x.input idl acf op r → status_of r ≡ 9
+      → HasRisen x.files.faults × ((file : List ℕ) × (r ≡ FileFailed file) × IsDueOf x.files.held (Some (record { idl = idl; acf = acf })) file)
+  call_failed idl acf None (FileFailed file) (inl ((rose, due), before)) e = (rose, (file, refl, due))
+  call_failed idl acf (Some name) (FileFailed file) (inl ((rose, due), before)) e = (rose, (file, refl, due))
+  call_failed idl acf op (FileFailed file) (inr (i, number, ready, cause)) e = absurd cause
+  call_failed idl acf op Memory cause e = cc
+  call_failed idl acf op (Absent file) cause e = cc
+  call_failed idl acf op (BadIdl file line column reason) cause e = cc
+  call_failed idl acf op NoOperation cause e = cc
+  call_failed idl acf op (TooLong many) cause e = cc
+  call_failed idl acf op ReadFault cause e = cc
+  call_failed idl acf op (BadOctets place why) cause e = cc
+  call_failed idl acf op (BadText line column reason) cause e = cc
+  call_failed idl acf op (BadValue path reason) cause e = cc
+  call_failed idl acf op (BadRequest fault) cause e = cc
+  call_failed idl acf op (BadLabel fault) cause e = cc
+  call_failed idl acf op ShortLabel cause e = cc
+  call_failed idl acf op (TooFewEnds wanted found) cause e = cc
+  call_failed idl acf op (EndFailed which) cause e = cc
+  call_failed idl acf op (BadPdu spot because) cause e = cc
+  call_failed idl acf op (NotCompatible differing) cause e = cc
+  call_failed idl acf op (BadScript row) cause e = cc
+  call_failed idl acf op LongScript cause e = cc
+
+  wrap_failed : (of : Subject) (r : Refusal) → IsNoWrap x.files x.input of r → status_of r ≡ 9
+      → HasRisen x.files.faults × ((file : List ℕ) × (r ≡ FileFailed file) × IsDueOf x.files.held (Some (record { idl = of.idl; acf = of.acf })) file)
+  wrap_failed of (FileFailed file) (inl ((rose, due), before)) e = (rose, (file, refl, due))
+  wrap_failed of (FileFailed file) (inr (w, ready, (text, read, cause))) e = absurd cause
+  wrap_failed of Memory cause e = cc
+  wrap_failed of (Absent file) cause e = cc
+  wrap_failed of (BadIdl file line column reason) cause e = cc
+  wrap_failed of NoOperation cause e = cc
+  wrap_failed of (TooLong many) cause e = cc
+  wrap_failed of ReadFault cause e = cc
+  wrap_failed of (BadOctets place why) cause e = cc
+  wrap_failed of (BadText line column reason) cause e = cc
+  wrap_failed of (BadValue path reason) cause e = cc
+  wrap_failed of (BadRequest fault) cause e = cc
+  wrap_failed of (BadLabel fault) cause e = cc
+  wrap_failed of ShortLabel cause e = cc
+  wrap_failed of (TooFewEnds wanted found) cause e = cc
+  wrap_failed of (EndFailed which) cause e = cc
+  wrap_failed of (BadPdu spot because) cause e = cc
+  wrap_failed of (NotCompatible differing) cause e = cc
+  wrap_failed of (BadScript row) cause e = cc
+  wrap_failed of LongScript cause e = cc
 
   -- a file that was not read is due
   failed_is : (c : Command) (r : Refusal) → IsCause x c r → status_of r ≡ 9
@@ -451,8 +652,14 @@ module _ (x : Seen) where
   failed_is (Values task of given) ShortLabel cause e = cc
   failed_is (Values task of given) (TooFewEnds wanted found) cause e = cc
   failed_is (Values task of given) (EndFailed which) cause e = cc
+  failed_is (Values task of given) (BadPdu spot because) cause e = cc
+  failed_is (Values task of given) (NotCompatible differing) cause e = cc
+  failed_is (Values task of given) (BadScript row) cause e = cc
+  failed_is (Values task of given) LongScript cause e = cc
   failed_is (Compile idl acf) r cause e = let (rose, (file, same, due)) = idl_failed idl acf r cause e in (rose, (file, same, inl due))
   failed_is (Plan idl acf) r cause e = let (rose, (file, same, due)) = idl_failed idl acf r cause e in (rose, (file, same, inl due))
+  failed_is (Call idl acf op) r cause e = let (rose, (file, same, due)) = call_failed idl acf op r cause e in (rose, (file, same, inl due))
+  failed_is (Wrap of order call max) r cause e = let (rose, (file, same, due)) = wrap_failed of r cause e in (rose, (file, same, inl due))
   failed_is (Sample seed count) r cause e = let never : status_of Memory ≡ 9 = sym (ap status_of cause) ∙ e in cc
   failed_is Help r cause e = let never : status_of Memory ≡ 9 = sym (ap status_of cause) ∙ e in cc
   failed_is Version r cause e = let never : status_of Memory ≡ 9 = sym (ap status_of cause) ∙ e in cc
@@ -510,6 +717,8 @@ module _ (x : Seen) where
   end_failed (Values Migrate of given) which (inr (w, ready, (text, read, cause))) = absurd cause
   end_failed (Compile idl acf) which cause = absurd cause
   end_failed (Plan idl acf) which cause = absurd cause
+  end_failed (Call idl acf op) which cause = absurd (call_ends x idl acf op which cause)
+  end_failed (Wrap of order call max) which cause = absurd (wrap_ends x of which cause)
   end_failed (Sample seed count) which cause = let never : status_of (EndFailed which) ≡ status_of Memory = ap status_of cause in cc
   end_failed Help which cause = let never : status_of (EndFailed which) ≡ status_of Memory = ap status_of cause in cc
   end_failed Version which cause = let never : status_of (EndFailed which) ≡ status_of Memory = ap status_of cause in cc
@@ -517,6 +726,10 @@ module _ (x : Seen) where
   -- status 8 is an end that failed
   ended_by : (c : Command) (r : Refusal) → IsCause x c r → status_of r ≡ 8 → (which : ℕ) × (r ≡ EndFailed which) × EndRose x.ends which
   ended_by c (EndFailed which) cause e = (which, refl, end_failed c which cause)
+  ended_by c (BadPdu spot because) cause e = absurd (one_is_no_eight e)
+  ended_by c (NotCompatible differing) cause e = absurd (one_is_no_eight e)
+  ended_by c (BadScript row) cause e = absurd (one_is_no_eight e)
+  ended_by c LongScript cause e = absurd (one_is_no_eight e)
   ended_by c Memory cause e = absurd (five_is_no_eight e)
   ended_by c (Absent file) cause e = absurd (seven_is_no_eight e)
   ended_by c (FileFailed file) cause e = absurd (nine_is_no_eight e)
@@ -560,6 +773,10 @@ module _ (x : Seen) (out notes : SinkSeen) (status : ℕ) (nothing : HasNotFaile
   refused_unfailed c ShortLabel cause e = inr (inl e)
   refused_unfailed c (TooFewEnds wanted found) cause e = inr (inl e)
   refused_unfailed c (EndFailed which) cause e = absurd (nothing.ends which (end_failed x c which cause))
+  refused_unfailed c (BadPdu spot because) cause e = inr (inl e)
+  refused_unfailed c (NotCompatible differing) cause e = inr (inl e)
+  refused_unfailed c (BadScript row) cause e = inr (inl e)
+  refused_unfailed c LongScript cause e = inr (inl e)
 
   by_command : (c : Command) → Ended x out notes c status → Unfailed status
   by_command c (ended_done is d) = inl is
@@ -602,6 +819,10 @@ not_two (BadLabel fault) e = cc
 not_two ShortLabel e = cc
 not_two (TooFewEnds wanted found) e = cc
 not_two (EndFailed which) e = cc
+not_two (BadPdu spot because) e = cc
+not_two (NotCompatible differing) e = cc
+not_two (BadScript row) e = cc
+not_two LongScript e = cc
 
 not_four : (r : Refusal) → status_of r ≡ 4 → ⊥
 not_four Memory e = cc
@@ -619,6 +840,10 @@ not_four (BadLabel fault) e = cc
 not_four ShortLabel e = cc
 not_four (TooFewEnds wanted found) e = cc
 not_four (EndFailed which) e = cc
+not_four (BadPdu spot because) e = cc
+not_four (NotCompatible differing) e = cc
+not_four (BadScript row) e = cc
+not_four LongScript e = cc
 
 apart : (n a b : ℕ) → n ≡ a → n ≡ b → (a ≡ b → ⊥) → ⊥
 apart n a b x y unlike = unlike (sym x ∙ y)

@@ -6,7 +6,7 @@ use Rattle.nd_base.specs.Over.{FilesSeen, SourceSeen, AreUntouched, IsUntouched}
 use Rattle.nd_types.specs.declared.interface.Interface.{Interface}
 use Rattle.nd_types.specs.Operations.{operation_named}
 use Rattle.dceidl.specs.Seen.{Seen}
-use Rattle.command_line.specs.Words.{Command, Subject, Values, Compile, Plan, Sample, Help, Version}
+use Rattle.command_line.specs.Words.{Command, Subject, Values, Compile, Plan, Call, Wrap, Sample, Help, Version}
 use Rattle.command_line.specs.declared.command.Reading.TheVariants.{Decode, Explain, Drain}
 use Rattle.command_line.specs.declared.command.Task.{Task}
 use Rattle.command_line.specs.declared.command.Task.TheVariants.{Read, Encode, Migrate}
@@ -19,6 +19,8 @@ abbrev pub asks_files : Command → Option FileNames
 asks_files (Values task of given) = Some (record { idl = of.idl; acf = of.acf })
 asks_files (Compile idl acf) = Some (record { idl = idl; acf = acf })
 asks_files (Plan idl acf) = Some (record { idl = idl; acf = acf })
+asks_files (Call idl acf op) = Some (record { idl = idl; acf = acf })
+asks_files (Wrap of order call max) = Some (record { idl = of.idl; acf = of.acf })
 asks_files (Sample seed count) = None
 asks_files Help = None
 asks_files Version = None
@@ -26,6 +28,8 @@ asks_files Version = None
 -- whether it reads the input
 abbrev pub asks_input : Command → Bool
 asks_input (Values task of given) = true
+asks_input (Call idl acf op) = true
+asks_input (Wrap of order call max) = true
 asks_input _ = false
 
 -- whether a task gives elements to the ends of pipes

@@ -7,8 +7,9 @@ use Rattle.dceidl.specs.Asked.{drains}
 use Rattle.dceidl.specs.Input.{IsMadeOf, IsTaskCause}
 use Rattle.command_compile.specs.Compiled.{IsListed, IsPlanned, IsIdlCause}
 use Rattle.dceidl.specs.Ready.{IsAllReady, IsUnready}
+use Rattle.dceidl.specs.Wrapped.{HasCalled, IsNoCall, IsWrapped, IsNoWrap}
 use Rattle.dceidl.specs.Seen.{Seen}
-use Rattle.command_line.specs.Words.{Command, Values, Compile, Plan, Sample, Help, Version}
+use Rattle.command_line.specs.Words.{Command, Values, Compile, Plan, Call, Wrap, Sample, Help, Version}
 use Rattle.command_sample.specs.Summary.{sample_lines}
 use Rattle.command_refusals.specs.declared.refusal.Refusal.{Refusal}
 use Rattle.command_refusals.specs.declared.refusal.Refusal.TheVariants.{Memory}
@@ -19,6 +20,8 @@ abbrev pub IsMade : Seen → Command → List ℕ → Type 0
 IsMade x (Values task of given) made = (w : Setting) × IsAllReady x.files of given w × IsMadeOf x.input x.ends task w made
 IsMade x (Compile idl acf) made = IsListed x.files idl acf made
 IsMade x (Plan idl acf) made = IsPlanned x.files idl acf made
+IsMade x (Call idl acf op) made = HasCalled x.files x.input idl acf op made
+IsMade x (Wrap of order call max) made = IsWrapped x.files x.input of order call max made
 IsMade x (Sample seed count) made = made ≡ sample_lines seed count
 IsMade x Help made = made ≡ HELP.now
 IsMade x Version made = made ≡ VERSION.now
@@ -29,6 +32,8 @@ abbrev pub IsCause : Seen → Command → Refusal → Type 0
 IsCause x (Values task of given) r =
     (IsUnready x.files of given r × IsUntouched x.input × AreAsBefore x.ends)
     ⊎ ((w : Setting) × IsAllReady x.files of given w × IsTaskCause x.input x.ends task w r)
+IsCause x (Call idl acf op) r = IsNoCall x.files x.input idl acf op r
+IsCause x (Wrap of order call max) r = IsNoWrap x.files x.input of r
 IsCause x (Compile idl acf) r = IsIdlCause x.files idl acf r
 IsCause x (Plan idl acf) r = IsIdlCause x.files idl acf r
 IsCause x (Sample seed count) r = r ≡ Memory
@@ -45,6 +50,8 @@ abbrev pub statuses_of : Command → List ℕ
 statuses_of (Values task of given) = values_statuses (drains task)
 statuses_of (Compile idl acf) = 0 ∷ 4 ∷ 5 ∷ 6 ∷ 7 ∷ 9 ∷ []
 statuses_of (Plan idl acf) = 0 ∷ 4 ∷ 5 ∷ 6 ∷ 7 ∷ 9 ∷ []
+statuses_of (Call idl acf op) = values_statuses false
+statuses_of (Wrap of order call max) = values_statuses false
 statuses_of (Sample seed count) = 0 ∷ 4 ∷ 5 ∷ []
 statuses_of Help = 0 ∷ 4 ∷ 5 ∷ []
 statuses_of Version = 0 ∷ 4 ∷ 5 ∷ []

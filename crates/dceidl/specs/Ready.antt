@@ -5,6 +5,7 @@ use Rattle.nd_base.specs.Over.{FilesSeen}
 use Rattle.nd_types.specs.declared.interface.Interface.{Interface}
 use Rattle.nd_types.specs.declared.types.Operation.{Operation}
 use Rattle.nd_types.specs.declared.types.Side.{Side}
+use Rattle.nd_types.specs.declared.types.Side.TheVariants.{Out}
 use Rattle.nd_types.specs.Operations.{operation_named}
 use Rattle.nd_value.specs.declared.value.Graph.{Graph}
 use Rattle.nd_value.specs.Fitting.{setting_of}
@@ -46,6 +47,28 @@ IsNotFound i op _ = ⊥
 abbrev pub IsReadyCause : FilesSeen → Subject → Refusal → Type 0
 IsReadyCause f of NoOperation = IsUnknown f of
 IsReadyCause f of refusal = IsIdlCause f of.idl of.acf refusal
+
+-- ## Calls
+
+-- the number of the operation whose response is read, if one is named; a request states its operation
+abbrev pub IsNumbered : Interface → Option (List ℕ) → Option ℕ → Type 0
+IsNumbered i None number = number ≡ None
+IsNumbered i (Some name) number = (n : ℕ) × (o : Operation) × IsNamed i name n o × (number ≡ Some n)
+
+-- What `call` speaks of is ready: the interface, and the number of the operation if one is named.
+pub record IsCallReady (f : FilesSeen) (idl : List ℕ) (acf op : Option (List ℕ)) (i : Interface) (number : Option ℕ) : Type 0 where
+  pub compiled : IsCompiled f idl acf i
+  pub numbered : IsNumbered i op number
+
+-- why it is not
+abbrev pub IsCallUnready : FilesSeen → List ℕ → Option (List ℕ) → Option (List ℕ) → Refusal → Type 0
+IsCallUnready f idl acf None r = IsIdlCause f idl acf r
+IsCallUnready f idl acf (Some op) r = IsReadyCause f (record { idl = idl; acf = acf; op = op; side = Out }) r
+
+-- the interface has no operation of the name
+abbrev pub IsNotNumbered : Interface → Option (List ℕ) → Refusal → Type 0
+IsNotNumbered i None r = ⊥
+IsNotNumbered i (Some name) r = IsNotFound i name r
 
 -- ## Beside a request
 

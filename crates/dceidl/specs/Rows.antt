@@ -7,6 +7,7 @@ use Rattle.nd_base.specs.Outside.{IsMissing, loaded}
 use Rattle.nd_base.specs.Over.{FilesSeen, SourceSeen, SinkSeen, HasRisen, Got, IsAsBefore}
 use Rattle.nd_types.specs.declared.interface.Interface.{Interface}
 use Rattle.nd_types.specs.declared.types.Operation.{Operation}
+use Rattle.nd_types.specs.declared.types.Side.TheVariants.{Out}
 use Rattle.nd_types.specs.Operations.{operation_named}
 use Rattle.nd_value.specs.declared.value.Graph.{Graph}
 use Rattle.nd_value.specs.Setting.{Setting}
@@ -26,9 +27,15 @@ use Rattle.command_text.specs.Fitted.{IsMisfitAt}
 use Rattle.command_text.specs.Request.{beside, IsRequestText, IsRequestFault}
 use Rattle.command_compile.specs.Idl.{Means, IsIdlFault, IsDueFile}
 use Rattle.command_refusals.specs.Lines.{status_of, line_of}
-use Rattle.dceidl.specs.Ready.{IsNamed}
+use Rattle.rpc_pdu.specs.declared.pdu.Wanted.{Wanted}
+use Rattle.rpc_pdu.specs.Fragments.{Fragments}
+use Rattle.rpc_pdu.specs.Fragments as pdu
+use Rattle.command_call.specs.Called.{IsCall}
+use Rattle.command_call.specs.Called as called
+use Rattle.dceidl.specs.Ready.{IsNamed, IsNumbered}
+use Rattle.dceidl.specs.Wrapped.{wrap_task}
 use Rattle.dceidl.specs.Seen.{Seen}
-use Rattle.command_line.specs.Words.{Command, Subject, Values, Compile, Plan, Sample, Help, Version, idl_of, op_of, order_in}
+use Rattle.command_line.specs.Words.{Command, Subject, Values, Compile, Plan, Call, Wrap, Sample, Help, Version, idl_of, op_of, order_in}
 use Rattle.command_compile.specs.Asked.{FileNames}
 use Rattle.ndr_prim.specs.Label.{order_of_label}
 use Rattle.nd_base.specs.Counts.{Rose}
@@ -45,6 +52,9 @@ use Rattle.command_line.specs.declared.command.Task.TheVariants.{Read, Encode, M
 use Rattle.command_refusals.specs.declared.refusal.Refusal.{Refusal}
 use Rattle.command_refusals.specs.declared.refusal.Refusal.TheVariants.{BadIdl, NoOperation, BadOctets, BadText, BadValue, TooLong, BadRequest}
 use Rattle.command_refusals.specs.declared.refusal.Refusal.TheVariants.{BadLabel, ShortLabel, TooFewEnds}
+use Rattle.command_refusals.specs.declared.refusal.Refusal.TheVariants.{BadPdu}
+use Rattle.command_refusals.specs.declared.refusal.FragmentsFault.{FragmentsFault}
+use Rattle.command_refusals.specs.declared.refusal.FragmentsFault.TheVariants as fragments
 use Rattle.command_refusals.specs.declared.refusal.OctetsFault.{OctetsFault}
 use Rattle.command_refusals.specs.declared.refusal.OctetsFault.TheVariants.{Refused, Trailing}
 use Rattle.command_refusals.specs.declared.refusal.RequestFault.{RequestFault}
@@ -201,9 +211,31 @@ CanBeMade s e (Encode word chunk) w =
     × IsWritten w (order_in word) chunk g octets
 CanBeMade s e Migrate w = (text : List ℕ) × (g : Graph) × IsInput s TEXT_LIMIT text × ReadsAs w text g × Conforms w g
 
+-- The main file is held, the files mean this interface, and it has the operation if one is named.
+pub record IsCallAccepted (f : FilesSeen) (idl : List ℕ) (acf op : Option (List ℕ)) (i : Interface) (number : Option ℕ) : Type 0 where
+  pub file : List ℕ
+  pub held : IsHeld f idl file
+  pub means : Means f.held idl file acf i
+  pub numbered : IsNumbered i op number
+
+-- The octets of the input are known, and are the fragments of one call, whose operation the interface has, with these stub data. No fetch failed.
+pub record IsCallGiven (s : SourceSeen) (i : Interface) (number : Option ℕ) (order : Order) (operation : Operation) (stub : List ℕ) : Type 0 where
+  pub octets : List ℕ
+  pub given : AreGiven s octets
+  pub call : ℕ
+  pub is_call : IsCall i number octets order call operation stub
+
+-- the stub data are decoded, unless memory runs out
+abbrev pub CanBeCalled : SourceSeen → Interface → Option ℕ → Type 0
+CanBeCalled s i number =
+    (order : Order) × (operation : Operation) × (stub : List ℕ) × (g : Graph) × IsCallGiven s i number order operation stub
+    × Represents (setting_of i operation (called.side number)) order stub g × Conforms (setting_of i operation (called.side number)) g
+
 -- Where no load fails and notes do not, a command of which this holds is done, unless it runs out of memory or out fails.
 abbrev pub CanBeDone : Seen → Command → Type 0
 CanBeDone x (Values task of given) = (w : Setting) × AreAccepted x.files of given w × CanBeMade x.input x.ends task w
+CanBeDone x (Call idl acf op) = (i : Interface) × (number : Option ℕ) × IsCallAccepted x.files idl acf op i number × CanBeCalled x.input i number
+CanBeDone x (Wrap of order call max) = (w : Setting) × IsAccepted x.files of w × CanBeMade x.input x.ends (wrap_task order) w
 CanBeDone x (Compile idl acf) = (text : List ℕ) × (i : Interface) × IsHeld x.files idl text × Means x.files.held idl text acf i
 CanBeDone x (Plan idl acf) = (text : List ℕ) × (i : Interface) × IsHeld x.files idl text × Means x.files.held idl text acf i
 CanBeDone x (Sample seed count) = ⊤
@@ -268,8 +300,56 @@ MustBeNoInput s e (Read how word) w r = MustBeNoOctets s e how word w r
 MustBeNoInput s e (Encode word chunk) w r = MustBeNoEncoding s w chunk r
 MustBeNoInput s e Migrate w r = MustBeNoText s w r
 
+-- the files or the operation of `call` are refused in this way
+abbrev pub MustBeNoCall : FilesSeen → List ℕ → Option (List ℕ) → Option (List ℕ) → Refusal → Type 0
+MustBeNoCall f idl acf None r = MustBeNoIdl f idl acf r
+MustBeNoCall f idl acf (Some op) r = MustBeUnready f (record { idl = idl; acf = acf; op = op; side = Out }) r
+
+-- the fragments of one call, and an octet that follows them
+pub record IsTrailedCall (want : Wanted) (octets : List ℕ) (place : ℕ) : Type 0 where
+  pub first : List ℕ
+  pub next : ℕ
+  pub rest : List ℕ
+  pub split : octets ≡ first ++ next ∷ rest
+  pub order : Order
+  pub call : ℕ
+  pub stated : Option ℕ
+  pub stub : List ℕ
+  pub fragments : Fragments first want order call stated stub
+  pub place_is : place ≡ length first
+
+-- the fragments of one request, of whose operation number the interface has none
+pub record IsCallOfNone (i : Interface) (want : Wanted) (octets : List ℕ) (place n : ℕ) : Type 0 where
+  pub order : Order
+  pub call : ℕ
+  pub stub : List ℕ
+  pub fragments : Fragments octets want order call (Some n) stub
+  pub none : slice_get i.operations n ≡ None
+  pub place_is : place ≡ 22
+
+-- all octets of the input are refused as fragments in this way
+abbrev pub IsRefusedCall : Interface → Option ℕ → List ℕ → ℕ → FragmentsFault → Type 0
+IsRefusedCall i number octets place (fragments.Refused why) = pdu.BadPdu (called.wanted number) octets place why
+IsRefusedCall i number octets place fragments.Trailing = IsTrailedCall (called.wanted number) octets place
+IsRefusedCall i number octets place (fragments.NoOperation n) = IsCallOfNone i (called.wanted number) octets place n
+
+-- the fragments of the input, or their stub data, are refused in this way
+abbrev pub MustBeNoFragments : SourceSeen → Interface → Option ℕ → Refusal → Type 0
+MustBeNoFragments s i number (BadPdu place why) = (octets : List ℕ) × AreGiven s octets × IsRefusedCall i number octets place why
+MustBeNoFragments s i number (BadOctets place why) =
+    (order : Order) × (operation : Operation) × (stub : List ℕ) × IsCallGiven s i number order operation stub
+    × IsRefusedAt (setting_of i operation (called.side number)) order stub place why
+MustBeNoFragments s i number r = ⊥
+
 -- Where no load fails and notes do not, a command of which this holds is refused in this way, unless it runs out of memory.
 abbrev pub MustBeRefused : Seen → Command → Refusal → Type 0
+MustBeRefused x (Call idl acf op) NoOperation = MustBeNoCall x.files idl acf op NoOperation
+MustBeRefused x (Call idl acf op) (BadIdl file line column why) = MustBeNoCall x.files idl acf op (BadIdl file line column why)
+MustBeRefused x (Call idl acf op) r =
+    (i : Interface) × (number : Option ℕ) × IsCallAccepted x.files idl acf op i number × MustBeNoFragments x.input i number r
+MustBeRefused x (Wrap of order call max) NoOperation = MustBeUnready x.files of NoOperation
+MustBeRefused x (Wrap of order call max) (BadIdl file line column why) = MustBeUnready x.files of (BadIdl file line column why)
+MustBeRefused x (Wrap of order call max) r = (w : Setting) × IsAccepted x.files of w × MustBeNoInput x.input x.ends (wrap_task order) w r
 MustBeRefused x (Values task of given) NoOperation = MustBeUnready x.files of NoOperation
 MustBeRefused x (Values task of given) (BadIdl file line column why) = MustBeUnready x.files of (BadIdl file line column why)
 MustBeRefused x (Values task of given) (BadRequest why) = MustBeNoRequest x.files of given why

@@ -1,6 +1,7 @@
 //! The program `dceidl` as a library: it runs a command line over sources, sinks and files that the caller makes.
 #![tactic(auto)]
 
+mod call;
 mod encode;
 mod input;
 pub mod laws;
@@ -9,11 +10,15 @@ mod perform;
 mod reading;
 mod ready;
 mod top;
+mod wrap;
 
 pub use command_line::{CHUNK_LIMIT, Words};
 pub use command_refusals::{IdlReason, OctetsFault, Refusal, Status};
 pub use outcome::Outcome;
 pub use top::run;
+
+/// How many elements a chunk of a pipe has in what `wrap` writes.
+pub const WRAP_CHUNK: u32 = 65_536;
 
 /// What `--help` prints.
 pub const HELP: &str = "\
@@ -24,6 +29,8 @@ usage: dceidl compile IDL ACF
        dceidl drain IDL ACF OP SIDE ORDER [given TEXT]
        dceidl encode IDL ACF OP SIDE ORDER CHUNK [given TEXT]
        dceidl migrate IDL ACF OP SIDE
+       dceidl call IDL ACF OP
+       dceidl wrap IDL ACF OP SIDE ORDER CALL MAX
        dceidl sample SEED COUNT
        dceidl --help
        dceidl --version
@@ -44,6 +51,11 @@ drain    reads the same octets, and writes the elements of their pipes to the
 encode   reads such a text, and writes the octets of its values. With `given` a
          response is checked against the request that it answers.
 migrate  reads such a text, in either version, and writes it as `decode` does.
+call     reads the PDUs of one request (OP `-`) or of one response to OP (C706,
+         chapter 12), joins their stub data, and writes the call id and then the
+         values as `decode` does. A request states its operation.
+wrap     reads such a text, and writes the PDUs of a request or response with its
+         values, at most MAX octets each, with the call id CALL.
 sample   makes a graph of COUNT cells from SEED, encodes and decodes it, and
          writes a summary. Without words it is `sample 1 2`.
 
@@ -58,6 +70,8 @@ ORDER    the byte order: `little`, `big`, or `label` if the first four octets
 TEXT     the path of the text of a request; with SIDE `out` only
 CHUNK    the number of elements in a chunk of a pipe, 1 to 16777216; it has no
          effect unless the operation has pipes
+CALL     a number, 0 to 4294967295
+MAX      a number, 1024 to 65535
 SEED     a number, 0 to 4294967295
 COUNT    a number, 1 to 1000000
 
@@ -65,7 +79,8 @@ Input is read from standard input, and output is written to standard output. An
 error is one line on standard error. The exit status is
 
 0  success
-1  bad octets, text or values, or too many octets to write or pipes to drain
+1  bad octets, PDUs, text or values, or too many octets to write or pipes to
+   drain
 2  bad command line
 3  input error
 4  output error

@@ -16,10 +16,12 @@ ghost use Rattle.dceidl.specs.Input.{IsMadeOf, IsTaskCause, IsMadeBeside, IsBesi
 ghost use Rattle.dceidl.specs.Seen.{seen_over};
 ghost use Rattle.command_line.specs.Words.{Values};
 
+use crate::call::call;
 use crate::encode::{encode, migrate};
 use crate::input::read_input;
 use crate::reading::read_octets;
 use crate::ready::{Ready, make_ready};
+use crate::wrap::wrap;
 use crate::{HELP, VERSION};
 use command_compile::{list, list_plan};
 use command_line::{Command, OrderWord, Subject, Task};
@@ -68,6 +70,13 @@ pub(crate) fn perform<F: Files, S: Source, E: PipeEnd>(
         } => perform_beside(alloc, task, of, name, files, input, ends),
         Command::Compile { idl, acf } => list(alloc, idl, acf, files),
         Command::Plan { idl, acf } => list_plan(alloc, idl, acf, files),
+        Command::Call { idl, acf, op } => call(alloc, idl, acf, op, files, input),
+        Command::Wrap {
+            of,
+            order,
+            call,
+            max,
+        } => wrap(alloc, of, order, call, max, files, input),
         Command::Sample { seed, count } => Ok(sample(alloc, seed, count)?),
         Command::Help => Ok(Octets::copy(alloc, HELP.as_bytes())?),
         Command::Version => Ok(Octets::copy(alloc, VERSION.as_bytes())?),
@@ -195,7 +204,7 @@ fn perform_task<S: Source, E: PipeEnd>(
 }
 
 // Encodes the text of the input.
-fn encode_input<S: Source>(
+pub(crate) fn encode_input<S: Source>(
     alloc: Global,
     ready: &Ready,
     given: Option<&Fit>,

@@ -211,6 +211,13 @@ fn command_line(alloc: Global, command: Command<'_>, refusal: &Refusal) -> Resul
         Command::Values { of, .. } => line(alloc, of.idl, of.op, refusal),
         Command::Compile { idl, .. } => line(alloc, idl, "", refusal),
         Command::Plan { idl, .. } => line(alloc, idl, "", refusal),
+        Command::Call {
+            idl,
+            op: Some(op),
+            ..
+        } => line(alloc, idl, op, refusal),
+        Command::Call { idl, op: None, .. } => line(alloc, idl, "", refusal),
+        Command::Wrap { of, .. } => line(alloc, of.idl, of.op, refusal),
         Command::Sample { .. } => line(alloc, "", "", refusal),
         Command::Help => line(alloc, "", "", refusal),
         Command::Version => line(alloc, "", "", refusal),

@@ -15,7 +15,7 @@ returns-in-len8-clause-command c =
     c.as_str.ensures.value c.as_str-in-len8.ensures.value c.as_str-in-len8-2.ensures.value c.as_str-in-len8-3.ensures.value c.as_str-in-len8-4.ensures.value c.as_str-in-len8-5.ensures.value
     c.as_str-in-len8-6.ensures.value c.as_str-in-len8-7.ensures.value
     in
-    c.read_beside_words.ensures.command ∙ ap command words
+    c.eight_words.ensures.command ∙ ap command words
 
 pub returns-in-len9-clause-command : goal.returns-in-len9-clause-command
 returns-in-len9-clause-command c =

@@ -1,0 +1,45 @@
+use Rattle.std.proofs.Common.{◌≡◌, ◌∙◌, refl, inl, inr, ap, subst}
+use Rattle.std.proofs.lemmas.Result.{err_from_is_err_and}
+use Rattle.nd_base.specs.Over.{files_seen, source_seen}
+use Rattle.nd_value.specs.Fitting.{setting_of}
+use Rattle.rpc_pdu.specs.Pieces.{Pieces}
+use Rattle.command_line.specs.Commands.{subject_of}
+use Rattle.dceidl.specs.Wrapped.{head_for}
+use Rattle.dceidl.proofs.Causes.{ready_is}
+use Rattle.dceidl.proofs.Calling.{wrapped_is}
+use Rattle.dceidl.proofs.wrap.wrap.Goals as goal
+
+pub returns-in_err-ready-clause-refused : goal.returns-in_err-ready-clause-refused
+returns-in_err-ready-clause-refused g c =
+    let p = err_from_is_err_and c.from_residual.result c.from_residual.ensures.1 in
+    rw (p.1, p.2) (inl (c.in_err-ready.ensures.refused, record { nothing_taken = refl; no_fault = refl }))
+
+pub returns-in_err-stub-clause-refused : goal.returns-in_err-stub-clause-refused
+returns-in_err-stub-clause-refused g c =
+    let p = err_from_is_err_and c.from_residual-in_err-stub.result c.from_residual-in_err-stub.ensures.1 in
+    let (o, found) = c.in_ok-ready.ensures.ready in
+    let f = files_seen g.F.Files.held g.F.Files.absences g.F.Files.faults g.F.Files.asked c.args.files.now c.make_ready.new.files in
+    let r = c.in_ok-ready.ready in
+    rw (p.1, p.2) (inr (
+      setting_of r.interface o r.side,
+      ready_is f (subject_of c.args.of) r.interface r.number o r.side found c.in_ok-ready.ensures.side,
+      c.in_err-stub.ensures.refused o found.named.is_there,
+    ))
+
+pub returns-in_err-octets-clause-refused : goal.returns-in_err-octets-clause-refused
+returns-in_err-octets-clause-refused g c =
+    let p = err_from_is_err_and c.from_residual-in_err-octets.result c.from_residual-in_err-octets.ensures.1 in
+    let (o, found) = c.in_ok-ready.ensures.ready in
+    let f = files_seen g.F.Files.held g.F.Files.absences g.F.Files.faults g.F.Files.asked c.args.files.now c.make_ready.new.files in
+    let r = c.in_ok-ready.ready in
+    rw (p.1, p.2) (inr (setting_of r.interface o r.side, ready_is f (subject_of c.args.of) r.interface r.number o r.side found c.in_ok-ready.ensures.side, tt))
+
+pub returns-clause-done : goal.returns-clause-done
+returns-clause-done g c =
+    let (o, found) = c.in_ok-ready.ensures.ready in
+    let f = files_seen g.F.Files.held g.F.Files.absences g.F.Files.faults g.F.Files.asked c.args.files.now c.make_ready.new.files in
+    let s = source_seen g.S.Source.left g.S.Source.ended g.S.Source.faults c.args.input.now c.encode_input.new.input in
+    let r = c.in_ok-ready.ready in
+    wrapped_is f s (subject_of c.args.of) c.args.order c.args.call c.args.max r.interface r.number o r.side c.in_ok-stub.stub c.in_ok-octets.octets
+    c.in_ok-ready.ensures.side found (c.in_ok-stub.ensures.done o found.named.is_there)
+    (c.in_ok-octets.ensures ∙ ap (λ l. Pieces c.args.order (head_for r.side r.number) c.args.call c.args.max l) c.as_slice.ensures)
