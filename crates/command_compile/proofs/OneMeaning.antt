@@ -24,7 +24,7 @@ use Rattle.command_refusals.specs.declared.refusal.IdlReason.{IdlReason}
 use Rattle.command_refusals.specs.declared.refusal.Refusal.{Refusal}
 use Rattle.command_refusals.specs.declared.refusal.Refusal.TheVariants.{BadIdl}
 use Rattle.command_compile.specs.AcfFile.{AcfFile, IsAcf, IsLoadedAcf, IsBeside, tree_beside}
-use Rattle.command_compile.specs.Idl.{main_file, resolved_world, AreResolved, Means, IsMainFault, IsNameFault, IsAcfFault, IsBadAcf, IsIdlFault, by_names, by_acf, by_rules, reported_by, reported_fault, reported_beside, IsDueImport, IsDueAcf, IsDueAfter}
+use Rattle.command_compile.specs.Idl.{main_file, name_in, resolved_world, AreResolved, Means, IsMainFault, IsNameFault, IsAcfFault, IsBadAcf, IsIdlFault, by_names, by_acf, by_rules, reported_by, reported_fault, reported_beside, IsDueImport, IsDueAcf, IsDueAfter}
 use Rattle.command_compile.proofs.OneFile.{one_tree, one_no_file, one_cut, never_cut, never_file, never_uncut}
 use Rattle.command_compile.proofs.OneAcf.{one_acf, one_acf_fault, never_acf}
 use Rattle.command_compile.proofs.OneWalk.{IsKept, one_end, one_content, not_missing}
@@ -351,3 +351,35 @@ module _ (k : List ℕ → Option (List ℕ)) (idl text : List ℕ) where
         → IsIdlFault (Some k) idl text acf r → B
     absent_or_bad file r bad (inl due) missing x = absent_import_or_bad file r bad due missing x
     absent_or_bad file r bad (inr due) missing x = absent_acf_or_bad file r bad due missing x
+
+    -- the import is one
+    one_import : (file other : List ℕ) → IsDueImport (Some k) idl text file → IsMissing (Some k) file → IsDueImport (Some k) idl text other → IsMissing (Some k) other
+        → file ≡ other
+    one_import file other due missing due' missing' =
+        let s = and_source due.sources file [] in
+        let s' = and_source due'.sources other [] in
+        let n = length due.sources in
+        let n' = length due'.sources in
+        let w = due_absent (start (main_file idl text)) (all_of 0 due.tree) s n due.sources file refl refl missing due.comes in
+        let w' = due_absent (start (main_file idl text)) (all_of 0 due'.tree) s' n' due'.sources other refl refl missing' due'.comes in
+        let one = one_fault s s' (names.Absent n) (names.Absent n') (inr (due.tree, due.parsed, inl w)) (inr (due'.tree, due'.parsed, inl w')) tt tt in
+        sym (last_name s due.sources file n refl refl) ∙ named s s' n n' one.0 one.1 ∙ last_name s' due'.sources other n' refl refl
+      where
+        number : NameFault → ℕ
+        number (names.Absent m) = m
+        number f = 0
+
+        named : (a b : List Source) (m m' : ℕ) → a ≡ b → names.Absent m ≡ names.Absent m' → name_in a m ≡ name_in b m'
+        named a b m m' e f = λ i. name_in (e i) (number (f i))
+
+    -- one file alone is due and missing
+    pub one_missing : (file other : List ℕ) → IsDueAfter (Some k) idl text acf file → IsMissing (Some k) file → IsDueAfter (Some k) idl text acf other
+        → IsMissing (Some k) other → file ≡ other
+    one_missing file other (inl due) missing (inl due') missing' = one_import file other due missing due' missing'
+    one_missing file other (inl due) missing (inr due') missing' =
+        let a = absent_fault file due missing in
+        done_or_faulty due'.state a.0 (names.Absent a.1) due'.resolved a.2 tt
+    one_missing file other (inr due) missing (inl due') missing' =
+        let a = absent_fault other due' missing' in
+        done_or_faulty due.state a.0 (names.Absent a.1) due.resolved a.2 tt
+    one_missing file other (inr due) missing (inr due') missing' = same_Some _ _ (sym due.named ∙ due'.named)

@@ -15,7 +15,7 @@ use Rattle.idl_names.specs.Sources.{Source, and_source, source}
 use Rattle.idl_names.specs.Walk.{State, Due, Ending, Done, Stopped, Walk, all_done, goes_on, faults, ends, cycle, again, too_many, absent, failed, uncut, no_file, enters, short, short_in_load, short_after_load}
 
 -- the faults of steps: a name or an expression
-abbrev IsStepFault : NameFault → Type 0
+abbrev pub IsStepFault : NameFault → Type 0
 IsStepFault (names.Unknown p) = Unit {0}
 IsStepFault (names.Twice p q) = Unit {0}
 IsStepFault (names.Const p x) = Unit {0}

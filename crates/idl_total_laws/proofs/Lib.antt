@@ -7,3 +7,5 @@ pub mod EndedNames
 pub mod NodeNames
 pub mod MeantNames
 pub mod Judged
+pub mod AcfRead
+pub mod Results
