@@ -14,7 +14,7 @@ use Rattle.nd_value.specs.declared.value.Graph.{Graph}
 use Rattle.nd_value.specs.Fitting.{setting_beside}
 use Rattle.nd_value.specs.Setting.{Setting}
 use Rattle.nd_grammar.specs.declared.reason.Reason.{Reason}
-use Rattle.ndr_decoder_laws.specs.verdict.Verdict.{DecodingSeen, IsDecoded, IsRefused}
+use Rattle.nd_grammar.specs.decoded.Verdict.{DecodingSeen, IsDecoded, IsRefused}
 use Rattle.ndr_decode.specs.Decoding.{IsFault}
 use Rattle.ndr_decoder_state.specs.declared.fault.DecodeFault.{DecodeFault}
 use Rattle.ndr_decoder_state.specs.declared.fault.DecodeFault.TheVariants as fault
@@ -89,7 +89,7 @@ module _ (s t : SourceSeen) (w : Setting) (order : Order) (taken : ℕ) (g : Gra
   }
 
   pub no_end : s.faults.before ≤ s.faults.now → t.faults.before ≡ s.faults.now → (r : Refusal) → IsNoEnd t taken r → IsInputCause (over s t) w order r
-  no_end later same ReadFault rose =
+  no_end later same ReadFault (rose, kept) =
       rose_later s.faults.before s.faults.now t.faults.now later (subst (λ n. Rose n t.faults.now) same rose)
   no_end later same (BadOctets place octets_fault.Trailing) (there, (next, one)) = record {
     octets = first.octets;

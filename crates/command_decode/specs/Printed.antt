@@ -11,7 +11,7 @@ use Rattle.nd_grammar.specs.declared.reason.Reason.{Reason}
 use Rattle.nd_grammar.specs.declared.reason.Reason.TheVariants as reason
 use Rattle.nd_grammar.specs.Represents.{Represents}
 use Rattle.nd_grammar.specs.Bad.{Bad}
-use Rattle.ndr_decoder_laws.specs.verdict.Verdict.{MayFollow, fetched_to}
+use Rattle.nd_grammar.specs.decoded.Verdict.{MayFollow, fetched_to}
 use Rattle.text_grammar.specs.Printed.{IsText}
 use Rattle.command_refusals.specs.declared.refusal.Refusal.{Refusal}
 use Rattle.command_refusals.specs.declared.refusal.Refusal.TheVariants.{Memory, ReadFault, BadOctets}

@@ -1,7 +1,7 @@
 -- What the steps of printing a source answer: the octets of a value are taken, and then the end is met.
 -- `w` is a setting, `s` a source over a step.
 use Rattle.std.specs.Prelude.{◌≡◌, ℕ, true, List, [], ◌∷◌, length}
-use Rattle.std.specs.Io.KnownBytes.{Consumes, IsAtEnd}
+use Rattle.std.specs.Io.KnownBytes.{Consumes, IsAtEnd, Keeps}
 use Rattle.nd_base.specs.declared.octets.Order.{Order}
 use Rattle.nd_base.specs.Over.{SourceSeen, HasRisen}
 use Rattle.nd_value.specs.declared.value.Graph.{Graph}
@@ -26,8 +26,8 @@ pub record IsEnd (s : SourceSeen) : Type 0 where
   pub ended : s.ended ≡ true
   pub none_left : IsAtEnd s.left_now
 
--- why the end was not met after so many octets: an octet was taken, or the source failed
+-- why the end was not met after so many octets: an octet was taken, or the source failed, and then nothing was taken
 abbrev pub IsNoEnd : SourceSeen → ℕ → Refusal → Type 0
-IsNoEnd s taken ReadFault = HasRisen s.faults
+IsNoEnd s taken ReadFault = HasRisen s.faults × Keeps s.left s.left_now
 IsNoEnd s taken (BadOctets place Trailing) = (place ≡ taken) × ((next : ℕ) × Consumes s.left s.left_now (next ∷ []))
 IsNoEnd s taken _ = ⊥

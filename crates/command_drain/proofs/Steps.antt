@@ -1,9 +1,9 @@
 -- The steps of draining a source, one after the other.
 -- `s` is the source over the drain, `u` over the fetch after it, `e` are the ends over the drain.
-use Rattle.std.proofs.Common.{◌≡◌, ◌∙◌, ℕ, ◌≤◌, ◌<◌, List, [], ◌∷◌, ◌++◌, length, Option, sym, subst, ◌⊎◌, inl, inr}
+use Rattle.std.proofs.Common.{◌≡◌, ◌∙◌, ℕ, ◌≤◌, ◌<◌, List, [], ◌∷◌, ◌++◌, length, Option, Some, None, sym, subst, ◌⊎◌, inl, inr}
 use Rattle.std.proofs.KnownBytes.{Consumes-trans}
 use Rattle.std.proofs.lemmas.List.{append-nil}
-use Rattle.std.specs.Io.KnownBytes.{Consumes}
+use Rattle.std.specs.Io.KnownBytes.{Consumes, Keeps}
 use Rattle.nd_base.proofs.Rising.{rose_later}
 use Rattle.nd_base.specs.declared.octets.Order.{Order}
 use Rattle.nd_base.specs.Counts.{Rose}
@@ -16,7 +16,7 @@ use Rattle.nd_value.specs.Fitting.{setting_beside}
 use Rattle.nd_value.specs.Setting.{Setting}
 use Rattle.nd_grammar.specs.declared.reason.Reason.{Reason}
 use Rattle.nd_grammar.proofs.conforming.StreamConforms.{le_or}
-use Rattle.ndr_decoder_laws.specs.verdict.Verdict.{DecodingSeen}
+use Rattle.nd_grammar.specs.decoded.Verdict.{DecodingSeen}
 use Rattle.ndr_pipe.specs.Ends.{EndsSeen}
 use Rattle.ndr_drain.specs.Drained as drained
 use Rattle.ndr_drain.specs.Given.{pipe_count}
@@ -109,6 +109,11 @@ text_is i o side own given its g text same alone printed =
 
 -- ## The end
 
+none_taken : (left now : Option (List ℕ)) → Keeps left now → Consumes left now []
+none_taken None now kept = tt
+none_taken (Some xs) None kept = absurd kept
+none_taken (Some xs) (Some ys) kept = sym kept
+
 module _ (s u : SourceSeen) (e : EndsSeen) (w : Setting) (order : Order) (taken : ℕ) (kept : Graph) (first : IsTaken s e w order taken kept) (meets : u.left ≡ s.left_now) where
   both : (octets : List ℕ) → Consumes u.left u.left_now octets → Consumes s.left u.left_now (first.octets ++ octets)
   both octets taken = Consumes-trans s.left s.left_now u.left_now first.octets octets first.left (subst (λ l. Consumes l u.left_now octets) meets taken)
@@ -126,16 +131,18 @@ module _ (s u : SourceSeen) (e : EndsSeen) (w : Setting) (order : Order) (taken 
     is_text = subst (λ g. IsText w g text) first.kept_is printed;
   }
 
-  taken_whole : IsTakenWhole (over s u) e w order
-  taken_whole = record { octets = first.octets; left = s.left_now; taken = first.left; graph = first.graph; pipes = first.pipes }
+  -- nothing was taken after the value
+  taken_whole : Consumes u.left u.left_now [] → IsTakenWhole (over s u) e w order
+  taken_whole nothing =
+      record { octets = first.octets; taken = subst (Consumes s.left u.left_now) (append-nil first.octets) (both [] nothing); graph = first.graph; pipes = first.pipes }
 
   -- out of memory after the end
-  pub no_text : IsDrainRefusal (over s u) e w order Memory
-  no_text = inr (inr taken_whole)
+  pub no_text : IsEnd u → IsDrainRefusal (over s u) e w order Memory
+  no_text end = inr (inr (taken_whole end.nothing))
 
   pub no_end : s.faults.before ≤ s.faults.now → u.faults.before ≡ s.faults.now → (r : Refusal) → IsNoEnd u taken r → IsDrainRefusal (over s u) e w order r
-  no_end later same ReadFault rose =
-      (rose_later s.faults.before s.faults.now u.faults.now later (subst (λ n. Rose n u.faults.now) same rose), first.pipes.enough, inr taken_whole)
+  no_end later same ReadFault (rose, kept) =
+      (rose_later s.faults.before s.faults.now u.faults.now later (subst (λ n. Rose n u.faults.now) same rose), first.pipes.enough, inr (taken_whole (none_taken u.left u.left_now kept)))
   no_end later same (BadOctets place octets_fault.Trailing) (there, (next, one)) = record {
     octets = first.octets;
     next = next;

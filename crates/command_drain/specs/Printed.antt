@@ -1,6 +1,6 @@
 -- What the octets of a source are printed as where their pipes go to ends, and why they are refused.
 -- `w` is a setting, `s` a source over the call, `e` are the ends over it.
-use Rattle.std.specs.Prelude.{◌≡◌, ◌≤◌, ◌⊎◌, ℕ, List, [], ◌∷◌, ◌++◌, length, drop, Option}
+use Rattle.std.specs.Prelude.{◌≡◌, ◌≤◌, ◌⊎◌, ℕ, List, [], ◌∷◌, ◌++◌, length, drop}
 use Rattle.std.specs.Io.KnownBytes.{Consumes}
 use Rattle.nd_base.specs.declared.octets.Order.{Order}
 use Rattle.nd_base.specs.Over.{SourceSeen, HasRisen, IsUntouched}
@@ -9,7 +9,7 @@ use Rattle.nd_value.specs.Conforms.{Conforms}
 use Rattle.nd_value.specs.Deferral.{before_pipes}
 use Rattle.nd_value.specs.Setting.{Setting, root_list}
 use Rattle.nd_grammar.specs.Represents.{Represents}
-use Rattle.ndr_decoder_laws.specs.verdict.Verdict.{DecodingSeen}
+use Rattle.nd_grammar.specs.decoded.Verdict.{DecodingSeen}
 use Rattle.ndr_drain_laws.specs.parts.Parts.{without_pipes}
 use Rattle.ndr_pipe.specs.Ends.{EndsSeen, AreAsBefore}
 use Rattle.ndr_drain.specs.Drained as drained
@@ -41,11 +41,10 @@ pub record IsPrinted (s : SourceSeen) (e : EndsSeen) (w : Setting) (order : Orde
   pub pipes : ArePipesGiven w order octets graph e
   pub is_text : IsText w (without_pipes w graph) text
 
--- The octets that were taken first are a stream of a graph, whose pipes were given.
+-- The octets that were taken are a stream of a graph, whose pipes were given.
 pub record IsTakenWhole (s : SourceSeen) (e : EndsSeen) (w : Setting) (order : Order) : Type 0 where
   pub octets : List ℕ
-  pub left : Option (List ℕ)
-  pub taken : Consumes s.left left octets
+  pub taken : Consumes s.left s.left_now octets
   pub graph : Graph
   pub pipes : ArePipesGiven w order octets graph e
 

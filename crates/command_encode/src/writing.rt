@@ -39,8 +39,6 @@ pub fn write_octets(
     ensures refused { (o : Operation) → slice_get interface.now.operations fit.now.op ≡ Some o
         → IfErr result (IsWritingCause (setting_beside interface.now o fit.now.side fit.now.given) chunk fit.now.graph) }
 {
-    // A fit's graph conforms.
-    let _conforming = fit.flat();
     let plan = make(alloc, interface)?;
     let mut work = prepare(alloc, &plan, fit, chunk)?;
     let Ok(mut octets) = vec![in alloc; 0u8; work.length() as usize] else {

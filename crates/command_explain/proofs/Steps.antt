@@ -15,7 +15,7 @@ use Rattle.nd_value.specs.Logged.{Logged}
 use Rattle.nd_value.specs.Setting.{Setting}
 use Rattle.nd_grammar.specs.Entry.{end_to_end}
 use Rattle.nd_grammar.specs.Items.{items}
-use Rattle.ndr_decoder_laws.specs.verdict.Verdict.{DecodingSeen, IsDecoded, with_items}
+use Rattle.nd_grammar.specs.decoded.Verdict.{DecodingSeen, IsDecoded, with_items}
 use Rattle.command_decode.specs.Taken.{IsEnd}
 use Rattle.command_decode.proofs.Steps.{over}
 use Rattle.ndr_explain.specs.Explained.{explanation}

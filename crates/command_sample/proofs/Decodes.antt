@@ -15,7 +15,7 @@ use Rattle.nd_value.specs.Setting.{Setting}
 use Rattle.nd_grammar.specs.declared.reason.Reason.{Reason}
 use Rattle.nd_grammar.specs.Represents.{Represents}
 use Rattle.nd_grammar.proofs.OneGraph.{one_graph}
-use Rattle.ndr_decoder_laws.specs.verdict.Verdict.{DecodingSeen, IsDecoded, IsRefused}
+use Rattle.nd_grammar.specs.decoded.Verdict.{DecodingSeen, IsDecoded, IsRefused}
 use Rattle.ndr_decoder_laws.proofs.verdict.NeverRefused.{never_refused}
 use Rattle.command_sample.specs.Interface.{sample_setting, take}
 use Rattle.command_sample.specs.Nodes.{sample_graph}

@@ -22,8 +22,9 @@ use Rattle.nd_grammar.specs.Chosen.{Chosen, pipe_cuts}
 use Rattle.nd_grammar.specs.Entry.{end_of}
 use Rattle.nd_grammar.specs.LegalSide.{IsLegalSide}
 use Rattle.nd_grammar.specs.Stream.{representation}
-use Rattle.nd_grammar.proofs.ChosenRepresents.{chosen_represents}
+use Rattle.nd_grammar.proofs.ChosenRepresents.{chosen_exists, chosen_represents}
 use Rattle.ndr_encode.specs.Work.{WorkSeen, IsWorkFor, IsTooLong, IsChosen, chosen_length}
+use Rattle.ndr_encode.proofs.Lengths.{chosen_length as end_of_octets}
 use Rattle.command_sample.specs.Interface.{sample_types, sample_setting, take}
 use Rattle.command_sample.specs.Nodes.{sample_graph}
 use Rattle.command_sample.proofs.Conforming.{conforms}
@@ -71,11 +72,15 @@ module _ (f : Fitting) (seed n : ℕ) (is : IsSampleFit f seed n) where
 
   pub never_long : (m : ℕ) → IsTooLong f 1 m → ⊥
   never_long m t =
-      let e = many t.operation t.is_there t.steps t.deferral in
-      let is_m = t.long in
+      let g : Graph = sample_graph seed n in
+      let fits : Conforms sample_setting g = conforms seed n is.some is.few in
+      let (octets, c) = chosen_exists sample_setting Little 1 g fits in
+      let is_m : length octets ≡ m = t.many Little octets (λ o there. subst₂ (λ (v : Setting) (h : Graph). Chosen v Little 1 h octets) (sym (own_is o there)) (sym is.graph) c) in
+      let ends = end_of_octets sample_setting sample_side g fits Little 1 octets c c.steps c.deferral in
+      let e = length_is seed n is.some is.few c.steps c.deferral (pipe_cuts 1 (drop (before_pipes (root_list sample_setting)) g.roots)) in
       let past = t.too_long in
       let few = is.few in
-      omega (arith, e, is_m, past, few)
+      omega (arith, e, ends, is_m, past, few)
 
   pub octets_are : (work : WorkSeen) → IsWorkFor f 1 work → (octets : List ℕ) → IsChosen f Little work.chunk octets → length octets ≡ work.length → AreSampleOctets octets seed n
   octets_are work w octets chosen long =

@@ -18,7 +18,7 @@ use Rattle.nd_base.specs.Over.{SourceSeen, HasRisen}
 use Rattle.nd_grammar.specs.declared.reason.Reason.{Reason}
 use Rattle.nd_grammar.specs.declared.reason.Reason.TheVariants as reason
 use Rattle.nd_grammar.specs.Bad.{Bad}
-use Rattle.ndr_decoder_laws.specs.verdict.Verdict.{MayFollow}
+use Rattle.nd_grammar.specs.decoded.Verdict.{MayFollow}
 use Rattle.std.specs.Io.KnownBytes.{IsAtEnd}
 use Rattle.command_decode.specs.Printed.{IsWhole, IsRefusedInput, IsTrailedInput}
 use Rattle.dceidl.specs.Rows.{IsRefusedAt, IsTrailing, AreGiven}

@@ -12,7 +12,7 @@ use Rattle.nd_value.specs.declared.value.Graph.{Graph}
 use Rattle.nd_value.specs.Tree as tree
 use Rattle.nd_value.specs.Tree.{Tree, Trees, Label, node, none, more, cell_in, Referent, trees}
 use Rattle.nd_value.specs.Setting.{Setting, root_list, cell_tree, cell_of_number}
-use Rattle.nd_value.specs.Canon.{target}
+use Rattle.nd_value.specs.Canon.{canonical_number, target}
 use Rattle.nd_value.specs.Fitting.{Fitting, IsFit, setting_beside}
 use Rattle.nd_value.specs.Names.{AreThere, HasNames, cells_in, named_by}
 use Rattle.nd_value.specs.Same.{Same, renumbered, renumbered_label}
@@ -207,6 +207,13 @@ module _ (g : Graph) (numbers cells : List ℕ) (o : IsOrder g numbers cells) wh
           tree_image (length g.cells) m x.val (cell_there g.cells c x e names.cells) ∙ sym (ap (λ (u : Referent). more u.val none) s),
         ));
   }
+
+-- the graph that is renumbered is the same, each cell with its canonical number
+pub same_by_order : (g : Graph) (numbers cells : List ℕ) (o : IsOrder g numbers cells) → HasNames g
+    → (s : Same g (renumbered_graph numbers cells g)) × ((c : ℕ) → 0 < c → c ≤ length g.cells → s.image c ≡ canonical_number o.names c)
+unfolding is_same
+same_by_order g numbers cells o names =
+    (is_same g numbers cells o names, λ c lo hi. image_inside (length g.cells) (λ d. get_or numbers d 0) c lo hi ∙ o.canonical c)
 
 -- ## Fits
 

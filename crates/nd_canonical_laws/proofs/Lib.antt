@@ -1,1 +1,5 @@
 pub mod NamingOrder
+pub mod Images
+mod CarriedNumbers
+pub mod OneCanonical
+pub mod CanonicalForms

@@ -20,3 +20,9 @@ pub fn named_in_deferral_order()
     ensures canon { (f c : Fitting) → IsFit f → IsCanonical f c → (o : Operation) → slice_get f.interface.operations f.op ≡ Some o
         → IsCanon (setting_beside f.interface o f.side f.given) f.graph c.graph }
 {}
+
+/// Each graph that conforms has one canonical form: its cells are numbered in the order in which the stream names them.
+pub fn one_canonical_form()
+    ensures exists { (w : Setting) → IsLegalSide w → (g : Graph) → Conforms w g → (h : Graph) × IsCanon w g h }
+    ensures alone { (w : Setting) → IsLegalSide w → (g h k : Graph) → Conforms w g → IsCanon w g h → IsCanon w g k → h ≡ k }
+{}

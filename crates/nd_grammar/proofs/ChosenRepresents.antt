@@ -41,7 +41,8 @@ use Rattle.nd_grammar.specs.Chosen.{Chosen, octets_from, pipe_cuts, cut_within}
 use Rattle.nd_value.specs.Same.{Same}
 use Rattle.nd_grammar.proofs.OneGraph.{IsSpelled, one_spelled}
 use Rattle.std.proofs.lemmas.List.{append-nil}
-use Rattle.nd_grammar.proofs.conforming.GoodEntries.{IsNoPipe, HoldsNoPipe}
+use Rattle.nd_grammar.proofs.conforming.GoodEntries.{HoldsNoPipe}
+use Rattle.nd_grammar.specs.ReaderState.{IsNoPipe}
 use Rattle.nd_grammar.proofs.conforming.GoodStream.{PendingGood, StandsGood, DueGood, standing_due, pending_cell, root_good, roots_due}
 use Rattle.nd_grammar.proofs.legal.LegalPipes.{holds_no_pipe, plain_before}
 use Rattle.nd_grammar.proofs.LegalSides.{laid_out}

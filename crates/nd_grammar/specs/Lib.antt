@@ -17,3 +17,6 @@ pub mod StreamReader
 pub mod FewItems
 pub mod Tested
 pub mod NamedOrder
+pub mod decoded
+pub mod MadeTrees
+pub mod ReaderState

@@ -18,7 +18,8 @@ use Rattle.nd_value.specs.Setting.{Setting, cell_home, root_list}
 use Rattle.nd_grammar.specs.Entry.{EntryAt}
 use Rattle.nd_grammar.specs.LegalSide.{IsLegalSide}
 use Rattle.nd_grammar.specs.StreamReader.{Reading}
-use Rattle.nd_grammar.proofs.legal.LegalUsable.{Usable, root_usable}
+use Rattle.nd_grammar.proofs.legal.LegalUsable.{root_usable}
+use Rattle.nd_grammar.specs.ReaderState.{Usable}
 use Rattle.ndr_code.specs.declared.instr.Instr.TheVariants as op
 use Rattle.ndr_code.specs.declared.plan.Plan.{Plan}
 use Rattle.ndr_code.specs.Code.{code_of, root_by, whole_at}
@@ -28,7 +29,7 @@ use Rattle.ndr_decoder_laws.proofs.steps.PlanRuns.{planned}
 use Rattle.ndr_decoder_laws.specs.runs.Reaching.{IsSafe, Reaches}
 use Rattle.ndr_decoder_state.specs.declared.machine.Machine.{Machine}
 use Rattle.ndr_decoder_state.specs.Seen.{state_of}
-use Rattle.ndr_decoder_laws.specs.verdict.Verdict.{is_direct}
+use Rattle.nd_grammar.specs.decoded.Verdict.{is_direct}
 use Rattle.ndr_decoder_laws.specs.stream.Between.{Opens}
 use Rattle.ndr_decoder_laws.proofs.stream.DirectEnds.{its_usable}
 use Rattle.ndr_decoder_laws.proofs.stream.FineTypes.{usable_fine}

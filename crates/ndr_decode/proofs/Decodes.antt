@@ -27,7 +27,7 @@ use Rattle.ndr_decoder_state.specs.declared.fault.DecodeFault.{DecodeFault}
 use Rattle.ndr_decoder_state.specs.declared.fault.DecodeFault.TheVariants as fault
 use Rattle.ndr_decoder_laws.specs.stream.Between.{Begins}
 use Rattle.ndr_decoder_laws.proofs.stream.StreamBegins.{stream_begins}
-use Rattle.ndr_decoder_laws.specs.verdict.Verdict.{DecodingSeen, IsDecoded}
+use Rattle.nd_grammar.specs.decoded.Verdict.{DecodingSeen, IsDecoded}
 use Rattle.ndr_decoder_pending.specs.declared.stream.Stream.{Stream}
 use Rattle.ndr_decoder_pending.specs.Seen.{between_of}
 use Rattle.ndr_decoder_laws.specs.stream.Report.{the_stream}

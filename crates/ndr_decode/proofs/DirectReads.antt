@@ -36,7 +36,7 @@ use Rattle.ndr_decoder_laws.proofs.runs.Safe.{safe_in_home}
 use Rattle.ndr_decoder_state.specs.Notes.{NotesSeen}
 use Rattle.ndr_decoder_state.specs.declared.fault.DecodeFault.{DecodeFault}
 use Rattle.ndr_decoder_value.specs.Reaching.{EndsWhole, EndsFault}
-use Rattle.ndr_decoder_laws.specs.verdict.Verdict.{is_direct}
+use Rattle.nd_grammar.specs.decoded.Verdict.{is_direct}
 use Rattle.ndr_decoder_laws.specs.declared.first.First.TheVariants as first
 use Rattle.ndr_decoder_laws.specs.declared.kept.Kept.{Kept}
 use Rattle.ndr_decoder_laws.specs.declared.kept.KeptRoot.{KeptRoot}

@@ -63,7 +63,7 @@ use Rattle.ndr_decoder_pending.specs.Ends.{HomeRan, with_reference}
 use Rattle.ndr_decoder_pending.specs.Seen.{KeepsAll, ReferenceEnds, between_of}
 use Rattle.ndr_decoder_pending.specs.declared.stream.Stream.{Stream}
 use Rattle.ndr_decoder_pending.proofs.GraphEnds.{cell_ends}
-use Rattle.ndr_decoder_laws.specs.verdict.Verdict.{DecodingSeen, direct_roots, is_direct}
+use Rattle.nd_grammar.specs.decoded.Verdict.{DecodingSeen, direct_roots, is_direct}
 use Rattle.ndr_decode.specs.Streaming.{FaultOf, HomeWhole, Reads, Stands, WentOn, cells_of, purpose_of}
 use Rattle.ndr_decode.proofs.AtRoots.{code_is, direct_is, direct_placed_safe, legal_is, planned_is}
 use Rattle.ndr_decode.proofs.Counted.{fault_counted, with_steps}

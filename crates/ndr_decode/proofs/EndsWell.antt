@@ -11,7 +11,7 @@ use Rattle.nd_grammar.specs.Items.{items}
 use Rattle.nd_grammar.specs.LegalSide.{IsLegalSide}
 use Rattle.nd_grammar.specs.StreamReader.{read_stream}
 use Rattle.ndr_decoder_laws.specs.reader.Around.{going}
-use Rattle.ndr_decoder_laws.specs.verdict.Verdict.{DecodingSeen, IsDecoded}
+use Rattle.nd_grammar.specs.decoded.Verdict.{DecodingSeen, IsDecoded}
 use Rattle.ndr_decoder_laws.specs.stream.Calls.{Follows}
 use Rattle.ndr_decoder_laws.proofs.stream.Joined as joined
 use Rattle.ndr_decoder_laws.proofs.stream.Reports as law

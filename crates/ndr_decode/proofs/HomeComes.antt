@@ -41,8 +41,8 @@ use Rattle.ndr_decoder_state.specs.Notes.{NotesSeen, all_noted, ticks}
 use Rattle.ndr_decoder_state.specs.declared.fault.DecodeFault.{DecodeFault}
 use Rattle.ndr_decoder_state.specs.declared.fault.DecodeFault.TheVariants as fault
 use Rattle.ndr_decoder_value.specs.Reaching.{IsLogged, IsLoggedPart, End, EndsWhole, EndsBad, EndsUnread, EndsCutOff, EndsFault}
-use Rattle.ndr_decoder_laws.specs.verdict.Needed.{IsNeeded}
-use Rattle.ndr_decoder_laws.specs.verdict.Verdict.{DecodingSeen, with_items, direct_roots}
+use Rattle.nd_grammar.specs.decoded.Needed.{IsNeeded}
+use Rattle.nd_grammar.specs.decoded.Verdict.{DecodingSeen, with_items, direct_roots}
 use Rattle.ndr_decoder_laws.specs.stream.Added.{Added}
 use Rattle.ndr_decoder_laws.specs.stream.Between.{AreNeeded}
 use Rattle.ndr_decoder_laws.specs.stream.Calls.{Took, TookPart, Refused, Unread, CutOff, RefusesWith, GoesWith}

@@ -11,9 +11,8 @@ use Rattle.nd_value.specs.Tree.{Tree}
 use Rattle.nd_grammar.specs.Entry.{EntryAt}
 use Rattle.nd_grammar.specs.LegalSide.{IsLegalSide}
 use Rattle.nd_grammar.specs.StreamReader.{Reading}
-use Rattle.nd_grammar.proofs.reader.ReaderMoves.{paid}
+use Rattle.nd_grammar.specs.ReaderState.{paid, State as IsReading}
 use Rattle.nd_grammar.proofs.reader.ReaderRoots.{few_before}
-use Rattle.nd_grammar.proofs.reader.ReaderStates.{State as IsReading}
 use Rattle.nd_grammar.proofs.reader.ReaderStream.{roots_few}
 use Rattle.ndr_decoder_laws.specs.reader.Around.{going}
 use Rattle.ndr_decoder_laws.specs.steps.Good.{Told}

@@ -20,7 +20,7 @@ use Rattle.ndr_decoder_state.specs.declared.fault.DecodeFault.{DecodeFault}
 use Rattle.ndr_decoder_state.specs.declared.fault.DecodeFault.TheVariants as fault
 use Rattle.ndr_decoder_state.specs.declared.machine.Machine.{Machine}
 use Rattle.ndr_decoder_state.specs.declared.machine.Owed.{Owed}
-use Rattle.ndr_decoder_laws.specs.verdict.Verdict.{DecodingSeen, decoding_seen}
+use Rattle.nd_grammar.specs.decoded.Verdict.{DecodingSeen, decoding_seen}
 use Rattle.ndr_decoder_laws.specs.stream.Between.{Agrees, Between}
 use Rattle.ndr_decoder_laws.specs.stream.Calls.{Follows, Took}
 use Rattle.ndr_decoder_pending.specs.declared.stream.Stream.{Stream}

@@ -17,11 +17,12 @@ use Rattle.nd_value.specs.declared.item.Item.{Item}
 use Rattle.nd_value.specs.Nodes.{child_types}
 use Rattle.nd_value.specs.Setting.{Setting, cell_at, unread}
 use Rattle.nd_value.specs.Tree as tree
-use Rattle.nd_value.specs.Tree.{Flat, Referent, Tree, Trees, count, flat, joined, more, node, node_count, none}
+use Rattle.nd_value.specs.Tree.{Referent, Tree, Trees, count, flat, joined, more, node, node_count, none}
 use Rattle.nd_flat.specs.Building.{Building, closed, opened, raised, with_nodes, with_root}
 use Rattle.nd_grammar.specs.LegalSide.{IsLegalSide}
 use Rattle.nd_grammar.specs.Reader.{Names, Progress, Read, is_stopped, read_if, read_in_place, read_list, tree_nodes}
-use Rattle.nd_grammar.proofs.legal.LegalUsable.{Usable, children_usable}
+use Rattle.nd_grammar.proofs.legal.LegalUsable.{children_usable}
+use Rattle.nd_grammar.specs.ReaderState.{Usable}
 use Rattle.std.specs.Prelude.{not, ◌&&◌}
 use Rattle.nd_types.specs.Layout.{hoists}
 use Rattle.ndr_code.specs.Code.{place_at}

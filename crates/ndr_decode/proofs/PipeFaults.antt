@@ -15,7 +15,7 @@ use Rattle.ndr_refs.specs.declared.referents.Known.{Known}
 use Rattle.ndr_decoder_laws.specs.steps.Good.{Told}
 use Rattle.ndr_decoder_laws.specs.steps.Steps.{Place}
 use Rattle.ndr_decoder_state.specs.declared.fault.DecodeFault.{DecodeFault}
-use Rattle.ndr_decoder_laws.specs.verdict.Verdict.{DecodingSeen, direct_roots}
+use Rattle.nd_grammar.specs.decoded.Verdict.{DecodingSeen, direct_roots}
 use Rattle.ndr_decoder_laws.specs.stream.Added.{Goes}
 use Rattle.ndr_decoder_laws.specs.stream.Calls.{CutOff, Took}
 use Rattle.ndr_decoder_laws.specs.stream.Report.{StreamCut, the_stream}

@@ -21,7 +21,7 @@ use Rattle.nd_grammar.specs.Reader.{Names}
 use Rattle.ndr_decoder_laws.specs.runs.Paid.{AllRead, IsPaid, paid}
 use Rattle.ndr_decoder_state.specs.declared.machine.Machine.{Machine}
 use Rattle.ndr_decoder_state.specs.Seen.{state_of}
-use Rattle.ndr_decoder_laws.specs.verdict.Verdict.{DecodingSeen}
+use Rattle.nd_grammar.specs.decoded.Verdict.{DecodingSeen}
 use Rattle.ndr_decoder_laws.specs.stream.Calls.{Took}
 use Rattle.ndr_decoder_laws.specs.pipes.Pipes.{InPipe, InPipes, Position, at_chunk}
 use Rattle.ndr_decoder_laws.proofs.pipes.PipesBegin.{pipe_begins}

@@ -25,7 +25,7 @@ use Rattle.ndr_decoder_state.specs.declared.fault.DecodeFault.TheVariants as fau
 use Rattle.ndr_decoder_state.specs.declared.machine.Machine.{Machine}
 use Rattle.ndr_decoder_state.specs.Notes.{NotesSeen}
 use Rattle.ndr_decoder_state.specs.Seen.{outside, state_of}
-use Rattle.ndr_decoder_laws.specs.verdict.Verdict.{DecodingSeen}
+use Rattle.nd_grammar.specs.decoded.Verdict.{DecodingSeen}
 use Rattle.ndr_decoder_laws.specs.stream.Calls.{Follows}
 use Rattle.ndr_decoder_laws.specs.stream.Report.{StreamCut, the_stream}
 use Rattle.ndr_decoder_laws.proofs.stream.Joined.{took_twice}

@@ -22,7 +22,7 @@ use Rattle.ndr_decoder_laws.specs.declared.first.First.{First}
 use Rattle.ndr_decoder_laws.specs.steps.Steps.{State}
 use Rattle.ndr_decoder_state.specs.declared.machine.Machine.{Machine}
 use Rattle.ndr_decoder_state.specs.Seen.{Outside, outside, state_of}
-use Rattle.ndr_decoder_laws.specs.verdict.Verdict.{DecodingSeen, is_direct}
+use Rattle.nd_grammar.specs.decoded.Verdict.{DecodingSeen, is_direct}
 use Rattle.ndr_decoder_laws.specs.declared.kept.Kept.{Kept}
 use Rattle.ndr_decoder_laws.specs.declared.kept.KeptRoot.{KeptRoot}
 use Rattle.ndr_decoder_laws.specs.stream.Between.{Agrees, Between, IsKeptHome, RootAdded, home_target, root_read}

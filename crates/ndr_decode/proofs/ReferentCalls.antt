@@ -15,7 +15,7 @@ use Rattle.nd_flat.specs.Building.{closed, opened}
 use Rattle.nd_grammar.specs.Entry.{EntryAt}
 use Rattle.nd_grammar.specs.LegalSide.{IsLegalSide}
 use Rattle.nd_grammar.specs.StreamReader.{Reading}
-use Rattle.nd_grammar.proofs.legal.LegalUsable.{Usable}
+use Rattle.nd_grammar.specs.ReaderState.{Usable}
 use Rattle.ndr_code.specs.declared.plan.Plan.{Plan}
 use Rattle.ndr_code.specs.Code.{whole_at}
 use Rattle.ndr_decoder_laws.specs.runs.Paid.{IsPaid}

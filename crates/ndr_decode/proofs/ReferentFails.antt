@@ -21,7 +21,7 @@ use Rattle.ndr_decoder_laws.specs.reader.Around.{stopped}
 use Rattle.ndr_decoder_laws.specs.steps.Steps.{State}
 use Rattle.ndr_decoder_state.specs.declared.machine.Owed.{Owed}
 use Rattle.ndr_decoder_state.specs.Seen.{owed_of}
-use Rattle.ndr_decoder_laws.specs.verdict.Verdict.{DecodingSeen}
+use Rattle.nd_grammar.specs.decoded.Verdict.{DecodingSeen}
 use Rattle.ndr_decoder_laws.specs.declared.kept.Kept.{Kept}
 use Rattle.ndr_decoder_laws.specs.stream.Between.{Agrees, IsKeptHome, home_target, kept_at}
 use Rattle.ndr_decoder_laws.specs.stream.Calls.{CutOff, Refused, TookPart}

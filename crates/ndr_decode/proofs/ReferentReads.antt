@@ -22,9 +22,7 @@ use Rattle.nd_grammar.specs.Entry.{EntryAt}
 use Rattle.nd_grammar.specs.LegalSide.{IsLegalSide}
 use Rattle.nd_grammar.specs.Reader.{Read}
 use Rattle.nd_grammar.specs.StreamReader.{Reading}
-use Rattle.nd_grammar.proofs.legal.LegalUsable.{Usable}
-use Rattle.nd_grammar.proofs.reader.ReaderCells.{no_names}
-use Rattle.nd_grammar.proofs.reader.ReaderNames.{PointerAt, cell_in}
+use Rattle.nd_grammar.specs.ReaderState.{Usable, no_names, PointerAt, cell_in}
 use Rattle.nd_grammar.proofs.reader.ReaderStates.{at_cell}
 use Rattle.ndr_code.specs.declared.instr.Instr.{Instr}
 use Rattle.ndr_code.specs.declared.lists.EnumList.{EnumList}

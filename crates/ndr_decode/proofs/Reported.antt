@@ -8,7 +8,7 @@ use Rattle.nd_grammar.specs.FewItems.{but_gaps}
 use Rattle.nd_grammar.specs.LegalSide.{IsLegalSide}
 use Rattle.ndr_decoder_state.specs.declared.fault.DecodeFault.{DecodeFault}
 use Rattle.ndr_decoder_state.specs.declared.fault.DecodeFault.TheVariants as fault
-use Rattle.ndr_decoder_laws.specs.verdict.Verdict.{DecodingSeen, IsCutOff}
+use Rattle.nd_grammar.specs.decoded.Verdict.{DecodingSeen, IsCutOff}
 use Rattle.ndr_decoder_laws.specs.stream.Calls.{CutOff, TookPart}
 use Rattle.ndr_decoder_laws.specs.stream.Report.{IsReported, the_stream}
 use Rattle.ndr_decoder_laws.proofs.stream.Reports as law

@@ -5,7 +5,7 @@ use Rattle.std.specs.Prelude.{slice_get}
 use Rattle.nd_base.specs.declared.octets.Order.{Order}
 use Rattle.nd_base.specs.declared.TheConstants.{STREAM_LIMIT}
 use Rattle.nd_base.specs.Over.{SourceSeen}
-use Rattle.nd_grammar.proofs.legal.LegalUsable.{Usable}
+use Rattle.nd_grammar.specs.ReaderState.{Usable}
 use Rattle.nd_types.specs.declared.types.Operation.{Operation}
 use Rattle.nd_types.specs.Legal.{IsLegal}
 use Rattle.nd_types.specs.Table.{type_at}
@@ -32,7 +32,7 @@ use Rattle.ndr_decoder_laws.proofs.runs.Safe.{safe_in_home}
 use Rattle.ndr_decoder_state.specs.Notes.{NotesSeen}
 use Rattle.ndr_decoder_state.specs.declared.fault.DecodeFault.{DecodeFault}
 use Rattle.ndr_decoder_value.specs.Reaching.{EndsWhole, EndsFault}
-use Rattle.ndr_decoder_laws.specs.verdict.Verdict.{is_direct}
+use Rattle.nd_grammar.specs.decoded.Verdict.{is_direct}
 use Rattle.ndr_decoder_laws.specs.declared.kept.KeptRoot.{KeptRoot}
 use Rattle.ndr_decoder_laws.specs.stream.Between.{Between, Agrees, Opens, IsKeptRoot, RootAdded, home_target, root_read}
 use Rattle.ndr_decoder_laws.proofs.stream.FewReferences.{few_now}

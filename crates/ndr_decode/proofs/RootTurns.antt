@@ -27,7 +27,7 @@ use Rattle.ndr_code.specs.declared.plan.Plan.{Plan}
 use Rattle.ndr_code.specs.Code.{checks_at, root_by, value_roots}
 use Rattle.ndr_code.specs.Lines.{line_at}
 use Rattle.ndr_decoder_state.specs.declared.fault.DecodeFault.{DecodeFault}
-use Rattle.ndr_decoder_laws.specs.verdict.Verdict.{DecodingSeen, decoding_seen}
+use Rattle.nd_grammar.specs.decoded.Verdict.{DecodingSeen, decoding_seen}
 use Rattle.ndr_decoder_laws.specs.stream.Between.{Begins}
 use Rattle.ndr_decoder_laws.specs.stream.Calls.{Follows}
 use Rattle.ndr_decoder_laws.proofs.stream.StreamBegins.{stream_begins}

@@ -33,7 +33,7 @@ use Rattle.ndr_decoder_laws.specs.stream.Calls.{Follows}
 use Rattle.ndr_code.specs.Tried.{given_number}
 use Rattle.ndr_decoder_laws.specs.stream.Parameters.{TestsPass, parameter_tests, root_number, root_subject}
 use Rattle.ndr_decoder_laws.specs.stream.Tests.{disagreement}
-use Rattle.ndr_decoder_laws.specs.verdict.Verdict.{DecodingSeen}
+use Rattle.nd_grammar.specs.decoded.Verdict.{DecodingSeen}
 use Rattle.ndr_decoder_pending.specs.declared.stream.Stream.{Stream}
 use Rattle.ndr_decoder_pending.specs.Seen.{between_of}
 use Rattle.ndr_decoder_laws.specs.stream.Report.{the_head, the_stream}

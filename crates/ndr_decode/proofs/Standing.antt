@@ -24,7 +24,7 @@ use Rattle.ndr_decoder_laws.specs.reader.Around.{stopped}
 use Rattle.ndr_decoder_laws.specs.declared.first.First.{First}
 use Rattle.ndr_decoder_laws.specs.steps.Good.{Told}
 use Rattle.ndr_decoder_laws.specs.steps.Steps.{first_found, place_of, place_in}
-use Rattle.ndr_decoder_laws.specs.verdict.Verdict.{DecodingSeen, with_items}
+use Rattle.nd_grammar.specs.decoded.Verdict.{DecodingSeen, with_items}
 use Rattle.ndr_decoder_laws.specs.stream.Added.{Goes}
 use Rattle.ndr_decoder_laws.specs.stream.Between.{Agrees, Between}
 use Rattle.ndr_decoder_laws.specs.stream.Calls.{CutOff, Follows, Refused, Took}

@@ -4,8 +4,7 @@ use Rattle.nd_base.specs.Over.{SourceSeen}
 use Rattle.nd_value.specs.Setting.{Setting}
 use Rattle.ndr_decoder_state.specs.declared.fault.DecodeFault.{DecodeFault}
 use Rattle.ndr_decoder_state.specs.declared.fault.DecodeFault.TheVariants as fault
-use Rattle.ndr_decoder_laws.specs.verdict.Verdict.{DecodingSeen, IsRefused, IsCutOff}
-use Rattle.ndr_decoder_laws.specs.stream.Report.{IsUnread}
+use Rattle.nd_grammar.specs.decoded.Verdict.{DecodingSeen, IsRefused, IsCutOff, IsUnread}
 
 abbrev pub IsFault : Setting → Order → SourceSeen → DecodeFault → DecodingSeen → Type 0
 IsFault w order s (fault.Bad place why) t = IsRefused w order s place why t

@@ -31,7 +31,7 @@ use Rattle.ndr_decoder_laws.specs.runs.Paid.{IsPaid}
 use Rattle.ndr_decoder_state.specs.declared.fault.DecodeFault.{DecodeFault}
 use Rattle.ndr_decoder_state.specs.declared.machine.Machine.{Machine}
 use Rattle.ndr_decoder_state.specs.Seen.{state_of}
-use Rattle.ndr_decoder_laws.specs.verdict.Verdict.{DecodingSeen, direct_roots}
+use Rattle.nd_grammar.specs.decoded.Verdict.{DecodingSeen, direct_roots}
 use Rattle.ndr_decoder_laws.specs.stream.Calls.{Took}
 use Rattle.ndr_decoder_laws.specs.stream.Parameters.{TestsPass, parameter_tests}
 use Rattle.ndr_decoder_laws.specs.pipes.Pipes.{InPipe, InPipes, Position, at_chunk}

@@ -30,7 +30,7 @@ use Rattle.ndr_decoder_state.specs.declared.fault.DecodeFault.{DecodeFault}
 use Rattle.ndr_decoder_state.specs.declared.fault.DecodeFault.TheVariants as fault
 use Rattle.ndr_decoder_laws.specs.steps.Good.{Whole}
 use Rattle.ndr_decoder_laws.specs.steps.Steps.{State}
-use Rattle.ndr_decoder_laws.specs.verdict.Verdict.{DecodingSeen}
+use Rattle.nd_grammar.specs.decoded.Verdict.{DecodingSeen}
 use Rattle.ndr_decoder_laws.specs.stream.Between.{Agrees, AreNeeded, Between}
 use Rattle.ndr_decoder_laws.specs.stream.Calls.{Took, Refused, CutOff, Unread}
 use Rattle.ndr_decoder_laws.specs.stream.Report.{Extent, the_head}

@@ -7,7 +7,7 @@ ghost use Rattle.nd_types.specs.Roots.{roots_of};
 ghost use Rattle.ndr_code.specs.Code.{value_roots};
 ghost use Rattle.ndr_code.specs.Lines.{line_at};
 ghost use Rattle.ndr_code.specs.declared.lists.PlanLine.TheVariants as plan_line;
-ghost use Rattle.ndr_decoder_laws.specs.verdict.Verdict.{decoding_seen};
+ghost use Rattle.nd_grammar.specs.decoded.Verdict.{decoding_seen};
 ghost use Rattle.ndr_decode.specs.Piping.{CallsPipe, ChunkReads, ElementsRun, IsAtChunk, IsAtPipe, IsAtPipes, PipeReads, StreamEnds, purpose_in};
 ghost use Rattle.ndr_decode.specs.Streaming.{purpose_of};
 

@@ -9,7 +9,7 @@ ghost use Rattle.nd_value.specs.Setting.{Setting};
 ghost use Rattle.nd_flat.specs.Building.{CanClose, fitting};
 ghost use Rattle.nd_grammar.specs.LegalSide.{IsLegalSide};
 ghost use Rattle.ndr_decoder_state.specs.declared.fault.DecodeFault.TheVariants.{ReadFault};
-ghost use Rattle.ndr_decoder_laws.specs.verdict.Verdict.{IsDecoded, decoding_seen};
+ghost use Rattle.nd_grammar.specs.decoded.Verdict.{IsDecoded, decoding_seen};
 ghost use Rattle.ndr_decoder_laws.specs.stream.Between.{Begins};
 ghost use Rattle.ndr_decoder_pending.specs.Seen.{between_of};
 ghost use Rattle.ndr_decode.specs.Decoding.{IsFault};

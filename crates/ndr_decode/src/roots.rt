@@ -9,7 +9,7 @@ ghost use Rattle.ndr_code.specs.Code.{checks_at, value_roots};
 ghost use Rattle.ndr_code.specs.Lines.{line_at, side_number};
 ghost use Rattle.ndr_code.specs.declared.instr.Instr.{Instr};
 ghost use Rattle.ndr_code.specs.declared.instr.Instr.TheVariants as op;
-ghost use Rattle.ndr_decoder_laws.specs.verdict.Verdict.{decoding_seen};
+ghost use Rattle.nd_grammar.specs.decoded.Verdict.{decoding_seen};
 ghost use Rattle.ndr_decoder_laws.specs.stream.Between.{Begins};
 ghost use Rattle.ndr_decoder_pending.specs.Seen.{between_of};
 ghost use Rattle.ndr_decode.specs.Streaming.{IsAtRoot, RootReads, RootsRead, purpose_of};

@@ -3,7 +3,7 @@ ghost use Rattle.std.specs.Prelude.{◌≡◌, ◌≤◌, ◌+◌, Some, None, [
 ghost use Rattle.nd_base.specs.Over.{source_seen};
 ghost use Rattle.nd_types.specs.declared.types.Class.TheVariants.{Full};
 ghost use Rattle.ndr_decoder_state.specs.Seen.{agreement_of, owed_of};
-ghost use Rattle.ndr_decoder_laws.specs.verdict.Verdict.{decoding_seen};
+ghost use Rattle.nd_grammar.specs.decoded.Verdict.{decoding_seen};
 ghost use Rattle.ndr_decoder_laws.specs.stream.Between.{kept_at};
 ghost use Rattle.ndr_decode.specs.Streaming.{IsAtReferent, IsStreaming, PendingReads, ReferentReads, purpose_of, with_taken};
 ghost use Rattle.ndr_decode.specs.Tried.{AreTried};

@@ -22,9 +22,8 @@ use Rattle.nd_flat.proofs.Keepables.{number_keepable}
 use Rattle.nd_grammar.specs.Entry.{EntryAt}
 use Rattle.nd_grammar.specs.LegalSide.{IsLegalSide}
 use Rattle.nd_grammar.specs.StreamReader.{Reading}
-use Rattle.nd_grammar.proofs.reader.MadeTrees.{MadeNode, MadeTrees}
-use Rattle.nd_grammar.proofs.reader.ReaderCells.{CellMade}
-use Rattle.nd_grammar.proofs.reader.ReaderStates.{RootsMade}
+use Rattle.nd_grammar.specs.MadeTrees.{MadeNode, MadeTrees}
+use Rattle.nd_grammar.specs.ReaderState.{CellMade, RootsMade}
 use Rattle.ndr_decoder_laws.specs.stream.Between.{Between, Keeps, Agrees}
 use Rattle.ndr_decoder_laws.specs.stream.Parameters.{root_number, with_pipes}
 use Rattle.ndr_decoder_laws.proofs.stream.Parameters as law

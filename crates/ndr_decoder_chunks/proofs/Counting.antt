@@ -36,9 +36,9 @@ use Rattle.ndr_decoder_laws.specs.stream.Added.{Goes}
 use Rattle.ndr_decoder_laws.specs.stream.Calls.{TookPart, Refused, CutOff, Unread}
 use Rattle.ndr_decoder_laws.specs.stream.Report.{AreCells, StreamRefused, StreamCut, the_stream}
 use Rattle.ndr_decoder_laws.proofs.stream.Needing.{NeededAfter, needed_more}
-use Rattle.ndr_decoder_laws.specs.verdict.Needed.{IsNeeded}
-use Rattle.ndr_decoder_laws.proofs.verdict.CellsSeen.{CellsSeen}
-use Rattle.ndr_decoder_laws.specs.verdict.Verdict.{DecodingSeen, direct_roots, with_items}
+use Rattle.nd_grammar.specs.decoded.Needed.{IsNeeded}
+use Rattle.ndr_decoder_laws.specs.verdict.CellsSeen.{CellsSeen}
+use Rattle.nd_grammar.specs.decoded.Verdict.{DecodingSeen, direct_roots, with_items}
 use Rattle.ndr_decoder_laws.specs.pipes.Pipes.{InPipe, Position, Rest, at_chunk, at_count, count_item, past_count, past_gap}
 use Rattle.ndr_decoder_laws.proofs.pipes.PipeEntries.{gap_cut, gap_passes, chunk_goes}
 use Rattle.ndr_decoder_laws.proofs.pipes.Counts.{count_long, count_cut, count_ends, count_goes_on, count_adds}

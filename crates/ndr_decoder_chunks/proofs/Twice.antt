@@ -17,7 +17,7 @@ use Rattle.ndr_decoder_state.specs.declared.machine.Machine.{Machine}
 use Rattle.ndr_decoder_laws.specs.stream.Calls.{Follows}
 use Rattle.ndr_decoder_laws.specs.stream.Report.{the_stream}
 use Rattle.ndr_decoder_laws.proofs.stream.Joined.{took_twice, took_then_refused, took_then_unread, took_then_cut}
-use Rattle.ndr_decoder_laws.specs.verdict.Verdict.{DecodingSeen}
+use Rattle.nd_grammar.specs.decoded.Verdict.{DecodingSeen}
 use Rattle.ndr_decoder_laws.specs.pipes.Pipes.{Position}
 use Rattle.ndr_decoder_chunks.specs.Chunks.{AfterCount, Counts, FaultOf, GapRead, HasMoved}
 use Rattle.ndr_decoder_chunks.proofs.Counting.{faulty}

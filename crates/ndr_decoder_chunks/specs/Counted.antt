@@ -13,7 +13,7 @@ use Rattle.nd_grammar.specs.Entry.{gap}
 use Rattle.ndr_decoder_state.specs.declared.fault.DecodeFault.{DecodeFault}
 use Rattle.ndr_decoder_state.specs.declared.machine.Machine.{Machine}
 use Rattle.ndr_decoder_laws.specs.steps.StepItems.{gap_items, item_here}
-use Rattle.ndr_decoder_laws.specs.verdict.Verdict.{DecodingSeen, HasNoted}
+use Rattle.nd_grammar.specs.decoded.Verdict.{DecodingSeen, HasNoted}
 use Rattle.ndr_decoder_chunks.specs.Fetched.{CountCame, GapCame}
 
 -- the item of a count

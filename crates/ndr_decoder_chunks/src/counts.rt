@@ -9,7 +9,7 @@ ghost use Rattle.nd_value.specs.Setting.{Setting};
 ghost use Rattle.nd_value.specs.Tree.{Tree, Trees};
 ghost use Rattle.nd_grammar.specs.Reader.{Names};
 ghost use Rattle.ndr_decoder_laws.specs.pipes.Pipes.{InPipe, Position, at_chunk, at_count};
-ghost use Rattle.ndr_decoder_laws.specs.verdict.Verdict.{decoding_seen, direct_roots};
+ghost use Rattle.nd_grammar.specs.decoded.Verdict.{decoding_seen, direct_roots};
 ghost use Rattle.ndr_decoder_chunks.specs.Chunks.{Counts, Gaps, HasMoved, IsAt};
 ghost use Rattle.ndr_decoder_chunks.specs.Counted.{ChunkTold, CountTold, GapTold};
 

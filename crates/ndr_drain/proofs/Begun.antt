@@ -13,7 +13,7 @@ use Rattle.nd_value.specs.Fitting.{setting_beside, setting_of}
 use Rattle.nd_value.specs.Setting.{Setting, root_list}
 use Rattle.nd_grammar.specs.LegalSide.{IsLegalSide}
 use Rattle.nd_grammar.proofs.LegalSides.{interface_side}
-use Rattle.ndr_decoder_laws.specs.verdict.Verdict.{DecodingSeen}
+use Rattle.nd_grammar.specs.decoded.Verdict.{DecodingSeen}
 use Rattle.ndr_drain_reader.specs.Calls.{HasBegun, HasHead}
 use Rattle.ndr_drain_reader.specs.Seen.{IntakeSeen, moved_to, setting_in}
 use Rattle.ndr_drain.specs.Given.{pipe_count}

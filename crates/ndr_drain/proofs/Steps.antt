@@ -12,7 +12,7 @@ use Rattle.text_grammar.specs.Sound.{IsSound}
 use Rattle.text_printer.proofs.Fits.{sound_nodes}
 use Rattle.ndr_decoder_state.specs.declared.fault.DecodeFault.{DecodeFault}
 use Rattle.ndr_decoder_state.specs.declared.fault.DecodeFault.TheVariants as decode
-use Rattle.ndr_decoder_laws.specs.verdict.Verdict.{DecodingSeen}
+use Rattle.nd_grammar.specs.decoded.Verdict.{DecodingSeen}
 use Rattle.ndr_drain_laws.specs.parts.Parts.{IsElement, elem_at, no_graph}
 use Rattle.ndr_pipe.specs.End.{EndSeen, with_octets, ended}
 use Rattle.ndr_pipe.specs.Ends.{FailsAt, change_at}

@@ -16,7 +16,7 @@ use Rattle.nd_value.specs.Deferral.{before_pipes}
 use Rattle.nd_grammar.specs.Entry.{Entry, end_of, size_at, gap}
 use Rattle.nd_grammar.specs.FewItems.{but_gaps, is_gap}
 use Rattle.nd_grammar.specs.InPlace.{in_place}
-use Rattle.ndr_decoder_laws.specs.verdict.Verdict.{DecodingSeen, decoding_seen, HasNoted, with_items}
+use Rattle.nd_grammar.specs.decoded.Verdict.{DecodingSeen, decoding_seen, HasNoted, with_items}
 use Rattle.ndr_drain_laws.specs.parts.Parts.{Spot, Part, after, spot_after, after_all, octets_of, IsPart, AreParts, elem_at, part_items}
 use Rattle.ndr_drain_laws.specs.joined.Entries.{parts_items}
 use Rattle.ndr_pipe.specs.End.{EndSeen, with_octets, ended}

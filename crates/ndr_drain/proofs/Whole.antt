@@ -24,7 +24,7 @@ use Rattle.nd_grammar.specs.StreamReader.{read_stream}
 use Rattle.nd_grammar.proofs.Excluded.{excluded}
 use Rattle.ndr_decoder_state.specs.declared.fault.DecodeFault.{DecodeFault}
 use Rattle.ndr_decoder_state.specs.declared.fault.DecodeFault.TheVariants as decode
-use Rattle.ndr_decoder_laws.specs.verdict.Verdict.{DecodingSeen, IsCounted, IsCutOff, IsReadThrough, MayFollow, cells_named, decoding_seen, direct_roots, fetched_to, with_items}
+use Rattle.nd_grammar.specs.decoded.Verdict.{DecodingSeen, IsCounted, IsCutOff, IsReadThrough, MayFollow, cells_named, decoding_seen, direct_roots, fetched_to, with_items}
 use Rattle.ndr_decoder_laws.proofs.verdict.Counted.{is_counted}
 use Rattle.ndr_decoder_laws.proofs.verdict.ReadThrough.{read_in_part}
 use Rattle.ndr_drain_laws.specs.parts.Parts.{AreParts, AreReadTo, Part, Spot, after_all, first_spot, octets_of, part_items, pipes_of, with_pipes}

@@ -9,8 +9,7 @@ use Rattle.nd_value.specs.Deferral.{before_pipes}
 use Rattle.nd_grammar.specs.declared.reason.Reason.{Reason}
 use Rattle.nd_grammar.specs.declared.reason.Reason.TheVariants as reason
 use Rattle.nd_grammar.specs.Entry.{EntryAt}
-use Rattle.ndr_decoder_laws.specs.verdict.Verdict.{DecodingSeen, IsCutOff, IsDecoded, IsRefused}
-use Rattle.ndr_decoder_laws.specs.stream.Report.{IsUnread}
+use Rattle.nd_grammar.specs.decoded.Verdict.{DecodingSeen, IsCutOff, IsDecoded, IsRefused, IsUnread}
 use Rattle.ndr_drain_laws.specs.parts.Parts.{AreReadTo, BadPart, IsPart, IsPartThrough, Part, Spot, after_all, first_spot, octets_of, without_pipes}
 use Rattle.ndr_pipe.specs.End.{EndSeen, with_octets}
 use Rattle.ndr_pipe.specs.Ends.{EndsSeen, AreAsBefore, FailsAt, change_at}

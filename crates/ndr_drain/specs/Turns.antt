@@ -12,7 +12,7 @@ use Rattle.nd_value.specs.Tree.{Tree}
 use Rattle.nd_value.specs.Setting.{Setting, root_list}
 use Rattle.nd_value.specs.Deferral.{before_pipes}
 use Rattle.nd_grammar.specs.FewItems.{but_gaps}
-use Rattle.ndr_decoder_laws.specs.verdict.Verdict.{DecodingSeen, HasNoted}
+use Rattle.nd_grammar.specs.decoded.Verdict.{DecodingSeen, HasNoted}
 use Rattle.ndr_drain_laws.specs.parts.Parts.{AreParts, Part, Spot, after_all, elem_at, octets_of}
 use Rattle.ndr_drain_laws.specs.joined.Entries.{parts_items}
 use Rattle.ndr_pipe.specs.End.{EndSeen, with_octets}

@@ -3,7 +3,7 @@ ghost use Rattle.std.specs.Prelude.{◌≡◌, ◌<◌, ◌≤◌, ◌-◌, ◌^
 ghost use Rattle.nd_base.specs.Over.{source_seen};
 ghost use Rattle.nd_value.specs.Deferral.{before_pipes};
 ghost use Rattle.nd_value.specs.Setting.{root_list};
-ghost use Rattle.ndr_decoder_laws.specs.verdict.Verdict.{decoding_seen};
+ghost use Rattle.nd_grammar.specs.decoded.Verdict.{decoding_seen};
 ghost use Rattle.ndr_drain_laws.specs.parts.Parts.{elem_at};
 ghost use Rattle.ndr_pipe.specs.Ends.{IsOpenAt, ends_over};
 ghost use Rattle.ndr_pipe.specs.Seen.{ends_seen};

@@ -7,7 +7,7 @@ ghost use Rattle.nd_value.specs.Deferral.{before_pipes};
 ghost use Rattle.nd_value.specs.Fitting.{setting_beside};
 ghost use Rattle.nd_value.specs.Request.{IsRequestOf};
 ghost use Rattle.nd_value.specs.Setting.{root_list};
-ghost use Rattle.ndr_decoder_laws.specs.verdict.Verdict.{decoding_seen};
+ghost use Rattle.nd_grammar.specs.decoded.Verdict.{decoding_seen};
 ghost use Rattle.ndr_pipe.specs.Ends.{AreOpen, ends_over};
 ghost use Rattle.ndr_pipe.specs.Seen.{ends_seen};
 ghost use Rattle.ndr_drain_reader.specs.Ready.{IsReady};

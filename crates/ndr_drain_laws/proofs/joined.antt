@@ -8,3 +8,4 @@ pub mod Front
 pub mod Through
 pub mod Alone
 pub mod Noted
+pub mod PartVerdicts

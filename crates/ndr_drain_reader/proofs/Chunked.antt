@@ -21,7 +21,7 @@ use Rattle.nd_grammar.specs.FewItems.{but_gaps}
 use Rattle.ndr_decoder_state.specs.declared.fault.DecodeFault.{DecodeFault}
 use Rattle.ndr_decoder_state.specs.declared.fault.DecodeFault.TheVariants as fault
 use Rattle.ndr_decoder_state.specs.declared.machine.Machine.{Machine}
-use Rattle.ndr_decoder_laws.specs.verdict.Verdict.{DecodingSeen, HasNoted}
+use Rattle.nd_grammar.specs.decoded.Verdict.{DecodingSeen, HasNoted}
 use Rattle.ndr_decode.specs.Piping.{ElementsRun}
 use Rattle.ndr_decode.proofs.Standing.{idle_log, idle_source}
 use Rattle.ndr_drain_laws.specs.parts.Parts.{IsPart, Part, Spot, after, part_items}
@@ -156,6 +156,7 @@ module _ (i : Intake) (ready : IsReady i) (some : 0 < i.left) (o : Operation) (t
         moved = moved ∙ ap (λ (z : ℕ). moved_to (record { place = z; root = i.root + 1; node = 1 }) (i.left - 1) (intake_seen i)) x.at;
         logged = λ before l. subst (λ vs. HasNoted (part_items its i.order (before ++ x.octets) spot vs) t) none_are (x.logged before l);
         stepped = λ before l. subst (λ vs. t.steps_now ≡ t.steps + length (but_gaps (part_items its i.order (before ++ x.octets) spot vs))) none_are (x.stepped before l);
+        by_octets = x.by_octets;
       }
 
     -- elements were read
@@ -197,6 +198,7 @@ module _ (i : Intake) (ready : IsReady i) (some : 0 < i.left) (o : Operation) (t
                   ∙ ap₂ (λ (z : Spot) (n : ℕ). moved_to z n (intake_seen i)) (sym then_is) (sym (left_some x.elements some_are));
               logged = x.logged;
               stepped = x.stepped;
+              by_octets = x.by_octets;
             },
             some_are,
           )

@@ -4,7 +4,7 @@ use Rattle.std.specs.Prelude.{if◌then◌else◌, slice_get}
 use Rattle.nd_base.specs.declared.octets.Memory.{Memory}
 use Rattle.nd_value.specs.declared.item.Item.{Item}
 use Rattle.nd_value.specs.Logged.{Logged, noted}
-use Rattle.ndr_decoder_laws.specs.verdict.Verdict.{with_items}
+use Rattle.nd_grammar.specs.decoded.Verdict.{with_items}
 use Rattle.ndr_drain_laws.specs.reader.PartReader.{moved_item}
 use Rattle.ndr_drain_reader.specs.Handing.{AreNotedPart, HandsOn}
 

@@ -24,7 +24,7 @@ use Rattle.nd_grammar.specs.LegalSide.{IsLegalSide}
 use Rattle.ndr_code.specs.declared.plan.Plan.{Plan}
 use Rattle.ndr_decoder_state.specs.declared.fault.DecodeFault.{DecodeFault}
 use Rattle.ndr_decoder_state.specs.declared.fault.DecodeFault.TheVariants as fault
-use Rattle.ndr_decoder_laws.specs.verdict.Verdict.{DecodingSeen}
+use Rattle.nd_grammar.specs.decoded.Verdict.{DecodingSeen}
 use Rattle.ndr_decoder_laws.specs.stream.Between.{Begins}
 use Rattle.ndr_decoder_laws.specs.stream.Calls.{CutOff, Follows, Refused, Unread}
 use Rattle.ndr_decoder_laws.specs.stream.Report.{IsReported, StreamRefused, the_head, the_stream}

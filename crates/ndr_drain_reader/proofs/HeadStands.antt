@@ -22,7 +22,7 @@ use Rattle.nd_grammar.specs.StreamReader.{Found, Reading, graph_of, read_stream}
 use Rattle.ndr_decoder_laws.specs.reader.Around.{going}
 use Rattle.ndr_decoder_laws.proofs.reader.Worklist.{due_over}
 use Rattle.ndr_decoder_laws.specs.steps.Good.{Told}
-use Rattle.ndr_decoder_laws.specs.verdict.Verdict.{DecodingSeen, HasNoted, IsCounted, IsReadThrough, cells_named}
+use Rattle.nd_grammar.specs.decoded.Verdict.{DecodingSeen, HasNoted, IsCounted, IsReadThrough, cells_named}
 use Rattle.ndr_decoder_laws.proofs.verdict.Counted.{is_counted}
 use Rattle.ndr_decoder_laws.proofs.verdict.ReadThrough.{read_in_part}
 use Rattle.ndr_decoder_laws.specs.stream.Added.{Goes}

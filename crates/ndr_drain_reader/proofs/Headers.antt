@@ -23,7 +23,7 @@ use Rattle.ndr_decoder_state.specs.declared.fault.DecodeFault.{DecodeFault}
 use Rattle.ndr_decoder_state.specs.declared.fault.DecodeFault.TheVariants as fault
 use Rattle.ndr_decoder_state.specs.declared.machine.Machine.{Machine}
 use Rattle.ndr_decoder_laws.specs.steps.StepItems.{gap_items, item_here}
-use Rattle.ndr_decoder_laws.specs.verdict.Verdict.{DecodingSeen, HasNoted}
+use Rattle.nd_grammar.specs.decoded.Verdict.{DecodingSeen, HasNoted}
 use Rattle.ndr_decoder_chunks.specs.Chunks.{HasMoved}
 use Rattle.ndr_decoder_chunks.specs.Counted.{ChunkCounted, ChunkStopped, GapStopped, UncountedChunk, count_item_at, in_the_count, in_the_gap}
 use Rattle.ndr_decoder_chunks.specs.Fetched.{CountBad, CountCame, GapBad, GapCame}

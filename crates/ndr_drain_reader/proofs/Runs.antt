@@ -49,7 +49,7 @@ use Rattle.ndr_decoder_state.specs.declared.fault.DecodeFault.TheVariants as fau
 use Rattle.ndr_decoder_state.specs.declared.machine.Machine.{Machine}
 use Rattle.ndr_decoder_laws.specs.stream.Between.{AreNeeded}
 use Rattle.ndr_decoder_laws.specs.stream.Calls.{Follows}
-use Rattle.ndr_decoder_laws.specs.verdict.Verdict.{DecodingSeen, HasNoted, with_items}
+use Rattle.nd_grammar.specs.decoded.Verdict.{DecodingSeen, HasNoted, with_items}
 use Rattle.ndr_decoder_value.specs.Reaching.{End, EndsBad, EndsCutOff, EndsFault, EndsWhole, IsLogged, IsLoggedPart}
 use Rattle.ndr_decoder_chunks.specs.Chunks.{HasMoved}
 use Rattle.ndr_decoder_chunks.specs.Counted.{ChunkCounted}

@@ -19,7 +19,7 @@ use Rattle.nd_grammar.specs.Items.{items}
 use Rattle.ndr_decoder_state.specs.declared.fault.DecodeFault.{DecodeFault}
 use Rattle.ndr_decoder_state.specs.declared.fault.DecodeFault.TheVariants as fault
 use Rattle.ndr_decoder_state.specs.declared.machine.Machine.{Machine}
-use Rattle.ndr_decoder_laws.specs.verdict.Verdict.{DecodingSeen, HasNoted, decoding_seen, with_items}
+use Rattle.nd_grammar.specs.decoded.Verdict.{DecodingSeen, HasNoted, decoding_seen, with_items}
 use Rattle.ndr_drain_laws.specs.parts.Parts.{Spot, part_items}
 use Rattle.ndr_drain_laws.specs.reader.PartReader.{moved_item, moved_items}
 use Rattle.ndr_drain_laws.specs.reader.Outcomes.{PartCut}
@@ -127,6 +127,7 @@ module _ (w : Setting) (order : Order) (spot : Spot) (s : SourceSeen) (t : Decod
     stepped = λ before l.
         let y : length (but_gaps (part_items w order (before ++ x.octets) spot x.elements)) ≡ length (but_gaps x.noted) = ap (λ xs. length (but_gaps xs)) (x.whole.items_are before l) ∙ as_many_steps (spot.node - 1) x.noted in
         omega (arith, y, steps);
+    by_octets = (let few = x.whole.cut.few in omega (arith, few, steps));
     few_then = x.whole.few_then;
     cut = cut_counted x.octets x.noted x.whole.cut x.took.left log (omega (arith, steps));
     as_many = x.as_many;

@@ -1,7 +1,7 @@
 -- What the calls of an intake come to.
 -- `w` is the setting of the stream, `s` the source over the call, `t` the log of items and the count of steps over the call, `i` the intake before the call and
 -- `now` after it.
-use Rattle.std.specs.Prelude.{◌≡◌, ◌≤◌, ℕ, ◌+◌, ◌-◌, suc, true, List, [], ◌∷◌, ◌++◌, length, Option, Some, None}
+use Rattle.std.specs.Prelude.{◌≡◌, ◌≤◌, ℕ, ◌+◌, ◌-◌, true, List, [], ◌∷◌, ◌++◌, length, Option, Some, None}
 use Rattle.std.specs.Io.KnownBytes.{Consumes, IsAtEnd}
 use Rattle.nd_base.specs.declared.octets.Order.{Order}
 use Rattle.nd_base.specs.Over.{SourceSeen, HasRisen}
@@ -21,10 +21,9 @@ use Rattle.nd_grammar.specs.Items.{items}
 use Rattle.nd_grammar.specs.Stream.{head_entries}
 use Rattle.ndr_decoder_state.specs.declared.fault.DecodeFault.{DecodeFault}
 use Rattle.ndr_decoder_state.specs.declared.fault.DecodeFault.TheVariants as fault
-use Rattle.ndr_decoder_laws.specs.verdict.Verdict.{DecodingSeen, HasNoted, IsCounted, IsCutOff, IsRefused, MayFollow, fetched_to}
-use Rattle.ndr_decoder_laws.specs.stream.Report.{IsUnread}
-use Rattle.ndr_drain_laws.specs.parts.Parts.{AreReadTo, BadHead, BadPart, IsPart, IsPartThrough, Part, Spot, after, first_spot, part_items}
-use Rattle.ndr_drain_reader.specs.declared.intake.Phase.TheVariants.{Begun, Reading, Failed}
+use Rattle.nd_grammar.specs.decoded.Verdict.{DecodingSeen, HasNoted, IsCounted, IsCutOff, IsRefused, MayFollow, fetched_to, IsUnread}
+use Rattle.ndr_drain_laws.specs.parts.Parts.{AreReadTo, BadHead, BadPart, IsPart, IsPartThrough, Spot, after, first_spot, part_items}
+use Rattle.ndr_drain_reader.specs.declared.intake.Phase.TheVariants.{Begun, Reading}
 use Rattle.ndr_drain_reader.specs.Seen.{IntakeSeen, moved_to}
 
 -- An intake was begun: nothing was read, and all pipes of the side are left.
@@ -93,7 +92,8 @@ abbrev pub left_after : ℕ → List Tree → ℕ
 left_after n [] = n - 1
 left_after n (v ∷ vs) = n
 
--- A chunk was read at the spot: the octets fetched are its count and these elements, which conform. Its items were logged, and each of them but the gap is a step.
+-- A chunk was read at the spot: the octets fetched are its count and these elements, which conform. Its items were logged, and each of them but the gap is a step:
+-- so no more than the octets fetched.
 pub record HasChunk (w : Setting) (s : SourceSeen) (t : DecodingSeen) (i now : IntakeSeen) (elements : List Tree) : Type 0 where
   pub octets : List ℕ
   pub left : Consumes s.left s.left_now octets
@@ -101,6 +101,7 @@ pub record HasChunk (w : Setting) (s : SourceSeen) (t : DecodingSeen) (i now : I
   pub moved : now ≡ moved_to (after i.spot (record { octets = octets; elements = elements })) (left_after i.left elements) i
   pub logged : (before : List ℕ) → length before ≡ i.spot.place → HasNoted (part_items w i.order (before ++ octets) i.spot elements) t
   pub stepped : (before : List ℕ) → length before ≡ i.spot.place → t.steps_now ≡ t.steps + length (but_gaps (part_items w i.order (before ++ octets) i.spot elements))
+  pub by_octets : t.steps_now ≤ t.steps + length octets
 
 -- Elements are answered, and none where the pipe has ended.
 abbrev pub IsAnswered : Setting → SourceSeen → DecodingSeen → IntakeSeen → IntakeSeen → Option (List Tree) → Type 0

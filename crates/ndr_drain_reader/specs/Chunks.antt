@@ -18,7 +18,7 @@ use Rattle.ndr_code.specs.declared.plan.Plan.{Plan}
 use Rattle.ndr_decoder_state.specs.declared.fault.DecodeFault.{DecodeFault}
 use Rattle.ndr_decoder_state.specs.declared.fault.DecodeFault.TheVariants as fault
 use Rattle.ndr_decoder_state.specs.declared.machine.Machine.{Machine}
-use Rattle.ndr_decoder_laws.specs.verdict.Verdict.{DecodingSeen, HasNoted}
+use Rattle.nd_grammar.specs.decoded.Verdict.{DecodingSeen, HasNoted}
 use Rattle.ndr_decode.specs.Piping.{IsPipeBy}
 use Rattle.ndr_drain_laws.specs.parts.Parts.{IsPart, Spot, after, part_items}
 use Rattle.ndr_drain_laws.specs.reader.PartReader.{IsAtPipe, type_of_root}
@@ -115,6 +115,7 @@ pub record TakenWhole (w : Setting) (order : Order) (spot : Spot) (s : SourceSee
   pub read : IsPart w order spot (record { octets = octets; elements = elements })
   pub logged : (before : List ℕ) → length before ≡ spot.place → HasNoted (part_items w order (before ++ octets) spot elements) t
   pub stepped : (before : List ℕ) → length before ≡ spot.place → t.steps_now ≡ t.steps + length (but_gaps (part_items w order (before ++ octets) spot elements))
+  pub by_octets : t.steps_now ≤ t.steps + length octets
   pub few_then : (after spot (record { octets = octets; elements = elements })).node ≤ 32 * (after spot (record { octets = octets; elements = elements })).place + 1
   pub cut : IsChunkCut w order spot s t
   pub as_many : length elements ≡ count

@@ -11,7 +11,7 @@ use Rattle.nd_grammar.specs.Entry.{EntryAt}
 use Rattle.nd_grammar.specs.LegalSide.{IsLegalSide}
 use Rattle.nd_grammar.specs.StreamReader.{Reading}
 use Rattle.ndr_decoder_state.specs.declared.fault.DecodeFault.{DecodeFault}
-use Rattle.ndr_decoder_laws.specs.verdict.Verdict.{DecodingSeen}
+use Rattle.nd_grammar.specs.decoded.Verdict.{DecodingSeen}
 use Rattle.ndr_decoder_laws.specs.stream.Calls.{Took}
 use Rattle.ndr_decoder_laws.specs.stream.Parameters.{TestsPass, parameter_tests}
 use Rattle.ndr_decoder_laws.specs.stream.Report.{the_head}

@@ -4,7 +4,7 @@ ghost use Rattle.std.specs.List.{slice_get};
 ghost use Rattle.nd_base.specs.Over.{source_seen};
 ghost use Rattle.nd_types.specs.declared.types.Operation.{Operation};
 ghost use Rattle.ndr_decoder_state.specs.declared.fault.DecodeFault.TheVariants as fault;
-ghost use Rattle.ndr_decoder_laws.specs.verdict.Verdict.{decoding_seen};
+ghost use Rattle.nd_grammar.specs.decoded.Verdict.{decoding_seen};
 ghost use Rattle.ndr_drain_reader.specs.Calls.{IsAnswered, IsChunkCause};
 ghost use Rattle.ndr_drain_reader.specs.Chunks.{Fills, IsAtChunk, IsOpened, Takes};
 ghost use Rattle.ndr_drain_reader.specs.Ready.{IsReady};

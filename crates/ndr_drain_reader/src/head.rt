@@ -8,7 +8,7 @@ ghost use Rattle.nd_value.specs.Request.{IsRequestOf};
 ghost use Rattle.nd_value.specs.Setting.{Setting};
 ghost use Rattle.nd_flat.specs.Building.{CanClose};
 ghost use Rattle.nd_grammar.specs.LegalSide.{IsLegalSide};
-ghost use Rattle.ndr_decoder_laws.specs.verdict.Verdict.{decoding_seen};
+ghost use Rattle.nd_grammar.specs.decoded.Verdict.{decoding_seen};
 ghost use Rattle.ndr_decoder_laws.specs.stream.Between.{Begins};
 ghost use Rattle.ndr_decoder_pending.specs.Seen.{between_of};
 ghost use Rattle.ndr_decode.specs.Streaming.{IsSettingOf, cells_of, purpose_of};

@@ -6,7 +6,7 @@ ghost use Rattle.nd_types.specs.declared.types.Operation.{Operation};
 ghost use Rattle.nd_value.specs.Fitting.{setting_beside};
 ghost use Rattle.nd_value.specs.Request.{IsRequestOf};
 ghost use Rattle.ndr_decoder_state.specs.declared.fault.DecodeFault.TheVariants.{ReadFault};
-ghost use Rattle.ndr_decoder_laws.specs.verdict.Verdict.{decoding_seen};
+ghost use Rattle.nd_grammar.specs.decoded.Verdict.{decoding_seen};
 ghost use Rattle.ndr_drain_reader.specs.Calls.{HasBegun, HasHead, IsAnswered, IsChunkCause, IsHeadCause};
 ghost use Rattle.ndr_drain_reader.specs.Ready.{IsAtHead, IsReady};
 ghost use Rattle.ndr_drain_reader.specs.Seen.{intake_seen, is_failed, setting_in};
@@ -105,6 +105,7 @@ impl<'p> Intake<'p> {
         ensures beside { OnOk result ((intake_seen self.new).given ≡ option_map (λ f. f.now.graph) given.entry) }
         ensures ready { OnOk result (IsReady self.new) }
         ensures failed { OnErr result (is_failed self.new ≡ true) }
+        ensures none_left { OnErr result ((intake_seen self.new).left ≡ 0) }
         ensures cause { IfErr result (λ e. (o : Operation) → slice_get (intake_seen self.old).interface.operations (intake_seen self.old).op ≡ Some o
             → IsHeadCause (setting_beside (intake_seen self.old).interface o (intake_seen self.old).side (option_map (λ f. f.now.graph) given.entry)) (intake_seen self.old).order
             (source_seen S.Source.left S.Source.ended S.Source.faults source.old source.new) (decoding_seen items.old items.new (L.number steps.old) (L.number steps.new)) e) }
@@ -146,6 +147,7 @@ impl<'p> Intake<'p> {
             (decoding_seen items.old items.new (L.number steps.old) (L.number steps.new)) (intake_seen self.old) (intake_seen self.new) vals) }
         ensures ready { OnOk result (IsReady self.new) }
         ensures failed { OnErr result (is_failed self.new ≡ true) }
+        ensures none_left { OnErr result ((intake_seen self.new).left ≡ 0) }
         ensures cause { IfErr result (λ e. (o : Operation) → slice_get (intake_seen self.old).interface.operations (intake_seen self.old).op ≡ Some o
             → IsChunkCause (setting_in (intake_seen self.old) o) (intake_seen self.old) (source_seen S.Source.left S.Source.ended S.Source.faults source.old source.new)
             (decoding_seen items.old items.new (L.number steps.old) (L.number steps.new)) e) }

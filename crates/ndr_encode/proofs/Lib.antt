@@ -1,3 +1,4 @@
+pub mod Lengths
 pub mod Works
 pub mod Numbers
 pub mod Made

@@ -34,8 +34,9 @@ use Rattle.ndr_encode.specs.declared.search.Search.{Search}
 use Rattle.ndr_encode.specs.Search.{unmarked, pending_names, Stream, IsNumbered, IsSearchable, AreCounted, IsSearched, ArePipes, IsFresh}
 use Rattle.ndr_encode.specs.Making.{stream_of, HasStream}
 use Rattle.ndr_encode.specs.declared.work.EncodeFault.{EncodeFault}
-use Rattle.ndr_encode.specs.Work.{WorkSeen, setting, IsWorkFor, IsTooLong, chosen_length}
-use Rattle.ndr_encode.proofs.Works.{operation_there}
+use Rattle.ndr_encode.specs.Work.{WorkSeen, setting, HasLength, IsWorkFor, IsTooLong, chosen_length}
+use Rattle.ndr_encode.proofs.Lengths.{chosen_length as end_of_octets}
+use Rattle.ndr_encode.proofs.Works.{has_length, operation_there}
 
 -- ## Lists
 
@@ -213,11 +214,8 @@ module _ (plan : Plan) (f : Fitting) (tied : plan.tie ≡ f.interface) (k : ℕ)
 
       pub too_long : (n : ℕ) → n ≡ s.count.at → STREAM_LIMIT < n → IsTooLong f k n
       too_long n e l = record {
-        operation = fit.operation;
-        is_there = fit.is_there;
-        steps = has_stream.steps;
-        deferral = has_stream.deferral;
-        long = e ∙ length_found;
+        many = λ order octets chosen.
+            end_of_octets W side f.graph fit.conforms order k octets (chosen fit.operation fit.is_there) has_stream.steps has_stream.deferral ∙ sym (e ∙ length_found);
         too_long = l;
       }
 
@@ -225,3 +223,8 @@ module _ (plan : Plan) (f : Fitting) (tied : plan.tie ≡ f.interface) (k : ℕ)
           → IfOk r (λ work. s.count.at ≤ STREAM_LIMIT) → IfOk r (λ work. IsWorkFor f k work)
       work_answer (Ok work) e l = subst (IsWorkFor f k) (sym e) (work_found l)
       work_answer (Err x) e l = tt
+
+-- the length of a work
+pub length_answer : (f : Fitting) (k : ℕ) → IsFit f → (r : Result WorkSeen EncodeFault) → IfOk r (λ work. IsWorkFor f k work) → IfOk r (λ work. HasLength f k work.length)
+length_answer f k fit (Ok work) is = has_length f k work fit is
+length_answer f k fit (Err x) is = tt

@@ -21,7 +21,8 @@ use Rattle.ndr_encoder_laws.proofs.chosen.Written.{chosen, ends}
 use Rattle.ndr_encoder_homes.specs.declared.turn.Turn.{Turn}
 use Rattle.ndr_encoder_homes.specs.Turns.{turn_pairs, written_turns}
 use Rattle.ndr_encoder_homes.proofs.Encoded.{all_there, turns_same, turns_fit}
-use Rattle.ndr_encode.specs.Work.{WorkSeen, setting, IsWorkFor, IsChosen}
+use Rattle.ndr_encode.specs.Work.{WorkSeen, setting, HasLength, IsWorkFor, IsChosen}
+use Rattle.ndr_encode.proofs.Lengths.{chosen_length}
 
 pub operation_there : (os : List Operation) (n : ℕ) (o : Operation) → slice_get os n ≡ Some o → Among os o
 operation_there [] n o e = cc
@@ -55,6 +56,13 @@ module _ (f : Fitting) (k : ℕ) (work : WorkSeen) (fit : IsFit f) (x : IsWorkFo
       ap (λ n. pieces_end 0 (written_turns C n f.graph (turn_pairs work.turns))) x.chunk ∙ ap (λ u. pieces_end 0 (written_turns C k f.graph u)) x.turns
       ∙ ap (pieces_end 0) (turns_same W side f.graph conforms (pipes_last W) k f.op x.is_there x.steps x.deferral x.some)
       ∙ ends W side f.graph conforms (pipes_last W) k f.op x.is_there x.steps x.deferral x.some ∙ sym x.length
+
+  -- which is that of the octets that are chosen
+  pub has_length : HasLength f k work.length
+  has_length = record {
+    many = λ order octets chosen. chosen_length W side f.graph conforms order k octets (chosen x.operation x.is_there) x.steps x.deferral ∙ sym x.length;
+    within = x.within;
+  }
 
   -- and can be written
   work_fits : AllByRecursion FitsPiece (written_turns C work.chunk f.graph (turn_pairs work.turns))

@@ -1,6 +1,6 @@
 -- What is prepared for the encoding of a graph: the homes in the order of the stream, each with the address of its run, and the numbers of the cells.
 -- `f` is a fit, `o` its operation, `k` the greatest count of a chunk.
-use Rattle.std.specs.Prelude.{◌≡◌, ℕ, ◌≤◌, ◌<◌, List, [], drop, get_or, Some, refl}
+use Rattle.std.specs.Prelude.{◌≡◌, ℕ, ◌≤◌, ◌<◌, List, [], drop, get_or, length, Some, refl}
 use Rattle.std.specs.List.{slice_get}
 use Rattle.std.specs.Coded.{Coded, code_by, coded×, coded_list, coded_ℕ}
 use Rattle.nd_base.specs.declared.TheConstants.{STREAM_LIMIT}
@@ -34,12 +34,12 @@ work_code =
 abbrev pub setting : Fitting → Operation → Setting
 setting f o = setting_beside f.interface o f.side f.given
 
--- how many octets are chosen, which does not depend on the order of octets
+-- where the entries of a fit end, which does not depend on the order of octets
 abbrev pub chosen_length : Fitting → Operation → ℕ → List Step → ℕ
 chosen_length f o k steps = end_of 0 (representation (setting f o) f.graph steps (pipe_cuts k (drop (before_pipes (root_list (setting f o))) f.graph.roots)))
 
--- A work for a fit, with chunks of k elements, at least one: the values as a whole in the order of deferral, then the pipes, each by the run of its type; the cells by their
--- numbers in the order of the stream; and how many octets are chosen, which are no more than a stream may have.
+-- What `encode_with` needs of a work for a fit, with chunks of k elements, at least one: the values as a whole in the order of deferral, then the pipes, each by the run of its
+-- type; the cells by their numbers in the order of the stream; and where the entries end, which is within the limit of a stream.
 pub record IsWorkFor (f : Fitting) (k : ℕ) (work : WorkSeen) : Type 0 where
   pub operation : Operation
   pub is_there : slice_get f.interface.operations f.op ≡ Some operation
@@ -52,15 +52,20 @@ pub record IsWorkFor (f : Fitting) (k : ℕ) (work : WorkSeen) : Type 0 where
   pub length : work.length ≡ chosen_length f operation k steps
   pub within : work.length ≤ STREAM_LIMIT
 
--- The octets that are chosen for a fit are so many, in either order, and these are more than a stream may have.
-pub record IsTooLong (f : Fitting) (k n : ℕ) : Type 0 where
-  pub operation : Operation
-  pub is_there : slice_get f.interface.operations f.op ≡ Some operation
-  pub steps : List Step
-  pub deferral : Deferral (setting f operation) f.graph [] (due_roots 0 (before_pipes (root_list (setting f operation)))) steps
-  pub long : n ≡ chosen_length f operation k steps
-  pub too_long : STREAM_LIMIT < n
-
 -- the octets that are chosen for a fit, with chunks of k elements
 abbrev pub IsChosen : Fitting → Order → ℕ → List ℕ → Type 0
 IsChosen f order k octets = (o : Operation) → slice_get f.interface.operations f.op ≡ Some o → Chosen (setting f o) order k f.graph octets
+
+-- so many octets are chosen for a fit, in either order
+abbrev pub AreSoMany : Fitting → ℕ → ℕ → Type 0
+AreSoMany f k n = (order : Order) (octets : List ℕ) → IsChosen f order k octets → length octets ≡ n
+
+-- so many octets are chosen for a fit, and a stream may have as many
+pub record HasLength (f : Fitting) (k n : ℕ) : Type 0 where
+  pub many : AreSoMany f k n
+  pub within : n ≤ STREAM_LIMIT
+
+-- so many octets are chosen for a fit, and these are more than a stream may have
+pub record IsTooLong (f : Fitting) (k n : ℕ) : Type 0 where
+  pub many : AreSoMany f k n
+  pub too_long : STREAM_LIMIT < n

@@ -2,6 +2,7 @@
 #![tactic(auto)]
 
 mod encoding;
+pub mod laws;
 mod making;
 mod numbering;
 mod search;

@@ -8,7 +8,7 @@ ghost use Rattle.nd_value.specs.Setting.{root_list};
 ghost use Rattle.ndr_code.specs.Lines.{line_at, side_number};
 ghost use Rattle.ndr_encode.specs.declared.work.EncodeFault.TheVariants.{TooLong};
 ghost use Rattle.ndr_encode.specs.Making.{BeginsRoots, RootsTaken, BeginsPipes, PipesTaken};
-ghost use Rattle.ndr_encode.specs.Work.{IsWorkFor, IsTooLong, setting};
+ghost use Rattle.ndr_encode.specs.Work.{HasLength, IsWorkFor, IsTooLong, setting};
 
 use crate::search::{Search, begin, referents, root, take_turn};
 use crate::work::{EncodeFault, Work};
@@ -139,11 +139,12 @@ fn finish(search: Search, chunk: u32) -> Result<Work, EncodeFault>
 impl Work {
     /// Prepares the encoding of a graph that conforms: the plan is of the interface of the fit, and each chunk of a pipe is to have `chunk` elements, at least one, except the last,
     /// which may have fewer (C706 chapter 14). It takes memory for 12 octets for each root and cell and 4 for each cell, which it keeps, and for a mark for each cell and 8 octets for
-    /// each pending referent, which it gives back. `TooLong` exactly if the octets are more than a stream may have.
+    /// each pending referent, which it gives back. The length of the work is that of the octets; `TooLong` exactly if they are more than a stream may have.
     pub fn for_graph(alloc: Global, plan: &Plan, fit: &Fit, chunk: u32) -> Result<Work, EncodeFault>
         requires tied { plan.now.tie ≡ fit.now.interface }
         requires some { 1 ≤ chunk }
         ensures made { IfOk result (λ work. IsWorkFor fit.now chunk work) }
+        ensures length { IfOk result (λ work. HasLength fit.now chunk work.length) }
         ensures long { (n : ℕ) → result ≡ Err (TooLong n) → IsTooLong fit.now chunk n }
     {
         let flat = fit.flat();

@@ -30,7 +30,7 @@ use Rattle.nd_grammar.proofs.ChosenRepresents.{w_roots, cell_within, none_inside
 use Rattle.nd_grammar.proofs.LegalSides.{laid_out}
 use Rattle.nd_grammar.proofs.next.NextStream.{IsPipeRoot, FitsPipes, drop_at, all_at}
 use Rattle.nd_grammar.proofs.next.Mapped.{in_parts}
-use Rattle.nd_grammar.proofs.conforming.GoodEntries.{IsNoPipe}
+use Rattle.nd_grammar.specs.ReaderState.{IsNoPipe}
 use Rattle.nd_grammar.proofs.conforming.GoodStream.{StandsGood, standing_due, pending_cell, root_good}
 use Rattle.nd_grammar.proofs.written.WritableTrees.{WritableTrees}
 use Rattle.nd_flat.specs.Building.{HasHome}

@@ -26,7 +26,8 @@ use Rattle.nd_value.proofs.NodeFacts.{IsFit}
 use Rattle.nd_value.proofs.ValueRanges.{range_fits}
 use Rattle.nd_grammar.specs.Entry.{Number}
 use Rattle.nd_grammar.specs.InPlace.{before_children, counts, tag_entries, hoisted, hoisted_max, own_max}
-use Rattle.nd_grammar.proofs.conforming.GoodEntries.{IsNoPipe, HoldsNoPipe}
+use Rattle.nd_grammar.proofs.conforming.GoodEntries.{HoldsNoPipe}
+use Rattle.nd_grammar.specs.ReaderState.{IsNoPipe}
 use Rattle.nd_grammar.proofs.written.WritableTrees.{WritableTrees}
 use Rattle.ndr_encoder_laws.specs.pieces.Pieces.{Piece, Gap, Figure, Raw, Handle, four, gap_pieces}
 use Rattle.ndr_encoder_laws.specs.pieces.Shown.{piece_of, kinds_pieces, values_pieces}

@@ -30,7 +30,7 @@ use Rattle.nd_grammar.specs.Chosen.{cut_of, cut_within, pipe_cuts}
 use Rattle.nd_grammar.proofs.ChosenRepresents.{w_roots, cell_within, none_inside, dues}
 use Rattle.nd_grammar.proofs.LegalSides.{laid_out}
 use Rattle.nd_grammar.proofs.next.NextStream.{IsPipeRoot, drop_at}
-use Rattle.nd_grammar.proofs.conforming.GoodEntries.{IsNoPipe}
+use Rattle.nd_grammar.specs.ReaderState.{IsNoPipe}
 use Rattle.nd_grammar.proofs.conforming.GoodStream.{PendingGood, StandsGood, DueGood, standing_due, pending_cell, root_good}
 use Rattle.nd_grammar.proofs.conforming.StreamConforming.{pipe_label as label_is}
 use Rattle.nd_grammar.proofs.written.WritableTrees.{IsWritable, WritableTrees, writable_trees}

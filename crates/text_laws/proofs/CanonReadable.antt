@@ -31,7 +31,7 @@ use Rattle.nd_grammar.proofs.PlainStreams.{Suffix, suffix_next, suffix_first, su
 use Rattle.text_grammar.specs.declared.version.Version.{Version}
 use Rattle.text_grammar.specs.Readable.{IsReadable, AreNamed, first_type, is_cell, has_text_form}
 use Rattle.text_laws.specs.Short.{is_short, HasShortNumbers}
-use Rattle.text_laws.proofs.Images.{first_tree, rest_trees, CameFrom, came_from}
+use Rattle.nd_canonical_laws.proofs.Images.{first_tree, rest_trees, CameFrom, came_from}
 use Rattle.text_laws.proofs.CarriedNodes.{Fine, Stands, nodes_carried}
 use Rattle.text_laws.proofs.NamedBefore.{IsSource, from_root, from_cell, source_of, numbered_lower, is_named}
 

@@ -5,10 +5,7 @@ pub mod Kept
 mod LegalNames
 pub mod Lines
 mod NamedBefore
-mod Images
 mod CarriedNodes
 mod CanonReadable
 pub mod PrintedReads
-mod CarriedNumbers
-mod OneCanonical
 mod SameTexts

@@ -1,5 +1,5 @@
--- Two graphs that conform have one text exactly if they are the same up to the numbers of their cells.
-use Rattle.std.proofs.Common.{◌≡◌, ℕ, ◌<◌, ◌^◌, List, [], length, ap, sym, ◌∙◌, subst, arith}
+-- Each graph that conforms has one text, and two that conform have one exactly if they are the same up to the numbers of their cells.
+use Rattle.std.proofs.Common.{◌≡◌, ℕ, ◌<◌, ◌^◌, List, [], length, refl, ap, sym, ◌∙◌, subst, arith}
 use Rattle.nd_value.specs.declared.value.Graph.{Graph}
 use Rattle.nd_value.specs.Setting.{Setting}
 use Rattle.nd_value.specs.Canon.{IsCanon}
@@ -15,8 +15,9 @@ use Rattle.text_reading_laws.proofs.OneGraph.{tokens_one}
 use Rattle.text_laws.proofs.Kept.{AreRead}
 use Rattle.text_laws.proofs.Lines.{text_tokens}
 use Rattle.text_laws.proofs.CanonReadable.{readable, short}
-use Rattle.text_laws.proofs.Images.{same_as_one}
-use Rattle.text_laws.proofs.OneCanonical.{one_canonical}
+use Rattle.nd_canonical_laws.proofs.Images.{same_as_one}
+use Rattle.nd_canonical_laws.proofs.CanonicalForms.{canonical_exists, canonical_alone}
+use Rattle.nd_canonical_laws.proofs.OneCanonical.{one_canonical}
 
 -- a text is read as one list of tokens
 one_reading : (text : List ℕ) (ts us : List Token) → AreRead [] text ts [] → AreRead [] text us [] → ts ≡ us
@@ -50,3 +51,9 @@ same_texts w g h text other side x y t u = (
       one_form w side g h t.canonical u.canonical x y t.is_canonical u.is_canonical (sym t.printed ∙ e ∙ u.printed) in
       same_as_one g h t.canonical t.is_canonical.same (subst (λ c. Same h c) (sym same) u.is_canonical.same)),
 )
+
+pub text_exists : (w : Setting) (g : Graph) → IsLegalSide w → Conforms w g → (text : List ℕ) × IsText w g text
+text_exists w g side x = let (h, canon) = canonical_exists w g x side in (graph_text version.Two w h, record { canonical = h; is_canonical = canon; printed = refl })
+
+pub text_alone : (w : Setting) (g : Graph) (text other : List ℕ) → IsLegalSide w → Conforms w g → IsText w g text → IsText w g other → text ≡ other
+text_alone w g text other side x t u = t.printed ∙ ap (graph_text version.Two w) (canonical_alone w g x side t.canonical u.canonical t.is_canonical u.is_canonical) ∙ sym u.printed

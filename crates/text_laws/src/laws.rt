@@ -31,6 +31,12 @@ pub fn reading_after_printing()
         → ReadsAs w text t.canonical }
 {}
 
+/// Each graph that conforms has one text.
+pub fn one_text()
+    ensures exists { (w : Setting) (g : Graph) → IsLegalSide w → Conforms w g → (text : List ℕ) × IsText w g text }
+    ensures alone { (w : Setting) (g : Graph) (text other : List ℕ) → IsLegalSide w → Conforms w g → IsText w g text → IsText w g other → text ≡ other }
+{}
+
 /// Two graphs that conform to one side have one text exactly if they are the same up to the numbers of their cells.
 pub fn same_texts()
     ensures { (w : Setting) (g h : Graph) (text other : List ℕ)

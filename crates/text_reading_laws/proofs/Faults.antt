@@ -17,7 +17,7 @@ use Rattle.nd_types.proofs.LayoutLaws.{shallow_all}
 use Rattle.nd_value.specs.declared.value.Graph.{Graph}
 use Rattle.nd_value.specs.Setting.{Setting, root_list}
 use Rattle.nd_grammar.specs.LegalSide.{IsLegalSide}
-use Rattle.nd_grammar.proofs.legal.LegalReadable.{Known}
+use Rattle.nd_grammar.specs.ReaderState.{Known}
 use Rattle.nd_grammar.proofs.legal.LegalUsable.{roots_known}
 use Rattle.text_grammar.specs.declared.version.Version.{Version}
 use Rattle.text_grammar.specs.declared.fault.TextReason.{TextReason}

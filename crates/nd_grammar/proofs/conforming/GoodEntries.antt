@@ -19,7 +19,7 @@ use Rattle.nd_value.specs.Setting.{cell_of_number}
 use Rattle.nd_value.specs.Nodes.{child_types, child_agreements, first_agreements, rest_agreements}
 use Rattle.nd_value.specs.Conforms.{IsAgreed}
 use Rattle.nd_types.specs.declared.types.TypeId.{TypeId}
-use Rattle.nd_types.specs.Kinds.{is_pipe, referent_type}
+use Rattle.nd_types.specs.Kinds.{is_pipe}
 use Rattle.nd_value.specs.Misfit.{selects, has_shape, has_range, names_cell, names_pointee, is_within, has_no_zero, has_arm}
 use Rattle.nd_value.proofs.Apart.{all_append}
 use Rattle.nd_value.proofs.Orderly.{pointee_of_cell}
@@ -28,11 +28,7 @@ use Rattle.nd_grammar.specs.Entry.{Kind, Entry, Offset, Actual, Number, Num, Tag
 use Rattle.nd_grammar.specs.InPlace.{before_children, entries, counts, tag_entries, in_place, tests, own_tests, child_tests, hoisted, hoisted_max, whole_value}
 use Rattle.nd_grammar.specs.Refusal.{is_enumerator, is_selected}
 use Rattle.nd_grammar.proofs.conforming.GoodTrees.{Agrees, GoodTrees}
-
--- a type is no pipe, and no reference pointer to one
-pub record IsNoPipe (table : Table) (t : ℕ) : Type 0 where
-  pub itself : is_pipe (type_at table t) ≡ false
-  pub referent : is_pipe (referent_type table t) ≡ false
+use Rattle.nd_grammar.specs.ReaderState.{IsNoPipe}
 
 -- what is in place holds no pipe
 pub record HoldsNoPipe (table : Table) : Type 0 where

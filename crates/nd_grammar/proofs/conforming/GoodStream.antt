@@ -31,7 +31,8 @@ use Rattle.nd_grammar.specs.Stream.{Stream, step_entries, standing_entries, step
 use Rattle.nd_grammar.proofs.next.NextPipes.{sum_first, count_drop}
 use Rattle.nd_grammar.proofs.next.NextStream.{IsPipeRoot, drop_at}
 use Rattle.nd_grammar.proofs.conforming.GoodTrees.{Agrees, GoodTrees, good_take, good_drop, good_cells, good_roots}
-use Rattle.nd_grammar.proofs.conforming.GoodEntries.{GoodEntry, IsNoPipe, HoldsNoPipe, good_tests, good_in_place, good_whole}
+use Rattle.nd_grammar.proofs.conforming.GoodEntries.{GoodEntry, HoldsNoPipe, good_tests, good_in_place, good_whole}
+use Rattle.nd_grammar.specs.ReaderState.{IsNoPipe}
 
 abbrev home_number : Home → ℕ
 home_number (home.Root i) = 0

@@ -25,7 +25,8 @@ use Rattle.nd_value.proofs.Apart.{all_append, all_left, all_right}
 use Rattle.nd_grammar.specs.Entry.{Kind, Entry}
 use Rattle.nd_grammar.specs.InPlace.{before_children, entries, tag_entries, in_place, tests, own_tests, child_tests, hoisted, hoisted_max, whole_value}
 use Rattle.nd_grammar.specs.Refusal.{is_selected}
-use Rattle.nd_grammar.proofs.reader.MadeTrees.{FitsAlone, MadeNode, MadeTrees, CellFits, CellKnown, label_known, all_flat_left}
+use Rattle.nd_grammar.proofs.reader.MadeTrees.{CellFits, CellKnown, label_known, all_flat_left}
+use Rattle.nd_grammar.specs.MadeTrees.{FitsAlone, MadeNode, MadeTrees}
 use Rattle.nd_grammar.proofs.conforming.Passed.{HasPassed, Passed}
 
 pub passed_kinds : (h : Home) (n : ℕ) (xs : List Kind) → AllByRecursion Passed (entries h n xs) → AllByRecursion HasPassed xs

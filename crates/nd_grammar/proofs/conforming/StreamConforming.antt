@@ -15,17 +15,17 @@ use Rattle.nd_value.specs.declared.value.Graph.{Graph}
 use Rattle.nd_value.specs.declared.item.Home.{Home}
 use Rattle.nd_value.specs.declared.item.Home.TheVariants as home
 use Rattle.nd_value.specs.Tree as tree
-use Rattle.nd_value.specs.Tree.{Tree, Trees, node, none, more, Label, Referent, count, node_count, is_pointer, cell_in, take_trees, drop_trees}
+use Rattle.nd_value.specs.Tree.{Tree, Trees, node, none, more, Label, Referent, count, node_count, is_pointer, cell_in}
 use Rattle.nd_value.specs.Agreement.{Agreement}
 use Rattle.nd_value.specs.Setting.{Setting, Among, root_list, or_unread, cell_home, cell_at, cell_of_number}
 use Rattle.nd_value.specs.Nodes.{TypedNode, nodes_of, child_types, child_agreements, governed_nodes, home_nodes}
 use Rattle.nd_value.specs.Deferral.{Pending, pointer, pointer_by, home_pointers, due_root, due_roots, before_pipes, Step, Deferral, Standing, standing_root, standing_by, direct, root_type}
 use Rattle.nd_value.specs.Variables.{root_agreements}
 use Rattle.nd_value.specs.Homes.{HomeNode, in_home, root_nodes, cell_nodes, all_nodes, all_pointers}
-use Rattle.nd_value.specs.Misfit.{misfit_of}
+use Rattle.nd_value.specs.Misfit.{misfit_of, has_shape}
 use Rattle.nd_value.specs.Conforms.{Reached, by_root, by_cell, AgreesAt, IsAgreed}
 use Rattle.nd_value.proofs.Apart.{all_append, all_left, all_right, all_among}
-use Rattle.nd_value.proofs.DeferralExists.{direct_is, direct_pointer}
+use Rattle.nd_value.proofs.DeferralExists.{direct_is, direct_pointer, no_nodes}
 use Rattle.nd_grammar.specs.LegalSide.{IsLegalSide}
 use Rattle.nd_grammar.specs.Entry.{Entry}
 use Rattle.nd_grammar.specs.InPlace.{in_place, own_tests}
@@ -34,22 +34,17 @@ use Rattle.nd_grammar.proofs.LegalSides.{laid_out}
 use Rattle.nd_grammar.proofs.next.NextStream.{IsPipeRoot, IsLaidOut, drop_at, all_at}
 use Rattle.nd_grammar.proofs.next.Mapped.{no_pointers, pipe_pointers}
 use Rattle.nd_grammar.proofs.reader.ReaderInPlace.{node_entries, value_then_others}
-use Rattle.nd_grammar.proofs.reader.MadeTrees.{FitsAlone, MadeNode, MadeTrees, CellOf, CellFits, label_known}
+use Rattle.nd_grammar.proofs.reader.MadeTrees.{CellOf, CellFits, label_known, made_count}
+use Rattle.nd_grammar.specs.MadeTrees.{FitsAlone, MadeNode, MadeTrees}
 use Rattle.nd_grammar.proofs.conforming.Passed.{Passed, PassedAll, left_passed, right_passed, least}
-use Rattle.nd_grammar.proofs.conforming.PassedTrees.{PendingAgrees, in_place_fits, in_place_agrees, misfit_none, tests_agree}
+use Rattle.nd_grammar.proofs.conforming.PassedTrees.{PendingAgrees, in_place_fits, in_place_agrees, misfit_none, tests_agree, Rest}
 use Rattle.nd_grammar.proofs.Placed.{own, all_placed, Covers}
 use Rattle.nd_grammar.proofs.conforming.StreamMet.{made_no_null, root_made, cell_pointers_fit, root_pointers_fit, DueOk, DueMet, HomeMet, Closed, met}
-use Rattle.nd_grammar.proofs.reader.FewNodes.{one, Bound, AllFew, list_few, value_few, some_members, some_bound, many_ones}
-use Rattle.nd_grammar.proofs.reader.ReaderCells.{CellMade}
-use Rattle.nd_grammar.proofs.reader.ReaderStates.{RootsMade}
-use Rattle.nd_grammar.proofs.legal.LegalUsable.{Usable, UsablePointer, usable_readable, root_usable, element_usable, pointers_usable}
+use Rattle.nd_grammar.proofs.reader.FewNodes.{one, Bound, AllFew, list_few, value_few, some_members, some_bound, many_ones, ones}
+use Rattle.nd_grammar.specs.ReaderState.{CellMade, RootsMade, Usable, UsablePointer}
+use Rattle.nd_grammar.proofs.legal.LegalUsable.{usable_readable, root_usable, element_usable, pointers_usable}
 use Rattle.nd_grammar.proofs.conforming.StreamConforms.{one_few, le_or, due_all, due_at, all_of, root_pointer, no_child_tests, whole_all, least_chunks, passed_chunks}
-use Rattle.nd_value.proofs.DeferralExists.{no_nodes}
-use Rattle.nd_grammar.proofs.reader.MadeTrees.{made_count}
-use Rattle.nd_grammar.proofs.conforming.PassedTrees.{Rest}
-use Rattle.nd_grammar.proofs.reader.FewNodes.{ones}
 use Rattle.nd_grammar.proofs.next.HoistedMaxes.{HoistsLast}
-use Rattle.nd_value.specs.Misfit.{has_shape}
 
 some_before : (rs : List Root) → before_pipes rs ≤ length rs
 some_before [] = omega arith

@@ -25,11 +25,12 @@ use Rattle.nd_grammar.specs.Entry.{Entry}
 use Rattle.nd_grammar.specs.InPlace.{whole_value}
 use Rattle.nd_grammar.specs.Stream.{step_entries, standing_entries, step_tests}
 use Rattle.nd_grammar.proofs.conforming.GoodStream.{same_home_number}
-use Rattle.nd_grammar.proofs.reader.MadeTrees.{MadeNode, MadeTrees, CellOf, CellFits}
+use Rattle.nd_grammar.proofs.reader.MadeTrees.{CellOf, CellFits}
+use Rattle.nd_grammar.specs.MadeTrees.{MadeNode, MadeTrees}
 use Rattle.nd_grammar.proofs.conforming.Passed.{PassedAll, left_passed, right_passed}
 use Rattle.nd_grammar.proofs.conforming.PassedTrees.{tests_agree}
 use Rattle.nd_grammar.proofs.Placed.{own, among_split, one_among, none_some, closed_at, placed, all_placed, Covers, before_step, of_root, home_is}
-use Rattle.nd_grammar.proofs.reader.ReaderStates.{RootsMade}
+use Rattle.nd_grammar.specs.ReaderState.{RootsMade}
 
 unread_no_null : (d : Option TypeDef) → is_no_null_ref d tree.Unread ≡ true
 unread_no_null (Some (def.Pointer Ref to)) = refl

@@ -28,7 +28,8 @@ use Rattle.nd_value.proofs.NodeFacts.{all_of_list}
 use Rattle.nd_value.proofs.Apart.{all_append, all_left, all_weaker}
 use Rattle.nd_grammar.specs.LegalSide.{IsLegalSide}
 use Rattle.nd_grammar.proofs.next.Mapped.{in_parts}
-use Rattle.nd_grammar.proofs.conforming.GoodEntries.{IsNoPipe, HoldsNoPipe}
+use Rattle.nd_grammar.proofs.conforming.GoodEntries.{HoldsNoPipe}
+use Rattle.nd_grammar.specs.ReaderState.{IsNoPipe}
 
 either_false : (x y : Bool) → (x || y) ≡ false → (x ≡ false) × (y ≡ false)
 either_false true y h = cc

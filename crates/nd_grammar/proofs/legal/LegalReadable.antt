@@ -18,13 +18,9 @@ use Rattle.nd_types.proofs.LegalLaws.{passes_at}
 use Rattle.nd_types.proofs.LayoutLaws.{shallow_all}
 use Rattle.nd_value.proofs.NodeFacts.{all_of_list}
 use Rattle.nd_value.proofs.Apart.{all_left, all_weaker}
-use Rattle.nd_grammar.proofs.conforming.GoodEntries.{IsNoPipe}
+use Rattle.nd_grammar.specs.ReaderState.{IsNoPipe, Known}
 use Rattle.nd_grammar.proofs.legal.LegalPipes.{parts_alone, holds_no_pipe}
 use Rattle.nd_grammar.proofs.reader.ReaderInPlace.{Fine, Readable}
-
--- a type of the table
-abbrev pub Known : Table → ℕ → Type 0
-Known table t = (d : TypeDef) × (type_at table t ≡ Some d)
 
 in_table : {X : Type 0} (xs : List X) (t : ℕ) → t < length xs → (x : X) × (slice_get xs t ≡ Some x)
 in_table [] t h = absurd (omega arith)

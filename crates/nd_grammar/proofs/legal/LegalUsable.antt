@@ -24,13 +24,13 @@ use Rattle.nd_value.specs.Tree.{Tree, Trees, node, none, more, Label, node_count
 use Rattle.nd_value.specs.Agreement.{Agreement}
 use Rattle.nd_value.specs.Setting.{Setting, Among, root_list}
 use Rattle.nd_value.specs.Nodes.{TypedNode, nodes_of, child_types, child_agreements, first_agreements, rest_agreements}
-use Rattle.nd_value.specs.Deferral.{Pending, pointer, pointer_by, home_pointers, before_pipes}
+use Rattle.nd_value.specs.Deferral.{pointer, pointer_by, home_pointers, before_pipes}
 use Rattle.nd_value.proofs.Apart.{all_append, all_left}
 use Rattle.nd_grammar.specs.LegalSide.{IsLegalSide}
 use Rattle.nd_grammar.proofs.next.Mapped.{in_parts}
-use Rattle.nd_grammar.proofs.conforming.GoodEntries.{IsNoPipe}
+use Rattle.nd_grammar.specs.ReaderState.{IsNoPipe, Known, Usable, UsablePointer}
 use Rattle.nd_grammar.proofs.legal.LegalPipes.{parts_alone, holds_no_pipe, plain_before, all_at}
-use Rattle.nd_grammar.proofs.legal.LegalReadable.{Known, named_known, legal_readable}
+use Rattle.nd_grammar.proofs.legal.LegalReadable.{named_known, legal_readable}
 use Rattle.nd_grammar.proofs.reader.ReaderInPlace.{Readable}
 use Rattle.nd_grammar.proofs.reader.ReaderMakes.{IsSmall, SmallBound, SmallBounds}
 
@@ -40,14 +40,6 @@ bound_below (Some n) h =
     let (x, y) = and_parts _ _ h in
     let z : n ≤ ELEMENT_LIMIT = leb-true n ELEMENT_LIMIT y in
     omega arith
-
--- a type of the table that holds no pipe
-pub record Usable (table : Table) (t : ℕ) : Type 0 where
-  pub known : Known table t
-  pub no_pipe : IsNoPipe table t
-
-abbrev pub UsablePointer : Table → Pending → Type 0
-UsablePointer table p = Usable table p.to
 
 module _ (table : Table) (operations : List Operation) (legal : IsLegal table operations) where
   small_bound : (t : ℕ) (d : TypeDef) → type_at table t ≡ Some d → SmallBound d

@@ -15,7 +15,7 @@ use Rattle.nd_value.specs.Tree as tree
 use Rattle.nd_value.specs.Tree.{Tree, Trees, node, none, more, Label}
 use Rattle.nd_value.specs.Setting.{Setting, root_list, root_at, or_unread}
 use Rattle.nd_value.specs.Variables.{starred}
-use Rattle.nd_value.specs.Deferral.{due_roots, before_pipes, root_type}
+use Rattle.nd_value.specs.Deferral.{Step, Deferral, due_roots, before_pipes, root_type}
 use Rattle.nd_value.proofs.DeferralBridge.{some_before}
 use Rattle.nd_value.proofs.NodeFacts.{IsSound}
 use Rattle.nd_grammar.proofs.next.PointerPlaces.{root_there}
@@ -90,9 +90,6 @@ module _ (two : Readings) (w : Setting) (g g' : Graph) where
   roots_due i (suc k) h = (root_there w i (omega arith), roots_due (suc i) k (omega arith))
 
   module _ (s : IsSound w g) (s' : IsSound w g') (laid : IsLaidOut w) where
-    abbrev X : List Pair → Type 0
-    X ys = AreMapped ys
-
     abbrev W : List Pair → Type 0
     W = IsMap two w g g'
 
@@ -128,7 +125,7 @@ module _ (two : Readings) (w : Setting) (g g' : Graph) where
     past (r ∷ rs) (v ∷ vs) zero h e = cc
     past (r ∷ rs) (v ∷ vs) (suc i) h e = past rs vs i (omega arith) e
 
-    module _ (ys : List Pair) (st : Stands two w g g' [] (due_roots 0 n) (due_roots 0 n) ys) where
+    module _ (X : List Pair → Type 0) (ys : List Pair) (st : Stands two w g g' [] (due_roots 0 n) (due_roots 0 n) ys) where
       its_root : (i : ℕ) → i < n → RootCarried two w g g' ys i
       its_root i h = subst (RootCarried two w g g' ys) (omega arith) (root_carried ys 0 n st.carried_due i h)
 
@@ -205,8 +202,21 @@ module _ (two : Readings) (w : Setting) (g g' : Graph) where
       all_closed : AllByRecursion (IsClosed two w g g' ys) ys
       all_closed = subst (λ u. AllByRecursion (IsClosed two w g g' ys) u) (sym (append-nil st.new) ∙ sym st.all) st.closed
 
+    -- What is before the pipes of two streams follows each other, up to an unread value, if what comes later does so by the map that was found.
+    pub heads_next : (X : List Pair → Type 0) {us vs : List Step} → Deferral w g [] (due_roots 0 (before_pipes (root_list w))) us
+        → Deferral w g' [] (due_roots 0 (before_pipes (root_list w))) vs → (ms ns : List Entry)
+        → ((p : ℕ) (ys : List Pair) → Stands two w g g' [] (due_roots 0 (before_pipes (root_list w))) (due_roots 0 (before_pipes (root_list w))) ys → Next two (IsMap two w g g') X ys p ms ns)
+        → Next two (IsMap two w g g') X [] 0 (flat_map (step_entries w g) us ++ (root_tests w g 0 (root_list w) g.roots ++ ms))
+        (flat_map (step_entries w g') vs ++ (root_tests w g' 0 (root_list w) g'.roots ++ ns))
+    heads_next X a b ms ns next =
+        let T : List Entry = root_tests w g 0 (root_list w) g.roots in
+        let T' : List Entry = root_tests w g' 0 (root_list w) g'.roots in
+        deferral_next two X w g g' (known_cells w g s) (known_cells w g' s') (λ t v v'. maxes_hoisted w.table laid.hoisting g g' t v v') (roots_meet two w g g' s s')
+        s s' a b [] refl refl (no_pairs two w g g') tt (due_match tt 0 n) (roots_due 0 n (omega (arith, some_before w g (root_list w)))) (T ++ ms) (T' ++ ns) 0 (λ p ys st.
+        root_tests_next two W X w g g' ys st.one st.fit (vars_same X ys st) 0 (root_list w) g.roots g'.roots (ready X ys st) ms ns p (λ q. next q ys st))
+
     -- Two streams of sound graphs of one side follow each other, up to an unread value; where both are spelt whole, the graphs are mapped.
-    pub streams_next : (ms ns : List Entry) → Stream w g ms → Stream w g' ns → Next two (IsMap two w g g') X [] 0 ms ns
+    pub streams_next : (ms ns : List Entry) → Stream w g ms → Stream w g' ns → Next two (IsMap two w g g') AreMapped [] 0 ms ns
     streams_next ms ns a b =
         let F : List Entry = flat_map (step_entries w g) a.steps in
         let F' : List Entry = flat_map (step_entries w g') b.steps in
@@ -216,10 +226,8 @@ module _ (two : Readings) (w : Setting) (g g' : Graph) where
         let P' : List Entry = pipes_entries w.table n (drop n (root_list w)) (drop n g'.roots) b.cuts in
         let e : ms ≡ F ++ (T ++ (P ++ [])) = a.is_representation ∙ append_assoc F T P ∙ ap (λ u. F ++ (T ++ u)) (sym (append-nil P)) in
         let e' : ns ≡ F' ++ (T' ++ (P' ++ [])) = b.is_representation ∙ append_assoc F' T' P' ∙ ap (λ u. F' ++ (T' ++ u)) (sym (append-nil P')) in
-        subst (λ u. Next two W X [] 0 u ns) (sym e) (subst (λ u. Next two W X [] 0 (F ++ (T ++ (P ++ []))) u) (sym e')
-        (deferral_next two X w g g' (known_cells w g s) (known_cells w g' s') (λ t v v'. maxes_hoisted w.table laid.hoisting g g' t v v') (roots_meet two w g g' s s')
-        s s' a.deferral b.deferral [] refl refl (no_pairs two w g g') tt (due_match tt 0 n) (roots_due 0 n (omega (arith, some_before w g (root_list w)))) (T ++ (P ++ [])) (T' ++ (P' ++ [])) 0 (λ p ys st.
-        root_tests_next two W X w g g' ys st.one st.fit (vars_same ys st) 0 (root_list w) g.roots g'.roots (ready ys st) (P ++ []) (P' ++ []) p (λ q.
-        pipes_next two W X w.table laid.hoisting g g' ys st.one n (drop n (root_list w)) (drop n g.roots) (drop n g'.roots) a.cuts b.cuts (pipes_known ys st)
+        subst (λ u. Next two W AreMapped [] 0 u ns) (sym e) (subst (λ u. Next two W AreMapped [] 0 (F ++ (T ++ (P ++ []))) u) (sym e')
+        (heads_next AreMapped a.deferral b.deferral (P ++ []) (P' ++ []) (λ q ys st.
+        pipes_next two W AreMapped w.table laid.hoisting g g' ys st.one n (drop n (root_list w)) (drop n g.roots) (drop n g'.roots) a.cuts b.cuts (pipes_known AreMapped ys st)
         a.all_cut b.all_cut [] [] q (λ r m.
-        ([], st.one, record { one = st.one.one; fit = st.fit; closed = all_closed ys st; roots = st.carried_due; pipes = m }))))))
+        ([], st.one, record { one = st.one.one; fit = st.fit; closed = all_closed AreMapped ys st; roots = st.carried_due; pipes = m })))))

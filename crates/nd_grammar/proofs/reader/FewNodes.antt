@@ -27,7 +27,7 @@ use Rattle.nd_grammar.specs.InPlace.{before_children, entries, tag_entries, in_p
 use Rattle.nd_grammar.specs.Reader.{tree_nodes}
 use Rattle.nd_grammar.proofs.next.HoistedMaxes.{HoistsLast, OnlyLast, last_of, struct_last}
 use Rattle.nd_grammar.proofs.next.Mapped.{in_parts}
-use Rattle.nd_grammar.proofs.reader.MadeTrees.{MadeNode, MadeTrees, MadeTree}
+use Rattle.nd_grammar.specs.MadeTrees.{MadeNode, MadeTrees, MadeTree}
 use Rattle.nd_grammar.proofs.conforming.Passed.{HasPassed, Passed, least, least_append}
 use Rattle.nd_grammar.proofs.conforming.PassedTrees.{passed_kinds, unread_entry}
 use Rattle.nd_grammar.proofs.reader.ReaderInPlace.{Readable, node_entries, value_then_others}

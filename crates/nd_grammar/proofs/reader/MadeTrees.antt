@@ -1,12 +1,12 @@
--- Trees whose nodes have the form of their types, as far as a node says it by itself: what the reader makes.
-use Rattle.std.proofs.Common.{◌≡◌, ℕ, ◌+◌, ◌^◌, ◌<◌, zero, suc, true, false, List, [], ◌∷◌, ◌++◌, length, Option, Some, None, refl, ap, sym, ◌∙◌, inl, inr, ◌⊎◌, arith, subst}
+-- What is known of trees that the reader makes: the nodes of a partial graph.
+use Rattle.std.proofs.Common.{◌≡◌, ℕ, ◌+◌, ◌^◌, ◌<◌, zero, suc, true, false, List, [], ◌∷◌, ◌++◌, length, Option, Some, None, refl, ap, sym, ◌∙◌, inl, inr, arith, subst}
 use Rattle.std.specs.Prelude.{Bool, eqb, leb, not, ◌&&◌, ◌||◌, flat_map}
 use Rattle.std.specs.List.{AllByRecursion, slice_get}
 use Rattle.std.proofs.lemmas.Bool.{and_from, eq-eqb, le-leb, lt-ltb}
 use Rattle.std.proofs.lemmas.Option.{slice_get_within}
 use Rattle.nd_types.specs.declared.types.TypeDef.{TypeDef}
 use Rattle.nd_types.specs.declared.types.TypeDef.TheVariants as def
-use Rattle.nd_types.specs.Table.{Table, type_at, fits_octets}
+use Rattle.nd_types.specs.Table.{Table, type_at}
 use Rattle.nd_value.specs.declared.value.Graph.{Graph}
 use Rattle.nd_value.specs.declared.item.Home.{Home}
 use Rattle.nd_value.specs.Tree as tree
@@ -14,35 +14,10 @@ use Rattle.nd_value.specs.Tree.{Tree, Trees, node, none, more, Label, Referent, 
 use Rattle.nd_value.specs.Agreement.{Agreement}
 use Rattle.nd_value.specs.Nodes.{TypedNode, nodes_of, child_types, child_agreements, first_agreements, rest_agreements}
 use Rattle.nd_value.specs.Deferral.{Pending, pointer, pointer_by}
-use Rattle.nd_value.specs.Misfit.{has_shape, has_range, is_no_null_ref, has_counts, has_machine_values, names_cell, names_pointee, has_type, is_partial_node, is_unread}
+use Rattle.nd_value.specs.Misfit.{has_shape, has_machine_values, names_cell, names_pointee, has_type, is_partial_node, is_unread}
 use Rattle.nd_value.proofs.Apart.{all_append, all_left, all_right}
 use Rattle.nd_value.proofs.Waiting.{not_equal}
-
--- what a node says by itself is of the program; that a pointer's cell is one of few is said of the graph
-abbrev pub has_own_values : Label → Bool
-has_own_values (tree.Ptr c) = true
-has_own_values l = has_machine_values l
-
--- a node has the form of its type, its pointer's cell aside
-pub record FitsAlone (table : Table) (d : Option TypeDef) (l : Label) (ks : Trees) : Type 0 where
-  pub shape : has_shape d l ks ≡ true
-  pub range : has_range fits_octets table d l ≡ true
-  pub no_null : is_no_null_ref d l ≡ true
-  pub counts : has_counts d l ks ≡ true
-  pub machine : has_own_values l ≡ true
-
-abbrev pub MadeNode : Table → Option TypeDef → Label → Trees → Type 0
-MadeNode table d l ks = (l ≡ tree.Unread) ⊎ FitsAlone table d l ks
-
--- trees of these types, as many as they are, each node unread or of the form of its type
-abbrev pub MadeTrees : Table → List ℕ → Trees → Type 0
-MadeTrees table [] none = Unit {0}
-MadeTrees table (t ∷ types) (more (node l ks) ts) =
-    MadeNode table (type_at table t) l ks × MadeTrees table (child_types (type_at table t) l ks) ks × MadeTrees table types ts
-MadeTrees table _ _ = ⊥
-
-abbrev pub MadeTree : Table → Option TypeDef → Tree → Type 0
-MadeTree table d (node l ks) = MadeNode table d l ks × MadeTrees table (child_types d l ks) ks
+use Rattle.nd_grammar.specs.MadeTrees.{has_own_values, MadeNode, MadeTrees, MadeTree}
 
 pub one_made : (table : Table) (t : ℕ) (v : Tree) → MadeTree table (type_at table t) v → MadeTrees table (t ∷ []) (more v none)
 one_made table t (node l ks) m = (m.0, m.1, tt)

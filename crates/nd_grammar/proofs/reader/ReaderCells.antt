@@ -17,10 +17,11 @@ use Rattle.nd_value.proofs.Apart.{all_append, all_left, all_right, all_weaker, m
 use Rattle.nd_grammar.specs.Entry.{EntryAt}
 use Rattle.nd_grammar.specs.Reader.{Progress, Names}
 use Rattle.nd_grammar.specs.StreamReader.{with_value}
-use Rattle.nd_grammar.proofs.reader.ReaderNames.{cell_in, Extends, Linked, LinkedOne, PointerAt, PointerOk, PointersOk, pointer_later, joined_apart}
+use Rattle.nd_grammar.proofs.reader.ReaderNames.{Extends, pointer_later, joined_apart}
+use Rattle.nd_grammar.specs.ReaderState.{cell_in, Linked, LinkedOne, PointerAt, PointerOk, PointersOk, NumberOk, NumbersOk, CellMade, no_names}
 use Rattle.nd_grammar.proofs.reader.ReaderLeaves.{value_pointers, first_value, no_pointer_unread}
-use Rattle.nd_grammar.proofs.reader.ReaderMoves.{NumberOk, NumbersOk}
-use Rattle.nd_grammar.proofs.reader.MadeTrees.{MadeTrees, one_made, unread_made}
+use Rattle.nd_grammar.proofs.reader.MadeTrees.{one_made, unread_made}
+use Rattle.nd_grammar.specs.MadeTrees.{MadeTrees}
 
 -- the cells with the value of one
 abbrev pub set : ℕ → Tree → List Referent → List Referent
@@ -56,10 +57,6 @@ set_type (suc zero) (suc zero) v (y ∷ cells) x e = (record { of = y.of; val = 
 set_type (suc zero) (suc (suc k)) v (y ∷ cells) x e = (x, e, refl)
 set_type (suc (suc i)) (suc zero) v (y ∷ cells) x e = (x, e, refl)
 set_type (suc (suc i)) (suc (suc k)) v (y ∷ cells) x e = set_type (suc i) (suc k) v cells x e
-
--- what a cell holds was made
-abbrev pub CellMade : Table → Referent → Type 0
-CellMade table x = MadeTrees table (x.of ∷ []) (more x.val none)
 
 pub set_made : (table : Table) (c : ℕ) (v : Tree) (cells : List Referent) (x : Referent) → cell_in cells c ≡ Some x → MadeTrees table (x.of ∷ []) (more v none)
     → AllByRecursion (CellMade table) cells → AllByRecursion (CellMade table) (set c v cells)
@@ -137,10 +134,6 @@ root_more table n (q ∷ rs) (u ∷ vs) r v e =
     let H : List Pending = home_pointers table (home.Root n) q.of u in
     ap (λ k. H ++ k) (root_more table (n + 1) rs vs r v e ∙ ap (λ k. root_pointers table (n + 1) rs vs ++ home_pointers table (home.Root k) r.of v) z)
     ∙ sym (append_assoc H (root_pointers table (n + 1) rs vs) _)
-
--- names at the beginning
-abbrev pub no_names : Names
-no_names = record { cells = []; numbers = [] }
 
 turned : (p q : Pending) → ShareOnlyIfFull p q → ShareOnlyIfFull q p
 turned p q m c e f = let r = m c f e in (r.1, r.0)

@@ -25,7 +25,8 @@ use Rattle.nd_grammar.specs.InPlace.{child_tests}
 use Rattle.nd_grammar.specs.Reader.{Progress, Names, Read, ReadAll, is_stopped, pass, taken, number_in, value_in, text_in, attributes_in, identifier_in, read_if, read_list, tree_nodes, read_children, read_array, read_text, read_tagged, read_context, read_number, read_by, read_in_place, bound_or}
 use Rattle.nd_grammar.proofs.next.Mapped.{in_parts}
 use Rattle.nd_grammar.proofs.reader.ReaderInPlace.{Readable, list_read, Reads, in_place_read}
-use Rattle.nd_grammar.proofs.reader.ReaderNames.{Extends, extends_itself, extends_twice, Linked, linked_pass, linked_all, PointersOk, no_pointers_ok, pointers_joined}
+use Rattle.nd_grammar.proofs.reader.ReaderNames.{Extends, extends_itself, extends_twice, linked_pass, linked_all, no_pointers_ok, pointers_joined}
+use Rattle.nd_grammar.specs.ReaderState.{Linked, PointersOk}
 use Rattle.nd_grammar.proofs.reader.ReaderNamed.{named_ok}
 
 -- the pointers of one value, from node k on

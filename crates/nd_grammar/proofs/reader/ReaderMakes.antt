@@ -18,7 +18,7 @@ use Rattle.nd_types.specs.Layout.{parts, hoists, hoists_by, align_of, arm_type}
 use Rattle.nd_types.specs.Number.{AreOctets}
 use Rattle.nd_value.specs.declared.item.Home.{Home}
 use Rattle.nd_value.specs.Tree as tree
-use Rattle.nd_value.specs.Tree.{Tree, Trees, node, none, more, Label, count, node_count, is_pointer, cell_in}
+use Rattle.nd_value.specs.Tree.{Trees, node, none, Label, count, is_pointer, cell_in}
 use Rattle.nd_value.specs.Agreement.{Agreement}
 use Rattle.nd_value.specs.Setting.{Among, unread}
 use Rattle.nd_value.specs.Nodes.{nodes_of, child_types, child_agreements, first_agreements, rest_agreements, selected_types}
@@ -34,8 +34,10 @@ use Rattle.nd_grammar.proofs.next.Mapped.{in_parts}
 use Rattle.nd_grammar.proofs.reader.ReaderInPlace.{Readable}
 use Rattle.nd_grammar.proofs.reader.ReaderLeaves.{value_pointers, first_value, after_value, no_pointer_unread}
 use Rattle.nd_grammar.proofs.reader.ReaderOctets.{took, number_small, value_ranged, text_octets, attributes_small, identified}
-use Rattle.nd_grammar.proofs.reader.ReaderMoves.{paid, Moves, stays_there, moves_twice, pass_moves, all_moves, pointer_paid, NumbersOk, NamedMakes, named_makes}
-use Rattle.nd_grammar.proofs.reader.MadeTrees.{FitsAlone, MadeTrees, MadeTree, made_more, made_count, unread_made}
+use Rattle.nd_grammar.proofs.reader.ReaderMoves.{Moves, stays_there, moves_twice, pass_moves, all_moves, pointer_paid, NamedMakes, named_makes}
+use Rattle.nd_grammar.specs.ReaderState.{paid, NumbersOk}
+use Rattle.nd_grammar.proofs.reader.MadeTrees.{made_more, made_count, unread_made}
+use Rattle.nd_grammar.specs.MadeTrees.{FitsAlone, MadeTrees, MadeTree}
 
 -- a fixed bound is a number of 32 bits
 abbrev pub IsSmall : Option ℕ → Type 0

@@ -1,5 +1,5 @@
 -- How far reading goes: places only grow, and stay within the octets; and what a pointer costs.
-use Rattle.std.proofs.Common.{◌≡◌, ℕ, ◌+◌, ◌*◌, ◌^◌, ◌<◌, ◌≤◌, zero, suc, Bool, true, false, List, [], ◌∷◌, length, Option, Some, None, refl, ap, sym, ◌∙◌, arith}
+use Rattle.std.proofs.Common.{◌≡◌, ℕ, ◌+◌, ◌^◌, ◌<◌, ◌≤◌, zero, suc, Bool, true, false, List, [], ◌∷◌, length, Option, Some, None, refl, ap, sym, ◌∙◌, arith, length-append}
 use Rattle.std.specs.Prelude.{eqb, ltb, cond}
 use Rattle.std.specs.List.{AllByRecursion}
 use Rattle.std.proofs.lemmas.Bool.{ltb-false, eqb-false}
@@ -7,7 +7,6 @@ use Rattle.nd_base.specs.declared.octets.Order.{Order}
 use Rattle.nd_base.specs.declared.TheConstants.{STREAM_LIMIT}
 use Rattle.nd_types.specs.declared.types.Class.{Class}
 use Rattle.nd_types.specs.declared.types.Class.TheVariants.{Ref, Unique, Full}
-use Rattle.nd_value.specs.Conforms.{AllEarlier}
 use Rattle.nd_value.proofs.Apart.{all_weaker}
 use Rattle.nd_grammar.specs.declared.reason.Reason.{Reason}
 use Rattle.nd_grammar.specs.declared.reason.Reason.TheVariants as reason
@@ -15,16 +14,7 @@ use Rattle.nd_grammar.specs.Entry.{Entry, size_at}
 use Rattle.nd_grammar.specs.Refusal.{refusal, is_long}
 use Rattle.nd_grammar.specs.Reader.{Progress, Names, Named, here, advanced, pass, pass_all, named, numbered, new_cell, full_by, fresh, with_cell}
 use Rattle.nd_grammar.proofs.reader.ReaderNodes.{if_not}
-use Rattle.std.proofs.Common.{length-append}
-
--- 1 where reading has stopped
-abbrev pub stopped : Option (ℕ × Reason) → ℕ
-stopped None = 0
-stopped (Some r) = 1
-
--- the place, and 4 more where reading has stopped: so much pays for the pointer at which it stopped
-abbrev pub paid : Progress → ℕ
-paid p = p.at + 4 * stopped p.stop
+use Rattle.nd_grammar.specs.ReaderState.{stopped, paid, NumberOk, Differ, NumbersOk}
 
 module _ (order : Order) (octets : List ℕ) where
   -- from one place to a later one
@@ -80,18 +70,6 @@ module _ (order : Order) (octets : List ℕ) where
       let z : stopped p.stop ≡ 0 = ap stopped e in
       let a : Moves p (pass order octets gap p) = pass_moves gap p in
       omega (arith, z, a.later, four_paid m (pass order octets gap p) (s (pass order octets gap p).at))
-
--- a number of a full pointer: it is one of 32 bits and not 0, and its cell is there
-abbrev pub NumberOk : ℕ → ℕ × ℕ → Type 0
-NumberOk n x = (0 < x.0) × (x.0 < 2 ^ 32) × (x.1 ≤ n)
-
-abbrev pub Differ : ℕ × ℕ → ℕ × ℕ → Type 0
-Differ x y = (x.0 ≡ y.0 → ⊥) × (x.1 ≡ y.1 → ⊥)
-
--- the numbers of full pointers are distinct, and so are their cells
-pub record NumbersOk (s : Names) : Type 0 where
-  pub each : AllByRecursion (NumberOk (length s.cells)) s.numbers
-  pub apart : AllEarlier Differ s.numbers
 
 -- what naming a cell does
 pub record NamedMakes (s : Names) (it : Named) : Type 0 where

@@ -22,7 +22,8 @@ use Rattle.nd_grammar.specs.Refusal.{refusal, is_other, other_pointee}
 use Rattle.nd_grammar.specs.Reader.{Progress, Names, Named, here, pass, taken, taken_by, advanced, number_in, named, numbered, full_by, new_cell, fresh, with_cell}
 use Rattle.nd_grammar.proofs.reader.ReaderSteps.{same_taken}
 use Rattle.nd_grammar.proofs.reader.ReaderNodes.{accepted_kind, accepted_by, if_not}
-use Rattle.nd_grammar.proofs.reader.ReaderNames.{cell_in, last_cell, numbered_cells, Extends, extends_itself, Linked, LinkedOne, seen_more, linked_pass, other_right, either_false, PointerAt, PointersOk}
+use Rattle.nd_grammar.proofs.reader.ReaderNames.{last_cell, Extends, extends_itself, seen_more, linked_pass, other_right, either_false}
+use Rattle.nd_grammar.specs.ReaderState.{cell_in, numbered_cells, Linked, LinkedOne, PointerAt, PointersOk}
 
 cell_within : (cells : List Referent) (c : ℕ) (x : Referent) → cell_in cells c ≡ Some x → c ≤ length cells
 cell_within cells zero x e = cc

@@ -1,6 +1,6 @@
 -- The names that reading leaves: cells and numbers only grow, and a number that is met again has one type of referent.
 use Rattle.std.proofs.Common.{◌≡◌, ℕ, ◌+◌, ◌<◌, ◌≤◌, zero, suc, Bool, true, false, List, [], ◌∷◌, ◌++◌, length, Option, Some, None, refl, ap, ap₂, sym, ◌∙◌, inl, inr, ◌⊎◌, arith, subst, append_assoc, length-append}
-use Rattle.std.specs.Prelude.{◌||◌, map}
+use Rattle.std.specs.Prelude.{◌||◌}
 use Rattle.std.specs.List.{AllByRecursion, slice_get}
 use Rattle.std.proofs.lemmas.List.{append-nil}
 use Rattle.nd_base.specs.declared.octets.Order.{Order}
@@ -15,11 +15,7 @@ use Rattle.nd_grammar.specs.declared.reason.Reason.{Reason}
 use Rattle.nd_grammar.specs.Entry.{Entry, EntryAt}
 use Rattle.nd_grammar.specs.Refusal.{refusal, is_other}
 use Rattle.nd_grammar.specs.Reader.{Progress, Names, here, pass, pass_all, advanced}
-
--- a cell by its number, from 1
-abbrev pub cell_in : List Referent → ℕ → Option Referent
-cell_in cells zero = None
-cell_in cells (suc i) = slice_get cells i
+use Rattle.nd_grammar.specs.ReaderState.{cell_in, numbered_cells, LinkedOne, Linked, PointerOk, PointersOk}
 
 pub get_left : {X : Type 0} (xs ys : List X) (i : ℕ) (x : X) → slice_get xs i ≡ Some x → slice_get (xs ++ ys) i ≡ Some x
 get_left [] ys i x e = cc
@@ -38,9 +34,6 @@ pub last_cell : (cells : List Referent) (x : Referent) → cell_in (cells ++ x �
 last_cell cells x =
     let e : suc (length cells) ≡ length cells + 1 = omega arith in
     subst (λ u. cell_in (cells ++ x ∷ []) u ≡ Some x) e (get_last cells x)
-
-abbrev pub numbered_cells : List (ℕ × ℕ) → List ℕ
-numbered_cells xs = map (λ x. x.1) xs
 
 -- Names grow: the cells by new ones, unread; the numbers by some of new cells.
 pub record Extends (s s' : Names) : Type 0 where
@@ -73,14 +66,6 @@ extends_twice a b c x y =
     }
 
 module _ (order : Order) (octets : List ℕ) where
-  -- each number that full pointers have had is that of a cell; where no earlier full pointer with it is to another type, the type is the cell's
-  abbrev pub LinkedOne : List EntryAt → List Referent → ℕ × ℕ → Type 0
-  LinkedOne seen cells x =
-      (y : Referent) × (cell_in cells x.1 ≡ Some y) × ((to : ℕ) → is_other order octets seen x.0 to ≡ false → to ≡ y.of)
-
-  pub record Linked (p : Progress) (s : Names) : Type 0 where
-    pub all : AllByRecursion (LinkedOne p.seen s.cells) s.numbers
-
   pub either_false : (x y : Bool) → (x || y) ≡ false → (x ≡ false) × (y ≡ false)
   either_false true y h = cc
   either_false false y h = (refl, h)
@@ -95,8 +80,8 @@ module _ (order : Order) (octets : List ℕ) where
   other_right [] ys v to e = e
   other_right (x ∷ xs) ys v to e = other_right xs ys v to (either_false _ _ e).1
 
-  pub seen_more : (seen later : List EntryAt) (cells new : List Referent) (xs : List (ℕ × ℕ)) → AllByRecursion (LinkedOne seen cells) xs
-      → AllByRecursion (LinkedOne (seen ++ later) (cells ++ new)) xs
+  pub seen_more : (seen later : List EntryAt) (cells new : List Referent) (xs : List (ℕ × ℕ)) → AllByRecursion (LinkedOne order octets seen cells) xs
+      → AllByRecursion (LinkedOne order octets (seen ++ later) (cells ++ new)) xs
   seen_more seen later cells new [] a = tt
   seen_more seen later cells new (x ∷ xs) a =
       let (y, e, f) = a.0 in
@@ -108,30 +93,18 @@ module _ (order : Order) (octets : List ℕ) where
   advanced_seen None None p m = (here p m ∷ [], refl)
 
   -- passing an entry keeps the links
-  pub linked_pass : (p : Progress) (s : Names) (m : Entry) → Linked p s → Linked (pass order octets m p) s
+  pub linked_pass : (p : Progress) (s : Names) (m : Entry) → Linked order octets p s → Linked order octets (pass order octets m p) s
   linked_pass p s m l =
       let (later, e) = advanced_seen p.stop (refusal order octets p.seen (here p m)) p m in
-      let a : AllByRecursion (LinkedOne (p.seen ++ later) (s.cells ++ [])) s.numbers = seen_more p.seen later s.cells [] s.numbers l.all in
+      let a : AllByRecursion (LinkedOne order octets (p.seen ++ later) (s.cells ++ [])) s.numbers = seen_more p.seen later s.cells [] s.numbers l.all in
       record {
-        all = subst (λ u. AllByRecursion (LinkedOne u s.cells) s.numbers) (sym e)
-            (subst (λ u. AllByRecursion (LinkedOne (p.seen ++ later) u) s.numbers) (append-nil s.cells) a);
+        all = subst (λ u. AllByRecursion (LinkedOne order octets u s.cells) s.numbers) (sym e)
+            (subst (λ u. AllByRecursion (LinkedOne order octets (p.seen ++ later) u) s.numbers) (append-nil s.cells) a);
       }
 
-  pub linked_all : (p : Progress) (s : Names) (ms : List Entry) → Linked p s → Linked (pass_all order octets ms p) s
+  pub linked_all : (p : Progress) (s : Names) (ms : List Entry) → Linked order octets p s → Linked order octets (pass_all order octets ms p) s
   linked_all p s [] l = l
   linked_all p s (m ∷ ms) l = linked_all (pass order octets m p) s ms (linked_pass p s m l)
-
--- A pointer that was read between two states of the names: its cell is there, with its type; it is new, or it is numbered already and the
--- pointer is full; and it is numbered exactly if the pointer is full.
-pub record PointerAt (s s' : Names) (p : Pending) (c : ℕ) : Type 0 where
-  pub there : (x : Referent) × (cell_in s'.cells c ≡ Some x) × (x.of ≡ p.to)
-  pub within : c ≤ length s'.cells
-  pub new_or_full : (length s.cells < c) ⊎ ((p.class ≡ Full) × Among (numbered_cells s.numbers) c)
-  pub full : p.class ≡ Full → Among (numbered_cells s'.numbers) c
-  pub not_full : (p.class ≡ Full → ⊥) → Among (numbered_cells s'.numbers) c → ⊥
-
-abbrev pub PointerOk : Names → Names → Pending → Type 0
-PointerOk s s' p = (c : ℕ) → p.cell ≡ Some c → PointerAt s s' p c
 
 among_numbers : (xs ys : List (ℕ × ℕ)) (c : ℕ) → Among (numbered_cells (xs ++ ys)) c → Among (numbered_cells xs) c ⊎ Among (numbered_cells ys) c
 among_numbers [] ys c a = inr a
@@ -196,11 +169,6 @@ share_later a b c p q x y k e f = go (full_or_not p.class) (y k f).new_or_full
     go z (inl l) = let w = (x k e).within in absurd (omega arith)
     go (inl z) (inr (g, m)) = (z, g)
     go (inr z) (inr (g, m)) = absurd ((x k e).not_full z m)
-
--- pointers that were read between two states
-pub record PointersOk (s s' : Names) (ps : List Pending) : Type 0 where
-  pub each : AllByRecursion (PointerOk s s') ps
-  pub apart : AllEarlier ShareOnlyIfFull ps
 
 pub no_pointers_ok : (s s' : Names) → PointersOk s s' []
 no_pointers_ok s s' = record { each = tt; apart = tt }

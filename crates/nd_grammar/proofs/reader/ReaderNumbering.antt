@@ -10,8 +10,7 @@ use Rattle.nd_value.proofs.Waiting.{not_equal}
 use Rattle.nd_grammar.specs.Represents.{IsNumbering}
 use Rattle.nd_grammar.specs.Reader.{Names}
 use Rattle.nd_grammar.proofs.reader.ReaderNodes.{Agree}
-use Rattle.nd_grammar.proofs.reader.ReaderNames.{numbered_cells}
-use Rattle.nd_grammar.proofs.reader.ReaderMoves.{NumberOk, Differ, NumbersOk}
+use Rattle.nd_grammar.specs.ReaderState.{numbered_cells, NumberOk, Differ, NumbersOk}
 
 -- the number of a cell
 abbrev pub number_of_cell : List (ℕ × ℕ) → ℕ → ℕ

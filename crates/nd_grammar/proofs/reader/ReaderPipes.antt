@@ -14,7 +14,7 @@ use Rattle.nd_types.specs.Number.{AreOctets}
 use Rattle.nd_value.specs.declared.item.Home.{Home}
 use Rattle.nd_value.specs.declared.item.Home.TheVariants as home
 use Rattle.nd_value.specs.Tree as tree
-use Rattle.nd_value.specs.Tree.{Tree, Trees, node, none, more, Label, Referent, count, node_count, take_trees, drop_trees, joined}
+use Rattle.nd_value.specs.Tree.{Tree, Trees, node, none, more, Referent, count, node_count, take_trees, drop_trees, joined}
 use Rattle.nd_value.specs.Setting.{Setting, unread}
 use Rattle.nd_value.specs.Nodes.{nodes_of}
 use Rattle.nd_value.specs.Deferral.{pointer}
@@ -40,10 +40,12 @@ use Rattle.nd_grammar.proofs.reader.ReaderLeaves.{Leave, AllLeave, in_place_leav
 use Rattle.nd_grammar.proofs.reader.ReaderNames.{Extends}
 use Rattle.nd_grammar.proofs.reader.ReaderMoves.{Moves, stays_there, moves_twice, pass_moves}
 use Rattle.nd_grammar.proofs.reader.ReaderMakes.{Make, AllMake, in_place_makes, list_makes}
-use Rattle.nd_grammar.proofs.reader.MadeTrees.{MadeTrees, MadeTree, one_made, unread_made, made_count}
+use Rattle.nd_grammar.proofs.reader.MadeTrees.{one_made, unread_made, made_count}
+use Rattle.nd_grammar.specs.MadeTrees.{MadeTrees, MadeTree}
 use Rattle.nd_grammar.proofs.reader.EntriesFine.{Fine, FullOk, fine_in_place}
 use Rattle.nd_grammar.proofs.legal.LegalUsable.{small_bounds, usable_readable, element_usable}
-use Rattle.nd_grammar.proofs.reader.ReaderStates.{RootsMade, Numbered}
+use Rattle.nd_grammar.proofs.reader.ReaderStates.{Numbered}
+use Rattle.nd_grammar.specs.ReaderState.{RootsMade}
 
 -- names that grow by no cell do not change
 same_names : (s s' : Names) → Extends s s' → length s'.cells ≤ length s.cells → s' ≡ s

@@ -10,7 +10,8 @@ use Rattle.nd_value.specs.Conforms.{Reached, by_root, by_cell}
 use Rattle.nd_value.proofs.Apart.{among_left, among_right}
 use Rattle.nd_grammar.specs.Reader.{Names}
 use Rattle.nd_grammar.specs.StreamReader.{graph_of, with_value}
-use Rattle.nd_grammar.proofs.reader.ReaderNames.{cell_in, cell_kept}
+use Rattle.nd_grammar.proofs.reader.ReaderNames.{cell_kept}
+use Rattle.nd_grammar.specs.ReaderState.{cell_in, AllReached}
 use Rattle.nd_grammar.proofs.reader.ReaderCells.{set_same, set_other, set_length, unread_pointers}
 
 -- a cell by its number, in a graph of names
@@ -30,10 +31,6 @@ module _ (w : Setting) where
   still_reached g g' k (by_cell {b = b} x p r e m f) =
       let (y, i, j) = k.cells b x e p m in
       by_cell y p (still_reached g g' k r) i j f
-
-  -- all cells are reached
-  abbrev pub AllReached : List Tree → Names → Type 0
-  AllReached roots s = (c : ℕ) → 0 < c → c ≤ length s.cells → Reached w (graph_of roots s) c
 
   -- names that grow by blank cells, and one cell that was blank gets a value
   keeps_set : (roots : List Tree) (s t : Names) (new : List Referent) → t.cells ≡ s.cells ++ new → (c : ℕ) (z : Referent) → cell_in s.cells c ≡ Some z → z.val ≡ unread → (v : Tree)
@@ -67,7 +64,7 @@ module _ (w : Setting) where
   pub reached_set : (roots : List Tree) (s t : Names) (new : List Referent) → t.cells ≡ s.cells ++ new → (c : ℕ) (z : Referent) → 0 < c → c ≤ length s.cells → cell_in s.cells c ≡ Some z
       → z.val ≡ unread → (to : ℕ) → z.of ≡ to → (v : Tree)
       → ((k : ℕ) → length s.cells < k → k ≤ length t.cells → (x : Pending) × Among (home_pointers w.table (cell_home c) to v) x × (x.cell ≡ Some k))
-      → AllReached roots s → AllReached roots (with_value c v t)
+      → AllReached w roots s → AllReached w roots (with_value c v t)
   reached_set roots s t new e c z low high ez blank to et v covered all k a b = go (le_or k (length s.cells))
     where
       keeps : Keeps (graph_of roots s) (graph_of roots (with_value c v t))
@@ -87,7 +84,7 @@ module _ (w : Setting) where
   pub reached_root : (roots : List Tree) (s t : Names) (new : List Referent) → t.cells ≡ s.cells ++ new → (v : Tree) (more : List Pending)
       → root_pointers w.table 0 (root_list w) (roots ++ v ∷ []) ≡ root_pointers w.table 0 (root_list w) roots ++ more
       → ((k : ℕ) → length s.cells < k → k ≤ length t.cells → (x : Pending) × Among more x × (x.cell ≡ Some k))
-      → AllReached roots s → AllReached (roots ++ v ∷ []) t
+      → AllReached w roots s → AllReached w (roots ++ v ∷ []) t
   reached_root roots s t new e v more er covered all k a b = go (le_or k (length s.cells))
     where
       keeps : Keeps (graph_of roots s) (graph_of (roots ++ v ∷ []) t)
@@ -104,7 +101,7 @@ module _ (w : Setting) where
 
   -- roots without pointers are added
   pub reached_more : (roots later : List Tree) (s : Names) → root_pointers w.table 0 (root_list w) (roots ++ later) ≡ root_pointers w.table 0 (root_list w) roots
-      → AllReached roots s → AllReached (roots ++ later) s
+      → AllReached w roots s → AllReached w (roots ++ later) s
   reached_more roots later s e all k a b =
       still_reached (graph_of roots s) (graph_of (roots ++ later) s)
       (record {

@@ -15,7 +15,7 @@ use Rattle.nd_types.specs.Number.{AreOctets}
 use Rattle.nd_value.specs.declared.value.Graph.{Graph}
 use Rattle.nd_value.specs.declared.item.Home.TheVariants as home
 use Rattle.nd_value.specs.Tree as tree
-use Rattle.nd_value.specs.Tree.{Tree, Trees, node, none, more, Referent}
+use Rattle.nd_value.specs.Tree.{Tree, node, none, more, Referent}
 use Rattle.nd_value.specs.Setting.{Setting, root_list, root_at, or_unread, unread, cell_home, cell_at, cell_tree}
 use Rattle.nd_value.specs.Deferral.{Pending, Due, due_root, due_referent, due_roots, before_pipes, home_pointers, IsPlaced, root_stands, Standing, standing_root, standing_by, direct, root_type}
 use Rattle.nd_value.specs.Homes.{root_pointers, cell_pointers}
@@ -28,16 +28,18 @@ use Rattle.nd_grammar.specs.Stream.{step_entries, standing_entries}
 use Rattle.nd_grammar.specs.Reader.{Read, is_stopped, fresh, with_cell, new_cell, read_hoisted, read_if, read_whole}
 use Rattle.nd_grammar.specs.StreamReader.{Reading, read_direct, read_placed, read_root, read_first, read_next, read_due}
 use Rattle.nd_grammar.proofs.reader.ReaderSteps.{Follows, follows_append}
-use Rattle.nd_grammar.proofs.reader.ReaderNames.{cell_in, cell_kept, PointersOk}
+use Rattle.nd_grammar.proofs.reader.ReaderNames.{cell_kept}
+use Rattle.nd_grammar.specs.ReaderState.{cell_in, PointersOk, stopped, paid, CellMade, no_names, State, Usable, UsablePointer}
 use Rattle.nd_grammar.proofs.reader.ReaderNamed.{NamedOk, own_cell, linked_cell}
-use Rattle.nd_grammar.proofs.reader.ReaderMoves.{stopped, paid, new_makes}
-use Rattle.nd_grammar.proofs.reader.ReaderCells.{CellMade, no_names, more_pointers, root_more, put_between, blank_made, old_or_blank}
+use Rattle.nd_grammar.proofs.reader.ReaderMoves.{new_makes}
+use Rattle.nd_grammar.proofs.reader.ReaderCells.{more_pointers, root_more, put_between, blank_made, old_or_blank}
 use Rattle.nd_grammar.proofs.reader.EntriesFine.{Fine}
 use Rattle.nd_grammar.proofs.reader.ReaderReached.{reached_root}
-use Rattle.nd_grammar.proofs.reader.ReaderStates.{Numbered, roots_made_more, State, WholeRead, read_wholly, referent_state}
+use Rattle.nd_grammar.proofs.reader.ReaderStates.{Numbered, roots_made_more, WholeRead, read_wholly, referent_state}
 use Rattle.nd_grammar.proofs.reader.ReaderTurns.{Settled, Goes, goes_nowhere, goes_twice, Turn, joined_due, one_longer, at_end, root_turn, placed_there, pending_turn, settled_before, value_settled, R_so}
-use Rattle.nd_grammar.proofs.reader.MadeTrees.{MadeTree, MadeTrees, one_made}
-use Rattle.nd_grammar.proofs.legal.LegalUsable.{Usable, UsablePointer, pointee_usable, root_usable}
+use Rattle.nd_grammar.proofs.reader.MadeTrees.{one_made}
+use Rattle.nd_grammar.specs.MadeTrees.{MadeTree, MadeTrees}
+use Rattle.nd_grammar.proofs.legal.LegalUsable.{pointee_usable, root_usable}
 
 module _ (w : Setting) (side : IsLegalSide w) (order : Order) (octets : List ℕ) (all : AreOctets octets) where
   abbrev S : Reading → List Pending → List Pending → ℕ → Type 0

@@ -3,14 +3,13 @@ use Rattle.std.proofs.Common.{◌≡◌, ℕ, ◌+◌, ◌*◌, ◌<◌, ◌≤�
 use Rattle.std.specs.List.{AllByRecursion, slice_get}
 use Rattle.std.proofs.lemmas.Option.{same_Some}
 use Rattle.nd_base.specs.declared.octets.Order.{Order}
-use Rattle.nd_types.specs.declared.types.Class.TheVariants.{Full}
 use Rattle.nd_types.specs.Table.{Table, type_at}
 use Rattle.nd_types.specs.Roots.{Root}
 use Rattle.nd_types.specs.Number.{AreOctets}
 use Rattle.nd_value.specs.declared.item.Home.{Home}
 use Rattle.nd_value.specs.Tree.{Tree, none, more, Referent}
 use Rattle.nd_value.specs.Setting.{Setting, Among, root_list, unread, cell_home}
-use Rattle.nd_value.specs.Deferral.{Pending, Due, before_pipes, home_pointers, IsPlaced, IsPlacedFull, Placed_cells}
+use Rattle.nd_value.specs.Deferral.{Pending, Due, home_pointers, IsPlaced, Placed_cells}
 use Rattle.nd_value.specs.Homes.{root_pointers, cell_pointers, all_pointers}
 use Rattle.nd_value.proofs.Apart.{all_append, among_left, among_right}
 use Rattle.nd_grammar.specs.LegalSide.{IsLegalSide}
@@ -23,21 +22,17 @@ use Rattle.nd_grammar.proofs.reader.ReaderSteps.{Follows}
 use Rattle.nd_grammar.proofs.reader.ReaderNodes.{Agree, Grown}
 use Rattle.nd_grammar.proofs.reader.ReaderInPlace.{Readable, whole_read}
 use Rattle.nd_grammar.proofs.reader.EntriesFine.{Fine, FullOk, fine_whole}
-use Rattle.nd_grammar.proofs.reader.ReaderNames.{cell_in, numbered_cells, numbers_among, Extends, Linked, linked_all, PointerAt, PointerOk, PointersOk}
+use Rattle.nd_grammar.proofs.reader.ReaderNames.{numbers_among, Extends, linked_all}
+use Rattle.nd_grammar.specs.ReaderState.{cell_in, numbered_cells, Linked, PointerAt, PointerOk, PointersOk, paid, NumbersOk, CellMade, no_names, Usable, UsablePointer, RootsMade, Named, State}
 use Rattle.nd_grammar.proofs.reader.ReaderLeaves.{value_pointers}
 use Rattle.nd_grammar.proofs.reader.ReaderWhole.{whole_leaves}
-use Rattle.nd_grammar.proofs.reader.ReaderMoves.{paid, Moves, all_moves, NumbersOk}
+use Rattle.nd_grammar.proofs.reader.ReaderMoves.{Moves, all_moves}
 use Rattle.nd_grammar.proofs.reader.ReaderMakes.{Costs, whole_makes}
-use Rattle.nd_grammar.proofs.reader.ReaderReached.{AllReached, reached_set}
-use Rattle.nd_grammar.proofs.reader.ReaderCells.{cell_positive, CellMade, Inserted, no_names, value_is, more_pointers, put_between, pointers_kept, numbers_kept, linked_kept, value_length, set, set_other, set_made, set_pointers, blank_made, old_or_blank}
-use Rattle.nd_grammar.proofs.reader.MadeTrees.{MadeTrees, one_made}
-use Rattle.nd_grammar.proofs.legal.LegalUsable.{Usable, UsablePointer, small_bounds, usable_readable, pointers_usable}
-
--- roots that were read, each of its type
-abbrev pub RootsMade : Table → List Root → List Tree → Type 0
-RootsMade table rs [] = Unit {0}
-RootsMade table [] (v ∷ vs) = ⊥
-RootsMade table (r ∷ rs) (v ∷ vs) = MadeTrees table (r.of ∷ []) (more v none) × RootsMade table rs vs
+use Rattle.nd_grammar.proofs.reader.ReaderReached.{reached_set}
+use Rattle.nd_grammar.proofs.reader.ReaderCells.{cell_positive, Inserted, value_is, more_pointers, put_between, pointers_kept, numbers_kept, linked_kept, value_length, set, set_other, set_made, set_pointers, blank_made, old_or_blank}
+use Rattle.nd_grammar.proofs.reader.MadeTrees.{one_made}
+use Rattle.nd_grammar.specs.MadeTrees.{MadeTrees}
+use Rattle.nd_grammar.proofs.legal.LegalUsable.{small_bounds, usable_readable, pointers_usable}
 
 pub roots_made_more : (table : Table) (rs : List Root) (vs : List Tree) (r : Root) (v : Tree) → slice_get rs (length vs) ≡ Some r → RootsMade table rs vs
     → MadeTrees table (r.of ∷ []) (more v none) → RootsMade table rs (vs ++ v ∷ [])
@@ -58,26 +53,6 @@ full_ok s s' xs g (p ∷ ps) a = (
 )
 
 module _ (w : Setting) (side : IsLegalSide w) (order : Order) (octets : List ℕ) (all : AreOctets octets) where
-  -- each cell that stands was named by a pointer that was taken
-  abbrev pub Named : Placed_cells → List Pending → Type 0
-  Named done taken = (c : ℕ) → IsPlaced done c → (q : Pending) × Among taken q × (q.cell ≡ Some c) × (q.class ≡ Full → IsPlacedFull done c)
-
-  -- What holds while a stream is read: of the pointers that were taken, those that are due, and n roots to come.
-  pub record State (s : Reading) (taken ps : List Pending) (n : ℕ) : Type 0 where
-    pub roots_left : length s.roots + n ≡ before_pipes (root_list w)
-    pub linked : Linked order octets s.progress s.names
-    pub apart : PointersOk no_names s.names (taken ++ ps)
-    pub pointers : PointersOk no_names s.names (all_pointers w (graph_of s.roots s.names))
-    pub usable : AllByRecursion (UsablePointer w.table) ps
-    pub named : Named s.done taken
-    pub blank : (c : ℕ) (x : Referent) → cell_in s.names.cells c ≡ Some x → ¬ IsPlaced s.done c → x.val ≡ unread
-    pub numbers : NumbersOk s.names
-    pub roots_made : RootsMade w.table (root_list w) s.roots
-    pub cells_made : AllByRecursion (CellMade w.table) s.names.cells
-    pub within : s.progress.at ≤ length octets
-    pub few : 4 * length s.names.cells ≤ paid s.progress + 4 * length s.roots
-    pub reached : AllReached w s.roots s.names
-
   -- what a whole value that is read says
   pub record WholeRead (h : Home) (t : ℕ) (p : Progress) (s : Names) (r : Read) : Type 0 where
     pub made : MadeTrees w.table (t ∷ []) (more r.tree none)
@@ -123,12 +98,12 @@ module _ (w : Setting) (side : IsLegalSide w) (order : Order) (octets : List ℕ
         fine = λ l xs g. fine_whole (Numbered xs) w.table h t r.tree (full_ok s r.names xs g (home_pointers w.table h t r.tree) (subst (PointersOk s r.names) (sym e) (b.pointers l 0 [])).each);
       }
 
-  named_cell : (done : Placed_cells) (taken : List Pending) (p : Pending) (c : ℕ) → Named done taken → p.cell ≡ Some c → Named ((p.class, c) ∷ done) (taken ++ p ∷ [])
+  named_cell : (done : Placed_cells) (taken : List Pending) (p : Pending) (c : ℕ) → Named w side order octets all done taken → p.cell ≡ Some c → Named w side order octets all ((p.class, c) ∷ done) (taken ++ p ∷ [])
   named_cell done taken p c named e b (inl h) = (p, among_right taken (p ∷ []) p (inl refl), e ∙ ap Some (sym h), λ f. inl (f, h))
   named_cell done taken p c named e b (inr h) = let (q, a, e', f) = named b h in (q, among_left taken (p ∷ []) q a, e', λ k. inr (f k))
 
   -- the referent of a pointer is read
-  module _ (s : Reading) (taken : List Pending) (p : Pending) (ps : List Pending) (n c : ℕ) (due : List Due) (state : State s taken (p ∷ ps) n) (is : p.cell ≡ Some c) (free : ¬ IsPlaced s.done c) where
+  module _ (s : Reading) (taken : List Pending) (p : Pending) (ps : List Pending) (n c : ℕ) (due : List Due) (state : State w side order octets all s taken (p ∷ ps) n) (is : p.cell ≡ Some c) (free : ¬ IsPlaced s.done c) where
     abbrev referent : Read
     referent = read_whole order octets w.table (cell_home c) p.to s.progress s.names
 
@@ -206,7 +181,7 @@ module _ (w : Setting) (side : IsLegalSide w) (order : Order) (octets : List ℕ
     moves_then : Moves order octets referent.progress after.progress
     moves_then = all_moves order octets (tests (cell_home c) 0 referent.tree p.agreements) referent.progress
 
-    pub referent_state : State after (taken ++ p ∷ []) (new ++ ps) n
+    pub referent_state : State w side order octets all after (taken ++ p ∷ []) (new ++ ps) n
     referent_state = record {
       roots_left = state.roots_left;
       linked = linked_kept c referent.tree referent.names order octets after.progress

@@ -40,11 +40,12 @@ use Rattle.nd_grammar.proofs.reader.MadeTrees.{CellOf, CellFits, IsPartialNode, 
 use Rattle.nd_grammar.proofs.reader.ReaderVerdict.{start}
 use Rattle.nd_grammar.proofs.reader.ReaderSteps.{Follows, follows_append}
 use Rattle.nd_grammar.proofs.reader.ReaderNodes.{Agree}
-use Rattle.nd_grammar.proofs.reader.ReaderNames.{cell_in, PointerAt, PointerOk, PointersOk, no_pointers_ok}
+use Rattle.nd_grammar.proofs.reader.ReaderNames.{no_pointers_ok}
+use Rattle.nd_grammar.specs.ReaderState.{cell_in, PointerAt, PointerOk, PointersOk, CellMade, no_names, AllReached, RootsMade, State}
 use Rattle.nd_grammar.proofs.reader.ReaderMoves.{all_moves}
-use Rattle.nd_grammar.proofs.reader.ReaderCells.{CellMade, no_names, no_roots}
-use Rattle.nd_grammar.proofs.reader.ReaderReached.{AllReached, reached_more}
-use Rattle.nd_grammar.proofs.reader.ReaderStates.{RootsMade, Numbered, State}
+use Rattle.nd_grammar.proofs.reader.ReaderCells.{no_roots}
+use Rattle.nd_grammar.proofs.reader.ReaderReached.{reached_more}
+use Rattle.nd_grammar.proofs.reader.ReaderStates.{Numbered}
 use Rattle.nd_grammar.proofs.reader.ReaderTurns.{Settled, More}
 use Rattle.nd_grammar.proofs.reader.ReaderRoots.{Done, due_done, few_before, stopped_few}
 use Rattle.nd_grammar.proofs.reader.ReaderPipes.{PipesRead, pipes_read}

@@ -21,11 +21,12 @@ use Rattle.nd_grammar.specs.Reader.{Progress, Read, pass_all, read_whole}
 use Rattle.nd_grammar.specs.StreamReader.{Reading, graph_of, stands_among, stood, read_referent, read_pending}
 use Rattle.nd_grammar.proofs.reader.ReaderSteps.{Follows, follows_append, follows_tests}
 use Rattle.nd_grammar.proofs.reader.ReaderNodes.{Agree, Grown, grown_agree, grown_twice}
-use Rattle.nd_grammar.proofs.reader.ReaderNames.{cell_in, cell_kept, Linked, linked_all, PointerAt, PointerOk, PointersOk}
-use Rattle.nd_grammar.proofs.reader.ReaderMoves.{paid, Moves, stays_there, all_moves}
-use Rattle.nd_grammar.proofs.reader.ReaderCells.{no_names, set, set_same, set_other}
+use Rattle.nd_grammar.proofs.reader.ReaderNames.{cell_kept, linked_all}
+use Rattle.nd_grammar.specs.ReaderState.{cell_in, Linked, PointerAt, PointerOk, PointersOk, paid, no_names, State}
+use Rattle.nd_grammar.proofs.reader.ReaderMoves.{Moves, stays_there, all_moves}
+use Rattle.nd_grammar.proofs.reader.ReaderCells.{set, set_same, set_other}
 use Rattle.nd_grammar.proofs.reader.EntriesFine.{Fine, fine_tests}
-use Rattle.nd_grammar.proofs.reader.ReaderStates.{Numbered, State, WholeRead, referent_state, referent_paid, read_so, cell_then}
+use Rattle.nd_grammar.proofs.reader.ReaderStates.{Numbered, WholeRead, referent_state, referent_paid, read_so, cell_then}
 
 stands_true : (done : Placed_cells) (c : ℕ) → stands_among done c ≡ true → IsPlaced done c
 stands_true [] c e = cc

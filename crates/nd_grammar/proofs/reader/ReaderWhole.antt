@@ -7,7 +7,7 @@ use Rattle.nd_value.specs.declared.item.Home.{Home}
 use Rattle.nd_grammar.specs.Entry.{Align, Max}
 use Rattle.nd_grammar.specs.Reader.{Progress, Names, is_stopped, pass, taken, number_in, read_if, read_in_place, read_hoisted, read_whole}
 use Rattle.nd_grammar.proofs.reader.ReaderInPlace.{Readable}
-use Rattle.nd_grammar.proofs.reader.ReaderNames.{Linked}
+use Rattle.nd_grammar.specs.ReaderState.{Linked}
 use Rattle.nd_grammar.proofs.reader.ReaderLeaves.{Leaves, passes, in_place_leaves, unread_leaves}
 
 module _ (order : Order) (octets : List ℕ) (table : Table) (h : Home) where

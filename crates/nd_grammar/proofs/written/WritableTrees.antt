@@ -15,7 +15,7 @@ use Rattle.nd_types.specs.Legal.{IsLegal}
 use Rattle.nd_value.specs.declared.value.Graph.{Graph}
 use Rattle.nd_value.specs.declared.item.Home.{Home}
 use Rattle.nd_value.specs.Tree as tree
-use Rattle.nd_value.specs.Tree.{Tree, Trees, node, none, more, Label, count, node_count, is_pointer, cell_in, take_trees, drop_trees}
+use Rattle.nd_value.specs.Tree.{Tree, Trees, node, none, more, Label, count, node_count, is_pointer, cell_in}
 use Rattle.nd_value.specs.Agreement.{Agreement}
 use Rattle.nd_value.specs.Nodes.{TypedNode, nodes_of, child_types, child_agreements, first_agreements, rest_agreements}
 use Rattle.nd_value.specs.Deferral.{Pending, pointer, pointer_by, home_pointers}
@@ -25,7 +25,8 @@ use Rattle.nd_value.proofs.NodeFacts.{IsFit, fit_children}
 use Rattle.nd_grammar.specs.Entry.{Kind}
 use Rattle.nd_grammar.specs.InPlace.{before_children, entries, counts, tag_entries, in_place, tests, own_tests, child_tests, hoisted, hoisted_max, own_max, whole_value}
 use Rattle.nd_value.proofs.ValueRanges.{range_fits}
-use Rattle.nd_grammar.proofs.conforming.GoodEntries.{IsNoPipe, HoldsNoPipe}
+use Rattle.nd_grammar.proofs.conforming.GoodEntries.{HoldsNoPipe}
+use Rattle.nd_grammar.specs.ReaderState.{IsNoPipe}
 use Rattle.nd_grammar.proofs.written.WrittenEntries.{Counted, CanWrite, Writable}
 
 -- a node that fits, with values of the program

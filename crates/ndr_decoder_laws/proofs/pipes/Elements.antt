@@ -1,12 +1,8 @@
 -- The elements of a chunk: at their beginning a state means them, and at their end the pipe has so many more.
-use Rattle.std.proofs.Common.{◌≡◌, ◌≤◌, ◌<◌, ◌^◌, ℕ, ◌+◌, ◌-◌, ◌*◌, zero, suc, Bool, true, false, ◌&&◌, List, [], ◌∷◌, ◌++◌, length, Option, Some, None, refl, ap, ap₂, sym, ◌∙◌, subst, arith, append_assoc, length-append, map, replicate}
+use Rattle.std.proofs.Common.{◌≡◌, ℕ, ◌+◌, zero, suc, Bool, true, false, ◌&&◌, List, [], ◌∷◌, ◌++◌, length, Option, Some, refl, ap, sym, ◌∙◌, subst, arith, map, replicate}
 use Rattle.std.specs.Prelude.{not}
-use Rattle.std.specs.List.{AllByRecursion, slice_get}
-use Rattle.std.proofs.lemmas.Option.{same_Some}
 use Rattle.nd_base.specs.declared.octets.Order.{Order}
-use Rattle.nd_types.specs.declared.types.Attr.{Attr}
 use Rattle.nd_types.specs.declared.types.TypeId.{TypeId}
-use Rattle.nd_types.specs.declared.types.TypeDef.{TypeDef}
 use Rattle.nd_types.specs.declared.types.TypeDef.TheVariants as def
 use Rattle.nd_types.specs.Number.{AreOctets}
 use Rattle.nd_types.specs.Roots.{Root}
@@ -15,42 +11,32 @@ use Rattle.nd_types.specs.Table.{Table, type_at}
 use Rattle.nd_value.specs.declared.item.Home.{Home}
 use Rattle.nd_value.specs.declared.item.Home.TheVariants as home
 use Rattle.nd_value.specs.declared.item.Item.{Item}
-use Rattle.nd_value.specs.Nodes.{child_types}
 use Rattle.nd_value.specs.Setting.{Setting, unread}
 use Rattle.nd_value.specs.Tree as tree
-use Rattle.nd_value.specs.Tree.{Tree, Trees, node, none, more, Flat, flat, count, joined, node_count}
-use Rattle.nd_value.proofs.Apart.{all_left}
+use Rattle.nd_value.specs.Tree.{Tree, Trees, node, more, flat, count, node_count}
 use Rattle.nd_grammar.specs.declared.reason.Reason.{Reason}
-use Rattle.nd_grammar.specs.declared.reason.Reason.TheVariants as reason
 use Rattle.nd_grammar.specs.Entry.{EntryAt}
 use Rattle.nd_grammar.specs.LegalSide.{IsLegalSide}
-use Rattle.nd_grammar.specs.Refusal.{tested_at}
 use Rattle.nd_grammar.specs.Reader.{Names, Progress, Read, ReadAll, is_stopped, read_if, read_list, read_in_place, tree_nodes}
-use Rattle.nd_grammar.specs.StreamReader.{ReadPipe, ReadPipes, graph_of, read_chunks, read_pipes, read_stream}
+use Rattle.nd_grammar.specs.StreamReader.{ReadPipe, read_stream}
 use Rattle.nd_grammar.proofs.LegalSides.{laid_out}
 use Rattle.nd_grammar.proofs.next.Mapped.{no_pointers}
 use Rattle.nd_grammar.proofs.next.NextStream.{FitsPipes}
-use Rattle.nd_grammar.proofs.reader.MadeTrees.{MadeTree, MadeTrees}
 use Rattle.ndr_code.specs.declared.instr.Instr.{Instr}
 use Rattle.ndr_code.specs.declared.lists.EnumList.{EnumList}
 use Rattle.ndr_code.specs.Code.{place_at}
 use Rattle.ndr_decoder_laws.specs.reader.Around.{going, pointers, stopped}
 use Rattle.ndr_decoder_laws.proofs.reader.FlatNodes.{length_flat}
-use Rattle.ndr_decoder_laws.specs.declared.first.First.{First}
-use Rattle.ndr_decoder_laws.specs.steps.Chunks.{IsChunkBegun, chunk_read}
-use Rattle.ndr_decoder_laws.specs.steps.Good.{Good, Kept as IsKept, Told, Whole, owed}
+use Rattle.ndr_decoder_laws.specs.steps.Chunks.{chunk_read}
+use Rattle.ndr_decoder_laws.specs.steps.Good.{Good, Told, owed}
 use Rattle.ndr_decoder_laws.specs.steps.Spots.{IsFine, IsPlanned}
-use Rattle.ndr_decoder_laws.specs.steps.Steps.{State, first_of, place_of, place_in, no_place}
+use Rattle.ndr_decoder_laws.specs.steps.Steps.{State, place_of, no_place}
 use Rattle.ndr_decoder_laws.proofs.steps.ChunkBegins.{begins_chunk}
-use Rattle.ndr_decoder_laws.proofs.runs.ChunkSafe.{chunk_made, many_alike, more_alike}
+use Rattle.ndr_decoder_laws.proofs.runs.ChunkSafe.{many_alike, more_alike}
 use Rattle.ndr_decoder_laws.specs.stream.Added.{Added, Goes}
-use Rattle.ndr_decoder_laws.specs.stream.Between.{AreNeeded}
 use Rattle.ndr_decoder_laws.proofs.stream.Growing.{list_adds, in_place_adds}
-use Rattle.ndr_decoder_laws.proofs.stream.Needing.{NeededAfter}
 use Rattle.ndr_decoder_laws.proofs.stream.StreamGrows.{goes_by, goes_twice}
-use Rattle.ndr_decoder_laws.specs.pipes.Reading.{Reads, elements_then}
-use Rattle.ndr_decoder_laws.specs.pipes.Pipes.{Position, Stands, InPipe, OpensChunk, at_chunk, at_elements, kids_of, read_to}
-use Rattle.ndr_decoder_laws.proofs.pipes.PipeEntries.{both_octets, stands_on}
+use Rattle.ndr_decoder_laws.specs.pipes.Pipes.{Position, InPipe, OpensChunk, at_elements}
 use Rattle.ndr_decoder_laws.proofs.pipes.Staying.{chunks_go, chunks_stay, elements_go, reads_go, reads_stop}
 
 -- values one after the other, in two parts

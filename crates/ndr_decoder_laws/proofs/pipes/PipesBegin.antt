@@ -30,7 +30,7 @@ use Rattle.ndr_decoder_laws.specs.stream.Added.{Goes}
 use Rattle.ndr_decoder_laws.specs.stream.Between.{Between, Keeps}
 use Rattle.ndr_decoder_laws.specs.stream.Parameters.{pipes_from}
 use Rattle.ndr_decoder_laws.proofs.stream.StreamGrows.{pipes_go}
-use Rattle.ndr_decoder_laws.specs.verdict.Needed.{IsNeeded}
+use Rattle.nd_grammar.specs.decoded.Needed.{IsNeeded}
 use Rattle.ndr_decoder_laws.specs.pipes.Reading.{Reads}
 use Rattle.ndr_decoder_laws.proofs.pipes.PipeEntries.{both_octets}
 use Rattle.ndr_decoder_laws.specs.pipes.Pipes.{Position, Stands, ReadsPipes, InPipes, InPipe, at_chunk, pipes_due}

@@ -1,11 +1,10 @@
 -- The elements of a chunk are made, as the plain reader reads them, so the states that are reached among them are safe.
-use Rattle.std.proofs.Common.{◌≡◌, ◌≤◌, ◌<◌, ◌^◌, ℕ, ◌+◌, zero, suc, List, [], ◌∷◌, ◌++◌, length, Option, Some, None, refl, ap, sym, ◌∙◌, inr, subst, arith, replicate}
+use Rattle.std.proofs.Common.{◌≡◌, ◌≤◌, ℕ, ◌+◌, zero, suc, List, [], ◌∷◌, ◌++◌, length, Some, refl, ap, sym, ◌∙◌, inr, subst, arith, replicate}
 use Rattle.std.specs.List.{AllByRecursion}
 use Rattle.std.proofs.lemmas.List.{length-replicate}
 use Rattle.nd_base.specs.declared.octets.Order.{Order}
 use Rattle.nd_base.specs.declared.TheConstants.{STREAM_LIMIT}
 use Rattle.nd_types.specs.declared.types.TypeId.{TypeId}
-use Rattle.nd_types.specs.declared.types.TypeDef.{TypeDef}
 use Rattle.nd_types.specs.declared.types.TypeDef.TheVariants as def
 use Rattle.nd_types.specs.Number.{AreOctets}
 use Rattle.nd_types.specs.Table.{Table, type_at}
@@ -13,12 +12,13 @@ use Rattle.nd_value.specs.declared.item.Home.{Home}
 use Rattle.nd_value.specs.declared.item.Item.{Item}
 use Rattle.nd_value.specs.Setting.{Setting}
 use Rattle.nd_value.specs.Tree as tree
-use Rattle.nd_value.specs.Tree.{Tree, Trees, node, none, more, count, node_count, joined}
+use Rattle.nd_value.specs.Tree.{Trees, node, none, more, count, node_count, joined}
 use Rattle.nd_grammar.specs.LegalSide.{IsLegalSide}
 use Rattle.nd_grammar.specs.Reader.{Progress, Names, Read, ReadAll, read_list, read_in_place}
 use Rattle.nd_grammar.proofs.LegalSides.{laid_out}
 use Rattle.nd_grammar.proofs.legal.LegalUsable.{small_bounds}
-use Rattle.nd_grammar.proofs.reader.MadeTrees.{FitsAlone, MadeTree, MadeTrees, made_count}
+use Rattle.nd_grammar.proofs.reader.MadeTrees.{made_count}
+use Rattle.nd_grammar.specs.MadeTrees.{MadeTree, MadeTrees}
 use Rattle.nd_grammar.proofs.reader.ReaderMakes.{AllMake, Make, list_makes, in_place_makes}
 use Rattle.ndr_code.specs.declared.instr.Instr.{Instr}
 use Rattle.ndr_code.specs.declared.lists.EnumList.{EnumList}

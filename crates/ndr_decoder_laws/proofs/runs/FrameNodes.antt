@@ -1,8 +1,7 @@
 -- The nodes at a point of a value are few, since the whole value is made.
-use Rattle.std.proofs.Common.{◌≡◌, ℕ, ◌+◌, ◌*◌, ◌≤◌, suc, List, [], ◌∷◌, ◌++◌, length, Option, Some, None, refl, ap, sym, ◌∙◌, arith, subst, length-append}
+use Rattle.std.proofs.Common.{◌≡◌, ℕ, ◌+◌, ◌*◌, ◌≤◌, suc, List, [], ◌∷◌, ◌++◌, length, sym, arith, subst, length-append}
 use Rattle.std.proofs.lemmas.List.{append-nil}
 use Rattle.nd_base.specs.declared.octets.Order.{Order}
-use Rattle.nd_types.specs.declared.types.TypeDef.{TypeDef}
 use Rattle.nd_types.specs.Table.{Table, type_at}
 use Rattle.nd_value.specs.declared.item.Home.{Home}
 use Rattle.nd_value.specs.Nodes.{child_types}
@@ -11,10 +10,10 @@ use Rattle.nd_value.specs.Tree.{Tree, Trees, node, none, more, Label, Flat, flat
 use Rattle.nd_value.proofs.Apart.{all_left, all_right}
 use Rattle.nd_grammar.specs.LegalSide.{IsLegalSide}
 use Rattle.nd_grammar.specs.Reader.{Progress, Names, Read, ReadAll, read_list, read_in_place, tree_nodes}
-use Rattle.nd_grammar.proofs.reader.MadeTrees.{MadeTrees, MadeTree}
-use Rattle.ndr_decoder_laws.specs.reader.Around.{Around, go_on, finish, nodes_around, nodes_between}
+use Rattle.nd_grammar.specs.MadeTrees.{MadeTrees, MadeTree}
+use Rattle.ndr_decoder_laws.specs.reader.Around.{Around, go_on, finish, nodes_around}
 use Rattle.ndr_decoder_laws.specs.reader.Points.{Point, hoisting, counting, called, due, opened, offset_read, text_offset, text_counted, tagged, between, checking, has, read_at, below, nodes_at}
-use Rattle.ndr_decoder_laws.proofs.reader.FlatNodes.{joined_none, length_flat, length_more}
+use Rattle.ndr_decoder_laws.proofs.reader.FlatNodes.{joined_none, length_flat}
 use Rattle.ndr_decoder_laws.specs.runs.Paid.{label_paid, paid, IsRead, AllRead}
 use Rattle.ndr_decoder_laws.proofs.runs.PaidSteps.{paid_append}
 use Rattle.ndr_decoder_laws.proofs.runs.TreeNodes.{trees_paid, TreesRead, flat_paid, flat_read, made_first, few_first}

@@ -1,5 +1,5 @@
 -- The states that are reached within a home's value are safe.
-use Rattle.std.proofs.Common.{◌≡◌, ◌≤◌, ◌<◌, ℕ, ◌+◌, ◌*◌, ◌^◌, zero, suc, List, [], ◌∷◌, ◌++◌, length, Option, Some, None, refl, ap, sym, ◌∙◌, subst, arith}
+use Rattle.std.proofs.Common.{◌≡◌, ◌≤◌, ◌<◌, ℕ, ◌+◌, ◌*◌, ◌^◌, zero, suc, List, [], ◌∷◌, ◌++◌, length, Option, Some, None, refl, sym, subst, arith}
 use Rattle.std.specs.List.{AllByRecursion, slice_get}
 use Rattle.std.proofs.lemmas.List.{append-nil}
 use Rattle.nd_base.specs.declared.octets.Order.{Order}
@@ -14,20 +14,19 @@ use Rattle.nd_types.specs.Table.{Table, type_at, carrier}
 use Rattle.nd_value.specs.declared.item.Home.{Home}
 use Rattle.nd_value.specs.declared.item.Item.{Item}
 use Rattle.nd_value.specs.Setting.{Setting}
-use Rattle.nd_value.specs.Tree.{Flat}
 use Rattle.nd_value.proofs.Apart.{all_append}
 use Rattle.nd_grammar.specs.LegalSide.{IsLegalSide}
 use Rattle.nd_grammar.specs.Reader.{Progress, Names, Read, read_whole}
 use Rattle.nd_grammar.proofs.LegalSides.{laid_out}
 use Rattle.nd_grammar.proofs.legal.LegalUsable.{small_bounds}
-use Rattle.nd_grammar.proofs.reader.MadeTrees.{MadeTree}
+use Rattle.nd_grammar.specs.MadeTrees.{MadeTree}
 use Rattle.nd_grammar.proofs.reader.ReaderInPlace.{Fine, Readable}
 use Rattle.nd_grammar.proofs.reader.ReaderMakes.{whole_makes}
 use Rattle.ndr_code.specs.declared.instr.Instr.{Instr}
 use Rattle.ndr_code.specs.declared.lists.EnumList.{EnumList}
 use Rattle.ndr_decoder_laws.specs.reader.Around.{nodes_around, finish, going}
 use Rattle.ndr_decoder_laws.specs.reader.Points.{TagForm, IsTagForm, nodes_at, read_at}
-use Rattle.ndr_decoder_laws.specs.steps.Spots.{IsDue, IsFine, IsFormed, IsPlanned}
+use Rattle.ndr_decoder_laws.specs.steps.Spots.{IsFine, IsFormed, IsPlanned}
 use Rattle.ndr_decoder_laws.specs.steps.Steps.{State, IsInner}
 use Rattle.ndr_decoder_laws.specs.steps.Good.{Good}
 use Rattle.ndr_decoder_laws.proofs.steps.Bounds.{instruction_there}

@@ -1,6 +1,6 @@
 -- The nodes of a value that was read are few: at most 32 for each node that takes octets of its own.
-use Rattle.std.proofs.Common.{◌≡◌, ℕ, ◌+◌, ◌*◌, ◌≤◌, zero, suc, ℤ, Bool, true, false, List, [], ◌∷◌, ◌++◌, length, Option, Some, None, refl, ap, sym, ◌∙◌, inl, inr, arith, subst, replicate}
-use Rattle.std.specs.Prelude.{map, ◌&&◌}
+use Rattle.std.proofs.Common.{◌≡◌, ℕ, ◌+◌, ◌*◌, ◌≤◌, zero, suc, Bool, true, false, List, [], ◌∷◌, ◌++◌, length, Option, Some, None, refl, ap, sym, ◌∙◌, inl, inr, arith, subst, replicate}
+use Rattle.std.specs.Prelude.{map}
 use Rattle.std.specs.List.{AllByRecursion}
 use Rattle.std.proofs.lemmas.List.{length-replicate}
 use Rattle.std.proofs.lemmas.Bool.{and_parts, eqb-true}
@@ -19,11 +19,12 @@ use Rattle.nd_value.proofs.Apart.{all_left, all_right}
 use Rattle.nd_grammar.specs.LegalSide.{IsLegalSide}
 use Rattle.nd_grammar.specs.Reader.{tree_nodes}
 use Rattle.nd_grammar.proofs.LegalSides.{laid_out}
-use Rattle.nd_grammar.proofs.legal.LegalUsable.{Usable, usable_readable, children_usable}
+use Rattle.nd_grammar.proofs.legal.LegalUsable.{usable_readable, children_usable}
+use Rattle.nd_grammar.specs.ReaderState.{Usable}
 use Rattle.nd_grammar.proofs.next.HoistedMaxes.{HoistsLast, OnlyLast, last_of, struct_last}
 use Rattle.nd_grammar.proofs.next.Mapped.{in_parts}
 use Rattle.nd_grammar.proofs.reader.FewNodes.{one, Bound, some_members, some_bound, one_deeper, times_sum}
-use Rattle.nd_grammar.proofs.reader.MadeTrees.{MadeNode, MadeTrees, MadeTree}
+use Rattle.nd_grammar.specs.MadeTrees.{MadeNode, MadeTrees, MadeTree}
 use Rattle.nd_grammar.proofs.reader.ReaderInPlace.{Fine, Readable}
 use Rattle.ndr_decoder_laws.specs.runs.Paid.{array_paid, label_paid, paid, IsRead, AllRead}
 use Rattle.ndr_decoder_laws.proofs.runs.PaidSteps.{paid_append}

@@ -24,8 +24,9 @@ use Rattle.nd_grammar.specs.declared.reason.Reason.TheVariants as reason
 use Rattle.nd_grammar.specs.Entry.{EntryAt}
 use Rattle.nd_grammar.specs.LegalSide.{IsLegalSide}
 use Rattle.nd_grammar.specs.Reader.{Names, Progress, Read, read_whole, is_stopped, with_cell}
-use Rattle.nd_grammar.specs.StreamReader.{Reading, with_value, read_root, read_first, read_next, read_stream}
-use Rattle.nd_grammar.proofs.legal.LegalUsable.{Usable, root_usable, pointee_usable}
+use Rattle.nd_grammar.specs.StreamReader.{Reading, with_value, read_root, read_first, read_next}
+use Rattle.nd_grammar.proofs.legal.LegalUsable.{root_usable, pointee_usable}
+use Rattle.nd_grammar.specs.ReaderState.{Usable}
 use Rattle.nd_grammar.proofs.reader.ReaderNames.{Extends, extends_twice, longer}
 use Rattle.nd_grammar.proofs.reader.ReaderStates.{WholeRead, read_wholly}
 use Rattle.nd_grammar.proofs.reader.ReaderTurns.{one_longer, placed_there}
@@ -33,7 +34,7 @@ use Rattle.ndr_decoder_laws.specs.reader.Around.{going, stopped}
 use Rattle.ndr_decoder_laws.specs.declared.first.First.TheVariants as first
 use Rattle.ndr_decoder_laws.specs.steps.Good.{Told, Whole}
 use Rattle.ndr_decoder_laws.specs.steps.Steps.{State}
-use Rattle.ndr_decoder_laws.specs.verdict.Verdict.{is_direct}
+use Rattle.nd_grammar.specs.decoded.Verdict.{is_direct}
 use Rattle.ndr_decoder_laws.proofs.worklist.Turns.{turns}
 use Rattle.ndr_decoder_laws.specs.stream.Parameters.{head_read}
 use Rattle.ndr_decoder_laws.specs.stream.Between.{AreNeeded, Between, Keeps, Agrees, IsKeptOf, IsKeptHome, CellKept, CellFilled, cell_read}

@@ -11,10 +11,10 @@ use Rattle.nd_value.specs.Deferral.{Pending, Due, due_root, due_referent, due_ro
 use Rattle.nd_value.specs.Setting.{Setting, root_list}
 use Rattle.nd_grammar.specs.LegalSide.{IsLegalSide}
 use Rattle.nd_grammar.specs.StreamReader.{Reading, read_root, read_placed, read_first}
-use Rattle.nd_grammar.proofs.reader.ReaderStates.{State}
+use Rattle.nd_grammar.specs.ReaderState.{State}
 use Rattle.nd_grammar.proofs.reader.ReaderTurns.{Turn, pending_turn}
 use Rattle.nd_grammar.proofs.reader.ReaderRoots.{due_root_turn}
-use Rattle.ndr_decoder_laws.specs.verdict.Verdict.{is_direct}
+use Rattle.nd_grammar.specs.decoded.Verdict.{is_direct}
 
 same_roots : (i n m : ℕ) → due_roots i n ≡ due_roots i m → n ≡ m
 same_roots i zero zero e = refl

@@ -11,7 +11,7 @@ use Rattle.nd_value.specs.Setting.{Setting, root_list}
 use Rattle.nd_grammar.specs.Entry.{EntryAt}
 use Rattle.nd_grammar.specs.LegalSide.{IsLegalSide}
 use Rattle.nd_grammar.specs.StreamReader.{Reading}
-use Rattle.ndr_decoder_laws.specs.verdict.Verdict.{direct_roots, is_direct}
+use Rattle.nd_grammar.specs.decoded.Verdict.{direct_roots, is_direct}
 use Rattle.ndr_decoder_laws.specs.stream.Between.{Between, Agrees}
 use Rattle.ndr_decoder_laws.proofs.stream.References.{one_if, count_more, count_few}
 

@@ -11,7 +11,8 @@ use Rattle.nd_types.specs.Layout.{parts}
 use Rattle.nd_types.specs.Legal.{IsLegal, has_small_bound}
 use Rattle.nd_types.proofs.LegalLaws.{passes_at}
 use Rattle.nd_value.proofs.Apart.{all_weaker}
-use Rattle.nd_grammar.proofs.legal.LegalUsable.{Usable, usable_readable}
+use Rattle.nd_grammar.proofs.legal.LegalUsable.{usable_readable}
+use Rattle.nd_grammar.specs.ReaderState.{Usable}
 use Rattle.nd_grammar.proofs.reader.ReaderInPlace.{Fine, Readable}
 use Rattle.ndr_decoder_laws.specs.reader.Points.{TagForm, IsTagForm}
 use Rattle.ndr_decoder_laws.specs.steps.Spots.{IsFormed, IsFine}

@@ -9,7 +9,7 @@ use Rattle.nd_value.specs.declared.item.Home.{Home}
 use Rattle.nd_value.specs.declared.item.Item.{Item}
 use Rattle.nd_grammar.specs.Entry.{EntryAt}
 use Rattle.nd_grammar.specs.Reader.{Names, read_whole}
-use Rattle.nd_grammar.proofs.legal.LegalUsable.{Usable}
+use Rattle.nd_grammar.specs.ReaderState.{Usable}
 use Rattle.ndr_code.specs.declared.instr.Instr.TheVariants as op
 use Rattle.ndr_code.specs.Runs.{IsRunAt}
 use Rattle.ndr_code.specs.Code.{code_of, whole_at, place_at}

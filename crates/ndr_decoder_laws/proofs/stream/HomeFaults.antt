@@ -12,7 +12,7 @@ use Rattle.nd_grammar.specs.Entry.{EntryAt}
 use Rattle.nd_grammar.specs.Items.{items}
 use Rattle.nd_grammar.specs.Reader.{Progress, Read}
 use Rattle.ndr_decoder_laws.specs.reader.Around.{stopped}
-use Rattle.ndr_decoder_laws.specs.verdict.Needed.{IsNeeded}
+use Rattle.nd_grammar.specs.decoded.Needed.{IsNeeded}
 use Rattle.ndr_decoder_laws.specs.stream.Added.{Goes}
 use Rattle.ndr_decoder_laws.specs.stream.Between.{AreNeeded}
 use Rattle.ndr_decoder_laws.specs.stream.Calls.{RefusesWith, GoesWith}

@@ -13,11 +13,10 @@ use Rattle.nd_value.specs.Tree as tree
 use Rattle.nd_value.specs.Tree.{Tree, Trees, node, none, more, Flat, flat}
 use Rattle.nd_value.specs.Deferral.{home_pointers}
 use Rattle.nd_grammar.specs.Entry.{EntryAt}
-use Rattle.nd_grammar.proofs.reader.MadeTrees.{MadeTrees, MadeNode}
+use Rattle.nd_grammar.specs.MadeTrees.{MadeTrees, MadeNode}
 use Rattle.ndr_decoder_laws.specs.declared.first.First.{First}
 use Rattle.ndr_decoder_laws.specs.declared.first.First.TheVariants as first
-use Rattle.ndr_decoder_laws.specs.steps.Good.{owed}
-use Rattle.ndr_decoder_laws.specs.steps.Good.{Kept as IsKept}
+use Rattle.ndr_decoder_laws.specs.steps.Good.{owed, Kept as IsKept}
 use Rattle.ndr_decoder_laws.specs.steps.Steps.{first_of}
 use Rattle.ndr_decoder_laws.specs.stream.Between.{named_by, pointer_cell}
 

@@ -5,7 +5,7 @@ use Rattle.nd_base.specs.declared.octets.Order.{Order}
 use Rattle.nd_value.specs.Setting.{Setting}
 use Rattle.nd_grammar.specs.declared.reason.Reason.TheVariants as reason
 use Rattle.nd_grammar.specs.StreamReader.{read_stream}
-use Rattle.ndr_decoder_laws.specs.verdict.Needed.{IsNeeded}
+use Rattle.nd_grammar.specs.decoded.Needed.{IsNeeded}
 
 -- a list is empty, or has a last item
 pub last_of : (xs : List ℕ) → (xs ≡ []) ⊎ ((ys : List ℕ) × (y : ℕ) × (xs ≡ ys ++ y ∷ []))

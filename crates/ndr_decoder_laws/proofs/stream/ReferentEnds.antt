@@ -20,10 +20,9 @@ use Rattle.nd_grammar.specs.Entry.{Entry, EntryAt}
 use Rattle.nd_grammar.specs.InPlace.{tests}
 use Rattle.nd_grammar.specs.LegalSide.{IsLegalSide}
 use Rattle.nd_grammar.specs.Reader.{Progress, Read, pass_all, read_whole}
-use Rattle.nd_grammar.specs.StreamReader.{Reading, stands_among, stood, with_value, read_referent, read_pending, read_first, read_next, read_stream}
-use Rattle.nd_grammar.proofs.legal.LegalUsable.{Usable}
-use Rattle.nd_grammar.proofs.reader.ReaderCells.{no_names}
-use Rattle.nd_grammar.proofs.reader.ReaderNames.{PointerAt, cell_in, longer}
+use Rattle.nd_grammar.specs.StreamReader.{Reading, stands_among, stood, with_value, read_referent, read_pending, read_first, read_next}
+use Rattle.nd_grammar.specs.ReaderState.{Usable, no_names, PointerAt, cell_in}
+use Rattle.nd_grammar.proofs.reader.ReaderNames.{longer}
 use Rattle.nd_grammar.proofs.reader.ReaderStates.{WholeRead, read_wholly, at_cell}
 use Rattle.nd_grammar.proofs.reader.ReaderTurns.{joined_due}
 use Rattle.ndr_decoder_laws.specs.reader.Around.{going, stopped}
@@ -32,8 +31,7 @@ use Rattle.ndr_decoder_laws.specs.steps.Good.{Told, Whole}
 use Rattle.ndr_decoder_laws.specs.steps.Steps.{State}
 use Rattle.ndr_decoder_laws.proofs.worklist.Turns.{turns}
 use Rattle.ndr_decoder_laws.specs.stream.Parameters.{head_read}
-use Rattle.ndr_decoder_laws.specs.stream.Between.{AreNeeded, Between, Keeps, Agrees, IsKeptOf, IsKeptHome, CellKept, CellFilled, cell_read, kept_at}
-use Rattle.ndr_decoder_laws.specs.stream.Between.{taken}
+use Rattle.ndr_decoder_laws.specs.stream.Between.{AreNeeded, Between, Keeps, Agrees, IsKeptOf, IsKeptHome, CellKept, CellFilled, cell_read, kept_at, taken}
 use Rattle.ndr_decoder_laws.specs.stream.Report.{IsRefusedAfter}
 use Rattle.ndr_decoder_laws.specs.stream.Tests.{disagreement, AllAgree, all_at}
 use Rattle.ndr_decoder_laws.specs.declared.kept.Kept.{Kept}

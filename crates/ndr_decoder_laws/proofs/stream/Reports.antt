@@ -17,12 +17,12 @@ use Rattle.nd_grammar.specs.LegalSide.{IsLegalSide}
 use Rattle.nd_grammar.specs.Reader.{Progress}
 use Rattle.nd_grammar.specs.StreamReader.{read_stream}
 use Rattle.ndr_decoder_laws.specs.reader.Around.{going}
-use Rattle.ndr_decoder_laws.specs.verdict.Verdict.{DecodingSeen, HasNoted, IsDecoded, IsReadThrough, IsCounted, IsCutOff, IsRefused}
+use Rattle.nd_grammar.specs.decoded.Verdict.{DecodingSeen, HasNoted, IsDecoded, IsReadThrough, IsCounted, IsCutOff, IsRefused, IsUnread}
 use Rattle.ndr_decoder_laws.proofs.verdict.Alone.{represents_alone}
 use Rattle.ndr_decoder_laws.proofs.verdict.Counted.{is_counted}
 use Rattle.ndr_decoder_laws.proofs.verdict.ReadThrough.{read_in_part}
 use Rattle.ndr_decoder_laws.proofs.verdict.Refused.{refused_there, stays_refused, no_graph}
-use Rattle.ndr_decoder_laws.specs.stream.Report.{AreCells, IsReported, IsUnread, StreamRefused, StreamCut, the_stream}
+use Rattle.ndr_decoder_laws.specs.stream.Report.{AreCells, IsReported, StreamRefused, StreamCut, the_stream}
 
 module _ (w : Setting) (side : IsLegalSide w) (order : Order) (s : SourceSeen) (t : DecodingSeen) where
   pub counted_so : (fetched : List ℕ) (seen : List EntryAt) (noted : List Item) (n : ℕ) → items order fetched seen ≡ noted → AreCells w seen n → IsReported noted n t → IsReadThrough w order fetched seen

@@ -19,15 +19,15 @@ use Rattle.nd_grammar.specs.declared.reason.Reason.TheVariants as reason
 use Rattle.nd_grammar.specs.Entry.{EntryAt}
 use Rattle.nd_grammar.specs.LegalSide.{IsLegalSide}
 use Rattle.nd_grammar.specs.Reader.{Progress, Read, read_whole, is_stopped}
-use Rattle.nd_grammar.specs.StreamReader.{Reading, graph_of, read_root, read_first, read_next, read_stream}
+use Rattle.nd_grammar.specs.StreamReader.{Reading, graph_of, read_root, read_first, read_next}
 use Rattle.nd_grammar.proofs.legal.LegalUsable.{root_usable}
 use Rattle.nd_grammar.proofs.reader.ReaderStates.{WholeRead, read_wholly}
-use Rattle.nd_grammar.proofs.reader.ReaderStates.{State as IsReading}
+use Rattle.nd_grammar.specs.ReaderState.{State as IsReading}
 use Rattle.nd_grammar.proofs.reader.ReaderTurns.{one_longer}
 use Rattle.ndr_decoder_laws.specs.reader.Around.{going, stopped}
 use Rattle.ndr_decoder_laws.specs.steps.Good.{Whole, owed}
 use Rattle.ndr_decoder_laws.specs.steps.Steps.{State}
-use Rattle.ndr_decoder_laws.specs.verdict.Verdict.{is_direct}
+use Rattle.nd_grammar.specs.decoded.Verdict.{is_direct}
 use Rattle.ndr_decoder_laws.proofs.worklist.Turns.{turns}
 use Rattle.ndr_decoder_laws.specs.stream.Parameters.{head_read}
 use Rattle.ndr_decoder_laws.specs.stream.Between.{AreNeeded, Between, Agrees, IsUnread, IsKeptOf, IsKeptRoot, RootAdded, named_by, root_read}

@@ -10,9 +10,9 @@ use Rattle.nd_value.specs.Setting.{Setting, root_list, unread}
 use Rattle.nd_value.specs.Deferral.{before_pipes}
 use Rattle.nd_grammar.specs.LegalSide.{IsLegalSide}
 use Rattle.nd_grammar.specs.StreamReader.{read_start}
-use Rattle.nd_grammar.proofs.reader.ReaderCells.{no_names, no_roots}
-use Rattle.nd_grammar.proofs.reader.ReaderNames.{PointersOk, no_pointers_ok, cell_in}
-use Rattle.nd_grammar.proofs.reader.ReaderStates.{State as IsReading}
+use Rattle.nd_grammar.proofs.reader.ReaderCells.{no_roots}
+use Rattle.nd_grammar.specs.ReaderState.{no_names, PointersOk, cell_in, State as IsReading}
+use Rattle.nd_grammar.proofs.reader.ReaderNames.{no_pointers_ok}
 use Rattle.ndr_refs.specs.declared.referents.Known.{Known}
 use Rattle.ndr_decoder_laws.specs.reader.Around.{going}
 use Rattle.ndr_decoder_laws.specs.steps.Good.{Told, place_at}

@@ -16,7 +16,7 @@ use Rattle.nd_grammar.proofs.OneGraph.{one_graph}
 use Rattle.nd_grammar.proofs.ReaderLaws.{reader_accepts}
 use Rattle.nd_grammar.proofs.reader.ReaderVerdict.{start, AllTaken, all_taken}
 use Rattle.nd_grammar.proofs.reader.ReaderStream.{Pipes, G, ms, numbering, is_stream, numbered, goes_over, graph_is, ends_within}
-use Rattle.ndr_decoder_laws.specs.verdict.Verdict.{RepresentsAlone}
+use Rattle.nd_grammar.specs.decoded.Verdict.{RepresentsAlone}
 use Rattle.ndr_decoder_laws.proofs.verdict.NamedInTurn.{reader_canonical}
 
 module _ (w : Setting) (side : IsLegalSide w) (order : Order) (octets : List ℕ) (all : AreOctets octets) (not_stopped : (read_stream w order octets).progress.stop ≡ None)

@@ -1,7 +1,7 @@
--- How many cells have been named: what a decoder keeps of them from entry to entry.
+-- What a decoder keeps of the cells that have been named, after one entry more and after the referent of one root more.
 -- `n` is how many cells there are, `d` how many of them are referents of roots that are reference pointers, `c` is a cell, `x` an entry at its place.
-use Rattle.std.proofs.Common.{◌≡◌, ℕ, ◌+◌, ◌<◌, ◌≤◌, zero, suc, Bool, true, false, List, [], ◌∷◌, ◌++◌, length, Option, Some, None, refl, ap, sym, ◌∙◌, inl, inr, subst, arith}
-use Rattle.std.specs.Prelude.{cond, eqb, flat_map}
+use Rattle.std.proofs.Common.{◌≡◌, ℕ, ◌+◌, ◌<◌, ◌≤◌, Bool, true, false, List, [], ◌∷◌, ◌++◌, length, Some, None, refl, ap, sym, ◌∙◌, subst, arith}
+use Rattle.std.specs.Prelude.{cond, eqb}
 use Rattle.std.specs.List.{AllByRecursion}
 use Rattle.std.proofs.lemmas.Bool.{eqb-true}
 use Rattle.std.proofs.lemmas.Grind.{flat_map-append}
@@ -10,15 +10,8 @@ use Rattle.nd_value.specs.Canon.{target, has}
 use Rattle.nd_value.proofs.Apart.{all_append, all_weaker}
 use Rattle.nd_grammar.specs.Entry.{EntryAt}
 use Rattle.nd_grammar.specs.NextMark.{named_cell}
-use Rattle.ndr_decoder_laws.specs.verdict.Verdict.{once, cells_named}
-
-abbrev cells_in : List EntryAt → List ℕ
-cells_in xs = flat_map (λ x. target (named_cell x.entry.kind)) xs
-
--- All cells that were named are there, and there are no more than these and the referents of the roots that are reference pointers.
-pub record CellsSeen (seen : List EntryAt) (n d : ℕ) : Type 0 where
-  pub each : AllByRecursion (λ c. c ≤ n) (cells_in seen)
-  pub many : n ≤ length (cells_named seen) + d
+use Rattle.nd_grammar.specs.decoded.Verdict.{once}
+use Rattle.ndr_decoder_laws.specs.verdict.CellsSeen.{CellsSeen, cells_in}
 
 pub none_seen : CellsSeen [] 0 0
 none_seen = record { each = tt; many = omega arith }

@@ -14,7 +14,7 @@ use Rattle.nd_grammar.specs.Items.{items}
 use Rattle.nd_grammar.specs.NextMark.{named_cell}
 use Rattle.nd_grammar.specs.Represents.{IsRendered}
 use Rattle.nd_grammar.proofs.ItemSizes.{numbers, items_size}
-use Rattle.ndr_decoder_laws.specs.verdict.Verdict.{IsReadThrough, DecodingSeen, IsCounted, once, cells_named, is_direct, direct_roots}
+use Rattle.nd_grammar.specs.decoded.Verdict.{IsReadThrough, DecodingSeen, IsCounted, once, cells_named, is_direct, direct_roots}
 
 few_once : (others cs : List ℕ) → length (once others cs) ≤ length cs
 few_once others [] = omega arith

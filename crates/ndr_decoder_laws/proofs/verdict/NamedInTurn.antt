@@ -1,6 +1,6 @@
 -- The cells that are named over what is due, turn by turn; and the canonical numbers of the graph that is read.
-use Rattle.std.proofs.Common.{◌≡◌, ℕ, ◌+◌, ◌*◌, ◌<◌, ◌≤◌, zero, suc, Bool, true, false, List, [], ◌∷◌, ◌++◌, length, Option, Some, None, refl, ap, ap₂, sym, ◌∙◌, inl, inr, ◌⊎◌, arith, subst, append_assoc}
-use Rattle.std.specs.Prelude.{map, flat_map, eqb, ◌||◌}
+use Rattle.std.proofs.Common.{◌≡◌, ℕ, ◌+◌, ◌*◌, ◌<◌, ◌≤◌, zero, suc, Bool, true, false, List, [], ◌∷◌, ◌++◌, length, Option, Some, None, refl, ap, ap₂, sym, ◌∙◌, inl, inr, arith, subst}
+use Rattle.std.specs.Prelude.{map, eqb, ◌||◌}
 use Rattle.std.specs.List.{AllByRecursion, slice_get}
 use Rattle.std.proofs.lemmas.Bool.{eqb-true, eq-eqb}
 use Rattle.std.proofs.lemmas.Option.{same_Some, slice_get-get_or}
@@ -15,26 +15,25 @@ use Rattle.nd_types.specs.Roots.{Root}
 use Rattle.nd_types.specs.Layout.{hoists}
 use Rattle.nd_types.specs.Number.{AreOctets}
 use Rattle.nd_value.specs.declared.value.Graph.{Graph}
-use Rattle.nd_value.specs.declared.item.Home.{Home}
 use Rattle.nd_value.specs.declared.item.Home.TheVariants as home
 use Rattle.nd_value.specs.Tree as tree
 use Rattle.nd_value.specs.Tree.{Tree, Trees, Label, node, none, more, Referent, trees}
 use Rattle.nd_value.specs.Setting.{Setting, root_list, root_at, or_unread, unread, cell_home, cell_at, cell_tree}
-use Rattle.nd_value.specs.Deferral.{Pending, Due, due_root, due_referent, due_roots, due_of, before_pipes, home_pointers, IsPlaced, IsPlacedFull, Placed_cells, Step, root_stands, referent_stands, stands_already, Deferral, none_due, at_root, at_null, at_standing, at_referent, Standing, standing_root, standing_by, standing_cell, direct, root_type, root_cell}
-use Rattle.nd_value.specs.Canon.{IsCanon, target, named, own_cell, step_names, named_cells}
+use Rattle.nd_value.specs.Deferral.{Pending, Due, due_root, due_referent, due_roots, due_of, before_pipes, home_pointers, IsPlaced, Placed_cells, Step, root_stands, referent_stands, stands_already, Deferral, none_due, at_root, at_null, at_standing, at_referent, Standing, standing_root, standing_by, standing_cell, direct, root_type, root_cell}
+use Rattle.nd_value.specs.Canon.{IsCanon, named, own_cell, named_cells}
 use Rattle.nd_value.proofs.DeferralLaws.{full_stands}
 use Rattle.nd_value.specs.Same.{Same, renumbered, renumbered_label}
 use Rattle.nd_grammar.specs.LegalSide.{IsLegalSide}
-use Rattle.nd_grammar.specs.Reader.{Progress, Names, Read, is_stopped, fresh, with_cell, read_if, read_hoisted, read_whole}
-use Rattle.nd_grammar.specs.StreamReader.{Reading, Found, with_value, stands_among, stood, read_referent, read_pending, read_direct, read_placed, read_root, read_first, read_next, read_due, read_start, read_stream}
-use Rattle.nd_grammar.proofs.reader.ReaderNames.{cell_in, last_cell, cell_kept, PointersOk, no_pointers_ok}
-use Rattle.nd_grammar.proofs.reader.ReaderMoves.{paid}
-use Rattle.nd_grammar.proofs.reader.ReaderCells.{no_names, no_roots, set, set_same, value_length}
-use Rattle.nd_grammar.proofs.reader.ReaderStates.{State, WholeRead, read_wholly}
-use Rattle.nd_grammar.proofs.reader.ReaderTurns.{Settled, Goes, Turn, at_end, pending_turn, value_settled}
+use Rattle.nd_grammar.specs.Reader.{Names, Read, is_stopped, fresh, with_cell, read_if, read_hoisted, read_whole}
+use Rattle.nd_grammar.specs.StreamReader.{Reading, with_value, stands_among, stood, read_referent, read_pending, read_direct, read_placed, read_root, read_first, read_next, read_due, read_start, read_stream}
+use Rattle.nd_grammar.proofs.reader.ReaderNames.{last_cell, cell_kept, no_pointers_ok}
+use Rattle.nd_grammar.specs.ReaderState.{cell_in, PointersOk, paid, no_names, State, Usable}
+use Rattle.nd_grammar.proofs.reader.ReaderCells.{no_roots, set_same, value_length}
+use Rattle.nd_grammar.proofs.reader.ReaderStates.{WholeRead, read_wholly}
+use Rattle.nd_grammar.proofs.reader.ReaderTurns.{Settled, Turn, at_end, pending_turn, value_settled}
 use Rattle.nd_grammar.proofs.reader.ReaderRoots.{Done, due_done, due_root_turn, few_before}
-use Rattle.nd_grammar.proofs.reader.ReaderStream.{H, G, head, graph_is, settled, is_stream}
-use Rattle.nd_grammar.proofs.legal.LegalUsable.{Usable, usable_readable, root_usable, pointee_usable}
+use Rattle.nd_grammar.proofs.reader.ReaderStream.{G, graph_is, settled, is_stream}
+use Rattle.nd_grammar.proofs.legal.LegalUsable.{usable_readable, root_usable, pointee_usable}
 use Rattle.ndr_decoder_laws.proofs.verdict.CellNumbers.{Counts, counts_both, own_number}
 use Rattle.ndr_decoder_laws.proofs.verdict.NamedCells.{AreThere, NamesSo, cells_of, cell_more, whole_names}
 

@@ -9,7 +9,7 @@ use Rattle.nd_value.specs.Setting.{Setting}
 use Rattle.nd_grammar.specs.declared.reason.Reason.{Reason}
 use Rattle.nd_grammar.specs.declared.reason.Reason.TheVariants as reason
 use Rattle.nd_grammar.specs.Represents.{Represents}
-use Rattle.ndr_decoder_laws.specs.verdict.Verdict.{IsRefused, DecodingSeen, MayFollow}
+use Rattle.nd_grammar.specs.decoded.Verdict.{IsRefused, DecodingSeen, MayFollow}
 
 -- what a source that tells its octets has left
 left_then : (a b : Option (List ℕ)) (fetched whole : List ℕ) → Consumes a b fetched → a ≡ Some whole → (now : List ℕ) × (b ≡ Some now) × (whole ≡ fetched ++ now)

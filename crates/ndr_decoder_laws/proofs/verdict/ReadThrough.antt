@@ -21,7 +21,7 @@ use Rattle.nd_grammar.proofs.reader.ReaderSteps.{Follows}
 use Rattle.nd_grammar.proofs.reader.ReaderNodes.{if_not}
 use Rattle.nd_grammar.proofs.reader.ReaderVerdict.{start}
 use Rattle.nd_grammar.proofs.reader.ReaderStream.{Pipes, G, ms, numbering, is_partial, is_stream, numbered, goes_over}
-use Rattle.ndr_decoder_laws.specs.verdict.Verdict.{IsReadThrough}
+use Rattle.nd_grammar.specs.decoded.Verdict.{IsReadThrough}
 
 module _ (order : Order) (octets : List ℕ) (nums : ℕ → ℕ) where
   -- the entries that were passed, and those after them

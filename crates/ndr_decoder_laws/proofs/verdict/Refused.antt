@@ -29,8 +29,8 @@ use Rattle.nd_grammar.proofs.ReaderLaws.{reader_refuses}
 use Rattle.nd_grammar.proofs.StaysBad.{stays_bad, judged_alike}
 use Rattle.nd_grammar.proofs.next.Spelt.{piece_left}
 use Rattle.nd_grammar.proofs.reader.ReaderStream.{Pipes, G, ms, numbering, is_partial, is_stream, numbered, ends_in_octets}
-use Rattle.ndr_decoder_laws.specs.verdict.Needed.{IsNeeded}
-use Rattle.ndr_decoder_laws.specs.verdict.Verdict.{MayFollow, fetched_to}
+use Rattle.nd_grammar.specs.decoded.Needed.{IsNeeded}
+use Rattle.nd_grammar.specs.decoded.Verdict.{MayFollow, fetched_to}
 use Rattle.ndr_decoder_laws.proofs.verdict.ReadThrough.{Gone, stream_gone}
 
 -- ## An entry is judged alike by octets that end later

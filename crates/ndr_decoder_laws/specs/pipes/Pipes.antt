@@ -1,7 +1,7 @@
 -- Where a decoder is in the pipes of a stream, and what it means to the plain reader, whatever octets follow.
 -- `fetched` are the octets that were fetched, `noted` the items that were noted, `direct` is how many roots that are reference pointers were read, `i` is the
 -- number of the pipe's root, `rs` are the roots after it, `roots` the values of those before it, `first` the names before all pipes.
-use Rattle.std.specs.Prelude.{pos, ◌≡◌, ◌≤◌, ◌<◌, ℕ, ◌+◌, ◌*◌, suc, List, [], ◌∷◌, ◌++◌, length, map, replicate, Option, Some, None}
+use Rattle.std.specs.Prelude.{pos, ◌≡◌, ◌≤◌, ◌<◌, ℕ, ◌+◌, ◌*◌, suc, List, [], ◌∷◌, ◌++◌, length, replicate, Option, Some, None}
 use Rattle.nd_base.specs.declared.octets.Order.{Order}
 use Rattle.nd_types.specs.declared.types.Attr.{Attr}
 use Rattle.nd_types.specs.declared.types.TypeId.{TypeId}
@@ -15,11 +15,10 @@ use Rattle.nd_value.specs.Setting.{Setting}
 use Rattle.nd_value.specs.Tree as tree
 use Rattle.nd_value.specs.Tree.{Tree, Trees, node, flat, count, node_count}
 use Rattle.nd_grammar.specs.Entry.{EntryAt, Align, Chunk}
-use Rattle.nd_grammar.specs.Reader.{Names, Progress, Read}
+use Rattle.nd_grammar.specs.Reader.{Names, Progress}
 use Rattle.nd_grammar.specs.Refusal.{tested_at}
 use Rattle.nd_grammar.specs.StreamReader.{ReadPipe, graph_of, read_chunks, read_pipes, read_stream}
-use Rattle.nd_grammar.proofs.reader.MadeTrees.{MadeTrees}
-use Rattle.ndr_code.specs.Code.{place_at}
+use Rattle.nd_grammar.specs.MadeTrees.{MadeTrees}
 use Rattle.ndr_decoder_laws.specs.reader.Around.{going}
 use Rattle.ndr_refs.specs.declared.referents.Known.{Known}
 use Rattle.ndr_decoder_laws.specs.declared.frame.Frame.TheVariants as frame
@@ -28,7 +27,7 @@ use Rattle.ndr_decoder_laws.specs.steps.Steps.{State, begun, place_of, no_place}
 use Rattle.ndr_decoder_laws.specs.steps.Good.{Told}
 use Rattle.ndr_decoder_laws.specs.steps.StepItems.{item_here}
 use Rattle.ndr_decoder_laws.specs.stream.Between.{Between}
-use Rattle.ndr_decoder_laws.specs.verdict.Needed.{IsNeeded}
+use Rattle.nd_grammar.specs.decoded.Needed.{IsNeeded}
 use Rattle.ndr_decoder_laws.specs.pipes.Reading.{Reads, of_pipe, count_then, elements_then}
 
 -- ## Where the decoder is

@@ -8,7 +8,7 @@ use Rattle.nd_grammar.specs.declared.reason.Reason.TheVariants as reason
 use Rattle.nd_grammar.specs.Entry.{EntryAt}
 use Rattle.nd_grammar.specs.Items.{items}
 use Rattle.nd_grammar.specs.Reader.{Read}
-use Rattle.ndr_decoder_laws.proofs.verdict.CellsSeen.{CellsSeen}
+use Rattle.ndr_decoder_laws.specs.verdict.CellsSeen.{CellsSeen}
 use Rattle.ndr_decoder_laws.specs.reader.Around.{stopped}
 
 -- The plain reader refuses all octets that begin with those fetched, at this place and for this reason, after the entries whose items were noted. Where they

@@ -13,14 +13,13 @@ use Rattle.nd_value.specs.declared.item.Item.{Item}
 use Rattle.nd_value.specs.Deferral.{Pending, home_pointers}
 use Rattle.nd_value.specs.Tree as tree
 use Rattle.nd_value.specs.Tree.{Tree, Trees, node, none, more, Flat, flat, Label}
-use Rattle.nd_grammar.specs.declared.reason.Reason.{Reason}
 use Rattle.nd_grammar.specs.Entry.{EntryAt, size_at}
 use Rattle.nd_grammar.specs.Items.{items}
 use Rattle.nd_grammar.specs.Reader.{Names, Read, numbered, tree_nodes}
 use Rattle.nd_types.specs.Table.{Table, width}
 use Rattle.nd_types.specs.Number.{value_of_octets}
 use Rattle.nd_grammar.specs.Refusal.{is_enumerator, is_other, tested_at}
-use Rattle.ndr_decoder_laws.proofs.verdict.CellsSeen.{CellsSeen}
+use Rattle.ndr_decoder_laws.specs.verdict.CellsSeen.{CellsSeen}
 use Rattle.ndr_code.specs.declared.instr.Instr.{Instr}
 use Rattle.ndr_code.specs.Code.{whole_at}
 use Rattle.ndr_refs.specs.declared.referents.Known.{Known}

@@ -22,17 +22,16 @@ use Rattle.nd_grammar.specs.declared.reason.Reason.TheVariants as reason
 use Rattle.nd_grammar.specs.LegalSide.{IsLegalSide}
 use Rattle.nd_grammar.specs.Reader.{Names, Read, read_whole}
 use Rattle.nd_grammar.specs.StreamReader.{Reading, graph_of}
-use Rattle.nd_grammar.proofs.reader.ReaderStates.{State as IsReading}
+use Rattle.nd_grammar.specs.ReaderState.{State as IsReading}
 use Rattle.ndr_refs.specs.declared.referents.Known.{Known}
 use Rattle.ndr_decoder_laws.specs.reader.Around.{going, stopped}
 use Rattle.ndr_decoder_laws.specs.declared.first.First.{First}
 use Rattle.ndr_decoder_laws.specs.declared.first.First.TheVariants as first
 use Rattle.ndr_decoder_laws.specs.declared.frame.Frame.TheVariants as frame
 use Rattle.ndr_decoder_laws.specs.steps.Steps.{State, Owed, begun}
-use Rattle.ndr_decoder_laws.specs.steps.Good.{Told, owed}
-use Rattle.ndr_decoder_laws.specs.steps.Good.{Kept as IsKept}
-use Rattle.ndr_decoder_laws.specs.verdict.Needed.{IsNeeded}
-use Rattle.ndr_decoder_laws.specs.verdict.Verdict.{is_direct}
+use Rattle.ndr_decoder_laws.specs.steps.Good.{Told, owed, Kept as IsKept}
+use Rattle.nd_grammar.specs.decoded.Needed.{IsNeeded}
+use Rattle.nd_grammar.specs.decoded.Verdict.{is_direct}
 use Rattle.ndr_decoder_laws.specs.worklist.Reached.{Reached}
 use Rattle.ndr_decoder_laws.specs.declared.kept.Kept.{Kept}
 use Rattle.ndr_decoder_laws.specs.declared.kept.KeptRoot.{KeptRoot}

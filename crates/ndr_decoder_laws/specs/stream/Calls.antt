@@ -14,7 +14,7 @@ use Rattle.nd_grammar.specs.Entry.{EntryAt}
 use Rattle.nd_grammar.specs.FewItems.{but_gaps}
 use Rattle.nd_grammar.specs.Reader.{Read}
 use Rattle.ndr_decoder_laws.specs.reader.Around.{stopped}
-use Rattle.ndr_decoder_laws.specs.verdict.Verdict.{DecodingSeen, HasNoted}
+use Rattle.nd_grammar.specs.decoded.Verdict.{DecodingSeen, HasNoted}
 use Rattle.ndr_decoder_laws.specs.stream.Added.{Goes}
 use Rattle.ndr_decoder_laws.specs.stream.Report.{Extent, StreamRefused, StreamCut, read_over}
 

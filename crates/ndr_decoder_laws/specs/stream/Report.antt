@@ -3,22 +3,19 @@
 -- how many of them are referents of roots that are reference pointers.
 use Rattle.std.specs.Prelude.{◌≡◌, ◌≤◌, ℕ, ◌+◌, List, ◌++◌, length}
 use Rattle.nd_base.specs.declared.octets.Order.{Order}
-use Rattle.nd_base.specs.Over.{SourceSeen}
 use Rattle.nd_types.specs.Number.{AreOctets}
 use Rattle.nd_value.specs.declared.item.Item.{Item}
 use Rattle.nd_value.specs.Setting.{Setting}
 use Rattle.nd_grammar.specs.declared.reason.Reason.{Reason}
-use Rattle.nd_grammar.specs.declared.reason.Reason.TheVariants as reason
-use Rattle.nd_grammar.specs.Bad.{Bad}
 use Rattle.nd_grammar.specs.Entry.{EntryAt}
 use Rattle.nd_grammar.specs.FewItems.{but_gaps}
 use Rattle.nd_grammar.specs.Items.{items}
 use Rattle.nd_grammar.specs.Reader.{Progress}
 use Rattle.nd_grammar.specs.StreamReader.{read_stream}
 use Rattle.ndr_decoder_laws.specs.reader.Around.{stopped}
-use Rattle.ndr_decoder_laws.specs.verdict.Needed.{IsNeeded}
-use Rattle.ndr_decoder_laws.specs.verdict.Verdict.{DecodingSeen, HasNoted, IsCutOff, direct_roots}
-use Rattle.ndr_decoder_laws.proofs.verdict.CellsSeen.{CellsSeen}
+use Rattle.nd_grammar.specs.decoded.Needed.{IsNeeded}
+use Rattle.nd_grammar.specs.decoded.Verdict.{DecodingSeen, HasNoted, direct_roots}
+use Rattle.ndr_decoder_laws.specs.verdict.CellsSeen.{CellsSeen}
 use Rattle.ndr_decoder_laws.specs.stream.Parameters.{head_read}
 
 -- what is read of a stream: what comes before its pipes, or all of it
@@ -70,9 +67,3 @@ pub record StreamCut (x : Extent) (w : Setting) (order : Order) (fetched : List 
   pub cells : AreCells w seen n
 
 -- ## What is reported
-
--- Reading was cut off by the source, and the octets that were fetched are cut short where they end: the next entry lacks some of its own.
-pub record IsUnread (w : Setting) (order : Order) (s : SourceSeen) (t : DecodingSeen) : Type 0 where
-  pub cut : IsCutOff w order s t
-  pub short : Bad w order cut.fetched (length cut.fetched) reason.Truncated
-  pub as_far : short.earlier ≡ cut.earlier

@@ -31,7 +31,7 @@ ghost use Rattle.ndr_decoder_laws.specs.steps.Steps.{State};
 ghost use Rattle.ndr_decoder_laws.specs.stream.Added.{Goes};
 ghost use Rattle.ndr_decoder_laws.specs.stream.Between.{AreNeeded, Between, Keeps};
 ghost use Rattle.ndr_decoder_laws.specs.stream.Parameters.{pipes_from};
-ghost use Rattle.ndr_decoder_laws.specs.verdict.Needed.{IsNeeded};
+ghost use Rattle.nd_grammar.specs.decoded.Needed.{IsNeeded};
 ghost use Rattle.ndr_decoder_laws.specs.pipes.Pipes.{InPipe, InPipes, Position, OpensChunk, at_chunk, at_count, at_elements, count_item, pipes_due, kids_of, past_count, past_gap, read_to};
 
 /// After the agreements of the parameters the pipes come, if there are any. The next of them begins without elements. After the last of them the plain reader has

@@ -11,7 +11,7 @@ ghost use Rattle.nd_value.specs.declared.item.Home.{Home};
 ghost use Rattle.nd_value.specs.declared.item.Item.{Item};
 ghost use Rattle.nd_value.specs.Setting.{Setting};
 ghost use Rattle.nd_value.specs.Tree.{Trees, count};
-ghost use Rattle.nd_grammar.proofs.reader.MadeTrees.{MadeTrees};
+ghost use Rattle.nd_grammar.specs.MadeTrees.{MadeTrees};
 ghost use Rattle.nd_grammar.specs.declared.reason.Reason.{Reason};
 ghost use Rattle.nd_grammar.specs.declared.reason.Reason.TheVariants.{Truncated, TooLong};
 ghost use Rattle.nd_grammar.specs.LegalSide.{IsLegalSide};

@@ -30,7 +30,7 @@ ghost use Rattle.nd_grammar.specs.LegalSide.{IsLegalSide};
 ghost use Rattle.nd_grammar.specs.Reader.{Names, Progress, Read, pass_all, read_whole, with_cell};
 ghost use Rattle.nd_grammar.specs.Stream.{root_test};
 ghost use Rattle.nd_grammar.specs.StreamReader.{Reading, read_next, read_start, read_stream};
-ghost use Rattle.nd_grammar.proofs.legal.LegalUsable.{Usable};
+ghost use Rattle.nd_grammar.specs.ReaderState.{Usable};
 ghost use Rattle.ndr_code.specs.Code.{code_of, whole_at};
 ghost use Rattle.ndr_code.specs.declared.instr.Instr.{Instr};
 ghost use Rattle.ndr_refs.specs.declared.referents.Known.{Known};
@@ -39,8 +39,8 @@ ghost use Rattle.ndr_decoder_laws.specs.declared.first.First.TheVariants.{Pointe
 ghost use Rattle.ndr_decoder_laws.specs.steps.Good.{Good, Told, Whole};
 ghost use Rattle.ndr_decoder_laws.specs.steps.Spots.{IsFine};
 ghost use Rattle.ndr_decoder_laws.specs.steps.Steps.{State};
-ghost use Rattle.ndr_decoder_laws.specs.verdict.Needed.{IsNeeded};
-ghost use Rattle.ndr_decoder_laws.specs.verdict.Verdict.{DecodingSeen, HasNoted, IsCutOff, IsDecoded, IsRefused, direct_roots, is_direct};
+ghost use Rattle.nd_grammar.specs.decoded.Needed.{IsNeeded};
+ghost use Rattle.nd_grammar.specs.decoded.Verdict.{DecodingSeen, HasNoted, IsCutOff, IsDecoded, IsRefused, direct_roots, is_direct, IsUnread};
 ghost use Rattle.ndr_decoder_laws.specs.worklist.Reached.{Reached};
 ghost use Rattle.ndr_decoder_laws.specs.declared.kept.Kept.{Kept};
 ghost use Rattle.ndr_decoder_laws.specs.declared.kept.KeptRoot.{KeptRoot};
@@ -48,7 +48,7 @@ ghost use Rattle.ndr_decoder_laws.specs.stream.Added.{Added, Goes};
 ghost use Rattle.ndr_decoder_laws.specs.stream.Between.{Agrees, AreNeeded, Begins, Between, CellFilled, CellKept, IsKeptHome, IsKeptRoot, Keeps, Opens, RootAdded, cell_read, home_target, kept_at, root_read, taken, with_pointer};
 ghost use Rattle.ndr_decoder_laws.specs.stream.Calls.{CutOff, Follows, GoesWith, Refused, RefusesWith, Took, Unread};
 ghost use Rattle.ndr_decoder_laws.specs.stream.Parameters.{TestsPass, TestsStop, head_read, parameter_tests, pipes_from, root_number, root_subject, with_pipes};
-ghost use Rattle.ndr_decoder_laws.specs.stream.Report.{AreCells, Extent, IsRefusedAfter, IsReported, IsUnread, StreamCut, StreamRefused, the_head, the_stream};
+ghost use Rattle.ndr_decoder_laws.specs.stream.Report.{AreCells, Extent, IsRefusedAfter, IsReported, StreamCut, StreamRefused, the_head, the_stream};
 ghost use Rattle.ndr_decoder_laws.specs.stream.Tests.{AllAgree, disagreement};
 
 /// Reading the value of a home passes entries of this home alone, after those that were passed before. Reading what comes before the pipes only adds to the

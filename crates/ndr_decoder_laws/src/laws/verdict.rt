@@ -15,8 +15,8 @@ ghost use Rattle.nd_grammar.specs.Items.{items};
 ghost use Rattle.nd_grammar.specs.LegalSide.{IsLegalSide};
 ghost use Rattle.nd_grammar.specs.Represents.{Represents};
 ghost use Rattle.nd_grammar.specs.StreamReader.{read_stream};
-ghost use Rattle.ndr_decoder_laws.specs.verdict.Needed.{IsNeeded};
-ghost use Rattle.ndr_decoder_laws.specs.verdict.Verdict.{RepresentsAlone, IsReadThrough, IsCounted, IsRefused, DecodingSeen, MayFollow, fetched_to, cells_named, direct_roots};
+ghost use Rattle.nd_grammar.specs.decoded.Needed.{IsNeeded};
+ghost use Rattle.nd_grammar.specs.decoded.Verdict.{RepresentsAlone, IsReadThrough, IsCounted, IsRefused, DecodingSeen, MayFollow, fetched_to, cells_named, direct_roots};
 
 /// The graph that the reader finds is its own canonical form: it numbers cells as the stream comes to name them.
 pub fn canonical_graph()

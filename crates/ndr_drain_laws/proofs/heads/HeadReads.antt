@@ -42,13 +42,13 @@ use Rattle.nd_grammar.proofs.next.Spelt.{not_spelt}
 use Rattle.nd_grammar.proofs.agreements.TestedAt.{test_finds}
 use Rattle.nd_grammar.proofs.conforming.Passed.{AllFound, IsFound, Passed, PassedAll, all_passed, least_append, least_end}
 use Rattle.nd_grammar.proofs.reader.EntriesFine.{Fine, full_fine, follows_within}
-use Rattle.nd_grammar.proofs.reader.MadeTrees.{CellFits, IsPartialNode, MadeTree, made_nodes, one_made}
-use Rattle.nd_grammar.proofs.reader.ReaderCells.{CellMade, no_names}
-use Rattle.nd_grammar.proofs.reader.ReaderNames.{cell_in, PointersOk}
+use Rattle.nd_grammar.proofs.reader.MadeTrees.{CellFits, IsPartialNode, made_nodes, one_made}
+use Rattle.nd_grammar.specs.MadeTrees.{MadeTree}
+use Rattle.nd_grammar.specs.ReaderState.{CellMade, no_names, cell_in, PointersOk, AllReached, RootsMade}
 use Rattle.nd_grammar.proofs.reader.ReaderNumbering.{is_numbering}
-use Rattle.nd_grammar.proofs.reader.ReaderReached.{AllReached, reached_more}
+use Rattle.nd_grammar.proofs.reader.ReaderReached.{reached_more}
 use Rattle.nd_grammar.proofs.reader.ReaderRoots.{Done}
-use Rattle.nd_grammar.proofs.reader.ReaderStates.{Numbered, RootsMade}
+use Rattle.nd_grammar.proofs.reader.ReaderStates.{Numbered}
 use Rattle.nd_grammar.proofs.reader.ReaderSteps.{Follows, follows_append}
 use Rattle.nd_grammar.proofs.reader.ReaderStream as stream
 use Rattle.nd_grammar.proofs.reader.ReaderTests.{Top, SameTop, root_tests_are, tests_follow, tests_fine, tests_same}

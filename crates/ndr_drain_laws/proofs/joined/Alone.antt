@@ -20,7 +20,7 @@ use Rattle.nd_grammar.specs.LegalSide.{IsLegalSide}
 use Rattle.nd_grammar.specs.Represents.{IsNumbering, Represents}
 use Rattle.nd_grammar.proofs.OneGraph.{one_graph}
 use Rattle.nd_grammar.proofs.conforming.GoodTrees.{GoodTrees}
-use Rattle.ndr_decoder_laws.specs.verdict.Verdict.{RepresentsAlone}
+use Rattle.nd_grammar.specs.decoded.Verdict.{RepresentsAlone}
 use Rattle.ndr_drain_laws.specs.parts.Parts.{AreParts, AreReadTo, IsElement, Part, Spot, after, after_all, elem_at, first_spot, no_graph, octets_of, pipes_by, pipes_of, with_pipes}
 use Rattle.ndr_drain_laws.proofs.parts.Chunks.{parts_entries}
 use Rattle.ndr_drain_laws.proofs.parts.Conforming.{conforming}

@@ -1,5 +1,5 @@
 -- The entries of a head and of chunks that were read are accepted.
-use Rattle.std.proofs.Common.{◌≡◌, ◌<◌, ◌≤◌, ◌-◌, ◌∙◌, ap, sym, subst, refl, ℕ, ◌+◌, zero, suc, false, List, [], ◌∷◌, ◌++◌, length, length-append, drop, append_assoc, replicate, Option, Some, None, inl, inr, ◌⊎◌, arith}
+use Rattle.std.proofs.Common.{◌≡◌, ◌<◌, ◌≤◌, ◌-◌, ◌∙◌, ap, sym, subst, refl, ℕ, ◌+◌, zero, suc, false, List, [], ◌∷◌, ◌++◌, length, length-append, drop, replicate, Some, None, inl, inr, ◌⊎◌, arith}
 use Rattle.std.specs.List.{AllByRecursion, slice_get}
 use Rattle.std.proofs.lemmas.List.{length-replicate}
 use Rattle.std.proofs.lemmas.Option.{slice_get-get_or}
@@ -7,26 +7,24 @@ use Rattle.nd_base.specs.declared.octets.Order.{Order}
 use Rattle.nd_base.specs.declared.TheConstants.{STREAM_LIMIT}
 use Rattle.nd_types.specs.Roots.{Root}
 use Rattle.nd_types.specs.Table.{Table, type_at}
-use Rattle.nd_value.specs.declared.item.Home.{Home}
 use Rattle.nd_value.specs.declared.item.Home.TheVariants as home
 use Rattle.nd_value.specs.declared.value.Graph.{Graph}
-use Rattle.nd_value.specs.Tree.{Tree, count, node_count, trees}
-use Rattle.nd_value.specs.Conforms.{Conforms}
+use Rattle.nd_value.specs.Tree.{Tree, count, trees}
 use Rattle.nd_value.specs.Deferral.{before_pipes, root_type}
-use Rattle.nd_value.specs.Nodes.{TypedNode, home_nodes, nodes_of}
+use Rattle.nd_value.specs.Nodes.{home_nodes, nodes_of}
 use Rattle.nd_value.specs.Setting.{Setting, root_list}
 use Rattle.nd_value.proofs.Apart.{all_append, all_left, all_weaker}
 use Rattle.nd_value.proofs.DeferralBridge.{some_before}
 use Rattle.nd_value.proofs.NodeFacts.{fit_node}
-use Rattle.nd_grammar.specs.Entry.{Entry, EntryAt, size_at, end_to_end, end_of, full_cells}
-use Rattle.nd_grammar.specs.InPlace.{in_place}
+use Rattle.nd_grammar.specs.Entry.{Entry, size_at, end_to_end, end_of, full_cells}
 use Rattle.nd_grammar.specs.LegalSide.{IsLegalSide}
 use Rattle.nd_grammar.specs.Refusal.{Accepts, same_home}
 use Rattle.nd_grammar.specs.Represents.{IsNumbering, IsRendered}
-use Rattle.nd_grammar.specs.Stream.{AllCut, Cuts, Stream, head_entries, kids_of, pipes_entries, representation, root_tests, step_entries}
+use Rattle.nd_grammar.specs.Stream.{AllCut, Cuts, Stream, head_entries, kids_of, pipes_entries, representation, root_tests}
 use Rattle.nd_grammar.proofs.LegalSides.{laid_out}
 use Rattle.nd_grammar.proofs.conforming.Accepted.{accepted}
-use Rattle.nd_grammar.proofs.conforming.GoodEntries.{GoodEntry, HoldsNoPipe, IsNoPipe, good_in_place}
+use Rattle.nd_grammar.proofs.conforming.GoodEntries.{GoodEntry, HoldsNoPipe, good_in_place}
+use Rattle.nd_grammar.specs.ReaderState.{IsNoPipe}
 use Rattle.nd_grammar.proofs.conforming.GoodStream.{good_stream}
 use Rattle.nd_grammar.proofs.conforming.GoodTrees.{GoodTrees, IsGoodNode, good_trees}
 use Rattle.nd_grammar.proofs.conforming.StreamConforms.{le_or}
@@ -37,12 +35,12 @@ use Rattle.ndr_drain_laws.specs.parts.Parts.{AreParts, AreReadTo, IsElement, Par
 use Rattle.ndr_drain_laws.proofs.parts.Chunks.{count_trees, parts_entries}
 use Rattle.ndr_drain_laws.proofs.parts.Elements.{Alone, IsAlone, element_alone, in_pipe}
 use Rattle.ndr_drain_laws.proofs.parts.Heads.{early_roots}
-use Rattle.ndr_drain_laws.proofs.parts.Spelt.{end_append, ends_append, place_after}
-use Rattle.ndr_drain_laws.proofs.parts.Streams.{first_end, first_entries, first_numbers, first_rendered, first_within}
+use Rattle.ndr_drain_laws.proofs.parts.Spelt.{ends_append, place_after}
+use Rattle.ndr_drain_laws.proofs.parts.Streams.{first_entries, first_numbers, first_rendered, first_within}
 use Rattle.ndr_drain_laws.specs.joined.Entries.{entries_to, parts_at}
 use Rattle.ndr_drain_laws.proofs.joined.Before.{at_places}
 use Rattle.ndr_drain_laws.proofs.joined.Begun.{onward}
-use Rattle.ndr_drain_laws.proofs.joined.Homes.{IsBefore, one_all, parts_before, root_tests_away, steps_away}
+use Rattle.ndr_drain_laws.proofs.joined.Homes.{IsBefore, parts_before, root_tests_away, steps_away}
 
 -- ## Places
 
@@ -100,7 +98,7 @@ module _ (w : Setting) (side : IsLegalSide w) (order : Order) (head : List ℕ) 
     is_representation = refl;
   }
 
-  head_good : AllByRecursion (GoodEntry g) (head_entries w g it.is_head.steps)
+  pub head_good : AllByRecursion (GoodEntry g) (head_entries w g it.is_head.steps)
   head_good =
       all_left (GoodEntry g) (head_entries w g it.is_head.steps) (pipes_entries w.table n (drop n (root_list w)) (drop n g.roots) none_cut)
       (good_stream w no_pipes g it.conforms (plain_before w side) (some_before w g (root_list w)) (laid_out w side).pipes (representation w g it.is_head.steps none_cut) own_stream)

@@ -16,7 +16,7 @@ use Rattle.nd_grammar.specs.NextMark.{named_cell}
 use Rattle.nd_grammar.specs.Represents.{IsRendered, piece}
 use Rattle.nd_grammar.specs.Stream.{head_entries}
 use Rattle.nd_grammar.proofs.next.Spelt.{piece_left}
-use Rattle.ndr_decoder_laws.specs.verdict.Verdict.{cells_named, once}
+use Rattle.nd_grammar.specs.decoded.Verdict.{cells_named, once}
 use Rattle.ndr_drain_laws.specs.parts.Parts.{AreParts, AreReadTo, Part, Spot, after, first_spot, octets_of, part_entries, part_items}
 use Rattle.ndr_drain_laws.proofs.parts.Spelt.{place_after}
 use Rattle.ndr_drain_laws.specs.joined.Entries.{entries_to, parts_at, parts_items}

@@ -13,7 +13,7 @@ use Rattle.nd_grammar.specs.Refusal.{Accepts}
 use Rattle.nd_grammar.specs.Represents.{IsNumbering, IsRendered}
 use Rattle.nd_grammar.proofs.ConformingPartial.{conforming_is_partial}
 use Rattle.nd_grammar.proofs.conforming.StreamConforms.{le_or}
-use Rattle.ndr_decoder_laws.specs.verdict.Verdict.{IsReadThrough}
+use Rattle.nd_grammar.specs.decoded.Verdict.{IsReadThrough}
 use Rattle.ndr_drain_laws.specs.parts.Parts.{AreReadTo, BadPart, IsPartThrough, Part, after_all, first_spot, octets_of, part_entries, pipes_of, with_pipes}
 use Rattle.ndr_drain_laws.proofs.parts.Chunks.{parts_entries}
 use Rattle.ndr_drain_laws.proofs.parts.Conforming.{conforming}

@@ -49,8 +49,8 @@ use Rattle.ndr_decoder_laws.proofs.runs.ChunkSafe.{safe_in_chunk}
 use Rattle.ndr_decoder_laws.specs.stream.Added.{Added}
 use Rattle.ndr_decoder_laws.specs.stream.Between.{AreNeeded}
 use Rattle.ndr_decoder_laws.proofs.stream.StateAdds.{state_adds}
-use Rattle.ndr_decoder_laws.specs.verdict.Verdict.{cells_named, once}
-use Rattle.ndr_decoder_laws.proofs.verdict.CellsSeen.{CellsSeen}
+use Rattle.nd_grammar.specs.decoded.Verdict.{cells_named, once}
+use Rattle.ndr_decoder_laws.specs.verdict.CellsSeen.{CellsSeen}
 use Rattle.ndr_drain_laws.specs.reader.PartReader.{IsAtPipe, after_count, before_place, count_of, header_items, header_seen, no_names, part_target, read_part, to_elements, type_of_root}
 use Rattle.ndr_drain_laws.specs.reader.Outcomes.{OpensPart, PartCut, PartRefused, PartWhole}
 use Rattle.ndr_drain_laws.proofs.reader.Elements.{Silent, as_many_items, elem_is, part_silent}

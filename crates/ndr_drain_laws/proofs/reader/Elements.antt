@@ -33,7 +33,8 @@ use Rattle.nd_grammar.proofs.next.Mapped.{in_parts, no_pointers}
 use Rattle.nd_grammar.proofs.next.NextInPlace.{View, view, v_prim, v_enum, v_struct, v_array, v_text, v_union, v_pointer, v_context, v_unread}
 use Rattle.nd_grammar.proofs.next.NextStream.{FitsPipes, IsPipeRoot, all_at, drop_at}
 use Rattle.nd_grammar.proofs.reader.EntriesFine.{Fine, FullOk, fine_in_place}
-use Rattle.nd_grammar.proofs.reader.MadeTrees.{MadeTrees, made_count}
+use Rattle.nd_grammar.proofs.reader.MadeTrees.{made_count}
+use Rattle.nd_grammar.specs.MadeTrees.{MadeTrees}
 use Rattle.nd_grammar.proofs.reader.ReaderInPlace.{Readable, Reads, AreRead, in_place_read, list_read}
 use Rattle.nd_grammar.proofs.reader.ReaderLeaves.{Leave, AllLeave, in_place_leaves, list_leaves}
 use Rattle.nd_grammar.proofs.reader.ReaderMakes.{Make, AllMake, in_place_makes, list_makes}

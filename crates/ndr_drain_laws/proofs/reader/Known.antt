@@ -12,7 +12,7 @@ use Rattle.nd_value.specs.Setting.{Setting}
 use Rattle.nd_value.specs.Tree.{Trees}
 use Rattle.nd_value.proofs.NodeFacts.{read_node}
 use Rattle.nd_grammar.specs.Entry.{Entry}
-use Rattle.nd_grammar.specs.InPlace.{entries, in_place}
+use Rattle.nd_grammar.specs.InPlace.{in_place}
 use Rattle.nd_grammar.specs.LegalSide.{IsLegalSide}
 use Rattle.nd_grammar.proofs.LegalSides.{laid_out}
 use Rattle.nd_grammar.proofs.next.HoistedMaxes.{maxes_of_many}
@@ -22,7 +22,8 @@ use Rattle.nd_grammar.proofs.next.Matching.{Known}
 use Rattle.nd_grammar.proofs.next.Next.{Pair, OneToOne, Readings, Next}
 use Rattle.nd_grammar.proofs.next.NextInPlace.{in_place_next}
 use Rattle.nd_grammar.proofs.next.NextStream.{FitsPipes}
-use Rattle.nd_grammar.proofs.reader.MadeTrees.{MadeTrees, CellFits, IsPartialNode, made_count, made_nodes}
+use Rattle.nd_grammar.proofs.reader.MadeTrees.{CellFits, IsPartialNode, made_count, made_nodes}
+use Rattle.nd_grammar.specs.MadeTrees.{MadeTrees}
 use Rattle.ndr_drain_laws.specs.parts.Parts.{Spot, elem_at, no_graph}
 use Rattle.ndr_drain_laws.specs.reader.PartReader.{IsAtPipe}
 use Rattle.ndr_drain_laws.proofs.reader.Elements.{fits, many, plain}

@@ -18,7 +18,7 @@ use Rattle.nd_grammar.specs.Represents.{piece, Spells, IsRendered}
 use Rattle.nd_grammar.specs.Refusal.{refusal, kind_refusal, refused_if, text_refusal, is_enumerator, is_selected, is_long, is_other, tested_at, Accepts}
 use Rattle.nd_grammar.proofs.StaysBad.{judged_alike}
 use Rattle.nd_grammar.proofs.next.Spelt.{piece_left}
-use Rattle.ndr_decoder_laws.specs.verdict.Verdict.{fetched_to}
+use Rattle.nd_grammar.specs.decoded.Verdict.{fetched_to}
 
 -- ## An entry is judged alike by octets that end later
 

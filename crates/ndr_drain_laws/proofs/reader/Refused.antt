@@ -26,7 +26,7 @@ use Rattle.nd_grammar.proofs.next.Next.{OneToOne}
 use Rattle.nd_grammar.proofs.next.Spelt.{spelt_in_more}
 use Rattle.ndr_drain_laws.specs.parts.Parts.{BadPart, IsPartThrough, Spot}
 use Rattle.ndr_decoder_laws.specs.reader.Around.{going}
-use Rattle.ndr_decoder_laws.specs.verdict.Verdict.{MayFollow, fetched_to}
+use Rattle.nd_grammar.specs.decoded.Verdict.{MayFollow, fetched_to}
 use Rattle.ndr_decoder_laws.proofs.verdict.ReadThrough.{Gone}
 use Rattle.ndr_drain_laws.specs.reader.PartReader.{IsAtPipe, count_of, read_part}
 use Rattle.ndr_drain_laws.specs.reader.Outcomes.{PartRefused}

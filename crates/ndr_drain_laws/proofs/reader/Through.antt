@@ -27,7 +27,8 @@ use Rattle.nd_grammar.specs.Represents.{IsRendered}
 use Rattle.nd_grammar.proofs.ItemSizes.{numbers, items_size}
 use Rattle.nd_grammar.proofs.next.Mapped.{no_pointers}
 use Rattle.nd_grammar.proofs.next.NextStream.{FitsPipes}
-use Rattle.nd_grammar.proofs.reader.MadeTrees.{MadeTrees, CellFits, IsPartialNode, made_nodes}
+use Rattle.nd_grammar.proofs.reader.MadeTrees.{CellFits, IsPartialNode, made_nodes}
+use Rattle.nd_grammar.specs.MadeTrees.{MadeTrees}
 use Rattle.ndr_drain_laws.specs.parts.Parts.{IsPartThrough, Spot, elem_at, no_graph, part_entries}
 use Rattle.ndr_decoder_laws.specs.reader.Around.{going}
 use Rattle.ndr_decoder_laws.proofs.verdict.ReadThrough.{Gone, gone}

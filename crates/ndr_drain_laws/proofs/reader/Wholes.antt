@@ -33,7 +33,8 @@ use Rattle.nd_grammar.proofs.next.Mapped.{no_pointers}
 use Rattle.nd_grammar.proofs.next.NextStream.{FitsPipes}
 use Rattle.nd_grammar.proofs.reader.EntriesFine.{follows_within}
 use Rattle.nd_grammar.proofs.reader.FewNodes.{AllFew, Few, list_few, many_ones, ones, some_bound, some_members, value_few}
-use Rattle.nd_grammar.proofs.reader.MadeTrees.{MadeTrees, CellFits}
+use Rattle.nd_grammar.proofs.reader.MadeTrees.{CellFits}
+use Rattle.nd_grammar.specs.MadeTrees.{MadeTrees}
 use Rattle.nd_grammar.proofs.reader.ReaderVerdict.{AllTaken, all_taken}
 use Rattle.ndr_drain_laws.specs.parts.Parts.{IsElement, IsPart, Part, Spot, after, elem_at, no_graph, part_entries}
 use Rattle.ndr_decoder_laws.specs.reader.Around.{going}

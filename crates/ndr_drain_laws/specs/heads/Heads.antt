@@ -12,7 +12,7 @@ use Rattle.nd_grammar.specs.Entry.{EntryAt, end_to_end}
 use Rattle.nd_grammar.specs.Reader.{Progress, pass_all}
 use Rattle.nd_grammar.specs.Stream.{head_entries, root_tests}
 use Rattle.nd_grammar.specs.StreamReader.{Reading, graph_of, read_due, read_start}
-use Rattle.ndr_decoder_laws.specs.verdict.Verdict.{IsReadThrough}
+use Rattle.nd_grammar.specs.decoded.Verdict.{IsReadThrough}
 use Rattle.ndr_drain_laws.specs.parts.Parts.{HasEmptyPipes, IsHead, empty_pipe}
 
 -- the roots that are no pipes, with their referents

@@ -15,7 +15,7 @@ use Rattle.ndr_drain_laws.specs.parts.Parts.{BadPart, IsPart, IsPartThrough, Spo
 use Rattle.ndr_decoder_laws.specs.declared.first.First.TheVariants as first
 use Rattle.ndr_decoder_laws.specs.declared.frame.Frame.TheVariants as frame
 use Rattle.ndr_decoder_laws.specs.steps.Steps.{State, begun}
-use Rattle.ndr_decoder_laws.specs.verdict.Verdict.{MayFollow, fetched_to}
+use Rattle.nd_grammar.specs.decoded.Verdict.{MayFollow, fetched_to}
 use Rattle.ndr_drain_laws.specs.reader.PartReader.{moved_items}
 
 -- The octets are read through some entries of the chunk, whose items were noted; there are no more items but gaps than octets.

@@ -3,13 +3,14 @@ ghost use Rattle.std.specs.Prelude.{◌≡◌, ◌≤◌, ◌++◌, ℕ, List, [
 ghost use Rattle.nd_base.specs.declared.octets.Order.{Order};
 ghost use Rattle.nd_value.specs.declared.value.Graph.{Graph};
 ghost use Rattle.nd_value.specs.Canon.{IsCanon};
+ghost use Rattle.nd_value.specs.Deferral.{before_pipes};
 ghost use Rattle.nd_value.specs.Setting.{Setting, root_list};
 ghost use Rattle.nd_grammar.specs.declared.reason.Reason.{Reason};
 ghost use Rattle.nd_grammar.specs.Bad.{Bad};
 ghost use Rattle.nd_grammar.specs.Entry.{EntryAt, end_to_end};
 ghost use Rattle.nd_grammar.specs.LegalSide.{IsLegalSide};
-ghost use Rattle.ndr_decoder_laws.specs.verdict.Verdict.{IsReadThrough, RepresentsAlone};
-ghost use Rattle.ndr_drain_laws.specs.parts.Parts.{AreReadTo, BadPart, IsPartThrough, Part, after_all, first_spot, octets_of, pipes_of, with_pipes};
+ghost use Rattle.nd_grammar.specs.decoded.Verdict.{IsReadThrough, RepresentsAlone};
+ghost use Rattle.ndr_drain_laws.specs.parts.Parts.{AreReadTo, BadHead, BadPart, IsPart, IsPartThrough, Part, Spot, after_all, first_spot, octets_of, pipes_of, with_pipes};
 ghost use Rattle.ndr_drain_laws.specs.joined.Entries.{entries_to};
 
 /// Octets that are refused in the chunk after a head and chunks that were read are refused, with all that comes before them, as a stream: at the same place, for the
@@ -43,4 +44,17 @@ pub fn joined_alone()
         → length (root_list w) ≤ (after_all (first_spot w head) parts).root
         → (a : RepresentsAlone w order (head ++ octets_of parts) (with_pipes w g (pipes_of [] parts)))
         × (end_to_end 0 a.represented.entries ≡ entries_to w g it.is_head.steps head parts) }
+{}
+
+/// One verdict on each part of a stream. Octets that begin with a head that is read are not refused in the head, and those that begin with a chunk that is read are not
+/// refused in the chunk. A head is refused at one place and for one reason, and so is a chunk at its spot, whatever comes before it.
+pub fn one_part_verdict()
+    ensures head { (w : Setting) → IsLegalSide w → (order : Order) (head rest : List ℕ) (g : Graph) → AreReadTo w order head g []
+        → (place : ℕ) (why : Reason) → ¬ BadHead w order (head ++ rest) place why }
+    ensures one_refused_head { (w : Setting) → IsLegalSide w → (order : Order) (octets : List ℕ) (place other : ℕ) (why reason : Reason)
+        → BadHead w order octets place why → BadHead w order octets other reason → (place ≡ other) × (why ≡ reason) }
+    ensures chunk { (w : Setting) → IsLegalSide w → (order : Order) (s : Spot) → before_pipes (root_list w) ≤ s.root → (p : Part) (rest : List ℕ) → IsPart w order s p
+        → (place : ℕ) (why : Reason) → ¬ BadPart w order s (p.octets ++ rest) place why }
+    ensures one_refused_chunk { (w : Setting) → IsLegalSide w → (order : Order) (s : Spot) → before_pipes (root_list w) ≤ s.root → (octets : List ℕ) (place other : ℕ)
+        (why reason : Reason) → BadPart w order s octets place why → BadPart w order s octets other reason → (place ≡ other) × (why ≡ reason) }
 {}

@@ -1,9 +1,8 @@
 -- The homes of a graph that conforms have the forms of their types.
-use Rattle.std.proofs.Common.{◌≡◌, ℕ, ◌+◌, ◌<◌, ◌≤◌, zero, suc, true, false, List, [], ◌∷◌, ◌++◌, length, drop, Option, Some, None, refl, ap, sym, ◌∙◌, subst, arith}
+use Rattle.std.proofs.Common.{◌≡◌, ℕ, ◌+◌, ◌<◌, ◌≤◌, zero, suc, true, false, List, [], ◌∷◌, length, drop, Option, Some, None, refl, sym, ◌∙◌, subst, arith}
 use Rattle.std.specs.Prelude.{replicate}
 use Rattle.std.specs.List.{AllByRecursion, slice_get}
 use Rattle.std.proofs.lemmas.Option.{slice_get-get_or}
-use Rattle.nd_types.specs.declared.types.Operation.{Operation}
 use Rattle.nd_types.specs.declared.types.TypeDef.{TypeDef}
 use Rattle.nd_types.specs.declared.types.TypeId.{TypeId}
 use Rattle.nd_types.specs.declared.types.TypeDef.TheVariants as def
@@ -19,7 +18,7 @@ use Rattle.nd_value.specs.Setting.{Setting, root_list, root_at}
 use Rattle.nd_value.specs.Variables.{root_agreements}
 use Rattle.nd_value.specs.Deferral.{Step, Due, due_roots, before_pipes, Deferral, none_due, at_root, at_null, at_standing, at_referent, Placed_cells, Standing, standing_root, standing_cell, due_of}
 use Rattle.nd_value.specs.Conforms.{Conforms}
-use Rattle.nd_value.proofs.Apart.{all_append, all_weaker}
+use Rattle.nd_value.proofs.Apart.{all_append}
 use Rattle.nd_value.proofs.DeferralBridge.{some_before}
 use Rattle.nd_grammar.specs.LegalSide.{IsLegalSide}
 use Rattle.nd_grammar.proofs.LegalSides.{laid_out}
@@ -28,8 +27,8 @@ use Rattle.nd_grammar.proofs.conforming.GoodEntries.{HoldsNoPipe}
 use Rattle.nd_grammar.proofs.conforming.GoodTrees.{GoodTrees, good_roots}
 use Rattle.nd_grammar.proofs.conforming.GoodStream.{StandsGood, DueGood, standing_due, pending_cell, root_good, roots_due}
 use Rattle.nd_grammar.proofs.legal.LegalPipes.{holds_no_pipe, plain_before}
-use Rattle.nd_grammar.proofs.legal.LegalReadable.{Known}
-use Rattle.nd_grammar.proofs.legal.LegalUsable.{Usable, usable_readable, element_usable}
+use Rattle.nd_grammar.specs.ReaderState.{Known, Usable}
+use Rattle.nd_grammar.proofs.legal.LegalUsable.{usable_readable, element_usable}
 use Rattle.nd_grammar.proofs.reader.ReaderInPlace.{Readable}
 use Rattle.ndr_encoder_laws.specs.pieces.Heads.{standings}
 use Rattle.ndr_encoder_laws.specs.written.Shaped.{Shaped}

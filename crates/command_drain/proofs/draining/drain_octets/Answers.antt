@@ -39,7 +39,8 @@ returns-in_err-text-clause-refused g c o there =
     let e = ends_over g.E.PipeEnd.seen c.args.ends.now c.drain.new.ends in
     let q = option_map (λ f. f.now.graph) c.args.given in
     let d = c.in_ok-drained.drained in
-    rw (p.1, p.2) (no_text s u e (setting_beside c.args.interface.now o c.args.side q) c.args.order d.taken d.fit.graph (c.in_ok-drained.ensures.taken o there) refl)
+    rw (p.1, p.2) (no_text s u e (setting_beside c.args.interface.now o c.args.side q) c.args.order d.taken d.fit.graph (c.in_ok-drained.ensures.taken o there) refl
+    c.in_ok-end.ensures.ended)
 
 pub returns-clause-printed : goal.returns-clause-printed
 returns-clause-printed g c o there =

@@ -11,7 +11,7 @@ encode_with-requires-clause-made c = (c.args.chunk, c.in_ok-work.ensures.made)
 pub returns-in_err-work-clause-refused : goal.returns-in_err-work-clause-refused
 returns-in_err-work-clause-refused c o there =
     let p = err_from_is_err_and c.from_residual-in_err-work.result c.from_residual-in_err-work.ensures.1 in
-    rw (p.1, p.2) (cause_is c.args.fit.now c.args.interface.now c.requires.tied c.args.chunk o there c.flat-conforming.ensures.conforms _ c.in_err-work.ensures.refused)
+    rw (p.1, p.2) (cause_is c.args.fit.now c.args.interface.now c.requires.tied c.args.chunk o there _ c.in_err-work.ensures.refused)
 
 pub returns-clause-written : goal.returns-clause-written
 returns-clause-written c o there =

@@ -2,7 +2,7 @@ use Rattle.std.proofs.Common.{◌≡◌, ◌<◌, ◌-◌, refl, sym, subst, ari
 use Rattle.nd_base.specs.Over.{source_seen}
 use Rattle.ndr_decoder_state.specs.Notes.{notes_seen}
 use Rattle.ndr_decoder_state.specs.Seen.{state_of}
-use Rattle.ndr_decoder_laws.specs.verdict.Verdict.{decoding_seen}
+use Rattle.nd_grammar.specs.decoded.Verdict.{decoding_seen}
 use Rattle.ndr_decoder_laws.specs.stream.Report.{the_stream}
 use Rattle.ndr_decode.specs.Streaming.{FaultOf}
 use Rattle.ndr_decode.proofs.PipeTurns.{begun_fault, chunk_fault, chunk_faulty, chunk_none, chunk_room, chunk_safe, chunk_some, count_fault}

@@ -1,7 +1,7 @@
 use Rattle.std.proofs.Common.{◌++◌, refl, ap, sym, ◌∙◌, subst, arith, le_refl, le_trans}
 use Rattle.nd_base.specs.Over.{count, source_seen}
 use Rattle.nd_flat.specs.Building.{Building}
-use Rattle.ndr_decoder_laws.specs.verdict.Verdict.{decoding_seen}
+use Rattle.nd_grammar.specs.decoded.Verdict.{decoding_seen}
 use Rattle.ndr_decoder_laws.specs.stream.Report.{the_stream}
 use Rattle.ndr_decode.specs.Streaming.{FaultOf, Purpose}
 use Rattle.ndr_decode.proofs.PipeLoops.{chunk_due, pipe_begun, pipe_faulty, pipe_memory, turn_ends, turn_fault, turn_goes_on, turn_memory}

@@ -1,6 +1,6 @@
 use Rattle.std.proofs.Common.{◌≡◌, ◌≤◌, ◌+◌, ◌++◌, refl, ap, ◌∙◌, arith, le_refl, le_trans, length}
 use Rattle.nd_base.specs.Over.{count, source_seen}
-use Rattle.ndr_decoder_laws.specs.verdict.Verdict.{decoding_seen}
+use Rattle.nd_grammar.specs.decoded.Verdict.{decoding_seen}
 use Rattle.ndr_decode.proofs.PipesRead.{ends_faulty, few_numbers, first_number, line_calls, lines_done, next_before, next_fault, next_is, next_read, none_read, number_few, pipe_due, side_done, stream_ends}
 use Rattle.ndr_decode.proofs.chunks.read_pipes.Goals as goal
 

@@ -1,6 +1,6 @@
 use Rattle.std.proofs.Common.{◌≡◌, ◌≤◌}
 use Rattle.nd_base.specs.Over.{source_seen}
-use Rattle.ndr_decoder_laws.specs.verdict.Verdict.{decoding_seen}
+use Rattle.nd_grammar.specs.decoded.Verdict.{decoding_seen}
 use Rattle.ndr_decode.specs.Streaming.{purpose_of}
 use Rattle.ndr_decode.proofs.PipesRead.{PipesGoOn}
 use Rattle.ndr_decode.proofs.chunks.read_pipes.Given as goal

@@ -5,7 +5,7 @@ use Rattle.nd_types.specs.declared.types.Operation.{Operation}
 use Rattle.nd_value.proofs.FewRoots.{item_at}
 use Rattle.nd_value.specs.Fitting.{setting_beside}
 use Rattle.ndr_decoder_state.specs.declared.fault.DecodeFault.TheVariants as fault
-use Rattle.ndr_decoder_laws.specs.verdict.Verdict.{decoding_seen}
+use Rattle.nd_grammar.specs.decoded.Verdict.{decoding_seen}
 use Rattle.ndr_decode.specs.Decoding.{IsFault}
 use Rattle.ndr_decode.specs.Streaming.{cells_of}
 use Rattle.ndr_decode.proofs.Decodes as call

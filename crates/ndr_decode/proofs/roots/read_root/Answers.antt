@@ -1,6 +1,6 @@
 use Rattle.nd_base.specs.Over.{source_seen}
 use Rattle.ndr_code.specs.declared.instr.Instr.TheVariants as op
-use Rattle.ndr_decoder_laws.specs.verdict.Verdict.{decoding_seen}
+use Rattle.nd_grammar.specs.decoded.Verdict.{decoding_seen}
 use Rattle.ndr_decode.proofs.RootForms.{at_it, no_other, reads_it}
 use Rattle.ndr_decode.proofs.roots.read_root.Goals as goal
 

@@ -1,6 +1,6 @@
 use Rattle.std.proofs.Common.{◌≡◌, ◌≤◌}
 use Rattle.nd_base.specs.Over.{source_seen}
-use Rattle.ndr_decoder_laws.specs.verdict.Verdict.{decoding_seen}
+use Rattle.nd_grammar.specs.decoded.Verdict.{decoding_seen}
 use Rattle.ndr_decode.specs.Streaming.{cells_of, purpose_of}
 use Rattle.ndr_decode.proofs.RootTurns.{AllRest}
 use Rattle.ndr_decode.proofs.roots.read_roots.Given as goal

@@ -1,6 +1,6 @@
 use Rattle.std.proofs.Common.{◌++◌, refl, subst}
 use Rattle.nd_base.specs.Over.{source_seen}
-use Rattle.ndr_decoder_laws.specs.verdict.Verdict.{decoding_seen}
+use Rattle.nd_grammar.specs.decoded.Verdict.{decoding_seen}
 use Rattle.ndr_decoder_chunks.specs.Chunks.{Counts}
 use Rattle.ndr_decoder_chunks.proofs.Alone.{gap_stopped_alone, told_both}
 use Rattle.ndr_decoder_chunks.proofs.Twice.{cells_stay, counted_then, stopped_first}

@@ -4,7 +4,7 @@ use mir.Val.{SFits, of_z, to_z}
 use mir.Syntax.{w128}
 use Rattle.nd_base.specs.Over.{source_seen}
 use Rattle.nd_types.specs.Number.{unsigned}
-use Rattle.ndr_decoder_laws.specs.verdict.Verdict.{decoding_seen}
+use Rattle.nd_grammar.specs.decoded.Verdict.{decoding_seen}
 use Rattle.ndr_decoder_chunks.proofs.Alone.{count_memory_stop, count_pass, count_stop}
 use Rattle.ndr_decoder_chunks.proofs.Counting.{count_stops, count_gives_up, count_read}
 use Rattle.ndr_decoder_chunks.proofs.counts.pass_count.Goals as goal

@@ -2,7 +2,7 @@ use Rattle.std.proofs.Common.{ap, ◌+◌, ◌≡◌, length, refl, subst}
 use Rattle.nd_base.specs.Over.{source_seen}
 use Rattle.ndr_decoder_state.specs.Notes.{all_noted}
 use Rattle.ndr_decoder_laws.specs.steps.StepItems.{gap_items}
-use Rattle.ndr_decoder_laws.specs.verdict.Verdict.{decoding_seen}
+use Rattle.nd_grammar.specs.decoded.Verdict.{decoding_seen}
 use Rattle.ndr_decoder_chunks.proofs.Alone.{gap_memory_stop, gap_pass, gap_stop}
 use Rattle.ndr_decoder_chunks.proofs.Counting.{gap_stops, gap_gives_up, gap_read}
 use Rattle.ndr_decoder_chunks.proofs.counts.pass_gap.Goals as goal

@@ -1,7 +1,7 @@
 use Rattle.std.proofs.Common.{ap, subst}
 use Rattle.nd_base.specs.Over.{source_seen}
 use Rattle.nd_value.proofs.FewRoots.{item_at}
-use Rattle.ndr_decoder_laws.specs.verdict.Verdict.{decoding_seen}
+use Rattle.nd_grammar.specs.decoded.Verdict.{decoding_seen}
 use Rattle.ndr_pipe.specs.Seen.{ends_seen}
 use Rattle.ndr_drain_reader.specs.Calls.{IsAnswered}
 use Rattle.ndr_drain_reader.specs.Seen.{intake_seen, setting_in}

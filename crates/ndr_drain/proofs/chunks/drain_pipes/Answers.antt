@@ -4,7 +4,7 @@ use Rattle.nd_base.specs.Over.{source_seen}
 use Rattle.nd_value.specs.Deferral.{before_pipes}
 use Rattle.nd_value.specs.Setting.{root_list}
 use Rattle.nd_value.proofs.FewRoots.{item_at}
-use Rattle.ndr_decoder_laws.specs.verdict.Verdict.{decoding_seen}
+use Rattle.nd_grammar.specs.decoded.Verdict.{decoding_seen}
 use Rattle.ndr_drain_laws.specs.parts.Parts.{elem_at}
 use Rattle.ndr_pipe.specs.Ends.{ends_over}
 use Rattle.ndr_pipe.specs.Seen.{ends_seen}

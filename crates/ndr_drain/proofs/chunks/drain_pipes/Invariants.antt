@@ -1,7 +1,7 @@
 use Rattle.std.proofs.Common.{◌≡◌, ◌≤◌, ◌-◌}
 use Rattle.nd_base.specs.declared.TheConstants.{STREAM_LIMIT}
 use Rattle.nd_base.specs.Over.{source_seen}
-use Rattle.ndr_decoder_laws.specs.verdict.Verdict.{decoding_seen}
+use Rattle.nd_grammar.specs.decoded.Verdict.{decoding_seen}
 use Rattle.ndr_pipe.specs.Ends.{ends_over}
 use Rattle.ndr_drain_reader.specs.Ready.{IsReady}
 use Rattle.ndr_drain_reader.specs.Seen.{intake_seen, moved_to}

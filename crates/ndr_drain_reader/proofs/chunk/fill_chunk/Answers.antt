@@ -2,7 +2,7 @@ use Rattle.std.proofs.Common.{◌-◌, refl, subst, sym}
 use Rattle.nd_base.specs.Over.{source_seen}
 use Rattle.ndr_decoder_state.specs.Notes.{notes_seen}
 use Rattle.ndr_decoder_state.specs.Seen.{state_of}
-use Rattle.ndr_decoder_laws.specs.verdict.Verdict.{decoding_seen}
+use Rattle.nd_grammar.specs.decoded.Verdict.{decoding_seen}
 use Rattle.ndr_drain_reader.specs.Chunks.{FillsNot, FilledWhole}
 use Rattle.ndr_drain_reader.proofs.Headers.{filled_none, handed_fault, stopped_there}
 use Rattle.ndr_drain_reader.proofs.Runs.{begun_part, chunk_safe, fault_comes, filled, some_is}

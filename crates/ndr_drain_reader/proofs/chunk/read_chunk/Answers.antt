@@ -5,7 +5,7 @@ use Rattle.nd_types.specs.declared.types.Operation.{Operation}
 use Rattle.nd_value.specs.Tree.{node_count, trees}
 use Rattle.ndr_decoder_state.specs.declared.fault.DecodeFault.{DecodeFault}
 use Rattle.ndr_decoder_state.specs.declared.fault.DecodeFault.TheVariants as fault
-use Rattle.ndr_decoder_laws.specs.verdict.Verdict.{decoding_seen}
+use Rattle.nd_grammar.specs.decoded.Verdict.{decoding_seen}
 use Rattle.ndr_decode.proofs.Decodes.{handed_on}
 use Rattle.ndr_decode.proofs.Standing.{idle_log, idle_source}
 use Rattle.ndr_drain_reader.specs.Calls.{IsChunkCause}

@@ -1,7 +1,7 @@
 use Rattle.std.proofs.Common.{◌^◌, ◌-◌, min, ap, ◌∙◌}
 use Rattle.nd_base.specs.Over.{source_seen}
 use Rattle.nd_base.specs.declared.ledger.Counted.{Counted}
-use Rattle.ndr_decoder_laws.specs.verdict.Verdict.{decoding_seen}
+use Rattle.nd_grammar.specs.decoded.Verdict.{decoding_seen}
 use Rattle.ndr_drain_reader.proofs.Taken.{handed_all, handed_part, taken_memory}
 use Rattle.ndr_drain_reader.proofs.chunk.take_chunk.Goals as goal
 

@@ -1,5 +1,5 @@
 use Rattle.std.proofs.Common.{◌≡◌, map, take}
-use Rattle.ndr_decoder_laws.specs.verdict.Verdict.{with_items}
+use Rattle.nd_grammar.specs.decoded.Verdict.{with_items}
 use Rattle.ndr_drain_laws.specs.reader.PartReader.{moved_item}
 use Rattle.ndr_drain_reader.proofs.handing.hand_on.Given as goal
 

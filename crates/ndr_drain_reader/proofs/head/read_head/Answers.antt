@@ -7,7 +7,7 @@ use Rattle.nd_value.specs.Fitting.{setting_beside}
 use Rattle.nd_value.specs.declared.value.Graph.{Graph}
 use Rattle.nd_flat.specs.Building.{closed}
 use Rattle.ndr_decoder_state.specs.declared.fault.DecodeFault.TheVariants as fault
-use Rattle.ndr_decoder_laws.specs.verdict.Verdict.{decoding_seen}
+use Rattle.nd_grammar.specs.decoded.Verdict.{decoding_seen}
 use Rattle.ndr_decoder_pending.proofs.Opened.{closed_length}
 use Rattle.ndr_decode.specs.Streaming.{Purpose, cells_of}
 use Rattle.ndr_decode.proofs.Decodes as call

@@ -3,7 +3,7 @@ use Rattle.nd_base.specs.Over.{source_seen}
 use Rattle.nd_value.proofs.FewRoots.{item_at}
 use Rattle.nd_value.specs.Fitting.{setting_beside}
 use Rattle.ndr_decoder_state.specs.declared.fault.DecodeFault.TheVariants.{ReadFault}
-use Rattle.ndr_decoder_laws.specs.verdict.Verdict.{decoding_seen}
+use Rattle.nd_grammar.specs.decoded.Verdict.{decoding_seen}
 use Rattle.ndr_decode.proofs.Decodes.{same_fault}
 use Rattle.ndr_drain_reader.proofs.HeadCalls.{risen}
 use Rattle.ndr_drain_reader.proofs.intake.Intake.head.Goals as goal

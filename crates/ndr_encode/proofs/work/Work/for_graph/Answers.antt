@@ -1,7 +1,7 @@
 use Rattle.std.proofs.Common.{ℕ, ◌+◌, length, ap, ap₂, ◌∙◌}
 use Rattle.nd_value.specs.declared.value.Graph.{Graph}
 use Rattle.ndr_encode.specs.Making.{stream_of}
-use Rattle.ndr_encode.proofs.Made.{order, has_stream, line_of, next_of, begins_roots, homes_over, work_answer, too_long}
+use Rattle.ndr_encode.proofs.Made.{order, has_stream, line_of, next_of, begins_roots, homes_over, length_answer, work_answer, too_long}
 use Rattle.ndr_encode.proofs.work.Work.for_graph.Goals as goal
 
 pub roots-requires-clause-begins : goal.roots-requires-clause-begins
@@ -48,6 +48,9 @@ returns-clause-made c =
     let taken = c.in_ok-next.ensures.taken h c.in_ok-search.ensures.pending begins in
     let over = homes_over p.code c.args.chunk f.graph (stream_of f fit.operation (order p f c.requires.tied c.args.chunk c.requires.some fit).0) c.roots.new.search taken.0 taken.1 in
     work_answer p f c.requires.tied c.args.chunk c.requires.some fit c.pipes.new.search (c.in_ok-pipes.ensures.taken h over) c.finish.result c.finish.ensures.made c.finish.ensures.within
+
+pub returns-clause-length : goal.returns-clause-length
+returns-clause-length c = length_answer c.args.fit.now c.args.chunk c.flat-flat.ensures.conforms c.finish.result (returns-clause-made c)
 
 pub returns-clause-long : goal.returns-clause-long
 returns-clause-long c n e =

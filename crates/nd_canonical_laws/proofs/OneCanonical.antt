@@ -10,8 +10,8 @@ use Rattle.nd_value.specs.Canon.{IsCanon}
 use Rattle.nd_value.specs.Conforms.{Conforms}
 use Rattle.nd_value.specs.Same.{Same, renumbered}
 use Rattle.nd_grammar.specs.LegalSide.{IsLegalSide}
-use Rattle.text_laws.proofs.Images.{first_tree, rest_trees, came_from, goes_to, carried_on}
-use Rattle.text_laws.proofs.CarriedNumbers.{numbers_alike}
+use Rattle.nd_canonical_laws.proofs.Images.{first_tree, rest_trees, came_from, goes_to, carried_on}
+use Rattle.nd_canonical_laws.proofs.CarriedNumbers.{numbers_alike}
 
 same_trees : (xs ys : List Tree) → trees xs ≡ trees ys → xs ≡ ys
 same_trees [] [] e = refl

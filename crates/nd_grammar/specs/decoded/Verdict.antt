@@ -147,3 +147,11 @@ pub record IsRefused (w : Setting) (order : Order) (s : SourceSeen) (place : ℕ
   -- no first part of them represents a graph that conforms
   pub no_graph : (more : List ℕ) → MayFollow why more → (part rest : List ℕ) → fetched ++ more ≡ part ++ rest → (g : Graph) → Conforms w g
       → Represents w order part g → ⊥
+
+-- ## Octets that the source did not give
+
+-- Reading was cut off by the source, and the octets that were fetched are cut short where they end: the next entry lacks some of its own.
+pub record IsUnread (w : Setting) (order : Order) (s : SourceSeen) (t : DecodingSeen) : Type 0 where
+  pub cut : IsCutOff w order s t
+  pub short : Bad w order cut.fetched (length cut.fetched) reason.Truncated
+  pub as_far : short.earlier ≡ cut.earlier

@@ -1,21 +1,16 @@
 -- How many octets are chosen for a graph.
 -- `ps` are pieces, `num` is a numbering of cells.
-use Rattle.std.proofs.Common.{◌≡◌, ◌∙◌, ℕ, zero, suc, ◌+◌, ◌<◌, List, [], ◌∷◌, ◌++◌, length, drop, Option, Some, refl, inl, inr, sym, ap, arith, length-append}
-use Rattle.std.specs.List.{slice_get, AllByRecursion}
+use Rattle.std.proofs.Common.{◌≡◌, ◌∙◌, ℕ, ◌+◌, ◌<◌, List, [], ◌∷◌, ◌++◌, length, drop, sym, ap, arith, length-append}
+use Rattle.std.specs.List.{AllByRecursion}
 use Rattle.std.proofs.lemmas.List.{length-replicate}
-use Rattle.std.proofs.lemmas.Option.{same_Some}
 use Rattle.nd_base.specs.declared.octets.Order.{Order}
-use Rattle.nd_types.specs.declared.interface.Interface.{Interface}
-use Rattle.nd_types.specs.declared.types.Operation.{Operation}
-use Rattle.nd_types.specs.declared.types.Side.{Side}
 use Rattle.nd_types.specs.Number.{spelling}
 use Rattle.nd_types.proofs.NumberLaws.{spelling-length, written-length}
 use Rattle.nd_value.specs.declared.value.Graph.{Graph}
 use Rattle.nd_value.specs.Canon.{canonical_number, named_cells}
 use Rattle.nd_value.specs.Conforms.{Conforms}
 use Rattle.nd_value.specs.Deferral.{Step, Deferral, due_roots, before_pipes}
-use Rattle.nd_value.specs.Fitting.{setting_beside}
-use Rattle.nd_value.specs.Setting.{Setting, Among, root_list}
+use Rattle.nd_value.specs.Setting.{Setting, root_list}
 use Rattle.nd_value.proofs.DeferralLaws.{one_order}
 use Rattle.nd_grammar.specs.Chosen.{Chosen, pipe_cuts, number_of_cell}
 use Rattle.nd_grammar.specs.Entry.{end_of, gap, Context}
@@ -66,13 +61,3 @@ module _ (w : Setting) (side : IsLegalSide w) (g : Graph) (c : Conforms w g) (or
   -- they end where the stream ends
   pub chosen_length : (steps : List Step) → Deferral w g [] (due_roots 0 (before_pipes (root_list w))) steps → length octets ≡ the_end steps
   chosen_length steps d = own_end ∙ ap the_end (one_order w g o.deferral d)
-
--- an item of a list is among its items
-among_at : {X : Type 0} (xs : List X) (n : ℕ) (x : X) → slice_get xs n ≡ Some x → Among xs x
-among_at [] n x e = cc
-among_at (y ∷ xs) zero x e = inl (sym (same_Some _ _ e))
-among_at (y ∷ xs) (suc n) x e = inr (among_at xs n x e)
-
--- a side of an operation of an interface is legal
-pub legal_side : (i : Interface) (n : ℕ) (o : Operation) (s : Side) (q : Option Graph) → slice_get i.operations n ≡ Some o → IsLegalSide (setting_beside i o s q)
-legal_side i n o s q there = record { operations = i.operations; legal = i.legal; operation = among_at i.operations n o there }

@@ -1,0 +1,129 @@
+-- The checks of a fragment, in their order.
+-- `s` is what stands before the fragment, `os` are the octets from its first on, to the end of the stream.
+use Rattle.std.specs.Prelude.{ℕ, ◌+◌, ◌-◌, Bool, true, false, eqb, ltb, not, ◌&&◌, List, [], ◌∷◌, ◌++◌, length, Option, Some, None, Result, Ok, Err}
+use Rattle.nd_base.specs.declared.TheConstants.{STREAM_LIMIT}
+use Rattle.nd_base.specs.declared.octets.Order.{Order}
+use Rattle.nd_base.specs.declared.octets.Order.TheVariants.{Big, Little}
+use Rattle.ndr_prim.specs.declared.label.LabelFault.{LabelFault}
+use Rattle.ndr_prim.specs.Label.{order_of_label}
+use Rattle.rpc_pdu.specs.declared.pdu.Wanted.{Wanted}
+use Rattle.rpc_pdu.specs.declared.pdu.Opening.{Opening}
+use Rattle.rpc_pdu.specs.declared.pdu.PduReason.{PduReason}
+use Rattle.rpc_pdu.specs.declared.pdu.PduReason.TheVariants as why
+use Rattle.rpc_pdu.specs.Fields.{version, pdu_type, is_first, is_last, label, order_of, fragment_length, authentication_length, call_id, type_of}
+use Rattle.rpc_pdu.specs.Fields.{header_length, operation_of, part_length, part_of, opening_of}
+
+-- What stands before a fragment: what the first fragment states, if there is one, the octets and the stub data so far.
+pub record Before : Type 0 where
+  pub opening : Option Opening
+  pub at : ℕ
+  pub stub : List ℕ
+
+-- before the first
+abbrev pub nothing : Before
+nothing = record { opening = None; at = 0; stub = [] }
+
+abbrev pub before : Option Opening → ℕ → List ℕ → Before
+before opening at stub = record { opening = opening; at = at; stub = stub }
+
+-- what is stated is that of the first fragment
+abbrev pub opened : Option Opening → Opening → Opening
+opened None own = own
+opened (Some first) own = first
+
+-- what stands before the next
+abbrev pub after : Wanted → Before → List ℕ → Before
+after want s os = record {
+  opening = Some (opened s.opening (opening_of want os));
+  at = s.at + fragment_length os;
+  stub = s.stub ++ part_of want os;
+}
+
+-- one check: whether it fails, and the place and reason that are answered then
+pub record Check : Type 0 where
+  pub fails : Bool
+  pub place : ℕ
+  pub why : PduReason
+
+abbrev pub check : Bool → ℕ → PduReason → Check
+check fails place why = record { fails = fails; place = place; why = why }
+
+abbrev pub first_failing : List Check → Option (ℕ × PduReason)
+first_failing [] = None
+first_failing (c ∷ cs) = elim c.fails [ true ↦ Some (c.place, c.why) | false ↦ first_failing cs ]
+
+abbrev pub is_refused : Result Order LabelFault → Bool
+is_refused (Ok order) = false
+is_refused (Err fault) = true
+
+abbrev pub same_order : Order → Order → Bool
+same_order Big Big = true
+same_order Little Little = true
+same_order Big Little = false
+same_order Little Big = false
+
+-- whether a flag of a first fragment is where it should not be, or is not where it should be
+abbrev pub wrong_first : Option Opening → Bool → Bool
+wrong_first None first = not first
+wrong_first (Some o) first = first
+
+-- whether a fragment states something else than the first
+abbrev pub other_order : Option Opening → Order → Bool
+other_order None order = false
+other_order (Some o) order = not (same_order o.order order)
+
+abbrev pub other_call : Option Opening → ℕ → Bool
+other_call None call = false
+other_call (Some o) call = not (eqb o.call call)
+
+abbrev pub differ : Option ℕ → Option ℕ → Bool
+differ (Some n) (Some m) = not (eqb n m)
+differ _ _ = false
+
+abbrev pub other_operation : Option Opening → Option ℕ → Bool
+other_operation None operation = false
+other_operation (Some o) operation = differ o.opnum operation
+
+-- all octets that a header or fragment of this length has are there
+abbrev pub is_short : Before → ℕ → List ℕ → Check
+is_short s wide os = check (ltb (length os) wide) (s.at + length os) why.Short
+
+-- the checks of the header that all PDUs have
+abbrev pub common_checks : Wanted → Before → List ℕ → List Check
+common_checks want s os =
+    check (not (eqb (version os) 5)) s.at why.Version
+    ∷ check (not (eqb (pdu_type os) (type_of want))) (s.at + 2) why.Kind
+    ∷ check (wrong_first s.opening (is_first os)) (s.at + 3) why.Flags
+    ∷ check (is_refused (order_of_label (label os))) (s.at + 4) why.Label
+    ∷ check (other_order s.opening (order_of os)) (s.at + 4) why.OtherOrder
+    ∷ check (ltb (fragment_length os) (header_length want os)) (s.at + 8) why.Length
+    ∷ check (not (eqb (authentication_length os) 0)) (s.at + 10) why.Auth
+    ∷ check (other_call s.opening (call_id os)) (s.at + 12) why.OtherCall
+    ∷ []
+
+-- the checks of the whole header: by how many octets the stub data have so far, the operation number, how many octets of stub data the fragment has,
+-- and
+-- whether it is the last
+abbrev pub whole_by : Option Opening → ℕ → ℕ → Option ℕ → ℕ → Bool → List Check
+whole_by opening at so_far operation part last =
+    check (other_operation opening operation) (at + 22) why.OtherOperation
+    ∷ check (eqb part 0 && not last) (at + 8) why.EmptyPiece
+    ∷ check (ltb STREAM_LIMIT (so_far + part)) (at + 8) why.StubLong
+    ∷ []
+
+abbrev pub whole_checks : Wanted → Before → List ℕ → List Check
+whole_checks want s os = whole_by s.opening s.at (length s.stub) (operation_of want os) (part_length want os) (is_last os)
+
+-- all checks
+abbrev pub checks : Wanted → Before → List ℕ → List Check
+checks want s os =
+    is_short s 16 os
+    ∷ (common_checks want s os
+    ++ (is_short s (header_length want os) os
+    ∷ (whole_checks want s os
+    ++ (is_short s (fragment_length os) os
+    ∷ []))))
+
+-- the place and reason of the first check that fails
+abbrev pub refusal : Wanted → Before → List ℕ → Option (ℕ × PduReason)
+refusal want s os = first_failing (checks want s os)

@@ -1,0 +1,34 @@
+// A request of 16 octets of stub data, in one fragment and in two.
+use crate::{Head, PduFault, PduReason, Wanted, join, split};
+use nd_base::{MemSource, Order};
+use std::test::Fail;
+
+const STUB: [u8; 16] = [1, 0, 0, 0, 2, 0, 0, 0, 3, 0, 0, 0, 0, 0, 0, 0];
+
+const WHOLE: [u8; 40] = [
+    5, 0, 0, 3, 16, 0, 0, 0, 40, 0, 0, 0, 7, 0, 0, 0, 16, 0, 0, 0, 0, 0, 0, 0, 1, 0, 0, 0, 2, 0, 0,
+    0, 3, 0, 0, 0, 0, 0, 0, 0,
+];
+
+const TWO: [u8; 64] = [
+    5, 0, 0, 1, 16, 0, 0, 0, 29, 0, 0, 0, 7, 0, 0, 0, 16, 0, 0, 0, 0, 0, 0, 0, 1, 0, 0, 0, 2, 5, 0,
+    0, 2, 16, 0, 0, 0, 35, 0, 0, 0, 7, 0, 0, 0, 16, 0, 0, 0, 0, 0, 0, 0, 0, 0, 0, 3, 0, 0, 0, 0, 0,
+    0, 0,
+];
+
+#[test]
+fn stub_data_are_split(rt: HostRuntime) -> Result<(), Fail> {
+    let head = Head::Request { opnum: 0 };
+    let octets = split(rt.alloc(), Order::Little, head, 7, 1024, &STUB)?;
+    assert_eq!(rt; octets.as_slice(), WHOLE.as_slice());
+    Ok(())
+}
+
+#[test]
+fn fragments_are_joined(rt: HostRuntime) -> Result<(), Fail> {
+    let mut source = MemSource::new(rt.alloc(), &TWO, 7, &[])?;
+    let joined = join(rt.alloc(), Wanted::Request, &mut source)?;
+    assert_eq!(rt; joined.stub.as_slice(), STUB.as_slice());
+    assert!(rt; joined.call == 7 && joined.opnum == Some(0) && joined.taken == 64);
+    Ok(())
+}
