@@ -5,6 +5,5 @@ pub mod Judged
 pub mod AcfWithin
 pub mod OneFile
 pub mod OneAcf
-pub mod OneWalk
 pub mod OneMeaning
 pub mod OneInterface
