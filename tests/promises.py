@@ -1,12 +1,16 @@
 #!/usr/bin/env python3
-"""Checks that docs/PROMISES.md speaks of what is in the sources.
+"""Checks that docs/PROMISES.md speaks of what is in the sources, and lists what each crate promises.
 
-    tests/promises.py      prints what is wrong, a line each; the status is 1 where something is
+    tests/promises.py             prints what is wrong with the page, a line each; the status is 1 where something is
+    tests/promises.py --list      prints each public function with the names of its clauses, and each must-fail edit, crate by crate
+    tests/promises.py --list NAME ..    only of these crates
 
-Each row of its tables names functions with clauses, must-fail edits and a state; docs/PROMISES.md says in which form.
-Checked is that the crate is listed and there, that the function is in its sources, that the clause is in the function's
-signature (or in its trait's, if a method of an `impl` has no clause), that each edit is a file, and that each must-fail
-edit of the repository is named by a row. Whether a clause says what the row says, only a reader can see.
+A row of the page has a promise, functions with clauses, must-fail edits and what is not promised. Functions are written `crate: function, clause`: a
+method as `Type::method` or `Trait::method`, and where several modules have a function of one name `module::function`. The clause is an `ensures` or
+`requires` by its name, or that word where the only one has no name; of an invariant `crate: Type, name` names the ghost member. An edit is `NAME` for the
+crate that the row names first, and `CRATE/NAME` for another. Checked is that the crate is listed and there, that the function is in its sources, that the
+clause is in the function's signature (or in its trait's, if a method of an `impl` has no clause), and that each edit is a file. Whether a clause says what
+the row says, only a reader can see.
 """
 
 from __future__ import annotations
@@ -20,8 +24,8 @@ from typing import Dict, Iterator, List, Optional, Set, Tuple
 sys.dont_write_bytecode = True
 
 ROOT = Path(__file__).resolve().parent.parent
-HEADER = ["Promise", "Function and clause", "Must-fail edits", "State"]
-STATES = ("proved", "tested", "open")
+HEADER = ["Promise", "Function and clause", "Must-fail edits", "Not promised"]
+MOST_WORDS = 2500
 SPAN = re.compile(r"`([^`]+)`")
 PLACE = re.compile(r"(?P<crate>\w+): (?P<function>\w+(?:::\w+)?)(?:, (?P<clause>\w+))?")
 
@@ -36,6 +40,7 @@ NO_CODE = re.compile(
 )
 BLOCK = re.compile(r"\b(?P<kind>impl|trait|struct|enum)\b(?P<head>[^;{}()]*?(?:\([^;{}]*?\)[^;{}]*?)?)\{")
 FUNCTION = re.compile(r"\bfn\s+(?P<name>\w+)")
+PUBLIC = re.compile(r"\bpub\s+(?:const\s+)?$")
 CLAUSE = re.compile(r"\b(?P<kind>requires|ensures|ghost)\*?\s*(?P<name>\w*)\s*:?\s*$")
 GHOST = re.compile(r"\bghost\s+(?P<name>\w+)\s*[:=]")
 
@@ -49,6 +54,7 @@ class Function:
     owner: Optional[str]  # the type or trait of its block
     trait: Optional[str]  # the trait that its block implements
     module: str
+    is_public: bool  # by its own word, or as a method of a trait
 
 
 @dataclass
@@ -120,11 +126,11 @@ def named(kind: str, head: str) -> Tuple[Optional[str], Optional[str]]:
     return last_name(of), last_name(trait)
 
 
-def blocks(code: str) -> Iterator[Tuple[Optional[str], Optional[str], int, int]]:
-    """The blocks of types, traits and impls: name, implemented trait, beginning and end."""
+def blocks(code: str) -> Iterator[Tuple[Optional[str], Optional[str], int, int, str]]:
+    """The blocks of types, traits and impls: name, implemented trait, beginning, end and kind."""
     for match in BLOCK.finditer(code):
         name, trait = named(match["kind"], match["head"])
-        yield name, trait, match.end() - 1, closing(code, match.end() - 1)
+        yield name, trait, match.end() - 1, closing(code, match.end() - 1), match["kind"]
 
 
 def read_source(path: Path, crate: Crate) -> None:
@@ -132,13 +138,14 @@ def read_source(path: Path, crate: Crate) -> None:
     code = code_of(path.read_text(encoding="utf-8"))
     around = list(blocks(code))
     crate.types.update(re.findall(r"\b(?:struct|enum|trait)\s+(\w+)", code))
-    for name, _, start, end in around:
+    for name, _, start, end, _ in around:
         crate.ghosts.update((name, ghost) for ghost in GHOST.findall(code[start:end]))
     for match in FUNCTION.finditer(code):
         inside = [block for block in around if block[2] < match.start() < block[3]]
         owner, trait = inside[-1][:2] if inside else (None, None)
         module = path.parent.name if path.stem == "mod" else path.stem
-        crate.functions.append(Function(match["name"], clauses_of(code, match.end()), owner, trait, module))
+        is_public = bool(PUBLIC.search(code[: match.start()])) or bool(trait) or bool(inside and inside[-1][4] == "trait")
+        crate.functions.append(Function(match["name"], clauses_of(code, match.end()), owner, trait, module, is_public))
 
 
 def read_crates(root: Path) -> Dict[str, Crate]:
@@ -213,7 +220,7 @@ def clauses_of_trait(crates: Dict[str, Crate], method: Function) -> Set[str]:
     }
 
 
-def faults_of_place(crates: Dict[str, Crate], span: str, state: str) -> List[str]:
+def faults_of_place(crates: Dict[str, Crate], span: str) -> List[str]:
     """What is wrong with `CRATE: FUNCTION, CLAUSE`."""
     place = PLACE.fullmatch(span)
     if place is None:
@@ -225,7 +232,7 @@ def faults_of_place(crates: Dict[str, Crate], span: str, state: str) -> List[str
     if clauses is None:
         return [f"`{span}`: there is no {place['function']} in {place['crate']}"]
     if place["clause"] is None:
-        return [f"`{span}`: a proved promise needs a clause"] if state == "proved" else []
+        return [f"`{span}`: a promise needs a clause"]
     if place["clause"] not in clauses:
         return [f"`{span}`: there is no clause {place['clause']}, but {', '.join(sorted(clauses)) or 'none'}"]
     return []
@@ -240,13 +247,12 @@ def edits_of(row: Row) -> List[Tuple[str, str]]:
 
 def faults_of_row(crates: Dict[str, Crate], row: Row) -> List[str]:
     """What is wrong with a row."""
-    promise, places, edits, state = row.cells
+    promise, places, edits, _ = row.cells
     wrong = [] if promise else ["the promise is empty"]
-    wrong += [] if state in STATES else [f"the state {state!r} is none of {', '.join(STATES)}"]
     wrong += [] if spans(places) else ["the second cell is no list of `crate: function, clause`"]
     wrong += [] if spans(edits) is not None else ["the third cell is neither - nor a list of `edit`"]
     for span in spans(places) or []:
-        wrong += faults_of_place(crates, span, state)
+        wrong += faults_of_place(crates, span)
     for crate, name in edits_of(row):
         if crate not in crates or name not in crates[crate].edits:
             wrong.append(f"there is no file crates/{crate}/must-fail/{name}.edit")
@@ -258,19 +264,49 @@ def faults(root: Path = ROOT) -> List[str]:
     page = root / "docs" / "PROMISES.md"
     if not page.is_file():
         return ["there is no docs/PROMISES.md"]
+    text = page.read_text(encoding="utf-8")
     crates = read_crates(root)
-    rows, wrong = read_rows(page.read_text(encoding="utf-8"))
+    rows, wrong = read_rows(text)
     for row in rows:
         wrong += faults_of_row(crates, row)
-    named_edits = {edit for row in rows for edit in edits_of(row)}
-    for crate in crates:
-        for name in sorted(crates[crate].edits):
-            if (crate, name) not in named_edits:
-                wrong.append(f"no row names crates/{crate}/must-fail/{name}.edit")
-    return wrong
+    words = len(text.split())
+    return wrong + ([f"the page has {words} words, more than {MOST_WORDS}"] if words > MOST_WORDS else [])
+
+
+# ----------------------------------------------------------------------------------------------------------------------
+# The list
+
+
+def path_of(function: Function) -> str:
+    """A function as a row names it."""
+    return f"{function.owner or function.module}::{function.name}"
+
+
+def listed(crates: Dict[str, Crate], names: List[str], root: Path = ROOT) -> Iterator[str]:
+    """The lines of the list."""
+    for name in names:
+        yield f"{name}"
+        for function in crates[name].functions:
+            clauses = sorted(function.clauses or clauses_of_trait(crates, function))
+            if function.is_public and clauses:
+                yield f"  {path_of(function)}: {', '.join(clauses)}"
+        for edit in sorted(crates[name].edits):
+            yield f"  must fail: {edit}"
+        for path in sorted((root / "tests" / "edits" / name).glob("*.edit")):
+            yield f"  must fail, on demand: {path.stem}"
+
+
+def main(words: List[str]) -> int:
+    if words[:1] == ["--list"]:
+        crates = read_crates(ROOT)
+        unknown = [name for name in words[1:] if name not in crates]
+        print(*(f"there is no crate {name}" for name in unknown), sep="\n", end="\n" if unknown else "", file=sys.stderr)
+        print("\n".join(listed(crates, [name for name in crates if name in words[1:] or not words[1:]])))
+        return 1 if unknown else 0
+    found = faults()
+    print("\n".join(found) or "each row is in the sources")
+    return 1 if found else 0
 
 
 if __name__ == "__main__":
-    found = faults()
-    print("\n".join(found) or "each row is in the sources")
-    sys.exit(1 if found else 0)
+    sys.exit(main(sys.argv[1:]))

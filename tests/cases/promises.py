@@ -20,8 +20,8 @@ impl<'a, T: Into<u8>> Shape<'a> for Round<T> { fn area(&self) -> u8 { 1 } }
 fn helper() -> [u8; 3] ensures* starred { ⌜ ⊤ ⌝ } { prove!(true); }
 """
 
-ROW = "| It grows. | `low: Pile::grow, ok` | `shrinks` | proved |"
-HEAD = "| Promise | Function and clause | Must-fail edits | State |\n|---|---|---|---|\n"
+ROW = "| It grows. | `low: Pile::grow, ok` | `shrinks` | how fast |"
+HEAD = "| Promise | Function and clause | Must-fail edits | Not promised |\n|---|---|---|---|\n"
 
 GOOD = [
     ROW,
@@ -29,7 +29,7 @@ GOOD = [
     ROW.replace("`low: Pile::grow, ok`", "`low: Shape::area, ensures` `low: Round::area, ensures`"),
     ROW.replace("`low: Pile::grow, ok`", "`low: helper, starred` `low: lib::helper, starred`"),
     ROW.replace("`shrinks`", "`low/shrinks`"),
-    ROW.replace("`low: Pile::grow, ok`", "`low: Pile::grow`").replace("proved", "tested"),
+    ROW.replace("`shrinks`", "-").replace("how fast", ""),
 ]
 
 BAD = [
@@ -51,10 +51,9 @@ BAD = [
     (ROW.replace("`shrinks`", ""), "the third cell"),
     (ROW.replace("shrinks", "sleeps"), "there is no file crates/low/must-fail/sleeps.edit"),
     (ROW.replace("shrinks", "high/shrinks"), "there is no file crates/high/must-fail/shrinks.edit"),
-    (ROW.replace("`shrinks`", "-"), "no row names crates/low/must-fail/shrinks.edit"),
-    (ROW.replace("proved", "done"), "the state 'done'"),
     (ROW.replace("It grows.", ""), "the promise is empty"),
-    (ROW.replace("| proved ", ""), "a row has 3 cells"),
+    (ROW.replace("| how fast ", ""), "a row has 3 cells"),
+    (ROW.replace("how fast", "how fast " * 2500), "more than 2500"),
     ("", "there is no row"),
 ]
 
@@ -91,6 +90,6 @@ def unseen():
 
 
 CASES = [
-    Check("promises: each row is in the sources, and each must-fail edit in a row", promises.faults),
+    Check("promises: each row is in the sources", promises.faults),
     Check("promises: what is not in the sources is found", unseen),
 ]

@@ -1,6 +1,7 @@
 -- Nodes as they are kept, and what contracts see of them.
 -- `os` are the octets of all texts, `n` is a node or a number, `k` a number of children.
-use Rattle.std.specs.Prelude.{◌≡◌, ℕ, ◌+◌, ◌-◌, ◌^◌, ◌<◌, ◌≤◌, ◌≤ℤ◌, ℤ, pos, negsuc, Bool, true, false, List, [], ◌∷◌, length, take, drop, map, ◌++◌, ◌*◌, zero, suc, Some, None}
+use Rattle.std.specs.Prelude.{◌≡◌, ℕ, ◌+◌, ◌-◌, ◌^◌, ◌<◌, ◌≤◌, ◌≤ℤ◌, ℤ, pos, negsuc, Bool, true, false, List, [], ◌∷◌, length, take, drop, map, ◌++◌}
+use Rattle.std.specs.Prelude.{◌*◌, zero, suc, Some, None}
 use Rattle.std.specs.List.{AllByRecursion}
 use Rattle.nd_value.specs.Tree as tree
 use Rattle.nd_value.specs.Tree.{Flat, Label, Trees, node, none, more}
@@ -79,8 +80,8 @@ without_first k r = record { order = r.order; of = r.of; count = r.count - k; fr
 abbrev pub no_row : KeptRow
 no_row = record { order = Little; of = Byte; count = 0; from = 0 }
 
--- The same as it is kept: one node, except a row, which is as many as it has numbers, and structs of numbers, which are one each and one for each of their
--- members.
+-- The same as it is kept: one node, except a row, which is as many as it has numbers, and structs of numbers, which are one each and one for each of
+-- their members.
 abbrev pub seen_nodes : List ℕ → Node → List Flat
 seen_nodes os (kept.Num n) = (tree.Num (pos n), 0) ∷ []
 seen_nodes os (kept.Negative n) = (tree.Num (negsuc n), 0) ∷ []

@@ -1,6 +1,7 @@
--- Structs of numbers side by side, as the elements of an array are: each number begins at a multiple of its width from where its struct begins, and each
--- struct at a multiple of the width of its widest number.
--- `o` is an order, `p` a primitive, `ps` are the members of a struct by their primitives, `at` is a place in a struct, `n` a number of structs, `os` are octets.
+-- Structs of numbers side by side, as the elements of an array are: each number begins at a multiple of its width from where its struct begins, and
+-- each struct at a multiple of the width of its widest number.
+-- `o` is an order, `p` a primitive, `ps` are the members of a struct by their primitives, `at` is a place in a struct, `n` a number of structs, `os`
+-- are octets.
 use Rattle.std.specs.Prelude.{◌≡◌, ℕ, ◌+◌, ◌-◌, ◌*◌, ◌%◌, ◌<◌, ◌≤◌, zero, suc, ℤ, max, List, [], ◌∷◌, ◌++◌, length, take, drop, get_or}
 use Rattle.nd_base.specs.declared.octets.Order.{Order}
 use Rattle.nd_base.specs.declared.octets.Order.TheVariants.{Little}
@@ -49,7 +50,8 @@ records_len ps (suc n) = n * stride ps + end_from 0 ps
 -- the nodes of members of which the first comes next after a place; `os` are the octets from where the struct begins on
 abbrev pub member_flats : Order → ℕ → List Primitive → List ℕ → List Flat
 member_flats o at [] os = []
-member_flats o at (p ∷ ps) os = (tree.Num (value_of_octets o p (take (width p) (drop (place at p) os))), 0) ∷ member_flats o (place at p + width p) ps os
+member_flats o at (p ∷ ps) os =
+    (tree.Num (value_of_octets o p (take (width p) (drop (place at p) os))), 0) ∷ member_flats o (place at p + width p) ps os
 
 -- the nodes of so many structs, one for each struct and one for each of its members
 abbrev pub records_flats : Order → List Primitive → ℕ → List ℕ → List Flat

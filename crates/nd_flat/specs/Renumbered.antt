@@ -26,4 +26,5 @@ renumbered_graph numbers cells g = record {
 
 -- the same of a fit
 abbrev pub renumbered_fitting : List ℕ → List ℕ → Fitting → Fitting
-renumbered_fitting numbers cells f = record { graph = renumbered_graph numbers cells f.graph; op = f.op; side = f.side; interface = f.interface; given = f.given }
+renumbered_fitting numbers cells f =
+    record { graph = renumbered_graph numbers cells f.graph; op = f.op; side = f.side; interface = f.interface; given = f.given }

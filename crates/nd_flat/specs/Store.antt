@@ -1,6 +1,7 @@
 -- A graph as it is kept, and as contracts see it.
 -- `os` are the octets of all texts, `ns` all nodes, `s` is a span, `c` a cell, `rs` are the spans of roots, `cs` those of cells.
-use Rattle.std.specs.Prelude.{◌≡◌, ◌⊎◌, ℕ, ◌+◌, ◌-◌, ◌<◌, ◌≤◌, ◌^◌, suc, zero, slice_set, List, [], ◌∷◌, length, take, drop, map, get_or, Option, Some, None}
+use Rattle.std.specs.Prelude.{◌≡◌, ◌⊎◌, ℕ, ◌+◌, ◌-◌, ◌<◌, ◌≤◌, ◌^◌, suc, zero, slice_set, List, [], ◌∷◌, length, take, drop, map, get_or, Option}
+use Rattle.std.specs.Prelude.{Some, None}
 use Rattle.std.specs.List.{AllByRecursion}
 use Rattle.nd_types.specs.declared.interface.Interface.{Interface}
 use Rattle.nd_types.specs.declared.types.Side.{Side}

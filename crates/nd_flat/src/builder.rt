@@ -4,7 +4,8 @@ ghost use Rattle.nd_value.specs.Setting.{unread, cell_home};
 ghost use Rattle.nd_value.specs.Tree.{Tree, Referent};
 ghost use Rattle.nd_value.specs.declared.item.Home.TheVariants as home;
 ghost use Rattle.nd_flat.specs.FlatForm.{flat_seen, seen_nodes, num_flats, row_numbers, HasOctets, IsKeepable, IsRow, text_of};
-ghost use Rattle.nd_flat.specs.Building.{CanClose, HasNoUnread, IsPipe, closed, opened, with_root, with_cell, with_node, with_nodes, with_numbers, with_graph, raised, fitting, start};
+ghost use Rattle.nd_flat.specs.Building.{CanClose, HasNoUnread, IsPipe, closed, opened, with_root, with_cell, with_node, with_nodes, with_numbers};
+ghost use Rattle.nd_flat.specs.Building.{with_graph, raised, fitting, start};
 ghost use Rattle.nd_flat.specs.Records.{IsRecords, all_records};
 ghost use Rattle.nd_value.specs.Fitting.{IsFit};
 ghost use Rattle.nd_value.specs.Request.{IsRequestOf};
@@ -183,8 +184,8 @@ impl Builder {
         Ok(())
     }
 
-    /// Makes room for so many nodes and cells more, where memory has it, so that the lists need not be moved as they grow. It is no promise: what is added
-    /// later may find no memory.
+    /// Makes room for so many nodes and cells more, where memory has it, so that the lists need not be moved as they grow. It is no promise: what is
+    /// added later may find no memory.
     pub fn make_room(&mut self, nodes: usize, cells: usize)
         ensures { self.new ≡ self.old }
     {

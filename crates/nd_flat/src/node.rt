@@ -2,7 +2,8 @@
 ghost use Rattle.std.specs.Prelude.{◌≡◌, ℕ, List, [], ◌∷◌, ◌++◌, ◌<◌, ◌≤◌, ◌*◌, ◌^◌, length, OnOk, OnErr, IfOk};
 ghost use Rattle.nd_value.specs.Tree as tree;
 ghost use Rattle.nd_value.specs.Seen.{cell_number};
-ghost use Rattle.nd_flat.specs.FlatForm.{seen_nodes, flat_seen, HasOctets, HasRow, after_first, row_flats, IsKeepable, IsKeepableNumber, text_of, armed_count, num_flats, row_numbers, IsRow};
+ghost use Rattle.nd_flat.specs.FlatForm.{seen_nodes, flat_seen, HasOctets, HasRow, after_first, row_flats, IsKeepable, IsKeepableNumber, text_of};
+ghost use Rattle.nd_flat.specs.FlatForm.{armed_count, num_flats, row_numbers, IsRow};
 ghost use Rattle.nd_flat.specs.Records.{HasLeft, IsRecords, records_left, all_records};
 
 use crate::records::{KeptRecords, RecordsLeft, begun};

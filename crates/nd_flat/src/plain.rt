@@ -12,8 +12,8 @@ use nd_value::CellId;
 use std::marker::Model;
 
 /// A walk over the nodes of values, depth first, that gives structs, numbers and pointers as they are kept one by one. Where anything else comes it
-/// does not move, and `walk` goes on. It has no state but the nodes that are left, so that short values are walked over fast. Contracts see the values
-/// that are left, as those of a walk do. It takes no memory.
+/// does not move, and `walk` goes on. It has no state but the nodes that are left, so that short values are walked over fast. Contracts see the
+/// values that are left, as those of a walk do. It takes no memory.
 #[derive(Drop)]
 pub struct PlainWalk<'a> {
     nodes: &'a [Node],
@@ -45,7 +45,8 @@ impl<'a> PlainWalk<'a> {
         PlainWalk { nodes, octets }
     }
 
-    /// The number of members of a struct, where it comes next as a node of its own. None says nothing of what comes next, and the walk has not moved. Takes no memory.
+    /// The number of members of a struct, where it comes next as a node of its own. None says nothing of what comes next, and the walk has not moved.
+    /// Takes no memory.
     #[inline(always)]
     pub fn members(&mut self) -> Option<u32>
         ensures some { IfSome result (λ k. flat self.old ≡ (tree.Rec, k) ∷ flat self.new) }

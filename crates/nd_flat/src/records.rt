@@ -1,9 +1,11 @@
-// Structs of numbers side by side, as the elements of an array are (C706, sections 14.3.2 and 14.3.6): each number begins at a multiple of its width from where its
-// struct begins, and each struct at a multiple of the width of its widest number.
+// Structs of numbers side by side, as the elements of an array are (C706, sections 14.3.2 and 14.3.6): each number begins at a multiple of its width
+// from where its struct begins, and each struct at a multiple of the width of its widest number.
 ghost use Rattle.std.specs.Prelude.{◌≡◌, true, false, ◌+◌, ◌-◌, ◌*◌, ◌<◌, ◌≤◌, ◌^◌, [], ◌∷◌, ◌++◌, length, max, drop};
 ghost use Rattle.nd_types.specs.Table.{width};
 ghost use Rattle.nd_flat.specs.FlatForm.{flat_seen};
-ghost use Rattle.nd_flat.specs.Records.{gap, place, end_from, widest_from, stride, IsMembers, members_of, IsRecords, all_records, records_flats, records_left, HasLeft, IsOver, no_records, next_prim, next_value, member_passed, next_begun, after_this, first_begun, some_passed};
+ghost use Rattle.nd_flat.specs.Records.{gap, place, end_from, widest_from, stride, IsMembers, members_of, IsRecords, all_records, records_flats};
+ghost use Rattle.nd_flat.specs.Records.{records_left, HasLeft, IsOver, no_records, next_prim, next_value, member_passed, next_begun, after_this};
+ghost use Rattle.nd_flat.specs.Records.{first_begun, some_passed};
 
 use crate::Seen;
 use nd_base::Order;

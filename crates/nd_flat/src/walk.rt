@@ -58,7 +58,8 @@ impl<'a> Walk<'a> {
         }
     }
 
-    /// The next node, or None if none is left, and then the walk has not moved. Numbers and structs that are kept side by side are given one by one. Takes no memory.
+    /// The next node, or None if none is left, and then the walk has not moved. Numbers and structs that are kept side by side are given one by one.
+    /// Takes no memory.
     #[inline(always)]
     pub fn step(&mut self) -> Option<Seen<'a>>
         ensures some { IfSome result (λ s. flat self.old ≡ flat_seen s ∷ flat self.new) }
@@ -110,8 +111,8 @@ impl<'a> Walk<'a> {
         Some(first_row(next, some, self.octets))
     }
 
-    /// The next structs of numbers, at least one and at most `most`, where such structs come next that are kept side by side; their octets are given as they
-    /// are kept. None says nothing of what comes next, and the walk has not moved: `step` goes on. Takes no memory.
+    /// The next structs of numbers, at least one and at most `most`, where such structs come next that are kept side by side; their octets are given
+    /// as they are kept. None says nothing of what comes next, and the walk has not moved: `step` goes on. Takes no memory.
     pub fn records(&mut self, most: u32) -> Option<Records<'a>>
         ensures some { IfSome result (λ r. flat self.old ≡ all_records r ++ flat self.new) }
         ensures records { IfSome result (λ r. IsRecords r) }

@@ -1,5 +1,6 @@
 -- The octets that are written for a conforming graph represent it.
-use Rattle.std.proofs.Common.{◌≡◌, ℕ, ◌+◌, ◌-◌, ◌^◌, ◌<◌, ◌≤◌, zero, suc, Bool, true, false, List, [], ◌∷◌, ◌++◌, length, Option, Some, None, refl, ap, sym, ◌∙◌, inl, inr, ◌⊎◌, arith, subst, replicate, drop}
+use Rattle.std.proofs.Common.{◌≡◌, ℕ, ◌+◌, ◌-◌, ◌^◌, ◌<◌, ◌≤◌, zero, suc, Bool, true, false, List, [], ◌∷◌, ◌++◌, length, Option, Some, None, refl, ap, sym, ◌∙◌, inl, inr, ◌⊎◌, arith, subst}
+use Rattle.std.proofs.Common.{replicate, drop}
 use Rattle.std.specs.Prelude.{map, flat_map, sum, ltb}
 use Rattle.std.specs.List.{AllByRecursion, slice_get}
 use Rattle.std.proofs.lemmas.Option.{same_Some, slice_get-get_or, slice_get_within}
@@ -20,7 +21,8 @@ use Rattle.nd_value.specs.Tree.{Tree, Trees, node, none, more, Label, Referent, 
 use Rattle.nd_value.specs.Agreement.{Agreement}
 use Rattle.nd_value.specs.Setting.{Setting, Among, root_list, root_at, or_unread, cell_home, cell_at, cell_tree, cell_of_number}
 use Rattle.nd_value.specs.Nodes.{nodes_of, child_types}
-use Rattle.nd_value.specs.Deferral.{Pending, pointer, home_pointers, Due, due_referent, due_roots, before_pipes, Step, root_stands, referent_stands, stands_already, Deferral, none_due, at_root, at_null, at_standing, at_referent, Placed_cells, Standing, standing_root, standing_by, standing_cell, direct, root_type, due_of}
+use Rattle.nd_value.specs.Deferral.{Pending, pointer, home_pointers, Due, due_referent, due_roots, before_pipes, Step, root_stands, referent_stands, stands_already, Deferral, none_due, at_root}
+use Rattle.nd_value.specs.Deferral.{at_null, at_standing, at_referent, Placed_cells, Standing, standing_root, standing_by, standing_cell, direct, root_type, due_of}
 use Rattle.nd_value.specs.Variables.{root_agreements}
 use Rattle.nd_value.specs.Homes.{HomeNode, in_home, root_nodes, cell_nodes, all_nodes}
 use Rattle.nd_value.specs.Misfit.{has_shape, misfit_of, names_cell, names_pointee, has_machine_values}
@@ -172,7 +174,8 @@ module _ (w : Setting) (side : IsLegalSide w) (g : Graph) (c : Conforms w g) whe
 
   root_w : (i : ℕ) (r : Root) → slice_get (root_list w) i ≡ Some r → WritableTrees w.table g ((standing_root w g i).of ∷ []) (more (standing_root w g i).val none)
   root_w i r e =
-      subst (λ t. WritableTrees w.table g ((standing_by g i t (root_at g i) (direct (type_at w.table t) (root_at g i))).of ∷ []) (more (standing_by g i t (root_at g i) (direct (type_at w.table t) (root_at g i))).val none))
+      subst (λ t. WritableTrees w.table g ((standing_by g i t (root_at g i) (direct (type_at w.table t) (root_at g i))).of ∷ [])
+      (more (standing_by g i t (root_at g i) (direct (type_at w.table t) (root_at g i))).val none))
       (sym (ap root_type e)) (root_tree i r.of (root_at g i) (w_roots i r e))
 
   module _ (nums : ℕ → ℕ) where
@@ -183,7 +186,8 @@ module _ (w : Setting) (side : IsLegalSide w) (g : Graph) (c : Conforms w g) whe
         → AllByRecursion (Writable nums) (standing_entries w.table x)
     standing_can x p t f =
         whole_writable w.table side.operations side.legal none_inside g nums x.home x.of x.val p t
-        (all_members (PointerCounted w.table side.operations side.legal none_inside g nums) (home_pointers w.table x.home x.of x.val) (λ q m k e. f k (of_named (home_pointers w.table x.home x.of x.val) k q m e)))
+        (all_members (PointerCounted w.table side.operations side.legal none_inside g nums) (home_pointers w.table x.home x.of x.val)
+        (λ q m k e. f k (of_named (home_pointers w.table x.home x.of x.val) k q m e)))
 
     tests_can : (h : Home) (n : ℕ) (t : Tree) (ags : List Agreement) → AllByRecursion (Writable nums) (tests h n t ags)
     tests_can h n t ags = writable_tests w.table side.operations side.legal none_inside g nums h n t ags
@@ -238,7 +242,8 @@ module _ (w : Setting) (side : IsLegalSide w) (g : Graph) (c : Conforms w g) whe
         let low : k ≤ count ts = omega arith in
         let cd : count (drop_trees k ts) + k ≡ count ts = count_drop k ts low in
         let T : Trees = take_trees k ts in
-        let no_p : flat_map (pointer w.table h) (nodes_of w.table (replicate k e.0) [] n T) ≡ [] = no_pointers w.table h (replicate k e.0) [] n T (many_of _ e.0 k ((laid_out w side).elements t e et)) in
+        let no_p : flat_map (pointer w.table h) (nodes_of w.table (replicate k e.0) [] n T) ≡ [] =
+        no_pointers w.table h (replicate k e.0) [] n T (many_of _ e.0 k ((laid_out w side).elements t e et)) in
         all_append Can (chunk_entries w.table h e.0 n k T) (chunks w.table h e.0 (n + node_count T) cut (drop_trees k ts)) (
           tt,
           (

@@ -276,7 +276,8 @@ module _ (table : Table) where
   kept_pipes (r ∷ rs) a = go r.is_pipe refl (kept_pipes rs a.1)
     where
       go : (b : Bool) → r.is_pipe ≡ b → AllByRecursion (λ q. q.is_pipe ≡ true) (filter (λ q. q.is_pipe) rs) × AllByRecursion (IsPipeRoot table) (filter (λ q. q.is_pipe) rs)
-          → AllByRecursion (λ q. q.is_pipe ≡ true) (cond b (r ∷ filter (λ q. q.is_pipe) rs) (filter (λ q. q.is_pipe) rs)) × AllByRecursion (IsPipeRoot table) (cond b (r ∷ filter (λ q. q.is_pipe) rs) (filter (λ q. q.is_pipe) rs))
+          → AllByRecursion (λ q. q.is_pipe ≡ true) (cond b (r ∷ filter (λ q. q.is_pipe) rs) (filter (λ q. q.is_pipe) rs))
+          × AllByRecursion (IsPipeRoot table) (cond b (r ∷ filter (λ q. q.is_pipe) rs) (filter (λ q. q.is_pipe) rs))
       go true e (x, y) = ((e, x), (a.0 e, y))
       go false e z = z
 
@@ -284,7 +285,8 @@ no_pipes : (rs : List Root) → AllByRecursion (λ r. r.is_pipe ≡ false) (filt
 no_pipes [] = tt
 no_pipes (r ∷ rs) = go r.is_pipe refl (no_pipes rs)
   where
-    go : (b : Bool) → r.is_pipe ≡ b → AllByRecursion (λ q. q.is_pipe ≡ false) (filter (λ q. not q.is_pipe) rs) → AllByRecursion (λ q. q.is_pipe ≡ false) (cond (not b) (r ∷ filter (λ q. not q.is_pipe) rs) (filter (λ q. not q.is_pipe) rs))
+    go : (b : Bool) → r.is_pipe ≡ b → AllByRecursion (λ q. q.is_pipe ≡ false) (filter (λ q. not q.is_pipe) rs)
+        → AllByRecursion (λ q. q.is_pipe ≡ false) (cond (not b) (r ∷ filter (λ q. not q.is_pipe) rs) (filter (λ q. not q.is_pipe) rs))
     go true e x = x
     go false e x = (e, x)
 

@@ -1,5 +1,6 @@
 -- The order in which cells are named is that in which a stream comes to them.
-use Rattle.std.proofs.Common.{◌≡◌, ℕ, ◌+◌, ◌<◌, ◌≤◌, ◌-◌, zero, suc, ℤ, Bool, true, false, ◌&&◌, List, [], ◌∷◌, ◌++◌, length, Option, Some, None, refl, ap, ap₂, sym, ◌∙◌, inl, inr, ◌⊎◌, arith, subst, replicate, append_assoc, drop}
+use Rattle.std.proofs.Common.{◌≡◌, ℕ, ◌+◌, ◌<◌, ◌≤◌, ◌-◌, zero, suc, ℤ, Bool, true, false, ◌&&◌, List, [], ◌∷◌, ◌++◌, length, Option, Some, None, refl, ap, ap₂, sym, ◌∙◌, inl, inr, ◌⊎◌, arith, subst}
+use Rattle.std.proofs.Common.{replicate, append_assoc, drop}
 use Rattle.std.specs.Prelude.{flat_map, map, sum, cond, eqb}
 use Rattle.std.specs.List.{AllByRecursion, slice_get}
 use Rattle.std.proofs.lemmas.Grind.{flat_map-append}
@@ -25,7 +26,8 @@ use Rattle.nd_value.specs.Canon.{own_cell, target, named, step_names, named_cell
 use Rattle.nd_value.specs.Misfit.{has_shape, has_counts}
 use Rattle.nd_value.specs.Setting.{Setting, Among, root_list, root_at, or_unread, cell_at, cell_tree, cell_of_number, cell_home}
 use Rattle.nd_value.specs.Nodes.{TypedNode, nodes_of, child_types, child_agreements, first_agreements, rest_agreements}
-use Rattle.nd_value.specs.Deferral.{Pending, pointer, pointer_by, home_pointers, Due, due_root, due_referent, due_roots, before_pipes, Step, Deferral, none_due, at_root, at_null, at_standing, at_referent, Placed_cells, Standing, standing_root, standing_by, standing_cell, root_type, direct, due_of}
+use Rattle.nd_value.specs.Deferral.{Pending, pointer, pointer_by, home_pointers, Due, due_root, due_referent, due_roots, before_pipes, Step, Deferral, none_due, at_root, at_null, at_standing}
+use Rattle.nd_value.specs.Deferral.{at_referent, Placed_cells, Standing, standing_root, standing_by, standing_cell, root_type, direct, due_of}
 use Rattle.nd_value.specs.Variables.{root_agreements}
 use Rattle.nd_value.proofs.Apart.{all_append, all_left, all_right, among_left, among_right}
 use Rattle.nd_value.proofs.NodeFacts.{IsSound}
@@ -606,7 +608,8 @@ module _ (w : Setting) (g : Graph) (s : IsSound w g) (laid : IsLaidOut w) (subje
       subst (Repeats known []) (sym (met_append T R))
       (then_repeats known [] (cells_met T) [] (cells_met R) (root_repeat known i r l ks (subst (λ u. RootKnown known u r (node l ks)) z (f 0 r refl))) (λ later k v.
       roots_repeat (i + 1) rs vs later (omega arith) (λ j q e.
-      (let y : i + suc j ≡ i + 1 + j = omega arith in root_more known later (i + 1 + j) q (or_unread (slice_get vs j)) k (subst (λ u. RootKnown known u q (or_unread (slice_get vs j))) y (f (suc j) q e))))))
+      (let y : i + suc j ≡ i + 1 + j = omega arith in
+      root_more known later (i + 1 + j) q (or_unread (slice_get vs j)) k (subst (λ u. RootKnown known u q (or_unread (slice_get vs j))) y (f (suc j) q e))))))
 
   many : (k e : ℕ) → FitsPipes table e → AllByRecursion (FitsPipes table) (replicate k e)
   many zero e f = tt

@@ -8,7 +8,8 @@ use Rattle.nd_value.specs.declared.item.Home.{Home}
 use Rattle.nd_value.specs.declared.item.Home.TheVariants as home
 use Rattle.nd_value.specs.Tree.{Tree, Referent}
 use Rattle.nd_value.specs.Setting.{Setting, Among, cell_at, cell_of_number, cell_home}
-use Rattle.nd_value.specs.Deferral.{Pending, home_pointers, Due, due_root, due_referent, Step, root_stands, referent_stands, stands_already, Deferral, none_due, at_root, at_null, at_standing, at_referent, IsPlaced, Placed_cells, Standing, standing_root, standing_cell, due_of, root_cell}
+use Rattle.nd_value.specs.Deferral.{Pending, home_pointers, Due, due_root, due_referent, Step, root_stands, referent_stands, stands_already, Deferral, none_due, at_root, at_null, at_standing}
+use Rattle.nd_value.specs.Deferral.{at_referent, IsPlaced, Placed_cells, Standing, standing_root, standing_cell, due_of, root_cell}
 use Rattle.nd_value.specs.Conforms.{Conforms}
 use Rattle.nd_value.proofs.DeferralLaws.{full_stands}
 use Rattle.nd_value.proofs.Apart.{all_append, all_right, among_left, among_right}

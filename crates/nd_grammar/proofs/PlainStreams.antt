@@ -17,7 +17,8 @@ use Rattle.nd_value.specs.Tree.{Tree, Trees, node, none, more, node_count, Label
 use Rattle.nd_value.specs.Agreement.{Agreement}
 use Rattle.nd_value.specs.Setting.{Setting, root_list, root_at}
 use Rattle.nd_value.specs.Nodes.{nodes_of, child_types, child_agreements}
-use Rattle.nd_value.specs.Deferral.{Due, due_root, due_referent, Step, root_stands, Deferral, none_due, at_root, at_null, at_standing, at_referent, Standing, Placed_cells, standing_root, standing_by, direct, root_type, due_of, due_roots, before_pipes, home_pointers, pointer, pointer_by, root_cell, AreFree}
+use Rattle.nd_value.specs.Deferral.{Due, due_root, due_referent, Step, root_stands, Deferral, none_due, at_root, at_null, at_standing, at_referent, Standing, Placed_cells, standing_root, standing_by}
+use Rattle.nd_value.specs.Deferral.{direct, root_type, due_of, due_roots, before_pipes, home_pointers, pointer, pointer_by, root_cell, AreFree}
 use Rattle.nd_value.specs.Variables.{root_agreements}
 use Rattle.nd_grammar.specs.Entry.{Kind, Entry, Align, Num, Unread}
 use Rattle.nd_grammar.specs.InPlace.{before_children, entries, in_place, own_tests, child_tests, hoisted, hoisted_max, whole_value}

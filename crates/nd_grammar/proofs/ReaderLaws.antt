@@ -23,7 +23,8 @@ use Rattle.nd_grammar.proofs.reader.ReaderVerdict.{start, AllTaken, all_taken, s
 use Rattle.nd_grammar.proofs.agreements.TestedAt.{tests_found}
 use Rattle.nd_grammar.proofs.conforming.Passed.{PassedAll, all_passed, least_end}
 use Rattle.nd_grammar.proofs.conforming.StreamConforming.{NodeGood, all_good, few_nodes}
-use Rattle.nd_grammar.proofs.reader.ReaderStream.{Pipes, G, ms, numbering, is_partial, is_stream, numbered, goes_over, ends_within, ends_in_octets, graph_is, head, cells_fit, roots_all_made, all_roots, all_reached, few_cells}
+use Rattle.nd_grammar.proofs.reader.ReaderStream.{Pipes, G, ms, numbering, is_partial, is_stream, numbered, goes_over, ends_within, ends_in_octets, graph_is, head, cells_fit, roots_all_made}
+use Rattle.nd_grammar.proofs.reader.ReaderStream.{all_roots, all_reached, few_cells}
 use Rattle.nd_value.specs.Same.{Same}
 use Rattle.nd_grammar.proofs.conforming.StreamConforms.{le_or}
 use Rattle.nd_grammar.proofs.OneGraph.{one_graph}

@@ -126,7 +126,8 @@ module _ (m : ℕ → ℕ) where
       let own : List Pending = pointer_by d (is_pointer l) (cell_in l) h n (first_agreements ags) in
       let own' : List Pending = pointer_by d (is_pointer (renumbered_label m l)) (cell_in (renumbered_label m l)) h' n' (first_agreements ags) in
       let k : AllPend (flat_map (pointer table h) K) (flat_map (pointer table h') K') =
-      subst (λ u. AllPend (flat_map (pointer table h) K) (flat_map (pointer table h') (nodes_of table u (child_agreements d (renumbered m ks)) (n' + 1) (renumbered m ks)))) (sym (child_types_same d l ks))
+      subst (λ u. AllPend (flat_map (pointer table h) K) (flat_map (pointer table h') (nodes_of table u (child_agreements d (renumbered m ks)) (n' + 1) (renumbered m ks))))
+      (sym (child_types_same d l ks))
       (subst (λ u. AllPend (flat_map (pointer table h) K) (flat_map (pointer table h') (nodes_of table (child_types d l ks) u (n' + 1) (renumbered m ks)))) (sym (agreements_alike table d ks))
       (pointers_alike table h h' (child_types d l ks) (child_agreements d ks) (n + 1) (n' + 1) ks)) in
       let r = pointers_alike table h h' types (rest_agreements ags) (n + 1 + node_count ks) (n' + 1 + node_count (renumbered m ks)) ts in
@@ -235,11 +236,13 @@ module _ (m : ℕ → ℕ) where
     child_tests_alike : (h h' : Home) (ags : List (List Agreement)) (n n' : ℕ) (ts : Trees) → AllSame (child_tests h ags n ts) (child_tests h' ags n' (renumbered m ts))
     child_tests_alike h h' ags n n' none = tt
     child_tests_alike h h' ags n n' (more (node l ks) ts) =
-        same_append (own_tests (is_pointer l) h n (node l ks) (first_agreements ags)) (own_tests (is_pointer (renumbered_label m l)) h' n' (node (renumbered_label m l) (renumbered m ks)) (first_agreements ags)) _ _
+        same_append (own_tests (is_pointer l) h n (node l ks) (first_agreements ags))
+        (own_tests (is_pointer (renumbered_label m l)) h' n' (node (renumbered_label m l) (renumbered m ks)) (first_agreements ags)) _ _
         (own_alike (is_pointer l) (is_pointer (renumbered_label m l)) (pointer_alike l) h h' n n' (node l ks) (node (renumbered_label m l) (renumbered m ks)) (first_agreements ags))
         (child_tests_alike h h' (rest_agreements ags) (n + 1 + node_count ks) (n' + 1 + node_count (renumbered m ks)) ts)
 
-    parted : (f : TypedNode → List Pending) (xs ys : List TypedNode) → AllByRecursion OneNumber (flat_map f (xs ++ ys)) → AllByRecursion OneNumber (flat_map f xs) × AllByRecursion OneNumber (flat_map f ys)
+    parted : (f : TypedNode → List Pending) (xs ys : List TypedNode) → AllByRecursion OneNumber (flat_map f (xs ++ ys))
+        → AllByRecursion OneNumber (flat_map f xs) × AllByRecursion OneNumber (flat_map f ys)
     parted f xs ys a =
         let b : AllByRecursion OneNumber (flat_map f xs ++ flat_map f ys) = subst (AllByRecursion OneNumber) (flat_map-append f xs ys) a in
         (all_left OneNumber (flat_map f xs) (flat_map f ys) b, all_right OneNumber (flat_map f xs) (flat_map f ys) b)
@@ -263,9 +266,11 @@ module _ (m : ℕ → ℕ) where
         let its : AllSame C (child_tests h' (child_agreements d ks') (n' + 1) ks') =
         subst (λ u. AllSame C (child_tests h' u (n' + 1) ks')) (sym (agreements_alike table d ks)) (child_tests_alike h h' (child_agreements d ks) (n + 1) (n' + 1) ks) in
         same_append (entries h n (before_children table t d l ks)) (entries h' n' (before_children table t d l' ks')) _ _
-        (entries_same h h' n n' (before_children table t d l ks) (before_children table t d l' ks') (before_alike table t d l ks h n (first_agreements ags) (all_left OneNumber own (flat_map (pointer table h) (K ++ R)) a)))
+        (entries_same h h' n n' (before_children table t d l ks) (before_children table t d l' ks')
+        (before_alike table t d l ks h n (first_agreements ags) (all_left OneNumber own (flat_map (pointer table h) (K ++ R)) a)))
         (same_append I (in_place table h' (child_types d l' ks') (n' + 1) ks') _ _ kids
-        (same_append C (child_tests h' (child_agreements d ks') (n' + 1) ks') (in_place table h types (n + 1 + node_count ks) ts) (in_place table h' types (n' + 1 + node_count ks') (renumbered m ts)) its
+        (same_append C (child_tests h' (child_agreements d ks') (n' + 1) ks') (in_place table h types (n + 1 + node_count ks) ts)
+        (in_place table h' types (n' + 1 + node_count ks') (renumbered m ts)) its
         (in_place_alike table h h' types (rest_agreements ags) (n + 1 + node_count ks) (n' + 1 + node_count ks') ts c)))
 
     hoisted_alike : (b : Bool) (l : Label) (x y : ℕ) → x ≡ y → AllKinds (hoisted b l x) (hoisted b (renumbered_label m l) y)

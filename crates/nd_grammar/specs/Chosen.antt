@@ -61,4 +61,5 @@ pub record Chosen (w : Setting) (order : Order) (chunk : ℕ) (g : Graph) (octet
   pub steps : List Step
   pub deferral : Deferral w g [] (due_roots 0 (before_pipes (root_list w))) steps
   pub written : octets
-      ≡ octets_from order (canonical_number (named_cells w g steps)) 0 (representation w g steps (pipe_cuts chunk (drop (before_pipes (root_list w)) g.roots)))
+      ≡ octets_from order (canonical_number (named_cells w g steps)) 0
+      (representation w g steps (pipe_cuts chunk (drop (before_pipes (root_list w)) g.roots)))

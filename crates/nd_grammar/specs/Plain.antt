@@ -1,6 +1,7 @@
 -- Operations whose roots are plain numbers: what octets hold for them, without a graph.
 -- `w` is a setting, `r` a root, `p` its primitive, `z` its value, `at` a place, `g` a graph.
-use Rattle.std.specs.Prelude.{◌≡◌, ℕ, ◌+◌, ◌*◌, ◌≤◌, ℤ, true, false, cond, leb, List, [], ◌∷◌, ◌++◌, length, map, take, drop, replicate, Option, Some, None}
+use Rattle.std.specs.Prelude.{◌≡◌, ℕ, ◌+◌, ◌*◌, ◌≤◌, ℤ, true, false, cond, leb, List, [], ◌∷◌, ◌++◌, length, map, take, drop, replicate, Option, Some}
+use Rattle.std.specs.Prelude.{None}
 use Rattle.nd_base.specs.declared.octets.Order.{Order}
 use Rattle.nd_base.specs.declared.TheConstants.{STREAM_LIMIT}
 use Rattle.nd_types.specs.declared.types.Primitive.{Primitive}

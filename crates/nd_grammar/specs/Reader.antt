@@ -1,6 +1,7 @@
 -- Reading octets: the plain program that finds the graph of which they are a stream, or the place and the reason for which they are none.
 -- It goes entry by entry. From the first entry that the octets refuse on, whatever is read is an unread value, and nothing changes any more.
-use Rattle.std.specs.Prelude.{ℕ, ◌+◌, ◌-◌, suc, zero, ℤ, pos, Bool, true, false, not, ◌&&◌, cond, eqb, List, [], ◌∷◌, ◌++◌, length, map, take, drop, replicate, reverse, Option, Some, None}
+use Rattle.std.specs.Prelude.{ℕ, ◌+◌, ◌-◌, suc, zero, ℤ, pos, Bool, true, false, not, ◌&&◌, cond, eqb, List, [], ◌∷◌, ◌++◌, length, map, take, drop}
+use Rattle.std.specs.Prelude.{replicate, reverse, Option, Some, None}
 use Rattle.nd_base.specs.declared.octets.Order.{Order}
 use Rattle.nd_types.specs.declared.types.TypeDef.{TypeDef}
 use Rattle.nd_types.specs.declared.types.TypeDef.TheVariants as def
@@ -86,7 +87,8 @@ module _ (order : Order) (octets : List ℕ) where
   -- the identifier whose octets these are
   abbrev pub identifier : List ℕ → List ℕ
   identifier os =
-      reverse (in_order order (take 4 os)) ++ (reverse (in_order order (take 2 (drop 4 os))) ++ (reverse (in_order order (take 2 (drop 6 os))) ++ drop 8 os))
+      reverse (in_order order (take 4 os))
+      ++ (reverse (in_order order (take 2 (drop 4 os))) ++ (reverse (in_order order (take 2 (drop 6 os))) ++ drop 8 os))
 
   abbrev pub identifier_in : Option (List ℕ) → List ℕ
   identifier_in None = replicate 16 0
@@ -198,7 +200,8 @@ module _ (order : Order) (octets : List ℕ) (table : Table) (h : Home) where
       record { tree = node (tree.Text max os) none; progress = pass order octets (entry n (Text os)) counted; names = s }
 
   -- a union: its tag, and the selected arm
-  abbrev pub read_union : (ℕ → ℕ → Progress → Names → Read) → Option TypeDef → ℕ → Primitive → Option (List ℤ) → List Arm → Option Arm → Progress → Names → Read
+  abbrev pub read_union : (ℕ → ℕ → Progress → Names → Read) → Option TypeDef → ℕ → Primitive → Option (List ℤ) → List Arm → Option Arm → Progress
+      → Names → Read
   read_union read d n prim values arms default p s =
       let gap : Progress = pass order octets (entry n (Align (width prim))) p in
       let z : ℤ = value_in order octets prim (taken order octets (entry n (Tag prim values arms default (pos 0))) gap) in
@@ -229,7 +232,8 @@ module _ (order : Order) (octets : List ℕ) (table : Table) (h : Home) where
   read_by read m t (Some (def.Prim prim)) n p s = read_number n prim None p s
   read_by read m t (Some (def.Enum values)) n p s = read_number n Short (Some values) p s
   read_by read m t (Some (def.Struct members)) n p s =
-      read_children read (Some (def.Struct members)) n tree.Rec (map (λ f. f.of.0) members) (pass order octets (entry n (Align (align_of table t))) p) s
+      read_children read (Some (def.Struct members)) n tree.Rec (map (λ f. f.of.0) members)
+      (pass order octets (entry n (Align (align_of table t))) p) s
   read_by read m t (Some (def.Array elem bound varying)) n p s =
       read_array read (Some (def.Array elem bound varying)) varying (bound_or bound m) elem.0 n p s
   read_by read m t (Some (def.Text elem bound)) n p s = read_text (bound_or bound m) n p s

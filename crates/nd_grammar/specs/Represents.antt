@@ -10,7 +10,8 @@ use Rattle.nd_types.specs.declared.types.Class.TheVariants.{Ref, Unique, Full}
 use Rattle.nd_value.specs.declared.value.Graph.{Graph}
 use Rattle.nd_value.specs.Setting.{Setting, Among}
 use Rattle.nd_types.specs.Number.{unsigned, value_of_octets, in_order}
-use Rattle.nd_grammar.specs.Entry.{Kind, Entry, Align, Max, Offset, Actual, Chunk, Number, Num, Tag, Text, Context, Test, Unread, size_at, EntryAt, end_to_end, end_of, full_cells}
+use Rattle.nd_grammar.specs.Entry.{Kind, Entry, Align, Max, Offset, Actual, Chunk, Number, Num, Tag, Text, Context, Test, Unread, size_at, EntryAt}
+use Rattle.nd_grammar.specs.Entry.{end_to_end, end_of, full_cells}
 use Rattle.nd_grammar.specs.Stream.{Stream}
 
 -- the octets of an entry of this kind at a place

@@ -17,7 +17,8 @@ use Rattle.nd_value.specs.Tree as tree
 use Rattle.nd_value.specs.Tree.{Tree, Trees, node, none, more, count, node_count, take_trees, drop_trees}
 use Rattle.nd_value.specs.Agreement.{Agreement}
 use Rattle.nd_value.specs.Setting.{Setting, root_list, cell_at, cell_home}
-use Rattle.nd_value.specs.Deferral.{Step, root_stands, referent_stands, stands_already, Deferral, Standing, standing_root, standing_cell, Pending, due_roots, before_pipes}
+use Rattle.nd_value.specs.Deferral.{Step, root_stands, referent_stands, stands_already, Deferral, Standing, standing_root, standing_cell, Pending}
+use Rattle.nd_value.specs.Deferral.{due_roots, before_pipes}
 use Rattle.nd_value.specs.Variables.{root_agreements}
 use Rattle.nd_grammar.specs.Entry.{Entry, Align, Chunk, Unread}
 use Rattle.nd_grammar.specs.InPlace.{entries, tests, in_place, whole_value}

@@ -18,7 +18,8 @@ use Rattle.nd_value.specs.Deferral.{Pending, Due, due_root, due_referent, due_ro
 use Rattle.nd_grammar.specs.Entry.{Kind, Entry, Align, Chunk}
 use Rattle.nd_grammar.specs.InPlace.{tests}
 use Rattle.nd_grammar.specs.Stream.{root_tests}
-use Rattle.nd_grammar.specs.Reader.{Progress, Names, Read, ReadAll, is_stopped, pass, pass_all, taken, number_in, fresh, with_cell, read_list, read_in_place, read_whole}
+use Rattle.nd_grammar.specs.Reader.{Progress, Names, Read, ReadAll, is_stopped, pass, pass_all, taken, number_in, fresh, with_cell, read_list}
+use Rattle.nd_grammar.specs.Reader.{read_in_place, read_whole}
 
 -- how far a stream is read: the roots so far, the cells that stand, what is due, and the progress in octets and names
 pub record Reading : Type 0 where

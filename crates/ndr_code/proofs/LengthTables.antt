@@ -25,7 +25,8 @@ lengths_none code [] e at l i = cc
 lengths_none code (h ∷ ls) e at l i = cc
 
 -- one entry more
-pub lengths_more : (code : List Instr) (ls ms : Entries) (l : Option Lengths) (pc : ℕ) → AreLengths code ls → length ls ≡ pc → IfSome l (λ x. IsLengths code pc x) → ms ≡ ls ++ l ∷ [] → AreLengths code ms
+pub lengths_more : (code : List Instr) (ls ms : Entries) (l : Option Lengths) (pc : ℕ) → AreLengths code ls → length ls ≡ pc → IfSome l (λ x. IsLengths code pc x) → ms ≡ ls ++ l ∷ []
+    → AreLengths code ms
 lengths_more code ls ms l pc h many e g at x i = found (joined ls l at (Some x) (sym (ap (λ zs. slice_get zs at) g) ∙ i))
   where
     found : (slice_get ls at ≡ Some (Some x)) ⊎ ((at ≡ length ls) × (l ≡ Some x)) → IsLengths code at x

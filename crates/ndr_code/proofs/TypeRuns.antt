@@ -12,7 +12,8 @@ use Rattle.nd_types.specs.Table.{Table, type_at}
 use Rattle.nd_types.specs.Layout.{align_of, hoists}
 use Rattle.ndr_code.specs.declared.instr.Instr.{Instr}
 use Rattle.ndr_code.specs.declared.instr.Instr.TheVariants as op
-use Rattle.ndr_code.specs.Code.{place_run, gap_run, arms_code, default_code, member_calls, array_run, whole_run, type_run, type_runs, types_length, no_address, whole_at, place_at, operations_code, code_of}
+use Rattle.ndr_code.specs.Code.{place_run, gap_run, arms_code, default_code, member_calls, array_run, whole_run, type_run, type_runs, types_length, no_address, whole_at, place_at, operations_code}
+use Rattle.ndr_code.specs.Code.{code_of}
 use Rattle.ndr_code.specs.Runs.{IsRunAt}
 use Rattle.ndr_code.proofs.Runs.{behind_at, part_at, behind_two}
 

@@ -2,7 +2,8 @@
 -- Each type has a place run, which is what a value of it has in its place, and a whole run, which begins with the maximum count of what hoists.
 -- `t` is a type's number, `d` what it is, `place` and `whole` are the addresses of the place run and the whole run of each type,
 -- `r` is a root, `i` its number, `o` an operation, `n` its number, `s` a side, `a` an attribute with its variable.
-use Rattle.std.specs.Prelude.{ℕ, ◌+◌, ◌*◌, suc, Bool, true, false, not, eqb, List, [], ◌∷◌, ◌++◌, length, map, flat_map, filter, take, Option, Some, None}
+use Rattle.std.specs.Prelude.{ℕ, ◌+◌, ◌*◌, suc, Bool, true, false, not, eqb, List, [], ◌∷◌, ◌++◌, length, map, flat_map, filter, take, Option, Some}
+use Rattle.std.specs.Prelude.{None}
 use Rattle.nd_types.specs.declared.types.TypeId.{TypeId}
 use Rattle.nd_types.specs.declared.types.TypeDef.{TypeDef}
 use Rattle.nd_types.specs.declared.types.TypeDef.TheVariants as def
@@ -166,7 +167,8 @@ pipe_roots rs = filter (λ r. r.is_pipe) rs
 -- a side of an operation: its roots that are no pipes, its agreements, its pipes
 abbrev pub side_code : Table → Operation → Side → List Instr
 side_code table o s =
-    flat_map (root_run table) (value_roots (roots_of table s o)) ++ (checks_run table o s ++ flat_map (pipe_run table) (pipe_roots (roots_of table s o)))
+    flat_map (root_run table) (value_roots (roots_of table s o))
+    ++ (checks_run table o s ++ flat_map (pipe_run table) (pipe_roots (roots_of table s o)))
 
 -- an operation: its request, then its response
 abbrev pub operation_code : Table → Operation → List Instr

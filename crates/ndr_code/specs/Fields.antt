@@ -4,7 +4,8 @@ use Rattle.std.specs.Prelude.{◌≡◌, ℕ, ◌+◌, Bool, true, false, cond, 
 use Rattle.nd_types.specs.declared.types.Class.{Class}
 use Rattle.nd_types.specs.declared.types.Class.TheVariants.{Full}
 use Rattle.nd_types.specs.declared.types.Primitive.{Primitive}
-use Rattle.nd_types.specs.declared.types.Primitive.TheVariants.{Boolean, Char, Byte, Small, UnsignedSmall, Short, UnsignedShort, Long, UnsignedLong, Hyper, UnsignedHyper}
+use Rattle.nd_types.specs.declared.types.Primitive.TheVariants.{Boolean, Char, Byte, Small, UnsignedSmall, Short, UnsignedShort, Long, UnsignedLong}
+use Rattle.nd_types.specs.declared.types.Primitive.TheVariants.{Hyper, UnsignedHyper}
 use Rattle.nd_types.specs.declared.types.TypeId.{TypeId}
 use Rattle.ndr_code.specs.declared.instr.Instr.{Instr}
 use Rattle.ndr_code.specs.declared.instr.Instr.TheVariants as op

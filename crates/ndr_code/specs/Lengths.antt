@@ -23,7 +23,8 @@ field_len at f = gap at f.to + form_width f.form
 abbrev pub HasFields : List Instr → ℕ → ℕ → ℕ → ℕ → Type 0
 HasFields code pc at zero len = (slice_get code pc ≡ Some op.Close) × (len ≡ 0)
 HasFields code pc at (suc n) len =
-    (f : Field) × ((rest : ℕ) × ((field_of code pc ≡ Some f) × ((len ≡ field_len at f + rest) × HasFields code (pc + 1) (at + field_len at f) n rest)))
+    (f : Field)
+    × ((rest : ℕ) × ((field_of code pc ≡ Some f) × ((len ≡ field_len at f + rest) × HasFields code (pc + 1) (at + field_len at f) n rest)))
 
 -- the struct at an address has these lengths, wherever it begins
 pub record IsLengths (code : List Instr) (pc : ℕ) (l : Lengths) : Type 0 where

@@ -1,6 +1,6 @@
 -- The lines of a plan beside its code: where the runs of each side of each operation are, and the values of the enumerated types.
--- `t` is a type's number, `d` what it is, `n` an operation's number, `o` the operation, `s` a side, `i` a root's number among those of its kind, `e` is an
--- item of a list with its number.
+-- `t` is a type's number, `d` what it is, `n` an operation's number, `o` the operation, `s` a side, `i` a root's number among those of its kind, `e`
+-- is an item of a list with its number.
 use Rattle.std.specs.Prelude.{ℕ, ◌+◌, ℤ, ◌==◌, if◌then◌else◌, Option, Some, None, List, [], ◌∷◌, ◌++◌, length, map, take}
 use Rattle.std.specs.List.{flat_map, enumerate_from}
 use Rattle.nd_types.specs.declared.types.TypeDef.{TypeDef}

@@ -18,7 +18,8 @@ pub struct Field {
     pub form: Form,
 }
 
-ghost use Rattle.ndr_code.specs.Fields.{field_of, field_by, form_run, form_of, gap_of, is_end, pointer_form as form_by, prim_of as primitive_of, run_of};
+ghost use Rattle.ndr_code.specs.Fields.{field_of, field_by, form_run, form_of, gap_of, is_end, pointer_form as form_by, prim_of as primitive_of};
+ghost use Rattle.ndr_code.specs.Fields.{run_of};
 
 // The member that is called at an address, if it is a number or a unique or reference pointer, or a gap and one of these.
 pub(crate) fn field_at(code: &[Instr], pc: usize) -> Option<Field>

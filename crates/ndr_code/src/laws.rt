@@ -15,12 +15,13 @@ ghost use Rattle.ndr_code.specs.declared.instr.Instr.{Instr};
 ghost use Rattle.ndr_code.specs.declared.instr.Instr.TheVariants.{Hoist, Call, Ret};
 ghost use Rattle.ndr_code.specs.declared.lists.EnumList.{EnumList};
 ghost use Rattle.ndr_code.specs.declared.lists.PlanLine.TheVariants.{Entry, Checks};
-ghost use Rattle.ndr_code.specs.Code.{place_run, whole_run, place_at, whole_at, code_of, value_roots, pipe_roots, root_run, checks_run, pipe_run, side_code, side_at, root_at, checks_at, pipe_at};
+ghost use Rattle.ndr_code.specs.Code.{place_run, whole_run, place_at, whole_at, code_of, value_roots, pipe_roots, root_run, checks_run, pipe_run};
+ghost use Rattle.ndr_code.specs.Code.{side_code, side_at, root_at, checks_at, pipe_at};
 ghost use Rattle.ndr_code.specs.Lines.{entries_of, line_at, sides_of, side_number, values_of, enumerators};
 ghost use Rattle.ndr_code.specs.Runs.{IsRunAt};
 
-/// A run that is at an address begins with the instruction at that address, and is followed from the next address on. What comes after the first part of
-/// a run is as far after as that part is long.
+/// A run that is at an address begins with the instruction at that address, and is followed from the next address on. What comes after the first part
+/// of a run is as far after as that part is long.
 pub fn runs_are_followed()
     ensures first { (code : List Instr) (at : ℕ) (i : Instr) (is : List Instr) → IsRunAt code at (i ∷ is) → slice_get code at ≡ Some i }
     ensures next { (code : List Instr) (at : ℕ) (i : Instr) (is : List Instr) → IsRunAt code at (i ∷ is) → IsRunAt code (at + 1) is }
@@ -60,9 +61,11 @@ pub fn lines_of_sides()
         → slice_get (sides_of table operations) (2 * n + side_number s) ≡ Some (line_at table operations n o s) }
     ensures root { (table : Table) (operations : List Operation) (n : ℕ) (o : Operation) → slice_get operations n ≡ Some o
         → (s : Side) (i : ℕ) (r : Root) → slice_get (value_roots (roots_of table s o)) i ≡ Some r
-        → slice_get (entries_of table operations) (line_at table operations n o s + i) ≡ Some (Entry n s (root_name o r.param) (root_at table operations n o s i)) }
+        → slice_get (entries_of table operations) (line_at table operations n o s + i)
+        ≡ Some (Entry n s (root_name o r.param) (root_at table operations n o s i)) }
     ensures checks { (table : Table) (operations : List Operation) (n : ℕ) (o : Operation) → slice_get operations n ≡ Some o → (s : Side)
-        → slice_get (entries_of table operations) (line_at table operations n o s + length (value_roots (roots_of table s o))) ≡ Some (Checks n s (checks_at table operations n o s)) }
+        → slice_get (entries_of table operations) (line_at table operations n o s + length (value_roots (roots_of table s o)))
+        ≡ Some (Checks n s (checks_at table operations n o s)) }
     ensures pipe { (table : Table) (operations : List Operation) (n : ℕ) (o : Operation) → slice_get operations n ≡ Some o
         → (s : Side) (i : ℕ) (r : Root) → slice_get (pipe_roots (roots_of table s o)) i ≡ Some r
         → slice_get (entries_of table operations) (line_at table operations n o s + length (value_roots (roots_of table s o)) + 1 + i)
@@ -71,7 +74,8 @@ pub fn lines_of_sides()
 
 /// The list of an enumerated type has the values of its enumerators. A primitive has no list. The lists are in the order of the types' numbers.
 pub fn lists_of_enumerated_types()
-    ensures listed { (table : Table) (t : ℕ) (values : List ℤ) → type_at table t ≡ Some (Enum values) → enumerators (values_of table) t ≡ Some values }
+    ensures listed { (table : Table) (t : ℕ) (values : List ℤ) → type_at table t ≡ Some (Enum values)
+        → enumerators (values_of table) t ≡ Some values }
     ensures unlisted { (table : Table) (t : ℕ) (p : Primitive) → type_at table t ≡ Some (Prim p) → enumerators (values_of table) t ≡ None }
     ensures in_order { (table : Table) (i j : ℕ) (a b : EnumList) → slice_get (values_of table) i ≡ Some a → slice_get (values_of table) j ≡ Some b
         → i < j → a.of.0 < b.of.0 }

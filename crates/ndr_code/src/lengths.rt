@@ -77,8 +77,8 @@ fn closes(code: &[Instr], at: usize) -> bool
     }
 }
 
-// How many octets so many members have from any place on that is so many octets after a multiple of eight, `MOST` at most, if they are numbers and unique and reference pointers
-// and a `close` follows.
+// How many octets so many members have from any place on that is so many octets after a multiple of eight, `MOST` at most, if they are numbers and
+// unique and reference pointers and a `close` follows.
 #[inline(never)]
 pub(crate) fn length_of(
     code: &[Instr],

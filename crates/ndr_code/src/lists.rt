@@ -98,8 +98,8 @@ impl Code {
         let _lengths = look_lengths_up(code, self.fields.as_slice(), &mut self.lengths);
     }
 
-    /// How many octets the members of the struct at an address have from a place on, 64 at most, if they are numbers and unique and reference pointers. None where they are anything
-    /// else, or more octets, or where a gap goes to another multiple than 1, 2, 4 or 8. Takes no memory.
+    /// How many octets the members of the struct at an address have from a place on, 64 at most, if they are numbers and unique and reference
+    /// pointers. None where they are anything else, or more octets, or where a gap goes to another multiple than 1, 2, 4 or 8. Takes no memory.
     #[inline(always)]
     pub fn struct_len(&self, pc: usize, at: u32, members: u32) -> Option<u32>
         requires short { length self.now < 2 ^ 32 }

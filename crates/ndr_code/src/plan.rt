@@ -7,8 +7,8 @@ ghost use Rattle.ndr_code.specs.declared.TheConstants.{ADDRESS_LIMIT};
 use crate::{Code, EnumLists, PlanLines, SideStarts};
 use nd_types::Tie;
 
-/// A plan of an interface: how its values are laid out in a stream (C706, 14.2 to 14.4), as flat code. It has no table of types; its interface is that
-/// of its tie. Each plan is the plan of that interface, which is legal.
+/// A plan of an interface: how its values are laid out in a stream (C706, 14.2 to 14.4), as flat code. It has no table of types; its interface is
+/// that of its tie. Each plan is the plan of that interface, which is legal.
 #[derive(Drop)]
 pub struct Plan {
     /// The instructions.

@@ -1,5 +1,6 @@
 -- Each agreement that a stream of a sound graph tries stands after the count or tag that it speaks of.
-use Rattle.std.proofs.Common.{◌≡◌, ℕ, ◌+◌, ◌<◌, ◌≤◌, ◌-◌, zero, suc, Bool, true, false, List, [], ◌∷◌, ◌++◌, length, Option, Some, None, refl, ap, sym, ◌∙◌, inl, inr, ◌⊎◌, arith, subst, replicate, append_assoc, drop}
+use Rattle.std.proofs.Common.{◌≡◌, ℕ, ◌+◌, ◌<◌, ◌≤◌, ◌-◌, zero, suc, Bool, true, false, List, [], ◌∷◌, ◌++◌, length, Option, Some, None, refl, ap, sym, ◌∙◌, inl, inr, ◌⊎◌, arith, subst, replicate}
+use Rattle.std.proofs.Common.{append_assoc, drop}
 use Rattle.std.specs.Prelude.{flat_map, map, sum, cond, not, eqb, ◌||◌, ◌&&◌, filter, ◌==◌}
 use Rattle.std.specs.List.{AllByRecursion, slice_get, list_any, list_all, enumerate_from}
 use Rattle.std.proofs.lemmas.Grind.{flat_map-append}
@@ -24,7 +25,8 @@ use Rattle.nd_value.specs.Tree.{Tree, Trees, node, none, more, Label, Referent, 
 use Rattle.nd_value.specs.Agreement.{Agreement, agreement}
 use Rattle.nd_value.specs.Setting.{Setting, Among, root_list, root_at, or_unread, cell_at, cell_tree, cell_of_number, cell_home}
 use Rattle.nd_value.specs.Nodes.{TypedNode, nodes_of, child_types, child_agreements, first_agreements, rest_agreements}
-use Rattle.nd_value.specs.Deferral.{Pending, pointer, pointer_by, home_pointers, Due, due_root, due_referent, due_roots, before_pipes, Step, Deferral, none_due, at_root, at_null, at_standing, at_referent, Placed_cells, IsPlacedFull, Standing, standing_root, standing_by, standing_cell, root_type, root_cell, direct, due_of}
+use Rattle.nd_value.specs.Deferral.{Pending, pointer, pointer_by, home_pointers, Due, due_root, due_referent, due_roots, before_pipes, Step, Deferral, none_due, at_root, at_null, at_standing}
+use Rattle.nd_value.specs.Deferral.{at_referent, Placed_cells, IsPlacedFull, Standing, standing_root, standing_by, standing_cell, root_type, root_cell, direct, due_of}
 use Rattle.nd_value.specs.Variables.{root_agreements, variable}
 use Rattle.nd_value.proofs.Apart.{all_append, all_left, all_right, among_left, among_right}
 use Rattle.nd_value.proofs.NodeFacts.{IsSound}
@@ -39,7 +41,8 @@ use Rattle.nd_grammar.proofs.next.KnownNodes.{known_cells, known_roots}
 use Rattle.nd_grammar.proofs.next.NextPipes.{sum_first, count_drop, known_take, known_drop, pipe_label, unread_pipe}
 use Rattle.nd_grammar.proofs.next.NextStream.{IsLaidOut, IsPipeRoot, drop_at, all_at}
 use Rattle.nd_grammar.proofs.next.PointerPlaces.{root_there}
-use Rattle.nd_grammar.proofs.agreements.TestsFind.{IsReadKind, AreRead, Finds, onto, behind, Within, still_seen, now_seen, IsNoTest, kinds_find, kinds_read, is_read, read_label, AttrFits, AllFit, AgsFit, StandsAt, stands_more, HasSubjects, tests_find, child_fits, in_place_find, NodeStands, whole_find, whole_stands}
+use Rattle.nd_grammar.proofs.agreements.TestsFind.{IsReadKind, AreRead, Finds, onto, behind, Within, still_seen, now_seen, IsNoTest, kinds_find, kinds_read, is_read, read_label, AttrFits, AllFit}
+use Rattle.nd_grammar.proofs.agreements.TestsFind.{AgsFit, StandsAt, stands_more, HasSubjects, tests_find, child_fits, in_place_find, NodeStands, whole_find, whole_stands}
 
 -- what an agreement of a parameter speaks of is in its subject's type
 abbrev pub RootFits : Table → Root → Type 0
@@ -341,7 +344,8 @@ module _ (w : Setting) (g : Graph) (s : IsSound w g) (laid : IsLaidOut w) (subje
           ++ flat_map (pointer table (home.Root i)) (nodes_of table (child_types (type_at table t) (tree.Ptr (Some c)) ks) (child_agreements (type_at table t) ks) 1 ks
           ++ nodes_of table [] [] (1 + node_count ks) none))) e a)).0 c refl)
 
-      by_class : (k : Class) → type_at table t ≡ Some (def.Pointer k to) → StandsMet seen (standing_by g i t (node (tree.Ptr (Some c)) ks) (direct (Some (def.Pointer k to)) (node (tree.Ptr (Some c)) ks)))
+      by_class : (k : Class) → type_at table t ≡ Some (def.Pointer k to)
+          → StandsMet seen (standing_by g i t (node (tree.Ptr (Some c)) ks) (direct (Some (def.Pointer k to)) (node (tree.Ptr (Some c)) ks)))
           → (u : ℕ) × (to.0 ≡ u) × NodeStands table laid.hoisting subjects g (cell_home c) seen u (cell_at g c)
       by_class Ref e m = (to.0, refl, m.stands)
       by_class Unique e m = (to.0, refl, by_pointer Unique e m.pointers)

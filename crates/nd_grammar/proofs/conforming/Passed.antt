@@ -95,7 +95,8 @@ module _ (order : Order) (octets : List ℕ) (nums : ℕ → ℕ) where
   kind_passed seen at m (Context a i) os f e s = tt
 
   -- entries that are all spelt and not refused
-  pub all_passed : (seen : List EntryAt) (at : ℕ) (ms : List Entry) → AllFound seen at ms → AllByRecursion (IsRendered order nums octets) (end_to_end at ms) → Accepts order octets seen (end_to_end at ms)
+  pub all_passed : (seen : List EntryAt) (at : ℕ) (ms : List Entry) → AllFound seen at ms → AllByRecursion (IsRendered order nums octets) (end_to_end at ms)
+      → Accepts order octets seen (end_to_end at ms)
       → AllByRecursion Passed ms
   all_passed seen at [] f r a = tt
   all_passed seen at (m ∷ ms) f r a =

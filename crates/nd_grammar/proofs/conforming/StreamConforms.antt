@@ -68,7 +68,8 @@ root_pointer table n (r ∷ rs) (v ∷ vs) p m = go (parted (home_pointers table
         turn (inr a) = inr a
 
     go : Among (home_pointers table (home.Root n) r.of v) p ⊎ Among (root_pointers table (n + 1) rs vs) p
-        → (Among (root_pointers table (n + 1) rs vs) p → (j : ℕ) × (q : Root) × (u : Tree) × (slice_get rs j ≡ Some q) × (slice_get vs j ≡ Some u) × Among (home_pointers table (home.Root (n + 1 + j)) q.of u) p)
+        → (Among (root_pointers table (n + 1) rs vs) p
+        → (j : ℕ) × (q : Root) × (u : Tree) × (slice_get rs j ≡ Some q) × (slice_get vs j ≡ Some u) × Among (home_pointers table (home.Root (n + 1 + j)) q.of u) p)
         → (j : ℕ) × (q : Root) × (u : Tree) × (slice_get (r ∷ rs) j ≡ Some q) × (slice_get (v ∷ vs) j ≡ Some u) × Among (home_pointers table (home.Root (n + j)) q.of u) p
     go (inl a) f = let z : n ≡ n + 0 = omega arith in (0, r, v, refl, refl, subst (λ k. Among (home_pointers table (home.Root k) r.of v) p) z a)
     go (inr a) f =
@@ -84,7 +85,8 @@ own_none false h n t = tt
 pub no_child_tests : (h : Home) (n : ℕ) (ts : Trees) → AllByRecursion Passed (child_tests h [] n ts)
 no_child_tests h n none = tt
 no_child_tests h n (more (node l ks) ts) =
-    all_append Passed (own_tests (is_pointer l) h n (node l ks) []) (child_tests h [] (n + 1 + node_count ks) ts) (own_none (is_pointer l) h n (node l ks)) (no_child_tests h (n + 1 + node_count ks) ts)
+    all_append Passed (own_tests (is_pointer l) h n (node l ks) []) (child_tests h [] (n + 1 + node_count ks) ts) (own_none (is_pointer l) h n (node l ks))
+    (no_child_tests h (n + 1 + node_count ks) ts)
 
 pub whole_all : (table : Table) (h : Home) (t : ℕ) (v : Tree) → PassedAll (whole_value table h t v) → PassedAll (in_place table h (t ∷ []) 0 (more v none))
 whole_all table h t (node l ks) p =
@@ -92,7 +94,8 @@ whole_all table h t (node l ks) p =
 
 -- elements of one type, parted
 elements_parted : (table : Table) (h : Home) (e k n : ℕ) (ts : Trees) → k ≤ count ts
-    → in_place table h (replicate (count ts) e) n ts ≡ in_place table h (replicate k e) n (take_trees k ts) ++ in_place table h (replicate (count (drop_trees k ts)) e) (n + node_count (take_trees k ts)) (drop_trees k ts)
+    → in_place table h (replicate (count ts) e) n ts ≡ in_place table h (replicate k e) n (take_trees k ts)
+    ++ in_place table h (replicate (count (drop_trees k ts)) e) (n + node_count (take_trees k ts)) (drop_trees k ts)
 elements_parted table h e zero n ts b = ap (λ m. in_place table h (replicate (count ts) e) m ts) (omega arith)
 elements_parted table h e (suc k) n none b = absurd (omega arith)
 elements_parted table h e (suc k) n (more (node l ks) ts) b =
@@ -126,7 +129,8 @@ module _ (table : Table) (h : Home) (e : ℕ) where
       let f : least C ≡ 4 + least T = omega arith in
       omega arith
 
-  pub passed_chunks : (n : ℕ) (cut : List ℕ) (ts : Trees) → sum cut ≡ count ts → AllByRecursion Passed (chunks table h e n cut ts) → AllByRecursion Passed (in_place table h (replicate (count ts) e) n ts)
+  pub passed_chunks : (n : ℕ) (cut : List ℕ) (ts : Trees) → sum cut ≡ count ts → AllByRecursion Passed (chunks table h e n cut ts)
+      → AllByRecursion Passed (in_place table h (replicate (count ts) e) n ts)
   passed_chunks n [] none s p = tt
   passed_chunks n [] (more t ts) s p = let z : 0 ≡ suc (count ts) = s in absurd (omega arith)
   passed_chunks n (k ∷ cut) ts s p =

@@ -14,7 +14,8 @@ use Rattle.nd_value.specs.declared.item.Home.TheVariants as home
 use Rattle.nd_value.specs.Tree as tree
 use Rattle.nd_value.specs.Tree.{Tree, Trees, node, none, more, Label, Referent}
 use Rattle.nd_value.specs.Setting.{Setting, Among, root_list, root_at, or_unread, cell_home, cell_at, cell_tree, cell_of_number}
-use Rattle.nd_value.specs.Deferral.{Pending, home_pointers, Due, due_root, due_referent, Step, root_stands, referent_stands, stands_already, Deferral, none_due, at_root, at_null, at_standing, at_referent, IsPlaced, Placed_cells, Standing, standing_root, standing_by, standing_cell, direct, root_type, due_of, root_cell}
+use Rattle.nd_value.specs.Deferral.{Pending, home_pointers, Due, due_root, due_referent, Step, root_stands, referent_stands, stands_already, Deferral, none_due, at_root, at_null, at_standing}
+use Rattle.nd_value.specs.Deferral.{at_referent, IsPlaced, Placed_cells, Standing, standing_root, standing_by, standing_cell, direct, root_type, due_of, root_cell}
 use Rattle.nd_value.specs.Homes.{root_pointers, cell_pointers, all_pointers}
 use Rattle.nd_value.specs.Misfit.{is_no_null_ref}
 use Rattle.nd_value.specs.Conforms.{IsAgreed}
@@ -48,7 +49,8 @@ pub root_made : (table : Table) (rs : List Root) (vs : List Tree) → RootsMade 
     → MadeTrees table (r.of ∷ []) (more v none)
 root_made table rs [] m i r v e f = cc
 root_made table [] (u ∷ vs) m i r v e f = absurd m
-root_made table (q ∷ rs) (u ∷ vs) m zero r v e f = subst (λ x. MadeTrees table (x.of ∷ []) (more v none)) (same_Some _ _ e) (subst (λ x. MadeTrees table (q.of ∷ []) (more x none)) (same_Some _ _ f) m.0)
+root_made table (q ∷ rs) (u ∷ vs) m zero r v e f =
+    subst (λ x. MadeTrees table (x.of ∷ []) (more v none)) (same_Some _ _ e) (subst (λ x. MadeTrees table (q.of ∷ []) (more x none)) (same_Some _ _ f) m.0)
 root_made table (q ∷ rs) (u ∷ vs) m (suc i) r v e f = root_made table rs vs m.1 i r v e f
 
 module _ (w : Setting) (g : Graph) (typed : AllByRecursion (CellFits g.cells) (all_pointers w g)) (made : RootsMade w.table (root_list w) g.roots)
@@ -62,7 +64,8 @@ module _ (w : Setting) (g : Graph) (typed : AllByRecursion (CellFits g.cells) (a
   cell_fit n (y ∷ xs) a zero x e =
       let z : n ≡ n + 0 = omega arith in
       subst (λ k. AllByRecursion Fit (home_pointers w.table (cell_home k) x.of x.val)) z
-      (subst (λ u. AllByRecursion Fit (home_pointers w.table (cell_home n) u.of u.val)) (same_Some _ _ e) (all_left Fit (home_pointers w.table (cell_home n) y.of y.val) (cell_pointers w.table (n + 1) xs) a))
+      (subst (λ u. AllByRecursion Fit (home_pointers w.table (cell_home n) u.of u.val)) (same_Some _ _ e)
+      (all_left Fit (home_pointers w.table (cell_home n) y.of y.val) (cell_pointers w.table (n + 1) xs) a))
   cell_fit n (y ∷ xs) a (suc i) x e =
       let z : n + 1 + i ≡ n + suc i = omega arith in
       subst (λ k. AllByRecursion Fit (home_pointers w.table (cell_home k) x.of x.val)) z
@@ -76,7 +79,8 @@ module _ (w : Setting) (g : Graph) (typed : AllByRecursion (CellFits g.cells) (a
       let z : n ≡ n + 0 = omega arith in
       subst (λ k. AllByRecursion Fit (home_pointers w.table (home.Root k) r.of v)) z
       (subst (λ x. AllByRecursion Fit (home_pointers w.table (home.Root n) x.of v)) (same_Some _ _ e)
-      (subst (λ x. AllByRecursion Fit (home_pointers w.table (home.Root n) q.of x)) (same_Some _ _ f) (all_left Fit (home_pointers w.table (home.Root n) q.of u) (root_pointers w.table (n + 1) rs vs) a)))
+      (subst (λ x. AllByRecursion Fit (home_pointers w.table (home.Root n) q.of x)) (same_Some _ _ f)
+      (all_left Fit (home_pointers w.table (home.Root n) q.of u) (root_pointers w.table (n + 1) rs vs) a)))
   root_fit n (q ∷ rs) (u ∷ vs) a (suc i) r v e f =
       let z : n + 1 + i ≡ n + suc i = omega arith in
       subst (λ k. AllByRecursion Fit (home_pointers w.table (home.Root k) r.of v)) z

@@ -7,7 +7,8 @@ use Rattle.nd_value.specs.Tree.{Tree, none, more, Referent}
 use Rattle.nd_value.specs.Agreement.{Agreement}
 use Rattle.std.specs.List.{AllByRecursion}
 use Rattle.nd_value.specs.Setting.{Setting, cell_home, cell_at, cell_of_number}
-use Rattle.nd_value.specs.Deferral.{home_pointers, Due, due_root, Step, Deferral, none_due, at_root, at_null, at_standing, at_referent, due_of, standing_root, standing_cell, root_cell, Placed_cells, IsPlaced, IsPlacedFull, AreFree}
+use Rattle.nd_value.specs.Deferral.{home_pointers, Due, due_root, Step, Deferral, none_due, at_root, at_null, at_standing, at_referent, due_of, standing_root, standing_cell, root_cell, Placed_cells}
+use Rattle.nd_value.specs.Deferral.{IsPlaced, IsPlacedFull, AreFree}
 use Rattle.nd_value.proofs.DeferralLaws.{full_stands}
 use Rattle.nd_grammar.specs.Entry.{Entry}
 use Rattle.nd_grammar.specs.InPlace.{tests, whole_value}
@@ -21,7 +22,8 @@ use Rattle.nd_grammar.proofs.next.Next.{Pair, IsApart, homes_grown, Readings, Ne
 use Rattle.nd_grammar.proofs.next.Matching.{CellsMatch, Known}
 use Rattle.nd_grammar.proofs.next.NextInPlace.{tests_next}
 use Rattle.nd_grammar.proofs.next.NextWhole.{MaxesFrom}
-use Rattle.nd_grammar.proofs.next.Standings.{AreNamed, IsMap, map_grown, AreDue, due_grown, home_due, firsts, seconds, firsts_append, seconds_append, free_apart, SameTop, found_top, PairFits, Stands, RootsMeet, partner, partner', no_right, no_left, full_match, cells_of}
+use Rattle.nd_grammar.proofs.next.Standings.{AreNamed, IsMap, map_grown, AreDue, due_grown, home_due, firsts, seconds, firsts_append, seconds_append, free_apart, SameTop, found_top, PairFits, Stands}
+use Rattle.nd_grammar.proofs.next.Standings.{RootsMeet, partner, partner', no_right, no_left, full_match, cells_of}
 use Rattle.nd_grammar.proofs.next.NextSteps.{root_next, referent_next, known_cell, known_cell', after_root, after_null, after_standing, after_referent, next_due}
 
 module _ (two : Readings) (X : List Pair → Type 0) (w : Setting) (g g' : Graph)

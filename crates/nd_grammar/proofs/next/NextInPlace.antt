@@ -1,5 +1,6 @@
 -- The entries before an entry fix the next one, over values in their places.
-use Rattle.std.proofs.Common.{◌≡◌, ℕ, ◌+◌, ◌<◌, ℤ, Bool, true, false, List, [], ◌∷◌, ◌++◌, length, Option, Some, None, refl, ap, ap₂, sym, ◌∙◌, inl, inr, arith, subst, replicate, append_assoc, take, drop}
+use Rattle.std.proofs.Common.{◌≡◌, ℕ, ◌+◌, ◌<◌, ℤ, Bool, true, false, List, [], ◌∷◌, ◌++◌, length, Option, Some, None, refl, ap, ap₂, sym, ◌∙◌, inl, inr, arith, subst, replicate, append_assoc, take}
+use Rattle.std.proofs.Common.{drop}
 use Rattle.nd_types.specs.declared.types.TypeDef.{TypeDef}
 use Rattle.nd_types.specs.declared.types.TypeId.{TypeId}
 use Rattle.nd_types.specs.declared.types.Field.{Field}
@@ -14,7 +15,8 @@ use Rattle.nd_value.specs.declared.value.Graph.{Graph}
 use Rattle.std.proofs.lemmas.Bool.{and_parts, eqb-true}
 use Rattle.nd_grammar.proofs.next.Identifiers.{ids}
 use Rattle.nd_grammar.proofs.next.Next.{Pair, HomesMeet, Readings, Next, unread_left, unread_right}
-use Rattle.nd_grammar.proofs.next.Matching.{CellsMatch, Match, Matched, CountsKnown, Known, SameMax, Maxes, matched_nodes, matched_count, matched_number, child_agreements_same, through, pointer_bare, found_same}
+use Rattle.nd_grammar.proofs.next.Matching.{CellsMatch, Match, Matched, CountsKnown, Known, SameMax, Maxes, matched_nodes, matched_count, matched_number, child_agreements_same, through, pointer_bare}
+use Rattle.nd_grammar.proofs.next.Matching.{found_same}
 use Rattle.nd_value.specs.Misfit.{has_machine_values, is_no_null_ref}
 use Rattle.nd_value.specs.Tree.{Referent}
 use Rattle.nd_value.specs.Tree as tree
@@ -145,9 +147,11 @@ module _ (two : Readings) (W X : List Pair → Type 0) (map : List Pair) (one : 
       → Rest d l l' ks ks' ms ns
       → N at (entries h n (before_children table t d l ks) ++ ms) (entries h' n (before_children table t d l' ks') ++ ns)
   before_next t n ks ks' ms ns at v_prim v_prim a b c d i j e k =
-      inr (inr ([], one, meet, (refl, refl), λ _ _. inr (inr ([], one, meet, (refl, refl), λ x y. k _ (record { same = ap tree.Num (sym x.1 ∙ y.1); cells = tt; read = λ e. cc; read' = λ e. cc }) refl))))
+      inr (inr
+      ([], one, meet, (refl, refl), λ _ _. inr (inr ([], one, meet, (refl, refl), λ x y. k _ (record { same = ap tree.Num (sym x.1 ∙ y.1); cells = tt; read = λ e. cc; read' = λ e. cc }) refl))))
   before_next t n ks ks' ms ns at v_enum v_enum a b c d i j e k =
-      inr (inr ([], one, meet, (refl, refl), λ _ _. inr (inr ([], one, meet, (refl, refl), λ x y. k _ (record { same = ap tree.Num (sym x.1 ∙ y.1); cells = tt; read = λ e. cc; read' = λ e. cc }) refl))))
+      inr (inr
+      ([], one, meet, (refl, refl), λ _ _. inr (inr ([], one, meet, (refl, refl), λ x y. k _ (record { same = ap tree.Num (sym x.1 ∙ y.1); cells = tt; read = λ e. cc; read' = λ e. cc }) refl))))
   before_next t n ks ks' ms ns at v_struct v_struct a b c d i j e k =
       inr (inr ([], one, meet, (refl, refl), λ _ _. k _ (record { same = refl; cells = tt; read = λ e. cc; read' = λ e. cc }) refl))
   before_next t n ks ks' ms ns at (v_array {e = elem} {v = true} {m = m} {o = o}) (v_array {m = m'} {o = o'}) a b c d i j e0 k =
@@ -212,7 +216,26 @@ module _ (two : Readings) (W X : List Pair → Type 0) (map : List Pair) (one : 
       tag_next n (type_at table tag.0) arms default v v' ms ns at (λ p ev.
       k p (record { same = ap tree.Union ev; cells = tt; read = λ e. cc; read' = λ e. cc }) (ap (λ u. child_types (Some (def.Union tag enc arms default)) (tree.Union u) ks) ev))
   before_next t n ks ks' ms ns at (v_pointer {k = kl} {to = to} {c = p}) (v_pointer {c = q}) a b c d i j e k =
-      inr (inr ([], one, meet, (refl, refl), λ _ _. inr (inr ([], one, meet, (refl, refl), λ x y. k _ (record { same = refl; cells = cells_match two.left two.right two.left_low two.right_low kl p q _ (no_null kl to p c) (no_null kl to q d) x.1 y.1; read = λ e. cc; read' = λ e. cc }) refl))))
+      inr (inr (
+        [],
+        one,
+        meet,
+        (refl, refl),
+        λ _ _. inr
+            (inr (
+              [],
+              one,
+              meet,
+              (refl, refl),
+              λ x y. k _
+                  (record {
+                    same = refl;
+                    cells = cells_match two.left two.right two.left_low two.right_low kl p q _ (no_null kl to p c) (no_null kl to q d) x.1 y.1;
+                    read = λ e. cc;
+                    read' = λ e. cc;
+                  }) refl,
+            )),
+      ))
   before_next t n ks ks' ms ns at (v_context {i = id}) (v_context {i = id'}) a b c d i j e k =
       inr (inr (
         [],

@@ -22,7 +22,8 @@ use Rattle.nd_grammar.proofs.next.Matching.{CellsMatch, Matched, Known}
 use Rattle.nd_grammar.proofs.next.NextInPlace.{tests_next}
 use Rattle.nd_grammar.proofs.next.NextWhole.{MaxesFrom, whole_value_next, unread_whole, unread_entry}
 use Rattle.nd_grammar.proofs.next.Carried.{InMap, AllInMap}
-use Rattle.nd_grammar.proofs.next.Standings.{firsts, seconds, one_to_one, IsMap, map_grown, found_top, top_of, PairFits, IsClosed, Stands, RootsAlike, RootsMeet, IsUnreadTree, in_map, carried_parts, home_match, home_carried}
+use Rattle.nd_grammar.proofs.next.Standings.{firsts, seconds, one_to_one, IsMap, map_grown, found_top, top_of, PairFits, IsClosed, Stands, RootsAlike, RootsMeet, IsUnreadTree, in_map, carried_parts}
+use Rattle.nd_grammar.proofs.next.Standings.{home_match, home_carried}
 
 module _ (two : Readings) (X : List Pair → Type 0) (w : Setting) (g g' : Graph)
     (cells : (c : ℕ) (x : Referent) → cell_of_number g c ≡ Some x → Known g w.table (x.of ∷ []) (more x.val none))

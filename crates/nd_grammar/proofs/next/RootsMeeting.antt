@@ -227,7 +227,8 @@ module _ (two : Readings) (w : Setting) (g g' : Graph) (s : IsSound w g) (s' : I
   past_left i e =
       let f : root_at g i ≡ unread = ap or_unread (slice_get_past g.roots i (past (root_list w) i e (length g.roots) s.all_roots)) in
       subst (λ v. IsUnreadTree two w g g' (standing_by g i (root_type (slice_get (root_list w) i)) v (direct (type_at w.table (root_type (slice_get (root_list w) i))) v)).val) (sym f)
-      (subst (λ o. IsUnreadTree two w g g' (standing_by g i (root_type (slice_get (root_list w) i)) unread o).val) (sym (unread_direct (type_at w.table (root_type (slice_get (root_list w) i))) none)) refl)
+      (subst (λ o. IsUnreadTree two w g g' (standing_by g i (root_type (slice_get (root_list w) i)) unread o).val)
+      (sym (unread_direct (type_at w.table (root_type (slice_get (root_list w) i))) none)) refl)
 
   pub roots_meet : (i : ℕ) → RootsMeet two w g g' i (standing_root w g i) (standing_root w g' i)
   roots_meet i = by_root (slice_get (root_list w) i) refl
@@ -237,5 +238,6 @@ module _ (two : Readings) (w : Setting) (g g' : Graph) (s : IsSound w g) (s' : I
       by_root (Some r) e =
           subst (λ t. RootsMeet two w g g' i (standing_by g i t (root_at g i) (direct (type_at w.table t) (root_at g i)))
           (standing_by g' i t (root_at g' i) (direct (type_at w.table t) (root_at g' i)))) (sym (ap root_type e))
-          (roots_meet_as two w g g' (known_cells w g s) (known_cells w g' s') i r.of (ap root_type e) (in_root w g s.all_roots i r e) (in_root w g' s'.all_roots i r e) (root_at g i) (root_at g' i) refl refl
+          (roots_meet_as two w g g' (known_cells w g s) (known_cells w g' s') i r.of (ap root_type e) (in_root w g s.all_roots i r e) (in_root w g' s'.all_roots i r e) (root_at g i)
+          (root_at g' i) refl refl
           (known_roots w g s i r e) (known_roots w g' s' i r e))

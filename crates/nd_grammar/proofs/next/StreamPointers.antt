@@ -21,7 +21,8 @@ use Rattle.nd_value.specs.Agreement.{Agreement}
 use Rattle.nd_value.specs.Setting.{Setting, Among, root_list, cell_at, cell_of_number, cell_home}
 use Rattle.nd_value.specs.Nodes.{TypedNode, nodes_of, child_types, child_agreements, first_agreements, rest_agreements}
 use Rattle.nd_value.specs.Variables.{root_agreements}
-use Rattle.nd_value.specs.Deferral.{Pending, pointer, pointer_by, home_pointers, Due, due_root, due_referent, due_roots, before_pipes, Step, Deferral, none_due, at_root, at_null, at_standing, at_referent, Standing, standing_root, standing_cell, due_of, Placed_cells}
+use Rattle.nd_value.specs.Deferral.{Pending, pointer, pointer_by, home_pointers, Due, due_root, due_referent, due_roots, before_pipes, Step, Deferral, none_due, at_root, at_null, at_standing}
+use Rattle.nd_value.specs.Deferral.{at_referent, Standing, standing_root, standing_cell, due_of, Placed_cells}
 use Rattle.nd_value.specs.Homes.{in_home, root_nodes, cell_nodes, all_nodes, root_pointers, cell_pointers, all_pointers}
 use Rattle.nd_value.specs.Misfit.{is_no_null_ref, names_cell, names_pointee}
 use Rattle.nd_value.proofs.Apart.{all_append, all_left, all_right, all_map, all_among, among_left, among_right}

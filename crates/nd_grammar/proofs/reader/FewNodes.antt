@@ -221,7 +221,8 @@ module _ (table : Table) (h : Home) (laid : HoistsLast table) (members : (t : �
       few : AllFew depth (child_types (Some d) l ks) (n + 1) ks
       few =
           list_few depth (child_types (Some d) l ks) (in_parts (Few depth) (Some d) l ks a) (n + 1) ks kids
-          (all_left Passed (I n d l ks) (child_tests h (child_agreements (Some d) ks) (n + 1) ks) (all_right Passed (B t n d l ks) (I n d l ks ++ child_tests h (child_agreements (Some d) ks) (n + 1) ks) p))
+          (all_left Passed (I n d l ks) (child_tests h (child_agreements (Some d) ks) (n + 1) ks)
+          (all_right Passed (B t n d l ks) (I n d l ks ++ child_tests h (child_agreements (Some d) ks) (n + 1) ks) p))
 
       by_made : MadeNode table (Some d) l ks → Bound (suc depth) (least (node_entries table h t (Some d) n (node l ks)) + one (hoists table t)) (tree_nodes (node l ks))
       by_made (inl u) = absurd (unread_entry table t (Some d) ks (subst (λ k. AllByRecursion HasPassed (before_children table t (Some d) k ks)) u own))

@@ -172,7 +172,8 @@ module _ (g : Graph) where
       let R : List TypedNode = nodes_of table types (rest_agreements ags) (n + 1 + node_count ks) ts in
       let R' : List TypedNode = nodes_of table types (rest_agreements ags') (n + 1 + node_count ks) ts in
       let (b, c) = all_flat_left (pointer table h) K R' (all_right (CellFits g.cells) own (flat_map (pointer table h) (K ++ R')) a) in (
-        made_node table n t (first_agreements ags) (first_agreements ags') l ks h m.0 (made_count table (child_types d l ks) ks m.1) (all_left (CellFits g.cells) own (flat_map (pointer table h) (K ++ R')) a),
+        made_node table n t (first_agreements ags) (first_agreements ags') l ks h m.0 (made_count table (child_types d l ks) ks m.1)
+            (all_left (CellFits g.cells) own (flat_map (pointer table h) (K ++ R')) a),
         all_append (IsPartialNode table) K R (made_nodes table h (child_types d l ks) (child_agreements d ks) (child_agreements d ks) (n + 1) ks m.1 b)
             (made_nodes table h types (rest_agreements ags) (rest_agreements ags') (n + 1 + node_count ks) ts m.2 c),
       )

@@ -103,7 +103,8 @@ set_pointers table n zero v (y ∷ cells) x e b =
     record {
       before = [];
       behind = cell_pointers table (n + 1) cells;
-      was = ap (λ u. u ++ cell_pointers table (n + 1) cells) (ap (λ u. home_pointers table (cell_home n) y.of u.val) s ∙ ap (home_pointers table (cell_home n) y.of) b ∙ unread_pointers table (cell_home n) y.of);
+      was = ap (λ u. u ++ cell_pointers table (n + 1) cells)
+          (ap (λ u. home_pointers table (cell_home n) y.of u.val) s ∙ ap (home_pointers table (cell_home n) y.of) b ∙ unread_pointers table (cell_home n) y.of);
       is = ap₂ (λ k u. home_pointers table (cell_home k) u v ++ cell_pointers table (n + 1) cells) z (ap (λ u. u.of) s);
     }
 set_pointers table n (suc i) v (y ∷ cells) x e b =
@@ -128,7 +129,8 @@ root_more table n [] vs r v e = cc
 root_more table n (q ∷ rs) [] r v e =
     let s : q ≡ r = same_Some _ _ e in
     let z : n ≡ n + 0 = omega arith in
-    ap (λ u. home_pointers table (home.Root n) q.of v ++ u) (no_roots table (n + 1) rs) ∙ append-nil (home_pointers table (home.Root n) q.of v) ∙ ap₂ (λ k u. home_pointers table (home.Root k) u.of v) z s
+    ap (λ u. home_pointers table (home.Root n) q.of v ++ u) (no_roots table (n + 1) rs) ∙ append-nil (home_pointers table (home.Root n) q.of v)
+    ∙ ap₂ (λ k u. home_pointers table (home.Root k) u.of v) z s
 root_more table n (q ∷ rs) (u ∷ vs) r v e =
     let z : n + 1 + length vs ≡ n + suc (length vs) = omega arith in
     let H : List Pending = home_pointers table (home.Root n) q.of u in

@@ -19,11 +19,13 @@ use Rattle.nd_value.specs.Nodes.{child_types, child_agreements}
 use Rattle.nd_grammar.specs.declared.reason.Reason.{Reason}
 use Rattle.nd_grammar.specs.Entry.{Kind, Entry, Align, Max, Offset, Actual, Tag}
 use Rattle.nd_grammar.specs.InPlace.{before_children, entries, tag_entries, in_place, child_tests, hoisted, hoisted_max, own_max, whole_value}
-use Rattle.nd_grammar.specs.Reader.{Progress, Names, Read, ReadAll, is_stopped, pass, pass_all, taken, number_in, value_in, read_if, read_list, tree_nodes, read_children, read_array, read_tagged, read_by, read_in_place, read_hoisted, read_whole, bound_or}
+use Rattle.nd_grammar.specs.Reader.{Progress, Names, Read, ReadAll, is_stopped, pass, pass_all, taken, number_in, value_in, read_if, read_list, tree_nodes, read_children, read_array, read_tagged}
+use Rattle.nd_grammar.specs.Reader.{read_by, read_in_place, read_hoisted, read_whole, bound_or}
 use Rattle.nd_grammar.proofs.next.HoistedMaxes.{HoistsLast, last_of, struct_last}
 use Rattle.nd_grammar.proofs.next.Mapped.{in_parts}
 use Rattle.nd_grammar.proofs.reader.ReaderSteps.{Follows, follows_append, follows_stopped, follows_child_tests}
-use Rattle.nd_grammar.proofs.reader.ReaderNodes.{Agree, Grown, grown_agree, grown_twice, named_grown, follows_number, follows_tag, follows_counts, follows_max, follows_text, follows_context, follows_pointer}
+use Rattle.nd_grammar.proofs.reader.ReaderNodes.{Agree, Grown, grown_agree, grown_twice, named_grown, follows_number, follows_tag, follows_counts, follows_max, follows_text, follows_context}
+use Rattle.nd_grammar.proofs.reader.ReaderNodes.{follows_pointer}
 
 -- a type that can be read in place: a pipe never is there, and a tag is a number
 abbrev pub Fine : Table → TypeDef → Type 0

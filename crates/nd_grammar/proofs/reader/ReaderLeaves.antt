@@ -22,7 +22,8 @@ use Rattle.nd_value.specs.Nodes.{TypedNode, nodes_of, child_types, child_agreeme
 use Rattle.nd_value.specs.Deferral.{Pending, pointer, pointer_by}
 use Rattle.nd_grammar.specs.Entry.{Kind, Entry, Align, Offset, Actual, Number, Num, Tag, Text, Context}
 use Rattle.nd_grammar.specs.InPlace.{child_tests}
-use Rattle.nd_grammar.specs.Reader.{Progress, Names, Read, ReadAll, is_stopped, pass, taken, number_in, value_in, text_in, attributes_in, identifier_in, read_if, read_list, tree_nodes, read_children, read_array, read_text, read_tagged, read_context, read_number, read_by, read_in_place, bound_or}
+use Rattle.nd_grammar.specs.Reader.{Progress, Names, Read, ReadAll, is_stopped, pass, taken, number_in, value_in, text_in, attributes_in, identifier_in, read_if, read_list, tree_nodes, read_children}
+use Rattle.nd_grammar.specs.Reader.{read_array, read_text, read_tagged, read_context, read_number, read_by, read_in_place, bound_or}
 use Rattle.nd_grammar.proofs.next.Mapped.{in_parts}
 use Rattle.nd_grammar.proofs.reader.ReaderInPlace.{Readable, list_read, Reads, in_place_read}
 use Rattle.nd_grammar.proofs.reader.ReaderNames.{Extends, extends_itself, extends_twice, linked_pass, linked_all, no_pointers_ok, pointers_joined}
@@ -117,7 +118,8 @@ module _ (order : Order) (octets : List ℕ) (table : Table) (h : Home) where
         extends = a.extends;
         linked = λ x. linked_all order octets kids.progress kids.names (child_tests h (child_agreements d kids.trees) (n + 1) kids.trees) (a.linked (before x));
         pointers = λ x k ags.
-            subst (λ u. PointersOk s kids.names (u ++ flat_map (pointer table h) (nodes_of table (child_types d l kids.trees) (child_agreements d kids.trees) (k + 1) kids.trees))) (sym (none_own k ags))
+            subst (λ u. PointersOk s kids.names (u ++ flat_map (pointer table h) (nodes_of table (child_types d l kids.trees) (child_agreements d kids.trees) (k + 1) kids.trees)))
+            (sym (none_own k ags))
             (subst (λ u. PointersOk s kids.names (flat_map (pointer table h) (nodes_of table u (child_agreements d kids.trees) (k + 1) kids.trees))) (sym same)
             (a.pointers (before x) (k + 1) (child_agreements d kids.trees)));
       }

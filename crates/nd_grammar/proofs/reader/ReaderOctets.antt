@@ -71,10 +71,13 @@ module _ (order : Order) (octets : List ℕ) (all : AreOctets octets) where
       → AreOctets (b0 ∷ b1 ∷ b2 ∷ b3 ∷ b4 ∷ b5 ∷ b6 ∷ b7 ∷ b8 ∷ b9 ∷ b10 ∷ b11 ∷ b12 ∷ b13 ∷ b14 ∷ b15 ∷ [])
       → IsIdentifier (identifier which octets (b0 ∷ b1 ∷ b2 ∷ b3 ∷ b4 ∷ b5 ∷ b6 ∷ b7 ∷ b8 ∷ b9 ∷ b10 ∷ b11 ∷ b12 ∷ b13 ∷ b14 ∷ b15 ∷ []))
   by_order Little b0 b1 b2 b3 b4 b5 b6 b7 b8 b9 b10 b11 b12 b13 b14 b15 a = record {
-    are_octets = octet_list (b3 ∷ b2 ∷ b1 ∷ b0 ∷ b5 ∷ b4 ∷ b7 ∷ b6 ∷ b8 ∷ b9 ∷ b10 ∷ b11 ∷ b12 ∷ b13 ∷ b14 ∷ b15 ∷ []) (a.1.1.1.0, (a.1.1.0, (a.1.0, (a.0, (a.1.1.1.1.1.0, (a.1.1.1.1.0, (a.1.1.1.1.1.1.1.0, (a.1.1.1.1.1.1.0, a.1.1.1.1.1.1.1.1))))))));
+    are_octets =
+        octet_list (b3 ∷ b2 ∷ b1 ∷ b0 ∷ b5 ∷ b4 ∷ b7 ∷ b6 ∷ b8 ∷ b9 ∷ b10 ∷ b11 ∷ b12 ∷ b13 ∷ b14 ∷ b15 ∷ [])
+        (a.1.1.1.0, (a.1.1.0, (a.1.0, (a.0, (a.1.1.1.1.1.0, (a.1.1.1.1.0, (a.1.1.1.1.1.1.1.0, (a.1.1.1.1.1.1.0, a.1.1.1.1.1.1.1.1))))))));
     sixteen = refl;
   }
-  by_order Big b0 b1 b2 b3 b4 b5 b6 b7 b8 b9 b10 b11 b12 b13 b14 b15 a = record { are_octets = octet_list (b0 ∷ b1 ∷ b2 ∷ b3 ∷ b4 ∷ b5 ∷ b6 ∷ b7 ∷ b8 ∷ b9 ∷ b10 ∷ b11 ∷ b12 ∷ b13 ∷ b14 ∷ b15 ∷ []) a; sixteen = refl }
+  by_order Big b0 b1 b2 b3 b4 b5 b6 b7 b8 b9 b10 b11 b12 b13 b14 b15 a =
+      record { are_octets = octet_list (b0 ∷ b1 ∷ b2 ∷ b3 ∷ b4 ∷ b5 ∷ b6 ∷ b7 ∷ b8 ∷ b9 ∷ b10 ∷ b11 ∷ b12 ∷ b13 ∷ b14 ∷ b15 ∷ []) a; sixteen = refl }
 
   by_list : (os : List ℕ) → length os ≡ 16 → AreOctets os → IsIdentifier (identifier order octets os)
   by_list [] e a = absurd (omega arith)

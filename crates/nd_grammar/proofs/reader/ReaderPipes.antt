@@ -1,5 +1,6 @@
 -- Reading pipes: their elements in chunks, each paid by the octets of its count.
-use Rattle.std.proofs.Common.{◌≡◌, ℕ, ◌+◌, ◌*◌, ◌<◌, ◌≤◌, zero, suc, Bool, true, false, List, [], ◌∷◌, ◌++◌, length, Option, Some, None, refl, ap, ap₂, sym, ◌∙◌, inl, inr, ◌⊎◌, arith, subst, replicate, length-append}
+use Rattle.std.proofs.Common.{◌≡◌, ℕ, ◌+◌, ◌*◌, ◌<◌, ◌≤◌, zero, suc, Bool, true, false, List, [], ◌∷◌, ◌++◌, length, Option, Some, None, refl, ap, ap₂, sym, ◌∙◌, inl, inr, ◌⊎◌, arith, subst}
+use Rattle.std.proofs.Common.{replicate, length-append}
 use Rattle.std.specs.Prelude.{flat_map, eqb}
 use Rattle.std.specs.List.{AllByRecursion}
 use Rattle.std.proofs.lemmas.List.{append-nil, length-replicate}
@@ -294,7 +295,8 @@ module _ (w : Setting) (side : IsLegalSide w) (order : Order) (octets : List ℕ
       subst (λ d. OnePipe i r p s (read_pipe w order octets d true i p s) unread) (sym pr.type_is) (unread_pipe i r p s x e (type_at w.table r.of) refl)
   read_one i r pr p s b None e =
       let x : TypeId = pr.elem in
-      let a : PipeRead (home.Root i) x.0 (usable_readable w.table side.operations side.legal x.0 (element_usable w.table side.operations side.legal r.of x pr.type_is)) (laid.elements r.of x pr.type_is) 1 p s
+      let a : PipeRead (home.Root i) x.0 (usable_readable w.table side.operations side.legal x.0 (element_usable w.table side.operations side.legal r.of x pr.type_is))
+      (laid.elements r.of x pr.type_is) 1 p s
       (read_chunks w order octets (length octets + 1) (home.Root i) x.0 1 p s) =
       chunks_read (home.Root i) x.0 (usable_readable w.table side.operations side.legal x.0 (element_usable w.table side.operations side.legal r.of x pr.type_is)) (laid.elements r.of x pr.type_is)
       (length octets + 1) 1 p s b (omega arith) in

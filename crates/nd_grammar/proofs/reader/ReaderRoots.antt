@@ -1,5 +1,6 @@
 -- The reader's turns at roots, and all its turns over what is due.
-use Rattle.std.proofs.Common.{◌≡◌, ℕ, ◌+◌, ◌*◌, ◌<◌, ◌≤◌, zero, suc, Bool, true, false, List, [], ◌∷◌, ◌++◌, length, Option, Some, None, refl, ap, ap₂, sym, ◌∙◌, inl, inr, ◌⊎◌, arith, subst, append_assoc, length-append}
+use Rattle.std.proofs.Common.{◌≡◌, ℕ, ◌+◌, ◌*◌, ◌<◌, ◌≤◌, zero, suc, Bool, true, false, List, [], ◌∷◌, ◌++◌, length, Option, Some, None, refl, ap, ap₂, sym, ◌∙◌, inl, inr, ◌⊎◌, arith, subst}
+use Rattle.std.proofs.Common.{append_assoc, length-append}
 use Rattle.std.specs.Prelude.{map, flat_map}
 use Rattle.std.specs.List.{AllByRecursion, slice_get}
 use Rattle.std.proofs.lemmas.Option.{slice_get-get_or}
@@ -36,7 +37,8 @@ use Rattle.nd_grammar.proofs.reader.ReaderCells.{more_pointers, root_more, put_b
 use Rattle.nd_grammar.proofs.reader.EntriesFine.{Fine}
 use Rattle.nd_grammar.proofs.reader.ReaderReached.{reached_root}
 use Rattle.nd_grammar.proofs.reader.ReaderStates.{Numbered, roots_made_more, WholeRead, read_wholly, referent_state}
-use Rattle.nd_grammar.proofs.reader.ReaderTurns.{Settled, Goes, goes_nowhere, goes_twice, Turn, joined_due, one_longer, at_end, root_turn, placed_there, pending_turn, settled_before, value_settled, R_so}
+use Rattle.nd_grammar.proofs.reader.ReaderTurns.{Settled, Goes, goes_nowhere, goes_twice, Turn, joined_due, one_longer, at_end, root_turn, placed_there, pending_turn, settled_before, value_settled}
+use Rattle.nd_grammar.proofs.reader.ReaderTurns.{R_so}
 use Rattle.nd_grammar.proofs.reader.MadeTrees.{one_made}
 use Rattle.nd_grammar.specs.MadeTrees.{MadeTree, MadeTrees}
 use Rattle.nd_grammar.proofs.legal.LegalUsable.{pointee_usable, root_usable}

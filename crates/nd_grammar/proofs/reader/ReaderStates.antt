@@ -29,7 +29,8 @@ use Rattle.nd_grammar.proofs.reader.ReaderWhole.{whole_leaves}
 use Rattle.nd_grammar.proofs.reader.ReaderMoves.{Moves, all_moves}
 use Rattle.nd_grammar.proofs.reader.ReaderMakes.{Costs, whole_makes}
 use Rattle.nd_grammar.proofs.reader.ReaderReached.{reached_set}
-use Rattle.nd_grammar.proofs.reader.ReaderCells.{cell_positive, Inserted, value_is, more_pointers, put_between, pointers_kept, numbers_kept, linked_kept, value_length, set, set_other, set_made, set_pointers, blank_made, old_or_blank}
+use Rattle.nd_grammar.proofs.reader.ReaderCells.{cell_positive, Inserted, value_is, more_pointers, put_between, pointers_kept, numbers_kept, linked_kept, value_length, set, set_other, set_made}
+use Rattle.nd_grammar.proofs.reader.ReaderCells.{set_pointers, blank_made, old_or_blank}
 use Rattle.nd_grammar.proofs.reader.MadeTrees.{one_made}
 use Rattle.nd_grammar.specs.MadeTrees.{MadeTrees}
 use Rattle.nd_grammar.proofs.legal.LegalUsable.{small_bounds, usable_readable, pointers_usable}
@@ -98,12 +99,14 @@ module _ (w : Setting) (side : IsLegalSide w) (order : Order) (octets : List ℕ
         fine = λ l xs g. fine_whole (Numbered xs) w.table h t r.tree (full_ok s r.names xs g (home_pointers w.table h t r.tree) (subst (PointersOk s r.names) (sym e) (b.pointers l 0 [])).each);
       }
 
-  named_cell : (done : Placed_cells) (taken : List Pending) (p : Pending) (c : ℕ) → Named w side order octets all done taken → p.cell ≡ Some c → Named w side order octets all ((p.class, c) ∷ done) (taken ++ p ∷ [])
+  named_cell : (done : Placed_cells) (taken : List Pending) (p : Pending) (c : ℕ) → Named w side order octets all done taken → p.cell ≡ Some c
+      → Named w side order octets all ((p.class, c) ∷ done) (taken ++ p ∷ [])
   named_cell done taken p c named e b (inl h) = (p, among_right taken (p ∷ []) p (inl refl), e ∙ ap Some (sym h), λ f. inl (f, h))
   named_cell done taken p c named e b (inr h) = let (q, a, e', f) = named b h in (q, among_left taken (p ∷ []) q a, e', λ k. inr (f k))
 
   -- the referent of a pointer is read
-  module _ (s : Reading) (taken : List Pending) (p : Pending) (ps : List Pending) (n c : ℕ) (due : List Due) (state : State w side order octets all s taken (p ∷ ps) n) (is : p.cell ≡ Some c) (free : ¬ IsPlaced s.done c) where
+  module _ (s : Reading) (taken : List Pending) (p : Pending) (ps : List Pending) (n c : ℕ) (due : List Due) (state : State w side order octets all s taken (p ∷ ps) n) (is : p.cell ≡ Some c)
+      (free : ¬ IsPlaced s.done c) where
     abbrev referent : Read
     referent = read_whole order octets w.table (cell_home c) p.to s.progress s.names
 
@@ -198,7 +201,8 @@ module _ (w : Setting) (side : IsLegalSide w) (order : Order) (octets : List ℕ
       cells_made = cells_then;
       within = moves_then.within (read_so.moves.within state.within);
       few = omega (arith, state.few, read_so.cells, read_so.cost, moves_then.paid_more, value_length c referent.tree referent.names);
-      reached = reached_set w s.roots s.names referent.names read_so.extends.new read_so.extends.cells c the_cell (cell_positive s.names.cells c the_cell at_cell.there.1) at_cell.within at_cell.there.1
+      reached =
+          reached_set w s.roots s.names referent.names read_so.extends.new read_so.extends.cells c the_cell (cell_positive s.names.cells c the_cell at_cell.there.1) at_cell.within at_cell.there.1
           blank_then p.to at_cell.there.2 referent.tree read_so.covered state.reached;
     }
 

@@ -1,5 +1,6 @@
 -- What a whole stream that is read says: its graph is a partial one, its entries are a stream of it, and reading goes over them.
-use Rattle.std.proofs.Common.{◌≡◌, ℕ, ◌+◌, ◌^◌, ◌<◌, ◌≤◌, zero, suc, Bool, true, false, List, [], ◌∷◌, ◌++◌, length, Option, Some, None, refl, ap, ap₂, sym, ◌∙◌, inl, inr, arith, subst, replicate, drop, append_assoc, length-append}
+use Rattle.std.proofs.Common.{◌≡◌, ℕ, ◌+◌, ◌^◌, ◌<◌, ◌≤◌, zero, suc, Bool, true, false, List, [], ◌∷◌, ◌++◌, length, Option, Some, None, refl, ap, ap₂, sym, ◌∙◌, inl, inr, arith, subst, replicate}
+use Rattle.std.proofs.Common.{drop, append_assoc, length-append}
 use Rattle.std.specs.Prelude.{map, flat_map, filter, cond, not, ◌&&◌, nat_le, eqb}
 use Rattle.std.specs.List.{AllByRecursion, slice_get, list_all}
 use Rattle.std.proofs.lemmas.List.{append-nil, length-replicate}
@@ -95,7 +96,8 @@ roots_few w side_of =
     let b : length B ≤ 1 = result_few w.side w.op.result in
     let c : length C ≤ length ps = filter_few (λ r. r.is_pipe) ps in
     let d : length ps ≤ length w.op.params = params_few w.table w.side 0 w.op.params in
-    let e : length w.op.params ≤ 256 = leb-true (length w.op.params) PARAM_LIMIT (of_operation (λ o. nat_le (length o.params) PARAM_LIMIT) side_of.operations side_of.legal.few_params w.op side_of.operation) in
+    let e : length w.op.params ≤ 256 =
+    leb-true (length w.op.params) PARAM_LIMIT (of_operation (λ o. nat_le (length o.params) PARAM_LIMIT) side_of.operations side_of.legal.few_params w.op side_of.operation) in
     let f : length ((A ++ B) ++ C) ≡ length (A ++ B) + length C = length-append (A ++ B) C in
     let g : length (A ++ B) ≡ length A + length B = length-append A B in
     omega (arith, a, b, c, d, e, f, g)

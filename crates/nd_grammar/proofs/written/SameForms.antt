@@ -1,5 +1,6 @@
 -- For graphs that are the same up to the numbers of their cells, the same octets are written.
-use Rattle.std.proofs.Common.{◌≡◌, ℕ, ◌+◌, ◌<◌, ◌≤◌, zero, suc, Bool, true, false, List, [], ◌∷◌, ◌++◌, length, Option, Some, None, refl, ap, ap₂, sym, ◌∙◌, inl, inr, ◌⊎◌, arith, subst, replicate, drop}
+use Rattle.std.proofs.Common.{◌≡◌, ℕ, ◌+◌, ◌<◌, ◌≤◌, zero, suc, Bool, true, false, List, [], ◌∷◌, ◌++◌, length, Option, Some, None, refl, ap, ap₂, sym, ◌∙◌, inl, inr, ◌⊎◌, arith, subst, replicate}
+use Rattle.std.proofs.Common.{drop}
 use Rattle.std.specs.Prelude.{map, flat_map, eqb, cond}
 use Rattle.std.specs.List.{AllByRecursion, slice_get}
 use Rattle.std.proofs.lemmas.Bool.{eqb-true, eqb-false, eq-eqb}
@@ -19,7 +20,8 @@ use Rattle.nd_value.specs.Tree as tree
 use Rattle.nd_value.specs.Tree.{Tree, Trees, node, none, more, Label, Referent, trees, count, node_count, take_trees, drop_trees}
 use Rattle.nd_value.specs.Setting.{Setting, Among, root_list, root_at, or_unread, cell_home, cell_at, cell_tree}
 use Rattle.nd_value.specs.Nodes.{nodes_of}
-use Rattle.nd_value.specs.Deferral.{Pending, pointer, home_pointers, Due, due_root, due_referent, due_roots, before_pipes, Step, Deferral, none_due, at_root, at_null, at_standing, at_referent, IsPlaced, Placed_cells, Standing, standing_root, standing_by, standing_cell, direct, root_type, due_of, root_cell}
+use Rattle.nd_value.specs.Deferral.{Pending, pointer, home_pointers, Due, due_root, due_referent, due_roots, before_pipes, Step, Deferral, none_due, at_root, at_null, at_standing, at_referent}
+use Rattle.nd_value.specs.Deferral.{IsPlaced, Placed_cells, Standing, standing_root, standing_by, standing_cell, direct, root_type, due_of, root_cell}
 use Rattle.nd_value.specs.Canon.{named, own_cell, named_cells, has, number_from, canonical_number}
 use Rattle.nd_value.specs.Conforms.{Conforms}
 use Rattle.nd_value.specs.Misfit.{is_no_null_ref}
@@ -39,7 +41,8 @@ use Rattle.nd_grammar.proofs.next.NextStream.{IsPipeRoot, FitsPipes}
 use Rattle.nd_grammar.proofs.reader.ReaderTests.{IsTest, root_tests_are}
 use Rattle.nd_grammar.proofs.ChosenRepresents.{w_roots, own_by, own_within, cell_within, none_inside, dues, steps_within, of_named, all_members}
 use Rattle.nd_grammar.proofs.written.WritableTrees.{WritableTrees}
-use Rattle.nd_grammar.proofs.RenumberedEntries.{count_same, take_same, drop_same, carried, PendLike, AllPend, pointers_alike, named_same, AllSame, same_append, same_octets, OneNumber, in_place_alike, whole_alike}
+use Rattle.nd_grammar.proofs.RenumberedEntries.{count_same, take_same, drop_same, carried, PendLike, AllPend, pointers_alike, named_same, AllSame, same_append, same_octets, OneNumber, in_place_alike}
+use Rattle.nd_grammar.proofs.RenumberedEntries.{whole_alike}
 
 -- tests are not written
 skip_tests : (order : Order) (nums : ℕ → ℕ) (ts qs : List Entry) → AllByRecursion IsTest ts → (at : ℕ) → octets_from order nums at (ts ++ qs) ≡ octets_from order nums at qs
@@ -257,7 +260,8 @@ module _ (w : Setting) (side : IsLegalSide w) (g h : Graph) (c : Conforms w g) (
 
   root_like : (i : ℕ) (r : Root) → slice_get (root_list w) i ≡ Some r → StandLike m (standing_root w g i) (standing_root w h i)
   root_like i r e =
-      subst (λ t. StandLike m (standing_by g i t (root_at g i) (direct (type_at w.table t) (root_at g i))) (standing_by h i t (root_at h i) (direct (type_at w.table t) (root_at h i)))) (sym (ap root_type e))
+      subst (λ t. StandLike m (standing_by g i t (root_at g i) (direct (type_at w.table t) (root_at g i))) (standing_by h i t (root_at h i) (direct (type_at w.table t) (root_at h i))))
+      (sym (ap root_type e))
       (by_tree i r.of (root_at g i) (root_at h i) (like_at m g.roots h.roots roots_like i) (w_roots w side g c i r e))
 
   cell_like : (p q : Pending) → PendLike m p q → (k : ℕ) → In k → StandLike m (standing_cell g p k) (standing_cell h q (m k))
@@ -402,7 +406,8 @@ module _ (w : Setting) (side : IsLegalSide w) (g h : Graph) (c : Conforms w g) (
       record {
         named = ap₂ (λ u v. u ++ v) (stand_named m w.table sx sy sl) r.named ∙ sym (map_joined m (named w.table sx) (named_cells w g us));
         same = λ order nums nums' z.
-            same_append m order nums nums' (standing_entries w.table sx ++ step_tests g p k) (standing_entries w.table sy ++ step_tests h p' k') (flat_map (step_entries w g) us) (flat_map (step_entries w h) vs)
+            same_append m order nums nums' (standing_entries w.table sx ++ step_tests g p k) (standing_entries w.table sy ++ step_tests h p' k') (flat_map (step_entries w g) us)
+            (flat_map (step_entries w h) vs)
             (same_append m order nums nums' (standing_entries w.table sx) (standing_entries w.table sy) (step_tests g p k) (step_tests h p' k')
             (stand_same m w.table order nums nums' sx sy sl (λ y t. z y (among_left (named w.table sx) (named_cells w g us) y t)))
             (some_tests m w.table order nums nums' (cell_home k) (cell_home k') (cell_at g k) (cell_at h k') 0 0 p p' a.0))
@@ -435,11 +440,14 @@ module _ (w : Setting) (side : IsLegalSide w) (g h : Graph) (c : Conforms w g) (
         same_append s.image order nums nums' (chunk_entries w.table h1 x.0 n k T) (chunk_entries w.table h2 x.0 n' k U) _ _ ((λ at. (refl, refl)), ((λ at. (refl, refl)), a')) b'
 
     pipe_alike : (h1 h2 : Home) (r : Root) (l : Label) (ks : Trees) (cut : List ℕ) → IsPipeRoot w.table r
-        → AllSame s.image order nums nums' (pipe_entries w.table h1 (type_at w.table r.of) cut (node l ks)) (pipe_entries w.table h2 (type_at w.table r.of) cut (node (renumbered_label s.image l) (renumbered s.image ks)))
+        → AllSame s.image order nums nums' (pipe_entries w.table h1 (type_at w.table r.of) cut (node l ks))
+        (pipe_entries w.table h2 (type_at w.table r.of) cut (node (renumbered_label s.image l) (renumbered s.image ks)))
     pipe_alike h1 h2 r l ks cut q =
         subst (λ d. Same_entries (pipe_entries w.table h1 d cut (node l ks)) (pipe_entries w.table h2 d cut (node (renumbered_label s.image l) (renumbered s.image ks)))) (sym q.type_is) (by_label l)
       where
-        by_label : (l : Label) → AllSame s.image order nums nums' (pipe_entries w.table h1 (Some (def.Pipe q.elem)) cut (node l ks)) (pipe_entries w.table h2 (Some (def.Pipe q.elem)) cut (node (renumbered_label s.image l) (renumbered s.image ks)))
+        by_label : (l : Label)
+            → AllSame s.image order nums nums' (pipe_entries w.table h1 (Some (def.Pipe q.elem)) cut (node l ks))
+            (pipe_entries w.table h2 (Some (def.Pipe q.elem)) cut (node (renumbered_label s.image l) (renumbered s.image ks)))
         by_label tree.Pipe = chunks_alike h1 h2 r.of q.elem q.type_is 1 1 cut ks
         by_label (tree.Ptr None) = ((λ at. (refl, refl)), tt)
         by_label (tree.Ptr (Some k)) = ((λ at. (refl, refl)), tt)
@@ -464,12 +472,17 @@ module _ (w : Setting) (side : IsLegalSide w) (g h : Graph) (c : Conforms w g) (
         let u' : Tree = node (renumbered_label s.image l) (renumbered s.image ks) in
         let e : u ≡ u' = ap (first m u) a.0 in
         let cut : List ℕ = cut_of chunk (count ks) in
-        let x : Same_entries (pipe_entries w.table (home.Root i) (type_at w.table r.of) cut (node l ks)) (pipe_entries w.table (home.Root i) (type_at w.table r.of) (cut_of chunk (count (renumbered s.image ks))) u') =
-        subst (λ k. Same_entries (pipe_entries w.table (home.Root i) (type_at w.table r.of) cut (node l ks)) (pipe_entries w.table (home.Root i) (type_at w.table r.of) (cut_of chunk k) u')) (sym (count_same s.image ks))
+        let x : Same_entries (pipe_entries w.table (home.Root i) (type_at w.table r.of) cut (node l ks))
+        (pipe_entries w.table (home.Root i) (type_at w.table r.of) (cut_of chunk (count (renumbered s.image ks))) u') =
+        subst (λ k. Same_entries (pipe_entries w.table (home.Root i) (type_at w.table r.of) cut (node l ks)) (pipe_entries w.table (home.Root i) (type_at w.table r.of) (cut_of chunk k) u'))
+        (sym (count_same s.image ks))
         (pipe_alike (home.Root i) (home.Root i) r l ks cut p.0) in
-        let x' : Same_entries (pipe_entries w.table (home.Root i) (type_at w.table r.of) cut (node l ks)) (pipe_entries w.table (home.Root i) (type_at w.table r.of) (cut_of chunk (count (kids_of u))) u) =
-        subst (λ y. Same_entries (pipe_entries w.table (home.Root i) (type_at w.table r.of) cut (node l ks)) (pipe_entries w.table (home.Root i) (type_at w.table r.of) (cut_of chunk (count (kids_of y))) y)) (sym e) x in
-        same_append s.image order nums nums' (pipe_entries w.table (home.Root i) (type_at w.table r.of) cut (node l ks)) (pipe_entries w.table (home.Root i) (type_at w.table r.of) (cut_of chunk (count (kids_of u))) u) _ _ x'
+        let x' : Same_entries (pipe_entries w.table (home.Root i) (type_at w.table r.of) cut (node l ks))
+        (pipe_entries w.table (home.Root i) (type_at w.table r.of) (cut_of chunk (count (kids_of u))) u) =
+        subst (λ y. Same_entries (pipe_entries w.table (home.Root i) (type_at w.table r.of) cut (node l ks))
+        (pipe_entries w.table (home.Root i) (type_at w.table r.of) (cut_of chunk (count (kids_of y))) y)) (sym e) x in
+        same_append s.image order nums nums' (pipe_entries w.table (home.Root i) (type_at w.table r.of) cut (node l ks))
+        (pipe_entries w.table (home.Root i) (type_at w.table r.of) (cut_of chunk (count (kids_of u))) u) _ _ x'
         (pipes_alike (i + 1) rs vs us chunk p.1 a.1)
 
   -- The same octets are written.

@@ -159,7 +159,8 @@ module _ (table : Table) (operations : List Operation) (legal : IsLegal table op
       let (b, c) = parted (pointer table h) K R (all_right PointerCounted own (flat_map (pointer table h) (K ++ R)) a) in
       all_append (Writable nums) (entries h n (before_children table t d l ks)) _
       (writable_entries h n (before_children table t d l ks)
-      (before_writable t d l ks h n (first_agreements ags) (range_fits table legal.enumerators t d refl l f.range) f.within m.0.machine p.0.itself (all_left PointerCounted own (flat_map (pointer table h) (K ++ R)) a) f.shape))
+      (before_writable t d l ks h n (first_agreements ags) (range_fits table legal.enumerators t d refl l f.range) f.within m.0.machine p.0.itself
+      (all_left PointerCounted own (flat_map (pointer table h) (K ++ R)) a) f.shape))
       (all_append (Writable nums) (in_place table h (child_types d l ks) (n + 1) ks) _
       (in_place_writable h (child_types d l ks) (child_agreements d ks) (n + 1) ks (none_inside.children t l ks p.0) m.1 b)
       (all_append (Writable nums) (child_tests h (child_agreements d ks) (n + 1) ks) (in_place table h types (n + 1 + node_count ks) ts)

@@ -1,7 +1,7 @@
--- What a decoder reports of octets: a graph that they represent, or the place at which they are refused, or how far they were read; what is left of the
--- source; and what the log of items and the count of steps have got.
--- `w` is a setting, `s` a source over the call, `t` the log and the count over the call, `fetched` are the octets that were fetched, `more` any octets that
--- follow them.
+-- What a decoder reports of octets: a graph that they represent, or the place at which they are refused, or how far they were read; what is left of
+-- the source; and what the log of items and the count of steps have got.
+-- `w` is a setting, `s` a source over the call, `t` the log and the count over the call, `fetched` are the octets that were fetched, `more` any
+-- octets that follow them.
 use Rattle.std.specs.Prelude.{◌≡◌, ◌≤◌, ℕ, ◌+◌, Bool, true, false, if◌then◌else◌, List, [], ◌∷◌, ◌++◌, length, filter, flat_map, Option, Some, None}
 use Rattle.std.specs.List.{AllByRecursion}
 use Rattle.std.specs.Io.KnownBytes.{Consumes, IsAtEnd}
@@ -51,8 +51,8 @@ HasNoted xs t = t.log_now ≡ with_items xs t.log
 
 -- ## Octets that were decoded
 
--- The octets represent the graph, which conforms and is its own canonical form. It is the one conforming graph that they represent, and no first part of
--- them represents another.
+-- The octets represent the graph, which conforms and is its own canonical form. It is the one conforming graph that they represent, and no first part
+-- of them represents another.
 pub record RepresentsAlone (w : Setting) (order : Order) (octets : List ℕ) (g : Graph) : Type 0 where
   pub represented : Represents w order octets g
   pub conforms : Conforms w g
@@ -124,15 +124,15 @@ abbrev pub MayFollow : Reason → List ℕ → Type 0
 MayFollow reason.Truncated more = more ≡ []
 MayFollow _ more = Unit {0}
 
--- Where the octets fetched end: with the refused entry. An entry past the limit of a stream is refused before anything of it is fetched, and one that is not
--- whole where the octets end. An agreement has no octets of its own.
+-- Where the octets fetched end: with the refused entry. An entry past the limit of a stream is refused before anything of it is fetched, and one that
+-- is not whole where the octets end. An agreement has no octets of its own.
 abbrev pub fetched_to : Reason → ℕ → EntryAt → ℕ
 fetched_to reason.TooLong n x = x.at
 fetched_to reason.Truncated n x = n
 fetched_to _ n x = x.at + size_at x.at x.entry.kind
 
--- The octets fetched are refused, and those that begin with them, at the same place and for the same reason, whatever follows. They end with the refused
--- entry. Everything before it was read, was logged and is counted.
+-- The octets fetched are refused, and those that begin with them, at the same place and for the same reason, whatever follows. They end with the
+-- refused entry. Everything before it was read, was logged and is counted.
 pub record IsRefused (w : Setting) (order : Order) (s : SourceSeen) (place : ℕ) (why : Reason) (t : DecodingSeen) : Type 0 where
   pub fetched : List ℕ
   pub left : Consumes s.left s.left_now fetched

@@ -17,7 +17,8 @@ pub invariant_of-self : goal.invariant_of-self
 invariant_of-self c =
     let s = c.self.inside in
     let p : IsPipeAt c.args.more (drop s.from s.nodes.items) =
-    pipe_at s.octets c.args.more (drop s.from s.nodes.items) (all_drop (HasOctets s.octets) s.from s.nodes.items c.self.invariant.texts) (subst (λ (b : Building). IsPipe c.args.more b.nodes) (sym c.self.view_is) c.requires) in
+    pipe_at s.octets c.args.more (drop s.from s.nodes.items) (all_drop (HasOctets s.octets) s.from s.nodes.items c.self.invariant.texts)
+    (subst (λ (b : Building). IsPipe c.args.more b.nodes) (sym c.self.view_is) c.requires) in
     subst (λ (ns : List Node). IsBuilt s.octets ns s.from s.roots.items s.cells.items s.home) (sym c.raise.ensures)
     (chunk_built s.octets s.nodes.items s.from s.roots.items s.cells.items s.home c.self.invariant c.args.more p)
 
@@ -25,7 +26,8 @@ pub returns : goal.returns
 returns c =
     let s = c.self.inside in
     let p : IsPipeAt c.args.more (drop s.from s.nodes.items) =
-    pipe_at s.octets c.args.more (drop s.from s.nodes.items) (all_drop (HasOctets s.octets) s.from s.nodes.items c.self.invariant.texts) (subst (λ (b : Building). IsPipe c.args.more b.nodes) (sym c.self.view_is) c.requires) in
+    pipe_at s.octets c.args.more (drop s.from s.nodes.items) (all_drop (HasOctets s.octets) s.from s.nodes.items c.self.invariant.texts)
+    (subst (λ (b : Building). IsPipe c.args.more b.nodes) (sym c.self.view_is) c.requires) in
     ap (λ (ns : List Node). seen_builder s.octets ns s.from s.roots.items s.cells.items s.home s.op s.side s.tie s.given) c.raise.ensures
     ∙ chunk_seen s.octets s.nodes.items s.from s.roots.items s.cells.items s.home c.self.invariant c.args.more p s.op s.side s.tie s.given
     ∙ ap (λ (b : Building). with_nodes (raised c.args.more b.nodes) b) c.self.view_is

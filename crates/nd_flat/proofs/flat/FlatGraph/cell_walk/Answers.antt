@@ -14,10 +14,12 @@ over-requires c =
     let s = c.self.inside in
     let h = cell_home (suc c.args.at) in
     let there : HasSpan s.roots.items s.cells.items h =
-    has_span s.octets s.nodes.items s.roots.items s.cells.items h (cell_there c.args.at (seen_graph s.octets s.nodes.items s.roots.items s.cells.items) (subst (λ (g : Graph). c.args.at < length g.cells) (sym c.self.view_is) c.requires)) in
+    has_span s.octets s.nodes.items s.roots.items s.cells.items h
+    (cell_there c.args.at (seen_graph s.octets s.nodes.items s.roots.items s.cells.items) (subst (λ (g : Graph). c.args.at < length g.cells) (sym c.self.view_is) c.requires)) in
     let e = part_is s.nodes.items s.roots.items s.cells.items h c.as_slice-nodes.result.now s.roots.items c.as_slice.result.now c.cell_span-span.result
     c.as_slice-nodes.ensures.value refl c.as_slice.ensures.value (c.cell_span-span.ensures ∙ place_span s.roots.items c.as_slice.result.now c.args.at) in
-    subst (λ (os : List ℕ). WalkParts os no_row no_records (take (c.cell_span-span.result.from + c.cell_span-span.result.len - c.cell_span-span.result.from) (drop c.cell_span-span.result.from c.as_slice-nodes.result.now))) (sym c.as_slice-2.ensures)
+    subst (λ (os : List ℕ). WalkParts os no_row no_records
+    (take (c.cell_span-span.result.from + c.cell_span-span.result.len - c.cell_span-span.result.from) (drop c.cell_span-span.result.from c.as_slice-nodes.result.now))) (sym c.as_slice-2.ensures)
     (subst (λ (ns : List Node). WalkParts s.octets no_row no_records ns) (sym e) (walk_parts s.octets s.nodes.items s.roots.items s.cells.items h c.self.invariant there))
 
 pub returns : goal.returns
@@ -25,7 +27,8 @@ returns c =
     let s = c.self.inside in
     let h = cell_home (suc c.args.at) in
     let there : HasSpan s.roots.items s.cells.items h =
-    has_span s.octets s.nodes.items s.roots.items s.cells.items h (cell_there c.args.at (seen_graph s.octets s.nodes.items s.roots.items s.cells.items) (subst (λ (g : Graph). c.args.at < length g.cells) (sym c.self.view_is) c.requires)) in
+    has_span s.octets s.nodes.items s.roots.items s.cells.items h
+    (cell_there c.args.at (seen_graph s.octets s.nodes.items s.roots.items s.cells.items) (subst (λ (g : Graph). c.args.at < length g.cells) (sym c.self.view_is) c.requires)) in
     let e = part_is s.nodes.items s.roots.items s.cells.items h c.as_slice-nodes.result.now s.roots.items c.as_slice.result.now c.cell_span-span.result
     c.as_slice-nodes.ensures.value refl c.as_slice.ensures.value (c.cell_span-span.ensures ∙ place_span s.roots.items c.as_slice.result.now c.args.at) in
     c.over.ensures

@@ -16,7 +16,8 @@ over-requires c =
     has_span s.octets s.nodes.items s.roots.items s.cells.items c.args.home (subst (λ (g : Graph). HasHome g c.args.home) (sym c.self.view_is) c.requires) in
     let e = part_is s.nodes.items s.roots.items s.cells.items c.args.home c.as_slice-nodes.result.now c.as_slice.result.now c.as_slice-2.result.now c.span_of-span.result
     c.as_slice-nodes.ensures.value c.as_slice.ensures.value c.as_slice-2.ensures.value c.span_of-span.ensures in
-    subst (λ (os : List ℕ). WalkParts os no_row no_records (take (c.span_of-span.result.from + c.span_of-span.result.len - c.span_of-span.result.from) (drop c.span_of-span.result.from c.as_slice-nodes.result.now))) (sym c.as_slice-3.ensures)
+    subst (λ (os : List ℕ). WalkParts os no_row no_records
+    (take (c.span_of-span.result.from + c.span_of-span.result.len - c.span_of-span.result.from) (drop c.span_of-span.result.from c.as_slice-nodes.result.now))) (sym c.as_slice-3.ensures)
     (subst (λ (ns : List Node). WalkParts s.octets no_row no_records ns) (sym e) (walk_parts s.octets s.nodes.items s.roots.items s.cells.items c.args.home c.self.invariant there))
 
 pub returns : goal.returns

@@ -10,7 +10,8 @@ use Rattle.nd_flat.proofs.plain.PlainWalk.number.Goals as goal
 pub invariant_of-self : goal.invariant_of-self
 invariant_of-self c =
     let s = c.self.inside in
-    let g = takes_plain s.octets.now s.nodes.now c.in_ok-first.first.now c.in_ok-first.rest.now (num_flat c.in_ok-number.number) c.in_ok-first.ensures.cases.0 (c.in_ok-number.ensures s.octets.now) c.self.invariant in
+    let g = takes_plain s.octets.now s.nodes.now c.in_ok-first.first.now c.in_ok-first.rest.now (num_flat c.in_ok-number.number) c.in_ok-first.ensures.cases.0
+    (c.in_ok-number.ensures s.octets.now) c.self.invariant in
     g.parts
 
 pub returns-clause-some : goal.returns-clause-some

@@ -5,7 +5,8 @@ use Rattle.nd_flat.proofs.walk.Walk.next_cell.Goals as goal
 
 pub returns-in-Some-clause-some : goal.returns-in-Some-clause-some
 returns-in-Some-clause-some c =
-    cell_next c.args.self.now c.skip_records.new.self c.step.new.self c.in-Some.seen c.named_cell.result (c.skip_row.ensures.cells ∙ c.skip_records.ensures.cells) c.in-Some.ensures.some c.named_cell.ensures
+    cell_next c.args.self.now c.skip_records.new.self c.step.new.self c.in-Some.seen c.named_cell.result
+    (c.skip_row.ensures.cells ∙ c.skip_records.ensures.cells) c.in-Some.ensures.some c.named_cell.ensures
 
 pub returns-in-Some-clause-less : goal.returns-in-Some-clause-less
 returns-in-Some-clause-less c =

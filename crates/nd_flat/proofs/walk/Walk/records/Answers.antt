@@ -86,7 +86,8 @@ invariant_of-self-2 c =
     let k : KeptRecords = record { order = c.in-Records.order; members = c.in-Records.members; count = c.in-Records.count; from = c.in-Records.from } in
     let there = next_kept s.octets.now s.nodes.now c.in_ok-first.first.now c.in_ok-first.rest.now k c.in_ok-first.ensures.cases.0 c.in-Records.is c.self.invariant.texts in
     let some = c.least-some-2.ensures.some there.some (let h = c.if-most-eq0.false in omega (arith, h)) in
-    let g = takes_records s.octets.now s.left s.records s.nodes.now c.in_ok-first.first.now c.in_ok-first.rest.now k c.least-some-2.result c.left_after-self-inside-2.result (all_records c.first_records-2.result)
+    let g = takes_records s.octets.now s.left s.records s.nodes.now c.in_ok-first.first.now c.in_ok-first.rest.now k c.least-some-2.result c.left_after-self-inside-2.result
+    (all_records c.first_records-2.result)
     e.0 (e.1, none) c.in_ok-first.ensures.cases.0 c.in-Records.is some c.least-some-2.ensures.first c.left_after-self-inside-2.ensures c.first_records-2.ensures.nodes c.self.invariant in
     g.parts
 
@@ -98,6 +99,7 @@ returns-clause-some c =
     let k : KeptRecords = record { order = c.in-Records.order; members = c.in-Records.members; count = c.in-Records.count; from = c.in-Records.from } in
     let there = next_kept s.octets.now s.nodes.now c.in_ok-first.first.now c.in_ok-first.rest.now k c.in_ok-first.ensures.cases.0 c.in-Records.is c.self.invariant.texts in
     let some = c.least-some-2.ensures.some there.some (let h = c.if-most-eq0.false in omega (arith, h)) in
-    let g = takes_records s.octets.now s.left s.records s.nodes.now c.in_ok-first.first.now c.in_ok-first.rest.now k c.least-some-2.result c.left_after-self-inside-2.result (all_records c.first_records-2.result)
+    let g = takes_records s.octets.now s.left s.records s.nodes.now c.in_ok-first.first.now c.in_ok-first.rest.now k c.least-some-2.result c.left_after-self-inside-2.result
+    (all_records c.first_records-2.result)
     e.0 (e.1, none) c.in_ok-first.ensures.cases.0 c.in-Records.is some c.least-some-2.ensures.first c.left_after-self-inside-2.ensures c.first_records-2.ensures.nodes c.self.invariant in
     ap flat (sym c.self.view_is) ∙ g.nodes

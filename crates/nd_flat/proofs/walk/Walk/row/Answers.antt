@@ -23,7 +23,8 @@ invariant_of-self-2 c =
     let s = c.self.inside in
     let empty : s.left.count ≡ 0 = let h = c.if-left-gt0.false in omega (arith, h) in
     let over = c.has_more.ensures.over c.if-has_more.false in
-    let g = takes_row s.octets.now s.left s.records s.nodes.now c.in_ok-first.first.now c.in_ok-first.rest.now c.in-Row.next c.least-some-2.result c.without_first-self-inside-2.result (row_numbers c.first_row-2.result)
+    let g = takes_row s.octets.now s.left s.records s.nodes.now c.in_ok-first.first.now c.in_ok-first.rest.now c.in-Row.next c.least-some-2.result c.without_first-self-inside-2.result
+    (row_numbers c.first_row-2.result)
     empty over c.in_ok-first.ensures.cases.0 c.in-Row.is c.least-some-2.ensures.first c.without_first-self-inside-2.ensures c.first_row-2.ensures.numbers c.self.invariant in
     g.parts
 
@@ -32,6 +33,7 @@ returns-clause-some c =
     let s = c.self.inside in
     let empty : s.left.count ≡ 0 = let h = c.if-left-gt0.false in omega (arith, h) in
     let over = c.has_more.ensures.over c.if-has_more.false in
-    let g = takes_row s.octets.now s.left s.records s.nodes.now c.in_ok-first.first.now c.in_ok-first.rest.now c.in-Row.next c.least-some-2.result c.without_first-self-inside-2.result (row_numbers c.first_row-2.result)
+    let g = takes_row s.octets.now s.left s.records s.nodes.now c.in_ok-first.first.now c.in_ok-first.rest.now c.in-Row.next c.least-some-2.result c.without_first-self-inside-2.result
+    (row_numbers c.first_row-2.result)
     empty over c.in_ok-first.ensures.cases.0 c.in-Row.is c.least-some-2.ensures.first c.without_first-self-inside-2.ensures c.first_row-2.ensures.numbers c.self.invariant in
     ap flat (sym c.self.view_is) ∙ g.nodes

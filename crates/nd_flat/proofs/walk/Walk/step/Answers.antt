@@ -12,7 +12,8 @@ pub invariant_of-self : goal.invariant_of-self
 invariant_of-self c =
     let s = c.self.inside in
     let some : 1 ≤ s.left.count = let h = c.if-left-gt0.true in omega (arith, h) in
-    let g = takes_left s.octets.now s.left s.records s.nodes.now 1 c.without_first-self-inside.result (row_values s.left.order s.left.of 1 (drop s.left.from s.octets.now)) some c.without_first-self-inside.ensures refl c.self.invariant in
+    let g = takes_left s.octets.now s.left s.records s.nodes.now 1 c.without_first-self-inside.result
+    (row_values s.left.order s.left.of 1 (drop s.left.from s.octets.now)) some c.without_first-self-inside.ensures refl c.self.invariant in
     g.parts
 
 pub returns-then-left-gt0-clause-some : goal.returns-then-left-gt0-clause-some
@@ -21,7 +22,8 @@ returns-then-left-gt0-clause-some c =
     let some : 1 ≤ s.left.count = let h = c.if-left-gt0.true in omega (arith, h) in
     let z = c.first_number.result in
     let fits : SFits w128 z = search rules in
-    let g = takes_left s.octets.now s.left s.records s.nodes.now 1 c.without_first-self-inside.result (z ∷ []) some c.without_first-self-inside.ensures (ap (λ y. y ∷ []) c.first_number.ensures) c.self.invariant in
+    let g = takes_left s.octets.now s.left s.records s.nodes.now 1 c.without_first-self-inside.result (z ∷ []) some c.without_first-self-inside.ensures
+    (ap (λ y. y ∷ []) c.first_number.ensures) c.self.invariant in
     ap flat (sym c.self.view_is) ∙ g.nodes
     ∙ ap (λ y. num_flat y ∷ flat (unflat (left_flats s.octets.now c.without_first-self-inside.result s.records s.nodes.now))) (sym (to_z-of_z w128 z fits))
 
