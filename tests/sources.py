@@ -115,12 +115,12 @@ def cut(source: Source) -> None:
                 last.end = at
             at += 1
             continue
-        if USE.match(line) or re.match(r"(pub )?mod ", body):
+        if USE.match(line) or re.match(r"(pub )?mod |infix[lr]? ", body):
             last = None
             at += 1
             continue
-        if re.match(r"(pub )?module |mutual$", body):
-            while body != "mutual" and not code(source.lines[at]).rstrip().endswith("where"):
+        if re.match(r"(pub )?module |mutual\b", body):
+            while not body.startswith("mutual") and not code(source.lines[at]).rstrip().endswith("where"):
                 at += 1
             at += 1
             inner = next((indent(other) for other in source.lines[at:] if other.strip()), 0)

@@ -198,6 +198,26 @@ def wrong_places(text: str) -> Iterator[str]:
                 yield f"{crate}: {folder}/{file} has no {name}"
 
 
+PATH = re.compile(r"`(crates/[\w/.{},*]+)`")
+
+
+def spelled_out(path: str) -> List[str]:
+    """A path with `{a,b}` as one path for each."""
+    start, brace, rest = path.partition("{")
+    if not brace:
+        return [path]
+    inner, _, after = rest.partition("}")
+    return [whole for part in inner.split(",") for whole in spelled_out(start + part + after)]
+
+
+def wrong_paths(text: str) -> Iterator[str]:
+    """The paths of crates that a page names and that are not there. A word in capitals stands for any name."""
+    for path in (whole for found in PATH.findall(text) for whole in spelled_out(found)):
+        pattern = re.sub(r"[A-Z]{4,}", "*", path).rstrip("/")
+        if not any(ROOT.glob(pattern)):
+            yield f"{path} is not there"
+
+
 def wrong_examples() -> Iterator[str]:
     """The worked examples that docs/NDR.md names and that are not there."""
     paths = [f"crates/example_ndr/{path}" for path in ("src/*.rt", "proofs/**/*.antt")]
@@ -211,11 +231,12 @@ def wrong_examples() -> Iterator[str]:
 def places_of_pages() -> List[str]:
     """What the pages name and the sources do not have."""
     pages = sorted(path.name for path in (ROOT / "docs").glob("*.md"))
-    return [f"docs/{name}: {wrong}" for name in pages for wrong in wrong_places(page(name))] + [f"docs/NDR.md: {wrong}" for wrong in wrong_examples()]
+    wrong = [f"docs/{name}: {it}" for name in pages for find in (wrong_places, wrong_paths) for it in find(page(name))]
+    return wrong + [f"docs/NDR.md: {it}" for it in wrong_examples()]
 
 
 CASES = [
-    Check("docs: each definition and example that a page names is in the sources", places_of_pages),
+    Check("docs: each definition, example and path that a page names is in the sources", places_of_pages),
     Check("docs/IDL.md: each rule has a text", rules_without_texts),
     *(case for _, case in OF_RULES),
     *of_refusals(),

@@ -1,8 +1,7 @@
 -- What is written of a fit, and why nothing is, from what the encoder answers.
-use Rattle.std.proofs.Common.{◌≡◌, ◌∙◌, ℕ, ◌≤◌, List, length, Some, sym, subst, arith}
+use Rattle.std.proofs.Common.{◌≡◌, ◌∙◌, ℕ, List, length, Some, sym, subst, arith}
 use Rattle.std.proofs.lemmas.Option.{same_Some}
 use Rattle.std.specs.List.{slice_get}
-use Rattle.nd_base.specs.declared.TheConstants.{STREAM_LIMIT}
 use Rattle.nd_base.specs.declared.octets.Order.{Order}
 use Rattle.nd_types.specs.declared.interface.Interface.{Interface}
 use Rattle.nd_types.specs.declared.types.Operation.{Operation}

@@ -1,6 +1,5 @@
 -- The graph of the sample conforms to the request of its operation.
-use Rattle.std.proofs.Common.{◌≡◌, ℕ, zero, suc, ◌+◌, ◌-◌, ◌*◌, ◌/◌, ◌%◌, ◌^◌, ◌<◌, ◌≤◌, ℤ, pos, Bool, true, false, List, [], ◌∷◌, ◌++◌, map, length, Option, Some, None, refl, ap, sym, ◌∙◌, subst, inl, inr, ◌⊎◌, arith, lit≤, lit<}
-use Rattle.std.specs.Prelude.{if◌then◌else◌, nat_lt, eqb, leb, ltb, not, ◌&&◌, int_le}
+use Rattle.std.proofs.Common.{◌≡◌, ℕ, zero, suc, ◌+◌, ◌-◌, ◌/◌, ◌%◌, ◌^◌, ◌<◌, ◌≤◌, pos, Bool, true, List, [], ◌∷◌, map, length, Option, Some, None, refl, ap, ◌∙◌, inl, inr, ◌⊎◌, arith, lit≤, lit<}
 use Rattle.std.specs.List.{slice_get, list_all, AllByRecursion}
 use Rattle.std.proofs.lemmas.Bool.{le-leb, lt-ltb, le-ltb, ne_eqb, cases_lt}
 use Rattle.std.proofs.lemmas.Nat.{mod_below}
@@ -8,21 +7,21 @@ use Rattle.nd_types.specs.declared.types.Class.TheVariants.{Full}
 use Rattle.nd_types.specs.declared.types.Primitive.TheVariants.{Long}
 use Rattle.nd_types.specs.declared.types.TypeDef.TheVariants as def
 use Rattle.nd_types.specs.Roots.{roots_of}
-use Rattle.nd_types.specs.Table.{Table, type_at, is_value, in_range}
+use Rattle.nd_types.specs.Table.{is_value}
 use Rattle.nd_value.specs.declared.value.Graph.{Graph}
 use Rattle.nd_value.specs.declared.item.Home.TheVariants as home
 use Rattle.nd_value.specs.declared.misfit.MisfitReason.TheVariants as misfit
 use Rattle.nd_value.specs.Tree as tree
-use Rattle.nd_value.specs.Tree.{Tree, Referent, node, none, more, node_count, trees}
-use Rattle.nd_value.specs.Setting.{Setting, Among, root_list, cell_of_number, cell_home}
-use Rattle.nd_value.specs.Homes.{HomeNode, in_home, cell_nodes, cell_pointers, all_nodes, all_pointers, root_pointers}
-use Rattle.nd_value.specs.Nodes.{TypedNode, home_nodes}
-use Rattle.nd_value.specs.Deferral.{Pending, home_pointers}
+use Rattle.nd_value.specs.Tree.{node, none}
+use Rattle.nd_value.specs.Setting.{root_list, cell_of_number, cell_home}
+use Rattle.nd_value.specs.Homes.{HomeNode, in_home, cell_nodes, cell_pointers, all_nodes, all_pointers}
+use Rattle.nd_value.specs.Nodes.{home_nodes}
+use Rattle.nd_value.specs.Deferral.{Pending}
 use Rattle.nd_value.specs.Misfit.{misfit_of, misfit_by, unless, has_machine_values, has_type, names_cell}
 use Rattle.nd_value.specs.Conforms.{Conforms, Reached, by_root, by_cell, AgreesAt, AllEarlier, ShareOnlyIfFull, FewNodes}
 use Rattle.nd_value.proofs.Apart.{all_append}
-use Rattle.command_sample.specs.Interface.{sample_types, sample_setting, take}
-use Rattle.command_sample.specs.Nodes.{next_state, number_tree, pointer_to, value_by, left, right, sample_node, sample_nodes, sample_graph}
+use Rattle.command_sample.specs.Interface.{sample_types, sample_setting}
+use Rattle.command_sample.specs.Nodes.{next_state, value_by, left, right, sample_node, sample_nodes, sample_graph}
 
 -- ## The nodes
 
@@ -87,13 +86,6 @@ left_pending n i = record { home = cell_home i; node = 2; class = Full; to = 12;
 
 abbrev pub right_pending : ℕ → ℕ → ℕ → Pending
 right_pending n i y = record { home = cell_home i; node = 3; class = Full; to = 12; cell = Some (right n y); agreements = [] }
-
-pub node_pointers : (n i x y : ℕ) → home_pointers sample_types (cell_home i) 12 (sample_node n i x y).val ≡ left_pending n i ∷ right_pending n i y ∷ []
-node_pointers n i x y = refl
-
-pub root_pointers_are : (seed n : ℕ) → root_pointers sample_types 0 (root_list sample_setting) (sample_graph seed n).roots ≡ root_pending ∷ []
-unfolding roots_of
-root_pointers_are seed n = refl
 
 abbrev IsFull : Pending → Type 0
 IsFull p = p.class ≡ Full

@@ -1,5 +1,5 @@
 -- The nodes as they are drawn, one after the other: what is drawn and what is left are all nodes.
-use Rattle.std.proofs.Common.{◌≡◌, ℕ, zero, suc, ◌+◌, List, [], ◌∷◌, ◌++◌, ap, ap₂, sym, ◌∙◌, subst, append_assoc, arith}
+use Rattle.std.proofs.Common.{◌≡◌, ℕ, suc, ◌+◌, List, [], ◌∷◌, ◌++◌, ap, ap₂, sym, ◌∙◌, subst, append_assoc, arith}
 use Rattle.std.proofs.lemmas.List.{append-nil}
 use Rattle.nd_value.specs.Tree.{Referent}
 use Rattle.command_sample.specs.Nodes.{next_state, sample_node, sample_nodes}
@@ -7,9 +7,6 @@ use Rattle.command_sample.specs.Nodes.{next_state, sample_node, sample_nodes}
 -- at a place, from 0, after a state
 abbrev pub Drawn : ℕ → ℕ → ℕ → ℕ → List Referent → Type 0
 Drawn n seed at x cells = (k : ℕ) → at + k ≡ n → cells ++ sample_nodes n (at + 1) k x ≡ sample_nodes n 1 n seed
-
-pub begin : (n seed : ℕ) → Drawn n seed 0 seed []
-begin n seed k e = ap (λ m. sample_nodes n 1 m seed) (omega (arith, e))
 
 pub turn : (n seed at x : ℕ) (cells : List Referent) → Drawn n seed at x cells
     → Drawn n seed (at + 1) (next_state (next_state x)) (cells ++ sample_node n (at + 1) (next_state x) (next_state (next_state x)) ∷ [])

@@ -104,23 +104,12 @@ never_misfit i seed n s some few o g there is =
     subst₂ (λ (w : Setting) (h : Graph). Conforms w h) (sym (setting_is i.types o In None s.types (only o i.operations 0 s.operations refl there) refl refl)) (sym is)
     (conforms seed n some few)
 
--- what a fit of it is
-pub fit_is : (i : Interface) (seed n : ℕ) (g : Graph) (f : Fitting) → IsSampleInterface i → 1 ≤ n → n ≤ 1000000 → g ≡ sample_graph seed n
-    → f ≡ record { graph = g; op = 0; side = In; interface = i; given = None } → IsSampleFit f seed n
-fit_is i seed n g f s some few is e =
-    subst (λ (x : Fitting). IsSampleFit x seed n) (sym e)
-    (record { interface = s; op = refl; side = refl; given = refl; graph = is; some = some; few = few })
-
 -- how few its cells and nodes are
 pub few_cells : (seed n : ℕ) (g : Graph) → 1 ≤ n → n ≤ 1000000 → g ≡ sample_graph seed n → length g.cells < 2 ^ 32
 few_cells seed n g some few is = let c = conforms seed n some few in rw is c.few_cells
 
 pub few_nodes : (seed n : ℕ) (g : Graph) → 1 ≤ n → n ≤ 1000000 → g ≡ sample_graph seed n → HasFewNodes g
 few_nodes seed n g some few is = let c = conforms seed n some few in subst (λ (h : Graph). HasFewNodes h) (sym is) c.few_nodes
-
--- the interface has the operation
-pub has_operation : (i : Interface) → IsSampleInterface i → 0 < length i.operations
-has_operation i s = rw s.operations (omega arith)
 
 -- which is this one
 pub take_is : (i : Interface) → IsSampleInterface i → slice_get i.operations 0 ≡ Some take

@@ -1,10 +1,7 @@
 -- The interface of the sample is legal.
-use Rattle.std.proofs.Common.{◌≡◌, ℕ, ◌+◌, ◌<◌, ◌^◌, List, [], ◌∷◌, ◌++◌, map, Option, refl, ap, sym, ◌∙◌, subst, arith, lit≤, lit<}
+use Rattle.std.proofs.Common.{[], ◌∷◌, refl, lit≤}
 use Rattle.nd_types.specs.Layout.{hoists}
 use Rattle.nd_types.specs.Legal.{IsLegal, is_shallow, element_count, fits_pipes}
-use Rattle.nd_value.specs.Tree as tree
-use Rattle.nd_value.specs.Tree.{Tree, Referent, node, none, more, node_count, trees}
-use Rattle.nd_value.specs.Conforms.{FewNodes}
 use Rattle.command_sample.specs.Interface.{sample_types, take}
 
 pub legal : IsLegal sample_types (take ∷ [])

@@ -1,14 +1,13 @@
 -- The sum of the values of a graph that is the same up to the numbers of its cells.
-use Rattle.std.proofs.Common.{◌≡◌, ℕ, zero, suc, ◌+◌, ◌-◌, ◌*◌, ◌<◌, ◌≤◌, ℤ, pos, negsuc, Bool, true, false, List, [], ◌∷◌, ◌++◌, length, Option, Some, None, refl, ap, ap₂, sym, ◌∙◌, subst, inl, inr, ◌⊎◌, arith}
-use Rattle.std.specs.Prelude.{if◌then◌else◌, nat_lt, pred, eqb}
+use Rattle.std.proofs.Common.{◌≡◌, ℕ, zero, suc, ◌+◌, ◌-◌, ◌<◌, ◌≤◌, List, [], ◌∷◌, length, Option, Some, None, refl, ap, ap₂, sym, ◌∙◌, subst, inl, inr, ◌⊎◌, arith}
+use Rattle.std.specs.Prelude.{pred}
 use Rattle.std.specs.List.{slice_get, AllByRecursion}
 use Rattle.std.proofs.lemmas.Bool.{cases_eq, lt-ltb}
-use Rattle.std.proofs.lemmas.Option.{same_Some}
 use Rattle.nd_value.specs.declared.value.Graph.{Graph}
 use Rattle.nd_value.specs.Tree as tree
-use Rattle.nd_value.specs.Tree.{Tree, Trees, Referent, node, none, more, trees}
+use Rattle.nd_value.specs.Tree.{Tree, Trees, Referent, node, none, more}
 use Rattle.nd_value.specs.Same.{Same, renumbered, renumbered_label}
-use Rattle.command_sample.specs.Nodes.{next_state, sample_node, sample_nodes, sample_graph, sample_sum, value_by}
+use Rattle.command_sample.specs.Nodes.{next_state, sample_nodes, sample_graph, sample_sum, value_by}
 use Rattle.command_sample.specs.Values.{small_in, value_of, values_sum}
 use Rattle.command_sample.proofs.Conforming.{length_is, value_small}
 

@@ -14,11 +14,6 @@ pub second_value : (t : Tree) (a b : Flat) (us vs : Trees) → flat (more t none
 second_value (node l none) a b us vs first second = cc
 second_value (node l (more (node k ks) ts)) a b us vs first second = cc
 
--- a walk without a second node has none
-pub no_value : (t : Tree) (a : Flat) (us : Trees) → flat (more t none) ≡ a ∷ flat us → us ≡ none → value_of t ≡ 0
-no_value (node l none) a us first end = refl
-no_value (node l (more (node k ks) ts)) a us first end = cc
-
 -- ## The sum
 
 small_below : (z : ℤ) → small z ≤ 999

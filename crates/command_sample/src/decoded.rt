@@ -2,7 +2,7 @@
 ghost use Rattle.std.specs.Prelude.{◌≡◌, ℕ, ◌<◌, ◌^◌, suc, length, IfOk};
 ghost use Rattle.nd_value.specs.Same.{Same};
 ghost use Rattle.nd_value.specs.Setting.{cell_at};
-ghost use Rattle.command_sample.specs.Nodes.{command_sample};
+ghost use Rattle.command_sample.specs.Nodes.{sample_graph};
 ghost use Rattle.command_sample.specs.Values.{small as small_of, small_in, value_of, values_sum as sum_of_values};
 ghost use Rattle.nd_flat.specs.FlatForm.{flat_seen};
 ghost use Rattle.command_sample.specs.Steps.{IsSampleInterface, AreSampleOctets};
@@ -19,7 +19,7 @@ use std::alloc::Global;
 pub(crate) fn decoded(alloc: Global, plan: &Plan, octets: Octets) -> Result<Fit, Memory>
     requires interface { IsSampleInterface plan.now.tie }
     requires of { (seed : ℕ) × (n : ℕ) × AreSampleOctets octets seed n }
-    ensures { (seed n : ℕ) → AreSampleOctets octets seed n → IfOk result (λ f. Same (command_sample seed n) f.graph) }
+    ensures { (seed n : ℕ) → AreSampleOctets octets seed n → IfOk result (λ f. Same (sample_graph seed n) f.graph) }
 {
     let mut source = PlainSource::new(octets);
     let mut items = ItemLog::quiet();

@@ -1,7 +1,7 @@
 // The nodes of the sample, as they are drawn.
 ghost use Rattle.std.specs.Prelude.{◌≡◌, ◌≤◌, ◌<◌, ◌^◌, ◌∷◌, [], length, IfOk};
 ghost use Rattle.nd_value.specs.Seen.{cell_of, tree_of};
-ghost use Rattle.command_sample.specs.Nodes.{next_state, pointer_to, left, right, sample_node, sample_nodes, command_sample};
+ghost use Rattle.command_sample.specs.Nodes.{next_state, pointer_to, left, right, sample_node, sample_nodes, sample_graph};
 
 use nd_base::Memory;
 use nd_types::TypeId;
@@ -12,7 +12,7 @@ use std::alloc::Global;
 /// the root is the first. Takes memory for it; out of memory is the only refusal.
 pub fn graph(alloc: Global, seed: u32, count: u32) -> Result<Graph, Memory>
     requires some { 1 ≤ count }
-    ensures { IfOk result (λ g. g ≡ command_sample seed count) }
+    ensures { IfOk result (λ g. g ≡ sample_graph seed count) }
 {
     let mut roots = Vals::new(alloc);
     let Ok(()) = roots.push(Val::Ptr(Some(CellId(1)))) else {

@@ -1,6 +1,6 @@
 -- Which graph a text reads as, and where it is refused, does not depend on the request beside which its values are judged.
 -- `i` is an interface, `o` an operation, `s` a side, `p` and `q` are requests, if any.
-use Rattle.std.proofs.Common.{◌≡◌, ℕ, List, Option}
+use Rattle.std.proofs.Common.{ℕ, List, Option}
 use Rattle.nd_types.specs.declared.interface.Interface.{Interface}
 use Rattle.nd_types.specs.declared.types.Operation.{Operation}
 use Rattle.nd_types.specs.declared.types.Side.{Side}
@@ -12,7 +12,7 @@ use Rattle.nd_value.specs.Fitting.{setting_beside}
 use Rattle.text_grammar.specs.declared.version.Version.{Version}
 use Rattle.text_grammar.specs.declared.fault.TextReason.{TextReason}
 use Rattle.text_grammar.specs.declared.fault.TextReason.TheVariants as reason
-use Rattle.text_grammar.specs.Tokens.{Token, Word, Cell}
+use Rattle.text_grammar.specs.Tokens.{Token, Cell}
 use Rattle.text_grammar.specs.Readable.{IsReadable}
 use Rattle.text_grammar.specs.Reads.{Lexeme, Cut, End, Bad, ReadsAs, Writing, CanGoOn, IsWhole, GoesOn, IsNameDue, IsReason, IsFirstFault, IsTextFault}
 use Rattle.text_grammar.specs.Paths.{IsPath}

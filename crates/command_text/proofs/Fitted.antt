@@ -1,6 +1,5 @@
 -- Texts that are fitted, from what the steps answer.
-use Rattle.std.proofs.Common.{◌≡◌, ℕ, ◌≤◌, List, length, Option, None, Result, Ok, Err, IfOk, IfErr, sym, ap, subst, inl, inr}
-use Rattle.nd_base.specs.declared.TheConstants.{FILE_LIMIT}
+use Rattle.std.proofs.Common.{◌≡◌, ℕ, List, Option, None, Result, Ok, Err, IfOk, IfErr, sym, subst}
 use Rattle.nd_types.specs.declared.interface.Interface.{Interface}
 use Rattle.nd_types.specs.declared.types.Operation.{Operation}
 use Rattle.nd_types.specs.declared.types.Side.{Side}

@@ -18,7 +18,7 @@ use Rattle.command_refusals.specs.declared.refusal.Refusal.TheVariants.{Memory, 
 use Rattle.command_refusals.specs.declared.refusal.RequestFault.{RequestFault}
 use Rattle.command_refusals.specs.declared.refusal.RequestFault.TheVariants.{Text, Value}
 use Rattle.command_text.specs.Fitted.{IsTextCause, IsMisfitAt}
-use Rattle.command_text.specs.Request.{inputs, IsRequestText, IsRequestFault, IsLongText}
+use Rattle.command_text.specs.Request.{inputs, IsRequestText, IsRequestFault}
 use Rattle.command_text.proofs.Paths.{one_path}
 
 module _ (w : Setting) (side : IsLegalSide w) (text : List ℕ) where

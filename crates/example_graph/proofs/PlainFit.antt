@@ -1,17 +1,15 @@
 -- What the passes over a graph of a plain operation find: no pointers, no attributes, no cell that is reached.
 use Rattle.std.proofs.Common.{◌≡◌, ℕ, ◌+◌, ◌^◌, ◌<◌, ◌≤◌, zero, suc, Bool, true, List, [], ◌∷◌, ◌++◌, length, Option, Some, None, refl, ap, ap₂, sym, ◌∙◌, arith, subst, map}
-use Rattle.std.specs.Prelude.{All, flat_map}
+use Rattle.std.specs.Prelude.{flat_map}
 use Rattle.std.specs.List.{AllByRecursion, list_all, slice_get}
 use Rattle.std.proofs.lemmas.Bool.{and_parts, and_from}
 use Rattle.nd_types.specs.declared.interface.Interface.{Interface}
 use Rattle.nd_types.specs.declared.types.TypeDef.{TypeDef}
 use Rattle.nd_types.specs.declared.types.TypeDef.TheVariants as def
-use Rattle.nd_types.specs.declared.types.Param.{Param}
 use Rattle.nd_types.specs.declared.types.Operation.{Operation}
 use Rattle.nd_types.specs.declared.types.Side.{Side}
-use Rattle.nd_types.specs.declared.types.Side.TheVariants as side
 use Rattle.nd_types.specs.Table.{Table, type_at}
-use Rattle.nd_types.specs.Roots.{Root, roots_of, params_from}
+use Rattle.nd_types.specs.Roots.{Root, roots_of}
 use Rattle.nd_types.specs.declared.types.Primitive.{Primitive}
 use Rattle.nd_types.specs.Numbers.{has_number_roots, IsPrimitiveRoot}
 use Rattle.std.proofs.lemmas.Option.{same_Some}
@@ -24,10 +22,10 @@ use Rattle.nd_value.specs.declared.item.Home.{Home}
 use Rattle.nd_value.specs.declared.item.Home.TheVariants as home
 use Rattle.nd_value.specs.declared.misfit.MisfitReason.{MisfitReason}
 use Rattle.nd_value.specs.Tree as tree
-use Rattle.nd_value.specs.Tree.{Tree, Trees, node, none, more, node_count, Label, Referent}
+use Rattle.nd_value.specs.Tree.{Tree, Trees, node, none, more, Label, Referent}
 use Rattle.nd_value.specs.Agreement.{Agreement}
 use Rattle.nd_value.specs.Setting.{Setting, root_list, cell_home, Among}
-use Rattle.nd_value.specs.Nodes.{TypedNode, child_types, child_agreements, first_agreements, rest_agreements, nodes_of, governed_nodes, home_nodes}
+use Rattle.nd_value.specs.Nodes.{TypedNode, child_types, child_agreements, first_agreements, nodes_of, governed_nodes, home_nodes}
 use Rattle.nd_value.specs.Deferral.{Pending, pointer_by, pointer, home_pointers}
 use Rattle.nd_value.specs.Variables.{root_agreements}
 use Rattle.nd_value.specs.Homes.{HomeNode, in_home, root_nodes, cell_nodes, all_nodes, all_pointers, root_pointers, cell_pointers}

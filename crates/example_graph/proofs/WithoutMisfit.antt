@@ -1,9 +1,8 @@
 -- A graph of values of the program without a first misfit conforms: which cells are reached can be decided.
 -- `w` is a setting, `g` a graph, `p` a pointer, `b` and `c` are numbers of cells, `x` is a cell, `m` a misfit.
-use Rattle.std.proofs.Common.{◌≡◌, ℕ, ◌+◌, ◌<◌, ◌≤◌, ◌^◌, zero, suc, Bool, true, false, ◌||◌, eqb, ◌≢◌, List, [], ◌∷◌, length, Option, Some, None, refl, ap, sym, ◌∙◌, subst, inl, inr, ◌⊎◌, arith}
+use Rattle.std.proofs.Common.{◌≡◌, ℕ, ◌<◌, ◌≤◌, ◌^◌, zero, suc, Bool, true, false, ◌||◌, eqb, ◌≢◌, List, [], ◌∷◌, length, Option, Some, None, refl, ap, sym, ◌∙◌, subst, inl, inr, ◌⊎◌, arith}
 use Rattle.std.specs.List.{list_all, slice_get}
 use Rattle.std.proofs.lemmas.Bool.{eqb-true, eq-eqb}
-use Rattle.std.proofs.lemmas.Option.{same_Some}
 use Rattle.std.proofs.lemmas.Bool.Decides.{eqb_tells}
 use Rattle.nd_value.specs.declared.value.Graph.{Graph}
 use Rattle.nd_value.specs.Tree.{Referent}
@@ -13,7 +12,6 @@ use Rattle.nd_value.specs.Homes.{all_nodes, all_pointers, root_pointers}
 use Rattle.nd_value.specs.Misfit.{has_machine_values}
 use Rattle.nd_value.specs.Conforms.{Conforms, HasFewNodes, Reached, by_root, by_cell}
 use Rattle.nd_value.specs.FirstMisfit.{MisfitAt, first_local, first_shared, first_disagreeing, IsFirstUnreached, IsFirstMisfit, is_local, is_shared, is_unreached, is_disagreeing}
-use Rattle.nd_value.proofs.FewRoots.{past_end}
 use Rattle.nd_value.proofs.Misfits.{passed_conforms}
 use Rattle.example_graph.proofs.Levels.{or_parts, level, gone, level_on, gone_from, last_level, in_last, IsLast}
 

@@ -4,7 +4,7 @@ use Rattle.std.proofs.lemmas.Bool.{eqb-true, eq-eqb, leb-true, ltb-true}
 use Rattle.std.proofs.lemmas.Bool.Decides.{Decides-int_eq}
 use Rattle.std.proofs.lemmas.Option.{same_Some}
 use Rattle.std.specs.Ordering.{int_eq}
-use Rattle.std.specs.List.{AllByRecursion}
+use Rattle.std.specs.List.{AllByRecursion, list_all}
 use Rattle.nd_base.specs.declared.octets.Order.{Order}
 use Rattle.nd_types.specs.declared.types.Class.{Class}
 use Rattle.nd_types.specs.declared.types.Class.TheVariants.{Ref, Unique, Full}
@@ -25,7 +25,6 @@ use Rattle.nd_grammar.specs.Chosen.{Chosen, octets_from, pipe_cuts}
 use Rattle.nd_value.specs.Conforms.{IsPartial, ShareOnlyIfFull, AllEarlier}
 use Rattle.nd_value.specs.Misfit.{is_partial_node, has_machine_values}
 use Rattle.nd_value.specs.Homes.{all_nodes, all_pointers}
-use Rattle.std.specs.List.{list_all}
 
 abbrev is_full : Class → Bool
 is_full Full = true

@@ -1,13 +1,12 @@
 -- The worked examples of arrays by the reader: it finds the graph of each stream, and the place and reason of each refusal.
 use Rattle.std.proofs.Common.{ℕ, [], ◌∷◌, refl}
-use Rattle.std.specs.Prelude.{pos, take, drop}
+use Rattle.std.specs.Prelude.{pos, take, drop, length}
 use Rattle.nd_base.specs.declared.octets.Order.TheVariants.{Little}
 use Rattle.nd_types.specs.Layout.{align_of, hoists}
 use Rattle.nd_types.specs.Roots.{roots_of}
 use Rattle.nd_grammar.specs.declared.reason.Reason.TheVariants as reason
 use Rattle.nd_grammar.specs.ExampleParts.{four}
 use Rattle.example_ndr.specs.ExamplesArrays.{sized, sized_graph, sized_octets, nested, nested_graph, nested_octets}
-use Rattle.std.specs.Prelude.{length}
 use Rattle.nd_grammar.specs.StreamReader.{read_stream}
 use Rattle.example_ndr.proofs.ReaderFinds.{IsFound, IsStopped}
 use Rattle.example_ndr.proofs.WorkedArrays.{sliced, text, text_graph, text_octets, varying, varying_graph, varying_octets}

@@ -1,6 +1,5 @@
 -- The worked examples of plain by the reader: it finds the graph of each stream, and the place and reason of each refusal.
-use Rattle.std.proofs.Common.{ℕ}
-use Rattle.std.proofs.Common.{[], ◌∷◌, refl}
+use Rattle.std.proofs.Common.{ℕ, [], ◌∷◌, refl}
 use Rattle.nd_base.specs.declared.octets.Order.TheVariants.{Big, Little}
 use Rattle.nd_types.specs.Layout.{align_of, hoists}
 use Rattle.nd_types.specs.Roots.{roots_of}

@@ -1,6 +1,6 @@
 -- The worked examples of pointers by the reader: it finds the graph of each stream, and the place and reason of each refusal.
 use Rattle.std.proofs.Common.{ℕ, [], ◌∷◌, refl}
-use Rattle.std.specs.Prelude.{pos}
+use Rattle.std.specs.Prelude.{pos, length}
 use Rattle.nd_base.specs.declared.octets.Order.TheVariants.{Little}
 use Rattle.nd_types.specs.Layout.{align_of, hoists}
 use Rattle.nd_types.specs.Roots.{roots_of}
@@ -8,7 +8,6 @@ use Rattle.nd_grammar.specs.declared.reason.Reason.TheVariants as reason
 use Rattle.example_ndr.specs.Examples.{ring, ring_of_one, ring_of_two}
 use Rattle.nd_grammar.specs.ExampleParts.{four}
 use Rattle.example_ndr.specs.ExamplesPointers.{pairs, shared_leaf, shared_leaf_octets, null_y, null_y_octets, unique_longs, two_fives, shared_five, full_longs, long_and_short, one_five_one}
-use Rattle.std.specs.Prelude.{length}
 use Rattle.nd_grammar.specs.StreamReader.{read_stream}
 use Rattle.example_ndr.proofs.ReaderFinds.{IsFound, IsStopped}
 use Rattle.example_ndr.proofs.WorkedPointers.{open_chain, other_octets, ring_octets, sized_twice}

@@ -1,13 +1,11 @@
 -- The worked examples of responses by the reader: it finds the graph of each stream, and the place and reason of each refusal.
-use Rattle.std.proofs.Common.{ℕ}
-use Rattle.std.proofs.Common.{[], ◌∷◌, Some, None, refl}
-use Rattle.std.specs.Prelude.{pos}
+use Rattle.std.proofs.Common.{ℕ, [], ◌∷◌, Some, None, refl}
+use Rattle.std.specs.Prelude.{pos, length}
 use Rattle.nd_base.specs.declared.octets.Order.TheVariants.{Little}
 use Rattle.nd_types.specs.Layout.{align_of, hoists}
 use Rattle.nd_types.specs.Roots.{roots_of}
 use Rattle.nd_grammar.specs.declared.reason.Reason.TheVariants as reason
 use Rattle.nd_grammar.specs.ExampleParts.{four}
-use Rattle.std.specs.Prelude.{length}
 use Rattle.nd_grammar.specs.StreamReader.{read_stream}
 use Rattle.example_ndr.proofs.ReaderFinds.{IsFound, IsStopped}
 use Rattle.example_ndr.proofs.WorkedResponses.{asked, asked_5, one_back, sized_back, sized_by_own, two_back}

@@ -1,16 +1,14 @@
 -- The worked examples of unions by the reader: it finds the graph of each stream, and the place and reason of each refusal.
-use Rattle.std.proofs.Common.{ℕ}
-use Rattle.std.proofs.Common.{[], ◌∷◌, None, refl}
-use Rattle.std.specs.Prelude.{pos}
+use Rattle.std.proofs.Common.{ℕ, [], ◌∷◌, None, refl}
+use Rattle.std.specs.Prelude.{pos, length}
 use Rattle.nd_base.specs.declared.octets.Order.TheVariants.{Little}
 use Rattle.nd_types.specs.Layout.{align_of, hoists}
 use Rattle.nd_types.specs.Roots.{roots_of}
 use Rattle.nd_value.specs.Tree as tree
-use Rattle.nd_value.specs.Tree.{Tree, Trees, node, none, more}
+use Rattle.nd_value.specs.Tree.{node}
 use Rattle.nd_grammar.specs.declared.reason.Reason.TheVariants as reason
 use Rattle.nd_grammar.specs.ExampleParts.{num, one, four}
 use Rattle.example_ndr.specs.ExamplesUnions.{choice, choice_of_hyper, default_chosen, choice_octets, pipe_of_longs, three_piped, chunks_of_two, first_chunk}
-use Rattle.std.specs.Prelude.{length}
 use Rattle.nd_grammar.specs.StreamReader.{read_stream}
 use Rattle.example_ndr.proofs.ReaderFinds.{IsFound, IsStopped}
 use Rattle.example_ndr.proofs.WorkedUnions.{pipe_of_colours, pipe_of_unions, switched, switched_element, switched_graph}

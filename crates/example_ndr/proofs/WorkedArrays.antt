@@ -13,7 +13,7 @@ use Rattle.nd_value.specs.declared.item.ItemKind.{ItemKind}
 use Rattle.nd_value.specs.declared.item.ItemKind.TheVariants as item
 use Rattle.nd_value.specs.declared.misfit.MisfitReason.TheVariants as misfit
 use Rattle.nd_value.specs.Tree as tree
-use Rattle.nd_value.specs.Tree.{Tree, node, none, more}
+use Rattle.nd_value.specs.Tree.{node, none, more}
 use Rattle.nd_value.specs.Setting.{Setting, unread, cell_home}
 use Rattle.nd_value.specs.FirstMisfit.{IsFirstMisfit, is_local}
 use Rattle.nd_grammar.specs.declared.reason.Reason.TheVariants as reason

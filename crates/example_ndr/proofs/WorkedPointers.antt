@@ -13,7 +13,7 @@ use Rattle.nd_value.specs.declared.value.Graph.{Graph}
 use Rattle.nd_value.specs.declared.item.Home.TheVariants as home
 use Rattle.nd_value.specs.declared.misfit.MisfitReason.TheVariants as misfit
 use Rattle.nd_value.specs.Tree as tree
-use Rattle.nd_value.specs.Tree.{Tree, node, none, more, Referent}
+use Rattle.nd_value.specs.Tree.{node, none, more, Referent}
 use Rattle.nd_value.specs.Setting.{Setting, unread, cell_home, cell_of_number, Among}
 use Rattle.nd_value.specs.Deferral.{Pending, home_pointers}
 use Rattle.nd_value.specs.Homes.{all_pointers}

@@ -10,7 +10,7 @@ use Rattle.nd_value.specs.declared.value.Graph.{Graph}
 use Rattle.nd_value.specs.declared.item.Home.TheVariants as home
 use Rattle.nd_value.specs.declared.misfit.MisfitReason.TheVariants as misfit
 use Rattle.nd_value.specs.Tree as tree
-use Rattle.nd_value.specs.Tree.{Tree, Trees, node, none, more}
+use Rattle.nd_value.specs.Tree.{Tree, node, none, more}
 use Rattle.nd_value.specs.Setting.{Setting, unread}
 use Rattle.nd_value.specs.FirstMisfit.{IsFirstMisfit, is_local, is_disagreeing}
 use Rattle.nd_grammar.specs.declared.reason.Reason.TheVariants as reason

@@ -5,7 +5,7 @@ use Rattle.nd_types.specs.declared.types.Attr.TheVariants as attr
 use Rattle.nd_types.specs.declared.types.Class.TheVariants.{Ref}
 use Rattle.nd_value.specs.declared.value.Graph.{Graph}
 use Rattle.nd_value.specs.Tree as tree
-use Rattle.nd_value.specs.Tree.{Tree, Trees, node, none, more, Referent}
+use Rattle.nd_value.specs.Tree.{node}
 use Rattle.nd_value.specs.Setting.{Setting}
 use Rattle.nd_grammar.specs.ExampleParts.{request, param, field, attribute, id, num, pointer_to, one, two, struct_of, cell, four}
 

@@ -3,7 +3,7 @@ use Rattle.std.specs.Prelude.{ℕ, pos, List, [], ◌∷◌}
 use Rattle.nd_types.specs.declared.types.TypeDef.TheVariants as def
 use Rattle.nd_value.specs.declared.value.Graph.{Graph}
 use Rattle.nd_value.specs.Tree as tree
-use Rattle.nd_value.specs.Tree.{Tree, node, none}
+use Rattle.nd_value.specs.Tree.{node, none}
 use Rattle.nd_value.specs.Setting.{Setting}
 use Rattle.nd_grammar.specs.ExampleParts.{request, param, num}
 

@@ -337,10 +337,6 @@ list_of_all : {X : Type 0} (f : X → Bool) (xs : List X) → AllByRecursion (λ
 list_of_all f [] h = refl
 list_of_all f (x ∷ xs) h = ap₂ (λ a b. a && b) h.0 (list_of_all f xs h.1)
 
-all_zip : {X : Type 0} (P Q : X → Type 0) (xs : List X) → AllByRecursion P xs → AllByRecursion Q xs → AllByRecursion (λ x. P x × Q x) xs
-all_zip P Q [] p q = tt
-all_zip P Q (x ∷ xs) p q = ((p.0, q.0), all_zip P Q xs p.1 q.1)
-
 module _ (w : Setting) (g h : Graph) (m : ℕ → ℕ) (r : Renumbers m g h) where
   n : ℕ
   n = length g.cells

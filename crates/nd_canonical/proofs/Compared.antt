@@ -1,6 +1,6 @@
 -- Two walks in step.
 -- `m` and `n` are the numbers of the cells of the two graphs, `a` and `b` the nodes that are left, `f` and `e` the first of them, `t` and `u` are trees, `Q` is what is decided of all.
-use Rattle.std.proofs.Common.{◌≡◌, ℕ, ◌+◌, ◌<◌, ◌≤◌, suc, Bool, true, false, eqb, List, [], ◌∷◌, ◌++◌, refl, ap, ap₂, sym, ◌∙◌, subst, arith}
+use Rattle.std.proofs.Common.{◌≡◌, ℕ, ◌+◌, ◌<◌, suc, Bool, true, false, eqb, List, ◌∷◌, ◌++◌, refl, ap, ap₂, sym, ◌∙◌, subst, arith}
 use Rattle.std.specs.Bool.{Decides}
 use Rattle.std.specs.List.{slice_get}
 use Rattle.std.proofs.lemmas.Bool.{eqb-true, eqb-false}
@@ -18,52 +18,6 @@ use Rattle.nd_canonical.proofs.Renumbered.{tree_renumbered}
 -- two lists of nodes say the same
 abbrev pub SameNodes : (m n : ℕ → ℕ) → List Flat → List Flat → Type 0
 SameNodes m n a b = renumbered_flats m a ≡ renumbered_flats n b
-
-abbrev others : List Flat → List Flat
-others [] = []
-others (f ∷ fs) = fs
-
-abbrev first_or : Flat → List Flat → Flat
-first_or d [] = d
-first_or d (f ∷ fs) = f
-
-module _ (m n : ℕ → ℕ) (a b : List Flat) where
-  -- one node of each was taken, and they say the same
-  pub step_on : (a' b' : List Flat) (f e : Flat) (Q : Type 0) → a ≡ f ∷ a' → b ≡ e ∷ b' → renumbered_flat m f ≡ renumbered_flat n e
-      → (SameNodes m n a b → Q) → SameNodes m n a' b' → Q
-  step_on a' b' f e Q p q r h s =
-      h (ap (renumbered_flats m) p ∙ ap₂ (λ (x : Flat) (xs : List Flat). x ∷ xs) r s ∙ sym (ap (renumbered_flats n) q))
-
-  pub step_back : (a' b' : List Flat) (f e : Flat) (Q : Type 0) → a ≡ f ∷ a' → b ≡ e ∷ b' → (Q → SameNodes m n a b) → Q → SameNodes m n a' b'
-  step_back a' b' f e Q p q h x = ap others (sym (ap (renumbered_flats m) p) ∙ h x ∙ ap (renumbered_flats n) q)
-
-  -- they do not say the same
-  pub step_differs : (a' b' : List Flat) (f e : Flat) (Q : Type 0) → a ≡ f ∷ a' → b ≡ e ∷ b' → (r : Bool) → r ≡ false → Decides r (renumbered_flat m f ≡ renumbered_flat n e)
-      → (Q → SameNodes m n a b) → Decides false Q
-  step_differs a' b' f e Q p q r unequal d h =
-      ((λ z. cc), λ x. sym unequal ∙ d.1 (ap (first_or (renumbered_flat m f)) (sym (ap (renumbered_flats m) p) ∙ h x ∙ ap (renumbered_flats n) q)))
-
-  -- the second has fewer
-  pub fewer : (a' : List Flat) (f : Flat) (Q : Type 0) → a ≡ f ∷ a' → b ≡ [] → (Q → SameNodes m n a b) → Decides false Q
-  fewer a' f Q p q h = (
-    (λ z. cc),
-    λ x.
-        let z : renumbered_flats m (f ∷ a') ≡ [] = sym (ap (renumbered_flats m) p) ∙ h x ∙ ap (renumbered_flats n) q in
-        absurd (cc),
-  )
-
-  -- both end
-  pub ended : (Q : Type 0) → a ≡ [] → b ≡ [] → (SameNodes m n a b → Q) → Decides true Q
-  ended Q p q h = ((λ z. h (ap (renumbered_flats m) p ∙ sym (ap (renumbered_flats n) q))), λ x. refl)
-
-  -- the second has more
-  pub more_left : (b' : List Flat) (e : Flat) (Q : Type 0) → a ≡ [] → b ≡ e ∷ b' → (Q → SameNodes m n a b) → Decides false Q
-  more_left b' e Q p q h = (
-    (λ z. cc),
-    λ x.
-        let z : [] ≡ renumbered_flats n (e ∷ b') = sym (ap (renumbered_flats m) p) ∙ h x ∙ ap (renumbered_flats n) q in
-        absurd (cc),
-  )
 
 -- ## Trees
 
@@ -106,10 +60,6 @@ place_on P at h p i l = go (eqb i at) refl
 -- a place where they differ
 pub place_differs : (P : ℕ → Type 0) (n at : ℕ) (r : Bool) → at < n → r ≡ false → Decides r (P at) → Decides false ((i : ℕ) → i < n → P i)
 place_differs P n at r l unequal d = ((λ z. cc), λ h. sym unequal ∙ d.1 (h at l))
-
--- all places
-pub places_end : (P : ℕ → Type 0) (n at : ℕ) → n ≤ at → ((i : ℕ) → i < at → P i) → Decides true ((i : ℕ) → i < n → P i)
-places_end P n at l h = ((λ z i b. h i (omega (arith, b, l))), λ x. refl)
 
 -- ## Cells
 

@@ -13,7 +13,7 @@ use Rattle.nd_value.specs.Canon.{has}
 use Rattle.nd_value.proofs.Apart.{all_append}
 use Rattle.nd_flat.specs.Building.{HasHome, home_tree}
 use Rattle.nd_canonical.specs.Naming.{Naming, none_due, root_due, cell_due, stands_already, AreNamed, cell_homes, root_homes}
-use Rattle.nd_canonical.specs.Order.{Numbering, name, Ordering, visited, visited_by, HasMark, IsAllNamed, IsOrder, zeros, HaveNumbers}
+use Rattle.nd_canonical.specs.Order.{Numbering, name, Ordering, visited, visited_by, IsAllNamed, IsOrder, zeros, HaveNumbers}
 use Rattle.nd_canonical.proofs.Numbers.{AreNumbers, names_step, can_name, firsts, place, number_is_place, placed, placed_at, found, has_among, among_has, firsts_have, no_zeros}
 
 -- what the search keeps
@@ -184,21 +184,8 @@ module _ (g : Graph) (names : HasNames g) (s : Ordering) (rest : List Home) wher
   visit_step (home.Root i) e o = root_step i e o
   visit_step (home.Cell c) e o = number_step c.0 e o
 
-  -- the next home can be named, and marked
-  pub next_there : (h : Home) → s.due ≡ h ∷ rest → Ordered g s → HasHome g h
-  next_there h e o = (subst (AllByRecursion (HasHome g)) e o.there).0
-
   pub next_named : length g.cells < 2 ^ 32 → (h : Home) → Ordered g s → HaveNumbers s.named.numbers s.named.cells (named_by (home_tree g h))
   next_named few h o = can_name (length g.cells) o.names s.named (named_by (home_tree g h)) o.numbers few (home_there g names h)
-
-  pub next_marked : (h : Home) → s.due ≡ h ∷ rest → Ordered g s → HasMark s.stands h
-  next_marked (home.Root i) e o = tt
-  next_marked (home.Cell c) e o =
-      let t : (0 < c.0) × (c.0 ≤ length g.cells) = next_there (home.Cell c) e o in
-      let lo = t.0 in
-      let hi = t.1 in
-      let a = o.all in
-      (lo, omega (arith, hi, a))
 
 -- ## How much is left
 

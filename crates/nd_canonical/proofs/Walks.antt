@@ -2,14 +2,13 @@
 -- `old` and `new` are what is left of a walk before and after, `xs` the cells that a node names, `s` and `r` numberings before and after.
 use Rattle.std.proofs.Common.{◌≡◌, ℕ, ◌+◌, ◌-◌, ◌<◌, ◌≤◌, suc, zero, List, [], ◌∷◌, ◌++◌, length, reverse, get_or, refl, ap, sym, ◌∙◌, subst, arith, append_assoc}
 use Rattle.std.specs.List.{AllByRecursion}
-use Rattle.std.proofs.lemmas.List.{reverse-append, reverse-reverse, append-nil, map-append}
+use Rattle.std.proofs.lemmas.List.{reverse-append}
 use Rattle.nd_value.specs.declared.item.Home.{Home}
 use Rattle.nd_value.specs.declared.item.Home.TheVariants as home
 use Rattle.nd_value.specs.Tree.{Trees}
-use Rattle.nd_value.specs.Setting.{cell_home}
 use Rattle.nd_value.specs.Names.{cells_in}
 use Rattle.nd_value.proofs.Apart.{all_left}
-use Rattle.nd_canonical.specs.Naming.{cell_homes, root_homes}
+use Rattle.nd_canonical.specs.Naming.{root_homes}
 use Rattle.nd_canonical.specs.Order.{Numbering, name, name_by, HaveNumbers}
 use Rattle.nd_canonical.proofs.Numbers.{have_next}
 
@@ -45,31 +44,10 @@ have_rest s r old new xs e n h =
     subst (λ (u : Numbering). HaveNumbers u.numbers u.cells (cells_in new)) (sym n)
     (have_after xs (cells_in new) s (subst (HaveNumbers s.numbers s.cells) e h))
 
--- all is named
-pub name_end : (left : List ℕ) (s all : Numbering) → left ≡ [] → name left s ≡ all → s ≡ all
-name_end left s all e h = ap (λ cs. name cs s) (sym e) ∙ h
-
-pub met_end : (left met all : List ℕ) → left ≡ [] → met ++ left ≡ all → met ≡ all
-met_end left met all e h = sym (append-nil met) ∙ ap (λ u. met ++ u) (sym e) ∙ h
-
 -- ## Homes that become due
 
 pub last_first : {A : Type 0} (xs : List A) (x : A) → reverse (xs ++ x ∷ []) ≡ x ∷ reverse xs
 last_first xs x = reverse-append xs (x ∷ [])
-
-pub due_on : (met met' : List ℕ) (c : ℕ) (due due' all : List Home) → met ≡ met' ++ c ∷ [] → due' ≡ due ++ cell_home c ∷ []
-    → due ++ reverse (cell_homes met) ≡ all → due' ++ reverse (cell_homes met') ≡ all
-due_on met met' c due due' all e n h =
-    let reversed : reverse (cell_homes met) ≡ cell_home c ∷ reverse (cell_homes met') =
-    ap (λ u. reverse (cell_homes u)) e ∙ ap reverse (map-append cell_home met' (c ∷ [])) ∙ last_first (cell_homes met') (cell_home c) in
-    ap (λ u. u ++ reverse (cell_homes met')) n ∙ append_assoc due (cell_home c ∷ []) (reverse (cell_homes met')) ∙ ap (λ u. due ++ u) (sym reversed) ∙ h
-
-pub due_end : (met : List ℕ) (due all : List Home) → met ≡ [] → due ++ reverse (cell_homes met) ≡ all → due ≡ all
-due_end met due all e h = sym (append-nil due) ∙ ap (λ u. due ++ reverse (cell_homes u)) (sym e) ∙ h
-
--- cells are due before the others
-pub due_first : (due cs : List Home) → reverse (due ++ reverse cs) ≡ cs ++ reverse due
-due_first due cs = reverse-append due (reverse cs) ∙ ap (λ u. u ++ reverse due) (reverse-reverse cs)
 
 -- roots from the last on
 pub roots_on : (due due' : List Home) (i n : ℕ) → 0 < i → i ≤ n → due' ≡ due ++ home.Root (i - 1) ∷ [] → reverse due ≡ root_homes i (n - i) → reverse due' ≡ root_homes (i - 1) (n - (i - 1))

@@ -5,7 +5,6 @@ use Rattle.nd_value.specs.declared.value.Graph.{Graph}
 use Rattle.nd_value.specs.declared.item.Home.{Home}
 use Rattle.nd_value.specs.Canon.{IsCanon, canonical_number, named_cells}
 use Rattle.nd_value.specs.Conforms.{Conforms}
-use Rattle.nd_value.specs.Deferral.{Step}
 use Rattle.nd_value.specs.Setting.{Setting}
 use Rattle.nd_value.proofs.DeferralBridge.{deferral_is}
 use Rattle.nd_value.proofs.NodeFacts.{sound_conforming}

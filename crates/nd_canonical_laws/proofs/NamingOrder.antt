@@ -331,9 +331,6 @@ module _ (w : Setting) (g : Graph) where
       laid : IsLaidOut w
       laid = laid_out w side
 
-      first_pipe : ℕ
-      first_pipe = before_pipes (root_list w)
-
       pipe_names_none : (i : ℕ) → before_pipes (root_list w) ≤ i → i < length (root_list w) → named_by (root_at g i) ≡ []
       pipe_names_none i lo hi =
           let n : ℕ = before_pipes (root_list w) in

@@ -4,7 +4,7 @@ use Rattle.std.proofs.lemmas.List.{append-nil}
 use Rattle.std.proofs.lemmas.Option.{same_Some}
 use Rattle.std.specs.List.{slice_get}
 use Rattle.nd_value.specs.Tree.{Tree, Trees, Flat, Label, node, none, more, trees, flat, node_count, count}
-use Rattle.nd_value.proofs.LocalPass.{drop-get, drop-past}
+use Rattle.nd_value.proofs.LocalPass.{drop-get}
 use Rattle.nd_flat.specs.Building.{Building, with_nodes, with_node}
 use Rattle.nd_flat.specs.Keepable.{AreKeepable}
 use Rattle.nd_flat.specs.Built.{Adds}
@@ -14,9 +14,6 @@ use Rattle.nd_flat.proofs.Forests.{flat-more}
 pub record AddedTo (vs : List Tree) (b : Building) (i : ℕ) (now : Building) : Type 0 where
   pub same : now ≡ with_nodes now.nodes b
   pub all : b.nodes ++ flat (trees vs) ≡ now.nodes ++ flat (trees (drop i vs))
-
-pub added_none : (vs : List Tree) (b : Building) → AddedTo vs b 0 b
-added_none vs b = record { same = refl; all = refl }
 
 -- one value further
 pub added_on : (vs : List Tree) (b : Building) (i : ℕ) (now next : Building) (v : Tree) → slice_get vs i ≡ Some v → AddedTo vs b i now
@@ -31,11 +28,6 @@ added_on vs b i now next v there w a =
           w.all ∙ ap (λ us. now.nodes ++ flat (trees us)) (drop-get vs i v there) ∙ ap (λ xs. now.nodes ++ xs) (flat-more v (trees (drop (i + 1) vs)))
           ∙ sym (append_assoc now.nodes fs gs) ∙ ap (λ xs. xs ++ gs) (sym n);
     }
-
-pub added_all : (vs : List Tree) (b : Building) (i : ℕ) (now : Building) → length vs ≤ i → AddedTo vs b i now → Adds (trees vs) b now
-added_all vs b i now past w =
-    let e : b.nodes ++ flat (trees vs) ≡ now.nodes = w.all ∙ ap (λ us. now.nodes ++ flat (trees us)) (drop-past vs i past) ∙ append-nil now.nodes in
-    w.same ∙ ap (λ xs. with_nodes xs b) (sym e)
 
 -- a node, and then its children
 pub then_kids : (l : Label) (k : ℕ) (ks : Trees) (old mid new : Building) → k ≡ count ks → mid ≡ with_node (l, k) old → Adds ks mid new

@@ -1,6 +1,6 @@
 -- A graph of values, built home by home.
-use Rattle.std.proofs.Common.{◌≡◌, ℕ, ◌+◌, ◌-◌, ◌^◌, ◌<◌, ◌≤◌, length-append, zero, suc, List, [], ◌∷◌, ◌++◌, length, take, drop, map, Option, Some, None, refl, ap, ap₂, sym, ◌∙◌, subst, arith, append_assoc}
-use Rattle.std.proofs.lemmas.List.{append-nil, length-map, map-append}
+use Rattle.std.proofs.Common.{◌≡◌, ℕ, ◌+◌, ◌-◌, ◌<◌, ◌≤◌, zero, suc, List, [], ◌∷◌, ◌++◌, length, take, drop, map, Option, Some, None, refl, ap, sym, ◌∙◌, subst, arith, append_assoc}
+use Rattle.std.proofs.lemmas.List.{length-map, map-append}
 use Rattle.std.proofs.lemmas.Option.{same_Some}
 use Rattle.std.specs.List.{AllByRecursion, slice_get}
 use Rattle.nd_types.specs.declared.interface.Interface.{Interface}
@@ -11,11 +11,11 @@ use Rattle.nd_value.specs.declared.item.Home.TheVariants as home
 use Rattle.nd_value.specs.Tree.{Tree, Referent, node, none, more, trees}
 use Rattle.nd_flat.specs.Keepable.{AreKeepable, HasKeepable}
 use Rattle.nd_flat.specs.Forest.{tree_in}
-use Rattle.nd_flat.specs.Building.{Building, put, closed, with_cell, with_graph, CanClose, HasNoUnread, start}
+use Rattle.nd_flat.specs.Building.{Building, put, closed, with_cell, with_graph, HasNoUnread, start}
 use Rattle.nd_value.specs.Setting.{unread, set_nth, set_cell}
 use Rattle.nd_flat.specs.Built.{HasGraph, Rooted, Filled}
 use Rattle.nd_fit.specs.Steps.{AllRooted, AllFilled, AllReserved, blank}
-use Rattle.nd_flat.proofs.Rooted.{frame_same, frame_on}
+use Rattle.nd_flat.proofs.Rooted.{frame_on}
 
 abbrev mk : List Tree → List Referent → Graph
 mk rs cs = record { roots = rs; cells = cs }
@@ -29,16 +29,6 @@ take_on xs i x e = let n : i + 1 ≡ suc i = omega arith in ap (λ k. take k xs)
     take_suc (y ∷ ys) zero x e = ap (λ z. z ∷ []) (same_Some y x e)
     take_suc (y ∷ ys) (suc i) x e = ap (λ zs. y ∷ zs) (take_suc ys i x e)
 
-pub take_end : {A : Type 0} (xs : List A) (i : ℕ) → length xs ≤ i → take i xs ≡ xs
-take_end [] zero l = refl
-take_end [] (suc i) l = refl
-take_end (x ∷ xs) zero l = absurd (omega (arith, l))
-take_end (x ∷ xs) (suc i) l = ap (λ ys. x ∷ ys) (take_end xs i (omega (arith, l)))
-
--- Roots
-pub roots_none : (b : Building) → CanClose b → HasGraph (mk ((closed b).roots ++ []) (closed b).cells) b b
-roots_none b h = record { whole = h; graph = ap (λ rs. mk rs (closed b).cells) (sym (append-nil (closed b).roots)); frame = frame_same b }
-
 pub roots_on : (vs : List Tree) (i : ℕ) (v : Tree) (old now next : Building) → slice_get vs i ≡ Some v
     → HasGraph (mk ((closed old).roots ++ take i vs) (closed old).cells) old now → Rooted v now next → HasGraph (mk ((closed old).roots ++ take (i + 1) vs) (closed old).cells) old next
 roots_on vs i v old now next e h r = record {
@@ -47,13 +37,6 @@ roots_on vs i v old now next e h r = record {
       r.graph ∙ ap (λ (g : Graph). mk (g.roots ++ v ∷ []) g.cells) h.graph
       ∙ ap (λ xs. mk xs (closed old).cells) (append_assoc (closed old).roots (take i vs) (v ∷ []) ∙ ap (λ ys. (closed old).roots ++ ys) (sym (take_on vs i v e)));
   frame = frame_on old now next h.frame r.frame;
-}
-
-pub roots_end : (vs : List Tree) (i : ℕ) (old now : Building) → length vs ≤ i → HasGraph (mk ((closed old).roots ++ take i vs) (closed old).cells) old now → AllRooted vs old now
-roots_end vs i old now l h = record {
-  whole = h.whole;
-  graph = h.graph ∙ ap (λ ys. mk ((closed old).roots ++ ys) (closed old).cells) (take_end vs i l);
-  frame = h.frame;
 }
 
 -- Cells
@@ -79,23 +62,6 @@ cells_on xs i x old now next e h r =
           ∙ ap (λ k. mk (closed old).roots (take k xs ++ map blank (drop k xs))) (sym n);
       frame = frame_on old now next h.frame r.frame;
     }
-
-drop_end : {A : Type 0} (xs : List A) (i : ℕ) → length xs ≤ i → drop i xs ≡ []
-drop_end [] zero l = refl
-drop_end [] (suc i) l = refl
-drop_end (x ∷ xs) zero l = absurd (omega (arith, l))
-drop_end (x ∷ xs) (suc i) l = drop_end xs i (omega (arith, l))
-
-pub cells_end : (xs : List Referent) (i : ℕ) (old now : Building) → length xs ≤ i → HasGraph (mk (closed old).roots (take i xs ++ map blank (drop i xs))) old now → AllFilled xs old now
-cells_end xs i old now l h = record {
-  whole = h.whole;
-  graph =
-      h.graph ∙ ap₂ (λ ys zs. mk (closed old).roots (ys ++ map blank zs)) (take_end xs i l) (drop_end xs i l) ∙ ap (mk (closed old).roots) (append-nil xs);
-  frame = h.frame;
-}
-
-pub cells_none : (xs : List Referent) (b : Building) → CanClose b → (closed b).cells ≡ map blank xs → HasGraph (mk (closed b).roots (map blank xs)) b b
-cells_none xs b h e = record { whole = h; graph = ap (mk (closed b).roots) e; frame = frame_same b }
 
 set_count : (i : ℕ) (t : Tree) (xs : List Referent) → length (set_nth i t xs) ≡ length xs
 set_count zero t [] = refl
@@ -133,10 +99,6 @@ all_at P [] i x e h = cc
 all_at P (y ∷ ys) zero x e h = subst P (same_Some y x e) h.0
 all_at P (y ∷ ys) (suc i) x e h = all_at P ys i x e h.1
 
--- Reserving
-pub reserved_none : (b : Building) → b ≡ with_graph (mk b.graph.roots (b.graph.cells ++ [])) b
-reserved_none b = ap (λ cs. with_graph (mk b.graph.roots cs) b) (sym (append-nil b.graph.cells))
-
 pub reserved_on : (xs : List Referent) (i : ℕ) (x : Referent) (of : ℕ) (old now next : Building) → slice_get xs i ≡ Some x → of ≡ x.of
     → AllReserved (take i xs) old now → next ≡ with_graph (with_cell of now.graph) now → AllReserved (take (i + 1) xs) old next
 reserved_on xs i x of old now next e o h r =
@@ -146,23 +108,6 @@ reserved_on xs i x of old now next e o h r =
     r ∙ ap (λ (b : Building). with_graph (with_cell of b.graph) b) h
     ∙ ap (λ k. with_graph (mk old.graph.roots ((cs ++ map blank (take i xs)) ++ one k ∷ [])) old) o
     ∙ ap (λ ys. with_graph (mk old.graph.roots ys) old) (append_assoc cs (map blank (take i xs)) (blank x ∷ []) ∙ ap (λ ys. cs ++ ys) m)
-
-pub reserved_end : (xs : List Referent) (i : ℕ) (old now : Building) → length xs ≤ i → AllReserved (take i xs) old now → AllReserved xs old now
-reserved_end xs i old now l h = h ∙ ap (λ ys. with_graph (mk old.graph.roots (old.graph.cells ++ map blank ys)) old) (take_end xs i l)
-
-take_count : {A : Type 0} (xs : List A) (i : ℕ) → length (take i xs) ≤ i
-take_count xs zero = omega arith
-take_count [] (suc i) = omega arith
-take_count (x ∷ xs) (suc i) = let h : length (take i xs) ≤ i = take_count xs i in omega arith
-
--- there is a number for one cell more
-pub reserved_few : (xs : List Referent) (i : ℕ) (old now : Building) → i < length xs → length old.graph.cells + length xs < 2 ^ 32 → AllReserved (take i xs) old now
-    → length now.graph.cells < 2 ^ 32 - 1
-reserved_few xs i old now l few h =
-    let a : length now.graph.cells ≡ length (old.graph.cells ++ map blank (take i xs)) = ap (λ (b : Building). length b.graph.cells) h in
-    let b : length (map blank (take i xs)) ≡ length (take i xs) = length-map (take i xs) blank in
-    let c : length (take i xs) ≤ i = take_count xs i in
-    omega (arith, a, b, c, l, few, length-append old.graph.cells (map blank (take i xs)))
 
 -- Together
 pub built_graph : (g : Graph) (b0 b1 b2 b3 : Building) (i : Interface) (n : ℕ) (s : Side) (q : Option Graph) → b0 ≡ start i n s q

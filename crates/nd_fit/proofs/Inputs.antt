@@ -9,7 +9,7 @@ use Rattle.nd_types.specs.declared.types.Side.{Side}
 use Rattle.nd_types.specs.declared.types.Side.TheVariants as side
 use Rattle.nd_types.specs.Walk.{NamedRoot, named_roots}
 use Rattle.nd_value.specs.declared.value.Graph.{Graph}
-use Rattle.nd_value.specs.Tree.{Tree, Trees, Label, node, none, more, flat}
+use Rattle.nd_value.specs.Tree.{Tree, none}
 use Rattle.nd_value.specs.Setting.{Setting, or_unread}
 use Rattle.nd_value.specs.Conforms.{Conforms}
 use Rattle.nd_value.specs.Fitting.{Fitting, IsFit, IsGiven, IsGivenRequest, setting_beside, setting_of}
@@ -21,8 +21,6 @@ use Rattle.nd_misfits.specs.declared.numbers.RootNumber.{RootNumber}
 use Rattle.nd_misfits.specs.Numbers.{number_at, numbers_of, no_number, are_small_roots}
 use Rattle.nd_misfits.proofs.HomeNumbers.{roots_small}
 use Rattle.nd_misfits.proofs.Walkable.{walkable_roots, walkable_cells}
-use Rattle.nd_flat.specs.declared.node.Seen.{Seen}
-use Rattle.nd_flat.specs.FlatForm.{flat_seen}
 use Rattle.nd_value.specs.Request.{IsRequest, IsRequestOf, ConformsIfGiven}
 
 -- one input more
@@ -53,14 +51,6 @@ pub numbers_end : (g : Graph) (rs : List NamedRoot) (ts : List Tree) (i : ℕ) (
     → ns ++ numbers_of g (drop i rs) (drop i ts) ≡ numbers_of g rs ts → ns ≡ numbers_of g rs ts
 numbers_end g rs ts i ns past before =
     sym (append-nil ns) ∙ ap (λ us. ns ++ numbers_of g us (drop i ts)) (sym (drop-past rs i past)) ∙ before
-
--- the first node of a value
-pub first_label : (t : Tree) (s : Seen) (left : Trees) → flat (more t none) ≡ flat_seen s ∷ flat left → (l : Label) → (flat_seen s).0 ≡ l → (ks : Trees) × (t ≡ node l ks)
-first_label (node l ks) s left e m f = (ks, ap (λ x. node x ks) (ap (λ fs. (head fs).0) e ∙ f))
-  where
-    head : List (Label × ℕ) → Label × ℕ
-    head [] = (l, 0)
-    head (x ∷ xs) = x
 
 -- the request is judged as a fit of the inputs
 pub of_request : (i : Interface) (op : ℕ) (s : Side) (q : Option Fitting) → IsRequestOf i op s q → IsRequestOf i op side.Out q

@@ -1,7 +1,7 @@
 -- Numbers of one primitive as a row.
 -- `p` is a primitive, `vs` are trees, `z` is a number, `zs` are numbers.
 use Rattle.std.proofs.Math.Seq.{take-append_seam, drop-append_seam}
-use Rattle.std.proofs.Common.{◌≡◌, ℕ, ℤ, ◌+◌, ◌*◌, ◌≤◌, suc, List, [], ◌∷◌, ◌++◌, length, take, drop, Some, refl, ap, ap₂, sym, ◌∙◌, subst, arith, append_assoc, append-nil, length-append}
+use Rattle.std.proofs.Common.{◌≡◌, ℕ, ℤ, ◌+◌, ◌*◌, suc, List, [], ◌∷◌, ◌++◌, length, take, drop, Some, refl, ap, ap₂, sym, ◌∙◌, subst, arith, append_assoc, append-nil, length-append}
 use Rattle.std.specs.List.{slice_get}
 use Rattle.std.proofs.lemmas.List.{map-append}
 use Rattle.nd_base.specs.declared.octets.Order.TheVariants.{Little}
@@ -16,15 +16,12 @@ use Rattle.nd_flat.specs.FlatForm.{row_values, num_trees}
 use Rattle.nd_flat.proofs.Frames.{all_both}
 use Rattle.nd_flat.proofs.RowWalks.{numbers_added}
 use Rattle.nd_fit.specs.Numbers.{number_of, numbers_of, IsNumberOf, AreNumbersOf, written_all}
-use Rattle.nd_fit.proofs.Homes.{take_on, take_end}
+use Rattle.nd_fit.proofs.Homes.{take_on}
 
 -- one value more is a number of the primitive
 pub numbers_on : (p : Primitive) (vs : List Tree) (i : ℕ) (v : Tree) → slice_get vs i ≡ Some v → AreNumbersOf p (take i vs) → IsNumberOf p v
     → AreNumbersOf p (take (i + 1) vs)
 numbers_on p vs i v e h n = subst (AreNumbersOf p) (sym (take_on vs i v e)) (all_both (IsNumberOf p) (take i vs) (v ∷ []) h (n, tt))
-
-pub numbers_end : (p : Primitive) (vs : List Tree) (i : ℕ) → length vs ≤ i → AreNumbersOf p (take i vs) → AreNumbersOf p vs
-numbers_end p vs i l h = subst (AreNumbersOf p) (take_end vs i l) h
 
 written_both : (p : Primitive) (ys zs : List ℤ) → written_all p (ys ++ zs) ≡ written_all p ys ++ written_all p zs
 written_both p [] zs = refl
@@ -39,10 +36,6 @@ written_on p vs i v old new e h n =
     n ∙ ap₂ (λ xs ys. xs ++ ys) h (sym (append-nil one))
     ∙ sym (written_both p (numbers_of (take i vs)) (number_of v ∷ []))
     ∙ ap (written_all p) (sym (map-append number_of (take i vs) (v ∷ [])) ∙ ap numbers_of (sym (take_on vs i v e)))
-
-pub written_end : (p : Primitive) (vs : List Tree) (i : ℕ) (os : List ℕ) → length vs ≤ i → os ≡ written_all p (numbers_of (take i vs))
-    → os ≡ written_all p (numbers_of vs)
-written_end p vs i os l h = h ∙ ap (λ us. written_all p (numbers_of us)) (take_end vs i l)
 
 take_front : (n : ℕ) (xs ys : List ℕ) → length xs ≡ n → take n (xs ++ ys) ≡ xs
 take_front n xs ys e = ap (λ k. take k (xs ++ ys)) (sym e) ∙ take-append_seam xs ys

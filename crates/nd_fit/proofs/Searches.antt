@@ -1,12 +1,11 @@
 -- The search for the cells that are reached finds them.
 -- `g` is a graph, `t` a tree, `b`, `c` and `d` are cells' numbers, `cs` some of them, `s` is how far the search has come, `ms` are marks.
-use Rattle.std.proofs.Common.{◌≡◌, ◌⊎◌, inl, inr, ℕ, ◌+◌, ◌<◌, ◌≤◌, zero, suc, Bool, true, false, List, [], ◌∷◌, ◌++◌, length, drop, get_or, set, replicate, Option, Some, None, refl, ap, sym, ◌∙◌, subst, arith, append_assoc, length-append, below_more, zero-add, flat_map}
+use Rattle.std.proofs.Common.{◌≡◌, ◌⊎◌, inl, inr, ℕ, ◌+◌, ◌<◌, ◌≤◌, zero, suc, Bool, true, false, List, [], ◌∷◌, ◌++◌, length, drop, get_or, set, replicate, Option, Some, None, refl, ap, sym, ◌∙◌, subst, arith, append_assoc, length-append, below_more, zero-add}
 use Rattle.std.specs.List.{AllByRecursion, slice_get}
 use Rattle.std.proofs.lemmas.List.{append-nil}
 use Rattle.nd_value.specs.declared.value.Graph.{Graph}
 use Rattle.nd_value.specs.declared.value.CellId.{CellId}
-use Rattle.nd_value.specs.Tree.{Tree, Trees, Referent, Flat, none, more, flat, cell_in}
-use Rattle.nd_value.specs.Canon.{target}
+use Rattle.nd_value.specs.Tree.{Tree, Trees, Referent, none, more}
 use Rattle.nd_value.specs.Setting.{Among, cell_at, cell_tree, or_unread}
 use Rattle.nd_value.specs.Names.{cells_in, named_by, AreThere, HasNames}
 use Rattle.nd_fit.specs.Reach.{Reach, root_names, cell_names, Search, searched, is_marked, note_by, note, note_roots, HaveMarks, AreMarked, unmarked, Searching, TellsReach, TellsMark}
@@ -160,10 +159,6 @@ note_few (c ∷ cs) s h =
     let r : Search = note_by (is_marked s c) c s in
     note_few cs r (have_on cs s.marks r.marks (by_length (is_marked s c) c s) h.1) ∙ by_few (is_marked s c) c s refl h.0
 
--- the walk goes on by a node
-pub cells_step : (old new : Trees) (f : Flat) → flat old ≡ f ∷ flat new → cells_in old ≡ target (cell_in f.0) ++ cells_in new
-cells_step old new f e = ap (flat_map (λ x. target (cell_in x.0))) e
-
 pub all_front : {A : Type 0} (P : A → Type 0) (xs ys : List A) → AllByRecursion P (xs ++ ys) → AllByRecursion P xs
 all_front P [] ys h = tt
 all_front P (x ∷ xs) ys h = (h.0, all_front P xs ys h.1)
@@ -171,22 +166,6 @@ all_front P (x ∷ xs) ys h = (h.0, all_front P xs ys h.1)
 pub all_back : {A : Type 0} (P : A → Type 0) (xs ys : List A) → AllByRecursion P (xs ++ ys) → AllByRecursion P ys
 all_back P [] ys h = h
 all_back P (x ∷ xs) ys h = all_back P xs ys h.1
-
--- what the next node names can be marked
-pub have_first : (ms : List Bool) (old new : Trees) (f : Flat) (xs : List ℕ) → flat old ≡ f ∷ flat new → xs ≡ target (cell_in f.0) → HaveMarks ms (cells_in old) → HaveMarks ms xs
-have_first ms old new f xs e x h =
-    subst (HaveMarks ms) (sym x) (all_front (λ c. c < length ms) (target (cell_in f.0)) (cells_in new) (subst (HaveMarks ms) (cells_step old new f e) h))
-
-pub have_rest : (ms ms' : List Bool) (old new : Trees) (f : Flat) → flat old ≡ f ∷ flat new → length ms' ≡ length ms → HaveMarks ms (cells_in old) → HaveMarks ms' (cells_in new)
-have_rest ms ms' old new f e l h =
-    have_on (cells_in new) ms ms' l (all_back (λ c. c < length ms) (target (cell_in f.0)) (cells_in new) (subst (HaveMarks ms) (cells_step old new f e) h))
-
--- what is left comes to what all came to
-pub note_turn : (old new : Trees) (f : Flat) (xs : List ℕ) (s r all : Search) → flat old ≡ f ∷ flat new → xs ≡ target (cell_in f.0) → r ≡ note xs s
-    → note (cells_in old) s ≡ all → note (cells_in new) r ≡ all
-note_turn old new f xs s r all e x n h =
-    ap (note (cells_in new)) (n ∙ ap (λ ys. note ys s) x) ∙ sym (note-append (target (cell_in f.0)) (cells_in new) s)
-    ∙ ap (λ cs. note cs s) (sym (cells_step old new f e)) ∙ h
 
 module _ (g : Graph) (names : HasNames g) where
   cell_there : (n i : ℕ) (xs : List Referent) → i < length xs → AllByRecursion (λ x. AreThere n (named_by x.val)) xs → AreThere n (named_by (cell_tree (slice_get xs i)))
@@ -285,28 +264,6 @@ module _ (g : Graph) (names : HasNames g) where
         few = note_few cs s have ∙ h.few;
       })
 
-  -- the cells of the queue are there, and what they name can be marked
-  pub queue_there : (s : Search) (at b : ℕ) → at < length s.queue → b ≡ get_or s.queue at 0 → Searching g g.roots s at → (0 < b) × (b ≤ length g.cells)
-  queue_there s at b l e h =
-      subst (λ x. (0 < x) × (x ≤ length g.cells)) (sym e) (all_get (λ x. (0 < x) × (x ≤ length g.cells)) s.queue at 0 h.there l)
-
-  pub have_queue : (s : Search) (at b : ℕ) → at < length s.queue → b ≡ get_or s.queue at 0 → Searching g g.roots s at → HaveMarks s.marks (named_by (cell_at g b))
-  have_queue s at b l e h =
-      let p : (0 < b) × (b ≤ length g.cells) = queue_there s at b l e h in
-      have_there s.marks (named_by (cell_at g b)) h.marks (named_there b p.0 p.1)
-
-  -- past the queue all is closed
-  pub past_queue : (s : Search) (at : ℕ) → length s.queue ≤ at → Searching g g.roots s at → Searching g g.roots s (length s.queue)
-  past_queue s at l h = record {
-    sound = h.sound;
-    there = h.there;
-    queued = h.queued;
-    roots = h.roots;
-    closed = λ i lt. h.closed i (omega (arith, l, lt));
-    marks = h.marks;
-    few = h.few;
-  }
-
   module _ (s : Search) (h : Searching g g.roots s (length s.queue)) where
     marked_reach : (c : ℕ) → is_marked s c ≡ true → Reach g c
     marked_reach c m = all_among (Reach g) s.queue c h.sound (h.queued c m)
@@ -341,8 +298,3 @@ pub root_left : (rs : List Tree) (i : ℕ) (t : Trees) (s r all : Search) → i 
     → note_roots (drop i rs) s ≡ all → note_roots (drop (i + 1) rs) r ≡ all
 root_left rs i t s r all l e n h =
     ap (note_roots (drop (i + 1) rs)) (n ∙ ap (λ u. note (cells_in u) s) e) ∙ ap (λ xs. note_roots xs s) (sym (root_step rs i l)) ∙ h
-
-pub root_there : (n : ℕ) (rs : List Tree) (i : ℕ) → i < length rs → AllByRecursion (λ t. AreThere n (named_by t)) rs → AreThere n (named_by (or_unread (slice_get rs i)))
-root_there n [] i l h = absurd (omega (arith, l))
-root_there n (t ∷ rs) zero l h = h.0
-root_there n (t ∷ rs) (suc i) l h = root_there n rs i (omega (arith, l)) h.1

@@ -45,9 +45,6 @@ tail_same x y xs ys e = cc
 pub forest-rest : (f : Flat) (fs : List Flat) → IsForest (f ∷ fs) → IsForest fs
 forest-rest f fs h = tail_same _ f _ fs (sym (flat-unflat f fs) ∙ h)
 
-pub forest-first : (f : Flat) (fs : List Flat) → IsForest (f ∷ fs) → flat (unflat (f ∷ fs)) ≡ f ∷ flat (unflat fs)
-forest-first f fs h = h ∙ ap (λ gs. f ∷ gs) (sym (forest-rest f fs h))
-
 -- after the first nodes of trees are trees
 pub forest-rest-of : (fs gs : List Flat) → IsForest (fs ++ gs) → IsForest gs
 forest-rest-of [] gs h = h

@@ -27,11 +27,6 @@ last_more : (vs : List Tree) (v : Tree) (us : Trees) → joined (trees (vs ++ v 
 last_more [] v us = refl
 last_more (x ∷ vs) v us = ap (more x) (last_more vs v us)
 
-pub coming_all : (number : ℕ) (start : Trees) → number ≤ count start → Coming number start (number - 0) start []
-coming_all number start h =
-    let z : number ≡ number - 0 = omega arith in
-    subst (λ k. Coming number start k start []) z (record { some = h; rest = refl; all = refl; shorter = omega arith })
-
 coming_step : (number : ℕ) (start : Trees) (m : ℕ) (now : Trees) (vs : List Tree) (next : Trees) (v : Tree) → Coming number start (suc m) now vs
     → next ≡ drop_trees 1 now → v ≡ first_tree now → Coming number start m next (vs ++ v ∷ [])
 coming_step number start m none vs next v h e f = let s : suc m ≤ 0 = h.some in absurd (omega arith)
@@ -51,9 +46,6 @@ coming_on number start i now vs next v vs' l h e f g =
     let n : number - i ≡ suc (number - (i + 1)) = omega (arith, l) in
     subst (λ ws. Coming number start (number - (i + 1)) next ws) (sym g)
     (coming_step number start (number - (i + 1)) now vs next v (subst (λ k. Coming number start k now vs) n h) e f)
-
-pub coming_some : (number : ℕ) (start : Trees) (i : ℕ) (now : Trees) (vs : List Tree) → suc i ≤ number → Coming number start (number - i) now vs → 1 ≤ count now
-coming_some number start i now vs l h = let s : number - i ≤ count now = h.some in omega (arith, s, l)
 
 pub coming_end : (number : ℕ) (start : Trees) (k : ℕ) (now : Trees) (vs : List Tree) → k ≡ 0 → Coming number start k now vs → (now ≡ drop_trees number start) × (trees vs ≡ take_trees number start)
 coming_end number start k now vs z h =

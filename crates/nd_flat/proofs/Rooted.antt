@@ -1,6 +1,6 @@
 -- Homes that were opened and built, one after the other: what a builder's graph comes to.
 -- `t` is the tree of the value that was added, `c` a cell's number, `h` a home, `g` a graph.
-use Rattle.std.proofs.Common.{◌≡◌, ℕ, ◌++◌, length, refl, ap, ◌∙◌}
+use Rattle.std.proofs.Common.{◌≡◌, ℕ, ◌++◌, length, ap, ◌∙◌}
 use Rattle.nd_value.specs.declared.value.Graph.{Graph}
 use Rattle.nd_value.specs.declared.item.Home.{Home}
 use Rattle.nd_value.specs.declared.item.Home.TheVariants as home
@@ -9,9 +9,6 @@ use Rattle.nd_value.specs.Setting.{cell_home}
 use Rattle.nd_flat.specs.Building.{Building, closed, opened, with_root, with_nodes}
 use Rattle.nd_flat.specs.Built.{Adds, Frame, Rooted, Filled}
 use Rattle.nd_flat.proofs.Homes.{root_closed, cell_closed, value_closes}
-
-pub frame_same : (b : Building) → Frame b b
-frame_same b = record { op = refl; side = refl; interface = refl; given = refl }
 
 pub frame_on : (a b c : Building) → Frame a b → Frame b c → Frame a c
 frame_on a b c f g = record { op = g.op ∙ f.op; side = g.side ∙ f.side; interface = g.interface ∙ f.interface; given = g.given ∙ f.given }

@@ -15,8 +15,8 @@ use Rattle.nd_flat.specs.Records.{members_of, records_flats, kept_flats, records
 use Rattle.nd_flat.proofs.Forests.{forest-rest-of, flat-joined, take-joined, drop-joined}
 use Rattle.nd_flat.specs.Building.{Building, with_nodes, with_numbers}
 use Rattle.nd_flat.specs.Built.{Adds}
-use Rattle.nd_flat.proofs.RowLaws.{kept_row_parts, rest_there, no_row_there}
-use Rattle.nd_flat.proofs.RecordLaws.{kept_same, nothing_left, over_left, after_there, begun_there, some_there, some_nodes, no_records_there}
+use Rattle.nd_flat.proofs.RowLaws.{kept_row_parts, rest_there}
+use Rattle.nd_flat.proofs.RecordLaws.{kept_same, nothing_left, over_left, after_there, begun_there, some_there, some_nodes}
 
 -- nodes were taken, and the walk is after them
 pub record Takes (os : List ℕ) (r : KeptRow) (t : RecordsLeft) (ns : List Node) (fs : List Flat) (r' : KeptRow) (t' : RecordsLeft) (ns' : List Node) : Type 0 where
@@ -169,10 +169,3 @@ row_taken_first old new zs e =
 -- numbers that are put after the nodes of the open home are these trees
 pub numbers_added : (zs : List ℤ) (old new : Building) → new ≡ with_numbers zs old → Adds (num_trees zs) old new
 numbers_added zs old new e = e ∙ ap (λ fs. with_nodes (old.nodes ++ fs) old) (sym (nums_flat zs))
-
--- a walk over one row
-pub row_forest : (os : List ℕ) (r : KeptRow) → HasRow os r → 0 < r.count → WalkParts os no_row no_records (kept.Row r ∷ [])
-row_forest os r h some =
-    let zs = row_values r.order r.of r.count (drop r.from os) in
-    let e : left_flats os no_row no_records (kept.Row r ∷ []) ≡ flat (num_trees zs) = append-nil (num_flats zs) ∙ sym (nums_flat zs) in
-    record { texts = ((h, some), tt); row = no_row_there os; records = no_records_there os; forest = ap (λ fs. flat (unflat fs)) e ∙ ap flat (unflat-of (num_trees zs)) ∙ sym e }

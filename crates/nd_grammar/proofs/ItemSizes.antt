@@ -87,11 +87,6 @@ module _ (order : Order) (octets : List ℕ) where
       ap length (filter_append (λ x. not (is_gap x.kind)) A B) ∙ length-append (but_gaps A) (but_gaps B) in
       omega arith
 
--- the entries of a value have a number for each of its pointers
-entry_numbers : (h : Home) (n : ℕ) (xs ys : List Kind) → numbers (entries h n (xs ++ ys)) ≡ numbers (entries h n xs) + numbers (entries h n ys)
-entry_numbers h n [] ys = omega arith
-entry_numbers h n (x ∷ xs) ys = ap (λ u. is_number x + u) (entry_numbers h n xs ys) ∙ omega arith
-
 own_number : (table : Table) (h : Home) (t : ℕ) (d : Option TypeDef) (l : Label) (ks : Trees) (n : ℕ) (ags : List Agreement)
     → length (pointer_by d (is_pointer l) (cell_in l) h n ags) ≤ numbers (entries h n (before_children table t d l ks))
 own_number table h t (Some (def.Pointer k to)) (tree.Ptr c) ks n ags = omega arith

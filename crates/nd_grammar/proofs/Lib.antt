@@ -12,16 +12,7 @@ pub mod next
 pub mod OneGraph
 pub mod OneRefusal
 pub mod Placed
-pub mod Plain
-pub mod PlainBad
-pub mod PlainChosen
-pub mod PlainConforms
-pub mod PlainGraphs
-pub mod PlainNumbers
-pub mod PlainSides
-pub mod PlainSteps
 pub mod PlainStreams
-pub mod PlainWritten
 pub mod reader
 pub mod ReaderLaws
 pub mod RenumberedEntries

@@ -83,9 +83,6 @@ module _ (order : Order) (octets : List ℕ) where
   none_or : (o : Option (ℕ × Reason)) (r : ℕ × Reason) → o ≡ None → o ≡ Some r → ⊥
   none_or o r e f = cc
 
-  spelt_end : (nums : ℕ → ℕ) (at : ℕ) (m : Entry) → IsRendered order nums octets (record { at = at; entry = m }) → at + size_at at m.kind ≤ length octets
-  spelt_end nums at m r = r.0
-
 module _ (two : Readings) (W X : List Pair → Type 0) (one_to_one : (ys : List Pair) → W ys → OneToOne ys) where
   abbrev O : Order
   O = two.order

@@ -37,10 +37,6 @@ module _ (m : ℕ → ℕ) where
   count_same none = refl
   count_same (more (node l ks) ts) = ap suc (count_same ts)
 
-  pub nodes_same : (ts : Trees) → node_count (renumbered m ts) ≡ node_count ts
-  nodes_same none = refl
-  nodes_same (more (node l ks) ts) = ap₂ (λ u v. suc (u + v)) (nodes_same ks) (nodes_same ts)
-
   numbers_same : (ts : Trees) (i : ℕ) → number_in ts i ≡ number_in (renumbered m ts) i
   numbers_same none i = refl
   numbers_same (more (node l ks) ts) zero = number_same l (renumbered_label m l) (bare_same l) ks (renumbered m ks)
@@ -189,9 +185,6 @@ module _ (m : ℕ → ℕ) where
     -- a pointer's cell and the one that it is renumbered to have one number
     abbrev pub OneNumber : Pending → Type 0
     OneNumber p = (c : ℕ) → p.cell ≡ Some c → nums' (m c) ≡ nums c
-
-    plain : (k : Kind) → ((at : ℕ) → octets_of order nums at k ≡ octets_of order nums' at k) → SameKind k k
-    plain k f at = (f at, refl)
 
     counts_alike : (v : Bool) (mx o a b : ℕ) → a ≡ b → AllKinds (counts v mx o a) (counts v mx o b)
     counts_alike false mx o a b e = tt

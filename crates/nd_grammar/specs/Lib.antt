@@ -7,9 +7,7 @@ pub mod Bad
 pub mod Items
 pub mod Chosen
 pub mod Prefix
-pub mod Plain
 pub mod ExampleParts
-pub mod Primitives
 pub mod LegalSide
 pub mod NextMark
 pub mod Reader

@@ -1,6 +1,5 @@
 -- How a comparison of attributes goes through the nodes of values.
-use Rattle.std.proofs.Common.{◌≡◌, ℕ, ◌+◌, ◌≤◌, zero, suc, List, [], ◌∷◌, length, drop, Option, Some, None, Ok, Err, refl, ap, ap₂, sym, ◌∙◌, arith, map}
-use Rattle.std.specs.Prelude.{Result}
+use Rattle.std.proofs.Common.{◌≡◌, ℕ, ◌+◌, zero, suc, List, [], ◌∷◌, drop, Option, Some, None, Ok, Err, refl, ap, ap₂, sym, ◌∙◌, arith, map}
 use Rattle.std.specs.List.{slice_get}
 use Rattle.std.specs.Option.{option_map}
 use Rattle.std.proofs.lemmas.Option.{slice_get-map}
@@ -14,9 +13,9 @@ use Rattle.nd_value.specs.Agreement.{Agreement, member_agreements}
 use Rattle.nd_value.specs.Nodes.{child_types, child_agreements, first_agreements, rest_agreements}
 use Rattle.nd_value.specs.FirstMisfit.{disagreement_of}
 use Rattle.nd_value.specs.Passes.{or_next, at_number}
-use Rattle.nd_value.proofs.LocalPass.{drop-get, drop-past}
+use Rattle.nd_value.proofs.LocalPass.{drop-get}
 use Rattle.nd_misfits.specs.Disagreeing.{subject_of, subject_in, disagreeing_in, Compared}
-use Rattle.nd_misfits.proofs.FormWalk.{Counted, next_counted, end_counted}
+use Rattle.nd_misfits.proofs.FormWalk.{Counted, next_counted}
 
 pub or_next-none : (o : Option NodeMisfit) → or_next o None ≡ o
 or_next-none None = refl
@@ -49,10 +48,6 @@ module _ (table : Table) (g : Graph) where
   abbrev pub own : ℕ → List Agreement → Tree → Option NodeMisfit
   own n a v = at_number n (disagreement_of (subject_in g v) a)
 
-  none_typed : (ags : List (List Agreement)) (n : ℕ) (ts : Trees) → disagreeing_in table g [] ags n ts ≡ None
-  none_typed ags n none = refl
-  none_typed ags n (more t ts) = refl
-
   -- a value that nothing governs
   alone : (t n : ℕ) (l : Label) (ks : Trees)
       → disagreeing_in table g (t ∷ []) [] n (more (node l ks) none)
@@ -60,16 +55,6 @@ module _ (table : Table) (g : Graph) where
   alone t n l ks =
       let b : Option NodeMisfit = disagreeing_in table g (child_types (type_at table t) l ks) (child_agreements (type_at table t) ks) (n + 1) ks in
       ap₂ or_next (ap (at_number n) (none_stated (subject_of g l ks))) (or_next-none b)
-
-  pub compared_kids : (t n : ℕ) (l : Label) (ks : Trees) (r : Result ℕ NodeMisfit)
-      → Compared table g (child_types (type_at table t) l ks) (child_agreements (type_at table t) ks) (n + 1) ks r
-      → Compared table g (t ∷ []) [] n (more (node l ks) none) r
-  compared_kids t n l ks (Ok m) h = (alone t n l ks ∙ h.0, h.1 ∙ omega arith)
-  compared_kids t n l ks (Err m) h = alone t n l ks ∙ h
-
-  or_next-three : (a b c : Option NodeMisfit) → or_next a (or_next b c) ≡ or_next a (or_next (or_next None (or_next b None)) c)
-  or_next-three a None c = refl
-  or_next-three a (Some m) c = refl
 
   pub one_more : (t : ℕ) (types : List ℕ) (ags : List (List Agreement)) (n : ℕ) (v : Tree) (vs : Trees)
       → disagreeing_in table g (t ∷ types) ags n (more v vs)
@@ -86,9 +71,6 @@ module _ (table : Table) (g : Graph) where
   pub record ComparedTo (types : List ℕ) (ags : List (List Agreement)) (vs : List Tree) (start i now : ℕ) : Type 0 where
     pub first : disagreeing_in table g types ags start (trees vs) ≡ disagreeing_in table g (drop i types) (drop i ags) now (trees (drop i vs))
     pub count : Counted vs start i now
-
-  pub compare_begin : (types : List ℕ) (ags : List (List Agreement)) (vs : List Tree) (start : ℕ) → ComparedTo types ags vs start 0 start
-  compare_begin types ags vs start = record { first = refl; count = refl }
 
   module _ (types : List ℕ) (ags : List (List Agreement)) (vs : List Tree) (start i now t : ℕ) (v : Tree) (typed : slice_get types i ≡ Some t)
       (there : slice_get vs i ≡ Some v) (w : ComparedTo types ags vs start i now) where
@@ -131,13 +113,6 @@ module _ (table : Table) (g : Graph) where
       pub compare_stop : (e : NodeMisfit) → Compared table g (t ∷ []) [] now (more v none) (Err e) → Compared table g types ags start (trees vs) (Err e)
       compare_stop e s =
           past_own ∙ ap (λ o. or_next o (disagreeing_in table g (drop (i + 1) types) (drop (i + 1) ags) (now + node_count (more v none)) (trees (drop (i + 1) vs)))) s
-
-  -- no value is left
-  pub compare_end : (types : List ℕ) (ags : List (List Agreement)) (vs : List Tree) (start i now : ℕ) → length vs ≤ i → ComparedTo types ags vs start i now
-      → Compared table g types ags start (trees vs) (Ok now)
-  compare_end types ags vs start i now past w =
-      let e : drop i vs ≡ [] = drop-past vs i past in
-      (w.first ∙ ap (λ us. disagreeing_in table g (drop i types) (drop i ags) now (trees us)) e, end_counted vs start i now past w.count)
 
 -- the agreements of a struct's members
 pub get_agreements : (ks : Trees) (fs : List Field) (i : ℕ) (f : Field) → slice_get fs i ≡ Some f

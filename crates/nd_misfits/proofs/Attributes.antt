@@ -1,8 +1,7 @@
 -- How the attributes of one field are compared, one after the other.
-use Rattle.std.proofs.Common.{◌≡◌, ℕ, ◌+◌, ◌≤◌, zero, suc, Bool, true, false, cond, List, [], ◌∷◌, ◌++◌, length, drop, get_or, Some, None, refl, ap}
+use Rattle.std.proofs.Common.{◌≡◌, ℕ, ◌+◌, zero, suc, Bool, true, false, cond, List, [], ◌∷◌, ◌++◌, drop, Some, None, refl, ap}
 use Rattle.std.specs.List.{slice_get}
 use Rattle.std.specs.Ordering.{int_eq}
-use Rattle.std.proofs.lemmas.Bool.{and_parts}
 use Rattle.std.proofs.lemmas.Option.{same_Some}
 use Rattle.nd_types.specs.declared.types.AttrVar.{AttrVar}
 use Rattle.nd_value.specs.declared.misfit.MisfitReason.{MisfitReason}
@@ -10,10 +9,9 @@ use Rattle.nd_value.specs.declared.misfit.MisfitReason.TheVariants as misfit
 use Rattle.nd_value.specs.Tree.{Tree, Trees, trees}
 use Rattle.nd_value.specs.Agreement.{Agreement, agreement, member_agreements, number_of, number_in, found_in}
 use Rattle.nd_value.specs.FirstMisfit.{disagreement, disagreement_of}
-use Rattle.nd_value.proofs.LocalPass.{drop-get, drop-past}
+use Rattle.nd_value.proofs.LocalPass.{drop-get}
 use Rattle.nd_misfits.specs.declared.numbers.ParamNumber.{ParamNumber}
-use Rattle.nd_misfits.specs.Disagreeing.{is_small_or_none}
-use Rattle.nd_misfits.specs.Numbers.{value_in, value_by, agreements_by, no_number, is_small_number, are_small_numbers}
+use Rattle.nd_misfits.specs.Numbers.{value_in, agreements_by}
 
 -- the number at a place
 pub number_there : (vs : List Tree) (i : ℕ) (v : Tree) → slice_get vs i ≡ Some v → number_in (trees vs) i ≡ number_of v
@@ -60,26 +58,6 @@ module _ (ks : Trees) (vars : List AttrVar) (i : ℕ) (a : AttrVar) (e : slice_g
   pub member_next : member_agreements ks (drop i vars) ≡ agreement a.attr (number_in ks a.var) ++ member_agreements ks (drop (i + 1) vars)
   member_next = ap (member_agreements ks) (drop-get vars i a e)
 
-pub member_end : (ks : Trees) (vars : List AttrVar) (i : ℕ) → length vars ≤ i → member_agreements ks (drop i vars) ≡ []
-member_end ks vars i h = ap (member_agreements ks) (drop-past vars i h)
-
 module _ (numbers : List ParamNumber) (vars : List AttrVar) (i : ℕ) (a : AttrVar) (e : slice_get vars i ≡ Some a) where
   pub param_next : agreements_by numbers (drop i vars) ≡ agreement a.attr (value_in numbers a) ++ agreements_by numbers (drop (i + 1) vars)
   param_next = ap (agreements_by numbers) (drop-get vars i a e)
-
-pub param_end : (numbers : List ParamNumber) (vars : List AttrVar) (i : ℕ) → length vars ≤ i → agreements_by numbers (drop i vars) ≡ []
-param_end numbers vars i h = ap (agreements_by numbers) (drop-past vars i h)
-
-pub nothing_stated : (ss : List Tree) → disagreement_of ss [] ≡ None
-nothing_stated [] = refl
-nothing_stated (t ∷ ts) = refl
-
--- a number that is small is small with `*` and without
-pub value_small : (n : ParamNumber) (star : Bool) → is_small_number n ≡ true → is_small_or_none (value_by n star) ≡ true
-value_small n true h = (and_parts (is_small_or_none n.own) (is_small_or_none n.referent) h).1
-value_small n false h = (and_parts (is_small_or_none n.own) (is_small_or_none n.referent) h).0
-
-pub small_there : (ns : List ParamNumber) (i : ℕ) → are_small_numbers ns ≡ true → is_small_number (get_or ns i no_number) ≡ true
-small_there [] i h = refl
-small_there (n ∷ ns) zero h = (and_parts (is_small_number n) (are_small_numbers ns) h).0
-small_there (n ∷ ns) (suc i) h = small_there ns i (and_parts (is_small_number n) (are_small_numbers ns) h).1

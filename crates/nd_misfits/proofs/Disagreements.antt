@@ -1,5 +1,5 @@
 -- The fourth pass, as it goes over the homes of a graph, finds the first disagreement.
-use Rattle.std.proofs.Common.{◌≡◌, ℕ, ◌+◌, ◌<◌, ◌≤◌, get_or, drop, List, [], ◌∷◌, ◌++◌, length, Option, Some, None, refl, ap, ap₂, sym, ◌∙◌, map}
+use Rattle.std.proofs.Common.{◌≡◌, ℕ, ◌+◌, ◌<◌, get_or, drop, List, [], ◌∷◌, ◌++◌, length, Option, Some, None, refl, ap, ap₂, sym, ◌∙◌, map}
 use Rattle.std.specs.List.{AllByRecursion}
 use Rattle.std.proofs.lemmas.List.{map-append, drop_more}
 use Rattle.nd_types.specs.Table.{Table, type_at}
@@ -20,7 +20,7 @@ use Rattle.nd_value.specs.Homes.{HomeNode, in_home, root_nodes, cell_nodes}
 use Rattle.nd_value.specs.Conforms.{subject}
 use Rattle.nd_value.specs.FirstMisfit.{or_later, first_node, disagreement_of, first_disagreeing}
 use Rattle.nd_value.specs.Passes.{or_next, at_number, at_home}
-use Rattle.nd_value.proofs.LocalPass.{drop-past, or_later-assoc, at_home-or, at_home-number, first-append}
+use Rattle.nd_value.proofs.LocalPass.{or_later-assoc, at_home-or, at_home-number, first-append}
 use Rattle.nd_misfits.specs.declared.homes.HomeValue.{HomeValue}
 use Rattle.nd_misfits.specs.HomeList.{HomeTree, home_tree, root_homes, cell_homes, homes_of}
 use Rattle.nd_misfits.specs.Disagreeing.{subject_of, disagreeing_in, home_vars, own_disagreement, disagreeing_home, disagreeing_homes}
@@ -131,6 +131,3 @@ module _ (w : Setting) (g : Graph) where
   homes_left hs i x e h =
       ap (λ xs. disagreeing_homes w g (map home_tree xs)) (drop_more hs i x h)
       ∙ ap (λ (y : HomeValue). disagreeing_homes w g (map home_tree (y ∷ drop (i + 1) hs))) (sym e)
-
-  pub homes_end : (hs : List HomeValue) (i : ℕ) → length hs ≤ i → disagreeing_homes w g (map home_tree (drop i hs)) ≡ None
-  homes_end hs i h = ap (λ xs. disagreeing_homes w g (map home_tree xs)) (drop-past hs i h)

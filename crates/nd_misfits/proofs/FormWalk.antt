@@ -1,5 +1,5 @@
 -- How a walk goes through the nodes of values that have the form of their types.
-use Rattle.std.proofs.Common.{◌≡◌, ℕ, ◌+◌, ◌≤◌, zero, suc, true, List, [], ◌∷◌, length, drop, Some, refl, ap, sym, ◌∙◌, arith, subst}
+use Rattle.std.proofs.Common.{◌≡◌, ℕ, ◌+◌, ◌≤◌, zero, suc, true, List, [], ◌∷◌, drop, Some, refl, ap, sym, ◌∙◌, arith, subst}
 use Rattle.std.specs.List.{slice_get}
 use Rattle.std.proofs.lemmas.Bool.{and_parts, and_from}
 use Rattle.std.proofs.lemmas.Option.{same_Some}
@@ -9,7 +9,7 @@ use Rattle.nd_value.specs.Nodes.{child_types}
 use Rattle.nd_value.specs.Misfit.{has_shape, has_range, has_arm}
 use Rattle.nd_misfits.specs.Searched.{label_in, kids_in}
 use Rattle.nd_misfits.specs.Pointers.{are_formed}
-use Rattle.nd_value.proofs.LocalPass.{drop-get, drop-past}
+use Rattle.nd_value.proofs.LocalPass.{drop-get}
 
 pub split_count : (v : Tree) (vs : List Tree) → node_count (trees (v ∷ vs)) ≡ node_count (more v none) + node_count (trees vs)
 split_count (node l ks) vs = omega arith
@@ -33,11 +33,6 @@ pub next_smaller : (vs : List Tree) (i : ℕ) (v : Tree) → slice_get vs i ≡ 
 next_smaller [] i v e = cc
 next_smaller (u ∷ us) zero v e = let s : node_count (more u none) ≡ node_count (more v none) = ap (λ x. node_count (more x none)) (same_Some u v e) in omega (arith, s, split_count u us)
 next_smaller (u ∷ us) (suc i) v e = omega (arith, next_smaller us i v e, split_count u us)
-
-pub end_counted : (vs : List Tree) (start i now : ℕ) → length vs ≤ i → Counted vs start i now → now ≡ start + node_count (trees vs)
-end_counted vs start i now past w =
-    let k : node_count (trees (drop i vs)) ≡ 0 = ap (λ us. node_count (trees us)) (drop-past vs i past) in
-    omega (arith, w, k)
 
 module _ (table : Table) where
   -- a node that has the form of its type

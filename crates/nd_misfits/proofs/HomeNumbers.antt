@@ -9,7 +9,7 @@ use Rattle.nd_types.specs.Walk.{NamedRoot, named_root}
 use Rattle.nd_value.specs.declared.value.Graph.{Graph}
 use Rattle.nd_value.specs.declared.item.Home.TheVariants as home
 use Rattle.nd_value.specs.Tree as tree
-use Rattle.nd_value.specs.Tree.{Tree, Trees, node, none, more, Referent}
+use Rattle.nd_value.specs.Tree.{Tree, node, Referent}
 use Rattle.nd_value.specs.Agreement.{number_of}
 use Rattle.nd_value.specs.Setting.{Setting, root_list, cell_tree, cell_at}
 use Rattle.nd_value.specs.Conforms.{HasFewNodes}

@@ -17,7 +17,7 @@ use Rattle.nd_types.specs.Table.{Table, labelled, or_else, selected}
 use Rattle.nd_value.specs.declared.value.Graph.{Graph}
 use Rattle.nd_value.specs.declared.misfit.MisfitReason.TheVariants as misfit
 use Rattle.nd_value.specs.Tree as tree
-use Rattle.nd_value.specs.Tree.{Tree, Trees, none, more, trees, count}
+use Rattle.nd_value.specs.Tree.{Tree, Trees, trees, count}
 use Rattle.nd_value.specs.Misfit.{has_counts, is_within, unless, misfit_by, is_octet}
 use Rattle.nd_value.proofs.LocalPass.{drop-get}
 

@@ -1,21 +1,16 @@
 -- How a search goes through the nodes of values.
 use Rattle.std.proofs.Common.{◌≡◌, ℕ, ◌+◌, ◌^◌, ◌<◌, ◌≤◌, zero, suc, true, ◌&&◌, List, [], ◌∷◌, length, drop, Option, Some, None, Ok, Err, refl, ap, ap₂, sym, ◌∙◌, arith, subst, map, replicate}
-use Rattle.std.specs.Prelude.{Result}
 use Rattle.std.specs.List.{slice_get}
 use Rattle.std.specs.Option.{option_map}
 use Rattle.std.proofs.lemmas.Bool.{and_parts}
 use Rattle.std.proofs.lemmas.Option.{same_Some, slice_get-map}
 use Rattle.nd_types.specs.declared.types.Field.{Field}
-use Rattle.nd_types.specs.declared.types.TypeDef.{TypeDef}
-use Rattle.nd_types.specs.declared.types.TypeDef.TheVariants as def
 use Rattle.nd_types.specs.Table.{Table, type_at}
 use Rattle.nd_value.specs.declared.value.Graph.{Graph}
-use Rattle.nd_value.specs.declared.misfit.MisfitReason.{MisfitReason}
 use Rattle.nd_value.specs.declared.misfit.NodeMisfit.{NodeMisfit}
-use Rattle.nd_value.specs.Tree as tree
-use Rattle.nd_value.specs.Tree.{Tree, Trees, Label, node, none, more, trees, node_count, weight}
+use Rattle.nd_value.specs.Tree.{Tree, Trees, node, none, more, trees, node_count}
 use Rattle.nd_value.specs.Nodes.{child_types}
-use Rattle.nd_value.specs.Misfit.{misfit_by, has_shape, has_machine_values}
+use Rattle.nd_value.specs.Misfit.{misfit_by, has_machine_values}
 use Rattle.nd_value.specs.Conforms.{FewNodes}
 use Rattle.nd_misfits.specs.Searched.{Searched, have_machine_values}
 use Rattle.nd_value.specs.Passes.{or_next, at_number, first_in}
@@ -45,27 +40,6 @@ pub machine_end : (vs : List Tree) (i : ℕ) → length vs ≤ i → have_machin
 machine_end vs i past = ap (λ us. have_machine_values (trees us)) (drop-past vs i past)
 
 module _ (table : Table) (g : Graph) where
-  none_typed : (n : ℕ) (ts : Trees) → first_in table g [] n ts ≡ None
-  none_typed n none = refl
-  none_typed n (more t ts) = refl
-
-  -- a value whose own node has no misfit
-  pub searched_kids : (t n : ℕ) (l : Label) (ks : Trees) (r : Result ℕ NodeMisfit) → misfit_by table g (type_at table t) l ks ≡ None → has_machine_values l ≡ true
-      → Searched table g (child_types (type_at table t) l ks) (n + 1) ks r → Searched table g (t ∷ []) n (more (node l ks) none) r
-  searched_kids t n l ks (Ok m) e p h = (
-    ap₂ or_next (ap (at_number n) e) (or_next-none (first_in table g (child_types (type_at table t) l ks) (n + 1) ks)) ∙ h.0,
-    h.1 ∙ omega arith,
-    ap₂ (λ x y. x && (y && true)) p h.2,
-  )
-  searched_kids t n l ks (Err m) e p h =
-      ap₂ or_next (ap (at_number n) e) (or_next-none (first_in table g (child_types (type_at table t) l ks) (n + 1) ks)) ∙ h
-
-  -- a value whose own node has one
-  pub searched_here : (t n : ℕ) (l : Label) (ks : Trees) (r : MisfitReason) → misfit_by table g (type_at table t) l ks ≡ Some r
-      → first_in table g (t ∷ []) n (more (node l ks) none) ≡ Some (record { node = n; reason = r })
-  searched_here t n l ks r e =
-      ap (λ o. or_next (at_number n o) (or_next (first_in table g (child_types (type_at table t) l ks) (n + 1) ks) None)) e
-
   one_more : (t : ℕ) (types : List ℕ) (n : ℕ) (v : Tree) (vs : Trees)
       → first_in table g (t ∷ types) n (more v vs)
       ≡ or_next (first_in table g (t ∷ []) n (more v none)) (first_in table g types (n + node_count (more v none)) vs)
@@ -121,21 +95,6 @@ module _ (table : Table) (g : Graph) where
     -- a misfit in this value
     pub walk_stop : (e : NodeMisfit) → Searched table g (t ∷ []) now (more v none) (Err e) → Searched table g types start (trees vs) (Err e)
     walk_stop e s = here ∙ ap (λ o. or_next o (first_in table g (drop (i + 1) types) (now + node_count (more v none)) (trees (drop (i + 1) vs)))) s
-
-  pub walk_begin : (types : List ℕ) (vs : List Tree) (start : ℕ) → Walked types vs start 0 start
-  walk_begin types vs start = record { first = refl; count = refl; machine = refl }
-
-  -- no value is left
-  pub walk_end : (types : List ℕ) (vs : List Tree) (start i now : ℕ) → length vs ≤ i → Walked types vs start i now → Searched table g types start (trees vs) (Ok now)
-  walk_end types vs start i now past w =
-      let e : drop i vs ≡ [] = drop-past vs i past in
-      let k : node_count (trees (drop i vs)) ≡ 0 = ap (λ us. node_count (trees us)) e in
-      (w.first ∙ ap (λ us. first_in table g (drop i types) now (trees us)) e, omega (arith, w.count, k), w.machine ∙ machine_end vs i past)
-
--- the type that has children under a label
-pub struct_of : (d : Option TypeDef) (ks : Trees) → has_shape d tree.Rec ks ≡ true → (ms : List Field) × (d ≡ Some (def.Struct ms))
-struct_of (Some (def.Struct ms)) ks e = (ms, refl)
-struct_of _ ks e = cc
 
 pub get_replicate : {X : Type 0} (n i : ℕ) (x : X) → i < n → slice_get (replicate n x) i ≡ Some x
 get_replicate zero i x h = absurd (omega (arith, h))

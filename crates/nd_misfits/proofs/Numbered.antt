@@ -1,10 +1,10 @@
 -- The numbers of parameters are the values of the variables that attributes name.
-use Rattle.std.proofs.Common.{◌≡◌, ℕ, ◌+◌, ◌<◌, ◌≤◌, suc, Bool, true, false, cond, eqb, List, [], ◌∷◌, ◌++◌, length, get_or, Option, Some, None, refl, ap, ap₂, sym, ◌∙◌, arith, subst, map, drop, append_assoc, inl, inr, ◌⊎◌}
+use Rattle.std.proofs.Common.{◌≡◌, ℕ, ◌+◌, ◌<◌, ◌≤◌, suc, Bool, true, false, cond, eqb, List, [], ◌∷◌, ◌++◌, length, get_or, Option, Some, None, refl, ap, ap₂, sym, ◌∙◌, arith, subst, map, inl, inr, ◌⊎◌}
 use Rattle.std.specs.Prelude.{filter, not, ◌&&◌}
 use Rattle.std.specs.List.{slice_get, AllByRecursion}
 use Rattle.std.proofs.lemmas.Option.{same_Some}
 use Rattle.std.proofs.lemmas.Bool.{eqb-true, cases_lt}
-use Rattle.std.proofs.lemmas.List.{get_or_past, append-nil}
+use Rattle.std.proofs.lemmas.List.{get_or_past}
 use Rattle.nd_types.specs.declared.types.TypeId.{TypeId}
 use Rattle.nd_types.specs.declared.types.AttrVar.{AttrVar}
 use Rattle.nd_types.specs.declared.types.Param.{Param}
@@ -13,20 +13,18 @@ use Rattle.nd_types.specs.declared.types.Side.{Side}
 use Rattle.nd_types.specs.declared.types.Side.TheVariants as side
 use Rattle.nd_types.specs.declared.TheConstants.{HANDLE}
 use Rattle.nd_types.specs.Table.{Table}
-use Rattle.nd_types.specs.Roots.{Root, roots_of, params_from, result_root, root_of, root_by, pipe_of, travels}
+use Rattle.nd_types.specs.Roots.{Root, roots_of, params_from, result_root, root_of, root_by, pipe_of, travels, root_index}
 use Rattle.nd_types.specs.Walk.{named_root}
 use Rattle.nd_value.specs.declared.value.Graph.{Graph}
 use Rattle.nd_value.specs.Tree.{Tree}
 use Rattle.nd_value.specs.Agreement.{agreement}
 use Rattle.nd_value.specs.Setting.{Setting, root_list, root_at, or_unread, unread}
-use Rattle.nd_types.specs.Roots.{root_index}
 use Rattle.nd_value.specs.Variables.{starred, given_value, variable, root_agreements}
 use Rattle.nd_value.proofs.Apart.{all_append}
-use Rattle.nd_value.proofs.LocalPass.{drop-get, drop-past}
 use Rattle.nd_misfits.specs.declared.numbers.ParamNumber.{ParamNumber}
 use Rattle.nd_misfits.specs.declared.numbers.RootNumber.{RootNumber}
 use Rattle.nd_misfits.specs.Disagreeing.{vars_of, home_vars}
-use Rattle.nd_misfits.specs.Numbers.{number_at, numbers_of, given_numbers, no_number, is_param, number_among, replaced, value_by, value_in, agreements_by, AreNumbers}
+use Rattle.nd_misfits.specs.Numbers.{number_at, numbers_of, given_numbers, no_number, is_param, number_among, value_by, value_in, agreements_by, AreNumbers}
 
 -- a root is a parameter of the operation, and has its attributes; or it is the result, and has none
 abbrev pub IsOfParam : Operation → Root → Type 0
@@ -198,31 +196,3 @@ module _ (w : Setting) (g : Graph) where
 pub record PlacedFrom (roots : List RootNumber) (before now : List ParamNumber) : Type 0 where
   pub many : length now ≡ length before
   pub placed : (j : ℕ) → j < length before → get_or now j no_number ≡ number_among roots j (get_or before j no_number)
-
-pub placed_begin : (roots : List RootNumber) (n : ℕ) (numbers : List ParamNumber) → length roots ≤ n → PlacedFrom (drop n roots) numbers numbers
-placed_begin roots n numbers h =
-    let e : drop n roots ≡ [] = drop-past roots n h in
-    record { many = refl; placed = λ j l. ap (λ rs. number_among rs j (get_or numbers j no_number)) (sym e) }
-
-pub placed_on : (roots : List RootNumber) (at i : ℕ) (r : RootNumber) (before now after : List ParamNumber) → at ≡ i + 1 → slice_get roots i ≡ Some r
-    → PlacedFrom (drop at roots) before now → length after ≡ length now
-    → ((j : ℕ) → j < length now → get_or after j no_number ≡ replaced r j (get_or now j no_number))
-    → PlacedFrom (drop i roots) before after
-placed_on roots at i r before now after e there w n one = record {
-  many = n ∙ w.many;
-  placed = λ j l.
-      one j (let m : length now ≡ length before = w.many in omega (arith, m, l))
-      ∙ ap (λ x. elim (is_param r.param j) [ true ↦ r.number | false ↦ x ])
-      (w.placed j l ∙ ap (λ k. number_among (drop k roots) j (get_or before j no_number)) e)
-      ∙ ap (λ rs. number_among rs j (get_or before j no_number)) (sym (drop-get roots i r there));
-}
-
--- one item more of a list that is made of another
-pub mapped_more : {A B : Type 0} (f : A → B) (xs : List B) (ys : List A) (i : ℕ) (y : A) (all : List B) → slice_get ys i ≡ Some y
-    → xs ++ map f (drop i ys) ≡ all → (xs ++ f y ∷ []) ++ map f (drop (i + 1) ys) ≡ all
-mapped_more f xs ys i y all there e =
-    append_assoc xs (f y ∷ []) (map f (drop (i + 1) ys)) ∙ ap (λ zs. xs ++ map f zs) (sym (drop-get ys i y there)) ∙ e
-
-pub mapped_end : {A B : Type 0} (f : A → B) (xs : List B) (ys : List A) (i : ℕ) (all : List B) → length ys ≤ i
-    → xs ++ map f (drop i ys) ≡ all → xs ≡ all
-mapped_end f xs ys i all h e = sym (append-nil xs) ∙ ap (λ zs. xs ++ map f zs) (sym (drop-past ys i h)) ∙ e

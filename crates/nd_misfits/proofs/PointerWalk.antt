@@ -1,5 +1,5 @@
 -- How a search for pointers goes through the nodes of values.
-use Rattle.std.proofs.Common.{◌≡◌, ℕ, ◌+◌, ◌≤◌, List, [], ◌∷◌, ◌++◌, length, drop, Some, Ok, refl, ap, ap₂, sym, ◌∙◌, arith, append_assoc}
+use Rattle.std.proofs.Common.{◌≡◌, ℕ, ◌+◌, List, [], ◌∷◌, ◌++◌, drop, Some, Ok, ap, ap₂, sym, ◌∙◌, arith, append_assoc}
 use Rattle.std.specs.List.{slice_get}
 use Rattle.std.proofs.lemmas.List.{append-nil}
 use Rattle.nd_types.specs.Table.{Table, type_at}
@@ -8,8 +8,8 @@ use Rattle.nd_misfits.specs.declared.pointers.CellPointer.{CellPointer}
 use Rattle.nd_value.specs.Tree.{Tree, Trees, node, none, more, trees, node_count}
 use Rattle.nd_value.specs.Nodes.{child_types}
 use Rattle.nd_misfits.specs.Pointers.{named_here, pointers_in, Collects}
-use Rattle.nd_value.proofs.LocalPass.{drop-get, drop-past}
-use Rattle.nd_misfits.proofs.FormWalk.{Counted, next_counted, end_counted}
+use Rattle.nd_value.proofs.LocalPass.{drop-get}
+use Rattle.nd_misfits.proofs.FormWalk.{Counted, next_counted}
 
 module _ (table : Table) (h : Home) where
   pub one_more : (t : ℕ) (types : List ℕ) (n : ℕ) (v : Tree) (vs : Trees)
@@ -29,9 +29,6 @@ module _ (table : Table) (h : Home) where
     pub all : before ++ pointers_in table h types start (trees vs) ≡ after ++ pointers_in table h (drop i types) now (trees (drop i vs))
     pub count : Counted vs start i now
 
-  pub collect_begin : (types : List ℕ) (vs : List Tree) (start : ℕ) (before : List CellPointer) → CollectedTo types vs start before 0 start before
-  collect_begin types vs start before = record { all = refl; count = refl }
-
   -- one value further
   pub collect_on : (types : List ℕ) (vs : List Tree) (start : ℕ) (before : List CellPointer) (i now : ℕ) (after : List CellPointer) (t : ℕ) (v : Tree)
       → slice_get types i ≡ Some t → slice_get vs i ≡ Some v → CollectedTo types vs start before i now after
@@ -49,12 +46,3 @@ module _ (table : Table) (h : Home) where
             ∙ ap₂ (λ x k. x ++ pointers_in table h (drop (i + 1) types) k (trees (drop (i + 1) vs))) (sym s.0) (sym s.1);
         count = next_counted vs start i now v there w.count m s.1;
       }
-
-  -- no value is left
-  pub collect_end : (types : List ℕ) (vs : List Tree) (start : ℕ) (before : List CellPointer) (i now : ℕ) (after : List CellPointer)
-      → length vs ≤ i → CollectedTo types vs start before i now after → Collects table h types start (trees vs) before after (Ok now)
-  collect_end types vs start before i now after past w =
-      let e : drop i vs ≡ [] = drop-past vs i past in (
-        sym (w.all ∙ ap (λ us. after ++ pointers_in table h (drop i types) now (trees us)) e ∙ append-nil after),
-        end_counted vs start i now past w.count,
-      )

@@ -182,9 +182,6 @@ null_none : (p : Pending) → p.cell ≡ None → (qs : List Pending) → list_a
 null_none p e [] = refl
 null_none p e (q ∷ qs) = ap (λ o. (same_cell o q.cell && not (is_full p.class && is_full q.class)) || list_any (clashes p) qs) e ∙ null_none p e qs
 
-shared_pointer : Pending → MisfitAt
-shared_pointer p = record { home = p.home; node = p.node; reason = misfit.Shared }
-
 module _ (limit : ℕ) where
   noted_on : (names : List Naming) (earlier : List Pending) (p : Pending) (c : ℕ) → p.cell ≡ Some c → c < limit → Noted limit names earlier
       → is_clash (naming_of names c) p.class ≡ false → Noted limit (set names c (naming_by p.class)) (p ∷ earlier)

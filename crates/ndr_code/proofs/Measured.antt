@@ -1,5 +1,5 @@
 -- The length of a struct, member by member.
-use Rattle.std.proofs.Common.{◌≡◌, ◌<◌, ℕ, ◌+◌, ◌*◌, ◌-◌, zero, suc, List, Some, refl, sym, ◌∙◌, subst, arith, slice_get}
+use Rattle.std.proofs.Common.{◌≡◌, ◌<◌, ℕ, ◌+◌, ◌-◌, zero, suc, List, Some, refl, subst, arith, slice_get}
 use Rattle.ndr_code.specs.declared.instr.Instr.{Instr}
 use Rattle.ndr_code.specs.declared.instr.Instr.TheVariants as op
 use Rattle.ndr_code.specs.declared.fields.Field.{Field}
@@ -9,12 +9,6 @@ use Rattle.ndr_code.specs.Lengths.{field_len, HasFields}
 -- `next` is the address of the next member, `len` how many octets those before it have
 abbrev pub IsMeasured : List Instr → ℕ → ℕ → ℕ → ℕ → ℕ → ℕ → Type 0
 IsMeasured code pc at members next left len = (rest : ℕ) → HasFields code next (at + len) left rest → HasFields code pc at members (len + rest)
-
-pub measured_none : (code : List Instr) (pc at members : ℕ) → IsMeasured code pc at members pc members 0
-measured_none code pc at members rest h =
-    let at_is : at + 0 ≡ at = omega arith in
-    let len_is : rest ≡ 0 + rest = omega arith in
-    subst (λ k. HasFields code pc at members k) len_is (subst (λ k. HasFields code pc k members rest) at_is h)
 
 pub measured_more : (code : List Instr) (pc at members next left len len1 : ℕ) (f : Field) → IsMeasured code pc at members next left len → 0 < left → field_of code next ≡ Some f
     → len1 ≡ len + field_len (at + len) f → IsMeasured code pc at members (next + 1) (left - 1) len1

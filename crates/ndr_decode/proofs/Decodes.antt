@@ -1,7 +1,7 @@
 -- What a call of decode comes to.
 -- `o` is the operation, of this number, `way` its side, `q` the graph of the request, if one is given; `x` is what is kept at the beginning of the stream, `z` at
 -- its end; `c`, `u` are what was seen of the source, the log and the steps.
-use Rattle.std.proofs.Common.{◌≡◌, ◌≤◌, ℕ, zero, suc, inl, inr, Bool, List, [], ◌∷◌, length, map, Option, Some, None, Result, Ok, Err, refl, ap, ap₂, sym, ◌∙◌, subst}
+use Rattle.std.proofs.Common.{◌≡◌, ℕ, zero, suc, inl, inr, Bool, List, [], ◌∷◌, length, Option, Some, None, Result, Ok, Err, refl, ap, ap₂, sym, ◌∙◌, subst}
 use Rattle.std.specs.Prelude.{IfErr, IsErrAnd, IsErrOf, option_map}
 use Rattle.std.specs.List.{slice_get}
 use Rattle.std.proofs.lemmas.List.{length-map}
@@ -19,7 +19,7 @@ use Rattle.nd_value.specs.Fitting.{Fitting, IsFit, IsGiven, IsGivenRequest, sett
 use Rattle.nd_value.specs.Request.{ConformsIfGiven, IsRequest, IsRequestOf}
 use Rattle.nd_value.specs.Logged.{Logged}
 use Rattle.nd_value.specs.Setting.{Among, Setting, root_list}
-use Rattle.nd_flat.specs.Building.{Building, CanClose, closed, fitting, start}
+use Rattle.nd_flat.specs.Building.{Building, closed, fitting, start}
 use Rattle.nd_grammar.specs.LegalSide.{IsLegalSide}
 use Rattle.nd_grammar.specs.StreamReader.{read_start}
 use Rattle.ndr_code.specs.declared.plan.Plan.{Plan}
@@ -31,7 +31,6 @@ use Rattle.nd_grammar.specs.decoded.Verdict.{DecodingSeen, IsDecoded}
 use Rattle.ndr_decoder_pending.specs.declared.stream.Stream.{Stream}
 use Rattle.ndr_decoder_pending.specs.Seen.{between_of}
 use Rattle.ndr_decoder_laws.specs.stream.Report.{the_stream}
-use Rattle.ndr_decode.specs.declared.decoding.Decoded.{Decoded}
 use Rattle.ndr_decode.specs.Decoding.{IsFault}
 use Rattle.ndr_decode.specs.Piping.{EndComes}
 use Rattle.ndr_decode.specs.Streaming.{FaultOf, IsSettingOf, Purpose, WasRead, cells_of, purpose_of}

@@ -2,7 +2,7 @@
 -- run of its code, to what is kept after it.
 -- `b` is what is kept, `s` the state of the reader, `x` the state of the decoder at the beginning of the value and `x1` at its end, `root` and `k` are what is
 -- kept of the root and of its cell.
-use Rattle.std.proofs.Common.{◌≡◌, ◌≤◌, ℕ, ◌+◌, suc, List, [], ◌∷◌, ◌++◌, length, None, Some, Option, ap, sym, subst}
+use Rattle.std.proofs.Common.{◌≡◌, ◌≤◌, ℕ, ◌+◌, suc, List, [], ◌∷◌, ◌++◌, length, None, Some, ap, sym, subst}
 use Rattle.std.specs.Prelude.{slice_get}
 use Rattle.nd_base.specs.declared.octets.Order.{Order}
 use Rattle.nd_base.specs.declared.TheConstants.{STREAM_LIMIT}
@@ -16,8 +16,6 @@ use Rattle.nd_types.specs.Table.{type_at}
 use Rattle.nd_types.specs.Roots.{Root}
 use Rattle.nd_value.specs.declared.item.Home.{Home}
 use Rattle.nd_value.specs.declared.item.Item.{Item}
-use Rattle.nd_value.specs.declared.value.Graph.{Graph}
-use Rattle.nd_value.specs.Seen.{cell_number}
 use Rattle.nd_value.specs.Setting.{Setting, root_list, cell_home}
 use Rattle.nd_grammar.specs.Entry.{EntryAt}
 use Rattle.nd_grammar.specs.LegalSide.{IsLegalSide}
@@ -37,14 +35,11 @@ use Rattle.ndr_decoder_state.specs.Notes.{NotesSeen}
 use Rattle.ndr_decoder_state.specs.declared.fault.DecodeFault.{DecodeFault}
 use Rattle.ndr_decoder_value.specs.Reaching.{EndsWhole, EndsFault}
 use Rattle.nd_grammar.specs.decoded.Verdict.{is_direct}
-use Rattle.ndr_decoder_laws.specs.declared.first.First.TheVariants as first
-use Rattle.ndr_decoder_laws.specs.declared.kept.Kept.{Kept}
-use Rattle.ndr_decoder_laws.specs.declared.kept.KeptRoot.{KeptRoot}
-use Rattle.ndr_decoder_laws.specs.stream.Between.{Between, Agrees, Opens, IsKeptHome, CellKept, CellFilled, home_target, cell_read, with_pointer}
+use Rattle.ndr_decoder_laws.specs.stream.Between.{Between, Agrees, Opens, home_target}
 use Rattle.ndr_decoder_laws.proofs.stream.Cells.{told_reference}
 use Rattle.ndr_decoder_laws.proofs.stream.FewReferences.{few_next}
 use Rattle.ndr_decoder_laws.proofs.stream.HomeBegins.{home_begins}
-use Rattle.ndr_decoder_laws.proofs.stream.DirectEnds.{its_usable, free, direct_refused, direct_goes, direct_ends, after, made}
+use Rattle.ndr_decoder_laws.proofs.stream.DirectEnds.{its_usable, free, direct_refused, direct_goes}
 use Rattle.ndr_decoder_laws.specs.stream.Report.{the_head}
 use Rattle.ndr_decode.specs.Streaming.{FaultOf, HomeWhole}
 use Rattle.ndr_decode.proofs.HomeComes.{whole_comes, fault_comes, decoding_of}
@@ -89,12 +84,3 @@ module _ (w : Setting) (side : IsLegalSide w) (order : Order) (fetched : List �
       (within : (more : List ℕ) (items : List Item) (y : State) → Reaches values order code here x more items y → y.at ≤ STREAM_LIMIT) (ends : EndsWhole values order code here x source notes x1) where
     abbrev pub read : HomeWhole order w.table here to.0 (direct + 1) target fetched noted (length x.cells) source (decoding_of notes) x1
     read = whole_comes values order code w.table here to.0 32 (direct + 1) target planned fetched noted x direct_good source notes x1 within ends
-
-    pub direct_kept : (root : KeptRoot) → root.own ≡ record { first = first.Pointer; max_at = None } → cell_number root.cell ≡ Some (length s.names.cells + 1) → (k : Kept) → IsKeptHome x1 k
-        → (cells : List (Option Kept)) → CellKept (length s.names.cells + 1) k b.read cells → (g : Graph)
-        → CellFilled (with_pointer (length s.names.cells + 1) s.roots) (length s.names.cells + 1) read.is.v x1.cells b.graph g
-        → Agrees w side order (fetched ++ read.octets) (noted ++ read.items) (direct + 1) (cell_read b x1 (b.roots ++ root ∷ []) cells g)
-        (after w side order fetched noted direct b s seen n agrees r there to refers read.octets read.all (noted ++ read.items) x1 read.is read.needed) read.is.seen
-        (made w side order fetched noted direct b s seen n agrees r there to refers read.octets read.all (noted ++ read.items) x1 read.is read.needed) n
-    direct_kept root own cell k kept cells is_read g filled =
-        direct_ends w side order fetched noted direct b s seen n agrees r there to refers read.octets read.all (noted ++ read.items) x1 read.is read.needed root own cell k kept cells is_read g filled

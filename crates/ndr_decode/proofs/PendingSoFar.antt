@@ -1,8 +1,7 @@
 -- The loop over the pending referents: what was read so far.
 -- `x` is what was kept of the stream before the loop, `y` before a turn, with `q`, if it was taken from it, `y'` the same without the next of the pending referents,
 -- `o` that referent, `z` after it was read; 0, 1 and 2 number what was seen before the loop, before the turn and after it.
-use Rattle.std.proofs.Common.{◌≡◌, ◌≤◌, ℕ, ◌+◌, Bool, List, [], ◌∷◌, ◌++◌, length, Option, None, Result, Ok, Err, IsErrAnd, refl, sym, ap, subst}
-use Rattle.std.specs.List.{AllByRecursion}
+use Rattle.std.proofs.Common.{◌≡◌, ◌≤◌, ℕ, ◌+◌, Bool, List, [], ◌++◌, length, Option, None, Result, Ok, Err, IsErrAnd, refl, sym, ap, subst}
 use Rattle.nd_base.specs.declared.octets.Order.{Order}
 use Rattle.nd_base.specs.declared.TheConstants.{STREAM_LIMIT}
 use Rattle.nd_base.specs.Over.{SourceSeen}
@@ -10,7 +9,6 @@ use Rattle.nd_value.specs.declared.item.Item.{Item}
 use Rattle.nd_value.specs.Deferral.{Pending}
 use Rattle.nd_value.specs.Logged.{Logged}
 use Rattle.nd_value.specs.Setting.{Setting}
-use Rattle.nd_value.proofs.Apart.{all_left, all_right}
 use Rattle.nd_flat.specs.Building.{CanClose}
 use Rattle.nd_grammar.specs.Entry.{EntryAt}
 use Rattle.nd_grammar.specs.LegalSide.{IsLegalSide}
@@ -32,17 +30,6 @@ use Rattle.ndr_decode.proofs.Placed.{types_length}
 use Rattle.ndr_decode.proofs.Standing.{cut_off_here, then_fault, then_went_taking, went_nowhere}
 
 -- ## The list of those that are pending
-
-module _ (n : ℕ) (old new : List Owed) where
-  abbrev IsSpan : Owed → Type 0
-  IsSpan o = o.from + o.len ≤ n
-
-  -- those that are left have their agreements, and so has the one that was taken
-  pub spans_left : (more : List Owed) → old ≡ new ++ more → AllByRecursion IsSpan old → AllByRecursion IsSpan new
-  spans_left more e a = all_left IsSpan new more (subst (AllByRecursion IsSpan) e a)
-
-  pub span_taken : (o : Owed) → old ≡ new ++ o ∷ [] → AllByRecursion IsSpan old → o.from + o.len ≤ n
-  span_taken o e a = let b : AllByRecursion IsSpan (o ∷ []) = all_right IsSpan new (o ∷ []) (subst (AllByRecursion IsSpan) e a) in b.0
 
 -- ## Calls one after the other
 

@@ -1,7 +1,6 @@
 -- Turns of the loop over pending referents: the next one is taken, or none is left.
 -- `x` is what is kept of the stream before the turn, with `q`, if it was taken from it, `y` the same without the next of the pending referents, `o` that referent.
-use Rattle.std.proofs.Common.{◌≡◌, ◌≤◌, ℕ, List, [], ◌∷◌, ◌++◌, map, Option, refl, sym, ap, ◌∙◌, subst}
-use Rattle.std.proofs.lemmas.List.{reverse-append}
+use Rattle.std.proofs.Common.{◌≡◌, ◌≤◌, ℕ, List, [], ◌∷◌, map, Option, refl, sym, ap, ◌∙◌, subst}
 use Rattle.nd_base.specs.declared.octets.Order.{Order}
 use Rattle.nd_base.specs.declared.TheConstants.{STREAM_LIMIT}
 use Rattle.nd_types.specs.Table.{Table}
@@ -16,16 +15,9 @@ use Rattle.ndr_decoder_laws.specs.steps.Steps as steps
 use Rattle.ndr_decoder_laws.specs.steps.Good.{owed}
 use Rattle.ndr_decoder_state.specs.declared.machine.Machine.{Machine}
 use Rattle.ndr_decoder_state.specs.declared.machine.Owed.{Owed}
-use Rattle.ndr_decoder_state.specs.declared.machine.Wanted.{Wanted}
-use Rattle.ndr_decoder_state.specs.Seen.{owed_of}
 use Rattle.ndr_decoder_laws.specs.stream.Between.{Agrees, Between}
 use Rattle.ndr_decoder_pending.specs.declared.stream.Stream.{Stream}
-use Rattle.ndr_decoder_pending.specs.Seen.{pending_in}
 use Rattle.ndr_decode.specs.Streaming.{StandsTaking, StandsWith, with_next, with_taken}
-
--- the last of the list is the next
-pub next_popped : (ws : List Wanted) (old new : List Owed) (o : Owed) → old ≡ new ++ o ∷ [] → pending_in ws old ≡ owed_of ws o ∷ pending_in ws new
-next_popped ws old new o e = ap (pending_in ws) e ∙ ap (map (owed_of ws)) (reverse-append new (o ∷ []))
 
 module _ (w : Setting) (side : IsLegalSide w) (order : Order) (fetched : List ℕ) (noted : List Item) (direct : ℕ) (q : Option Owed) (x : Stream) (s : Reading) (seen : List EntryAt) (n : ℕ) where
   -- what is due when there is a next one

@@ -11,7 +11,7 @@ use Rattle.nd_value.specs.declared.item.Home.TheVariants as home
 use Rattle.nd_value.specs.declared.item.Item.{Item}
 use Rattle.nd_value.specs.Setting.{Setting}
 use Rattle.nd_value.specs.Tree.{Tree, Trees, count}
-use Rattle.nd_flat.specs.Building.{IsPipe, raised, with_nodes}
+use Rattle.nd_flat.specs.Building.{raised, with_nodes}
 use Rattle.nd_grammar.specs.LegalSide.{IsLegalSide}
 use Rattle.nd_grammar.specs.Reader.{Names, Read}
 use Rattle.ndr_code.specs.declared.plan.Plan.{Plan}
@@ -31,7 +31,7 @@ use Rattle.ndr_decoder_laws.specs.stream.Report.{StreamCut, the_stream}
 use Rattle.ndr_decoder_laws.proofs.stream.Joined.{took_twice}
 use Rattle.ndr_decoder_laws.specs.pipes.Pipes.{InPipe, Position, at_elements, kids_of, read_to}
 use Rattle.ndr_decoder_laws.proofs.pipes.Elements.{elements_come}
-use Rattle.ndr_decoder_chunks.specs.Chunks.{AfterCount, CountRead, Counts, HasMoved, IsAt}
+use Rattle.ndr_decoder_chunks.specs.Chunks.{AfterCount, CountRead, HasMoved}
 use Rattle.ndr_decoder_chunks.specs.Chunks as chunks
 use Rattle.ndr_decoder_chunks.specs.Opening.{BeginsElements}
 use Rattle.ndr_decode.specs.Piping.{ChunkComes, ElementsRead, IsInPipe, IsPipeBy}
@@ -39,7 +39,7 @@ use Rattle.ndr_decode.specs.Streaming.{FaultOf, HomeWhole}
 use Rattle.ndr_decode.proofs.HomeComes.{decoding_of}
 use Rattle.ndr_decode.proofs.PipeElements as elements
 use Rattle.ndr_decode.proofs.PipeFaults.{cut_after, cut_at, faulty}
-use Rattle.ndr_decode.proofs.PipeOpens.{cells_many, moved_cells, moved_nodes, pipe_ended}
+use Rattle.ndr_decode.proofs.PipeOpens.{cells_many, moved_cells, pipe_ended}
 use Rattle.ndr_decode.proofs.Placed.{took_by}
 use Rattle.ndr_decode.proofs.Standing.{then_fault}
 
@@ -79,12 +79,6 @@ module _ (plan : Plan) (w : Setting) (legal : IsLegalSide w) (order : Order) (fe
 
       after : InPipe w order (fetched ++ x.octets) (noted ++ x.items) direct first i rs roots elem done m.max_at 0 (at_elements (suc (many - 1)) w order i elem done x.k) x.k
       after = subst (AfterCount w order (fetched ++ x.octets) (noted ++ x.items) direct first i rs roots elem done m.max_at x.k) its_count x.after
-
-      -- the pipe may have so many elements more
-      pub may_begin : IsPipe begun n.builder.nodes
-      may_begin =
-          let nodes = moved_nodes w order fetched noted direct first i rs roots elem done k0 m n p moved in
-          subst (IsPipe begun) (sym nodes) (refl, omega (arith, is_begun, as_many))
 
       cells_here : length x.k.cells ≡ m.cells
       cells_here = ap length (sym x.is_at.cells) ∙ sym (cells_many n) ∙ moved_cells w order fetched noted direct first i rs roots elem done k0 m n p moved

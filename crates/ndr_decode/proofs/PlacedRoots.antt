@@ -68,9 +68,6 @@ module _ (plan : Plan) (order : Order) (run : ℕ) (x : Stream) (w : Setting) (s
       (memory_fault w order fetched noted (cells_of x) (idle_source o ended faults) (idle_log g k) e memory
       (cut_off_here o ended faults g k w side order fetched noted direct (between_of x) s seen [] (suc n) (cells_of x) (sym (types_length x.machine.builder)) st.agrees))
 
-  abbrev here : Home
-  here = home.Root (length s.roots)
-
   abbrev target : List ℕ → Read
   target = home_target w order (between_of x) seen (home.Root (length s.roots)) r.of s.names
 

@@ -1,10 +1,9 @@
 -- A fault of a whole call is that of the stream.
-use Rattle.std.proofs.Common.{◌≤◌, ℕ, ◌+◌, List, [], length, arith}
+use Rattle.std.proofs.Common.{ℕ, List, [], arith}
 use Rattle.nd_base.specs.declared.octets.Order.{Order}
 use Rattle.nd_base.specs.Over.{SourceSeen}
 use Rattle.nd_value.specs.declared.item.Item.{Item}
 use Rattle.nd_value.specs.Setting.{Setting}
-use Rattle.nd_grammar.specs.FewItems.{but_gaps}
 use Rattle.nd_grammar.specs.LegalSide.{IsLegalSide}
 use Rattle.ndr_decoder_state.specs.declared.fault.DecodeFault.{DecodeFault}
 use Rattle.ndr_decoder_state.specs.declared.fault.DecodeFault.TheVariants as fault

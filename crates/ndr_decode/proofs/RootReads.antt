@@ -1,6 +1,6 @@
 -- The next root, where it is no reference pointer: from what is kept of the stream before its value, through the run of its code, to what is kept after it.
 -- `b` is what is kept, `s` the state of the reader, `x` the state of the decoder at the beginning of the value and `x1` at its end, `k` what is kept of the root.
-use Rattle.std.proofs.Common.{◌≡◌, ◌≤◌, ℕ, suc, false, List, [], ◌++◌, length, Some, sym, subst, arith}
+use Rattle.std.proofs.Common.{◌≡◌, ◌≤◌, ℕ, suc, false, List, [], length, Some, sym, subst, arith}
 use Rattle.std.specs.Prelude.{slice_get}
 use Rattle.nd_base.specs.declared.octets.Order.{Order}
 use Rattle.nd_base.specs.declared.TheConstants.{STREAM_LIMIT}
@@ -13,7 +13,6 @@ use Rattle.nd_types.specs.Roots.{Root}
 use Rattle.nd_value.specs.declared.item.Home.{Home}
 use Rattle.nd_value.specs.declared.item.Home.TheVariants as home
 use Rattle.nd_value.specs.declared.item.Item.{Item}
-use Rattle.nd_value.specs.declared.value.Graph.{Graph}
 use Rattle.nd_value.specs.Setting.{Setting, root_list}
 use Rattle.nd_grammar.specs.Entry.{EntryAt}
 use Rattle.nd_grammar.specs.LegalSide.{IsLegalSide}
@@ -33,11 +32,10 @@ use Rattle.ndr_decoder_state.specs.Notes.{NotesSeen}
 use Rattle.ndr_decoder_state.specs.declared.fault.DecodeFault.{DecodeFault}
 use Rattle.ndr_decoder_value.specs.Reaching.{EndsWhole, EndsFault}
 use Rattle.nd_grammar.specs.decoded.Verdict.{is_direct}
-use Rattle.ndr_decoder_laws.specs.declared.kept.KeptRoot.{KeptRoot}
-use Rattle.ndr_decoder_laws.specs.stream.Between.{Between, Agrees, Opens, IsKeptRoot, RootAdded, home_target, root_read}
+use Rattle.ndr_decoder_laws.specs.stream.Between.{Between, Agrees, Opens, home_target}
 use Rattle.ndr_decoder_laws.proofs.stream.FewReferences.{few_now}
 use Rattle.ndr_decoder_laws.proofs.stream.HomeBegins.{home_begins}
-use Rattle.ndr_decoder_laws.proofs.stream.RootEnds.{root_refused, root_goes, root_ends, after, new}
+use Rattle.ndr_decoder_laws.proofs.stream.RootEnds.{root_refused, root_goes}
 use Rattle.ndr_decoder_laws.specs.stream.Report.{the_head}
 use Rattle.ndr_decode.specs.Streaming.{FaultOf, HomeWhole}
 use Rattle.ndr_decode.proofs.HomeComes.{whole_comes, fault_comes, decoding_of}
@@ -76,15 +74,3 @@ module _ (w : Setting) (side : IsLegalSide w) (order : Order) (fetched : List �
   pub root_whole : (source : SourceSeen) (notes : NotesSeen) (x1 : State) → ((more : List ℕ) (items : List Item) (y : State) → Reaches values order code here x more items y → y.at ≤ STREAM_LIMIT) → EndsWhole values order code here x source notes x1
       → HomeWhole order w.table here r.of direct target fetched noted (length x.cells) source (decoding_of notes) x1
   root_whole source notes x1 within ends = whole_comes values order code w.table here r.of 32 direct target planned fetched noted x root_good source notes x1 within ends
-
-  -- what is kept after it
-  module _ (source : SourceSeen) (notes : NotesSeen) (x1 : State)
-      (within : (more : List ℕ) (items : List Item) (y : State) → Reaches values order code here x more items y → y.at ≤ STREAM_LIMIT) (ends : EndsWhole values order code here x source notes x1) where
-    abbrev pub read : HomeWhole order w.table here r.of direct target fetched noted (length x.cells) source (decoding_of notes) x1
-    read = root_whole source notes x1 within ends
-
-    pub root_kept : (g : Graph) (k : KeptRoot) → RootAdded read.is.v x1.cells b.graph g → IsKeptRoot x1 k
-        → Agrees w side order (fetched ++ read.octets) (noted ++ read.items) direct (root_read b x1 k g)
-        (after w side order fetched noted direct b s seen n agrees r there plain read.octets read.all (noted ++ read.items) x1 read.is read.needed) read.is.seen
-        (new w side order fetched noted direct b s seen n agrees r there plain read.octets read.all (noted ++ read.items) x1 read.is read.needed) n
-    root_kept g k added kept = root_ends w side order fetched noted direct b s seen n agrees r there plain read.octets read.all (noted ++ read.items) x1 read.is read.needed g added k kept

@@ -1,13 +1,11 @@
 -- What reading a side comes to: its roots, the agreements of its parameters, its pipes.
 -- `x` is what is kept of the stream at its beginning, `y` after the roots, `z` after the pipes; `a`, `s` are what was seen of the source, the log and the steps
 -- over the roots, `b`, `t` over the pipes, `c`, `u` over both.
-use Rattle.std.proofs.Common.{◌≡◌, ◌≤◌, ℕ, ◌+◌, Bool, true, false, List, [], ◌∷◌, ◌++◌, length, drop, Option, Some, None, Result, Ok, Err, refl, ap, sym, ◌∙◌, subst, arith}
+use Rattle.std.proofs.Common.{◌≡◌, ◌≤◌, ℕ, Bool, true, false, List, [], ◌∷◌, length, drop, Option, Some, None, Result, Ok, Err, refl, sym, subst, arith}
 use Rattle.std.specs.Prelude.{if◌then◌else◌, IsErrAnd}
 use Rattle.std.specs.List.{slice_get}
-use Rattle.std.proofs.lemmas.Option.{same_Some}
 use Rattle.nd_base.specs.declared.octets.Order.{Order}
 use Rattle.nd_base.specs.Over.{SourceSeen}
-use Rattle.nd_types.specs.declared.types.Operation.{Operation}
 use Rattle.nd_types.specs.declared.types.Side.{Side}
 use Rattle.nd_value.specs.Agreement.{Agreement, agreement}
 use Rattle.nd_value.specs.declared.item.Item.{Item}
@@ -32,14 +30,12 @@ use Rattle.ndr_decoder_laws.specs.declared.kept.KeptRoot.{KeptRoot}
 use Rattle.ndr_decoder_laws.specs.stream.Calls.{Follows}
 use Rattle.ndr_code.specs.Tried.{given_number}
 use Rattle.ndr_decoder_laws.specs.stream.Parameters.{TestsPass, parameter_tests, root_number, root_subject}
-use Rattle.ndr_decoder_laws.specs.stream.Tests.{disagreement}
 use Rattle.nd_grammar.specs.decoded.Verdict.{DecodingSeen}
 use Rattle.ndr_decoder_pending.specs.declared.stream.Stream.{Stream}
 use Rattle.ndr_decoder_pending.specs.Seen.{between_of}
 use Rattle.ndr_decoder_laws.specs.stream.Report.{the_head, the_stream}
-use Rattle.ndr_decode.specs.declared.roots.Found.{Found}
 use Rattle.ndr_decode.specs.Piping.{EndComes, IsAtPipes, StreamEnds}
-use Rattle.ndr_decode.specs.Streaming.{FaultOf, IsSettingOf, RootsRead, Stands, WentOn, WentThrough, cells_of}
+use Rattle.ndr_decode.specs.Streaming.{FaultOf, IsSettingOf, Stands, WentOn, WentThrough, cells_of}
 use Rattle.ndr_decode.proofs.EndsWell.{read_after}
 use Rattle.ndr_decode.proofs.Placed.{types_length}
 use Rattle.ndr_decode.proofs.ParameterEnds.{parameter_fails, parameters_hold}

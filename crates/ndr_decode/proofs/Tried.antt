@@ -1,9 +1,8 @@
 -- Agreements that are tried one after the other.
 -- `k` is what is kept of a home, `ws` are agreements as code has them.
-use Rattle.std.proofs.Common.{◌≡◌, ◌≤◌, ℕ, ◌+◌, zero, suc, List, [], ◌∷◌, ◌++◌, length, take, drop, map, Some, None, Result, Ok, Err, IsErrAnd, refl, sym, ap, ◌∙◌, subst, arith}
+use Rattle.std.proofs.Common.{◌≡◌, ℕ, ◌+◌, zero, suc, List, [], ◌∷◌, ◌++◌, take, drop, map, Some, Result, Ok, Err, IsErrAnd, sym, ap, ◌∙◌, subst, arith}
 use Rattle.std.specs.List.{slice_get}
 use Rattle.std.proofs.lemmas.List.{map-append}
-use Rattle.nd_value.specs.Agreement.{Agreement}
 use Rattle.ndr_decoder_value.specs.Parts.{IsTried}
 use Rattle.ndr_decoder_state.specs.declared.fault.DecodeFault.{DecodeFault}
 use Rattle.ndr_decoder_state.specs.declared.fault.DecodeFault.TheVariants as fault
@@ -12,22 +11,6 @@ use Rattle.ndr_decoder_state.specs.Seen.{agreement_of}
 use Rattle.ndr_decoder_laws.specs.declared.kept.Kept.{Kept}
 use Rattle.ndr_decoder_laws.specs.stream.Tests.{AllAgree, disagreement}
 use Rattle.ndr_decode.specs.Tried.{AreTried}
-
-all_with : (k : Kept) (ws : List Agreement) (w : Agreement) → AllAgree k ws → disagreement w k.first k.max_at ≡ None → AllAgree k (ws ++ w ∷ [])
-all_with k [] w h e = (e, tt)
-all_with k (x ∷ ws) w h e = (h.0, all_with k ws w h.1 e)
-
--- the agreements up to a place, and the one that is there
-take_more : (ws : List Wanted) (i : ℕ) (w : Wanted) → slice_get ws i ≡ Some w → take (i + 1) ws ≡ take i ws ++ w ∷ []
-take_more ws i w e = let s : suc i ≡ i + 1 = omega arith in ap (λ (n : ℕ). take n ws) (sym s) ∙ go ws i w e
-  where
-    go : (ws : List Wanted) (i : ℕ) (w : Wanted) → slice_get ws i ≡ Some w → take (suc i) ws ≡ take i ws ++ w ∷ []
-    go [] i w e = cc
-    go (x ∷ ws) zero w e = ap (λ (y : Wanted). y ∷ []) (same x w e)
-      where
-        same : (x w : Wanted) → Some x ≡ Some w → x ≡ w
-        same x w e = cc
-    go (x ∷ ws) (suc i) w e = ap (λ (l : List Wanted). x ∷ l) (go ws i w e)
 
 split_at : (ws : List Wanted) (i : ℕ) (w : Wanted) → slice_get ws i ≡ Some w → ws ≡ take i ws ++ w ∷ drop (i + 1) ws
 split_at ws i w e = let s : suc i ≡ i + 1 = omega arith in go ws i w e ∙ ap (λ (n : ℕ). take i ws ++ w ∷ drop n ws) s
@@ -43,25 +26,6 @@ split_at ws i w e = let s : suc i ≡ i + 1 = omega arith in go ws i w e ∙ ap 
 -- so far all hold
 abbrev pub SoFar : Kept → List Wanted → ℕ → Type 0
 SoFar k ws i = AllAgree k (map agreement_of (take i ws))
-
-pub so_far_none : (k : Kept) (ws : List Wanted) → SoFar k ws 0
-so_far_none k [] = tt
-so_far_none k (w ∷ ws) = tt
-
-pub so_far_more : (k : Kept) (ws : List Wanted) (i : ℕ) (w : Wanted) → slice_get ws i ≡ Some w → SoFar k ws i → disagreement (agreement_of w) k.first k.max_at ≡ None
-    → SoFar k ws (i + 1)
-so_far_more k ws i w e h agrees =
-    subst (AllAgree k) (sym (ap (map agreement_of) (take_more ws i w e) ∙ map-append agreement_of (take i ws) (w ∷ [])))
-    (all_with k (map agreement_of (take i ws)) (agreement_of w) h agrees)
-
-take_whole : (ws : List Wanted) (i : ℕ) → length ws ≤ i → take i ws ≡ ws
-take_whole [] zero h = refl
-take_whole [] (suc i) h = refl
-take_whole (w ∷ ws) zero h = absurd (omega (arith, h))
-take_whole (w ∷ ws) (suc i) h = ap (λ (l : List Wanted). w ∷ l) (take_whole ws i (omega (arith, h)))
-
-pub so_far_all : (k : Kept) (ws : List Wanted) (i : ℕ) → length ws ≤ i → SoFar k ws i → AllAgree k (map agreement_of ws)
-so_far_all k ws i l h = subst (λ (xs : List Wanted). AllAgree k (map agreement_of xs)) (take_whole ws i l) h
 
 -- one of them is refused
 pub one_refused : (k : Kept) (ws : List Wanted) (i : ℕ) (w : Wanted) (r : Result (Unit {0}) DecodeFault) (e : DecodeFault) → slice_get ws i ≡ Some w → SoFar k ws i

@@ -26,7 +26,6 @@ use Rattle.ndr_decoder_laws.specs.stream.Calls.{Follows, Took}
 use Rattle.ndr_decoder_laws.proofs.stream.Joined.{took_twice}
 use Rattle.nd_grammar.specs.decoded.Verdict.{DecodingSeen, HasNoted}
 use Rattle.ndr_decoder_chunks.specs.Counted.{ChunkCounted, ChunkStopped, ChunkTold, CountPassed, CountStopped, CountTold, GapPassed, GapStopped, GapTold, UncountedChunk, count_item_at, in_the_count, in_the_gap}
-use Rattle.ndr_decoder_chunks.specs.Chunks.{HasMoved}
 use Rattle.ndr_decoder_chunks.specs.Fetched.{CountBad, CountCame, GapCame}
 use Rattle.ndr_decoder_chunks.proofs.Counting.{faulty, gap_counts, gap_noted, none_noted, one_noted}
 

@@ -1,5 +1,5 @@
 -- The gap and the count of a chunk, one after the other.
-use Rattle.std.proofs.Common.{◌≡◌, ℕ, ◌+◌, List, ◌++◌, length, arith, Option, Result, Ok, Err, IsErrAnd, ap, sym, ◌∙◌, subst, append_assoc, ◌≤◌}
+use Rattle.std.proofs.Common.{◌≡◌, ℕ, ◌+◌, List, ◌++◌, length, Option, Result, Ok, Err, IsErrAnd, ap, sym, ◌∙◌, subst, append_assoc, ◌≤◌}
 use Rattle.nd_base.specs.declared.octets.Order.{Order}
 use Rattle.nd_base.proofs.Rising.{rose_later}
 use Rattle.nd_base.specs.Over.{SourceSeen}
@@ -24,15 +24,6 @@ use Rattle.ndr_decoder_chunks.proofs.Counting.{faulty}
 
 pub cells_stay : (m n : Machine) → HasMoved m n → n.cells ≡ m.cells
 cells_stay m n v = n.numbered ∙ ap (λ (b : Building). length b.graph.cells) v.builder ∙ sym m.numbered
-
-pub moved_twice : (m n o : Machine) → HasMoved m n → HasMoved n o → HasMoved m o
-moved_twice m n o u v = record {
-  home = v.home ∙ u.home;
-  builder = v.builder ∙ u.builder;
-  referents = v.referents ∙ u.referents;
-  max_at = v.max_at ∙ u.max_at;
-  wanted = v.wanted ∙ u.wanted;
-}
 
 module _ (w : Setting) (order : Order) (fetched : List ℕ) (noted : List Item) (direct : ℕ) (first : Names) (i : ℕ) (rs : List Root) (roots : List Tree) (elem : TypeId) (done : Trees) (max_at : Option ℕ)
     (cells : ℕ) (a b c : SourceSeen) (s t u : DecodingSeen) (f : Follows a b c s t u) (m n : Machine) where

@@ -13,7 +13,7 @@ use Rattle.nd_types.specs.Table.{width}
 use Rattle.nd_value.specs.declared.item.Home.{Home}
 use Rattle.nd_value.specs.declared.item.Item.{Item}
 use Rattle.nd_flat.specs.Building.{Building, with_nodes}
-use Rattle.nd_flat.specs.Records.{members_of, widest_from, records_flats}
+use Rattle.nd_flat.specs.Records.{widest_from, records_flats}
 use Rattle.nd_flat.specs.Records as kept
 use Rattle.ndr_code.specs.declared.instr.Instr.{Instr}
 use Rattle.ndr_code.specs.declared.lists.EnumList.{EnumList}

@@ -1,6 +1,6 @@
 -- Pointers that are members: the node, the pending referent, and a cell that gets its number.
 -- `s` is a state, `ws` are agreements, `os` pending referents, `b` is what was built.
-use Rattle.std.proofs.Common.{◌≡◌, ◌≤◌, ◌<◌, ℕ, ◌+◌, Bool, true, false, List, [], ◌∷◌, ◌++◌, length, take, drop, map, Option, Some, None, Result, Ok, Err, OnOk, OnErr, refl, sym, ap, ◌∙◌, subst, arith, length-append}
+use Rattle.std.proofs.Common.{◌≡◌, ◌≤◌, ℕ, ◌+◌, false, List, [], ◌∷◌, ◌++◌, length, take, drop, map, Option, Some, Result, Ok, Err, OnOk, OnErr, refl, sym, ap, ◌∙◌, subst, arith, length-append}
 use Rattle.std.specs.List.{AllByRecursion}
 use Rattle.std.proofs.lemmas.List.{map-append, length-map}
 use Rattle.nd_types.specs.declared.types.Class.{Class}
@@ -97,9 +97,6 @@ reserved_is s b new of e ns cs =
 -- the next cell's number
 pub next_cell : (m : Machine) (n : ℕ) → n ≡ length m.builder.graph.cells + 1 → n ≡ length (state_of m).cells + 1
 next_cell m n e = e ∙ ap (λ (k : ℕ). k + 1) (sym (length-map m.builder.graph.cells (λ c. c.of)))
-
-pub cell_count : (m : Machine) → length (state_of m).cells ≡ m.cells
-cell_count m = length-map m.builder.graph.cells (λ c. c.of) ∙ sym m.numbered
 
 -- the state after a cell, the node and the pending referent
 pub new_is : (s s1 s2 : State) (class : Class) (to : TypeId) (run : ℕ) (cell : CellId) → s1 ≡ with_names (s.cells ++ to.0 ∷ []) s.numbers s → cell.0 ≡ length s.cells + 1

@@ -10,7 +10,6 @@ use Rattle.nd_types.specs.declared.types.Primitive.TheVariants.{Boolean, Char, B
 use Rattle.nd_types.specs.Table.{width}
 use Rattle.nd_types.specs.Number.{value_of_octets}
 use Rattle.nd_value.specs.Tree as tree
-use Rattle.nd_value.specs.Tree.{Flat}
 use Rattle.nd_grammar.specs.Entry.{gap}
 use Rattle.nd_flat.specs.Records as kept
 use Rattle.nd_flat.specs.Records.{place, end_from, widest_from, stride, member_flats, records_flats}

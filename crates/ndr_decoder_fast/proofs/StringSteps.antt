@@ -91,9 +91,6 @@ module _ (values : List EnumList) (order : Order) (code : List Instr) (h : Home)
   gap_has : HasOctets (wants values op.Hoist s0) first s0.at
   gap_has = subst (λ (p : Phase). HasOctets (hoist_want values p s0.at) first s0.at) (sym ahead.first) (first_size ∙ g_is)
 
-  gap_noted : List Item
-  gap_noted = hoist_items order h first s0.phase s0
-
   gap_ticks : ticks (hoist_items order h first s0.phase s0) ≡ 0
   gap_ticks = ap (λ (p : Phase). ticks (hoist_items order h first p s0)) ahead.first ∙ no_ticks h s0.at first
 

@@ -52,10 +52,6 @@ cells_grow : (order : Order) (f : Form) (os : List ℕ) (s : State) → length s
 cells_grow order (form.Number p) os s = omega arith
 cells_grow order (form.Pointer class to run) os s = more_cells (is_null class (unsigned order os)) to s.cells
 
--- the state after a member keeps what is around it
-still_level : (order : Order) (f : Field) (os : List ℕ) (s : State) → length s.firsts ≡ length s.members → length (field_read order f os s).firsts ≡ length (field_read order f os s).members
-still_level order f os s e = e
-
 next_part : (from n : ℕ) (os : List ℕ) → from + n ≤ length os → take (from + n) os ≡ take from os ++ take n (drop from os)
 next_part zero n os fits = let e : 0 + n ≡ n = omega arith in ap (λ k. take k os) e
 next_part (suc from) n [] fits = absurd (omega (arith, fits))
@@ -228,14 +224,6 @@ module _ (values : List EnumList) (order : Order) (code : List Instr) (h : Home)
       pc_by zero f = let below : s.pc < length code = slice_get_within code s.pc op.Close f.0 in omega (arith, below, short)
       pc_by (suc n) f = let below : s.pc < length code = called_within code s.pc f.0 f.1.1.0 in omega (arith, below, short)
 
-  pub counts_here : (from left steps_now : ℕ) (s : State) → ((fetched : List ℕ) (noted : List Item) (s : State) → Reaches values order code h s0 fetched noted s → IsSafe code s)
-      → IsReading from left steps_now s → (length s.nodes + 1 < 2 ^ 32) × (length s.cells + 1 < 2 ^ 32)
-  counts_here from left steps_now s safe r =
-      let it : IsSafe code (within s.pc s.at r.inside.back (s.members ++ r.inside.members) (s.firsts ++ r.inside.firsts) s) =
-      safe (take from os) r.inside.noted (within s.pc s.at r.inside.back (s.members ++ r.inside.members) (s.firsts ++ r.inside.firsts) s) r.inside.reached in
-      let few : length s.nodes + 8192 < 2 ^ 32 = it.few_nodes in
-      (omega (arith, few), it.few_cells)
-
 -- ## What a struct comes to
 
 rest_octets : (xs ys : List ℕ) → AreOctets (xs ++ ys) → AreOctets ys
@@ -243,9 +231,6 @@ rest_octets [] ys a = a
 rest_octets (x ∷ xs) ys a = rest_octets xs ys a.1
 
 module _ (values : List EnumList) (order : Order) (code : List Instr) (h : Home) (s0 : State) (source : SourceSeen) (steps : ℕ) (os : List ℕ) (left : Consumes source.left source.left_now os) where
-  pub struct_leapt : (steps_now : ℕ) (s : State) → IsOver values order code h s0 steps os steps_now s → LeapsOrGivesUp values order code h s0 source steps steps_now s (Ok true)
-  struct_leapt steps_now s x = record { fetched = os; noted = x.noted; reached = x.reached; left = left; counted = x.counted }
-
   pub struct_stopped : AreOctets os → (steps_now : ℕ) (s s1 : State) (e : Memory) (r : Result Bool Memory) → IsStopped values order code h s0 steps os steps_now → IsErrAnd r (λ y. y ≡ e)
       → LeapsOrGivesUp values order code h s0 source steps steps_now s1 r
   struct_stopped octets steps_now s s1 e (Ok b) x is = absurd is

@@ -1,13 +1,12 @@
 -- A struct of numbers and pointers by its steps: its `record`, of each member the call, the gap, the number or pointer and the `ret`, and its `close`.
 -- `t` is the state of the struct without its frame, `ms` are the members so far and `xs` what is kept of them.
-use Rattle.std.proofs.Common.{◌≡◌, ◌≤◌, ◌<◌, ◌⊎◌, inl, inr, ℕ, ◌+◌, zero, suc, List, [], ◌∷◌, ◌++◌, length, Option, Some, None, refl, ap, ap₂, sym, ◌∙◌, subst, arith, append_assoc, length-append}
-use Rattle.std.specs.Prelude.{ℤ, pos, Bool, true, false, eqb, if◌then◌else◌, take, drop, slice_get}
+use Rattle.std.proofs.Common.{◌≡◌, ◌≤◌, ◌⊎◌, inl, inr, ℕ, ◌+◌, List, [], ◌∷◌, ◌++◌, length, Option, Some, None, refl, ap, ap₂, sym, ◌∙◌, subst, arith, append_assoc}
+use Rattle.std.specs.Prelude.{pos, Bool, true, false, if◌then◌else◌, take, drop, slice_get}
 use Rattle.std.proofs.lemmas.List.{append-nil}
 use Rattle.nd_base.specs.declared.octets.Order.{Order}
 use Rattle.nd_base.specs.declared.TheConstants.{STREAM_LIMIT}
 use Rattle.nd_types.specs.declared.types.Class.{Class}
 use Rattle.nd_types.specs.declared.types.Class.TheVariants.{Ref, Unique, Full}
-use Rattle.nd_types.specs.declared.types.Primitive.{Primitive}
 use Rattle.nd_types.specs.declared.types.TypeId.{TypeId}
 use Rattle.nd_types.specs.Number.{AreOctets, unsigned, value_of_octets}
 use Rattle.nd_types.specs.Table.{width}
@@ -16,7 +15,6 @@ use Rattle.nd_value.specs.declared.item.Home.{Home}
 use Rattle.nd_value.specs.declared.item.Item.{Item}
 use Rattle.nd_value.specs.declared.item.ItemKind.TheVariants as item
 use Rattle.nd_value.specs.Tree as tree
-use Rattle.nd_value.specs.Tree.{Flat}
 use Rattle.nd_grammar.specs.Entry.{gap}
 use Rattle.nd_grammar.proofs.reader.Ranges.{drop_octets, take_octets}
 use Rattle.ndr_code.specs.declared.instr.Instr.{Instr}
@@ -25,10 +23,8 @@ use Rattle.ndr_code.specs.declared.lists.EnumList.{EnumList}
 use Rattle.ndr_decoder_laws.specs.declared.first.First.{First}
 use Rattle.ndr_decoder_laws.specs.declared.first.First.TheVariants as first
 use Rattle.ndr_decoder_laws.specs.declared.first.Member.{Member}
-use Rattle.ndr_decoder_laws.specs.declared.frame.Frame.{Frame}
-use Rattle.ndr_decoder_laws.specs.declared.frame.Frame.TheVariants as frame
-use Rattle.ndr_decoder_laws.specs.steps.Steps.{State, begun, goes, number_step, pointer_step, done_after, with_node, with_members, jumped, owing, new_cell}
-use Rattle.ndr_code.specs.Fields.{prim_of}
+use Rattle.ndr_decoder_laws.specs.steps.Steps.{State, goes, number_step, pointer_step, done_after, with_node, with_members, jumped, owing, new_cell}
+use Rattle.ndr_code.specs.Fields.{prim_of, pointer_form, form_of, run_of, gap_of, is_end, field_with, form_run, field_by, field_called, field_of}
 use Rattle.ndr_decoder_laws.specs.steps.StepItems.{gap_items, item_here, step_items}
 use Rattle.ndr_decoder_laws.specs.runs.Reaching.{Reaches, begins, steps_to}
 use Rattle.ndr_decoder_laws.proofs.runs.RowSteps.{length_taken, length_left, taken_and_left}
@@ -39,7 +35,6 @@ use Rattle.ndr_code.specs.declared.fields.Form.TheVariants as form
 use Rattle.ndr_code.specs.declared.fields.Field.{Field}
 use Rattle.ndr_code.specs.Lengths.{form_width, field_len}
 use Rattle.ndr_decoder_fast.specs.Structs.{is_null, pointer_read, form_read, moved, at_address, field_read, within, IsInside, IsOver}
-use Rattle.ndr_code.specs.Fields.{pointer_form, form_of, run_of, gap_of, is_end, field_with, form_run, field_by, field_called, field_of}
 
 -- ## What is at an address
 

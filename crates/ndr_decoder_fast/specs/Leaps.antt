@@ -1,6 +1,6 @@
 -- What steps come to that are taken in one go.
 -- `s0` is the state before them, `s1` the one after, `source` the source over the call, `steps` and `steps_now` the count of steps before and after.
-use Rattle.std.specs.Prelude.{◌≡◌, ◌≤◌, ℕ, ◌+◌, true, false, Bool, List, ◌++◌, length, slice_get, Option, Some, Result, Ok, Err}
+use Rattle.std.specs.Prelude.{◌≡◌, ◌≤◌, ℕ, ◌+◌, true, false, Bool, List, ◌++◌, length, slice_get, Some, Result, Ok, Err}
 use Rattle.std.specs.Io.KnownBytes.{Consumes}
 use Rattle.nd_base.specs.declared.octets.Memory.{Memory}
 use Rattle.nd_base.specs.declared.octets.Order.{Order}

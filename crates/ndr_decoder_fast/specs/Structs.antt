@@ -17,7 +17,6 @@ use Rattle.ndr_code.specs.declared.lists.EnumList.{EnumList}
 use Rattle.ndr_decoder_laws.specs.declared.first.First.{First}
 use Rattle.ndr_decoder_laws.specs.declared.first.First.TheVariants as first
 use Rattle.ndr_decoder_laws.specs.declared.first.Member.{Member}
-use Rattle.ndr_decoder_laws.specs.declared.frame.Frame.{Frame}
 use Rattle.ndr_decoder_laws.specs.declared.frame.Frame.TheVariants as frame
 use Rattle.ndr_decoder_laws.specs.steps.Steps.{State, Owed, begun, firsts_by}
 use Rattle.ndr_code.specs.declared.fields.Form.{Form}

@@ -1,9 +1,8 @@
 -- What is kept of cells, by their numbers.
-use Rattle.std.proofs.Common.{◌≡◌, ◌≤◌, ◌<◌, ℕ, ◌+◌, ◌-◌, zero, suc, List, [], ◌∷◌, ◌++◌, length, map, Option, Some, refl, ap, ap₂, sym, ◌∙◌, subst, arith}
+use Rattle.std.proofs.Common.{◌≡◌, ◌<◌, ℕ, ◌+◌, ◌-◌, zero, suc, List, [], ◌∷◌, ◌++◌, length, map, Option, Some, refl, ap, ap₂, sym, ◌∙◌, subst, arith}
 use Rattle.std.proofs.lemmas.List.{append-nil, length-append, length-map}
-use Rattle.std.specs.Prelude.{slice_get, slice_set}
+use Rattle.std.specs.Prelude.{slice_get, slice_set, option_map}
 use Rattle.std.specs.List.{AllByRecursion}
-use Rattle.std.specs.Prelude.{option_map}
 use Rattle.ndr_decoder_laws.specs.declared.kept.Kept.{Kept}
 use Rattle.ndr_decoder_laws.specs.stream.Between.{CellKept, kept_at, or_none}
 use Rattle.ndr_decoder_pending.specs.declared.cells.CellEntry.{CellEntry}
@@ -111,11 +110,6 @@ grown_within l m g (e ∷ es) a = (listed_more l m g e a.0, grown_within l m g e
 -- nothing more is listed
 pub same_grown : (l : Lists) → HasGrown l l
 same_grown l = record { counted = ([], sym (append-nil l.counted.items)); listed = ([], sym (append-nil l.listed.items)) }
-
--- the one that was listed last
-pub got_last : {A : Type 0} (xs : List A) (x : A) → slice_get (xs ++ x ∷ []) (length xs) ≡ Some x
-got_last [] x = refl
-got_last (y ∷ xs) x = got_last xs x
 
 -- what is kept of one cell is its entry
 pub entry_put : (l m : Lists) (es es' : List CellEntry) (c : ℕ) (e : CellEntry) (k : Kept) → 0 < c → HasGrown l m → AllByRecursion (IsListed l) es → IsPut (c - 1) e es es'

@@ -118,21 +118,11 @@ one_before [] n x e = cc
 one_before (y ∷ ys) zero x e = ap (λ u. u ∷ ys) (same_Some y x e)
 one_before (y ∷ ys) (suc n) x e = one_before ys n x e
 
-drop_none : {X : Type 0} (xs : List X) → drop (length xs) xs ≡ []
-drop_none [] = refl
-drop_none (x ∷ xs) = drop_none xs
-
 -- what is read at a place that is within
 pub got : {X : Type 0} (xs : List X) (i : ℕ) (x : X) → i < length xs → x ≡ slice_index_or xs i x → slice_get xs i ≡ Some x
 got [] i x l e = absurd (omega (arith, l))
 got (y ∷ ys) zero x l e = ap Some (sym e)
 got (y ∷ ys) (suc i) x l e = got ys i x (omega (arith, l)) e
-
--- none of the pointers is pending yet
-pub deferred_start : (us : List Wanted) (fresh : List code.Owed) (r : List Owed) → r ≡ map (owed_of us) (drop (length fresh - 0) fresh) ++ r
-deferred_start us fresh r =
-    let z : length fresh - 0 ≡ length fresh = omega arith in
-    sym (ap (λ n. map (owed_of us) (drop n fresh) ++ r) z ∙ ap (λ xs. map (owed_of us) xs ++ r) (drop_none fresh))
 
 -- one more is
 pub deferred_turn : (us : List Wanted) (fresh : List code.Owed) (p q r : List Owed) (at : ℕ) (o : code.Owed) → at < length fresh → slice_get fresh (length fresh - 1 - at) ≡ Some o
@@ -176,11 +166,6 @@ module _ (ws us : List Wanted) (fresh fresh' todo todo' : List code.Owed) (o : c
       ∙ ap (map (owed_of ws)) (reverse-append todo (o ∷ []))
       ∙ ap (λ u. u ∷ pending_in ws todo) (none_owed ws us o (omega (arith, no_agreements)))
       ∙ sym (ap (λ os. map (owed_of us) os ++ pending_in ws todo) alone)
-
-  pub one_within : AllByRecursion (λ (p : code.Owed). p.from + p.len ≤ length ws) todo → AllByRecursion (λ (p : code.Owed). p.from + p.len ≤ length ws) todo'
-  one_within a =
-      let l : o.from + o.len ≤ length ws = omega (arith, no_agreements) in
-      subst (AllByRecursion (λ (p : code.Owed). p.from + p.len ≤ length ws)) (sym put) (all_in (λ (p : code.Owed). p.from + p.len ≤ length ws) todo (o ∷ []) a (l, tt))
 
 -- the only one
 only_is : (fresh : List code.Owed) (o : code.Owed) → length fresh < 2 → slice_get fresh 0 ≡ Some o → fresh ≡ o ∷ []

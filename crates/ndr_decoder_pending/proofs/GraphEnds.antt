@@ -18,12 +18,6 @@ use Rattle.ndr_decoder_pending.specs.Ends.{HomeRan}
 its_tree : (n : Building) (v : Tree) → n.nodes ≡ flat (more v none) → tree_in n.nodes ≡ v
 its_tree n v e = ap tree_in e ∙ tree-of v
 
-same_at : (g g' : Graph) → g'.cells ≡ g.cells → (c : ℕ) → cell_at g' c ≡ cell_at g c
-same_at g g' e c = ap (λ cs. cell_at (record { roots = []; cells = cs }) c) e
-
-cells_at : (g : Graph) (c : ℕ) → cell_at g c ≡ cell_at (record { roots = []; cells = g.cells }) c
-cells_at g c = refl
-
 -- the value of a home is put into the graph
 closed_is : (n : Building) (h : Home) (v : Tree) → n.home ≡ Some h → n.nodes ≡ flat (more v none) → closed n ≡ put (Some h) v n.graph
 closed_is n h v e f = ap₂ (λ o t. put o t n.graph) e (its_tree n v f)

@@ -2,7 +2,6 @@
 use Rattle.std.proofs.Common.{◌≡◌, ℕ, ◌-◌, zero, suc, ℤ, Bool, true, false, List, [], ◌∷◌, Option, Some, None, Result, Ok, Err, IsErrAnd, refl, sym, ap, subst, ◌∙◌, append-nil}
 use Rattle.std.specs.Prelude.{if◌then◌else◌, option_map}
 use Rattle.std.proofs.lemmas.Option.{same_Some}
-use Rattle.std.specs.Ordering.{int_eq}
 use Rattle.nd_types.specs.declared.types.Attr.TheVariants as attr
 use Rattle.nd_value.specs.Agreement.{Agreement}
 use Rattle.nd_grammar.specs.declared.reason.Reason.{Reason}
@@ -10,49 +9,13 @@ use Rattle.nd_grammar.specs.declared.reason.Reason.TheVariants as reason
 use Rattle.ndr_decoder_laws.specs.declared.first.First.{First}
 use Rattle.ndr_decoder_laws.specs.declared.first.First.TheVariants as first
 use Rattle.ndr_decoder_laws.specs.declared.first.Member.{Member}
-use Rattle.ndr_decoder_laws.specs.steps.Steps.{State, Outcome, goes, refused, next, Owed, with_fresh, joined_by, checked, try_all, is_owing, disagreed, place_of, place_in, first_found}
+use Rattle.ndr_decoder_laws.specs.steps.Steps.{State, Outcome, goes, refused, next, Owed, with_fresh, joined_by, checked, try_all, is_owing, disagreed, place_of, place_in}
 use Rattle.ndr_decoder_state.specs.declared.fault.DecodeFault.{DecodeFault}
 use Rattle.ndr_decoder_state.specs.declared.fault.DecodeFault.TheVariants as fault
 use Rattle.ndr_decoder_state.specs.Seen.{Does}
-use Rattle.ndr_decoder_value.specs.Parts.{disagreement, count_place, tag_place, IsTried}
+use Rattle.ndr_decoder_value.specs.Parts.{disagreement, IsTried}
 
 -- ## Places
-
-pub offset_is : (x : First) (max_at : Option ℕ) → place_of attr.First max_at (place_in x) ≡ option_map (λ n. n - 4) (count_place x)
-offset_is (first.Number z) max_at = refl
-offset_is first.Pointer max_at = refl
-offset_is (first.Counted max offset actual None) max_at = refl
-offset_is (first.Counted max offset actual (Some p)) max_at = refl
-offset_is (first.Tag tag None) max_at = refl
-offset_is (first.Tag tag (Some p)) max_at = refl
-offset_is first.Other max_at = refl
-
-pub length_is : (x : First) (max_at : Option ℕ) → place_of attr.Length max_at (place_in x) ≡ count_place x
-length_is (first.Number z) max_at = refl
-length_is first.Pointer max_at = refl
-length_is (first.Counted max offset actual None) max_at = refl
-length_is (first.Counted max offset actual (Some p)) max_at = refl
-length_is (first.Tag tag None) max_at = refl
-length_is (first.Tag tag (Some p)) max_at = refl
-length_is first.Other max_at = refl
-
-pub last_is : (x : First) (max_at : Option ℕ) → place_of attr.Last max_at (place_in x) ≡ count_place x
-last_is (first.Number z) max_at = refl
-last_is first.Pointer max_at = refl
-last_is (first.Counted max offset actual None) max_at = refl
-last_is (first.Counted max offset actual (Some p)) max_at = refl
-last_is (first.Tag tag None) max_at = refl
-last_is (first.Tag tag (Some p)) max_at = refl
-last_is first.Other max_at = refl
-
-pub switch_is : (x : First) (max_at : Option ℕ) → place_of attr.Switch max_at (place_in x) ≡ tag_place x
-switch_is (first.Number z) max_at = refl
-switch_is first.Pointer max_at = refl
-switch_is (first.Counted max offset actual None) max_at = refl
-switch_is (first.Counted max offset actual (Some p)) max_at = refl
-switch_is (first.Tag tag None) max_at = refl
-switch_is (first.Tag tag (Some p)) max_at = refl
-switch_is first.Other max_at = refl
 
 -- ## One agreement
 
@@ -83,20 +46,6 @@ tried_failed w x s place why h = failed_by _ (place_of w.attr s.max_at (place_in
 
 -- ## Where it does not hold
 
-module _ (w : Agreement) (x : First) (m : Option ℕ) where
-  abbrev why_not : Bool → Option ℕ → Option (ℕ × Reason)
-  why_not b p = if b then None else option_map (λ (place : ℕ). (place, reason.Disagrees w.wanted (first_found w.attr x))) p
-
-  pub holds : int_eq w.wanted (first_found w.attr x) ≡ true → disagreement w x m ≡ None
-  holds h = ap (λ b. why_not b (place_of w.attr m (place_in x))) h
-
-  pub has_no_place : int_eq w.wanted (first_found w.attr x) ≡ false → place_of w.attr m (place_in x) ≡ None → disagreement w x m ≡ None
-  has_no_place h p = ap (λ b. why_not b (place_of w.attr m (place_in x))) h ∙ ap (why_not false) p
-
-  pub disagrees : (place : ℕ) → int_eq w.wanted (first_found w.attr x) ≡ false → place_of w.attr m (place_in x) ≡ Some place
-      → disagreement w x m ≡ Some (place, reason.Disagrees w.wanted (first_found w.attr x))
-  disagrees place h p = ap (λ b. why_not b (place_of w.attr m (place_in x))) h ∙ ap (why_not false) p
-
 -- ## No agreement
 
 pub joined_none : (os : List Owed) (n : ℕ) → joined_by [] os n ≡ os
@@ -114,10 +63,6 @@ none_checked (Some m) (Some (first.Tag tag place)) s = refl
 none_checked (Some m) (Some first.Other) s = refl
 
 -- ## The agreement of a member
-
-pub pointer_checked : (w : Agreement) (m : Member) (x : First) (s : State) → is_owing x ≡ true
-    → checked (w ∷ []) (Some m) (Some x) s ≡ goes (next (with_fresh (joined_by (w ∷ []) s.fresh m.pending) s))
-pointer_checked w m x s h = ap (λ (b : Bool). if b then goes (next (with_fresh (joined_by (w ∷ []) s.fresh m.pending) s)) else try_all (w ∷ []) x s) h
 
 pub other_checked : (w : Agreement) (m : Member) (x : First) (s : State) → is_owing x ≡ false → checked (w ∷ []) (Some m) (Some x) s ≡ try_all (w ∷ []) x s
 other_checked w m x s h = ap (λ (b : Bool). if b then goes (next (with_fresh (joined_by (w ∷ []) s.fresh m.pending) s)) else try_all (w ∷ []) x s) h

@@ -1,7 +1,7 @@
 -- What the code of actual counts and of strings noted.
 -- `m` is the machine before, `t` the one after, `o` an offset, `c` an actual count, `log` a log, `n` a number of steps; the second of two is what there is
 -- afterwards. `r` is a result, `e` its error.
-use Rattle.std.proofs.Common.{◌≡◌, ◌≤◌, ℕ, ◌+◌, Bool, false, List, [], ◌∷◌, length, pos, Option, Some, None, Result, IsErrAnd, sym, ap, ◌∙◌, subst, ltb, if◌then◌else◌}
+use Rattle.std.proofs.Common.{◌≡◌, ◌≤◌, ℕ, ◌+◌, Bool, List, [], ◌∷◌, length, pos, Option, Some, None, Result, IsErrAnd, sym, ap, ◌∙◌, subst, if◌then◌else◌}
 use Rattle.std.proofs.lemmas.Bool.{le-ltb}
 use Rattle.nd_value.specs.Logged.{Logged, noted, ticks_of}
 use Rattle.nd_value.specs.declared.item.Item.{Item}
@@ -10,7 +10,7 @@ use Rattle.nd_value.specs.declared.item.ItemKind.TheVariants as item
 use Rattle.nd_value.specs.Tree as tree
 use Rattle.nd_grammar.specs.declared.reason.Reason.{Reason}
 use Rattle.nd_grammar.specs.declared.reason.Reason.TheVariants as reason
-use Rattle.ndr_decoder_laws.specs.steps.Steps.{State, Outcome, goes, refused, past, begun, with_node, elements, done_after, text_done}
+use Rattle.ndr_decoder_laws.specs.steps.Steps.{State, Outcome, goes, refused, past, begun, with_node, elements, text_done}
 use Rattle.ndr_decoder_laws.specs.steps.StepItems.{next_item}
 use Rattle.ndr_decoder_state.specs.Notes.{notes_seen, Noted}
 use Rattle.ndr_decoder_state.specs.Seen.{state_of, Does}

@@ -1,24 +1,19 @@
 -- What the intake answers, in terms of what a step wants.
 -- `w` is what it wants, `n` how many octets were asked for, `os` those that came.
-use Rattle.std.proofs.Common.{◌≡◌, ◌≤◌, ◌<◌, ℕ, ◌+◌, ◌-◌, ◌^◌, List, [], ◌∷◌, length, min, Result, Ok, Err, IfOk, IfErr, IsErrOf, ◌⊎◌, inl, inr, refl, sym, ap, ◌∙◌, subst, arith}
+use Rattle.std.proofs.Common.{◌≡◌, ◌≤◌, ◌<◌, ℕ, ◌+◌, ◌-◌, ◌^◌, List, length, min, Result, Ok, Err, IfOk, IfErr, IsErrOf, ◌⊎◌, inl, inr, refl, ◌∙◌, subst, arith}
 use Rattle.std.proofs.lemmas.Bool.{cases_lt}
-use Rattle.std.proofs.lemmas.List.{nil_from_length}
 use Rattle.nd_base.specs.declared.TheConstants.{STREAM_LIMIT}
 use Rattle.nd_base.specs.Over.{SourceSeen}
 use Rattle.ndr_decoder_input.specs.declared.intake.IntakeFault.{IntakeFault}
 use Rattle.ndr_decoder_input.specs.declared.intake.IntakeFault.TheVariants as intake
-use Rattle.ndr_decoder_input.specs.Intake.{IsGapFault, IsItemFault}
+use Rattle.ndr_decoder_input.specs.Intake.{IsItemFault}
 use Rattle.ndr_decoder_laws.specs.steps.Steps.{Want, no_octets, gap_of, item_of}
 use Rattle.ndr_decoder_laws.specs.steps.Good.{HasOctets, IsCut}
-use Rattle.ndr_decoder_value.specs.declared.steps.Want as code
 use Rattle.ndr_decoder_value.specs.declared.steps.Want.TheVariants as want
 use Rattle.ndr_decoder_value.specs.Wanting.{Wants}
 use Rattle.ndr_decoder_value.specs.Reaching.{Fetches, stream_answer}
 
 -- ## Numbers
-
-same_gap : (n m : ℕ) → want.Gap n ≡ want.Gap m → n ≡ m
-same_gap n m e = cc
 
 same_item : (n m : ℕ) → want.Item n ≡ want.Item m → n ≡ m
 same_item n m e = cc
@@ -27,25 +22,6 @@ limit_fits : STREAM_LIMIT < 2 ^ 32 - 1
 limit_fits = omega arith
 
 -- ## Gaps
-
-gap_came : (w : Want) (n at : ℕ) (os : List ℕ) → Wants w (want.Gap n) → length os ≡ n → HasOctets w os at
-gap_came no_octets n at os e all = nil_from_length os (all ∙ same_gap n 0 e)
-gap_came (gap_of m) n at os e all = all ∙ same_gap n m e
-gap_came (item_of m) n at os e all = cc
-
-gap_cut : (w : Want) (n at : ℕ) (os : List ℕ) → Wants w (want.Gap n) → length os < n → IsCut w os at
-gap_cut no_octets n at os e fewer = let z : n ≡ 0 = same_gap n 0 e in absurd (omega (arith, z, fewer))
-gap_cut (gap_of m) n at os e fewer = let z : n ≡ m = same_gap n m e in omega (arith, z, fewer)
-gap_cut (item_of m) n at os e fewer = cc
-
-pub gap_fetched : (w : Want) (n at : ℕ) (s : SourceSeen) (os : List ℕ) (r : Result (Unit {0}) IntakeFault) → Wants w (want.Gap n) → IfOk r (λ _. length os ≡ n)
-    → IfErr r (IsGapFault s at n os) → Fetches w at s os (stream_answer r)
-gap_fetched w n at s os (Ok u) e all fault = gap_came w n at os e all
-gap_fetched w n at s os (Err intake.Memory) e all fault = tt
-gap_fetched w n at s os (Err intake.ReadFault) e all fault = (gap_cut w n at os e fault.fewer, fault.why)
-gap_fetched w n at s os (Err intake.TooLong) e all fault = absurd fault.why
-gap_fetched w n at s os (Err (intake.Truncated place)) e all fault =
-    (gap_cut w n at os e fault.fewer, (fault.why.there, (fault.why.ended, fault.why.none_left)))
 
 -- ## Items
 
@@ -105,19 +81,3 @@ item_fetched w n at s os (Err (intake.Truncated place)) e all within long fault 
     (item_cut w n at os e fault.fewer (ended_within n at (truncated place) (is_truncated place) long), (fault.why.there, (fault.why.ended, fault.why.none_left)))
 
 -- ## Places
-
-pub gap_fits : (n at : ℕ) (os : List ℕ) (r : Result (Unit {0}) IntakeFault) → n < 256 → at ≤ STREAM_LIMIT → IfOk r (λ _. length os ≡ n)
-    → IfOk (stream_answer r) (λ _. at + length os + 8 < 2 ^ 32)
-gap_fits n at os (Ok u) few within all = let fits : STREAM_LIMIT < 2 ^ 32 - 300 = omega arith in omega (arith, few, within, all, fits)
-gap_fits n at os (Err intake.Memory) few within all = tt
-gap_fits n at os (Err intake.ReadFault) few within all = tt
-gap_fits n at os (Err intake.TooLong) few within all = tt
-gap_fits n at os (Err (intake.Truncated place)) few within all = tt
-
-pub item_fits : (n at : ℕ) (os : List ℕ) (r : Result (Unit {0}) IntakeFault) → IfOk r (λ _. length os ≡ n) → IfOk r (λ _. at + n ≤ STREAM_LIMIT)
-    → IfOk (stream_answer r) (λ _. at + length os + 8 < 2 ^ 32)
-item_fits n at os (Ok u) all within = let fits : STREAM_LIMIT < 2 ^ 32 - 300 = omega arith in omega (arith, within, all, fits)
-item_fits n at os (Err intake.Memory) all within = tt
-item_fits n at os (Err intake.ReadFault) all within = tt
-item_fits n at os (Err intake.TooLong) all within = tt
-item_fits n at os (Err (intake.Truncated place)) all within = tt

@@ -1,6 +1,6 @@
 -- Steps that read and note nothing: what a turn comes to.
 -- `m` is the machine before, `m1` the one after, `s` the state before.
-use Rattle.std.proofs.Common.{◌≡◌, ℕ, true, false, List, [], length, Some, Result, Ok, Err, IsErrAnd, refl, sym, ap, subst}
+use Rattle.std.proofs.Common.{◌≡◌, ℕ, true, false, List, [], length, Some, Result, Ok, IsErrAnd, refl, sym, ap, subst}
 use Rattle.std.specs.Prelude.{eqb, slice_get}
 use Rattle.std.proofs.lemmas.Bool.{eqb-true}
 use Rattle.std.specs.Io.KnownBytes.{Consumes}
@@ -8,7 +8,6 @@ use Rattle.nd_base.specs.declared.octets.Order.{Order}
 use Rattle.nd_base.specs.Over.{SourceSeen}
 use Rattle.nd_value.specs.Logged.{Logged}
 use Rattle.nd_value.specs.declared.item.Home.{Home}
-use Rattle.nd_value.specs.declared.item.Item.{Item}
 use Rattle.nd_grammar.specs.Entry.{gap}
 use Rattle.ndr_code.specs.declared.instr.Instr.{Instr}
 use Rattle.ndr_code.specs.declared.instr.Instr.TheVariants as op

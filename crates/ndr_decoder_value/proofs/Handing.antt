@@ -1,7 +1,7 @@
 -- Results that are handed on, and instructions that read nothing.
 -- `o` is what a step comes to, `r` a result, `e` its fault, `s` the state before, `t` the one after, `n` what was noted and counted.
-use Rattle.std.proofs.Common.{◌≡◌, ℕ, ◌+◌, zero, suc, ℤ, Bool, true, false, List, [], ◌∷◌, length, take, Option, Some, None, Result, Ok, Err, IsErrAnd, OnOk, refl, sym, ap, ◌∙◌, subst, arith}
-use Rattle.std.specs.Prelude.{eqb, if◌then◌else◌, slice_get}
+use Rattle.std.proofs.Common.{◌≡◌, ℕ, ◌+◌, zero, suc, ℤ, Bool, true, false, List, [], ◌∷◌, length, take, Option, Some, None, Result, Ok, Err, refl, sym, ap, ◌∙◌, subst, arith}
+use Rattle.std.specs.Prelude.{if◌then◌else◌, slice_get}
 use Rattle.std.specs.Ordering.{int_eq}
 use Rattle.nd_base.specs.declared.octets.Order.{Order}
 use Rattle.nd_types.specs.declared.types.Attr.{Attr}
@@ -9,7 +9,6 @@ use Rattle.nd_types.specs.declared.types.TypeId.{TypeId}
 use Rattle.nd_types.specs.Number.{value_of_octets}
 use Rattle.nd_value.specs.Agreement.{Agreement, agreement}
 use Rattle.nd_value.specs.Logged.{Logged}
-use Rattle.nd_value.specs.declared.item.Item.{Item}
 use Rattle.nd_grammar.specs.declared.reason.Reason.TheVariants as reason
 use Rattle.nd_grammar.specs.Refusal.{is_enumerator}
 use Rattle.ndr_code.specs.declared.lists.EnumList.{EnumList}
@@ -23,30 +22,11 @@ use Rattle.ndr_decoder_state.specs.declared.fault.DecodeFault.TheVariants as fau
 use Rattle.ndr_decoder_state.specs.declared.fault.Progress.{Progress}
 use Rattle.ndr_decoder_state.specs.declared.fault.Progress.TheVariants as progress
 use Rattle.ndr_decoder_state.specs.declared.machine.Machine.{Machine}
-use Rattle.ndr_decoder_state.specs.Notes.{NotesSeen, notes_seen, IsNotedPart, nothing_noted, Noted, all_noted, ticks}
+use Rattle.ndr_decoder_state.specs.Notes.{notes_seen, nothing_noted, Noted, all_noted, ticks}
 use Rattle.ndr_decoder_state.specs.Seen.{state_of, Does, Comes}
 use Rattle.ndr_decoder_value.proofs.Noting.{cell_count}
 
 -- ## A fault that is handed on
-
-same_fault : (o : Outcome) (e : DecodeFault) (t : State) → Does o (Err e) t → Comes o (Err e) t
-same_fault o fault.Memory t d = d
-same_fault o fault.ReadFault t d = d
-same_fault o (fault.Bad place why) t d = d
-
-pub fault_comes : (o : Outcome) (r : Result Progress DecodeFault) (e : DecodeFault) (t : State) → IsErrAnd r (λ y. y ≡ e) → Does o (Err e) t → Comes o r t
-fault_comes o (Ok p) e t h d = absurd h
-fault_comes o (Err y) e t h d = same_fault o y t (subst (λ (q : DecodeFault). Does o (Err q) t) (sym h) d)
-
-same_part : (o : Outcome) (xs : List Item) (n : NotesSeen) (e : DecodeFault) → Noted {T = Unit {0}} o xs n (Err e) → Noted {T = Progress} o xs n (Err e)
-same_part o xs n fault.Memory d = d
-same_part o xs n fault.ReadFault d = d
-same_part o xs n (fault.Bad place why) d = d
-
-pub fault_noted : (o : Outcome) (xs : List Item) (n : NotesSeen) (r : Result Progress DecodeFault) (e : DecodeFault) → IsErrAnd r (λ y. y ≡ e)
-    → Noted {T = Unit {0}} o xs n (Err e) → Noted o xs n r
-fault_noted o xs n (Ok p) e h d = absurd h
-fault_noted o xs n (Err y) e h d = same_part o xs n y (subst (λ (q : DecodeFault). Noted {T = Unit {0}} o xs n (Err q)) (sym h) d)
 
 -- ## Instructions that leave the cells as they are
 

@@ -13,7 +13,6 @@ mod Turning
 mod RowTurns
 mod Looping
 mod Leaping
-mod Wanted
 mod Owing
 mod Tagged
 mod Taking

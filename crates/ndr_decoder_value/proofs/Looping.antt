@@ -1,7 +1,7 @@
 -- The loop over turns: what it keeps, and what it comes to.
 -- `h` is the home at the beginning, `h1` the one before a turn, which is the same; `m` is what came before the turn, `r` what the turn answers.
-use Rattle.std.proofs.Common.{◌≡◌, ◌<◌, ◌≤◌, ℕ, List, ◌++◌, length, Option, Some, Result, Ok, Err, OnOk, refl, sym, ◌∙◌, subst}
-use Rattle.std.specs.Prelude.{slice_get, Bool}
+use Rattle.std.proofs.Common.{◌≡◌, ◌≤◌, ℕ, List, ◌++◌, Option, Result, Ok, Err, OnOk, ◌∙◌, subst}
+use Rattle.std.specs.Prelude.{Bool}
 use Rattle.nd_base.specs.declared.octets.Order.{Order}
 use Rattle.nd_base.specs.Over.{SourceSeen}
 use Rattle.nd_value.specs.Logged.{Logged}
@@ -17,7 +17,7 @@ use Rattle.ndr_decoder_state.specs.declared.fault.Progress.{Progress}
 use Rattle.ndr_decoder_state.specs.declared.fault.Progress.TheVariants as progress
 use Rattle.ndr_decoder_state.specs.Notes.{NotesSeen, notes_seen}
 use Rattle.ndr_decoder_state.specs.Seen.{Outside}
-use Rattle.ndr_decoder_value.specs.Reaching.{Moves, EndsWhole, EndsFault, Turns, Ends}
+use Rattle.ndr_decoder_value.specs.Reaching.{Moves, EndsWhole, EndsFault, Turns}
 use Rattle.ndr_decoder_value.proofs.Moving.{source, moves_on, whole_on, fault_on}
 
 -- every state that is reached is safe

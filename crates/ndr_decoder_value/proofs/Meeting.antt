@@ -1,64 +1,21 @@
 -- Classes of pointers, and the numbers of full ones.
 -- `s` is a state, `v` a pointer's number, `k` what is known of it, `old` and `new` are the numbers before and after one is met.
-use Rattle.std.proofs.Common.{◌≡◌, ◌≢◌, ◌≤◌, ◌<◌, ℕ, ◌+◌, Bool, true, false, List, [], ◌∷◌, ◌++◌, length, Option, Some, None, Result, Ok, Err, refl, sym, ap, ◌∙◌, arith, length-append}
-use Rattle.std.specs.Prelude.{eqb, if◌then◌else◌}
+use Rattle.std.proofs.Common.{◌≡◌, ◌≤◌, ◌<◌, ℕ, ◌+◌, Bool, List, [], ◌∷◌, ◌++◌, length, Option, Some, None, Ok, refl, sym, ap, ◌∙◌, arith, length-append}
+use Rattle.std.specs.Prelude.{if◌then◌else◌}
 use Rattle.std.proofs.lemmas.Bool.{eq-eqb, ne_eqb}
 use Rattle.nd_types.specs.declared.types.Class.{Class}
-use Rattle.nd_types.specs.declared.types.Class.TheVariants.{Ref, Unique, Full}
+use Rattle.nd_types.specs.declared.types.Class.TheVariants.{Full}
 use Rattle.nd_types.specs.declared.types.TypeId.{TypeId}
 use Rattle.nd_value.specs.declared.value.CellId.{CellId}
 use Rattle.nd_grammar.specs.declared.reason.Reason.TheVariants as reason
 use Rattle.ndr_refs.specs.declared.referents.Known.{Known}
-use Rattle.ndr_refs.specs.declared.referents.RefFault.{RefFault}
-use Rattle.ndr_refs.specs.declared.referents.RefFault.TheVariants as fault
 use Rattle.ndr_refs.specs.Known.{known, first_met, IsMet, IsMetBy}
-use Rattle.ndr_decoder_laws.specs.steps.Steps.{State, Outcome, goes, refused, with_names, owing, new_cell, done_after, full_by, pointer_step}
-use Rattle.ndr_decoder_value.specs.Parts.{unique_read, full_read}
+use Rattle.ndr_decoder_laws.specs.steps.Steps.{State, goes, refused, with_names, owing, new_cell, done_after, full_by}
+use Rattle.ndr_decoder_value.specs.Parts.{full_read}
 
 -- ## Classes
 
-pub of_ref : (class : Class) (to : TypeId) (run v : ℕ) (s : State) → class ≡ Ref → pointer_step class to run v s ≡ goes (done_after 4 (new_cell class to run s))
-of_ref Ref to run v s e = refl
-of_ref Unique to run v s e = absurd (other e)
-  where
-    other : Unique ≡ Ref → ⊥
-    other e = cc
-of_ref Full to run v s e = absurd (other e)
-  where
-    other : Full ≡ Ref → ⊥
-    other e = cc
-
-pub of_unique : (class : Class) (to : TypeId) (run v : ℕ) (s : State) → class ≡ Unique → pointer_step class to run v s ≡ unique_read class to run v s
-of_unique Ref to run v s e = absurd (other e)
-  where
-    other : Ref ≡ Unique → ⊥
-    other e = cc
-of_unique Unique to run v s e = refl
-of_unique Full to run v s e = absurd (other e)
-  where
-    other : Full ≡ Unique → ⊥
-    other e = cc
-
-pub of_full : (class : Class) (to : TypeId) (run v : ℕ) (s : State) → class ≡ Full → pointer_step class to run v s ≡ full_read to run v s
-of_full Ref to run v s e = absurd (other e)
-  where
-    other : Ref ≡ Full → ⊥
-    other e = cc
-of_full Unique to run v s e = absurd (other e)
-  where
-    other : Unique ≡ Full → ⊥
-    other e = cc
-of_full Full to run v s e = refl
-
 -- ## Unique pointers
-
-pub unique_null : (class : Class) (to : TypeId) (run v : ℕ) (s : State) → v ≡ 0 → unique_read class to run v s ≡ goes (done_after 4 (owing class to run None s))
-unique_null class to run v s e =
-    ap (λ (b : Bool). goes (done_after 4 (if b then owing class to run None s else new_cell class to run s))) (eq-eqb v 0 e)
-
-pub unique_new : (class : Class) (to : TypeId) (run v : ℕ) (s : State) → (v ≡ 0 → ⊥) → unique_read class to run v s ≡ goes (done_after 4 (new_cell class to run s))
-unique_new class to run v s n =
-    ap (λ (b : Bool). goes (done_after 4 (if b then owing class to run None s else new_cell class to run s))) (ne_eqb v 0 n)
 
 -- ## A number is met
 
@@ -87,20 +44,7 @@ met_known v of next cell old new h l = by (known v old) refl h
         let one : length new ≡ length old + 1 = ap length h.1 ∙ length-append old ((v, first_met of next) ∷ []) in absurd (omega (arith, one, l))
     by (Some k) e h = record { k = k; there = e; typed = h.0.0; named = h.0.1; stays = h.1 }
 
-pub met_other : (v : ℕ) (of first second : TypeId) (next : CellId) (old new : List (ℕ × Known)) → IsMet v of next old (Err (fault.OtherType first second)) new
-    → (k : Known) × ((known v old ≡ Some k) × (k.of ≢ of))
-met_other v of first second next old new h = by (known v old) refl h
-  where
-    by : (k : Option Known) → known v old ≡ k → IsMetBy k v of next old (Err (fault.OtherType first second)) new → (k : Known) × ((known v old ≡ Some k) × (k.of ≢ of))
-    by None e h = absurd h
-    by (Some k) e h = (k, (e, h.0.0))
-
 -- ## Full pointers
-
-pub full_null : (class : Class) (to : TypeId) (run v : ℕ) (s : State) → class ≡ Full → v ≡ 0 → full_read to run v s ≡ goes (done_after 4 (owing class to run None s))
-full_null class to run v s c e =
-    ap (λ (b : Bool). if b then goes (done_after 4 (owing Full to run None s)) else full_by (known v s.numbers) v to run s) (eq-eqb v 0 e)
-    ∙ ap (λ (q : Class). goes (done_after 4 (owing q to run None s))) (sym c)
 
 -- a number that is not 0
 full_some : (to : TypeId) (run v : ℕ) (s : State) (k : Option Known) → (v ≡ 0 → ⊥) → known v s.numbers ≡ k → full_read to run v s ≡ full_by k v to run s
@@ -129,12 +73,3 @@ full_known class to run v cell numbers s c n h =
     ∙ ap (λ (q : CellId). goes (done_after 4 (owing Full to run (Some q.0) s))) (sym h.named)
     ∙ ap (λ (ns : List (ℕ × Known)). goes (done_after 4 (owing Full to run (Some cell.0) (with_names s.cells ns s)))) (sym h.stays)
     ∙ ap (λ (q : Class). goes (done_after 4 (owing q to run (Some cell.0) (with_names s.cells numbers s)))) (sym c)
-
-abbrev type_of : ℕ → TypeId
-type_of m = record { 0 = m }
-
-pub full_other : (to : TypeId) (run v : ℕ) (s : State) → (v ≡ 0 → ⊥) → ((k : Known) × ((known v s.numbers ≡ Some k) × (k.of ≢ to))) → full_read to run v s ≡ refused s.at reason.OtherType
-full_other to run v s n h =
-    full_some to run v s (Some h.0) n h.1.0
-    ∙ ap (λ (b : Bool). if b then goes (done_after 4 (owing Full to run (Some h.0.cell.0) s)) else refused s.at reason.OtherType)
-    (ne_eqb h.0.of.0 to.0 (λ e. h.1.1 (ap type_of e)))

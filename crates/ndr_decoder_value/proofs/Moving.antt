@@ -1,14 +1,13 @@
 -- One turn, and then others: what was taken, reached, noted and counted comes together.
 -- `m` is what came before, `e` an end after it.
-use Rattle.std.proofs.Common.{◌≡◌, ◌≤◌, ℕ, ◌+◌, true, List, [], ◌∷◌, ◌++◌, length, Option, Result, Ok, Err, refl, sym, ap, ◌∙◌, subst, arith, append_assoc}
+use Rattle.std.proofs.Common.{◌≡◌, ◌≤◌, ℕ, ◌+◌, List, [], ◌∷◌, ◌++◌, length, Option, refl, sym, ap, ◌∙◌, subst, arith, append_assoc}
 use Rattle.std.proofs.KnownBytes.{Consumes-trans}
 use Rattle.std.proofs.lemmas.List.{append-nil}
-use Rattle.std.specs.Prelude.{slice_get, Bool, Some, min, ◌^◌, ◌-◌}
-use Rattle.std.specs.Io.KnownBytes.{Consumes, IsAtEnd}
+use Rattle.std.specs.Prelude.{Bool, ◌-◌}
+use Rattle.std.specs.Io.KnownBytes.{Consumes}
 use Rattle.nd_base.specs.declared.octets.Order.{Order}
-use Rattle.nd_base.specs.Counts.{Rose}
 use Rattle.nd_base.proofs.Rising.{rose_later}
-use Rattle.nd_base.specs.Over.{SourceSeen, HasRisen}
+use Rattle.nd_base.specs.Over.{SourceSeen}
 use Rattle.nd_value.specs.Logged.{Logged, noted}
 use Rattle.nd_value.specs.declared.item.Home.{Home}
 use Rattle.nd_value.specs.declared.item.Item.{Item}
@@ -22,10 +21,8 @@ use Rattle.ndr_decoder_laws.specs.runs.Reaching.{Reaches, IsSafe, begins}
 use Rattle.ndr_decoder_laws.proofs.runs.Joining.{joined}
 use Rattle.ndr_decoder_state.specs.declared.fault.DecodeFault.{DecodeFault}
 use Rattle.ndr_decoder_state.specs.declared.fault.DecodeFault.TheVariants as fault
-use Rattle.ndr_decoder_state.specs.declared.fault.Progress.{Progress}
-use Rattle.ndr_decoder_state.specs.declared.fault.Progress.TheVariants as progress
 use Rattle.ndr_decoder_state.specs.Notes.{NotesSeen, notes_seen, all_noted, ticks}
-use Rattle.ndr_decoder_value.specs.Reaching.{IsLogged, IsLoggedPart, Moves, End, EndsWhole, EndsBad, EndsUnread, EndsCutOff, EndsFault, Turns, Ends}
+use Rattle.ndr_decoder_value.specs.Reaching.{IsLogged, IsLoggedPart, Moves, End, EndsWhole, EndsBad, EndsUnread, EndsCutOff, EndsFault}
 
 -- ## Items
 

@@ -1,7 +1,7 @@
 -- What a function noted and counted, from what its calls noted and counted.
 -- `o` is what a step comes to, `xs` are items, `x` is an item, `log` a log, `n` a number of steps and `k` one of cells; the second of two is what there is
 -- afterwards. `r` is a result, `e` its error, `s` a state.
-use Rattle.std.proofs.Common.{◌≡◌, ◌≤◌, ℕ, ◌+◌, List, [], ◌∷◌, length, Result, Ok, Err, OnOk, IfErr, IsErrAnd, refl, sym, ap, ◌∙◌, subst, arith}
+use Rattle.std.proofs.Common.{◌≡◌, ℕ, ◌+◌, List, [], ◌∷◌, length, Result, Ok, Err, OnOk, IfErr, IsErrAnd, refl, sym, ap, ◌∙◌, subst, arith}
 use Rattle.std.proofs.lemmas.List.{length-map}
 use Rattle.nd_value.specs.Logged.{Logged, noted, ticks_of}
 use Rattle.nd_value.specs.declared.item.Home.{Home}
@@ -9,7 +9,7 @@ use Rattle.nd_value.specs.declared.item.Item.{Item}
 use Rattle.nd_value.specs.Tree.{Referent}
 use Rattle.ndr_decoder_laws.specs.steps.Steps.{State, Outcome, goes, refused}
 use Rattle.ndr_decoder_laws.specs.steps.StepItems.{gap_items}
-use Rattle.ndr_decoder_state.specs.Notes.{NotesSeen, notes_seen, all_noted, ticks, IsNotedPart, nothing_noted, all_are_noted, Noted}
+use Rattle.ndr_decoder_state.specs.Notes.{notes_seen, all_noted, ticks, nothing_noted, all_are_noted, Noted}
 use Rattle.ndr_decoder_state.specs.Seen.{state_of, Does}
 use Rattle.ndr_decoder_state.specs.declared.fault.DecodeFault.{DecodeFault}
 use Rattle.ndr_decoder_state.specs.declared.fault.DecodeFault.TheVariants as fault

@@ -1,6 +1,6 @@
 -- One step, from what its calls answered.
 -- `m` is the machine before, `r` what the turn answers.
-use Rattle.std.proofs.Common.{◌≡◌, ℕ, ◌+◌, List, [], length, Some, Result, Ok, Err, IsErrAnd, refl, sym, ap, ◌∙◌, subst}
+use Rattle.std.proofs.Common.{◌≡◌, ℕ, List, Some, Result, Ok, Err, IsErrAnd, refl, sym, ap, subst}
 use Rattle.std.specs.Prelude.{slice_get}
 use Rattle.std.specs.Io.KnownBytes.{Consumes}
 use Rattle.nd_base.specs.declared.octets.Order.{Order}
@@ -10,14 +10,14 @@ use Rattle.nd_value.specs.Logged.{Logged}
 use Rattle.nd_value.specs.declared.item.Home.{Home}
 use Rattle.ndr_code.specs.declared.instr.Instr.{Instr}
 use Rattle.ndr_code.specs.declared.lists.EnumList.{EnumList}
-use Rattle.ndr_decoder_laws.specs.steps.Steps.{State, wants, step}
+use Rattle.ndr_decoder_laws.specs.steps.Steps.{wants, step}
 use Rattle.ndr_decoder_laws.specs.steps.StepItems.{step_items}
 use Rattle.ndr_decoder_laws.specs.steps.Good.{HasOctets}
 use Rattle.ndr_decoder_state.specs.declared.fault.DecodeFault.{DecodeFault}
 use Rattle.ndr_decoder_state.specs.declared.fault.Progress.{Progress}
 use Rattle.ndr_decoder_state.specs.declared.machine.Machine.{Machine}
 use Rattle.ndr_decoder_state.specs.Seen.{state_of, Comes}
-use Rattle.ndr_decoder_state.specs.Notes.{NotesSeen, notes_seen, Noted}
+use Rattle.ndr_decoder_state.specs.Notes.{notes_seen, Noted}
 use Rattle.ndr_decoder_value.specs.Reaching.{Turns, Fetches}
 use Rattle.ndr_decoder_value.proofs.Looping.{AllSafe}
 use Rattle.ndr_decoder_value.proofs.Noting.{cell_count}

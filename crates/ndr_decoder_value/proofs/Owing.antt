@@ -1,6 +1,6 @@
 -- Pointers: the node, the pending referent, and a cell that gets its number.
 -- `s` is a state, `ws` are agreements, `os` pending referents, `b` is what was built.
-use Rattle.std.proofs.Common.{◌≡◌, ◌≤◌, ◌<◌, ℕ, ◌+◌, Bool, true, false, List, [], ◌∷◌, ◌++◌, length, take, drop, map, Option, Some, None, Result, Ok, Err, OnOk, OnErr, refl, sym, ap, ◌∙◌, subst, arith, length-append}
+use Rattle.std.proofs.Common.{◌≡◌, ◌≤◌, ℕ, ◌+◌, List, [], ◌∷◌, ◌++◌, length, take, drop, map, Option, Some, None, Result, Ok, Err, OnOk, OnErr, refl, sym, ap, ◌∙◌, subst, arith}
 use Rattle.std.specs.List.{AllByRecursion}
 use Rattle.std.proofs.lemmas.List.{map-append}
 use Rattle.nd_types.specs.declared.types.Class.{Class}
@@ -99,10 +99,6 @@ reserved_is s b new of e ns cs =
     ap (λ (x : Building). with_builder x s) e
     ∙ ap (λ (l : List Flat). with_builder (with_nodes l (with_graph (with_cell of b.graph) b)) s) (sym ns)
     ∙ ap (λ (l : List ℕ). with_names l s.numbers s) (map-append (λ (c : Referent). c.of) b.graph.cells (record { of = of; val = unread } ∷ []) ∙ ap (λ (l : List ℕ). l ++ of ∷ []) (sym cs))
-
-pub counted_more : (b new : Building) (of n : ℕ) → new ≡ with_graph (with_cell of b.graph) b → n ≡ length b.graph.cells + 1 → n ≡ length new.graph.cells
-counted_more b new of n e h =
-    h ∙ sym (length-append b.graph.cells (record { of = of; val = unread } ∷ [])) ∙ ap (λ (x : Building). length x.graph.cells) (sym e)
 
 pub same_goes : (s t : State) → goes s ≡ goes t → s ≡ t
 same_goes s t e = ap (goes_to s) e

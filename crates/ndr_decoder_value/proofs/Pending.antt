@@ -1,8 +1,8 @@
 -- Agreements that join a pending referent: they are kept side by side, after all others.
-use Rattle.std.proofs.Common.{get_or, ◌≡◌, ◌≤◌, ◌<◌, ℕ, ◌+◌, zero, suc, List, [], ◌∷◌, ◌++◌, length, take, drop, map, refl, sym, ap, ap₂, ◌∙◌, subst, arith, append_assoc, append-nil, length-append, length-drop}
+use Rattle.std.proofs.Common.{get_or, ◌≡◌, ◌≤◌, ◌<◌, ℕ, ◌+◌, zero, suc, List, [], ◌∷◌, ◌++◌, length, take, drop, map, refl, sym, ap, ap₂, ◌∙◌, subst, arith, length-append, length-drop}
 use Rattle.std.specs.Prelude.{slice_set}
 use Rattle.std.specs.List.{AllByRecursion}
-use Rattle.std.proofs.lemmas.List.{take-append-le, drop-append-le, map-append}
+use Rattle.std.proofs.lemmas.List.{take-append-le, drop-append-le}
 use Rattle.nd_value.specs.Agreement.{Agreement}
 use Rattle.ndr_decoder_laws.specs.steps.Steps as steps
 use Rattle.ndr_decoder_laws.specs.steps.Steps.{joined_by}
@@ -38,28 +38,6 @@ within_kept ws more (o ∷ os) h = (rw (length-append ws more) (omega (arith, h.
 
 -- ## One agreement more
 
--- a referent whose agreements are the last has one more
-module _ (ws : List Wanted) (w : Wanted) where
-  abbrev pub with_one : Owed → Owed
-  with_one o = record { class = o.class; to = o.to; run = o.run; cell = o.cell; from = o.from; len = o.len + 1 }
-
-  last_one : (from len : ℕ) (xs : List Wanted) → from + len ≡ length xs → take (len + 1) (drop from (xs ++ w ∷ [])) ≡ take len (drop from xs) ++ w ∷ []
-  last_one zero zero [] e = refl
-  last_one zero zero (x ∷ xs) e = absurd (omega (arith, e))
-  last_one zero (suc len) [] e = absurd (omega (arith, e))
-  last_one zero (suc len) (x ∷ xs) e =
-      let k : suc len + 1 ≡ suc (len + 1) = omega arith in
-      ap (λ (n : ℕ). take n (x ∷ (xs ++ w ∷ []))) k ∙ ap (λ (l : List Wanted). x ∷ l) (last_one zero len xs (omega (arith, e)))
-  last_one (suc from) len [] e = absurd (omega (arith, e))
-  last_one (suc from) len (x ∷ xs) e = last_one from len xs (omega (arith, e))
-
-  pub one_more : (o : Owed) → o.from + o.len ≡ length ws
-      → owed_of (ws ++ w ∷ []) (with_one o)
-      ≡ record { class = o.class; to = o.to.0; run = o.run; cell = (owed_of ws o).cell; agreements = (owed_of ws o).agreements ++ agreement_of w ∷ [] }
-  one_more o e =
-      ap (λ (l : List Agreement). record { class = o.class; to = o.to.0; run = o.run; cell = (owed_of ws o).cell; agreements = l })
-      (ap (map agreement_of) (last_one o.from o.len ws e) ∙ map-append agreement_of (take o.len (drop o.from ws)) (w ∷ []))
-
 -- the referent at a place is another one, which has one agreement more
 pub joined_at : (ws more : List Wanted) (x : Agreement) (os : List Owed) (n : ℕ) (o new : Owed) → AllByRecursion (IsWithin ws) os → n < length os
     → owed_of (ws ++ more) new
@@ -80,23 +58,6 @@ joined_past ws [] n h = refl
 joined_past ws (o ∷ os) zero h = absurd (omega (arith, h))
 joined_past ws (o ∷ os) (suc n) h = ap (λ (l : List steps.Owed). o ∷ l) (joined_past ws os n (omega (arith, h)))
 
--- the agreements of a referent were moved to the end, and one more was kept after them
-pub one_joined : (ws kept now : List Wanted) (one : Wanted) (o new : Owed) (f : ℕ) → f + o.len ≡ length kept → take o.len (drop f kept) ≡ take o.len (drop o.from ws)
-    → now ≡ kept ++ one ∷ [] → new ≡ record { class = o.class; to = o.to; run = o.run; cell = o.cell; from = f; len = o.len + 1 }
-    → owed_of now new ≡ with_agreement (agreement_of one) (owed_of ws o)
-one_joined ws kept now one o new f last same now_is new_is =
-    let moved : Owed = record { class = o.class; to = o.to; run = o.run; cell = o.cell; from = f; len = o.len } in
-    ap₂ (λ l x. owed_of l x) now_is new_is
-    ∙ one_more kept one moved last
-    ∙ ap (λ (l : List Wanted). record { class = o.class; to = o.to.0; run = o.run; cell = (owed_of ws o).cell; agreements = map agreement_of l ++ agreement_of one ∷ [] }) same
-
--- lists that grew one after the other
-pub grown_on : (old mid new : List Wanted) → HasGrown old mid → HasGrown mid new → HasGrown old new
-grown_on old mid new a b = (a.0 ++ b.0, b.1 ∙ ap (λ (l : List Wanted). l ++ b.0) a.1 ∙ append_assoc old a.0 b.0)
-
-pub grown_none : (old new : List Wanted) → new ≡ old → HasGrown old new
-grown_none old new e = ([], e ∙ sym (append-nil old))
-
 -- ## Pending referents
 
 -- the referent at a place
@@ -104,11 +65,6 @@ pub read_at : (os : List Owed) (n : ℕ) (o : Owed) → n < length os → o ≡ 
 read_at [] n o there e = absurd (omega (arith, there))
 read_at (p ∷ ps) zero o there e = ap (λ (q : Owed). q ∷ []) (sym e)
 read_at (p ∷ ps) (suc n) o there e = read_at ps n o (omega (arith, there)) e
-
-pub within_at : (ws : List Wanted) (os : List Owed) (n : ℕ) (o : Owed) → AllByRecursion (IsWithin ws) os → n < length os → o ≡ get_or os n o → IsWithin ws o
-within_at ws [] n o h there e = absurd (omega (arith, there))
-within_at ws (p ∷ ps) zero o h there e = subst (IsWithin ws) (sym e) h.0
-within_at ws (p ∷ ps) (suc n) o h there e = within_at ws ps n o h.1 (omega (arith, there)) e
 
 -- another in its place
 within_set : (ws : List Wanted) (os : List Owed) (n : ℕ) (o : Owed) → AllByRecursion (IsWithin ws) os → IsWithin ws o → AllByRecursion (IsWithin ws) (slice_set os n o)

@@ -1,6 +1,6 @@
 -- A cell that gets its number beside an item: what was noted and counted, and what is outside.
 -- `x` is an item, `s` a state, `log` a log, `n` a number of steps and `k` one of cells; the second of two is what there is afterwards. `b` is what was built.
-use Rattle.std.proofs.Common.{◌≡◌, ◌≤◌, ℕ, ◌+◌, List, [], ◌∷◌, length, Result, Ok, Err, IsErrAnd, refl, sym, ap, ◌∙◌, subst, arith, length-append}
+use Rattle.std.proofs.Common.{◌≡◌, ◌≤◌, ℕ, ◌+◌, [], ◌∷◌, length, Result, IsErrAnd, refl, sym, ap, ◌∙◌, subst, arith, length-append}
 use Rattle.std.proofs.lemmas.List.{length-map}
 use Rattle.nd_types.specs.declared.types.Class.{Class}
 use Rattle.nd_types.specs.declared.types.TypeId.{TypeId}

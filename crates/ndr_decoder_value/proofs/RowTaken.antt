@@ -1,6 +1,6 @@
 -- A row of numbers, from what its calls answered.
 -- `m` is the machine before, `p` the primitive, `os` are the octets that came.
-use Rattle.std.proofs.Common.{◌≡◌, ◌<◌, ◌≤◌, ℕ, ◌+◌, ◌-◌, ◌*◌, ◌/◌, ◌%◌, ◌^◌, List, [], ◌∷◌, length, take, min, Some, Result, Ok, Err, IfOk, IfErr, IsErrOf, IsErrAnd, refl, sym, ap, ap₂, ◌∙◌, subst, arith, mul-pos}
+use Rattle.std.proofs.Common.{◌≡◌, ◌<◌, ◌≤◌, ℕ, ◌+◌, ◌-◌, ◌*◌, ◌/◌, ◌%◌, ◌^◌, List, length, take, min, Some, Result, Ok, Err, IfOk, IfErr, IsErrOf, IsErrAnd, refl, sym, ap, ◌∙◌, subst, arith, mul-pos}
 use Rattle.std.specs.Prelude.{slice_get}
 use Rattle.std.specs.Io.KnownBytes.{Consumes}
 use Rattle.nd_base.specs.declared.octets.Order.{Order}
@@ -11,7 +11,6 @@ use Rattle.nd_types.specs.declared.types.Primitive.TheVariants.{Boolean, Char, B
 use Rattle.nd_types.specs.declared.types.TypeId.{TypeId}
 use Rattle.nd_types.specs.Number.{AreOctets}
 use Rattle.nd_types.specs.Table.{width}
-use Rattle.nd_value.specs.Logged.{Logged}
 use Rattle.nd_value.specs.declared.item.Home.{Home}
 use Rattle.nd_value.specs.declared.item.Item.{Item}
 use Rattle.ndr_code.specs.declared.instr.Instr.{Instr}
@@ -27,7 +26,6 @@ use Rattle.ndr_decoder_laws.specs.runs.Rows.{IsInRow, row_items, row_read}
 use Rattle.ndr_decoder_state.specs.declared.fault.DecodeFault.{DecodeFault}
 use Rattle.ndr_decoder_state.specs.declared.fault.DecodeFault.TheVariants as fault
 use Rattle.ndr_decoder_state.specs.declared.fault.Progress.{Progress}
-use Rattle.ndr_decoder_state.specs.declared.fault.Progress.TheVariants as progress
 use Rattle.ndr_decoder_state.specs.declared.machine.Machine.{Machine}
 use Rattle.ndr_decoder_state.specs.Seen.{state_of, Does}
 use Rattle.ndr_decoder_state.specs.Notes.{NotesSeen, all_noted}

@@ -1,6 +1,6 @@
 -- A row of numbers that is read in one go: what a turn comes to, where its octets came, and where they did not all come.
 -- `p` is the primitive, `count` how many numbers were wanted, `m` how many came whole, `os` are the octets that came, `s0` is the state before.
-use Rattle.std.proofs.Common.{◌≡◌, ◌<◌, ◌≤◌, ℕ, ◌+◌, ◌-◌, ◌*◌, ◌/◌, ◌%◌, zero, suc, List, [], ◌∷◌, ◌++◌, length, take, drop, Some, Result, Ok, Err, refl, sym, ap, ap₂, ◌∙◌, subst, arith, take-take, take-append-drop, length-take-le, length-drop, append-nil, mul-le-mul_right}
+use Rattle.std.proofs.Common.{◌≡◌, ◌<◌, ◌≤◌, ℕ, ◌+◌, ◌-◌, ◌*◌, ◌/◌, ◌%◌, zero, suc, List, [], ◌∷◌, ◌++◌, length, take, drop, Some, Err, refl, sym, ap, ap₂, ◌∙◌, subst, arith, take-take, take-append-drop, length-take-le, length-drop}
 use Rattle.std.proofs.lemmas.List.{drop-take, nil_from_length}
 use Rattle.std.specs.Prelude.{slice_get}
 use Rattle.std.specs.Io.KnownBytes.{Consumes}
@@ -15,7 +15,6 @@ use Rattle.nd_types.specs.Table.{width}
 use Rattle.nd_value.specs.declared.item.Home.{Home}
 use Rattle.nd_value.specs.declared.item.Item.{Item}
 use Rattle.nd_value.specs.declared.item.ItemKind.TheVariants as item
-use Rattle.nd_grammar.specs.declared.reason.Reason.{Reason}
 use Rattle.nd_grammar.specs.declared.reason.Reason.TheVariants as reason
 use Rattle.ndr_code.specs.declared.instr.Instr.{Instr}
 use Rattle.ndr_code.specs.declared.instr.Instr.TheVariants as op
@@ -27,13 +26,12 @@ use Rattle.ndr_code.specs.Fields.{prim_of}
 use Rattle.ndr_decoder_laws.specs.steps.StepItems.{item_here}
 use Rattle.ndr_decoder_laws.specs.steps.Good.{IsCut}
 use Rattle.ndr_decoder_laws.specs.runs.Reaching.{Reaches, IsSafe, begins}
-use Rattle.ndr_decoder_laws.specs.runs.Rows.{row_read, row_passed, row_items, IsInRow, HasLeft}
+use Rattle.ndr_decoder_laws.specs.runs.Rows.{row_read, row_passed, row_items, IsInRow}
 use Rattle.ndr_decoder_laws.proofs.runs.RowSteps.{row_right, row_on}
 use Rattle.ndr_decoder_state.specs.declared.fault.DecodeFault.{DecodeFault}
 use Rattle.ndr_decoder_state.specs.declared.fault.DecodeFault.TheVariants as fault
 use Rattle.ndr_decoder_state.specs.Notes.{NotesSeen, all_noted, ticks}
-use Rattle.ndr_decoder_value.specs.Notes.{IsRowPart}
-use Rattle.ndr_decoder_value.specs.Reaching.{IsLogged, IsLoggedPart, Moves, End, EndsBad, EndsCutOff, EndsFault, Fetches}
+use Rattle.ndr_decoder_value.specs.Reaching.{IsLogged, Moves, End, EndsCutOff, EndsFault, Fetches}
 
 -- ## Numbers and octets
 
@@ -122,11 +120,6 @@ fewer_left : (code : List Instr) (p : Primitive) (n m pc : ℕ) (f : Frame) → 
 fewer_left code p n m pc frame.Home e i = i
 fewer_left code p n m pc (frame.Record back first) e i = i
 fewer_left code p n m pc (frame.Elements left run back) e i = let l : m ≤ left = i.0 in (omega (arith, e, l), i.1)
-
-pub row_left : (code : List Instr) (p : Primitive) (n pc : ℕ) (f : Frame) → IsInRow code n pc p f → HasLeft n f
-row_left code p n pc frame.Home i = i
-row_left code p n pc (frame.Record back first) i = i
-row_left code p n pc (frame.Elements left run back) i = i.0
 
 module _ (values : List EnumList) (order : Order) (code : List Instr) (h : Home) (s0 : State) (p : Primitive) (of : TypeId) (count : ℕ)
     (there : slice_get code s0.pc ≡ Some (op.Num of)) (is : prim_of of.0 ≡ p) (row : IsInRow code (count - 1) s0.pc p s0.top) (aligned : s0.at % width p ≡ 0)

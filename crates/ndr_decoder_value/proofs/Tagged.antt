@@ -1,13 +1,10 @@
 -- Numbers that are values of a type, tags and arms.
 -- `s` is a state before, `t` one after a part of the step, `z` a value, `o` an outcome.
-use Rattle.std.proofs.Common.{◌≡◌, ℕ, ℤ, Bool, true, false, List, [], ◌∷◌, Option, Some, None, Result, refl, sym, ap, ◌∙◌, subst}
+use Rattle.std.proofs.Common.{◌≡◌, ℕ, ℤ, Bool, true, false, List, Option, Some, None, refl, sym, ap, ◌∙◌}
 use Rattle.std.specs.Prelude.{eqb, if◌then◌else◌, not}
 use Rattle.nd_base.specs.declared.octets.Order.{Order}
-use Rattle.nd_types.specs.declared.types.Primitive.{Primitive}
 use Rattle.nd_types.specs.Number.{value_of_octets}
 use Rattle.nd_types.specs.Table.{width}
-use Rattle.nd_value.specs.declared.item.Home.{Home}
-use Rattle.nd_value.specs.declared.item.ItemKind.TheVariants as item
 use Rattle.nd_value.specs.Tree as tree
 use Rattle.nd_flat.specs.FlatForm.{armed_count}
 use Rattle.nd_grammar.specs.declared.reason.Reason.TheVariants as reason
@@ -15,53 +12,13 @@ use Rattle.nd_grammar.specs.Refusal.{is_enumerator}
 use Rattle.ndr_code.specs.declared.lists.EnumList.{EnumList}
 use Rattle.ndr_decoder_laws.specs.reader.Points.{TagForm}
 use Rattle.ndr_decoder_laws.specs.declared.frame.Frame.TheVariants as frame
-use Rattle.ndr_decoder_laws.specs.steps.Steps.{State, Outcome, goes, refused, next, past, with_node, with_tag, done_after, number_step, tag_step, form_by, arm_taken, Phase, jumped, pushed}
-use Rattle.ndr_decoder_state.specs.declared.fault.DecodeFault.{DecodeFault}
-use Rattle.ndr_decoder_laws.specs.steps.StepItems.{next_item, number_items}
-use Rattle.ndr_decoder_state.specs.Notes.{Noted, NotesSeen}
-use Rattle.ndr_decoder_state.specs.Seen.{Does}
+use Rattle.ndr_decoder_laws.specs.steps.Steps.{State, goes, refused, next, past, with_node, with_tag, tag_step, form_by, arm_taken, Phase, jumped, pushed}
 use Rattle.ndr_decoder_value.specs.Parts.{arm_entered}
 
 -- ## Numbers
 
 module _ (values : List EnumList) (order : Order) (os : List ℕ) where
-  pub number_refused : (p : Primitive) (enums : Option (List ℤ)) (s : State) (z : ℤ) → z ≡ value_of_octets order p os → is_enumerator enums z ≡ false
-      → number_step values order os p enums s ≡ refused s.at reason.EnumValue
-  number_refused p enums s z e h =
-      ap (λ (b : Bool). if b then goes (done_after (width p) (with_node (tree.Num (value_of_octets order p os), 0) None s)) else refused s.at reason.EnumValue)
-      (ap (is_enumerator enums) (sym e) ∙ h)
-
-  pub number_taken : (p : Primitive) (enums : Option (List ℤ)) (s : State) (z : ℤ) (n : ℕ) → z ≡ value_of_octets order p os → n ≡ width p → is_enumerator enums z ≡ true
-      → number_step values order os p enums s ≡ goes (done_after n (with_node (tree.Num z, 0) None s))
-  number_taken p enums s z n e w h =
-      ap (λ (b : Bool). if b then goes (done_after (width p) (with_node (tree.Num (value_of_octets order p os), 0) None s)) else refused s.at reason.EnumValue)
-      (ap (is_enumerator enums) (sym e) ∙ h)
-      ∙ ap (λ (y : ℤ). goes (done_after (width p) (with_node (tree.Num y, 0) None s))) (sym e)
-      ∙ ap (λ (k : ℕ). goes (done_after k (with_node (tree.Num z, 0) None s))) (sym w)
-
-  -- what is noted of a number that is not refused
-  pub number_noted : (p : Primitive) (enums : Option (List ℤ)) (s : State) (h : Home) (z : ℤ) (n : ℕ) (notes : NotesSeen) (r : Result (Unit {0}) DecodeFault)
-      → z ≡ value_of_octets order p os → n ≡ width p → is_enumerator enums z ≡ true
-      → Noted (goes (done_after n (with_node (tree.Num z, 0) None s))) (next_item h s item.Num n z ∷ []) notes r
-      → Noted (number_step values order os p enums s) (number_items order h os p s) notes r
-  number_noted p enums s h z n notes r e w t x =
-      subst (λ (o : Outcome). Noted o (number_items order h os p s) notes r) (sym (number_taken p enums s z n e w t))
-      (subst (λ (k : ℕ). Noted (goes (done_after n (with_node (tree.Num z, 0) None s))) (next_item h s item.Num k (value_of_octets order p os) ∷ []) notes r) w
-      (subst (λ (y : ℤ). Noted (goes (done_after n (with_node (tree.Num z, 0) None s))) (next_item h s item.Num n y ∷ []) notes r) e x))
-
-  -- what it does
-  pub number_does : (p : Primitive) (enums : Option (List ℤ)) (s t : State) (z : ℤ) (n : ℕ) (r : Result (Unit {0}) DecodeFault)
-      → z ≡ value_of_octets order p os → n ≡ width p → is_enumerator enums z ≡ true
-      → Does (goes (done_after n (with_node (tree.Num z, 0) None s))) r t → Does (number_step values order os p enums s) r t
-  number_does p enums s t z n r e w h x = subst (λ (o : Outcome). Does o r t) (sym (number_taken p enums s z n e w h)) x
-
   -- ## Tags
-
-  pub tag_refused : (form : TagForm) (s : State) (z : ℤ) → z ≡ value_of_octets order form.prim os → is_enumerator form.values z ≡ false
-      → tag_step values order os form s ≡ refused s.at reason.EnumValue
-  tag_refused form s z e h =
-      ap (λ (b : Bool). if b then goes (next (with_tag (value_of_octets order form.prim os) form.prim s)) else refused s.at reason.EnumValue)
-      (ap (is_enumerator form.values) (sym e) ∙ h)
 
   pub tag_known : (form : TagForm) (s : State) (z : ℤ) → z ≡ value_of_octets order form.prim os → is_enumerator form.values z ≡ true
       → tag_step values order os form s ≡ goes (next (with_tag z form.prim s))

@@ -1,25 +1,14 @@
 -- What a turn may take for granted: at the state before it, and of the octets that came.
 -- `m` is the machine before the turn.
-use Rattle.std.proofs.Common.{◌≡◌, ◌<◌, ◌≤◌, ℕ, ◌+◌, ◌^◌, suc, List, [], ◌∷◌, length, get_or, Some, Result, Ok, Err, IfOk, sym, ◌∙◌, subst, arith}
+use Rattle.std.proofs.Common.{◌≡◌, ◌<◌, ℕ, ◌+◌, ◌^◌, List, length, Some, sym, ◌∙◌, subst, arith}
 use Rattle.std.specs.Prelude.{slice_get}
 use Rattle.std.proofs.lemmas.Option.{same_Some, slice_get_within}
-use Rattle.nd_base.specs.declared.octets.Order.{Order}
-use Rattle.nd_base.specs.declared.TheConstants.{STREAM_LIMIT}
-use Rattle.nd_types.specs.Number.{AreOctets}
-use Rattle.nd_value.specs.declared.item.Home.{Home}
 use Rattle.ndr_code.specs.declared.instr.Instr.{Instr}
-use Rattle.ndr_code.specs.declared.lists.EnumList.{EnumList}
-use Rattle.ndr_decoder_laws.specs.steps.Steps.{State, Want, no_octets, gap_of, item_of, IsInner}
-use Rattle.ndr_decoder_laws.specs.steps.Good.{HasOctets}
-use Rattle.ndr_decoder_laws.specs.runs.Reaching.{IsSafe, begins}
+use Rattle.ndr_decoder_laws.specs.steps.Steps.{State, IsInner}
+use Rattle.ndr_decoder_laws.specs.runs.Reaching.{IsSafe}
 use Rattle.ndr_decoder_state.specs.Seen.{state_of}
 use Rattle.ndr_decoder_state.specs.declared.machine.Machine.{Machine}
-use Rattle.ndr_decoder_value.specs.Parts.{HasWanted}
-use Rattle.ndr_decoder_value.proofs.Looping.{AllSafe}
 use Rattle.ndr_decoder_value.proofs.Noting.{cell_count}
-
-pub safe_here : {values : List EnumList} {order : Order} {code : List Instr} {h : Home} {s0 : State} → AllSafe values order code h s0 → IsSafe code s0
-safe_here {values} {order} {code} {h} {s0} safe = safe [] [] s0 begins
 
 pub inner_here : (code : List Instr) (s : State) (i : Instr) → IsSafe code s → slice_get code s.pc ≡ Some i → IsInner i
 inner_here code s i safe there = subst IsInner (same_Some safe.i i (sym safe.there ∙ there)) safe.inner
@@ -39,14 +28,3 @@ cells_fit code m safe =
     let few : length (state_of m).cells + 1 < 2 ^ 32 = safe.few_cells in
     let counted : length (state_of m).cells ≡ m.cells = cell_count m in
     omega (arith, few, counted)
-
--- the octets of a step are those that its instruction takes
-pub wanted_came : (w : Want) (os : List ℕ) (at : ℕ) → HasOctets w os at → HasWanted w os
-wanted_came no_octets os at has = has
-wanted_came (gap_of n) os at has = has
-wanted_came (item_of n) os at has = has.0
-
--- octets by their index
-pub octets_by_index : (os : List ℕ) → ((i : ℕ) → get_or os i 0 < 2 ^ 8) → AreOctets os
-octets_by_index [] h = tt
-octets_by_index (b ∷ os) h = (h 0, octets_by_index os (λ i. h (suc i)))

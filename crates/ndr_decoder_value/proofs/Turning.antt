@@ -1,6 +1,6 @@
 -- One step, by the octets that it wants: what a turn comes to.
 -- `i` is the instruction, `os` are the octets that came, `s0` is the state before and `s1` the one after.
-use Rattle.std.proofs.Common.{◌≡◌, ◌≤◌, ℕ, ◌+◌, List, [], ◌∷◌, ◌++◌, length, Some, Result, Ok, Err, refl, sym, ap, ◌∙◌, subst, arith}
+use Rattle.std.proofs.Common.{◌≡◌, ◌≤◌, ℕ, ◌+◌, List, [], length, Some, Result, Ok, Err, sym, subst, arith}
 use Rattle.std.proofs.lemmas.List.{append-nil}
 use Rattle.std.specs.Prelude.{slice_get}
 use Rattle.std.specs.Io.KnownBytes.{Consumes}
@@ -13,7 +13,7 @@ use Rattle.nd_grammar.specs.declared.reason.Reason.{Reason}
 use Rattle.nd_grammar.specs.declared.reason.Reason.TheVariants as reason
 use Rattle.ndr_code.specs.declared.instr.Instr.{Instr}
 use Rattle.ndr_code.specs.declared.lists.EnumList.{EnumList}
-use Rattle.ndr_decoder_laws.specs.steps.Steps.{State, goes, refused, whole, wants, step}
+use Rattle.ndr_decoder_laws.specs.steps.Steps.{State, goes, refused, wants, step}
 use Rattle.ndr_decoder_laws.specs.steps.StepItems.{step_items}
 use Rattle.ndr_decoder_laws.specs.steps.Good.{HasOctets}
 use Rattle.ndr_decoder_laws.specs.runs.Reaching.{Reaches, IsSafe, begins, steps_to}
@@ -23,7 +23,7 @@ use Rattle.ndr_decoder_state.specs.declared.fault.Progress.{Progress}
 use Rattle.ndr_decoder_state.specs.declared.fault.Progress.TheVariants as progress
 use Rattle.ndr_decoder_state.specs.Seen.{Comes}
 use Rattle.ndr_decoder_state.specs.Notes.{NotesSeen, IsNotedPart, nothing_noted, all_are_noted, Noted, ticks}
-use Rattle.ndr_decoder_value.specs.Reaching.{IsLogged, IsLoggedPart, Moves, End, EndsWhole, EndsBad, EndsCutOff, EndsFault, Turns, Fetches}
+use Rattle.ndr_decoder_value.specs.Reaching.{IsLogged, IsLoggedPart, End, EndsBad, EndsCutOff, EndsFault, Turns, Fetches}
 use Rattle.ndr_decoder_value.proofs.Outcomes.{IsOwnRefusal, step_own}
 
 module _ (values : List EnumList) (order : Order) (code : List Instr) (h : Home) (s0 s1 : State) (source : SourceSeen) (n : NotesSeen) (i : Instr) (os : List ℕ) where

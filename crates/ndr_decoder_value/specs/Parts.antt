@@ -1,18 +1,15 @@
 -- Parts of steps, as the code has functions for them.
 -- `s` is a state, `x` what is kept of a node, `n` an offset or a pointer's number, `c` a count.
-use Rattle.std.specs.Prelude.{◌≡◌, ◌≤◌, ◌<◌, ◌⊎◌, ℕ, ◌+◌, ◌-◌, ℤ, pos, Bool, true, false, eqb, ltb, if◌then◌else◌, List, [], ◌∷◌, ◌++◌, length, take, drop, slice_get, Option, Some, None, Result, Ok, Err, option_map}
+use Rattle.std.specs.Prelude.{◌≡◌, ℕ, ◌+◌, ◌-◌, ℤ, Bool, true, false, eqb, ltb, if◌then◌else◌, List, [], ◌∷◌, ◌++◌, length, take, drop, slice_get, Option, Some, None, Result, Ok, Err, option_map}
 use Rattle.std.specs.Ordering.{int_eq}
 use Rattle.nd_base.specs.declared.octets.Order.{Order}
 use Rattle.nd_types.specs.declared.types.Attr.{Attr}
 use Rattle.nd_types.specs.declared.types.Class.{Class}
 use Rattle.nd_types.specs.declared.types.Class.TheVariants.{Full}
 use Rattle.nd_types.specs.declared.types.TypeId.{TypeId}
-use Rattle.nd_types.specs.declared.types.Primitive.{Primitive}
 use Rattle.nd_types.specs.Number.{unsigned}
-use Rattle.nd_types.specs.Table.{width}
 use Rattle.nd_value.specs.Agreement.{Agreement, agreement}
 use Rattle.nd_value.specs.Tree as tree
-use Rattle.nd_value.specs.Tree.{Flat}
 use Rattle.nd_grammar.specs.declared.reason.Reason.{Reason}
 use Rattle.nd_grammar.specs.declared.reason.Reason.TheVariants as reason
 use Rattle.nd_grammar.specs.Entry.{gap}
@@ -30,9 +27,8 @@ use Rattle.ndr_decoder_laws.specs.declared.first.First.{First}
 use Rattle.ndr_decoder_laws.specs.declared.first.First.TheVariants as first
 use Rattle.ndr_decoder_state.specs.declared.fault.DecodeFault.{DecodeFault}
 use Rattle.ndr_decoder_state.specs.declared.fault.DecodeFault.TheVariants as fault
-use Rattle.ndr_decoder_laws.specs.declared.frame.Frame.{Frame}
 use Rattle.ndr_decoder_laws.specs.declared.frame.Frame.TheVariants as frame
-use Rattle.ndr_decoder_laws.specs.steps.Steps.{State, Outcome, Owed, goes, refused, next, jumped, past, pushed, popped, with_node, with_frames, with_members, checked, first_number, first_found, place_of, place_in, done_after, elements, own_by, firsts_by, arm_taken, Want, no_octets, gap_of, item_of, owing, new_cell, full_by, Phase, begun, gap_read, offset_read, count_read, step}
+use Rattle.ndr_decoder_laws.specs.steps.Steps.{State, Outcome, Owed, goes, refused, next, jumped, past, pushed, with_node, checked, first_number, first_found, place_of, place_in, done_after, elements, arm_taken, Want, no_octets, gap_of, item_of, owing, new_cell, full_by, Phase, begun, gap_read, offset_read, count_read, step}
 
 -- ## Octets and instructions
 

@@ -1,7 +1,7 @@
 -- What a run of the code over octets comes to, from a state on, by its steps (`ndr_decoder_laws: specs/Reaching`).
 -- `s0` is the state at the beginning, `s` one that was reached, `fetched` are the octets of the steps so far and `noted` their items, `os` the octets of
 -- one step, `i` is an instruction.
-use Rattle.std.specs.Prelude.{◌≡◌, ◌≤◌, ℕ, ◌+◌, true, List, [], ◌++◌, length, slice_get, Option, Some, Result, Ok, Err}
+use Rattle.std.specs.Prelude.{◌≡◌, ◌≤◌, ℕ, ◌+◌, true, List, [], ◌++◌, length, slice_get, Some, Result, Ok, Err}
 use Rattle.std.specs.Io.KnownBytes.{Consumes, IsAtEnd}
 use Rattle.nd_base.specs.declared.octets.Order.{Order}
 use Rattle.nd_base.specs.declared.TheConstants.{STREAM_LIMIT}

@@ -1,7 +1,7 @@
 -- A drain over an interface, from the beginning to its answer.
 -- Of the intake `b` is what was seen at the beginning and `first` after the head; `l0`, `l1`, `l2` are what the source had left at the beginning, after the head and at the end, and
 -- so for the faults, the log and the steps.
-use Rattle.std.proofs.Common.{◌≡◌, ◌≤◌, ◌<◌, ◌∙◌, ap, sym, refl, subst, ℕ, Bool, List, length, Option, Some, None, arith}
+use Rattle.std.proofs.Common.{◌≡◌, ◌≤◌, ◌∙◌, sym, refl, subst, ℕ, Bool, List, length, Option, Some, arith}
 use Rattle.std.specs.List.{slice_get}
 use Rattle.nd_base.specs.declared.octets.Order.{Order}
 use Rattle.nd_types.specs.declared.interface.Interface.{Interface}
@@ -16,7 +16,7 @@ use Rattle.ndr_decoder_state.specs.declared.fault.DecodeFault.{DecodeFault}
 use Rattle.ndr_pipe.specs.End.{EndSeen}
 use Rattle.ndr_drain_reader.specs.Calls.{HasBegun, HasHead, IsHeadCause}
 use Rattle.ndr_drain_reader.specs.Seen.{IntakeSeen}
-use Rattle.ndr_drain.specs.Drained.{AreTooFew, IsCutInHead, IsDrainCause, IsDrained}
+use Rattle.ndr_drain.specs.Drained.{IsCutInHead, IsDrainCause, IsDrained}
 use Rattle.ndr_drain.specs.Faults.{fault_of}
 use Rattle.ndr_drain.specs.Given.{pipe_count}
 use Rattle.ndr_drain.specs.Turns.{IsReadToEnd, OfSetting, StopsUnderWay}
@@ -83,26 +83,6 @@ module _ (i tie : Interface) (n : ℕ) (side : Side) (order : Order) (q : Option
       let O : Order → Type 0 = λ x. IsHeadCause (setting_beside i o side q) x (over l0 l1 e1 f0 f1) (decoding_seen g0 g1 n0 n1) f in
       not_begun (setting_beside i o side q) order (over l0 l1 e1 f0 f1) (decoding_seen g0 g1 n0 n1) ends f r e
       (subst O begins.order_is (subst S begins.side_is (subst J (begins.interface_is ∙ tied) (h o there'))))
-
-  -- there are as many pipes as are left at the beginning
-  pub wanted_is : (o : Operation) → slice_get i.operations n ≡ Some o → b.left ≡ pipe_count (setting_beside i o side q)
-  wanted_is o there =
-      let A : Interface → Type 0 = λ j. slice_get j.operations n ≡ Some o in
-      let begins : HasBegun tie n o side order b = begun o (subst A (sym tied) there) in
-      begins.left ∙ ap (λ (j : Interface). pipe_count (setting_beside j o side None)) tied
-
-  -- there are too few ends
-  pub too_few : (wanted found : ℕ) → wanted ≡ b.left → found ≡ length ends → found < wanted → (o : Operation) → slice_get i.operations n ≡ Some o
-      → AreTooFew (setting_beside i o side q) (over l0 l0 e1 f0 f0) (ends_to ends ends) (decoding_seen g0 g0 n0 n0) wanted found
-  too_few wanted found w f less o there = record {
-    wanted_is = w ∙ wanted_is o there;
-    found_is = f;
-    too_few = less;
-    untouched = record { nothing_taken = refl; no_fault = refl };
-    none_given = refl;
-    none_logged = refl;
-    none_counted = refl;
-  }
 
 -- out of memory before anything was read
 pub no_memory : (i : Interface) (n : ℕ) (o : Operation) (side : Side) (order : Order) (q : Option Graph) (l : Option (List ℕ)) (e : Bool) (f : ℕ) (ends : List EndSeen) (g : Logged) (m : ℕ)

@@ -83,10 +83,6 @@ piece_given before now later at octets piece rest w h = record {
   still_open = let P : List EndSeen → Type 0 = λ l. IsOpenAt l at in subst P (sym h) (open_given now at piece w.still_open);
 }
 
--- all was given
-pub all_given : (before now : List EndSeen) (at : ℕ) (octets : List ℕ) → IsPartWay before now at octets [] → now ≡ change_at at (with_octets octets) before
-all_given before now at octets w = w.given ∙ ap (λ l. change_at at (with_octets l) before) (sym (w.split ∙ append-nil w.done))
-
 -- what was given and a prefix of the next piece are a prefix of all
 front : (octets done piece rest : List ℕ) (cut : ℕ) → octets ≡ done ++ (piece ++ rest) → take (length (done ++ take cut piece)) octets ≡ done ++ take cut piece
 front octets done piece rest cut h =

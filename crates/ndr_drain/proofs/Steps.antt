@@ -1,6 +1,6 @@
 -- One chunk that is read and given.
 -- `w` is a setting, `i` an intake, `vs` are the elements of the chunk, `which` is the number of the end.
-use Rattle.std.proofs.Common.{◌≡◌, ◌≤◌, ◌∙◌, ap, sym, refl, subst, ℕ, List, [], ◌∷◌, length, Some, None, arith, inl, inr}
+use Rattle.std.proofs.Common.{◌≡◌, ◌≤◌, ◌∙◌, ap, sym, subst, ℕ, List, [], ◌∷◌, length, Some, None, arith, inr}
 use Rattle.std.specs.List.{AllByRecursion}
 use Rattle.std.specs.Prelude.{take}
 use Rattle.nd_base.specs.Over.{SourceSeen}
@@ -10,19 +10,15 @@ use Rattle.nd_value.specs.Setting.{Setting}
 use Rattle.nd_value.specs.Tree.{Tree}
 use Rattle.text_grammar.specs.Sound.{IsSound}
 use Rattle.text_printer.proofs.Fits.{sound_nodes}
-use Rattle.ndr_decoder_state.specs.declared.fault.DecodeFault.{DecodeFault}
-use Rattle.ndr_decoder_state.specs.declared.fault.DecodeFault.TheVariants as decode
 use Rattle.nd_grammar.specs.decoded.Verdict.{DecodingSeen}
 use Rattle.ndr_drain_laws.specs.parts.Parts.{IsElement, elem_at, no_graph}
 use Rattle.ndr_pipe.specs.End.{EndSeen, with_octets, ended}
 use Rattle.ndr_pipe.specs.Ends.{FailsAt, change_at}
-use Rattle.ndr_drain_reader.specs.Calls.{IsAnswered, IsChunkCause}
+use Rattle.ndr_drain_reader.specs.Calls.{IsAnswered}
 use Rattle.ndr_drain_reader.specs.Seen.{IntakeSeen}
-use Rattle.ndr_drain.specs.Faults.{fault_of}
 use Rattle.ndr_drain.specs.Given.{chunk_lines, end_after, end_of_root}
 use Rattle.ndr_drain.specs.Lines.{lines}
 use Rattle.ndr_drain.specs.Turns.{AreCut, HasPassed, IsStepCause}
-use Rattle.ndr_drain.specs.declared.fault.DrainFault.{DrainFault}
 use Rattle.ndr_drain.specs.declared.fault.DrainFault.TheVariants as fault
 use Rattle.ndr_drain.specs.declared.fault.GiveFault.TheVariants as give
 
@@ -86,13 +82,3 @@ end_failed w types same i now s t vs which of ends ends_now a e f g = record {
 pub finish_failed : (w : Setting) (i now : IntakeSeen) (s : SourceSeen) (t : DecodingSeen) (which : ℕ) (ends ends_now : List EndSeen) → IsAnswered w s t i now None
     → which ≡ end_of_root w i.spot.root → FailsAt ends ends_now which [] → IsStepCause w i s (record { before = ends; now = ends_now }) t (fault.EndFailed which)
 finish_failed w i now s t which ends ends_now a e g = record { elements = []; now = now; read = a; which_is = e; failed = g }
-
--- a fault of the intake is one of the step, and the ends are as before
-pub not_read : (w : Setting) (i : IntakeSeen) (s : SourceSeen) (t : DecodingSeen) (ends : List EndSeen) (f : DecodeFault) (r : DrainFault) → r ≡ fault_of f → IsChunkCause w i s t f
-    → IsStepCause w i s (record { before = ends; now = ends }) t r
-not_read w i s t ends f r e h = let P : DrainFault → Type 0 = λ x. IsStepCause w i s (record { before = ends; now = ends }) t x in subst P (sym e) (go f h)
-  where
-    go : (f : DecodeFault) → IsChunkCause w i s t f → IsStepCause w i s (record { before = ends; now = ends }) t (fault_of f)
-    go decode.Memory h = inl (h, refl)
-    go decode.ReadFault h = (h.0, h.1, refl)
-    go (decode.Bad place why) h = (h, refl)

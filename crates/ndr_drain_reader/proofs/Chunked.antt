@@ -1,10 +1,8 @@
 -- A chunk that was read, and the intake after it.
 -- `i` is the intake before, `o` its operation, `m` the machine that read the chunk, `s` the source over the call, `t` the log and the steps over it.
-use Rattle.std.proofs.Common.{◌≡◌, ◌≤◌, ◌<◌, ◌-◌, ◌*◌, ◌^◌, ℕ, ◌+◌, zero, suc, Bool, List, [], ◌∷◌, ◌++◌, length, Option, Some, None, Result, Ok, Err, IsErrAnd, refl, ap, ap₂, sym, ◌∙◌, subst, length-append, arith}
-use Rattle.std.specs.Prelude.{IfErr, IfOk}
+use Rattle.std.proofs.Common.{◌≡◌, ◌≤◌, ◌<◌, ◌-◌, ◌*◌, ℕ, ◌+◌, suc, Bool, List, [], ◌∷◌, ◌++◌, length, Option, Some, None, refl, ap, ap₂, sym, ◌∙◌, subst, length-append, arith}
 use Rattle.std.specs.Io.KnownBytes.{Consumes}
 use Rattle.std.specs.List.{slice_get}
-use Rattle.nd_base.specs.declared.octets.Order.{Order}
 use Rattle.nd_base.specs.declared.TheConstants.{STREAM_LIMIT}
 use Rattle.nd_base.specs.Over.{Count, SourceSeen}
 use Rattle.nd_types.specs.declared.types.Operation.{Operation}
@@ -12,22 +10,20 @@ use Rattle.nd_value.specs.declared.value.Graph.{Graph}
 use Rattle.nd_value.specs.declared.item.Home.{Home}
 use Rattle.nd_value.specs.declared.item.Home.TheVariants as home
 use Rattle.nd_value.specs.Logged.{Logged}
-use Rattle.nd_value.specs.Setting.{Setting, unread}
+use Rattle.nd_value.specs.Setting.{Setting}
 use Rattle.nd_value.specs.Tree as tree
-use Rattle.nd_value.specs.Tree.{Flat, Referent, Tree, Trees, flat, items, more, node, node_count, none, trees, unflat-of}
-use Rattle.nd_flat.specs.Building.{Building, CanClose, CanCloseAt, HasNoUnread, closed, put}
+use Rattle.nd_value.specs.Tree.{Referent, Tree, Trees, flat, items, more, node, node_count, none, trees, unflat-of}
+use Rattle.nd_flat.specs.Building.{CanClose, CanCloseAt, HasNoUnread, closed, put}
 use Rattle.nd_flat.specs.Forest.{first_tree, tree_in}
 use Rattle.nd_grammar.specs.FewItems.{but_gaps}
-use Rattle.ndr_decoder_state.specs.declared.fault.DecodeFault.{DecodeFault}
-use Rattle.ndr_decoder_state.specs.declared.fault.DecodeFault.TheVariants as fault
 use Rattle.ndr_decoder_state.specs.declared.machine.Machine.{Machine}
 use Rattle.nd_grammar.specs.decoded.Verdict.{DecodingSeen, HasNoted}
 use Rattle.ndr_decode.specs.Piping.{ElementsRun}
 use Rattle.ndr_decode.proofs.Standing.{idle_log, idle_source}
-use Rattle.ndr_drain_laws.specs.parts.Parts.{IsPart, Part, Spot, after, part_items}
+use Rattle.ndr_drain_laws.specs.parts.Parts.{IsPart, Spot, after, part_items}
 use Rattle.ndr_drain_laws.proofs.reader.Meeting.{gap_cut}
-use Rattle.ndr_drain_reader.specs.Calls.{HasChunk, IsAnswered, IsChunkCut, IsChunkFault, left_after}
-use Rattle.ndr_drain_reader.specs.Chunks.{HasElements, IsAtChunk, IsOpened, TakenWhole, Takes}
+use Rattle.ndr_drain_reader.specs.Calls.{IsAnswered, IsChunkCut, left_after}
+use Rattle.ndr_drain_reader.specs.Chunks.{HasElements, IsAtChunk, IsOpened, TakenWhole}
 use Rattle.ndr_drain_reader.specs.Ready.{IsReady}
 use Rattle.ndr_drain_reader.specs.Seen.{IntakeSeen, intake_seen, moved_to}
 use Rattle.ndr_drain_reader.specs.declared.intake.Intake.{Intake}
@@ -92,20 +88,6 @@ module _ (elements : List Tree) (m : Machine) (h : HasElements elements m) where
 consumes_none : (o : Option (List ℕ)) → Consumes o o []
 consumes_none None = tt
 consumes_none (Some os) = refl
-
-pub chunk_memory : {T : Type 0} (r : Result T DecodeFault) (w : Setting) (order : Order) (spot : Spot) (s : SourceSeen) (t : DecodingSeen) → IsErrAnd r (λ y. y ≡ fault.Memory) → IsChunkCut w order spot s t
-    → IfErr r (λ e. IsChunkFault w order spot s t e)
-chunk_memory (Ok x) w order spot s t is cut = tt
-chunk_memory (Err e) w order spot s t is cut = subst (IsChunkFault w order spot s t) (sym is) cut
-
-pub chunk_faulty : {T : Type 0} (r : Result T DecodeFault) (w : Setting) (order : Order) (spot : Spot) (s : SourceSeen) (t : DecodingSeen) (e : DecodeFault) → IsErrAnd r (λ y. y ≡ e) → IsChunkFault w order spot s t e
-    → IfErr r (λ e. IsChunkFault w order spot s t e)
-chunk_faulty (Ok x) w order spot s t e is cause = tt
-chunk_faulty (Err y) w order spot s t e is cause = subst (IsChunkFault w order spot s t) (sym is) cause
-
-pub same_memory : {T : Type 0} (r : Result T DecodeFault) (e : DecodeFault) → IsErrAnd r (λ y. y ≡ e) → e ≡ fault.Memory → IsErrAnd r (λ y. y ≡ fault.Memory)
-same_memory (Ok x) e is memory = is
-same_memory (Err y) e is memory = is ∙ memory
 
 module _ (i : Intake) (ready : IsReady i) (some : 0 < i.left) (o : Operation) (there : slice_get i.plan.now.tie.operations i.op ≡ Some o) where
   abbrev pub spot : Spot

@@ -1,5 +1,5 @@
 -- Items that are noted one after the other, moved by so many nodes.
-use Rattle.std.proofs.Common.{◌≡◌, ℕ, ◌+◌, arith, zero, suc, Bool, true, false, List, [], ◌∷◌, ◌++◌, map, take, drop, Option, Some, Result, Ok, Err, IsErrAnd, refl, ap, sym, ◌∙◌, append_assoc}
+use Rattle.std.proofs.Common.{◌≡◌, ℕ, ◌+◌, arith, zero, suc, Bool, true, false, List, [], ◌∷◌, ◌++◌, map, take, drop, Some, Result, Ok, Err, IsErrAnd, refl, ap, sym, ◌∙◌, append_assoc}
 use Rattle.std.specs.Prelude.{if◌then◌else◌, slice_get}
 use Rattle.nd_base.specs.declared.octets.Memory.{Memory}
 use Rattle.nd_value.specs.declared.item.Item.{Item}

@@ -1,18 +1,14 @@
 -- The gap and the count of a chunk that is read by itself.
 -- `m` is the machine before, `n` the one after, `s` the source over the call, `t` the log and the steps over it.
-use Rattle.std.proofs.Common.{◌≡◌, ◌≤◌, ◌<◌, ℕ, ◌+◌, suc, pos, List, [], ◌∷◌, ◌++◌, length, Result, Ok, Err, IsErrAnd, refl, ap, sym, ◌∙◌, subst, length-append, arith}
-use Rattle.std.specs.Io.KnownBytes.{Consumes, IsAtEnd}
+use Rattle.std.proofs.Common.{◌≡◌, ◌≤◌, ◌<◌, ℕ, ◌+◌, List, [], ◌∷◌, ◌++◌, length, Result, Ok, Err, IsErrAnd, refl, ap, sym, ◌∙◌, subst, length-append, arith}
+use Rattle.std.specs.Io.KnownBytes.{Consumes}
 use Rattle.std.proofs.lemmas.List.{append-nil}
 use Rattle.nd_base.specs.declared.octets.Order.{Order}
 use Rattle.nd_base.specs.declared.TheConstants.{STREAM_LIMIT}
 use Rattle.nd_base.specs.Over.{SourceSeen}
-use Rattle.nd_types.specs.Number.{AreOctets, unsigned}
-use Rattle.nd_value.specs.declared.item.Home.{Home}
+use Rattle.nd_types.specs.Number.{AreOctets}
 use Rattle.nd_value.specs.declared.item.Home.TheVariants as home
-use Rattle.nd_value.specs.declared.item.Item.{Item}
-use Rattle.nd_value.specs.declared.item.ItemKind.TheVariants as item
 use Rattle.nd_value.specs.Setting.{Setting}
-use Rattle.nd_value.specs.Tree.{Tree}
 use Rattle.nd_value.proofs.Apart.{all_left, all_right}
 use Rattle.nd_grammar.specs.declared.reason.Reason.{Reason}
 use Rattle.nd_grammar.specs.declared.reason.Reason.TheVariants as reason
@@ -22,15 +18,15 @@ use Rattle.nd_grammar.specs.LegalSide.{IsLegalSide}
 use Rattle.ndr_decoder_state.specs.declared.fault.DecodeFault.{DecodeFault}
 use Rattle.ndr_decoder_state.specs.declared.fault.DecodeFault.TheVariants as fault
 use Rattle.ndr_decoder_state.specs.declared.machine.Machine.{Machine}
-use Rattle.ndr_decoder_laws.specs.steps.StepItems.{gap_items, item_here}
+use Rattle.ndr_decoder_laws.specs.steps.StepItems.{gap_items}
 use Rattle.nd_grammar.specs.decoded.Verdict.{DecodingSeen, HasNoted}
 use Rattle.ndr_decoder_chunks.specs.Chunks.{HasMoved}
-use Rattle.ndr_decoder_chunks.specs.Counted.{ChunkCounted, ChunkStopped, GapStopped, UncountedChunk, count_item_at, in_the_count, in_the_gap}
+use Rattle.ndr_decoder_chunks.specs.Counted.{ChunkCounted, ChunkStopped, count_item_at, in_the_count, in_the_gap}
 use Rattle.ndr_decoder_chunks.specs.Fetched.{CountBad, CountCame, GapBad, GapCame}
 use Rattle.ndr_decode.proofs.HomeComes.{noted_as}
 use Rattle.ndr_drain_laws.specs.parts.Parts.{Spot}
 use Rattle.ndr_drain_laws.specs.reader.PartReader.{IsAtPipe, after_count, header_items, pipe_home}
-use Rattle.ndr_drain_laws.specs.reader.Outcomes.{PartCut, PartRefused, PartWhole}
+use Rattle.ndr_drain_laws.specs.reader.Outcomes.{PartRefused}
 use Rattle.ndr_drain_laws.proofs.reader.Meeting.{count_cut, count_end, count_long, count_refused, gap_cut, gap_refused}
 use Rattle.ndr_drain_reader.specs.Chunks.{Fills, FillsNot, FilledBad, FilledPart, FilledWhole, HasElements, IsOpened, TookOctets}
 
@@ -40,10 +36,6 @@ pub handed_fault : (w : Setting) (order : Order) (spot : Spot) (s : SourceSeen) 
 handed_fault w order spot s t n (Ok count) e is x = absurd is
 handed_fault w order spot s t n (Err y) e is x = subst (FillsNot w order spot s t) (sym is) x
 
-IsNotCut : Reason → Type 0
-IsNotCut reason.Truncated = ⊥
-IsNotCut why = Unit {0}
-
 pub not_cut : {P : Type 0} → reason.TooLong ≡ reason.Truncated → P
 not_cut e = cc
 
@@ -51,10 +43,6 @@ not_cut e = cc
 pub header_steps : (order : Order) (spot : Spot) (g os : List ℕ) → length (but_gaps (header_items order spot g os)) ≡ 1
 header_steps order spot [] os = refl
 header_steps order spot (o ∷ g) os = refl
-
-gap_steps : (h : Home) (at : ℕ) (g : List ℕ) → length (but_gaps (gap_items h at g)) ≡ 0
-gap_steps h at [] = refl
-gap_steps h at (o ∷ g) = refl
 
 pub none_noted : (t : DecodingSeen) → t.log_now ≡ t.log → HasNoted [] t
 none_noted t e = e ∙ noted_as [] t.log

@@ -1,6 +1,6 @@
 -- The pipe that is next, by the plan.
 -- `i` is the intake, `o` its operation.
-use Rattle.std.proofs.Common.{◌≡◌, ◌≤◌, ◌<◌, ◌-◌, ℕ, ◌+◌, zero, suc, List, [], ◌∷◌, length, Option, Some, None, refl, ap, sym, ◌∙◌, subst, arith}
+use Rattle.std.proofs.Common.{◌≡◌, ◌≤◌, ◌<◌, ◌-◌, ℕ, ◌+◌, zero, suc, List, [], ◌∷◌, length, Some, None, refl, ap, sym, ◌∙◌, subst, arith}
 use Rattle.std.specs.List.{slice_get}
 use Rattle.std.proofs.lemmas.Option.{same_Some}
 use Rattle.nd_types.specs.declared.types.Operation.{Operation}
@@ -19,7 +19,7 @@ use Rattle.nd_grammar.proofs.next.NextStream.{IsPipeRoot, all_at, drop_at}
 use Rattle.ndr_code.specs.Code.{place_at}
 use Rattle.ndr_code.specs.declared.lists.PlanLine.TheVariants as line
 use Rattle.ndr_code.specs.declared.plan.Plan.{Plan}
-use Rattle.ndr_decode.specs.Piping.{CallsPipe, ElementsRun, IsPipeBy, IsPipeLine}
+use Rattle.ndr_decode.specs.Piping.{CallsPipe, ElementsRun, IsPipeBy}
 use Rattle.ndr_decode.specs.Streaming.{IsSettingOf}
 use Rattle.ndr_decode.proofs.Decodes.{legal, setting}
 use Rattle.ndr_decode.proofs.PipeLines.{HasLine, first_line, one_run, pipe_line, pipes}

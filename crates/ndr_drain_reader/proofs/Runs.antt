@@ -1,7 +1,7 @@
 -- The elements of a chunk that is read by itself.
 -- `m` is the machine before the chunk, `n` the one after its count, `o` the one at the beginning of its elements, `z` the one at their end; `a` and `d` are what was
 -- seen of the source, and of the log and the steps, over the count, `b` and `notes` over the elements, `s` and `t` over both. `suc k` is the count.
-use Rattle.std.proofs.Common.{◌≡◌, ◌≤◌, ◌<◌, ◌-◌, ◌⊎◌, inl, inr, ℕ, ◌+◌, suc, pos, Bool, true, false, List, [], ◌∷◌, ◌++◌, length, map, Option, Some, None, refl, ap, ap₂, sym, ◌∙◌, subst, append_assoc, length-append, arith}
+use Rattle.std.proofs.Common.{◌≡◌, ◌≤◌, ◌<◌, ◌-◌, ◌⊎◌, inl, inr, ℕ, ◌+◌, suc, pos, Bool, true, false, List, [], ◌∷◌, ◌++◌, length, map, Some, None, refl, ap, ap₂, sym, ◌∙◌, subst, append_assoc, length-append, arith}
 use Rattle.std.specs.Prelude.{if◌then◌else◌, not, cond}
 use Rattle.std.specs.Io.KnownBytes.{Consumes, IsAtEnd}
 use Rattle.std.proofs.KnownBytes.{Consumes-trans}
@@ -20,7 +20,7 @@ use Rattle.nd_value.specs.declared.item.Item.{Item}
 use Rattle.nd_value.specs.Logged.{Logged}
 use Rattle.nd_value.specs.Setting.{Setting}
 use Rattle.nd_value.specs.Tree as tree
-use Rattle.nd_value.specs.Tree.{Flat, Tree, Trees, Referent, flat, items, more, node, none, trees, trees-items}
+use Rattle.nd_value.specs.Tree.{Tree, Trees, Referent, flat, items, more, node, none, trees, trees-items}
 use Rattle.nd_value.proofs.Apart.{all_append}
 use Rattle.nd_flat.specs.Building.{Building, raised, with_nodes}
 use Rattle.nd_grammar.specs.declared.reason.Reason.{Reason}
@@ -50,7 +50,7 @@ use Rattle.ndr_decoder_state.specs.declared.machine.Machine.{Machine}
 use Rattle.ndr_decoder_laws.specs.stream.Between.{AreNeeded}
 use Rattle.ndr_decoder_laws.specs.stream.Calls.{Follows}
 use Rattle.nd_grammar.specs.decoded.Verdict.{DecodingSeen, HasNoted, with_items}
-use Rattle.ndr_decoder_value.specs.Reaching.{End, EndsBad, EndsCutOff, EndsFault, EndsWhole, IsLogged, IsLoggedPart}
+use Rattle.ndr_decoder_value.specs.Reaching.{End, EndsBad, EndsFault, EndsWhole, IsLogged, IsLoggedPart}
 use Rattle.ndr_decoder_chunks.specs.Chunks.{HasMoved}
 use Rattle.ndr_decoder_chunks.specs.Counted.{ChunkCounted}
 use Rattle.ndr_decoder_chunks.specs.Opening.{BeginsElements}
@@ -64,7 +64,7 @@ use Rattle.ndr_drain_laws.specs.reader.PartReader.{IsAtPipe, after_count, before
 use Rattle.ndr_drain_laws.specs.reader.Outcomes.{OpensPart, PartCut, PartRefused, PartWhole}
 use Rattle.ndr_drain_laws.proofs.reader.Meeting.{elements_begin, elements_cut, elements_pipe, elements_refused, elements_safe, elements_whole}
 use Rattle.ndr_drain_reader.specs.Chunks.{FilledBad, FilledPart, FilledUnread, FilledWhole, FillsNot, HasElements, IsOpened, TookOctets}
-use Rattle.ndr_drain_reader.proofs.Headers.{counted_at, counted_near, gap_is, header_noted, header_stepped, none_noted, not_cut, of_count_all, of_gap_all, took_header}
+use Rattle.ndr_drain_reader.proofs.Headers.{counted_at, counted_near, gap_is, header_stepped, not_cut, of_count_all, of_gap_all, took_header}
 
 -- a count that is not 0
 pub some_is : (n : ℕ) → (n ≡ 0 → ⊥) → n ≡ suc (n - 1)
@@ -266,9 +266,6 @@ module _ (plan : Plan) (w : Setting) (legal : IsLegalSide w) (order : Order) (sp
 
       abbrev Comes : Type 0
       Comes = End plan.values order plan.code h (state_of o) b
-
-      abbrev came : Comes → List ℕ
-      came e = e.fetched ++ e.os
 
       all_of : (e : Comes) → AreOctets (e.fetched ++ e.os)
       all_of e = all_append (λ x. x < 256) e.fetched e.os (over_octets plan.values order plan.code h (state_of o) e.reached) e.octets

@@ -25,8 +25,8 @@ use Rattle.ndr_drain_laws.specs.reader.PartReader.{moved_item, moved_items}
 use Rattle.ndr_drain_laws.specs.reader.Outcomes.{PartCut}
 use Rattle.ndr_drain_laws.proofs.reader.Meeting.{fewer}
 use Rattle.ndr_drain_reader.specs.Calls.{IsChunkCounted, IsChunkCut, IsChunkFault, IsChunkRefused, IsChunkUnread}
-use Rattle.ndr_drain_reader.specs.Chunks.{Fills, FillsNot, FilledBad, FilledPart, FilledUnread, FilledWhole, TakenWhole, Takes, TookOctets}
-use Rattle.ndr_drain_reader.specs.Handing.{AreNotedPart, HandsOn}
+use Rattle.ndr_drain_reader.specs.Chunks.{Fills, FilledBad, FilledPart, FilledUnread, FilledWhole, TakenWhole, Takes}
+use Rattle.ndr_drain_reader.specs.Handing.{AreNotedPart}
 
 -- ## Items that are moved
 

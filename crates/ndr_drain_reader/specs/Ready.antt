@@ -1,6 +1,6 @@
 -- An intake as `begin` leaves it, and one whose head was read, as `head` and `chunk` leave it. Callers of these need not look inside.
 -- `i` is the intake, `o` the operation.
-use Rattle.std.specs.Prelude.{◌≡◌, ◌≤◌, ◌<◌, ℕ, ◌+◌, ◌-◌, ◌*◌, length, Some}
+use Rattle.std.specs.Prelude.{◌≡◌, ◌≤◌, ◌<◌, ◌+◌, ◌-◌, ◌*◌, length, Some}
 use Rattle.std.specs.List.{slice_get}
 use Rattle.nd_base.specs.declared.TheConstants.{STREAM_LIMIT}
 use Rattle.nd_types.specs.declared.types.Operation.{Operation}

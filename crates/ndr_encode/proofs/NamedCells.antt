@@ -35,30 +35,11 @@ numbered_more n names ds i d numbers named l x =
     subst (λ u. IsNumbered n u numbers named)
     (append_assoc names (cells_of (names_of (take i ds))) ((slice_index_or ds i d).cell.0 ∷ []) ∙ ap (λ u. names ++ u) (sym (take_more ds i d l))) x
 
--- a list that is turned around from a place on: no name is after it, or one
-pub turned_none : (xs : List Named) (i : ℕ) → length xs ≡ i → xs ≡ take i xs ++ reverse (drop i xs)
-turned_none [] zero l = refl
-turned_none [] (suc i) l = refl
-turned_none (x ∷ xs) zero l = absurd (omega (arith, l))
-turned_none (x ∷ xs) (suc i) l = ap (λ u. x ∷ u) (turned_none xs i (omega (arith, l)))
-
 pub turned_one : (xs : List Named) (i : ℕ) → length xs ≡ i + 1 → xs ≡ take i xs ++ reverse (drop i xs)
 turned_one [] i l = absurd (omega (arith, l))
 turned_one (x ∷ []) zero l = refl
 turned_one (x ∷ (y ∷ ys)) zero l = absurd (omega (arith, l))
 turned_one (x ∷ xs) (suc i) l = ap (λ u. x ∷ u) (turned_one xs i (omega (arith, l)))
-
-pub none_after : (xs : List Named) (i : ℕ) → length xs ≡ i → drop i xs ≡ []
-none_after [] zero l = refl
-none_after [] (suc i) l = refl
-none_after (x ∷ xs) zero l = absurd (omega (arith, l))
-none_after (x ∷ xs) (suc i) l = none_after xs i (omega (arith, l))
-
-pub one_after : (xs : List Named) (i : ℕ) (d : Named) → length xs ≡ i + 1 → drop i xs ≡ slice_index_or xs i d ∷ []
-one_after [] i d l = absurd (omega (arith, l))
-one_after (x ∷ []) zero d l = refl
-one_after (x ∷ (y ∷ ys)) zero d l = absurd (omega (arith, l))
-one_after (x ∷ xs) (suc i) d l = one_after xs i d (omega (arith, l))
 
 -- all that is after a place
 take_whole : (xs : List Named) → take (length xs) xs ≡ xs

@@ -1,10 +1,8 @@
 -- The canonical number of a cell, name by name.
 -- `n` is the next number, `seen` are the cells that were named before, `ds` those that are named, `c` is a cell, `e` the last one named.
 use Rattle.std.proofs.Common.{◌≡◌, inl, inr, ◌⊎◌, ℕ, ◌+◌, ◌<◌, ◌≤◌, zero, suc, Bool, true, false, List, [], ◌∷◌, ◌++◌, refl, ap, sym, ◌∙◌, subst, arith}
-use Rattle.std.specs.Prelude.{eqb, cond}
-use Rattle.std.proofs.lemmas.Bool.{eq-eqb}
-use Rattle.std.specs.Prelude.{set, get_or, length}
-use Rattle.std.proofs.lemmas.Bool.{eqb-true, eqb-false}
+use Rattle.std.specs.Prelude.{eqb, cond, set, get_or, length}
+use Rattle.std.proofs.lemmas.Bool.{eq-eqb, eqb-true, eqb-false}
 use Rattle.nd_value.specs.Canon.{has, number_from, canonical_number}
 use Rattle.nd_value.specs.Setting.{Among}
 use Rattle.nd_value.proofs.Apart.{all_append}

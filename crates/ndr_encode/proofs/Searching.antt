@@ -373,12 +373,6 @@ module _ (code : List Instr) (k : ℕ) (g : Graph) (x : Stream) (y : IsSearchabl
           known = known;
         }
 
-    pub cell_fewer : unmarked mid.placed.items < unmarked old.placed.items
-    cell_fewer =
-        let fewer : suc (unmarked (set old.placed.items c true)) ≡ unmarked old.placed.items = fewer_unmarked old.placed.items c in_room no_mark in
-        let marked : unmarked mid.placed.items ≡ unmarked (set old.placed.items c true) = ap unmarked placed_is in
-        omega (arith, fewer, marked)
-
   -- nothing that is pending is left to take a turn
   pub none_left_pending : (due : List Item) (old new : Search) → IsSearched code k g x due old → unplaced old.placed.items (pending_names old.count.names.items) ≡ [] → new.count.names.items ≡ []
       → new.turns ≡ old.turns → new.numbers ≡ old.numbers → new.named ≡ old.named → new.placed ≡ old.placed → new.count.at ≡ old.count.at → AreKnown code new.known → IsSearched code k g x due new
@@ -509,12 +503,6 @@ first_within n xs ys y e a = (subst (AllByRecursion (λ x. x.0 < n)) e a).0
 
 pub rest_within : (n : ℕ) (xs ys : List (ℕ × ℕ)) (y : ℕ × ℕ) → xs ≡ y ∷ ys → AllByRecursion (λ x. x.0 < n) xs → AllByRecursion (λ x. x.0 < n) ys
 rest_within n xs ys y e a = (subst (AllByRecursion (λ x. x.0 < n)) e a).1
-
--- a mark that is read with any default
-pub mark_default : (bs : List Bool) (i : ℕ) (a : Bool) → i < length bs → get_or bs i a ≡ get_or bs i false
-mark_default [] i a l = absurd (omega (arith, l))
-mark_default (b ∷ bs) zero a l = refl
-mark_default (b ∷ bs) (suc i) a l = mark_default bs i a (omega (arith, l))
 
 -- the first that is left has a place for its mark
 pub unplaced_room : (code : List Instr) (g : Graph) (marks : List Bool) (xs ys : List (ℕ × ℕ)) (y : ℕ × ℕ) → length marks ≡ length g.cells + 1 → AreCells g xs → unplaced marks xs ≡ y ∷ ys → y.0 < length marks

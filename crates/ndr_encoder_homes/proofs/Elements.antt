@@ -1,5 +1,5 @@
 -- Elements that go to an output, one after the other.
-use Rattle.std.proofs.Common.{◌≡◌, ℕ, ◌+◌, ◌-◌, ◌<◌, suc, List, [], ◌∷◌, ◌++◌, length, ap, sym, ◌∙◌, subst, arith, append_assoc}
+use Rattle.std.proofs.Common.{◌≡◌, ℕ, ◌+◌, ◌-◌, ◌<◌, suc, List, [], ◌++◌, length, ap, sym, ◌∙◌, subst, arith, append_assoc}
 use Rattle.nd_value.specs.Tree.{Flat}
 use Rattle.ndr_encoder_laws.specs.pieces.Pieces.{Piece}
 use Rattle.ndr_encoder_output.specs.Outputs.{Whole, Moves, Able}

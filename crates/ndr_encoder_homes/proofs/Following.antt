@@ -1,6 +1,6 @@
 -- The runs of arrays of structs of numbers and pointers, followed step by step.
 -- `left` is how many elements are left of the array in which a run is, each by the run at `by`; it goes on at `on` after them, and at `back` after the array.
-use Rattle.std.proofs.Common.{◌≡◌, ◌⊎◌, inl, inr, ℕ, ◌+◌, ◌*◌, ◌-◌, ◌^◌, ◌≤◌, ◌<◌, zero, suc, Bool, true, false, List, [], ◌∷◌, ◌++◌, length, take, Option, Some, None, refl, ap, ap₂, sym, ◌∙◌, subst, arith, append_assoc}
+use Rattle.std.proofs.Common.{◌≡◌, inl, inr, ℕ, ◌+◌, ◌*◌, ◌-◌, ◌^◌, ◌≤◌, ◌<◌, zero, suc, true, false, List, [], ◌∷◌, ◌++◌, length, take, Option, Some, None, refl, ap, ap₂, sym, ◌∙◌, subst, arith, append_assoc}
 use Rattle.std.proofs.lemmas.List.{length-take-le}
 use Rattle.std.specs.Prelude.{◌==◌, slice_index_or}
 use Rattle.std.specs.List.{slice_get}
@@ -13,8 +13,8 @@ use Rattle.ndr_encoder_laws.specs.declared.frames.Frame.TheVariants as frame
 use Rattle.ndr_encoder_laws.specs.written.Run.{here, later, after, stepped, elements, row_of, row_at, run}
 use Rattle.ndr_encoder_structs.specs.declared.members.Member.{Member}
 use Rattle.ndr_encoder_structs.specs.declared.members.StructRun.{StructRun}
-use Rattle.ndr_encoder_structs.specs.Structs.{member_gap, member_piece, member_pieces, members_pieces, members_of, struct_pieces, IsMember}
-use Rattle.ndr_encoder_homes.specs.Elements.{EndsMember, IsMemberRun, CallsMember, CallMembers, HasRecord, Begins, IsElementRun, IsArrayRun, elements_pieces, array_pieces}
+use Rattle.ndr_encoder_structs.specs.Structs.{member_gap, member_piece, member_pieces, members_pieces, members_of, struct_pieces}
+use Rattle.ndr_encoder_homes.specs.Elements.{EndsMember, CallsMember, CallMembers, Begins, IsElementRun, IsArrayRun, elements_pieces, array_pieces}
 
 -- ## Steps
 
@@ -154,9 +154,6 @@ module _ (code : List Instr) where
       }
 
   module _ (by_at : ℕ) (s : StructRun) (h : IsElementRun code by_at s) (on back : ℕ) (on_ret : slice_get code on ≡ Some op.Ret) (back_ret : slice_get code back ≡ Some op.Ret) where
-    steps_of : ℕ
-    steps_of = (element by_at s h).steps
-
     -- all elements from the end of a run on, and the ends of the array and of the home
     elements_are : (count at : ℕ) → slice_get code at ≡ Some op.Ret → (m k n : ℕ) (fs : List Flat)
         → run code m k (count * suc (element by_at s h).steps + (3 + n)) at (frame.Array count by_at on ∷ frame.Call back ∷ []) fs ≡ elements_pieces s count fs

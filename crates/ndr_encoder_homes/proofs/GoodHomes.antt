@@ -18,7 +18,7 @@ use Rattle.nd_value.specs.Nodes.{child_types}
 use Rattle.nd_value.specs.Deferral.{Pending, Due, due_roots, before_pipes, Step, Deferral, none_due, at_root, at_null, at_standing, at_referent, Placed_cells, Standing, standing_root, standing_by, standing_cell, direct, root_type, due_of}
 use Rattle.nd_value.specs.Homes.{HomeNode, in_home, root_nodes, cell_nodes, all_nodes}
 use Rattle.nd_value.specs.Misfit.{has_shape, misfit_of, names_cell, names_pointee, has_machine_values}
-use Rattle.nd_value.specs.Conforms.{Conforms, FewNodes}
+use Rattle.nd_value.specs.Conforms.{Conforms}
 use Rattle.nd_value.proofs.Apart.{all_append, all_left, all_right, all_map}
 use Rattle.nd_value.proofs.Orderly.{pointee_of_cell}
 use Rattle.nd_value.proofs.NodeFacts.{IsFit, fit_node, all_of_list}
@@ -40,11 +40,6 @@ use Rattle.ndr_encoder_laws.specs.pieces.Shown.{shown, kinds_pieces, values_piec
 use Rattle.ndr_encoder_laws.specs.pieces.Heads.{standings, homes_pieces, pipes_pieces, stream_pieces}
 use Rattle.ndr_encoder_laws.proofs.pieces.Showing.{shown_whole}
 use Rattle.ndr_encoder_homes.proofs.Fits.{Good, four_good, max_below, values_good, hoisted_good}
-
-few_of : (vs : List Tree) (i : ℕ) → FewNodes vs → node_count (more (or_unread (slice_get vs i)) none) < 2 ^ 32
-few_of [] i h = omega arith
-few_of (v ∷ vs) zero h = h.0
-few_of (v ∷ vs) (suc i) h = few_of vs i h.1
 
 pub count_few : (ks : Trees) → count ks ≤ node_count ks
 count_few none = omega arith
@@ -139,11 +134,6 @@ module _ (w : Setting) (side : IsLegalSide w) (g : Graph) (c : Conforms w g) whe
   homes_good : (xs : List Standing) → AllByRecursion Home_good xs → AllByRecursion Good (homes_pieces w.table xs)
   homes_good [] a = tt
   homes_good (x ∷ xs) a = all_append Good (shown w.table (standing_entries w.table x)) (homes_pieces w.table xs) (one_good x.home x.of x.val a.0.no_pipe a.0.trees) (homes_good xs a.1)
-
-  -- the chunks of a pipe
-  many_of : (P : ℕ → Type 0) (t k : ℕ) → P t → AllByRecursion P (replicate k t)
-  many_of P t zero a = tt
-  many_of P t (suc k) a = (a, many_of P t k a)
 
   -- so many of the elements of a pipe, as far as they are there
   take_good : (e k : ℕ) (ts : Trees) → IsNoPipe w.table e → WritableTrees w.table g (replicate (count ts) e) ts → AllByRecursion Good (values_pieces w.table (replicate k e) (take_trees k ts))

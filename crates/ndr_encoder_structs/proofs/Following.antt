@@ -135,9 +135,6 @@ closed code at e r = record {
       ∙ step_by code m k n (at + 1) [] fs (Some op.Ret) r;
 }
 
-pub closed_ended : (code : List Instr) (at : ℕ) → HasClosed code at → HasEnded code at
-closed_ended code at h = let most = h.few in record { steps = h.steps; few = omega (arith, most); same = h.same }
-
 pub checked_ended : (code : List Instr) (at : ℕ) (attr : Attr) (field var : ℕ) (star : Bool) → slice_get code at ≡ Some (op.Check attr field var star)
     → HasClosed code (past_checks (drop (at + 1) code) (at + 1)) → HasEnded code at
 checked_ended code at attr field var star e h =

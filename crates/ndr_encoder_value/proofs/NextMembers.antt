@@ -26,6 +26,3 @@ one_later (suc i) fs = one_later i (later fs)
 
 pub after_more : (i : ℕ) (fs gs hs : List Flat) → gs ≡ after i fs → hs ≡ later gs → hs ≡ after (i + 1) fs
 after_more i fs gs hs e h = h ∙ ap later e ∙ one_later i fs ∙ ap (λ k. after k fs) (let s : suc i ≡ i + 1 = omega arith in s)
-
-pub after_all : (i n : ℕ) (fs gs : List Flat) → gs ≡ after i fs → i ≡ n → gs ≡ after n fs
-after_all i n fs gs e h = e ∙ ap (λ k. after k fs) h

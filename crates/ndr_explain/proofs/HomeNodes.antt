@@ -1,6 +1,6 @@
 -- The first nodes of homes, and homes that are not there.
 -- `w` is a setting, `g` a graph, `h` a home, `i` the place of a root or a cell, `r` a root, `q` the graph of a request.
-use Rattle.std.proofs.Common.{◌≡◌, ℕ, ◌+◌, ◌-◌, ◌<◌, ◌≤◌, zero, suc, List, [], ◌∷◌, length, map, Option, None, Some, codes, decimal, refl, ap, ap₂, sym, ◌∙◌, subst, arith}
+use Rattle.std.proofs.Common.{◌≡◌, ℕ, ◌<◌, ◌≤◌, zero, suc, List, [], ◌∷◌, length, map, Option, None, Some, refl, ap, sym, ◌∙◌, subst, arith}
 use Rattle.std.specs.List.{slice_get}
 use Rattle.std.proofs.lemmas.Option.{same_Some}
 use Rattle.nd_types.specs.declared.interface.Interface.{Interface}
@@ -13,18 +13,16 @@ use Rattle.nd_value.specs.declared.value.Graph.{Graph}
 use Rattle.nd_value.specs.declared.item.Home.{Home}
 use Rattle.nd_value.specs.declared.item.Home.TheVariants as home
 use Rattle.nd_value.specs.Conforms.{Conforms}
-use Rattle.nd_value.specs.Fitting.{Fitting, IsFit, setting_beside}
+use Rattle.nd_value.specs.Fitting.{Fitting, IsFit}
 use Rattle.nd_value.specs.Setting.{Setting, root_list, root_at, cell_at, cell_of_number, unread, or_unread, cell_tree}
-use Rattle.nd_value.specs.Tree.{Tree, Trees, Flat, Referent, none, more, flat}
+use Rattle.nd_value.specs.Tree.{Tree, Trees, Referent, none, more, flat}
 use Rattle.text_grammar.specs.Paths.{home_name, home_types, home_value, node_paths, root_types, cell_types}
-use Rattle.text_grammar.specs.Written.{root_name}
-use Rattle.text_grammar.proofs.Names.{names_agree}
 use Rattle.text_printer.specs.Walks.{Begins, RootsBegin, CellsBegin}
 use Rattle.text_printer.proofs.Canonical.{fit_conforms}
 use Rattle.text_printer.proofs.Fits.{conforming_sound, roots_begin, cells_begin}
 use Rattle.ndr_explain.specs.declared.cursor.Cursor.{Cursor}
 use Rattle.ndr_explain.specs.Explained.{home_paths, home_flats, path_in, label_in, string_shown, context_shown}
-use Rattle.ndr_explain.specs.Cursors.{IsPast, IsBegun, IsSettingOf, Reaches, root_word}
+use Rattle.ndr_explain.specs.Cursors.{IsPast, IsBegun, IsSettingOf, Reaches}
 use Rattle.ndr_explain.proofs.Walks.{no_paths, path_later}
 
 get_past : {X : Type 0} (xs : List X) (i : ℕ) → length xs ≤ i → slice_get xs i ≡ None
@@ -116,13 +114,6 @@ cell_past w g c h = by_number c.0 refl h
         absent w g (home.Cell c) (ap cell_types there) (ap cell_tree there)
 
 -- ## The names of roots
-
-pub root_named : (w : Setting) (i : ℕ) → root_word (slice_get (map (named_root w.op) (root_list w)) i) ≡ home_name w (home.Root i)
-root_named w i = ap root_word (get_mapped w.op (root_list w) i) ∙ by_root (slice_get (root_list w) i)
-  where
-    by_root : (r : Option Root) → root_word (mapped w.op r) ≡ elim r [ None ↦ codes "root" | Some x ↦ root_name w.op.params x ]
-    by_root None = refl
-    by_root (Some r) = sym (names_agree w.op r)
 
 -- ## First nodes
 

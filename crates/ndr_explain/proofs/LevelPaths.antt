@@ -1,6 +1,6 @@
 -- Levels of a node's children.
 -- `L` is a level, `Ls` are levels, `p` is a path.
-use Rattle.std.proofs.Common.{◌≡◌, ℕ, ◌+◌, ◌-◌, ◌<◌, ◌≤◌, zero, suc, ℤ, List, [], ◌∷◌, ◌++◌, length, map, drop, replicate, reverse, take, add-one, Option, None, Some, codes, decimal, refl, ap, ap₂, sym, ◌∙◌, subst, append_assoc, add-zero, arith, option_map}
+use Rattle.std.proofs.Common.{◌≡◌, ℕ, ◌+◌, ◌-◌, ◌<◌, ◌≤◌, zero, suc, ℤ, List, [], ◌∷◌, ◌++◌, length, map, drop, replicate, reverse, Option, None, Some, codes, decimal, refl, ap, sym, ◌∙◌, subst, append_assoc, arith, option_map}
 use Rattle.std.specs.List.{slice_get}
 use Rattle.std.proofs.lemmas.Option.{same_Some}
 use Rattle.std.proofs.lemmas.List.{length-map, length-replicate, reverse-append, drop-drop}
@@ -17,8 +17,7 @@ use Rattle.nd_value.specs.Nodes.{child_types, selected_types}
 use Rattle.text_grammar.specs.Paths.{member_path, element_path, element_paths, arm_paths, child_paths}
 use Rattle.ndr_explain.specs.declared.levels.Level.{Level}
 use Rattle.ndr_explain.specs.declared.levels.Level.TheVariants as level
-use Rattle.ndr_explain.specs.declared.levels.Levels.{Levels}
-use Rattle.ndr_explain.specs.Cursors.{index_paths, level_types, level_paths, child_path, field_path, path_to, types_after, paths_after, types_from, paths_from, inner_types, inner_paths, IsLevelOf, AreLevelsOf, arm_path, valued_path, armed_paths, union_arm, elem_types, elem_paths, array_element, pipe_element}
+use Rattle.ndr_explain.specs.Cursors.{index_paths, level_types, level_paths, child_path, field_path, path_to, types_after, paths_after, inner_types, inner_paths, IsLevelOf, valued_path, armed_paths, union_arm, elem_types, elem_paths, array_element, pipe_element}
 
 length_indices : (p : List ℕ) (i n : ℕ) → length (index_paths p i n) ≡ n
 length_indices p i zero = refl
@@ -65,10 +64,6 @@ member_first (f ∷ fs) zero t e h =
     ap (λ (u : TypeId). u.0 ∷ map (λ f. f.of.0) fs) k
 member_first (f ∷ fs) (suc at) t e h = member_first fs at t (λ l. e (omega (arith, l))) h
 
-pub element_type : (n t : ℕ) → 0 < length (replicate n t) → replicate n t ≡ t ∷ drop 1 (replicate n t)
-element_type zero t h = absurd (omega (arith, h))
-element_type (suc n) t h = refl
-
 -- ## The next child
 
 drop_suc : {X : Type 0} (xs : List X) (n : ℕ) → drop 1 (drop n xs) ≡ drop (n + 1) xs
@@ -101,11 +96,6 @@ member_paths_on p fs at = ap (map (λ f. member_path p f.name)) (sym (drop_suc f
 
 pub some_members : (fs : List Field) (at : ℕ) → at < length fs → 0 < length (map (λ f. f.of.0) (drop at fs))
 some_members fs at h = subst (λ n. 0 < n) (sym (length-map (drop at fs) (λ f. f.of.0))) (some_dropped fs at h)
-
-pub elements_over : (t n : ℕ) → n ≤ 1 → drop 1 (replicate n t) ≡ []
-elements_over t zero h = refl
-elements_over t (suc zero) h = refl
-elements_over t (suc (suc n)) h = absurd (omega (arith, h))
 
 pub element_types_on : (t at size : ℕ) → at < size → replicate (size - (at + 1)) t ≡ drop 1 (replicate (size - at) t)
 element_types_on t at size h =
@@ -141,17 +131,6 @@ past_paths p L Ls e =
 -- the innermost of levels is the last of their list
 pub innermost : (Ls Ms : List Level) (L : Level) → Ls ≡ Ms ++ L ∷ [] → reverse Ls ≡ L ∷ reverse Ms
 innermost Ls Ms L e = ap reverse e ∙ reverse-append Ms (L ∷ [])
-
-take_one : (Ls : List Level) (i : ℕ) (L : Level) → slice_get Ls i ≡ Some L → take (suc i) Ls ≡ take i Ls ++ L ∷ []
-take_one [] i L e = cc
-take_one (M ∷ Ls) zero L e = ap (λ N. N ∷ []) (same_Some M L e)
-take_one (M ∷ Ls) (suc i) L e = ap (λ Ns. M ∷ Ns) (take_one Ls i L e)
-
--- one step more
-pub steps_on : (p : List ℕ) (Ls : List Level) (i : ℕ) (L : Level) → slice_get Ls i ≡ Some L
-    → path_to p (reverse (take (i + 1) Ls)) ≡ child_path (path_to p (reverse (take i Ls))) L
-steps_on p Ls i L e =
-    ap (path_to p) (innermost (take (i + 1) Ls) (take i Ls) L (ap (λ n. take n Ls) (add-one i) ∙ take_one Ls i L e))
 
 -- the steps after a text
 pub steps_after : (x p : List ℕ) (Ls : List Level) → path_to (x ++ p) Ls ≡ x ++ path_to p Ls

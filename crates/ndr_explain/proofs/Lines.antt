@@ -1,7 +1,7 @@
 -- The lines of items, put together.
 -- `t` and `u` are texts, `a`, `b`, .. what is added, `x` is an item.
-use Rattle.std.proofs.Common.{◌≡◌, ℕ, ℤ, List, [], ◌∷◌, ◌++◌, codes, refl, ap, ap₂, sym, ◌∙◌, append_assoc, append-nil, drop, length, ◌≤◌, ◌+◌, Some}
-use Rattle.std.specs.List.{slice_get, flat_map}
+use Rattle.std.proofs.Common.{◌≡◌, ℕ, List, [], ◌∷◌, ◌++◌, codes, refl, ap, sym, ◌∙◌, append_assoc, append-nil, drop, length, ◌≤◌, ◌+◌, Some}
+use Rattle.std.specs.List.{slice_get}
 use Rattle.nd_value.specs.declared.value.Graph.{Graph}
 use Rattle.nd_value.specs.declared.item.Home.{Home}
 use Rattle.nd_value.specs.declared.item.Item.{Item}
@@ -11,7 +11,7 @@ use Rattle.nd_value.specs.Setting.{Setting}
 use Rattle.nd_value.proofs.LocalPass.{drop-get, drop-past}
 use Rattle.text_grammar.specs.Paths.{home_name, node_paths, home_types, home_value}
 use Rattle.nd_value.specs.Tree.{more, none}
-use Rattle.ndr_explain.specs.Explained.{home_paths, path_in, item_head, item_rest, item_line, node_shown, explanation}
+use Rattle.ndr_explain.specs.Explained.{home_paths, path_in, item_rest, item_line, node_shown, explanation}
 use Rattle.ndr_explain.specs.Cursors.{IsNoGap}
 use Rattle.ndr_explain.proofs.Walks.{path_here}
 
@@ -29,10 +29,6 @@ pub own_path : (w : Setting) (g : Graph) (h : Home) (n : ℕ) → n ≡ 0 → pa
 own_path w g h n e =
     ap (path_in (home_paths w g h)) e
     ∙ path_here 0 (home_name w h) (node_paths w.table (home_types w g h) (home_name w h ∷ []) 0 (more (home_value g h) none))
-
--- the rest of a gap's line, and of another item's
-pub gap_rest : (w : Setting) (g : Graph) (x : Item) (k : ItemKind) → k ≡ kind.Gap → item_rest w g k x ≡ codes "\n"
-gap_rest w g x k e = ap (λ j. item_rest w g j x) e
 
 pub other_rest : (w : Setting) (g : Graph) (x : Item) (k : ItemKind) → IsNoGap k → item_rest w g k x ≡ codes " " ++ (node_shown w g x ++ codes "\n")
 other_rest w g x kind.Gap h = absurd h

@@ -1,30 +1,26 @@
 -- Where a cursor is, from one node to the next.
 -- `c` is a cursor, `t` the type of its node, `inner` the level of the node's children, `m` and `n` are numbers of nodes.
-use Rattle.std.proofs.Common.{◌≡◌, ℕ, ℤ, ◌+◌, ◌<◌, ◌≤◌, zero, suc, List, [], ◌∷◌, ◌++◌, length, drop, reverse, Option, None, Some, refl, ap, ap₂, sym, ◌∙◌, subst, arith, length-append}
+use Rattle.std.proofs.Common.{◌≡◌, ℕ, ℤ, ◌+◌, ◌<◌, ◌≤◌, suc, List, [], ◌∷◌, ◌++◌, length, drop, reverse, Option, None, Some, refl, ap, ap₂, sym, ◌∙◌, subst, arith, length-append}
 use Rattle.std.specs.Prelude.{IfSome, IfNone}
-use Rattle.std.specs.List.{slice_get}
 use Rattle.std.specs.declared.vec.Vec.{Vec}
 use Rattle.std.specs.declared.alloc.Global.{Global}
-use Rattle.nd_types.specs.declared.types.TypeId.{TypeId}
 use Rattle.nd_types.specs.Table.{Table}
 use Rattle.nd_value.specs.declared.value.Graph.{Graph}
 use Rattle.nd_value.specs.declared.item.Home.{Home}
 use Rattle.nd_value.specs.declared.item.ItemKind.{ItemKind}
 use Rattle.nd_value.specs.declared.item.ItemKind.TheVariants as kind
 use Rattle.nd_value.specs.Setting.{Setting}
-use Rattle.nd_value.specs.Tree.{Label, Tree, Trees, Flat, node, none, more, count, flat, take_trees}
-use Rattle.nd_flat.specs.declared.node.Seen.{Seen}
+use Rattle.nd_value.specs.Tree.{Label, Trees, Flat, node, none, more, count, flat, take_trees}
 use Rattle.nd_flat.specs.FlatForm.{flat_seen}
 use Rattle.text_grammar.specs.Paths.{home_name, node_paths}
 use Rattle.text_printer.specs.Walks.{Begins}
 use Rattle.text_printer.proofs.Walking.{has_next}
 use Rattle.ndr_explain.specs.declared.cursor.Cursor.{Cursor}
 use Rattle.ndr_explain.specs.declared.levels.Level.{Level}
-use Rattle.ndr_explain.specs.declared.levels.Level.TheVariants as level
 use Rattle.ndr_explain.specs.declared.levels.Levels.{Levels}
 use Rattle.ndr_explain.specs.declared.located.Located.{Located}
 use Rattle.ndr_explain.specs.Explained.{path_in, label_in, string_shown, context_shown, value_shown, home_paths, home_flats}
-use Rattle.ndr_explain.specs.Cursors.{level_types, level_paths, path_to, types_after, paths_after, types_from, paths_from, inner_types, inner_paths, HasChild, IsLevelOf, IsChildLevel, AreLevelsOf, IsAt, IsPast, Reaches, IsFound, IsLast, found_label}
+use Rattle.ndr_explain.specs.Cursors.{level_types, path_to, types_after, paths_after, types_from, paths_from, inner_types, inner_paths, HasChild, IsLevelOf, IsChildLevel, AreLevelsOf, IsAt, IsPast, Reaches, IsFound, IsLast, found_label}
 use Rattle.ndr_explain.proofs.LevelPaths.{path_first}
 use Rattle.ndr_explain.proofs.Walks.{ComesAfter, after_step, no_paths, none_left, path_here, path_later, drop_next, got_first, got_none}
 
@@ -169,27 +165,6 @@ past_later paths flats n m l h =
     }
 
 -- ## The first node
-
-own_first : (table : Table) (t : ℕ) (name : List ℕ) (v : Tree) (m : ℕ)
-    → path_in ((0, name) ∷ node_paths table (t ∷ []) (name ∷ []) 0 (more v none)) m ≡ path_in (node_paths table (t ∷ []) (name ∷ []) 0 (more v none)) m
-own_first table t name (node l ks) zero = refl
-own_first table t name (node l ks) (suc m) = path_later 0 (suc m) name (node_paths table (t ∷ []) (name ∷ []) 0 (more (node l ks) none)) (omega arith)
-
-pub begun : (table : Table) (name : List ℕ) (of : TypeId) (v : Tree) (walk w1 : Trees) (s : Seen) (b : Vec Level Global) → b.items ≡ [] → walk ≡ more v none
-    → Begins table (of.0 ∷ []) (more v none) → flat walk ≡ flat_seen s ∷ flat w1
-    → IsAt table name ((0, name) ∷ node_paths table (of.0 ∷ []) (name ∷ []) 0 (more v none)) (flat (more v none)) (record { node = 0; seen = s; top = level.Whole of; below = b; walk = w1 })
-begun table name of v walk w1 s b none_below is begins e =
-    let ts : types_from (level.Whole of) (reverse b.items) ≡ of.0 ∷ [] = ap (λ Ls. types_from (level.Whole of) (reverse Ls)) none_below in
-    let ps : paths_from name (level.Whole of) (reverse b.items) ≡ name ∷ [] = ap (λ Ls. paths_from name (level.Whole of) (reverse Ls)) none_below in
-    record {
-      left = more v none;
-      stepped = sym (ap flat is) ∙ e;
-      some = omega arith;
-      begins = subst (λ us. Begins table us (more v none)) (sym ts) begins;
-      all = sym (ap length ts);
-      paths_are = λ m l. own_first table of.0 name v m ∙ ap₂ (λ us qs. path_in (node_paths table us qs 0 (more v none)) m) (sym ts) (sym ps);
-      flats_are = refl;
-    }
 
 -- ## What an item holds
 

@@ -1,17 +1,17 @@
 -- The nodes of values that are left in a walk, with their paths.
 -- `types` and `T` are types of values, `paths` and `P` their paths, `ks` are the children of a node, `us` and `w` values, `n` is a node's number.
-use Rattle.std.proofs.Common.{◌≡◌, ℕ, ◌+◌, ◌<◌, ◌≤◌, zero, suc, Bool, true, false, eqb, List, [], ◌∷◌, ◌++◌, length, drop, Option, None, Some, refl, ap, ap₂, sym, ◌∙◌, subst, append_assoc, append-nil, add-zero, arith, length-append}
+use Rattle.std.proofs.Common.{◌≡◌, ℕ, ◌+◌, ◌<◌, ◌≤◌, zero, suc, true, false, List, [], ◌∷◌, ◌++◌, length, drop, Option, None, Some, refl, ap, ap₂, sym, ◌∙◌, subst, append_assoc, add-zero, arith, length-append}
 use Rattle.std.specs.List.{slice_get}
 use Rattle.std.proofs.lemmas.Bool.{eq-eqb, ne_eqb}
 use Rattle.std.proofs.lemmas.List.{drop-drop}
 use Rattle.nd_types.specs.Table.{Table, type_at}
-use Rattle.nd_value.specs.Tree.{Tree, Trees, Flat, Label, node, none, more, count, node_count, joined, flat, take_trees, drop_trees}
+use Rattle.nd_value.specs.Tree.{Trees, Flat, Label, node, none, more, count, node_count, joined, flat, take_trees, drop_trees}
 use Rattle.nd_value.specs.Nodes.{child_types}
 use Rattle.text_grammar.specs.Paths.{node_paths, child_paths}
 use Rattle.text_printer.specs.Walks.{Begins}
 use Rattle.text_printer.proofs.Walking.{stepped, has_next}
 use Rattle.ndr_explain.specs.declared.levels.Level.{Level}
-use Rattle.ndr_explain.specs.Explained.{path_in, label_in}
+use Rattle.ndr_explain.specs.Explained.{path_in}
 use Rattle.ndr_explain.specs.Cursors.{inner_types, inner_paths, IsLevelOf, IsChildLevel}
 use Rattle.ndr_explain.proofs.LevelPaths.{same_length}
 

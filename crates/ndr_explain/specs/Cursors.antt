@@ -16,7 +16,7 @@ use Rattle.nd_value.specs.declared.value.Graph.{Graph}
 use Rattle.nd_value.specs.declared.item.Home.{Home}
 use Rattle.nd_value.specs.declared.item.ItemKind.{ItemKind}
 use Rattle.nd_value.specs.declared.item.ItemKind.TheVariants as kind
-use Rattle.nd_value.specs.Fitting.{Fitting, IsFit, setting_beside}
+use Rattle.nd_value.specs.Fitting.{Fitting, setting_beside}
 use Rattle.nd_value.specs.Setting.{Setting}
 use Rattle.nd_value.specs.Tree.{Trees, Flat, Label, count, flat}
 use Rattle.nd_value.specs.Nodes.{child_types}

@@ -1,5 +1,5 @@
 -- One end of a list is called.
-use Rattle.std.proofs.Common.{◌≡◌, ◌<◌, ◌∙◌, ap, sym, subst, refl, ℕ, List, Some, Option, option_map, Result, Ok, Err, map, length, slice_set, slice_index_or, get_or, [], ◌∷◌, zero, suc, arith}
+use Rattle.std.proofs.Common.{◌≡◌, ◌<◌, ◌∙◌, ap, sym, subst, ℕ, List, Some, option_map, Result, Ok, Err, map, length, slice_set, slice_index_or, get_or, [], ◌∷◌, zero, suc, arith}
 use Rattle.std.specs.List.{slice_get}
 use Rattle.std.proofs.lemmas.List.{map-set, length-map}
 use Rattle.std.proofs.lemmas.Option.{slice_get-map, slice_get-get_or, slice_get_within, get_or_from_slice_get}

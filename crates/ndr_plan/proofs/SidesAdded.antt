@@ -98,12 +98,6 @@ response_at table operations n o C C' here e =
     let z : before + 0 ≡ before = omega arith in
     ap length e ∙ length-append C (side_code table o side.In) ∙ ap (λ k. k + length (side_code table o side.In)) (here ∙ z)
 
--- the first items of a list with one more
-pub taken : {X : Type 0} (xs : List X) (i : ℕ) (x : X) → slice_get xs i ≡ Some x → take i xs ++ (x ∷ []) ≡ take (suc i) xs
-taken [] i x e = cc
-taken (y ∷ xs) zero x e = ap (λ z. z ∷ []) (sym (same_Some y x e))
-taken (y ∷ xs) (suc i) x e = ap (λ zs. y ∷ zs) (taken xs i x e)
-
 pub flat_taken : {X Y : Type 0} (f : X → List Y) (xs : List X) (i : ℕ) (x : X) → slice_get xs i ≡ Some x
     → flat_map f (take i xs) ++ f x ≡ flat_map f (take (suc i) xs)
 flat_taken f [] i x e = cc

@@ -12,7 +12,7 @@ use Rattle.nd_types.specs.Walk.{NamedRoot, named_root, root_name}
 use Rattle.ndr_code.specs.declared.instr.Instr.{Instr}
 use Rattle.ndr_code.specs.declared.lists.PlanLine.{PlanLine}
 use Rattle.ndr_code.specs.declared.lists.PlanLine.TheVariants as line
-use Rattle.ndr_code.specs.Code.{value_roots, pipe_roots, root_run, root_checks, root_check, vars_checks}
+use Rattle.ndr_code.specs.Code.{value_roots, pipe_roots, root_run}
 use Rattle.ndr_code.specs.Code as code
 use Rattle.ndr_plan.specs.Numbers.{all_numbered, numbered}
 use Rattle.ndr_plan.specs.Checks.{checks_by, vars_at}

@@ -1,5 +1,5 @@
 -- The turns of numbers: what a write at a number's place does to the map.
-use Rattle.std.proofs.Common.{◌≡◌, ℕ, zero, suc, slice_get, not, Bool, true, false, cond, refl, sym, ap, ◌∙◌, List, [], ◌∷◌, Option, Some, None, position, nat_eq, if◌then◌else◌}
+use Rattle.std.proofs.Common.{◌≡◌, ℕ, zero, suc, slice_get, not, Bool, true, false, cond, sym, ap, ◌∙◌, List, [], ◌∷◌, Some, None, position, nat_eq, if◌then◌else◌}
 use Rattle.std.specs.Map.{keys_of, values_of}
 use Rattle.indexmap.specs.IndexMap.{insert_entry, set_value_at}
 use Rattle.indexmap.proofs.MapLemmas.{Found-position, insert_entry-first}

@@ -2,7 +2,7 @@
 use Rattle.std.specs.Prelude.{ℕ, ℤ, ◌<◌, ◌^◌, pos, List, [], ◌∷◌, length, Some, None}
 use Rattle.nd_value.specs.declared.value.Graph.{Graph}
 use Rattle.nd_value.specs.Tree as tree
-use Rattle.nd_value.specs.Tree.{Tree, Trees, node, none, more, Referent}
+use Rattle.nd_value.specs.Tree.{Tree, node, none, more, Referent}
 use Rattle.nd_value.specs.Conforms.{HasFewNodes}
 
 abbrev pub num : ℤ → Tree
@@ -41,16 +41,6 @@ ring_swapped = graph (pointer_to 2 ∷ []) (cell 12 (of_two (num (pos 8)) (point
 -- a ring of 7 alone, and a leaf that nothing names
 abbrev pub ring_and_leaf : Graph
 ring_and_leaf = graph (pointer_to 1 ∷ []) (cell 12 (of_two (num (pos 7)) (pointer_to 1)) ∷ cell 14 (of_one (num (pos 8))) ∷ [])
-
--- a pair of which b and a's y are one leaf 5, and a's z a leaf 6
-abbrev pub pair : Graph
-pair =
-    graph (pointer_to 1 ∷ [])
-    (cell 18 (of_two (pointer_to 2) (pointer_to 3))
-    ∷ cell 16 (of_two (pointer_to 3) (pointer_to 4))
-    ∷ cell 14 (of_one (num (pos 5)))
-    ∷ cell 14 (of_one (num (pos 6)))
-    ∷ [])
 
 -- two pointers to cells of their own, and to one cell
 abbrev pub apart : Graph

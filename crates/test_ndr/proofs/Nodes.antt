@@ -1,5 +1,5 @@
 -- A chain has few nodes.
-use Rattle.std.proofs.Common.{◌≡◌, ℕ, ◌<◌, List, [], ◌∷◌, ◌++◌, map, sym, subst, arith, lit<}
+use Rattle.std.proofs.Common.{◌≡◌, ◌<◌, List, [], ◌∷◌, ◌++◌, map, sym, subst, arith, lit<}
 use Rattle.nd_value.specs.Tree.{Tree, Referent, none, more, node_count}
 use Rattle.nd_value.specs.Conforms.{FewNodes}
 use Rattle.test_ndr.specs.Chain.{IsNode, AreNodes, to_first}

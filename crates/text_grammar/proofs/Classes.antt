@@ -3,7 +3,6 @@ use Rattle.std.proofs.Common.{◌≡◌, ℕ, ◌≤◌, true, arith}
 use Rattle.std.proofs.lemmas.Bool.Decides.{nat_tests}
 use Rattle.std.proofs.lemmas.Bool.{or_left, or_right}
 use Rattle.nd_base.specs.Text.{is_letter, is_digit, is_word_octet}
-use Rattle.text_grammar.specs.Tokens.{is_mark}
 
 pub digit_word : (c : ℕ) → is_digit c ≡ true → is_word_octet c ≡ true
 digit_word c h = or_right (is_letter c) (is_digit c) h
@@ -17,13 +16,3 @@ digit_range c h = grind (arith, nat_tests, h)
 
 pub range_digit : (c : ℕ) → 48 ≤ c → c ≤ 57 → is_digit c ≡ true
 range_digit c h k = grind (arith, nat_tests, h, k)
-
--- the kinds of first octets exclude each other
-pub letter_no_digit : (c : ℕ) → is_letter c ≡ true → is_digit c ≡ true → ⊥
-letter_no_digit c h k = grind (arith, nat_tests, h, k)
-
-pub letter_no_mark : (c : ℕ) → is_letter c ≡ true → is_mark c ≡ true → ⊥
-letter_no_mark c h k = grind (arith, nat_tests, h, k)
-
-pub digit_no_mark : (c : ℕ) → is_digit c ≡ true → is_mark c ≡ true → ⊥
-digit_no_mark c h k = grind (arith, nat_tests, h, k)

@@ -1,7 +1,7 @@
 -- Runs of letters, digits and `_`: where they end, and that a run is cut in one way.
-use Rattle.std.proofs.Common.{◌≡◌, ◌≢◌, ℕ, suc, ◌+◌, ◌≤◌, ◌<◌, Bool, true, false, not, ◌&&◌, cond, List, [], ◌∷◌, ◌++◌, length, take, drop, refl, sym, ap, subst, ◌∙◌, arith}
+use Rattle.std.proofs.Common.{◌≡◌, ℕ, ◌+◌, ◌≤◌, Bool, true, false, not, cond, List, [], ◌∷◌, ◌++◌, length, refl, sym, ap, ◌∙◌, arith}
 use Rattle.std.specs.List.{list_all}
-use Rattle.std.proofs.lemmas.Bool.{cond-true, cond-false, and_parts, and_from, both_ways}
+use Rattle.std.proofs.lemmas.Bool.{cond-true, and_parts, and_from}
 use Rattle.nd_base.specs.Text.{is_word_octet}
 use Rattle.text_grammar.specs.Tokens.{is_blank, ends_run, skip}
 use Rattle.text_grammar.specs.Runs.{run, after_run}
@@ -53,14 +53,6 @@ one_run ds es rest after a b c d e =
     (sym p.0 ∙ ap run e ∙ q.0, sym p.1 ∙ ap after_run e ∙ q.1)
 
 -- ## Blanks
-
--- a text and what is left of it without blanks are skipped alike
-pub skip_twice : (s : List ℕ) → skip (skip s) ≡ skip s
-skip_twice [] = refl
-skip_twice (c ∷ cs) = by_test (is_blank c) refl (skip_twice cs) where
-  by_test : (b : Bool) → is_blank c ≡ b → skip (skip cs) ≡ skip cs → skip (cond b (skip cs) (c ∷ cs)) ≡ cond b (skip cs) (c ∷ cs)
-  by_test true t h = h
-  by_test false t h = cond-false (is_blank c) (skip cs) (c ∷ cs) t
 
 pub skip_less : (s : List ℕ) → length (skip s) ≤ length s
 skip_less [] = omega arith

@@ -1,5 +1,5 @@
 -- The worked examples are printed: the texts of numbers, of a ring and of a directory.
-use Rattle.std.proofs.Common.{◌≡◌, ℕ, refl, sym, [], ◌∷◌, codes, List}
+use Rattle.std.proofs.Common.{◌≡◌, refl, sym, codes}
 use Rattle.std.specs.Fmt.{decimal}
 use Rattle.nd_types.specs.Roots.{roots_of}
 use Rattle.text_grammar.specs.declared.version.Version.TheVariants as version

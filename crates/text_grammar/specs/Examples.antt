@@ -12,7 +12,7 @@ use Rattle.nd_types.specs.declared.types.Way.TheVariants as way
 use Rattle.nd_types.specs.Kinds.{basic_types}
 use Rattle.nd_value.specs.declared.value.Graph.{Graph}
 use Rattle.nd_value.specs.Tree as tree
-use Rattle.nd_value.specs.Tree.{Tree, Trees, node, none, more, Referent}
+use Rattle.nd_value.specs.Tree.{Tree, Trees, node, none, more}
 use Rattle.nd_value.specs.Setting.{Setting}
 use Rattle.nd_value.specs.WorkedFit.{add, one_two_three}
 use Rattle.nd_grammar.specs.ExampleParts.{id, num, pointer_to, null, one, two, struct_of, cell}

@@ -1,6 +1,6 @@
 -- Where a node of a graph is, in words: the path from its root or cell.
 -- `w` is a setting, `g` a graph, `t` a type's number, `p` a path, `n` a node's number, `l` a node's label, `ks` are its children.
-use Rattle.std.specs.Prelude.{◌≡◌, ℕ, ◌+◌, List, [], ◌∷◌, ◌++◌, map, Option, None, Some, codes, decimal}
+use Rattle.std.specs.Prelude.{ℕ, ◌+◌, List, [], ◌∷◌, ◌++◌, map, Option, None, Some, codes, decimal}
 use Rattle.std.specs.List.{slice_get}
 use Rattle.nd_types.specs.declared.types.TypeDef.{TypeDef}
 use Rattle.nd_types.specs.declared.types.TypeDef.TheVariants as def
@@ -10,11 +10,10 @@ use Rattle.nd_value.specs.declared.value.Graph.{Graph}
 use Rattle.nd_value.specs.declared.item.Home.{Home}
 use Rattle.nd_value.specs.declared.item.Home.TheVariants as home
 use Rattle.nd_value.specs.Tree as tree
-use Rattle.nd_value.specs.Tree.{Tree, Trees, node, none, more, node_count, Label}
+use Rattle.nd_value.specs.Tree.{Tree, Trees, node, none, more, node_count, Label, Referent}
 use Rattle.nd_value.specs.Nodes.{child_types}
 use Rattle.nd_value.specs.Setting.{Setting, Among, root_list, root_at, cell_at, cell_of_number}
 use Rattle.nd_types.specs.Roots.{Root}
-use Rattle.nd_value.specs.Tree.{Referent}
 use Rattle.text_grammar.specs.Written.{root_name}
 
 abbrev pub member_path : List ℕ → List ℕ → List ℕ

@@ -1,6 +1,6 @@
 -- What comes of a text when it is read token by token: it is read to its end, or it stops at the first token that cannot follow.
 -- `x` and `y` are what has been read, `t` is a token, `e` what comes of it.
-use Rattle.std.specs.Prelude.{◌≡◌, ℕ, Bool, true, false, List, [], ◌∷◌, length, Ok, Err}
+use Rattle.std.specs.Prelude.{◌≡◌, ℕ, true, false, List, [], ◌∷◌, length, Ok, Err}
 use Rattle.nd_types.specs.Table.{Table}
 use Rattle.text_grammar.specs.declared.fault.TextReason.{TextReason}
 use Rattle.text_grammar.specs.declared.fault.TextReason.TheVariants as reason

@@ -1,8 +1,8 @@
 -- Runs of letters and digits at the front of a text, and the numbers that they write.
-use Rattle.std.specs.Prelude.{◌≡◌, ℕ, ◌+◌, ◌-◌, ◌*◌, ◌^◌, ◌<◌, Bool, true, false, ◌==◌, not, ◌&&◌, nat_le, if◌then◌else◌, List, [], ◌∷◌, ◌++◌, length, Option, None, Some, option_map, decimal}
+use Rattle.std.specs.Prelude.{◌≡◌, ℕ, ◌+◌, ◌-◌, ◌*◌, ◌^◌, ◌<◌, Bool, true, false, ◌==◌, not, ◌&&◌, nat_le, if◌then◌else◌, List, [], ◌∷◌, ◌++◌, length, Option, None, Some, decimal}
 use Rattle.std.specs.List.{list_all}
 use Rattle.nd_base.specs.Text.{is_word_octet, is_digit}
-use Rattle.text_grammar.specs.Tokens.{ends_run, character, IsString}
+use Rattle.text_grammar.specs.Tokens.{ends_run}
 
 -- the letters, digits and `_` at the front, and the rest
 abbrev pub run : List ℕ → List ℕ
@@ -14,14 +14,6 @@ after_run [] = []
 after_run (c ∷ cs) = if is_word_octet c then after_run cs else c ∷ cs
 
 -- ## Strings
-
--- what follows the first character of a string
-abbrev pub after_character : List ℕ → Option (List ℕ)
-after_character text = option_map (λ x. x.1) (character text)
-
--- a string whose opening quote comes before, and what follows it
-abbrev pub HasString : List ℕ → List ℕ → Type 0
-HasString body rest = (octets : List ℕ) × IsString body octets rest
 
 -- what follows a closing quote
 abbrev pub after_quote : List ℕ → Option (List ℕ)

@@ -1,6 +1,6 @@
 -- The lines of a graph's text in either version, each of so many tokens: how a graph is written.
 -- `v` is a version, `d` a type, `t` a type's number or a token, `l` a node's label, `ks` are its children.
-use Rattle.std.specs.Prelude.{ℕ, ◌+◌, ℤ, pos, Bool, true, false, if◌then◌else◌, List, [], ◌∷◌, ◌++◌, map, flat_map, Option, None, Some, codes}
+use Rattle.std.specs.Prelude.{ℕ, ◌+◌, ℤ, pos, Bool, true, false, List, [], ◌∷◌, ◌++◌, map, flat_map, Option, None, Some, codes}
 use Rattle.std.specs.List.{slice_get}
 use Rattle.nd_types.specs.declared.types.TypeDef.{TypeDef}
 use Rattle.nd_types.specs.declared.types.TypeDef.TheVariants as def

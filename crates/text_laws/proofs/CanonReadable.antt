@@ -1,6 +1,6 @@
 -- The canonical form of a graph that conforms is in a text: its nodes have the forms of a text, and each cell is named before its line.
 -- `w` is a setting, `g` a graph that conforms, `h` its canonical form, `m` carries the numbers of g's cells to those of h.
-use Rattle.std.proofs.Common.{◌≡◌, ◌⊎◌, inl, inr, ℕ, zero, suc, ◌+◌, ◌<◌, ◌≤◌, ◌^◌, Bool, true, false, eqb, List, [], ◌∷◌, ◌++◌, length, map, Option, Some, None, refl, ap, sym, ◌∙◌, subst, arith, get_or}
+use Rattle.std.proofs.Common.{◌≡◌, ◌⊎◌, inl, inr, ℕ, zero, suc, ◌+◌, ◌<◌, ◌≤◌, ◌^◌, Bool, true, false, List, [], ◌∷◌, ◌++◌, length, map, Option, Some, None, refl, ap, sym, ◌∙◌, subst, arith, get_or}
 use Rattle.std.specs.Prelude.{flat_map}
 use Rattle.std.specs.List.{list_all, slice_get, AllByRecursion}
 use Rattle.std.proofs.lemmas.Bool.{and_from, eqb-true, eq-eqb, both_ways, cases_lt}

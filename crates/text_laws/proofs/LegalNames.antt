@@ -1,7 +1,6 @@
 -- The names of a legal interface are words.
-use Rattle.std.proofs.Common.{◌≡◌, ℕ, ◌+◌, Bool, true, false, ◌&&◌, not, List, [], ◌∷◌, ◌++◌, length, Option, Some, None, refl, ap, sym, ◌∙◌, subst, add-one}
+use Rattle.std.proofs.Common.{◌≡◌, ℕ, ◌+◌, Bool, true, false, ◌&&◌, not, List, [], ◌∷◌, ◌++◌, length, Option, Some, None, refl, ap, sym, ◌∙◌, subst, add-one, inl, inr}
 use Rattle.std.specs.Prelude.{filter, cond, eqb, nat_le}
-use Rattle.std.proofs.Common.{inl, inr}
 use Rattle.std.specs.List.{list_all, slice_get, AllByRecursion}
 use Rattle.std.proofs.lemmas.Bool.{and_parts}
 use Rattle.nd_base.specs.Text.{is_word, is_identifier}

@@ -137,10 +137,6 @@ bytes_front [] h = cc
 bytes_front (c ∷ []) h = cc
 bytes_front (c ∷ d ∷ cs) h = let p = and_parts (eqb c 120) (eqb d 34) h in (cs, ap₂ (λ x y. x ∷ y ∷ cs) (eqb-true c 120 p.0) (eqb-true d 34 p.1))
 
-bytes_token : (t : Token) → is_bytes t ≡ true → (octets : List ℕ) × (t ≡ Bytes octets)
-bytes_token (Bytes octets) e = (octets, refl)
-bytes_token t e = cc
-
 module _ (how : Cutting) (text : List ℕ) where
   abbrev s : List ℕ
   s = skip text

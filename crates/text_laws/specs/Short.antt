@@ -1,5 +1,5 @@
 -- Graphs whose numbers and tags have at most 20 digits, as those of every graph that conforms have.
-use Rattle.std.specs.Prelude.{◌≡◌, ℕ, ◌^◌, Bool, true, nat_lt, unsigned_abs}
+use Rattle.std.specs.Prelude.{◌≡◌, ◌^◌, Bool, true, nat_lt, unsigned_abs}
 use Rattle.std.specs.List.{list_all}
 use Rattle.nd_value.specs.declared.value.Graph.{Graph}
 use Rattle.nd_value.specs.Tree as tree

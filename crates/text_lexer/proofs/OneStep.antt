@@ -1,5 +1,5 @@
 -- One token of what is due: that it comes, or that something else does.
-use Rattle.std.proofs.Common.{◌≡◌, ℕ, ◌<◌, ◌≤◌, ℤ, pos, negsuc, Bool, true, false, not, ◌&&◌, cond, eqb, List, [], ◌∷◌, length, Option, Some, None, option_map, Err, refl, sym, ap, ap₂, subst, ◌∙◌, arith, codes}
+use Rattle.std.proofs.Common.{◌≡◌, ℕ, ℤ, pos, Bool, true, false, cond, eqb, List, length, Option, Some, None, refl, sym, ap, subst, ◌∙◌, codes}
 use Rattle.std.specs.Str.{bytes_eq}
 use Rattle.std.proofs.lemmas.Slice.Eq.{bytes_eq-Decides}
 use Rattle.std.proofs.lemmas.Option.{same_Some}
@@ -10,15 +10,15 @@ use Rattle.text_grammar.specs.declared.version.Version.{Version}
 use Rattle.text_grammar.specs.declared.version.Version.TheVariants as version
 use Rattle.text_grammar.specs.declared.fault.TextReason.{TextReason}
 use Rattle.text_grammar.specs.declared.fault.TextReason.TheVariants as reason
-use Rattle.text_grammar.specs.Tokens.{Token, Word, Number, Cell, Str, Bytes, Uuid, Mark, skip, IsString, IsByteString, IsCut}
-use Rattle.text_grammar.specs.Written.{Piece, Name, Other, version_number}
+use Rattle.text_grammar.specs.Tokens.{Token, Word, Number, Cell, Str, Bytes, Mark, skip, IsString, IsByteString, IsCut}
+use Rattle.text_grammar.specs.Written.{Name, Other, version_number}
 use Rattle.text_grammar.specs.Reads.{Cut, End, Bad}
-use Rattle.text_grammar.specs.Dues.{Due, This, AVersion, ANumber, ACount, AString, SomeBytes, APointer, Reading, taken, is_count_token, version_of, went_on_if, with_version}
+use Rattle.text_grammar.specs.Dues.{Due, This, AVersion, ANumber, ACount, AString, SomeBytes, APointer, is_count_token, went_on_if, with_version}
 use Rattle.text_reading_laws.proofs.OneText.{one_cut, some_octets}
 use Rattle.text_lexer.specs.declared.lexeme.Lexeme as shown
 use Rattle.text_lexer.specs.declared.lexeme.Lexeme.TheVariants as lexeme
 use Rattle.text_lexer.specs.declared.stop.Stop.TheVariants as stop
-use Rattle.text_lexer.specs.Lexemes.{plain, Comes, is_this_mark, is_this_word, number_shown, count_shown, version_shown, cell_shown, string_shown, bytes_shown, other_reason, name_reason, reference_token, reference_fits}
+use Rattle.text_lexer.specs.Lexemes.{plain, Comes, is_this_mark, is_this_word, number_shown, count_shown, version_shown, cell_shown, string_shown, bytes_shown, other_reason, name_reason}
 use Rattle.text_lexer.specs.Misses.{IsWrong, Misses}
 
 bytes_same : (w due : List ℕ) → bytes_eq w due ≡ true → w ≡ due

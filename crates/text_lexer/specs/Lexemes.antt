@@ -1,6 +1,6 @@
 -- What the scanner says of a text.
 -- `v` is a version, `t` a token, `l` a lexeme, `rest` is what follows it.
-use Rattle.std.specs.Prelude.{◌≡◌, ◌≢◌, ℕ, ℤ, Bool, true, false, ◌==◌, not, ◌&&◌, ◌||◌, List, [], ◌∷◌, Option, None, Some, if◌then◌else◌, codes}
+use Rattle.std.specs.Prelude.{◌≡◌, ◌≢◌, ℕ, ℤ, Bool, true, false, ◌==◌, not, ◌&&◌, ◌||◌, List, [], Option, None, Some, if◌then◌else◌, codes}
 use Rattle.std.specs.Str.{bytes_eq}
 use Rattle.nd_base.specs.Text.{is_letter}
 use Rattle.nd_value.specs.Misfit.{is_count}

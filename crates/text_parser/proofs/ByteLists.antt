@@ -11,7 +11,7 @@ use Rattle.nd_types.specs.declared.types.TypeDef.TheVariants as def
 use Rattle.nd_types.specs.declared.types.Primitive.TheVariants.{Byte}
 use Rattle.nd_types.specs.Table.{Table, type_at}
 use Rattle.nd_value.specs.Tree as tree
-use Rattle.nd_value.specs.Tree.{Tree, Trees, node, none, more, trees, count, node_count}
+use Rattle.nd_value.specs.Tree.{Tree, node, none, more, trees, count, node_count}
 use Rattle.nd_value.specs.Nodes.{child_types}
 use Rattle.nd_value.specs.Misfit.{is_octet}
 use Rattle.text_grammar.specs.declared.version.Version.{Version}

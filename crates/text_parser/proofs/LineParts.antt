@@ -1,5 +1,5 @@
 -- Lines of a text: the head, the roots, the cells.
-use Rattle.std.proofs.Common.{◌≡◌, ℕ, suc, ◌+◌, ◌<◌, ◌≤◌, pos, Bool, true, cond, List, [], ◌∷◌, ◌++◌, length, length-append, map, take, drop, Option, Some, Ok, Err, refl, sym, ap, ap₂, subst, ◌∙◌, append_assoc, append-nil, take-append-drop, bytes_eq, codes, arith}
+use Rattle.std.proofs.Common.{◌≡◌, ℕ, ◌+◌, ◌<◌, ◌≤◌, pos, Bool, true, cond, List, [], ◌∷◌, ◌++◌, length, length-append, map, take, drop, Option, Some, Ok, Err, refl, sym, ap, ap₂, subst, ◌∙◌, append_assoc, append-nil, take-append-drop, bytes_eq, codes, arith}
 use Rattle.std.specs.List.{slice_get, AllByRecursion}
 use Rattle.std.proofs.lemmas.Bool.{eq-eqb}
 use Rattle.std.proofs.lemmas.Slice.Eq.{bytes_eq-Decides}
@@ -14,7 +14,7 @@ use Rattle.text_grammar.specs.declared.version.Version.TheVariants as version
 use Rattle.text_grammar.specs.declared.fault.TextReason.{TextReason}
 use Rattle.text_grammar.specs.declared.fault.TextReason.TheVariants as reason
 use Rattle.text_grammar.specs.Tokens as tokens
-use Rattle.text_grammar.specs.Tokens.{Token, Word, Number, Cell, Mark, Begins, Cutting, cutting, IsCut, skip}
+use Rattle.text_grammar.specs.Tokens.{Token, Word, Number, Cell, Mark, Cutting, IsCut}
 use Rattle.text_grammar.specs.Written.{Name, Other, word, equals, token_of, named, version_number, value_pieces}
 use Rattle.text_grammar.specs.Dues.{Due, This, AVersion, AValue, ACellLine, Reading, named_due, named_type, with_line, went_on_if, next_read, all_read}
 use Rattle.text_grammar.specs.Reader.{Ending, Stopped, ComesTo, goes_on}
@@ -50,12 +50,6 @@ module _ (v : Version) (table : Table) (name : List ℕ) (t : ℕ) (ns : Named) 
 -- ## The roots, one after the other
 
 module _ (v : Version) (table : Table) where
-  formed_count : (rs : List NamedRoot) (xs : List Tree) → AreFormed v table rs xs → length xs ≡ length rs
-  formed_count [] [] f = refl
-  formed_count [] (x ∷ xs) f = absurd f
-  formed_count (r ∷ rs) [] f = absurd f
-  formed_count (r ∷ rs) (x ∷ xs) f = ap suc (formed_count rs xs f.1)
-
   formed_more : (rs : List NamedRoot) (xs : List Tree) (r : NamedRoot) (x : Tree) → AreFormed v table rs xs → have_forms v table (r.of ∷ []) (more x none) ≡ true → AreFormed v table (rs ++ r ∷ []) (xs ++ x ∷ [])
   formed_more [] [] r x f h = (h, tt)
   formed_more [] (y ∷ xs) r x f h = absurd f

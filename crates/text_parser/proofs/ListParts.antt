@@ -24,7 +24,7 @@ use Rattle.text_lexer.specs.Misses.{IsWrong, Misses}
 use Rattle.text_parser.specs.Passing.{Named, Passes, Halts, IsValue, AreElements, element_types}
 use Rattle.text_parser.specs.ValueParts.{HaveCome}
 use Rattle.text_parser.proofs.Passages as passages
-use Rattle.text_parser.proofs.Passages.{passes_none, passes_one, passes_both, passes_framed, passes_then, passes_first, halts_framed, halts_after, halts_then, halts_miss, refused_at, bad_at, end_at}
+use Rattle.text_parser.proofs.Passages.{passes_one, passes_both, passes_framed, passes_first, halts_framed, halts_after, halts_miss, refused_at, bad_at, end_at}
 use Rattle.text_parser.proofs.OneMore.{count_trees, weight_more, replicate_more, forms_more, noted_more, pieces_more, separated_more}
 use Rattle.text_parser.proofs.SmallParts.{mark_passes}
 

@@ -10,9 +10,6 @@ pub backwards_more : (es : List (ℕ × TypeId)) (c : ℕ) (t : TypeId) → back
 backwards_more [] c t = refl
 backwards_more (e ∷ es) c t = ap (λ (l : List (ℕ × ℕ)). l ++ (e.0, e.1.0) ∷ []) (backwards_more es c t)
 
-pub none_agree : Agrees []
-none_agree c = refl
-
 -- a cell that has no entry gets one
 lookup_new : (es : List (ℕ × TypeId)) (c q : ℕ) (t : TypeId) → lookup (eqb q) es ≡ None → eqb q c ≡ true → lookup (eqb q) (es ++ (c, t) ∷ []) ≡ Some t
 lookup_new [] c q t h e = ap (λ b. cond {A = Option TypeId} b (Some t) None) e
@@ -48,6 +45,3 @@ agrees_more es c t a n q = by (eqb c q) refl ∙ ap (λ (l : List (ℕ × ℕ)).
 
 pub known_name : (ns : List (ℕ × ℕ)) (c t u : ℕ) → named_type ns c ≡ Some u → ns ≡ with_name ns c t
 known_name ns c t u h = sym (ap (λ (o : Option ℕ). elim o [ None ↦ (c, t) ∷ ns | Some w ↦ ns ]) h)
-
-pub new_name : (ns : List (ℕ × ℕ)) (c t : ℕ) → named_type ns c ≡ None → (c, t) ∷ ns ≡ with_name ns c t
-new_name ns c t h = sym (ap (λ (o : Option ℕ). elim o [ None ↦ (c, t) ∷ ns | Some w ↦ ns ]) h)

@@ -16,7 +16,7 @@ use Rattle.text_lexer.specs.declared.lexeme.Lexeme.TheVariants as lexeme
 use Rattle.text_lexer.specs.declared.stop.Stop.TheVariants as stop
 use Rattle.text_lexer.specs.Lexemes.{plain, for_uuid, Comes, other_reason}
 use Rattle.text_lexer.specs.Misses.{MissesUuid}
-use Rattle.text_parser.specs.Identifiers.{fits_place, HasForm, IsUuid, is_id}
+use Rattle.text_parser.specs.Identifiers.{fits_place, IsUuid, is_id}
 
 -- ## The form
 
@@ -37,15 +37,6 @@ module _ (whole text : List ℕ) where
   form_step (place ∷ places) (octet ∷ after) h k fits f =
       subst (λ (l : List ℕ). FormCame whole text l (take (length (octet ∷ after) - 1) after)) (sym (take_all (length (place ∷ places) - 1) places (omega arith)))
       (subst (λ (l : List ℕ). FormCame whole text places l) (sym (take_all (length (octet ∷ after) - 1) after (omega arith))) (form_next place places octet after fits f))
-
-  pub form_wrong : (place : ℕ) (places : List ℕ) (octet : ℕ) (after : List ℕ) → fits_place place octet ≡ false → FormCame whole text (place ∷ places) (octet ∷ after) → has_form whole (take (length whole) text) ≡ false
-  form_wrong place places octet after h f = sym f.is ∙ ap (λ b. b && has_form places (take (length places) after)) h
-
-  pub form_short : (place : ℕ) (places : List ℕ) → FormCame whole text (place ∷ places) [] → has_form whole (take (length whole) text) ≡ false
-  form_short place places f = sym f.is
-
-  pub form_whole : (rest : List ℕ) → FormCame whole text [] rest → HasForm whole text rest
-  form_whole rest f = record { is = sym f.is; rest_is = f.rest_is }
 
 -- octets of a form are as many as its places
 pub form_long : (form s : List ℕ) → has_form form s ≡ true → length s ≡ length form
@@ -104,15 +95,6 @@ pair_taken (x ∷ y ∷ cs) b after e h = by (is_hex_digit x && is_hex_digit y) 
       let q = and_parts (is_hex_digit y) (list_all is_hex_digit cs) p.1 in
       (ap₂ (λ (n : ℕ) (l : List ℕ). n ∷ hex_octets l) (ap (λ p. p.0) same) tail, ap (list_all is_hex_digit) (sym tail) ∙ q.1)
   by false e = cc
-
-pub no_pair : (rest : List ℕ) → hex_pair rest ≡ None → list_all is_hex_digit rest ≡ true → hex_octets rest ≡ []
-no_pair [] e h = refl
-no_pair (x ∷ []) e h = refl
-no_pair (x ∷ y ∷ cs) e h =
-    let p = and_parts (is_hex_digit x) (list_all is_hex_digit (y ∷ cs)) h in
-    let q = and_parts (is_hex_digit y) (list_all is_hex_digit cs) p.1 in
-    let no : ◌≡◌ {A = Option (ℕ × List ℕ)} (Some (16 * hex_value x + hex_value y, cs)) None = sym (cond-true {A = Option (ℕ × List ℕ)} (is_hex_digit x && is_hex_digit y) (Some (16 * hex_value x + hex_value y, cs)) None (and_from (is_hex_digit x) (is_hex_digit y) p.0 q.0)) ∙ e in
-    cc
 
 half : (n : ℕ) (ds : List ℕ) → length ds ≡ n + n → length (hex_octets ds) ≡ n
 half zero [] e = refl

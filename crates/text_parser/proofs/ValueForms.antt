@@ -134,9 +134,6 @@ module _ (v : Version) (table : Table) (t : ℕ) where
           abbrev list_tokens : List Token
           list_tokens = map token_of (list_pieces (writes_octets v (type_at table elem.0)) (trees vs) (values_pieces v table (replicate (count (trees vs)) elem.0) (trees vs)))
 
-          maximum : ℕ
-          maximum = maximum_by (known_maximum bound varying written) (length vs)
-
           counts_tokens : (bound : Option ℕ) (varying : Bool)
               → map token_of (array_counts bound varying (maximum_by (known_maximum bound varying written) (length vs)) offset) ≡ written_tokens (writes_maximum bound varying) written ++ written_tokens varying offset
           counts_tokens (Some b) true = refl

@@ -17,7 +17,7 @@ use Rattle.nd_value.specs.Homes.{root_pointers}
 use Rattle.text_grammar.specs.declared.version.Version.{Version}
 use Rattle.text_grammar.specs.declared.TheConstants.{TEXT_LIMIT}
 use Rattle.text_grammar.specs.Tokens as tokens
-use Rattle.text_grammar.specs.Tokens.{Token, Begins, skip}
+use Rattle.text_grammar.specs.Tokens.{Token, Begins}
 use Rattle.text_grammar.specs.Written.{Piece, Other, equals, token_of, named, side_word, parameter_name, root_name, head_lines, root_lines, cell_lines, graph_tokens, value_pieces}
 use Rattle.text_grammar.specs.Readable.{AreNamed}
 use Rattle.text_grammar.specs.Reads.{ReadsAs}

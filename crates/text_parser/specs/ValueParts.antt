@@ -4,7 +4,7 @@ use Rattle.std.specs.Prelude.{◌≡◌, ℕ, suc, zero, ◌+◌, ◌<◌, ◌�
 use Rattle.nd_types.specs.declared.types.Field.{Field}
 use Rattle.nd_types.specs.Table.{Table}
 use Rattle.nd_value.specs.Tree as tree
-use Rattle.nd_value.specs.Tree.{Tree, Trees, node, more, none, trees, node_count}
+use Rattle.nd_value.specs.Tree.{Tree, node, more, none, trees, node_count}
 use Rattle.text_grammar.specs.declared.version.Version.{Version}
 use Rattle.text_grammar.specs.Tokens.{Token, Word, Number, Mark}
 use Rattle.text_grammar.specs.Written.{comma, token_of, named, separated, values_pieces, value_pieces, arm_pieces}

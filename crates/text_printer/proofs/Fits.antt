@@ -1,7 +1,6 @@
 -- Values of a graph that conforms: each node has the form of its type.
 -- `t` is a type's number, `v` a value, `l` a label, `ks` are its children.
-use Rattle.std.proofs.Common.{◌≡◌, ℕ, ◌+◌, zero, suc, Bool, true, List, [], ◌∷◌, ◌++◌, length, map, None, refl, ap, ap₂, sym, ◌∙◌, subst, arith}
-use Rattle.std.specs.Prelude.{◌&&◌}
+use Rattle.std.proofs.Common.{◌≡◌, ℕ, ◌+◌, true, List, [], ◌∷◌, ◌++◌, length, map, None, refl, arith}
 use Rattle.std.specs.List.{list_all, AllByRecursion}
 use Rattle.std.specs.Cmp.Derive.{both_true}
 use Rattle.std.proofs.lemmas.Bool.{and_parts}
@@ -16,7 +15,7 @@ use Rattle.nd_value.specs.Agreement.{Agreement}
 use Rattle.nd_value.specs.Nodes.{TypedNode, child_types, child_agreements, first_agreements, rest_agreements, nodes_of, governed_nodes, home_nodes}
 use Rattle.nd_value.specs.Setting.{Setting, root_list, cell_home}
 use Rattle.nd_value.specs.Variables.{root_agreements}
-use Rattle.nd_value.specs.Homes.{HomeNode, in_home, root_nodes, cell_nodes, all_nodes}
+use Rattle.nd_value.specs.Homes.{HomeNode, in_home, root_nodes, cell_nodes}
 use Rattle.nd_value.specs.Misfit.{misfit_of, has_arm}
 use Rattle.nd_value.specs.Conforms.{Conforms}
 use Rattle.nd_value.proofs.Apart.{all_left, all_right, all_map}

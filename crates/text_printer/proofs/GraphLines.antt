@@ -1,26 +1,26 @@
 -- The text of a graph, line by line.
 -- `w` is a setting, `g` a graph, `r` a root, `v` its value, `x` a cell, `c` its number.
-use Rattle.std.proofs.Common.{◌≡◌, ℕ, ◌+◌, zero, suc, add-one, pos, Bool, true, List, [], ◌∷◌, ◌++◌, length, map, Some, codes, decimal, refl, ap, ap₂, sym, ◌∙◌, subst, append_assoc, append-nil, lit<}
+use Rattle.std.proofs.Common.{◌≡◌, ℕ, ◌+◌, add-one, true, List, [], ◌∷◌, ◌++◌, map, codes, decimal, refl, ap, ap₂, sym, ◌∙◌, append_assoc, append-nil, lit<}
 use Rattle.std.specs.List.{list_all, flat_map}
 use Rattle.std.proofs.lemmas.Fmt.{decimal_digit}
 use Rattle.nd_types.specs.declared.types.Side.TheVariants as side
 use Rattle.nd_types.specs.declared.types.Operation.{Operation}
 use Rattle.nd_types.specs.Table.{Table}
-use Rattle.nd_types.specs.Roots.{Root, roots_of}
+use Rattle.nd_types.specs.Roots.{Root}
 use Rattle.nd_types.specs.Walk.{named_root, named_roots}
 use Rattle.nd_value.specs.declared.value.Graph.{Graph}
 use Rattle.nd_value.specs.Tree.{Tree, node, none, more, Referent}
 use Rattle.nd_value.specs.Agreement.{Agreement}
-use Rattle.nd_value.specs.Nodes.{nodes_of, home_nodes}
+use Rattle.nd_value.specs.Nodes.{nodes_of}
 use Rattle.nd_value.specs.Setting.{Setting, root_list}
 use Rattle.nd_value.specs.Conforms.{Conforms}
 use Rattle.text_grammar.specs.declared.version.Version.TheVariants as version
-use Rattle.text_grammar.specs.Tokens.{Token, Word, Number, Cell, Mark}
-use Rattle.text_grammar.specs.Written.{Piece, Name, Other, token_of, word, equals, named, value_pieces, values_pieces, first_pieces, head_lines, root_lines, cell_lines, graph_lines, root_name, side_word}
-use Rattle.text_grammar.specs.Printed.{tokens_text, line_text, graph_text}
+use Rattle.text_grammar.specs.Tokens.{Cell, Mark}
+use Rattle.text_grammar.specs.Written.{Piece, Other, token_of, equals, named, value_pieces, head_lines, root_lines, cell_lines, root_name, side_word}
+use Rattle.text_grammar.specs.Printed.{line_text, graph_text}
 use Rattle.text_grammar.specs.Sound.{is_sound_node}
 use Rattle.text_grammar.proofs.Names.{names_agree}
-use Rattle.text_printer.specs.Texts.{text_of, texts_of, head_text, root_text, roots_text, cell_text, cells_text}
+use Rattle.text_printer.specs.Texts.{text_of, head_text, roots_text, cell_text, cells_text}
 use Rattle.text_printer.proofs.Items.{IsItem, tokens, named_item, front, spread}
 use Rattle.text_printer.proofs.Sound.{items_of}
 use Rattle.text_printer.proofs.Fits.{RootsSound, CellsSound, conforming_sound}

@@ -1,5 +1,5 @@
 -- The text of an identifier, group by group.
-use Rattle.std.proofs.Common.{◌≡◌, ℕ, suc, List, [], ◌∷◌, ◌++◌, length, take, drop, refl, ap, sym, ◌∙◌, append_assoc}
+use Rattle.std.proofs.Common.{◌≡◌, ℕ, List, [], ◌∷◌, ◌++◌, length, take, drop, refl, ap, ◌∙◌, append_assoc}
 use Rattle.text_grammar.specs.Printed.{hex_text, uuid_text}
 
 -- groups of digits with a hyphen between each two

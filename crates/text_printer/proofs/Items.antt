@@ -1,13 +1,13 @@
 -- Tokens of values with their blanks, put together from parts.
 -- `p` are the tokens of a value, `s` is their text, `m` is a mark, `t` and `u` are tokens.
-use Rattle.std.proofs.Common.{◌≡◌, ℕ, zero, suc, ℤ, pos, Bool, true, false, eqb, List, [], ◌∷◌, ◌++◌, map, codes, decimal, refl, ap, ap₂, sym, ◌∙◌, append_assoc, append-nil}
+use Rattle.std.proofs.Common.{◌≡◌, ℕ, suc, ℤ, pos, Bool, true, false, eqb, List, [], ◌∷◌, ◌++◌, map, codes, decimal, refl, ap, ap₂, sym, ◌∙◌, append_assoc, append-nil}
 use Rattle.std.specs.Prelude.{◌&&◌, ◌||◌, if◌then◌else◌}
 use Rattle.std.specs.Fmt.{signed_decimal}
 use Rattle.std.proofs.lemmas.List.{map-append}
 use Rattle.nd_types.specs.declared.types.Field.{Field}
 use Rattle.text_grammar.specs.Tokens.{Token, Word, Number, Cell, Str, Bytes, Uuid, Mark}
-use Rattle.text_grammar.specs.Written.{Piece, Name, Other, token_of, separated, enclosed, named, members, comma, colon, equals, word, number_piece, count_piece}
-use Rattle.text_grammar.specs.Printed.{spelled, space, tokens_text, is_equals, is_comma, is_run}
+use Rattle.text_grammar.specs.Written.{Piece, Other, token_of, separated, enclosed, named, members, comma, colon, word, number_piece, count_piece}
+use Rattle.text_grammar.specs.Printed.{spelled, space, tokens_text}
 use Rattle.text_printer.specs.Texts.{listed, member_texts, context_text}
 
 abbrev pub tokens : List Piece → List Token

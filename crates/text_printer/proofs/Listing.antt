@@ -1,10 +1,10 @@
 -- Loops over values that are written one after the other.
-use Rattle.std.proofs.Common.{◌≡◌, ℕ, ◌+◌, zero, suc, add-one, List, [], ◌∷◌, ◌++◌, length, drop, map, replicate, Some, None, codes, refl, ap, ap₂, sym, ◌∙◌, append_assoc, append-nil, ◌≤◌}
+use Rattle.std.proofs.Common.{◌≡◌, ℕ, ◌+◌, zero, suc, add-one, List, [], ◌∷◌, ◌++◌, drop, map, replicate, Some, None, codes, refl, ap, ap₂, sym, ◌∙◌, append_assoc, append-nil}
 use Rattle.std.specs.List.{slice_get}
 use Rattle.nd_types.specs.declared.types.Field.{Field}
 use Rattle.nd_types.specs.Table.{Table}
-use Rattle.nd_value.specs.Tree.{Tree, Trees, node, none, more, trees, count}
-use Rattle.nd_value.proofs.LocalPass.{drop-get, drop-past}
+use Rattle.nd_value.specs.Tree.{Tree, node, none, trees, count}
+use Rattle.nd_value.proofs.LocalPass.{drop-get}
 use Rattle.text_printer.specs.Texts.{separator, listed, member_texts, texts_of, text_of, bytes_text, byte_of}
 
 -- the types of members
@@ -22,9 +22,6 @@ elements_text table elem i vs = listed i (texts_of table (replicate (count (tree
 -- a text, and what is left to write, is the text before and all that was to be written
 abbrev pub Comes : List ℕ → List ℕ → List ℕ → List ℕ → Type 0
 Comes text left start all = text ++ left ≡ start ++ all
-
-pub comes_none : (start all : List ℕ) → Comes start all start all
-comes_none start all = refl
 
 -- something more is written
 pub comes_on : (text text' piece left left' start all : List ℕ) → Comes text left start all → left ≡ piece ++ left' → text' ≡ text ++ piece → Comes text' left' start all
@@ -71,9 +68,6 @@ none_left table i types (f ∷ fs) = refl
 pub members_end : (table : Table) (fs : List Field) (vs : List Tree) (i : ℕ) → slice_get vs i ≡ None → members_text table i (drop i fs) (drop i vs) ≡ []
 members_end table fs vs i e = ap (λ ys. members_text table i (drop i fs) ys) (drop_none vs i e) ∙ none_left table i (types_of (drop i fs)) (drop i fs)
 
-pub members_past : (table : Table) (fs : List Field) (vs : List Tree) (i : ℕ) → length fs ≤ i → members_text table i (drop i fs) (drop i vs) ≡ []
-members_past table fs vs i past = ap (λ xs. members_text table i xs (drop i vs)) (drop-past fs i past)
-
 -- ## Elements
 
 elements_front : (table : Table) (elem i : ℕ) (v : Tree) (vs : List Tree)
@@ -88,13 +82,7 @@ element_next table elem vs i v is =
     ap (λ ys. elements_text table elem i ys) (drop-get vs i v is) ∙ elements_front table elem i v (drop (i + 1) vs)
     ∙ sym (append_assoc (separator i) (text_of table elem v) (elements_text table elem (i + 1) (drop (i + 1) vs)))
 
-pub elements_past : (table : Table) (elem : ℕ) (vs : List Tree) (i : ℕ) → length vs ≤ i → elements_text table elem i (drop i vs) ≡ []
-elements_past table elem vs i past = ap (λ ys. elements_text table elem i ys) (drop-past vs i past)
-
 -- ## Bytes
 
 pub byte_next : (vs : List Tree) (i : ℕ) (v : Tree) → slice_get vs i ≡ Some v → bytes_text (trees (drop i vs)) ≡ byte_of v ++ bytes_text (trees (drop (i + 1) vs))
 byte_next vs i v is = ap (λ ys. bytes_text (trees ys)) (drop-get vs i v is)
-
-pub bytes_past : (vs : List Tree) (i : ℕ) → length vs ≤ i → bytes_text (trees (drop i vs)) ≡ []
-bytes_past vs i past = ap (λ ys. bytes_text (trees ys)) (drop-past vs i past)

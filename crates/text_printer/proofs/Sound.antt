@@ -1,6 +1,6 @@
 -- A value that breaks no rule by itself has the text that is put together from its parts.
 -- `d` is a type, `l` a label, `ks` are children, `ps` their tokens, `ss` their texts.
-use Rattle.std.proofs.Common.{◌≡◌, ℕ, ◌+◌, ◌<◌, ◌≤◌, zero, suc, ℤ, pos, negsuc, Bool, true, false, ltb, List, [], ◌∷◌, ◌++◌, map, replicate, Option, None, Some, codes, decimal, refl, ap, ap₂, sym, ◌∙◌, subst, append_assoc, arith}
+use Rattle.std.proofs.Common.{◌≡◌, ℕ, ◌+◌, ◌<◌, ◌≤◌, pos, negsuc, Bool, true, false, List, [], ◌∷◌, ◌++◌, replicate, Option, None, Some, codes, decimal, refl, ap, ap₂, sym, ◌∙◌, subst, append_assoc, arith}
 use Rattle.std.specs.Prelude.{◌&&◌, if◌then◌else◌, int_le}
 use Rattle.std.specs.List.{list_all}
 use Rattle.std.proofs.lemmas.Bool.{false≢true, and_parts, leb-true, lt-ltb}
@@ -12,7 +12,7 @@ use Rattle.nd_value.specs.Tree as tree
 use Rattle.nd_value.specs.Tree.{Tree, Trees, node, none, more, count, node_count, Label}
 use Rattle.nd_value.specs.Agreement.{Agreement}
 use Rattle.nd_value.specs.Nodes.{TypedNode, child_types, child_agreements, first_agreements, rest_agreements, nodes_of}
-use Rattle.nd_value.specs.Misfit.{has_shape, has_range, has_counts, is_within, has_no_zero, has_arm}
+use Rattle.nd_value.specs.Misfit.{has_shape, has_range, has_arm}
 use Rattle.text_grammar.specs.declared.version.Version.TheVariants as version
 use Rattle.text_grammar.specs.Written.{Piece, writes_octets, octet_in, octets_in, list_pieces, array_counts, arm_pieces, node_pieces, values_pieces, count_piece, colon, pointer_pieces, text_pieces}
 use Rattle.text_grammar.specs.Printed.{hex_octet, hex_text, quoted_text, value_text}

@@ -1,6 +1,6 @@
 -- What is written step by step, as a walk comes to nodes, is the text of the values that came next.
 -- `types` are types of values, `w` are the values that are left in a walk, `f`, `g` make one text of many.
-use Rattle.std.proofs.Common.{◌≡◌, ℕ, ◌+◌, ◌-◌, ◌<◌, ◌≤◌, zero, suc, add-one, ℤ, Bool, true, List, [], ◌∷◌, ◌++◌, length, take, drop, map, replicate, Option, None, Some, codes, refl, ap, ap₂, sym, ◌∙◌, subst, append_assoc, append-nil, arith}
+use Rattle.std.proofs.Common.{◌≡◌, ℕ, ◌+◌, ◌-◌, zero, suc, add-one, ℤ, Bool, true, List, [], ◌∷◌, ◌++◌, length, take, drop, map, replicate, Option, Some, codes, refl, ap, ap₂, sym, ◌∙◌, subst, append_assoc, append-nil}
 use Rattle.std.specs.Fmt.{signed_decimal}
 use Rattle.std.proofs.lemmas.List.{length-replicate}
 use Rattle.nd_types.specs.declared.types.TypeDef.{TypeDef}
@@ -36,19 +36,6 @@ pub after : (table : Table) (types : List ℕ) (f : List (List ℕ) → List ℕ
 after table types f a text text1 text' w w' e h b =
     let k = h b in
     (k.0 ∙ ap (λ x. x ++ f (texts_of table types w)) e ∙ append_assoc text a (f (texts_of table types w)), k.1)
-
--- and after them
-pub before : (table : Table) (types : List ℕ) (f : List (List ℕ) → List ℕ) (z text text1 text' : List ℕ) (w w' : Trees) → Writes table types f text w text1 w' → text' ≡ text1 ++ z
-    → Writes table types (λ xs. f xs ++ z) text w text' w'
-before table types f z text text1 text' w w' h e b =
-    let k = h b in
-    (e ∙ ap (λ x. x ++ z) k.0 ∙ append_assoc text (f (texts_of table types w)) z, k.1)
-
--- both
-pub between : (table : Table) (types : List ℕ) (f : List (List ℕ) → List ℕ) (a z text text1 text2 text' : List ℕ) (w w' : Trees) → text1 ≡ text ++ a
-    → Writes table types f text1 w text2 w' → text' ≡ text2 ++ z → Writes table types (λ xs. a ++ (f xs ++ z)) text w text' w'
-between table types f a z text text1 text2 text' w w' e h e' =
-    after table types (λ xs. f xs ++ z) a text text1 text' w w' e (before table types f z text1 text2 text' w w' h e')
 
 -- one value, then others
 pub one_then : (table : Table) (t : ℕ) (types : List ℕ) (f g : List (List ℕ) → List ℕ) (p text text1 text2 text' : List ℕ) (w w1 w' : Trees)
@@ -108,39 +95,7 @@ pub next_written : (table : Table) (t : ℕ) (f : Flat) (text text' : List ℕ) 
 next_written table t (l, k) text text' w w1 w' e h =
     subst (λ v. Writes table (t ∷ []) first_text text v text' w') (sym (stepped w w1 l k e)) (node_written table t l k text text' w1 w' h (has_next w w1 l k e))
 
--- no value comes next
-pub none_next : (table : Table) (t : ℕ) (text text' : List ℕ) (w w' : Trees) → w ≡ none → Writes table (t ∷ []) first_text text w text' w'
-none_next table t text text' w w' e = subst (λ v. Writes table (t ∷ []) first_text text v text' w') (sym e) (λ b. absurd b)
-
 -- ## Types of children
-
-pub no_number_types : (d : Option TypeDef) (z : ℤ) (ks : Trees) → child_types d (tree.Num z) ks ≡ []
-no_number_types (Some (def.Struct members)) z ks = refl
-no_number_types (Some (def.Array elem bound varying)) z ks = refl
-no_number_types (Some (def.Union tag encapsulated arms default)) z ks = refl
-no_number_types (Some (def.Pipe elem)) z ks = refl
-no_number_types _ z ks = cc
-
-pub no_text_types : (d : Option TypeDef) (max : ℕ) (octets : List ℕ) (ks : Trees) → child_types d (tree.Text max octets) ks ≡ []
-no_text_types (Some (def.Struct members)) max octets ks = refl
-no_text_types (Some (def.Array elem bound varying)) max octets ks = refl
-no_text_types (Some (def.Union tag encapsulated arms default)) max octets ks = refl
-no_text_types (Some (def.Pipe elem)) max octets ks = refl
-no_text_types _ max octets ks = cc
-
-pub no_pointer_types : (d : Option TypeDef) (c : Option ℕ) (ks : Trees) → child_types d (tree.Ptr c) ks ≡ []
-no_pointer_types (Some (def.Struct members)) c ks = refl
-no_pointer_types (Some (def.Array elem bound varying)) c ks = refl
-no_pointer_types (Some (def.Union tag encapsulated arms default)) c ks = refl
-no_pointer_types (Some (def.Pipe elem)) c ks = refl
-no_pointer_types _ c ks = cc
-
-pub no_context_types : (d : Option TypeDef) (attributes : ℕ) (id : List ℕ) (ks : Trees) → child_types d (tree.Context attributes id) ks ≡ []
-no_context_types (Some (def.Struct members)) attributes id ks = refl
-no_context_types (Some (def.Array elem bound varying)) attributes id ks = refl
-no_context_types (Some (def.Union tag encapsulated arms default)) attributes id ks = refl
-no_context_types (Some (def.Pipe elem)) attributes id ks = refl
-no_context_types _ attributes id ks = cc
 
 -- the type of an arm does not depend on what is there
 pub arm_types : (d : Option TypeDef) (tag : ℤ) (ks js : Trees) → child_types d (tree.Union tag) ks ≡ child_types d (tree.Union tag) js
@@ -183,11 +138,6 @@ members_over table fs i text w e =
 pub elements_over : (table : Table) (elem n i : ℕ) (text : List ℕ) (w : Trees) → n ≡ 0 → Writes table (replicate n elem) (listed i) text w text w
 elements_over table elem n i text w e =
     subst (λ m. Writes table (replicate m elem) (listed i) text w text w) (sym e) (nothing_next table [] (listed i) text text w refl (sym (append-nil text)))
-
--- an arm with a value
-pub arm_written : (table : Table) (t : ℕ) (text text' : List ℕ) (w w' : Trees) → Writes table (t ∷ []) first_text text w text' w' → Writes table (t ∷ []) arm_text text w text' w'
-arm_written table t text text' none w' h b = absurd b
-arm_written table t text text' (more (node l ks) ts) w' h b = h b
 
 pub union_written : (table : Table) (d : Option TypeDef) (tag : ℤ) (types : List ℕ) (ks : Trees) (text text1 text2 text' : List ℕ) (w w' : Trees)
     → types ≡ child_types d (tree.Union tag) none → text1 ≡ text ++ signed_decimal tag → text2 ≡ text1 ++ codes ":" → Writes table types arm_text text2 w text' w'
@@ -265,25 +215,7 @@ bytes_then n text0 text text' w0 w w' h k =
     dropped (suc n) [] = refl
     dropped (suc n) (f ∷ fs) = dropped n fs
 
--- one node as a byte, or none
-pub byte_written : (f : Flat) (text text' : List ℕ) (w w' : Trees) → flat w ≡ f ∷ flat w' → text' ≡ text ++ byte_text f.0 → WritesBytes 1 text w text' w'
-byte_written f text text' w w' e h =
-    (h ∙ ap (λ x. text ++ x) (sym (append-nil (byte_text f.0)) ∙ ap (λ fs. nodes_digits (take 1 fs)) (sym e)), sym (ap (drop 1) e))
-
-pub no_byte : (text : List ℕ) (w w' : Trees) → w ≡ none → w' ≡ w → WritesBytes 1 text w text w'
-no_byte text w w' e s =
-    let n : flat w ≡ [] = ap flat e in
-    (sym (append-nil text) ∙ ap (λ fs. text ++ nodes_digits (take 1 fs)) (sym n), ap flat (s ∙ e) ∙ sym (ap (drop 1) n))
-
 -- ## Sizes
-
-fewer_left : (n : ℕ) (fs : List Flat) → length (drop n fs) ≤ length fs
-fewer_left zero fs = omega arith
-fewer_left (suc n) [] = omega arith
-fewer_left (suc n) (f ∷ fs) = omega (arith, fewer_left n fs)
-
-pub fewer_bytes : (n : ℕ) (w w' : Trees) → flat w' ≡ drop n (flat w) → length (flat w') ≤ length (flat w)
-fewer_bytes n w w' e = subst (λ fs. length fs ≤ length (flat w)) (sym e) (fewer_left n (flat w))
 
 pub fewer_after : (f : Flat) (w w' : Trees) → flat w ≡ f ∷ flat w' → suc (length (flat w')) ≡ length (flat w)
 fewer_after f w w' e = sym (ap length e)

@@ -112,12 +112,6 @@ module _ (v : Version) (nb : List (ℕ × ℕ)) (k : ℕ) (table : Table) where
   opened_plain : (t : ℕ) (more : List Due) → is_in_table table t ≡ true → is_plain (opened v table (AValue t ∷ more)) ≡ true
   opened_plain t more h = ap (λ (o : Option TypeDef). is_plain (value_dues v table o ++ more)) (known_type table t h) ∙ value_plain (get_or table t def.Context) more
 
-  -- the dues at a token are plain where no name and no line of a cell is due
-  abbrev starts : List Due → Bool
-  starts (This (Name n) ∷ ds) = false
-  starts (ACellLine ∷ ds) = false
-  starts ds = true
-
   at_plain : (tok : Token) (d : Due) (more : List Due) → may_come table d ≡ true → name_due (d ∷ more) ≡ false → is_plain (due_at v table tok (d ∷ more)) ≡ true
   at_plain tok (AValue t) more h n = opened_plain t more h
   at_plain tok (FirstElement t) more h n = by (closes tok) where

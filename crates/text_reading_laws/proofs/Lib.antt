@@ -17,7 +17,6 @@ pub mod Fills
 pub mod GoOn
 pub mod NamesRead
 pub mod NamesDue
-pub mod Graphs
 pub mod OneFault
 pub mod Faults
 pub mod Stated

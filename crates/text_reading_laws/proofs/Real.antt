@@ -7,7 +7,7 @@ use Rattle.std.proofs.lemmas.Bool.Decides.{nat_tests}
 use Rattle.std.proofs.lemmas.Option.{same_Some}
 use Rattle.nd_base.specs.Text.{is_digit, is_hex_digit, hex_value, has_form, uuid_form}
 use Rattle.nd_value.specs.Misfit.{is_octet, is_count}
-use Rattle.text_grammar.specs.Tokens.{Token, Word, Number, Cell, Str, Bytes, Uuid, Mark, Spells, Cutting, IsCut, Begins, skip, character, escape, hex_pair, is_plain, IsQuoted, hex_octets, uuid_octets}
+use Rattle.text_grammar.specs.Tokens.{Token, Word, Number, Cell, Str, Bytes, Uuid, Mark, Spells, Begins, skip, character, escape, hex_pair, is_plain, IsQuoted, hex_octets, uuid_octets}
 use Rattle.text_grammar.proofs.Classes.{digit_range}
 use Rattle.text_reading_laws.specs.Real.{is_real}
 use Rattle.text_reading_laws.proofs.Quoted.{First}
@@ -135,6 +135,3 @@ spells_real (Mark m) text rest s = refl
 pub begins_real : (before : List Token) (text : List ℕ) (ts : List Token) (rest : List ℕ) → Begins before text ts rest → list_all is_real ts ≡ true
 begins_real before text [] rest b = refl
 begins_real before text (t ∷ ts) rest b = and_from (is_real t) (list_all is_real ts) (spells_real t (skip text) b.0 b.1.spelled) (begins_real (t ∷ before) b.0 ts rest b.2)
-
-pub cut_real : (how : Cutting) (text : List ℕ) (t : Token) (rest : List ℕ) → IsCut how text t rest → is_real t ≡ true
-cut_real how text t rest c = spells_real t (skip text) rest c.spelled

@@ -1,12 +1,11 @@
 -- What the tokens before say of the next one, where a text is read on in the middle.
 use Rattle.std.proofs.Common.{◌≡◌, ℕ, ℤ, Bool, true, false, ◌&&◌, ◌||◌, eqb, List, [], ◌∷◌, refl, ap, ap₂, sym, ◌∙◌, subst, codes}
-use Rattle.std.specs.List.{list_all}
 use Rattle.std.specs.Str.{bytes_eq}
 use Rattle.std.specs.Prelude.{pos}
-use Rattle.std.proofs.lemmas.Bool.{and_left, and_parts, eqb-true, not-true}
+use Rattle.std.proofs.lemmas.Bool.{and_left, eqb-true, not-true}
 use Rattle.text_grammar.specs.declared.version.Version.{Version}
 use Rattle.text_grammar.specs.declared.version.Version.TheVariants as version
-use Rattle.text_grammar.specs.Tokens.{Token, Word, Number, Cell, Str, Bytes, Uuid, Mark, cutting, uuid_due, is_version_two, after}
+use Rattle.text_grammar.specs.Tokens.{Token, Word, Number, Cell, Str, Bytes, Uuid, Mark, cutting, uuid_due, is_version_two}
 use Rattle.text_grammar.specs.Written.{version_number}
 use Rattle.text_grammar.specs.Printed.{is_comma}
 use Rattle.text_reading_laws.specs.Settled.{is_two, IsCalm, has_two, IsSettled, is_simple}
@@ -68,9 +67,6 @@ calm_next (Bytes octets) before s c = record { now = refl; comma = refl; number 
 calm_next (Uuid id) before s c = cc
 calm_next (Mark m) before s c = record { now = mark_now m before c; comma = refl; number = λ z. mark_number m z before (not-true (eqb m 40) s) }
 
-pub calm_none : IsCalm []
-calm_none = record { now = refl; comma = refl; number = λ z. refl }
-
 -- after the closing parenthesis of a context handle
 pub calm_context : (id : List ℕ) (before : List Token) → IsCalm (Mark 41 ∷ Uuid id ∷ before)
 calm_context id before = record { now = refl; comma = refl; number = λ z. refl }
@@ -116,12 +112,6 @@ settled_next v t before simple s = record {
   version = version_stays t before s.many ∙ s.version;
   calm = calm_next t before simple s.calm;
 }
-
-pub settled_all : (v : Version) (ts before : List Token) → list_all is_simple ts ≡ true → IsSettled v before → IsSettled v (after before ts)
-settled_all v [] before h s = s
-settled_all v (t ∷ ts) before h s =
-    let p = and_parts (is_simple t) (list_all is_simple ts) h in
-    settled_all v ts (t ∷ before) p.1 (settled_next v t before p.0 s)
 
 -- the first three tokens
 pub settled_head : (v : Version) → IsSettled v (Word (codes "op") ∷ Number (pos (version_number v)) ∷ Word (codes "values") ∷ [])

@@ -9,7 +9,6 @@ use Rattle.nd_types.specs.declared.types.TypeId.{TypeId}
 use Rattle.nd_types.specs.declared.types.Arm.{Arm}
 use Rattle.nd_types.specs.declared.types.TypeDef.TheVariants as def
 use Rattle.nd_types.specs.Table.{Table, type_at, selected, is_value, fits_octets}
-use Rattle.nd_types.specs.Layout.{hoists}
 use Rattle.nd_value.specs.declared.value.Graph.{Graph}
 use Rattle.nd_value.specs.declared.item.Home.{Home}
 use Rattle.nd_value.specs.declared.misfit.MisfitReason.{MisfitReason}
@@ -23,7 +22,7 @@ use Rattle.nd_value.specs.Misfit.{misfit_of, unless, has_shape, has_range, has_c
 use Rattle.nd_value.specs.Conforms.{IsAgreed, AgreesAt}
 use Rattle.nd_value.proofs.Apart.{all_append, all_left, all_right}
 use Rattle.nd_grammar.specs.Entry.{Kind, Entry}
-use Rattle.nd_grammar.specs.InPlace.{before_children, entries, tag_entries, in_place, tests, own_tests, child_tests, hoisted, hoisted_max, whole_value}
+use Rattle.nd_grammar.specs.InPlace.{before_children, entries, tag_entries, in_place, tests, own_tests, child_tests}
 use Rattle.nd_grammar.specs.Refusal.{is_selected}
 use Rattle.nd_grammar.proofs.reader.MadeTrees.{CellFits, CellKnown, label_known, all_flat_left}
 use Rattle.nd_grammar.specs.MadeTrees.{FitsAlone, MadeNode, MadeTrees}
@@ -201,8 +200,3 @@ module _ (table : Table) (g : Graph) where
         all_append (AgreesAt g) K R (in_place_agrees h (child_types d l ks) (child_agreements d ks) (n + 1) ks m.1 b (all_left Passed I (C ++ O) r) (all_left Passed C O s))
             (in_place_agrees h types (rest_agreements ags) (n + 1 + node_count ks) ts m.2 c (all_right Passed C O s) (all_right Passed W Z q)),
       )
-
--- a whole value's own entries
-pub whole_in_place : (table : Table) (h : Home) (t : ℕ) (v : Tree) → AllByRecursion Passed (whole_value table h t v) → AllByRecursion Passed (in_place table h (t ∷ []) 0 (more v none))
-whole_in_place table h t (node l ks) p =
-    all_right Passed (entries h 0 (hoisted (hoists table t) l (hoisted_max 0 (more (node l ks) none)))) (in_place table h (t ∷ []) 0 (more (node l ks) none)) p

@@ -3,9 +3,7 @@ use Rattle.std.proofs.Common.{◌≡◌, ℕ, ◌<◌, zero, suc, true, false, L
 use Rattle.std.specs.List.{AllByRecursion, list_all, slice_get}
 use Rattle.std.proofs.lemmas.Bool.{and_parts, ltb-true}
 use Rattle.nd_types.specs.declared.types.TypeDef.{TypeDef}
-use Rattle.nd_types.specs.declared.types.TypeId.{TypeId}
 use Rattle.nd_types.specs.declared.types.TypeDef.TheVariants as def
-use Rattle.nd_types.specs.declared.types.Class.{Class}
 use Rattle.nd_types.specs.declared.types.Primitive.{Primitive}
 use Rattle.nd_types.specs.declared.types.Primitive.TheVariants.{Short}
 use Rattle.nd_types.specs.declared.types.Operation.{Operation}
@@ -19,7 +17,7 @@ use Rattle.nd_types.proofs.LayoutLaws.{shallow_all}
 use Rattle.nd_value.proofs.NodeFacts.{all_of_list}
 use Rattle.nd_value.proofs.Apart.{all_left, all_weaker}
 use Rattle.nd_grammar.specs.ReaderState.{IsNoPipe, Known}
-use Rattle.nd_grammar.proofs.legal.LegalPipes.{parts_alone, holds_no_pipe}
+use Rattle.nd_grammar.proofs.legal.LegalPipes.{parts_alone}
 use Rattle.nd_grammar.proofs.reader.ReaderInPlace.{Fine, Readable}
 
 in_table : {X : Type 0} (xs : List X) (t : ℕ) → t < length xs → (x : X) × (slice_get xs t ≡ Some x)
@@ -76,11 +74,3 @@ module _ (table : Table) (operations : List Operation) (legal : IsLegal table op
   -- a type of the table that holds no pipe can be read
   pub legal_readable : (t : ℕ) → Known table t → IsNoPipe table t → Readable table 32 t
   legal_readable t k p = readable NESTING_LIMIT t k (shallow_all table legal.nesting t) p
-
-  -- so can what its pointers point to
-  pub pointee_readable : (t : ℕ) (c : Class) (to : TypeId) → type_at table t ≡ Some (def.Pointer c to) → IsNoPipe table t → Readable table 32 to.0
-  pointee_readable t c to e p = legal_readable to.0 (named_known t (def.Pointer c to) e).0 ((holds_no_pipe table operations legal).pointee t c to e p)
-
-  -- so can a pipe's elements
-  pub element_readable : (t : ℕ) (x : TypeId) → type_at table t ≡ Some (def.Pipe x) → Readable table 32 x.0
-  element_readable t x e = legal_readable x.0 (named_known t (def.Pipe x) e).0 ((holds_no_pipe table operations legal).element t x e)

@@ -84,11 +84,6 @@ module _ (b : Readings) (W X : List Pair → Type 0) where
   unread_right map at n [] ns e = e
   unread_right map at n (m ∷ ms) ns e = inr (inl e)
 
-  -- one entry more, the map as it is
-  pub one_more : (map : List Pair) → W map → (at : ℕ) (m n : Entry) (ms ns : List Entry) → HomesMeet map m.home n.home → Alike m n
-      → (SpeltLeft at m → SpeltRight at n → Next map (at + size_at at m.kind) ms ns) → Next map at (m ∷ ms) (n ∷ ns)
-  one_more map one at m n ms ns meet alike k = inr (inr ([], one, meet, alike, k))
-
   -- the map may grow before the next entry
   pub grown : (more_pairs map : List Pair) → (at : ℕ) (ms ns : List Entry) → Next (more_pairs ++ map) at ms ns → Next map at ms ns
   grown ps map at [] [] (new, one, x) =

@@ -1,20 +1,18 @@
 -- The entries before an entry fix the next one, over the steps of deferral: each kind of step.
 use Rattle.std.proofs.Common.{◌≡◌, ℕ, List, [], ◌∷◌, ◌++◌, Option, Some, None, refl, ap, sym, ◌∙◌, inl, inr, subst, append_assoc}
-use Rattle.std.specs.Prelude.{flat_map}
 use Rattle.nd_types.specs.declared.types.Class.{Class}
 use Rattle.nd_value.specs.declared.value.Graph.{Graph}
 use Rattle.nd_value.specs.declared.item.Home.{Home}
 use Rattle.nd_value.specs.Tree.{Tree, node, none, more, Referent}
 use Rattle.nd_value.specs.Agreement.{Agreement}
-use Rattle.std.specs.List.{AllByRecursion}
 use Rattle.nd_value.specs.Setting.{Setting, Among, cell_at, cell_of_number}
-use Rattle.nd_value.specs.Deferral.{Pending, home_pointers, Due, due_root, due_referent, Step, due_of, standing_cell, root_cell, AreFree}
+use Rattle.nd_value.specs.Deferral.{Pending, home_pointers, Due, due_root, due_referent, due_of, standing_cell, root_cell, AreFree}
 use Rattle.nd_grammar.specs.Entry.{Entry}
 use Rattle.nd_grammar.specs.InPlace.{tests, whole_value}
-use Rattle.nd_grammar.specs.Stream.{step_entries, standing_entries}
+use Rattle.nd_grammar.specs.Stream.{standing_entries}
 use Rattle.nd_value.specs.Deferral.{Standing}
 use Rattle.nd_value.specs.Setting.{cell_tree}
-use Rattle.nd_grammar.proofs.next.NextPending.{AllPointers, AllDueMatch}
+use Rattle.nd_grammar.proofs.next.NextPending.{AllPointers}
 use Rattle.nd_value.proofs.Orderly.{Pointee}
 use Rattle.nd_value.proofs.Apart.{all_append, among_left, among_right}
 use Rattle.nd_grammar.proofs.next.Next.{Pair, HomesMeet, Readings, Next, unread_left, unread_right, grown}
@@ -22,7 +20,7 @@ use Rattle.nd_grammar.proofs.next.Matching.{CellsMatch, Matched, Known}
 use Rattle.nd_grammar.proofs.next.NextInPlace.{tests_next}
 use Rattle.nd_grammar.proofs.next.NextWhole.{MaxesFrom, whole_value_next, unread_whole, unread_entry}
 use Rattle.nd_grammar.proofs.next.Carried.{InMap, AllInMap}
-use Rattle.nd_grammar.proofs.next.Standings.{firsts, seconds, one_to_one, IsMap, map_grown, found_top, top_of, PairFits, IsClosed, Stands, RootsAlike, RootsMeet, IsUnreadTree, in_map, carried_parts}
+use Rattle.nd_grammar.proofs.next.Standings.{firsts, seconds, one_to_one, IsMap, map_grown, found_top, top_of, IsClosed, Stands, RootsAlike, RootsMeet, IsUnreadTree, in_map, carried_parts}
 use Rattle.nd_grammar.proofs.next.Standings.{home_match, home_carried}
 
 module _ (two : Readings) (X : List Pair → Type 0) (w : Setting) (g g' : Graph)
@@ -39,12 +37,6 @@ module _ (two : Readings) (X : List Pair → Type 0) (w : Setting) (g g' : Graph
 
     abbrev N : List Pair → ℕ → List Entry → List Entry → Type 0
     N xs at ms ns = Next two W X xs at ms ns
-
-    abbrev Fit : List Pair → Type 0
-    Fit xs = AllByRecursion (PairFits two w g g') xs
-
-    abbrev Due_match : List Due → List Due → Type 0
-    Due_match xs ys = AllDueMatch Numbers g g' xs ys
 
     pub known_cell : (p : Pending) (c : ℕ) → p.cell ≡ Some c → Pointee g p → Known g w.table (p.to ∷ []) (more (cell_at g c) none)
     known_cell p c e f =
@@ -95,12 +87,6 @@ module _ (two : Readings) (X : List Pair → Type 0) (w : Setting) (g g' : Graph
         rw (append_assoc (whole_value w.table h t v) (tests h 0 v ws) ms, append_assoc (whole_value w.table h' t v') (tests h' 0 v' ws) ns)
         (whole_value_next two W X xs one w.table g g' h h' meet t v v' a b (maxes t v v' a b) (tests h 0 v ws ++ ms) (tests h' 0 v' ws ++ ns) at (λ p m.
         tests_next two W X xs one w.table g g' h h' meet 0 v v' ws (found_top v v' (top_of Numbers w.table t v v' m)) ms ns p (λ q. k q m)))
-
-    abbrev F : List Step → List Entry
-    F us = flat_map (step_entries w g) us
-
-    abbrev F' : List Step → List Entry
-    F' us = flat_map (step_entries w g') us
 
     pub next_due : (x y : Standing) → x.of ≡ y.of → Known g w.table (x.of ∷ []) (more x.val none) → Known g' w.table (x.of ∷ []) (more y.val none)
         → Matched Numbers w.table (x.of ∷ []) (more x.val none) (more y.val none)

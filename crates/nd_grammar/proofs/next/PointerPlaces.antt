@@ -106,9 +106,6 @@ module _ (table : Table) (h : Home) where
       (wider (n + 1 + node_count ks) (n + 1 + node_count ks + node_count ts) n all (flat_map f rest) (omega arith) (omega arith)
       (nodes_within types (rest_agreements ags) (n + 1 + node_count ks) ts))))
 
-  abbrev Apart : List Pending → Type 0
-  Apart ps = AllEarlier IsElsewhere ps
-
   lower : (a b c d : ℕ) (ps qs : List Pending) → b ≤ c → AllByRecursion (IsWithin a b) ps → AllByRecursion (IsWithin c d) qs → AreElsewhere ps qs
   lower a b c d ps qs l x y = elsewhere (IsWithin a b) (IsWithin c d) (λ p q u v e n. absurd (omega (arith, u.1, v.0))) ps qs x y
 

@@ -1,5 +1,5 @@
 -- What octets hold is in its primitive's range.
-use Rattle.std.proofs.Common.{◌≡◌, ℕ, ◌+◌, ◌^◌, ◌<◌, ◌≤◌, zero, suc, pos, true, ◌&&◌, List, [], ◌∷◌, length, refl, arith, take, drop, length-take, length-drop}
+use Rattle.std.proofs.Common.{◌≡◌, ℕ, ◌^◌, ◌<◌, ◌≤◌, zero, suc, pos, true, ◌&&◌, List, [], ◌∷◌, length, refl, arith, take, drop}
 use Rattle.std.proofs.lemmas.Bool.Decides.{nat_tests}
 use Rattle.std.proofs.lemmas.Int.{ints}
 use Rattle.std.specs.Prelude.{int_le}
@@ -86,10 +86,3 @@ pub take_octets : (n : ℕ) (os : List ℕ) → AreOctets os → AreOctets (take
 take_octets zero os h = tt
 take_octets (suc n) [] h = tt
 take_octets (suc n) (b ∷ os) h = (h.0, take_octets n os h.1)
-
--- the octets of a primitive within octets
-pub piece_in_range : (order : Order) (os : List ℕ) → AreOctets os → (p : Primitive) (a : ℕ) → a + width p ≤ length os
-    → in_range p (value_of_octets order p (take (width p) (drop a os))) ≡ true
-piece_in_range order os h p a fits =
-    let e : length (take (width p) (drop a os)) ≡ width p = simp (length-take, length-drop) (omega arith) in
-    value_in_range order p (take (width p) (drop a os)) e (take_octets (width p) (drop a os) (drop_octets a os h))

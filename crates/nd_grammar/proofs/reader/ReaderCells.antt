@@ -168,9 +168,6 @@ put_between b c us vs new e x y =
 
 -- a value that is set leaves the names as they are
 module _ (c : ℕ) (v : Tree) (s : Names) where
-  abbrev s' : Names
-  s' = with_value c v s
-
   pub value_length : length (with_value c v s).cells ≡ length s.cells
   value_length = set_length c v s.cells
 

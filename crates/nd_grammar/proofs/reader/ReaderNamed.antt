@@ -77,9 +77,6 @@ module _ (order : Order) (octets : List ℕ) where
       pointer = λ l i ags. record { each = ((λ c e. cc), tt); apart = (tt, tt) };
     }
 
-    its_cell : Referent
-    its_cell = record { of = to; val = unread }
-
     grown_extends : (s : Names) (xs : List (ℕ × ℕ)) → AllByRecursion (λ x. (length s.cells < x.1) × (x.1 ≤ length (s.cells ++ record { of = to; val = unread } ∷ []))) xs
         → Extends s (record { cells = s.cells ++ record { of = to; val = unread } ∷ []; numbers = xs ++ s.numbers })
     grown_extends s xs a = record { new = record { of = to; val = unread } ∷ []; cells = refl; blank = (refl, tt); more_numbers = xs; numbers = refl; of_new = a }
@@ -163,10 +160,6 @@ module _ (order : Order) (octets : List ℕ) where
             full = λ z. inl refl;
             not_full = λ z q. z refl;
           })
-
-      -- the entry is seen then, with this number
-      its_entry : Entry
-      its_entry = E Full (Some (fresh to s))
 
       seen_then : (pass order octets (E Full (Some (fresh to s))) p).seen ≡ p.seen ++ here p (E Full (Some (fresh to s))) ∷ []
       seen_then =

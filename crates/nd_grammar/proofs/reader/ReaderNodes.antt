@@ -83,9 +83,6 @@ module _ (order : Order) (octets : List ℕ) (h : Home) (n : ℕ) where
       length-take (size_at p.at k) (drop p.at octets) ∙ ap (λ u. min (size_at p.at k) u) (length-drop p.at octets) ∙ omega arith in
       (subst (λ u. kind_refusal order octets p.seen p.at (E k) k u ≡ None) b g, w, ap length (sym b) ∙ l)
 
-  number_spelt : (x y : Kind) (p : Progress) (os : List ℕ) → T x p ≡ T y p → T x p ≡ Some os → unsigned order os ≡ number_in order octets (T y p)
-  number_spelt x y p os e f = ap (number_in order octets) (sym f ∙ e)
-
   -- a number in a primitive's octets
   pub follows_number : (nums : ℕ → ℕ) (prim : Primitive) (values : Option (List ℤ)) (p : Progress)
       → Follows order octets nums p (E (Align (width prim)) ∷ E (Num prim values (value_in order octets prim (T (Num prim values (pos 0)) (P (Align (width prim)) p)))) ∷ [])

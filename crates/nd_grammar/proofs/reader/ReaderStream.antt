@@ -395,6 +395,3 @@ module _ (w : Setting) (side_of : IsLegalSide w) (order : Order) (octets : List 
 
   pub ends_in_octets : Pipes.progress.at ≤ length octets
   ends_in_octets = piped.moves.within ((all_moves order octets T H.progress).within head.state.within)
-
-  pub progress_is : (read_stream w order octets).progress ≡ Pipes.progress
-  progress_is = refl

@@ -12,7 +12,7 @@ use Rattle.nd_value.specs.Conforms.{IsPartial}
 use Rattle.nd_grammar.specs.declared.reason.Reason.{Reason}
 use Rattle.nd_grammar.specs.declared.reason.Reason.TheVariants as reason
 use Rattle.nd_grammar.specs.Entry.{Entry, size_at, EntryAt, end_to_end, end_of, full_cells}
-use Rattle.nd_grammar.specs.Represents.{piece, Spells, IsRendered, IsNumbering, Represents}
+use Rattle.nd_grammar.specs.Represents.{piece, Spells, IsRendered, IsNumbering}
 use Rattle.nd_grammar.specs.Refusal.{refusal, is_long, Accepts}
 use Rattle.nd_grammar.specs.Stream.{Stream}
 use Rattle.nd_grammar.specs.Bad.{Bad}
@@ -150,10 +150,3 @@ module _ (w : Setting) (order : Order) (octets : List ℕ) (nums : ℕ → ℕ) 
         accepted = r.accepted;
         refused = r.refused;
       }
-
-  -- Where it does not stop, and the octets end there, they are a stream of the graph.
-  pub read_represents : Stream w g ms → IsNumbering nums (full_cells ms) → Follows order octets nums start ms q → q.stop ≡ None
-      → q.at ≡ length octets → length octets ≤ STREAM_LIMIT → Represents w order octets g
-  read_represents s n f t e l =
-      let r : AllTaken order octets nums start ms q = all_taken order octets nums ms start q refl t f in
-      record { entries = ms; stream = s; numbering = nums; is_numbering = n; rendered = r.rendered; whole = sym r.at ∙ e; within = l }

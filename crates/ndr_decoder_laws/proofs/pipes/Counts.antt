@@ -1,27 +1,24 @@
 -- The count of a chunk: it is refused, or it ends the pipe, or so many elements come.
-use Rattle.std.proofs.Common.{◌≡◌, ◌≤◌, ◌<◌, ℕ, ◌+◌, ◌*◌, zero, suc, ℤ, Bool, true, false, List, [], ◌∷◌, ◌++◌, length, Option, Some, None, refl, ap, ap₂, sym, ◌∙◌, subst, arith, append_assoc, length-append}
-use Rattle.std.specs.Prelude.{pos, eqb, ltb}
-use Rattle.std.specs.List.{AllByRecursion}
+use Rattle.std.proofs.Common.{◌≡◌, ◌≤◌, ◌<◌, ℕ, ◌+◌, ◌*◌, suc, Bool, true, false, List, [], ◌∷◌, ◌++◌, length, Option, Some, None, refl, ap, ap₂, sym, ◌∙◌, subst, arith, append_assoc, length-append}
+use Rattle.std.specs.Prelude.{eqb, ltb}
 use Rattle.std.proofs.lemmas.List.{append-nil}
 use Rattle.std.proofs.lemmas.Bool.Decides.{nat_tests}
 use Rattle.nd_base.specs.declared.octets.Order.{Order}
 use Rattle.nd_base.specs.declared.TheConstants.{STREAM_LIMIT}
-use Rattle.nd_types.specs.declared.types.Attr.{Attr}
 use Rattle.nd_types.specs.declared.types.TypeId.{TypeId}
 use Rattle.nd_types.specs.Number.{AreOctets, unsigned}
 use Rattle.nd_types.specs.Roots.{Root}
 use Rattle.nd_value.specs.declared.item.Home.{Home}
 use Rattle.nd_value.specs.declared.item.Home.TheVariants as home
 use Rattle.nd_value.specs.declared.item.Item.{Item}
-use Rattle.nd_value.specs.declared.item.ItemKind.TheVariants as item
 use Rattle.nd_value.specs.Setting.{Setting}
 use Rattle.nd_value.specs.Tree as tree
-use Rattle.nd_value.specs.Tree.{Tree, Trees, node, none, joined, node_count}
+use Rattle.nd_value.specs.Tree.{Tree, Trees, node, none, node_count}
 use Rattle.nd_value.proofs.Apart.{all_left}
 use Rattle.nd_grammar.specs.declared.reason.Reason.{Reason}
 use Rattle.nd_grammar.specs.declared.reason.Reason.TheVariants as reason
 use Rattle.nd_grammar.specs.Entry.{Entry, EntryAt, Chunk}
-use Rattle.nd_grammar.specs.Refusal.{refusal, tested_at}
+use Rattle.nd_grammar.specs.Refusal.{refusal}
 use Rattle.nd_grammar.specs.Represents.{piece}
 use Rattle.nd_grammar.specs.Reader.{Names, Progress, pass, taken, taken_by, number_in}
 use Rattle.nd_grammar.specs.StreamReader.{ReadPipe, graph_of, read_pipes, read_stream}
@@ -30,8 +27,6 @@ use Rattle.ndr_decoder_laws.proofs.reader.Continuing.{passed, refused}
 use Rattle.ndr_decoder_laws.proofs.reader.Fetched.{cut_refused, long_refused}
 use Rattle.ndr_decoder_laws.proofs.reader.FlatNodes.{joined_none}
 use Rattle.ndr_decoder_laws.specs.steps.Good.{Told}
-use Rattle.ndr_decoder_laws.specs.steps.StepItems.{item_here}
-use Rattle.ndr_decoder_laws.specs.steps.Steps.{place_of, no_place}
 use Rattle.ndr_decoder_laws.proofs.steps.Passing.{items_it, judged, lies_it, no_less, silent, taken_it, told_passed, tested_passed}
 use Rattle.ndr_decoder_laws.specs.stream.Added.{Goes}
 use Rattle.ndr_decoder_laws.proofs.stream.Needing.{NeededAfter}

@@ -1,8 +1,7 @@
 -- What is kept stays right while entries of a pipe are passed; the gap before the count of a chunk.
-use Rattle.std.proofs.Common.{◌≡◌, ◌≤◌, ◌<◌, ℕ, ◌+◌, ◌*◌, zero, suc, List, [], ◌∷◌, ◌++◌, length, Option, Some, None, refl, ap, sym, ◌∙◌, subst, arith, append_assoc, length-append}
+use Rattle.std.proofs.Common.{◌≡◌, ◌≤◌, ◌<◌, ℕ, ◌+◌, ◌*◌, suc, List, [], ◌∷◌, ◌++◌, length, Option, Some, None, refl, ap, sym, ◌∙◌, subst, arith, append_assoc, length-append}
 use Rattle.std.specs.List.{AllByRecursion}
 use Rattle.nd_base.specs.declared.octets.Order.{Order}
-use Rattle.nd_types.specs.declared.types.Attr.{Attr}
 use Rattle.nd_types.specs.declared.types.TypeId.{TypeId}
 use Rattle.nd_types.specs.Number.{AreOctets}
 use Rattle.nd_types.specs.Roots.{Root}
@@ -14,8 +13,8 @@ use Rattle.nd_value.specs.Tree.{Tree, Trees, node_count}
 use Rattle.nd_value.proofs.Apart.{all_append, all_left}
 use Rattle.nd_grammar.specs.declared.reason.Reason.{Reason}
 use Rattle.nd_grammar.specs.declared.reason.Reason.TheVariants as reason
-use Rattle.nd_grammar.specs.Entry.{Entry, EntryAt, gap, Align, Chunk}
-use Rattle.nd_grammar.specs.Refusal.{refusal, tested_at}
+use Rattle.nd_grammar.specs.Entry.{Entry, EntryAt, gap, Align}
+use Rattle.nd_grammar.specs.Refusal.{refusal}
 use Rattle.nd_grammar.specs.Reader.{Names, Progress, pass}
 use Rattle.nd_grammar.specs.StreamReader.{read_stream}
 use Rattle.ndr_decoder_laws.specs.reader.Around.{going, stopped}
@@ -23,14 +22,14 @@ use Rattle.ndr_decoder_laws.proofs.reader.Continuing.{passed, refused}
 use Rattle.ndr_decoder_laws.proofs.reader.Fetched.{cut_refused}
 use Rattle.ndr_decoder_laws.specs.steps.Good.{Told}
 use Rattle.ndr_decoder_laws.specs.steps.StepItems.{gap_items}
-use Rattle.ndr_decoder_laws.specs.steps.Steps.{Place, place_of, no_place}
+use Rattle.ndr_decoder_laws.specs.steps.Steps.{Place}
 use Rattle.ndr_decoder_laws.proofs.steps.Passing.{gap_noted, items_it, judged, lies_it, silent, told_passed, tested_passed}
 use Rattle.ndr_decoder_laws.specs.stream.Added.{Goes}
 use Rattle.ndr_decoder_laws.proofs.stream.Needing.{NeededAfter, needed_more}
 use Rattle.ndr_decoder_laws.proofs.stream.Others.{others_silent, told_other}
 use Rattle.ndr_decoder_laws.specs.pipes.Reading.{Reads, count_then, of_pipe}
 use Rattle.ndr_decoder_laws.specs.pipes.Pipes.{Position, Stands, InPipe, at_chunk, at_count, past_gap}
-use Rattle.ndr_decoder_laws.proofs.pipes.Staying.{chunks_go, count_goes, count_stays, reads_go, reads_stop}
+use Rattle.ndr_decoder_laws.proofs.pipes.Staying.{chunks_go, count_stays, reads_go, reads_stop}
 
 -- the octets of two lists
 pub both_octets : (xs ys : List ℕ) → AreOctets xs → AreOctets ys → AreOctets (xs ++ ys)

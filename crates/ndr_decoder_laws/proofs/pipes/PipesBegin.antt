@@ -1,5 +1,5 @@
 -- The beginning of the pipes of a stream, of each of them, and their end.
-use Rattle.std.proofs.Common.{◌≡◌, ◌≤◌, ◌<◌, ℕ, ◌+◌, ◌*◌, zero, suc, Bool, true, false, List, [], ◌∷◌, ◌++◌, length, Option, Some, None, refl, ap, sym, ◌∙◌, subst, arith, append_assoc, length-append, drop, replicate}
+use Rattle.std.proofs.Common.{◌≡◌, ℕ, ◌+◌, suc, false, List, [], ◌∷◌, ◌++◌, length, Option, Some, None, ap, sym, ◌∙◌, subst, arith, length-append, drop}
 use Rattle.std.proofs.lemmas.List.{append-nil}
 use Rattle.nd_base.specs.declared.octets.Order.{Order}
 use Rattle.nd_types.specs.declared.types.Attr.{Attr}
@@ -9,18 +9,17 @@ use Rattle.nd_types.specs.declared.types.TypeDef.TheVariants as def
 use Rattle.nd_types.specs.Number.{AreOctets}
 use Rattle.nd_types.specs.Roots.{Root}
 use Rattle.nd_types.specs.Table.{type_at}
-use Rattle.nd_value.specs.declared.item.Home.{Home}
 use Rattle.nd_value.specs.declared.item.Home.TheVariants as home
 use Rattle.nd_value.specs.declared.item.Item.{Item}
 use Rattle.nd_value.specs.declared.value.Graph.{Graph}
 use Rattle.nd_value.specs.Deferral.{before_pipes}
 use Rattle.nd_value.specs.Setting.{Setting, root_list}
 use Rattle.nd_value.specs.Tree as tree
-use Rattle.nd_value.specs.Tree.{Tree, Trees, node, none}
+use Rattle.nd_value.specs.Tree.{Tree, node, none}
 use Rattle.nd_grammar.specs.Entry.{EntryAt}
 use Rattle.nd_grammar.specs.LegalSide.{IsLegalSide}
 use Rattle.nd_grammar.specs.Refusal.{tested_at}
-use Rattle.nd_grammar.specs.Reader.{Names, Progress}
+use Rattle.nd_grammar.specs.Reader.{Names}
 use Rattle.nd_grammar.specs.StreamReader.{Reading, Found, ReadPipe, ReadPipes, graph_of, read_chunks, read_pipe, read_pipes, read_stream}
 use Rattle.nd_grammar.proofs.LegalSides.{laid_out}
 use Rattle.nd_grammar.proofs.reader.ReaderPipes.{pipes_read}
@@ -33,7 +32,7 @@ use Rattle.ndr_decoder_laws.proofs.stream.StreamGrows.{pipes_go}
 use Rattle.nd_grammar.specs.decoded.Needed.{IsNeeded}
 use Rattle.ndr_decoder_laws.specs.pipes.Reading.{Reads}
 use Rattle.ndr_decoder_laws.proofs.pipes.PipeEntries.{both_octets}
-use Rattle.ndr_decoder_laws.specs.pipes.Pipes.{Position, Stands, ReadsPipes, InPipes, InPipe, at_chunk, pipes_due}
+use Rattle.ndr_decoder_laws.specs.pipes.Pipes.{Position, ReadsPipes, InPipes, InPipe, at_chunk, pipes_due}
 
 -- after the agreements of the parameters
 module _ (w : Setting) (side : IsLegalSide w) (order : Order) (fetched : List ℕ) (noted : List Item) (direct : ℕ) (b : Between) (s : Reading) (after : List EntryAt) (octets : AreOctets fetched)

@@ -1,5 +1,5 @@
 -- Where reading has stopped within a pipe it stays so; and reading only adds to the entries that were passed.
-use Rattle.std.proofs.Common.{◌≡◌, ℕ, ◌+◌, zero, suc, Bool, true, false, List, [], ◌∷◌, ◌++◌, length, Option, Some, None, refl, ap, sym, ◌∙◌, subst, replicate}
+use Rattle.std.proofs.Common.{◌≡◌, ℕ, ◌+◌, zero, suc, Bool, true, false, List, [], refl, ap, sym, ◌∙◌, subst, replicate}
 use Rattle.std.specs.Prelude.{eqb}
 use Rattle.nd_base.specs.declared.octets.Order.{Order}
 use Rattle.nd_types.specs.Roots.{Root}
@@ -10,8 +10,8 @@ use Rattle.nd_grammar.specs.declared.reason.Reason.{Reason}
 use Rattle.nd_grammar.specs.Entry.{EntryAt, Align, Chunk}
 use Rattle.nd_grammar.specs.Reader.{Progress, Names, ReadAll, pass, taken, number_in, read_list, read_in_place}
 use Rattle.nd_grammar.specs.StreamReader.{ReadPipe, read_chunks, read_pipes, read_stream}
-use Rattle.ndr_decoder_laws.specs.reader.Around.{going, stopped}
-use Rattle.ndr_decoder_laws.specs.stream.Added.{Added, Goes}
+use Rattle.ndr_decoder_laws.specs.reader.Around.{stopped}
+use Rattle.ndr_decoder_laws.specs.stream.Added.{Goes}
 use Rattle.ndr_decoder_laws.proofs.stream.Growing.{pass_adds, list_adds, in_place_adds}
 use Rattle.ndr_decoder_laws.proofs.stream.Heads.{pipes_stay}
 use Rattle.ndr_decoder_laws.proofs.stream.StreamGrows.{goes_by, goes_nowhere, goes_twice, pipes_go}

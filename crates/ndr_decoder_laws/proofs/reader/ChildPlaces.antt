@@ -5,20 +5,12 @@ use Rattle.std.proofs.lemmas.Option.{same_Some}
 use Rattle.nd_types.specs.declared.types.Attr.{Attr}
 use Rattle.nd_types.specs.declared.types.Attr.TheVariants as attr
 use Rattle.nd_value.specs.Tree as tree
-use Rattle.nd_value.specs.Tree.{Tree, Trees, node, none, more, joined, Label, Flat, flat, count, node_count}
+use Rattle.nd_value.specs.Tree.{Tree, Trees, node, none, more, Label, Flat, flat, count, node_count}
 use Rattle.nd_value.specs.Agreement.{number_of, number_in, found_in, offset_of, actual}
 use Rattle.nd_grammar.specs.Reader.{tree_nodes}
 use Rattle.std.specs.Prelude.{pos, ◌-ℤ◌}
 use Rattle.ndr_decoder_laws.specs.reader.ChildNodes.{first_nodes, tree_at, top, top_of, flat_number, flat_actual, flat_found}
 use Rattle.ndr_decoder_laws.proofs.reader.FlatNodes.{length_flat}
-
--- a child more has its first node after the nodes of the others
-pub first_nodes_moved : (n : ℕ) (xs : Trees) (v : Tree) → first_nodes n (joined xs (more v none)) ≡ first_nodes n xs ++ (n + node_count xs) ∷ []
-first_nodes_moved n none v = let z : n ≡ n + 0 = omega arith in ap (λ k. k ∷ []) z
-first_nodes_moved n (more (node l ks) ts) v =
-    let z : n + suc (node_count ks + 0) + node_count ts ≡ n + suc (node_count ks + node_count ts) = omega arith in
-    ap (λ zs. n ∷ zs) (first_nodes_moved (n + tree_nodes (node l ks)) ts v)
-    ∙ ap (λ k. (n ∷ first_nodes (n + tree_nodes (node l ks)) ts) ++ k ∷ []) z
 
 at_end : (zs : List Flat) (x : Flat) (rest : List Flat) → slice_get (zs ++ (x ∷ rest)) (length zs) ≡ Some x
 at_end [] x rest = refl

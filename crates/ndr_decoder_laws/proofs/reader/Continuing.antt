@@ -10,7 +10,7 @@ use Rattle.nd_types.specs.Table.{Table, type_at}
 use Rattle.nd_types.specs.Layout.{hoists}
 use Rattle.nd_value.specs.declared.item.Home.{Home}
 use Rattle.nd_value.specs.Tree as tree
-use Rattle.nd_value.specs.Tree.{Tree, Trees, node, none, more, joined, Label, Flat, flat, count}
+use Rattle.nd_value.specs.Tree.{Tree, Trees, node, none, more, joined, Label}
 use Rattle.nd_value.specs.Nodes.{child_agreements, child_types}
 use Rattle.nd_grammar.specs.InPlace.{child_tests}
 use Rattle.nd_grammar.specs.declared.reason.Reason.{Reason}
@@ -18,7 +18,7 @@ use Rattle.nd_grammar.specs.Entry.{Entry, EntryAt, size_at}
 use Rattle.nd_grammar.specs.Refusal.{refusal}
 use Rattle.nd_grammar.specs.Reader.{Progress, Names, Read, ReadAll, advanced, pass, pass_all, read_list, read_in_place, read_children, read_tagged, read_by, read_if, tree_nodes, bound_or}
 use Rattle.ndr_decoder_laws.specs.reader.Halves.{gap_of, past_gap, after_gap, tagged_after, tag_gap}
-use Rattle.ndr_decoder_laws.specs.reader.Around.{Around, going, stopped, opened, moved, with_left, closed, continue, go_on, finish}
+use Rattle.ndr_decoder_laws.specs.reader.Around.{Around, going, stopped, moved, with_left, closed, continue, go_on, finish}
 
 module _ (order : Order) (octets : List ℕ) where
   -- an entry that is not refused
@@ -75,11 +75,6 @@ module _ (order : Order) (octets : List ℕ) (table : Table) (h : Home) (m : ℕ
   abbrev read : ℕ → ℕ → ℕ → Progress → Names → Read
   read depth = read_in_place order octets table h depth m
 
-  pub opens : (depth : ℕ) (fs : List Around) (ty : ℕ) (d : Option TypeDef) (n : ℕ) (l : Label) (t : ℕ) (types : List ℕ) (at : ℕ) (seen : List EntryAt) (s : Names)
-      → finish order octets table h m (suc depth) fs (read_children order octets table h (read depth) d n l (t ∷ types) (going at seen) s)
-      ≡ finish order octets table h m depth (opened ty t d n l types ∷ fs) (read depth t (n + 1) (going at seen) s)
-  opens depth fs ty d n l t types at seen s = refl
-
   pub moves : (depth : ℕ) (fs : List Around) (f : Around) (t : ℕ) (types : List ℕ) (v : Tree) (at : ℕ) (seen : List EntryAt) (s : Names)
       → finish order octets table h m depth (with_left f (t ∷ types) ∷ fs) (record { tree = v; progress = going at seen; names = s })
       ≡ finish order octets table h m depth (moved f v t types ∷ fs) (read depth t (f.next + tree_nodes v) (going at seen) s)
@@ -95,11 +90,6 @@ module _ (order : Order) (octets : List ℕ) (table : Table) (h : Home) (m : ℕ
   goes_on depth f v p s =
       let others : ReadAll = read_list table (read depth) f.left (f.next + tree_nodes v) p s in
       ap (λ kids. closed order octets table h f kids others.progress others.names) (sym (joined_more f.done v others.trees))
-
-  pub closes : (depth : ℕ) (fs : List Around) (f : Around) (v : Tree) (at : ℕ) (seen : List EntryAt) (s : Names)
-      → finish order octets table h m depth (with_left f [] ∷ fs) (record { tree = v; progress = going at seen; names = s })
-      ≡ finish order octets table h m (suc depth) fs (closed order octets table h f (joined f.done (more v none)) (going at seen) s)
-  closes depth fs f v at seen s = refl
 
 -- where reading has stopped it stays so, whatever is read then
 module _ (order : Order) (octets : List ℕ) (table : Table) (h : Home) (at : ℕ) (seen : List EntryAt) (why : ℕ × Reason) where

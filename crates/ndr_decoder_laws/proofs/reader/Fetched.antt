@@ -1,8 +1,8 @@
 -- Octets that come in pieces: what is read of an entry is settled by the octets that were fetched, whatever follows them. One law for each outcome of
 -- an entry at the place where the octets fetched before it end, for every kind of entry.
 -- `fetched` are the octets before the entry, `os` its own, `more` any octets after it, `m` the entry.
-use Rattle.std.proofs.Common.{◌≡◌, ◌≤◌, ◌<◌, ℕ, ◌+◌, Bool, true, false, ◌&&◌, List, [], ◌∷◌, ◌++◌, length, take, drop, Option, Some, None, refl, ap, ap₂, sym, ◌∙◌, arith, append_assoc, length-append}
-use Rattle.std.specs.Prelude.{ltb, not, eqb, ◌||◌}
+use Rattle.std.proofs.Common.{◌≡◌, ◌≤◌, ◌<◌, ℕ, ◌+◌, true, false, ◌&&◌, List, [], ◌∷◌, ◌++◌, length, take, drop, Some, None, refl, ap, ap₂, ◌∙◌, arith, append_assoc, length-append}
+use Rattle.std.specs.Prelude.{ltb, eqb, ◌||◌}
 use Rattle.std.specs.List.{AllByRecursion}
 use Rattle.std.proofs.Math.Seq.{drop-append-add}
 use Rattle.std.proofs.lemmas.List.{take-append-le, take_all}
@@ -11,12 +11,11 @@ use Rattle.std.proofs.lemmas.Bool.Decides.{nat_tests}
 use Rattle.nd_base.specs.declared.octets.Order.{Order}
 use Rattle.nd_base.specs.declared.TheConstants.{STREAM_LIMIT}
 use Rattle.nd_types.specs.Number.{unsigned}
-use Rattle.nd_grammar.specs.declared.reason.Reason.{Reason}
 use Rattle.nd_grammar.specs.declared.reason.Reason.TheVariants.{Truncated, TooLong}
-use Rattle.nd_grammar.specs.Entry.{Kind, Entry, EntryAt, size_at}
+use Rattle.nd_grammar.specs.Entry.{Entry, EntryAt, size_at}
 use Rattle.nd_grammar.specs.Represents.{piece}
 use Rattle.nd_grammar.specs.Refusal.{refusal, kind_refusal, refused_if, is_long, is_other, other_pointee}
-use Rattle.nd_grammar.specs.Reader.{Progress, taken, taken_by}
+use Rattle.nd_grammar.specs.Reader.{taken, taken_by}
 use Rattle.nd_grammar.proofs.next.Spelt.{piece_left}
 use Rattle.ndr_decoder_laws.specs.reader.Around.{going}
 

@@ -11,13 +11,11 @@ use Rattle.nd_types.specs.declared.types.TypeDef.TheVariants as def
 use Rattle.nd_types.specs.Table.{Table, type_at}
 use Rattle.nd_value.specs.declared.item.Home.{Home}
 use Rattle.nd_value.specs.Tree as tree
-use Rattle.nd_value.specs.Tree.{Tree, Trees, node, none, more, joined, Label}
+use Rattle.nd_value.specs.Tree.{node, none}
 use Rattle.nd_value.specs.Agreement.{Agreement}
-use Rattle.nd_value.specs.Nodes.{child_types, child_agreements}
-use Rattle.nd_grammar.specs.Entry.{Entry, EntryAt, Align, Offset, Actual, Tag, Text, Test}
-use Rattle.nd_grammar.specs.InPlace.{child_tests}
+use Rattle.nd_grammar.specs.Entry.{EntryAt, Align, Offset, Actual, Tag, Text, Test}
 use Rattle.nd_grammar.specs.Refusal.{refusal}
-use Rattle.nd_grammar.specs.Reader.{Progress, Names, Read, pass, pass_all, taken, number_in, value_in, text_in, bound_or, entry, read_children, read_by, read_in_place, read_hoisted}
+use Rattle.nd_grammar.specs.Reader.{Progress, Names, Read, pass, taken, number_in, value_in, text_in, bound_or, entry, read_children, read_by, read_in_place, read_hoisted}
 use Rattle.ndr_decoder_laws.specs.reader.Halves.{gap_of, past_gap, tagged_after, union_after, union_tagged, hoisted_after}
 use Rattle.ndr_decoder_laws.specs.reader.Around.{Around, going, with_left, continue, closed, tests_of}
 use Rattle.ndr_decoder_laws.specs.reader.Points.{Point, TagForm, IsTagForm, due, opened, offset_read, text_offset, text_counted, tagged, between, checking, has, read_at, tag_taken}
@@ -115,29 +113,9 @@ module _ (order : Order) (octets : List ℕ) (table : Table) (h : Home) where
         by_form (Some (def.Pipe elem)) i = absurd i
         by_form None i = absurd i
 
-    pub tag_passes : (k t n : ℕ) (d : TypeDef) (form : TagForm) (arms : List Arm) (default : Option Arm) (z : ℤ) (p : Progress) (s : Names)
-        → at_point (suc k) (tagged t d form arms default z) n p s
-        ≡ read_children order octets table h (read_in_place order octets table h k m) (Some d) n (tree.Union (tag_taken arms default z)) (child_types (Some d) (tree.Union (tag_taken arms default z)) none)
-        (pass order octets (entry order octets table h n (Tag form.prim form.values arms default (tag_taken arms default z))) p) s
-    tag_passes k t n d form arms default z p s = refl
-
-    -- a node without children is at its agreements at once
-    pub no_children : (read : ℕ → ℕ → Progress → Names → Read) (d : Option TypeDef) (n : ℕ) (l : Label) (p : Progress) (s : Names)
-        → read_children order octets table h read d n l [] p s
-        ≡ record { tree = node l none; progress = pass_all order octets (child_tests h (child_agreements d none) (n + 1) none) p; names = s }
-    no_children read d n l p s = refl
-
     -- a struct all of whose members were read is at its agreements; when none is left, it is whole
     pub members_read : (k n : ℕ) (f : Around) (so_far : List (List Agreement)) (p : Progress) (s : Names) → f.left ≡ []
         → at_point (suc k) (between f) n p s ≡ at_point (suc k) (checking f so_far (tests_of order octets table h f f.done)) n p s
     members_read k n f so_far p s e =
         ap (λ types. continue order octets table h m k (with_left f types) p s) e
         ∙ ap (λ kids. closed order octets table h f kids p s) (joined_none f.done)
-
-    pub test_tried : (k n : ℕ) (f : Around) (so_far : List (List Agreement)) (x : Entry) (tests : List Entry) (p : Progress) (s : Names)
-        → at_point k (checking f so_far (x ∷ tests)) n p s ≡ at_point k (checking f so_far tests) n (pass order octets x p) s
-    test_tried k n f so_far x tests p s = refl
-
-    pub tests_over : (k t n : ℕ) (f : Around) (so_far : List (List Agreement)) (p : Progress) (s : Names)
-        → at_point k (checking f so_far []) n p s ≡ at_point k (has t (node f.label f.done)) n p s
-    tests_over k t n f so_far p s = refl

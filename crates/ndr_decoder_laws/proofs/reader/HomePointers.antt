@@ -1,6 +1,6 @@
 -- The pointers of a home while its value is being read: those of the children that were read come first; and how agreements join those of a struct's
 -- own members.
-use Rattle.std.proofs.Common.{◌≡◌, ℕ, ◌+◌, suc, Bool, List, [], ◌∷◌, ◌++◌, length, Option, Some, refl, ap, sym, ◌∙◌, arith, append_assoc, flat_map}
+use Rattle.std.proofs.Common.{◌≡◌, ℕ, ◌+◌, suc, Bool, List, [], ◌∷◌, ◌++◌, length, Option, Some, ap, sym, ◌∙◌, arith, append_assoc, flat_map}
 use Rattle.std.proofs.lemmas.List.{append-nil}
 use Rattle.std.proofs.lemmas.Grind.{flat_map-append}
 use Rattle.std.specs.Prelude.{ℤ, map, replicate}
@@ -16,7 +16,7 @@ use Rattle.nd_value.specs.declared.item.Home.{Home}
 use Rattle.nd_value.specs.Tree as tree
 use Rattle.nd_value.specs.Tree.{Tree, Trees, node, none, more, joined, Label, count, node_count, is_pointer, cell_in}
 use Rattle.nd_value.specs.Agreement.{Agreement, member_agreements}
-use Rattle.nd_value.specs.Deferral.{pointer, pointer_by, home_pointers}
+use Rattle.nd_value.specs.Deferral.{pointer, pointer_by}
 use Rattle.nd_value.specs.Nodes.{TypedNode, nodes_of, child_types, child_agreements, selected_types}
 use Rattle.ndr_decoder_laws.specs.reader.Around.{pointers, governed_pointers}
 
@@ -54,10 +54,6 @@ module _ (table : Table) where
       ∙ ap (λ zs. first ∷ zs) (sym (append_assoc inner (nodes_of table us vs (n + 1 + node_count ks) xs) (nodes_of table ts ws (n + suc (node_count ks + node_count xs)) ys)))
 
 module _ (table : Table) (h : Home) where
-  -- those of a home's value are the reader's
-  pub of_home : (t : ℕ) (v : Tree) → pointers table h (t ∷ []) 0 (more v none) ≡ home_pointers table h t v
-  of_home t v = refl
-
   -- a child more
   pub pointers_moved : (us : List ℕ) (t n : ℕ) (xs : Trees) (v : Tree) → length us ≡ count xs
       → pointers table h (us ++ t ∷ []) n (joined xs (more v none)) ≡ pointers table h us n xs ++ pointers table h (t ∷ []) (n + node_count xs) (more v none)

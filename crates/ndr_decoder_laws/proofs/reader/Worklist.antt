@@ -21,10 +21,6 @@ use Rattle.ndr_decoder_laws.specs.reader.Around.{stopped}
 use Rattle.ndr_decoder_laws.proofs.reader.Continuing.{all_stay}
 
 module _ (w : Setting) (order : Order) (octets : List ℕ) where
-  -- the first of what is due
-  pub due_first : (k : ℕ) (s : Reading) → read_due w order octets (suc k) s ≡ read_due w order octets k (read_next w order octets s.due s)
-  due_first k s = refl
-
   -- where nothing is due, nothing more is read, however much is left of the fuel
   pub due_over : (k : ℕ) (s : Reading) → s.due ≡ [] → read_due w order octets k s ≡ s
   due_over zero s e = refl

@@ -1,5 +1,5 @@
 -- Where a run ends the plain reader says the same: a whole value, a refusal, or octets that are cut short; and each octet was needed.
-use Rattle.std.proofs.Common.{◌≡◌, ◌≤◌, ◌<◌, ◌⊎◌, inl, inr, ℕ, ◌+◌, suc, List, [], ◌∷◌, ◌++◌, length, Option, Some, refl, ap, ap₂, sym, ◌∙◌, subst, arith, append_assoc, length-append}
+use Rattle.std.proofs.Common.{◌≡◌, ◌<◌, ◌⊎◌, inl, inr, ℕ, ◌+◌, suc, List, [], ◌∷◌, ◌++◌, length, Some, refl, ap, ap₂, sym, ◌∙◌, subst, arith, append_assoc, length-append}
 use Rattle.std.specs.Prelude.{slice_get}
 use Rattle.std.proofs.lemmas.List.{append-nil}
 use Rattle.nd_base.specs.declared.octets.Order.{Order}
@@ -9,14 +9,13 @@ use Rattle.nd_value.specs.declared.item.Home.{Home}
 use Rattle.nd_value.specs.declared.item.Item.{Item}
 use Rattle.nd_grammar.specs.declared.reason.Reason.{Reason}
 use Rattle.nd_grammar.specs.declared.reason.Reason.TheVariants as reason
-use Rattle.nd_grammar.specs.Entry.{EntryAt}
 use Rattle.nd_grammar.specs.Items.{items}
 use Rattle.nd_grammar.specs.Reader.{Read}
 use Rattle.ndr_code.specs.declared.instr.Instr.{Instr}
 use Rattle.ndr_code.specs.declared.lists.EnumList.{EnumList}
 use Rattle.ndr_decoder_laws.specs.reader.Around.{stopped}
 use Rattle.ndr_decoder_laws.specs.steps.Spots.{IsPlanned}
-use Rattle.ndr_decoder_laws.specs.steps.Steps.{State, Outcome, goes, refused, whole, Want, no_octets, gap_of, item_of, wants, step}
+use Rattle.ndr_decoder_laws.specs.steps.Steps.{State, refused, whole, Want, no_octets, gap_of, item_of, wants, step}
 use Rattle.ndr_decoder_laws.specs.steps.StepItems.{step_items}
 use Rattle.ndr_decoder_laws.specs.steps.Good.{Good, Whole, IsRight, HasOctets, IsCut, IsTooLong}
 use Rattle.ndr_decoder_laws.proofs.steps.Lacking.{cut_right, long_right, wanting}

@@ -1,13 +1,12 @@
 -- A struct of numbers by its steps: its `record`, of each member the call, the gap, the number and the `ret`, and its `close`.
 -- `b` is the state before, `base` where its members begin, `ms` are the members so far and `xs` what is kept of them.
-use Rattle.std.proofs.Common.{◌≡◌, ◌≤◌, ◌<◌, ◌⊎◌, inl, inr, ℕ, ◌+◌, zero, suc, List, [], ◌∷◌, ◌++◌, length, Option, Some, None, refl, ap, ap₂, sym, ◌∙◌, subst, arith, append_assoc, length-append}
+use Rattle.std.proofs.Common.{◌≡◌, ◌≤◌, ◌<◌, ◌⊎◌, inl, inr, ℕ, ◌+◌, zero, suc, List, [], ◌∷◌, ◌++◌, length, Some, None, refl, ap, ap₂, sym, ◌∙◌, subst, arith, append_assoc, length-append}
 use Rattle.std.specs.Prelude.{ℤ, Bool, true, false, ltb, if◌then◌else◌, take, drop, slice_get}
 use Rattle.std.proofs.lemmas.Bool.{ltb-true, ltb-false, le-ltb}
 use Rattle.std.proofs.lemmas.List.{append-nil}
 use Rattle.nd_base.specs.declared.octets.Order.{Order}
 use Rattle.nd_base.specs.declared.TheConstants.{STREAM_LIMIT}
 use Rattle.nd_types.specs.declared.types.Primitive.{Primitive}
-use Rattle.nd_types.specs.declared.types.TypeId.{TypeId}
 use Rattle.nd_types.specs.Number.{AreOctets, value_of_octets}
 use Rattle.nd_types.specs.Table.{width}
 use Rattle.nd_value.specs.declared.item.Home.{Home}
@@ -25,11 +24,11 @@ use Rattle.ndr_decoder_laws.specs.declared.first.First.TheVariants as first
 use Rattle.ndr_decoder_laws.specs.declared.first.Member.{Member}
 use Rattle.ndr_decoder_laws.specs.declared.frame.Frame.{Frame}
 use Rattle.ndr_decoder_laws.specs.declared.frame.Frame.TheVariants as frame
-use Rattle.ndr_decoder_laws.specs.steps.Steps.{State, begun, goes, number_step, own_by, firsts_by, first_of}
+use Rattle.ndr_decoder_laws.specs.steps.Steps.{State, begun, number_step, own_by, firsts_by, first_of}
 use Rattle.ndr_code.specs.Fields.{prim_of}
 use Rattle.ndr_decoder_laws.specs.steps.StepItems.{gap_items, item_here, step_items}
-use Rattle.ndr_decoder_laws.specs.runs.Reaching.{Reaches, begins, steps_to}
-use Rattle.ndr_decoder_laws.specs.runs.Records.{Slot, IsNumberAt, IsSlotRun, AreSlots, IsNumberRecord, IsAmongElements, slots_len, slot_octets, after_slot, slot_flats, slot_items, record_read, records_read, IsRecordRun, next_place, after_record, records_len, record_flats, record_items, EndsWithin, slots_came, records_came}
+use Rattle.ndr_decoder_laws.specs.runs.Reaching.{Reaches, steps_to}
+use Rattle.ndr_decoder_laws.specs.runs.Records.{Slot, IsNumberAt, IsSlotRun, AreSlots, IsNumberRecord, IsAmongElements, slots_len, slot_octets, after_slot, slot_flats, slot_items, record_read, records_read, IsRecordRun, next_place, records_len, record_flats, record_items, EndsWithin, slots_came, records_came}
 use Rattle.ndr_decoder_laws.proofs.runs.RowSteps.{length_taken, length_left, taken_and_left}
 
 no_octets_at : (os : List ℕ) → length os ≡ 0 → os ≡ []
@@ -642,23 +641,3 @@ module _ (values : List EnumList) (order : Order) (code : List Instr) (h : Home)
       (omega (arith, both, here_size, gap_size)) in
       element_cut (n + more) to run back fs s fetched os noted (gap_items h end gs ++ last_items) r top_is is level octets (omega (arith, shorter)) others
       (ltb (length os) (slots_len s.at fs)) (ltb (length os) (slots_len s.at fs + gap end to)) refl refl
-
-  -- where all octets of the elements have come their items are the same
-  pub records_whole : (n at node to : ℕ) (fs : List Slot) (os : List ℕ) → length os ≡ records_len at to fs n
-      → records_came order h at node to fs n os ≡ record_items order h at node to fs n os
-  records_whole zero at node to fs os size = slots_whole fs at (node + 1) os size
-  records_whole (suc n) at node to fs os size =
-      let end : ℕ = at + slots_len at fs in
-      let here : List ℕ = take (slots_len at fs) os in
-      let left : List ℕ = drop (slots_len at fs) os in
-      let gs : List ℕ = take (gap end to) left in
-      let rest : List ℕ = drop (gap end to) left in
-      let sum : length os ≡ slots_len at fs + (gap end to + records_len (end + gap end to) to fs n) = size in
-      let here_size : length here ≡ slots_len at fs = length_taken (slots_len at fs) os (omega (arith, sum)) in
-      let left_size : slots_len at fs + length left ≡ length os = length_left (slots_len at fs) os (omega (arith, sum)) in
-      let rest_size : gap end to + length rest ≡ length left = length_left (gap end to) left (omega (arith, left_size, sum)) in
-      let a_gap : ltb (length os) (slots_len at fs + gap end to) ≡ false = le-ltb (length os) (slots_len at fs + gap end to) (omega (arith, sum)) in
-      let last : List Item = records_came order h (end + gap end to) (node + 1 + length fs) to fs n rest in
-      ap (λ (e : Bool). slots_came order h at (node + 1) fs here ++ (if e then [] else gap_items h end gs ++ last)) a_gap
-      ∙ ap₂ (λ k l. k ++ (gap_items h end gs ++ l)) (slots_whole fs at (node + 1) here here_size)
-      (records_whole n (end + gap end to) (node + 1 + length fs) to fs rest (omega (arith, rest_size, left_size, sum)))

@@ -1,7 +1,7 @@
 -- A row of numbers by its steps: each number, its `ret`, and the empty gap before the next one where the run begins with a gap.
 -- `w` is the width of a number, `more` how many elements are left after the row.
-use Rattle.std.proofs.Common.{◌≡◌, ◌≤◌, ◌⊎◌, inl, inr, ℕ, ◌+◌, ◌*◌, zero, suc, true, List, [], ◌∷◌, ◌++◌, length, Option, Some, None, refl, ap, ap₂, sym, ◌∙◌, subst, arith, append_assoc, length-append}
-use Rattle.std.specs.Prelude.{ℤ, ◌-◌, ◌%◌, take, drop, slice_get}
+use Rattle.std.proofs.Common.{◌≡◌, ◌≤◌, ◌⊎◌, inl, inr, ℕ, ◌+◌, ◌*◌, zero, suc, List, [], ◌∷◌, ◌++◌, length, Some, None, refl, ap, ap₂, sym, ◌∙◌, subst, arith, append_assoc, length-append}
+use Rattle.std.specs.Prelude.{◌-◌, ◌%◌, take, drop, slice_get}
 use Rattle.std.proofs.lemmas.List.{append-nil}
 use Rattle.nd_base.specs.declared.octets.Order.{Order}
 use Rattle.nd_base.specs.declared.TheConstants.{STREAM_LIMIT}
@@ -26,7 +26,7 @@ use Rattle.ndr_decoder_laws.specs.declared.frame.Frame.TheVariants as frame
 use Rattle.ndr_decoder_laws.specs.steps.Steps.{State, begun, goes, number_step, done_after, back_to, with_node, with_frames, jumped, own_by, firsts_by, first_of}
 use Rattle.ndr_code.specs.Fields.{prim_of}
 use Rattle.ndr_decoder_laws.specs.steps.StepItems.{item_here, step_items}
-use Rattle.ndr_decoder_laws.specs.runs.Reaching.{Reaches, begins, steps_to}
+use Rattle.ndr_decoder_laws.specs.runs.Reaching.{Reaches, steps_to}
 use Rattle.ndr_decoder_laws.specs.runs.Rows.{with_row, with_fewer, row_read, row_passed, row_items, IsNumberRun, IsInRow}
 
 -- ## Octets

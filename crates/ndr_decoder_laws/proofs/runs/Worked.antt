@@ -1,5 +1,5 @@
 -- The laws of runs, at the short of `ndr_decoder_laws: proofs/Worked`.
-use Rattle.std.proofs.Common.{ℕ, ◌+◌, List, [], ◌∷◌, ◌++◌, refl, lit<, lit≤}
+use Rattle.std.proofs.Common.{◌+◌, [], ◌∷◌, refl, lit<, lit≤}
 use Rattle.nd_base.specs.declared.octets.Order.TheVariants.{Little}
 use Rattle.nd_types.specs.Kinds.{basic_types}
 use Rattle.nd_value.specs.declared.item.Home.{Home}

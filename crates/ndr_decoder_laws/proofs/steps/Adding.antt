@@ -1,6 +1,6 @@
 -- A node is added: what is kept of it, and a value that has no children is whole then.
 -- `y` is the node, `place` where its actual count or tag is, `q` what the state keeps.
-use Rattle.std.proofs.Common.{◌≡◌, ◌≤◌, ◌<◌, ◌⊎◌, inl, inr, ℕ, ◌+◌, zero, suc, Bool, true, false, List, [], ◌∷◌, ◌++◌, length, Option, Some, None, refl, ap, ap₂, sym, ◌∙◌, subst, arith, append_assoc, length-append, map}
+use Rattle.std.proofs.Common.{◌≡◌, ◌⊎◌, inl, inr, ℕ, ◌+◌, zero, suc, false, List, [], ◌∷◌, ◌++◌, length, Option, Some, None, refl, ap, ap₂, sym, ◌∙◌, subst, arith, append_assoc, length-append, map}
 use Rattle.std.specs.Prelude.{ℤ}
 use Rattle.std.specs.List.{slice_get}
 use Rattle.std.proofs.lemmas.Option.{same_Some}
@@ -13,7 +13,7 @@ use Rattle.nd_types.specs.Table.{Table}
 use Rattle.nd_value.specs.declared.item.Home.{Home}
 use Rattle.nd_value.specs.declared.item.Item.{Item}
 use Rattle.nd_value.specs.Tree as tree
-use Rattle.nd_value.specs.Tree.{Tree, Trees, node, none, more, Flat, Label}
+use Rattle.nd_value.specs.Tree.{node, none, more, Flat, Label}
 use Rattle.nd_grammar.specs.Entry.{Entry, EntryAt}
 use Rattle.nd_grammar.specs.Refusal.{tested_at, refusal}
 use Rattle.nd_grammar.specs.declared.reason.Reason.{Reason}
@@ -26,11 +26,10 @@ use Rattle.ndr_decoder_laws.proofs.reader.Continuing.{finish_stays}
 use Rattle.ndr_decoder_laws.specs.declared.first.First.{First}
 use Rattle.ndr_decoder_laws.specs.declared.first.Member.{Member}
 use Rattle.ndr_decoder_laws.specs.declared.frame.Frame.{Frame}
-use Rattle.ndr_decoder_laws.specs.declared.frame.Frame.TheVariants as frame
-use Rattle.ndr_decoder_laws.specs.steps.Spots.{Inside, IsFrame, in_struct, in_array, in_union, in_pipe, AtEnd, IsShaped, FitsPointer}
-use Rattle.ndr_decoder_laws.specs.steps.Steps.{State, Owed, Place, no_place, begun, place_of, place_in, first_of, own_by, firsts_by}
+use Rattle.ndr_decoder_laws.specs.steps.Spots.{Inside, in_struct, in_array, in_union, in_pipe, AtEnd, IsShaped, FitsPointer}
+use Rattle.ndr_decoder_laws.specs.steps.Steps.{State, Owed, Place, begun, place_of, place_in, first_of, own_by, firsts_by}
 use Rattle.ndr_decoder_laws.specs.steps.Good.{Told, Kept, Good, OwnIn, members_around, members_of, read_members, open_member, owed, due_member, place_at}
-use Rattle.ndr_decoder_laws.proofs.steps.Passing.{kept_longer, own_map, none_ahead}
+use Rattle.ndr_decoder_laws.proofs.steps.Passing.{kept_longer, none_ahead}
 use Rattle.ndr_decoder_laws.proofs.steps.Arriving.{Parts, Within, KeptAll, KeptOwn}
 
 pub get_joined : {X : Type 0} (xs : List X) (x : X) (i : ℕ) (z : X) → slice_get (xs ++ x ∷ []) i ≡ Some z → (slice_get xs i ≡ Some z) ⊎ ((i ≡ length xs) × (x ≡ z))

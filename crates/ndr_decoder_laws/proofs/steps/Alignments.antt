@@ -1,5 +1,5 @@
 -- The gap before a value leads to a multiple of 1, 2, 4 or 8.
-use Rattle.std.proofs.Common.{◌≡◌, ◌⊎◌, inl, inr, ℕ, true, false, List, [], ◌∷◌, ◌++◌, Option, Some, None, refl, sym, subst}
+use Rattle.std.proofs.Common.{◌≡◌, ℕ, true, false, List, [], ◌∷◌, ◌++◌, Option, Some, None, subst}
 use Rattle.std.specs.Prelude.{pos}
 use Rattle.std.specs.List.{AllByRecursion}
 use Rattle.std.proofs.lemmas.Option.{same_Some}
@@ -11,7 +11,6 @@ use Rattle.nd_value.specs.declared.item.Home.{Home}
 use Rattle.nd_value.specs.Deferral.{Pending}
 use Rattle.nd_value.specs.Tree as tree
 use Rattle.nd_value.specs.Tree.{node, none, more, Label}
-use Rattle.nd_grammar.specs.Entry.{Entry}
 use Rattle.nd_grammar.specs.InPlace.{before_children, entries, tag_entries}
 use Rattle.nd_grammar.proofs.reader.EntriesFine.{Fine, FullOk, fine_in_place}
 use Rattle.ndr_decoder_laws.specs.reader.Halves.{gap_of, tag_gap}

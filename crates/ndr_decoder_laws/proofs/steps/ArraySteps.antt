@@ -1,19 +1,18 @@
 -- Arrays: the node of an array, and its first element if it has one. A union's arm is read in the same way.
-use Rattle.std.proofs.Common.{◌≡◌, ◌≤◌, ◌<◌, ℕ, ◌+◌, zero, suc, Bool, true, false, List, [], ◌∷◌, ◌++◌, length, Option, Some, None, refl, ap, ap₂, sym, ◌∙◌, subst, arith, append_assoc, length-append, map}
+use Rattle.std.proofs.Common.{◌≡◌, ℕ, ◌+◌, zero, suc, Bool, List, [], ◌∷◌, ◌++◌, length, Option, Some, refl, ap, ap₂, sym, ◌∙◌, arith, length-append, map}
 use Rattle.std.specs.Prelude.{replicate}
 use Rattle.std.specs.List.{AllByRecursion}
 use Rattle.std.proofs.lemmas.List.{append-nil, length-replicate}
 use Rattle.nd_base.specs.declared.octets.Order.{Order}
 use Rattle.nd_types.specs.declared.types.Attr.{Attr}
-use Rattle.nd_types.specs.declared.types.TypeDef.{TypeDef}
 use Rattle.nd_types.specs.declared.types.TypeDef.TheVariants as def
 use Rattle.nd_types.specs.declared.types.TypeId.{TypeId}
 use Rattle.nd_types.specs.Table.{Table, type_at}
 use Rattle.nd_value.specs.declared.item.Home.{Home}
 use Rattle.nd_value.specs.declared.item.Item.{Item}
 use Rattle.nd_value.specs.Tree as tree
-use Rattle.nd_value.specs.Tree.{Tree, Trees, node, none, more, Label, Flat, flat, count}
-use Rattle.nd_grammar.specs.Entry.{Entry, EntryAt}
+use Rattle.nd_value.specs.Tree.{node, none, Flat}
+use Rattle.nd_grammar.specs.Entry.{EntryAt}
 use Rattle.nd_grammar.specs.Refusal.{tested_at}
 use Rattle.nd_grammar.specs.Reader.{Names, Read, read_in_place, read_children}
 use Rattle.ndr_code.specs.declared.instr.Instr.{Instr}
@@ -21,13 +20,11 @@ use Rattle.ndr_code.specs.declared.instr.Instr.TheVariants as op
 use Rattle.ndr_code.specs.declared.lists.EnumList.{EnumList}
 use Rattle.ndr_code.specs.Code.{place_at}
 use Rattle.ndr_code.specs.Runs.{IsRunAt}
-use Rattle.ndr_decoder_laws.specs.reader.Around.{Around, going, finish, nodes_around, pointers, pointers_around}
+use Rattle.ndr_decoder_laws.specs.reader.Around.{Around, going, finish, nodes_around, pointers_around}
 use Rattle.ndr_decoder_laws.proofs.reader.HomePointers.{of_array}
-use Rattle.ndr_decoder_laws.specs.declared.frame.Frame.{Frame}
-use Rattle.ndr_decoder_laws.specs.declared.frame.Frame.TheVariants as frame
 use Rattle.ndr_decoder_laws.specs.steps.Spots.{IsFine, IsPlanned, in_array, at_ret}
-use Rattle.ndr_decoder_laws.specs.steps.Steps.{State, Outcome, goes, begun, Place, elements, with_node, place_of, place_in, first_of}
-use Rattle.ndr_decoder_laws.specs.steps.Good.{Told, Good, IsRight, owed, members_around}
+use Rattle.ndr_decoder_laws.specs.steps.Steps.{State, Place, elements, with_node, place_of, place_in, first_of}
+use Rattle.ndr_decoder_laws.specs.steps.Good.{Told, Good, owed, members_around}
 use Rattle.ndr_decoder_laws.proofs.steps.Arriving.{Within, parts_of, arrives}
 use Rattle.ndr_decoder_laws.proofs.steps.Adding.{added, told_node, leaf_good, no_pointer}
 use Rattle.ndr_decoder_laws.proofs.steps.StructSteps.{deeper}

@@ -1,7 +1,7 @@
 -- A value that is due: what the state keeps around it, and how the decoder comes to it.
-use Rattle.std.proofs.Common.{◌≡◌, ◌≤◌, ◌<◌, ◌⊎◌, inl, inr, ℕ, ◌+◌, zero, suc, Bool, true, false, List, [], ◌∷◌, ◌++◌, length, Option, Some, None, refl, ap, ap₂, sym, ◌∙◌, subst, arith, append_assoc, length-append, map}
+use Rattle.std.proofs.Common.{◌≡◌, ◌≤◌, ◌<◌, ◌⊎◌, inl, inr, ℕ, ◌+◌, zero, suc, Bool, true, false, List, [], ◌∷◌, ◌++◌, length, Option, Some, None, refl, ap, sym, ◌∙◌, subst, arith, length-append, map}
 use Rattle.std.specs.Prelude.{eqb, ℤ}
-use Rattle.std.specs.List.{AllByRecursion, slice_get}
+use Rattle.std.specs.List.{slice_get}
 use Rattle.std.proofs.lemmas.Bool.{eqb-true}
 use Rattle.std.proofs.lemmas.List.{append-nil}
 use Rattle.std.proofs.lemmas.Option.{slice_get_within}
@@ -9,25 +9,22 @@ use Rattle.nd_base.specs.declared.octets.Order.{Order}
 use Rattle.nd_types.specs.declared.types.Attr.{Attr}
 use Rattle.nd_types.specs.declared.types.TypeDef.{TypeDef}
 use Rattle.nd_types.specs.declared.types.TypeDef.TheVariants as def
-use Rattle.nd_types.specs.declared.types.Arm.{Arm}
-use Rattle.nd_types.specs.declared.types.TypeId.{TypeId}
 use Rattle.nd_types.specs.declared.types.Primitive.{Primitive}
 use Rattle.nd_types.specs.Table.{Table, type_at, width}
 use Rattle.nd_types.specs.Layout.{align_of, align_by, align_within}
 use Rattle.nd_value.specs.declared.item.Home.{Home}
 use Rattle.nd_value.specs.declared.item.Item.{Item}
 use Rattle.nd_value.specs.Tree.{Flat}
-use Rattle.nd_grammar.specs.Entry.{Entry, EntryAt, gap, Align, size_at}
+use Rattle.nd_grammar.specs.Entry.{Entry, EntryAt, gap, Align}
 use Rattle.nd_grammar.specs.Refusal.{refusal, refused_if}
-use Rattle.nd_grammar.specs.declared.reason.Reason.{Reason}
 use Rattle.nd_grammar.specs.declared.reason.Reason.TheVariants.{Truncated}
-use Rattle.nd_grammar.specs.Reader.{Names, Read, Progress, pass, entry, read_in_place}
+use Rattle.nd_grammar.specs.Reader.{Names, Read, pass, entry, read_in_place}
 use Rattle.ndr_code.specs.declared.instr.Instr.{Instr}
 use Rattle.ndr_code.specs.declared.instr.Instr.TheVariants as op
 use Rattle.ndr_code.specs.declared.lists.EnumList.{EnumList}
-use Rattle.ndr_code.specs.Code.{place_at, whole_at, id, gap_run, place_run}
+use Rattle.ndr_code.specs.Code.{place_at, whole_at, id, place_run}
 use Rattle.ndr_code.specs.Runs.{IsRunAt}
-use Rattle.ndr_decoder_laws.specs.reader.Halves.{gap_of, past_gap, tag_gap, after_gap}
+use Rattle.ndr_decoder_laws.specs.reader.Halves.{gap_of, past_gap, tag_gap}
 use Rattle.ndr_decoder_laws.specs.reader.Around.{Around, going, finish, nodes_around, pointers_around, Numbered, Tied}
 use Rattle.ndr_decoder_laws.specs.reader.Points.{Point, TagForm, IsTagForm, due, opened, hoisting, counting, called, between, checking, has, type_of, held, read_at}
 use Rattle.ndr_decoder_laws.proofs.reader.Continuing.{passed}
@@ -36,7 +33,7 @@ use Rattle.ndr_decoder_laws.specs.declared.first.First.{First}
 use Rattle.ndr_decoder_laws.specs.declared.first.Member.{Member}
 use Rattle.ndr_decoder_laws.specs.declared.frame.Frame.{Frame}
 use Rattle.ndr_decoder_laws.specs.steps.Spots.{IsFine, IsDue, IsFormed, IsPlanned, Inside, Fits, Spot, body_run}
-use Rattle.ndr_decoder_laws.specs.steps.Steps.{State, Owed, Phase, begun}
+use Rattle.ndr_decoder_laws.specs.steps.Steps.{State, Owed, begun}
 use Rattle.ndr_decoder_laws.specs.steps.Good.{Told, Kept, Good, OwnIn, Begin, HasRegisters, Holds, members_around, owed, due_member, half_at, phase_at}
 use Rattle.ndr_decoder_laws.proofs.steps.Passing.{items_it, told_passed, kept_passed, own_map, silent, speaks, no_less, Lies}
 

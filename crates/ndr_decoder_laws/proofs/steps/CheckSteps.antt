@@ -1,5 +1,5 @@
 -- `check`: an agreement of a struct's member, and the end of the struct after the last one.
-use Rattle.std.proofs.Common.{◌≡◌, ◌≤◌, ◌<◌, ◌⊎◌, inl, inr, ℕ, ◌+◌, zero, suc, Bool, true, false, List, [], ◌∷◌, ◌++◌, length, Option, Some, None, refl, ap, ap₂, sym, ◌∙◌, subst, arith, append_assoc, length-append, map}
+use Rattle.std.proofs.Common.{◌≡◌, ◌≤◌, ◌<◌, ◌⊎◌, inl, inr, ℕ, ◌+◌, suc, Bool, true, false, List, [], ◌∷◌, ◌++◌, length, Option, Some, None, refl, ap, ap₂, sym, ◌∙◌, subst, arith, append_assoc, length-append, map}
 use Rattle.std.specs.Prelude.{ℤ, cond, option_map, if◌then◌else◌}
 use Rattle.std.specs.List.{AllByRecursion, slice_get}
 use Rattle.std.specs.Ordering.{int_eq}
@@ -9,16 +9,14 @@ use Rattle.nd_base.specs.declared.octets.Order.{Order}
 use Rattle.nd_types.specs.declared.types.Attr.{Attr}
 use Rattle.nd_types.specs.declared.types.AttrVar.{AttrVar}
 use Rattle.nd_types.specs.declared.types.Field.{Field}
-use Rattle.nd_types.specs.declared.types.TypeDef.TheVariants as def
-use Rattle.nd_types.specs.Table.{Table, type_at}
+use Rattle.nd_types.specs.Table.{Table}
 use Rattle.nd_value.specs.declared.item.Home.{Home}
 use Rattle.nd_value.specs.declared.item.Item.{Item}
 use Rattle.nd_value.specs.Agreement.{Agreement, agreement, wanted_by, member_agreements, number_in, found_in}
-use Rattle.nd_value.specs.Tree as tree
 use Rattle.nd_value.specs.Tree.{Tree, Trees, node, none, more, joined, Label, Flat, flat, count, node_count, is_pointer}
 use Rattle.nd_grammar.specs.declared.reason.Reason.{Reason}
 use Rattle.nd_grammar.specs.declared.reason.Reason.TheVariants as reason
-use Rattle.nd_grammar.specs.Entry.{Kind, Entry, EntryAt, Test}
+use Rattle.nd_grammar.specs.Entry.{Entry, EntryAt, Test}
 use Rattle.nd_grammar.specs.InPlace.{child_tests, own_tests, tests}
 use Rattle.nd_grammar.specs.Refusal.{refusal, tested_at}
 use Rattle.nd_grammar.specs.Reader.{Names, Read, pass_all, tree_nodes}
@@ -28,9 +26,9 @@ use Rattle.ndr_code.specs.declared.lists.EnumList.{EnumList}
 use Rattle.ndr_code.specs.Code.{field_checks, member_checks}
 use Rattle.ndr_code.specs.Runs.{IsRunAt}
 use Rattle.ndr_code.proofs.Runs.{next_at}
-use Rattle.ndr_decoder_laws.specs.reader.Around.{Around, going, stopped, finish, tried, nodes_around, nodes_between, pointers, governed_pointers, pointers_around, Numbered, Tied}
+use Rattle.ndr_decoder_laws.specs.reader.Around.{Around, going, finish, tried, nodes_around, nodes_between, pointers, governed_pointers, pointers_around, Numbered, Tied}
 use Rattle.ndr_decoder_laws.specs.reader.Points.{checking}
-use Rattle.ndr_decoder_laws.specs.reader.ChildNodes.{first_nodes, tree_at, top, top_of, flat_number, flat_found}
+use Rattle.ndr_decoder_laws.specs.reader.ChildNodes.{first_nodes, tree_at, top, top_of}
 use Rattle.ndr_decoder_laws.proofs.reader.ChildPlaces.{first_node_is, same_number, same_found, number_at}
 use Rattle.ndr_decoder_laws.proofs.reader.Continuing.{refused as stops_at, all_stay}
 use Rattle.ndr_decoder_laws.proofs.reader.FromPoint.{test_passed}
@@ -38,13 +36,13 @@ use Rattle.ndr_decoder_laws.specs.declared.first.First.{First}
 use Rattle.ndr_decoder_laws.specs.declared.first.Member.{Member}
 use Rattle.ndr_decoder_laws.specs.declared.frame.Frame.{Frame}
 use Rattle.ndr_decoder_laws.specs.declared.frame.Frame.TheVariants as frame
-use Rattle.ndr_decoder_laws.specs.steps.Spots.{IsFine, IsStruct, Inside, Fits, FitsPointer, IsShaped, AreShaped, ChecksLeft, no_check, at_member, own_tests_of, types_of}
+use Rattle.ndr_decoder_laws.specs.steps.Spots.{IsFine, IsStruct, Inside, Fits, IsShaped, AreShaped, at_member, types_of}
 use Rattle.ndr_decoder_laws.specs.steps.Steps.{State, Outcome, goes, refused, Owed, begun, next, with_fresh, joined_by, check_in, checked, try_all, disagreed, place_of, place_in, first_of, first_number, first_found, is_owing}
 use Rattle.ndr_decoder_laws.specs.steps.Good.{Told, Kept, Good, IsRight, owed, BeginsAt, Begin, BeginStruct, members_around, members_of, read_members}
 use Rattle.ndr_decoder_laws.proofs.steps.Passing.{told_passed, kept_passed, silent, judged, Lies}
 use Rattle.ndr_decoder_laws.proofs.steps.Arriving.{KeptAll, KeptOwn}
 use Rattle.ndr_decoder_laws.proofs.steps.Adding.{stop_by}
-use Rattle.ndr_decoder_laws.proofs.steps.MemberChecks.{first_number_is, owing_is, SameFound, found_is, get_behind, past_end, at_end, there, number_past, tree_there, member_at, member_is, joined_none, other_joins, pointer_joins}
+use Rattle.ndr_decoder_laws.proofs.steps.MemberChecks.{first_number_is, owing_is, SameFound, found_is, get_behind, past_end, at_end, there, number_past, tree_there, member_at, member_is, other_joins, pointer_joins}
 
 -- a struct all of whose members were read
 pub record AllRead (noted : List Item) (direct : ℕ) (order : Order) (fetched : List ℕ) (code : List Instr) (table : Table) (h : Home) (own limit : ℕ) (k : ℕ) (fs : List Around) (f : Around) (members : List Field) (seen : List EntryAt) (names : Names) (s : State) : Type 0 where

@@ -1,5 +1,5 @@
 -- The beginning of a chunk's elements: the state at the first of them means what the plain reader has to read of the chunk.
-use Rattle.std.proofs.Common.{◌≡◌, ℕ, ◌+◌, zero, suc, Bool, true, false, List, [], ◌∷◌, ◌++◌, length, Option, Some, None, refl, ap, ap₂, sym, ◌∙◌, subst, arith, map, replicate}
+use Rattle.std.proofs.Common.{◌≡◌, ℕ, ◌+◌, zero, suc, Bool, true, false, List, [], ◌∷◌, ◌++◌, length, Some, None, refl, ap, ap₂, sym, ◌∙◌, subst, arith, replicate}
 use Rattle.std.specs.List.{AllByRecursion, slice_get}
 use Rattle.std.proofs.lemmas.List.{length-replicate}
 use Rattle.nd_base.specs.declared.octets.Order.{Order}
@@ -9,8 +9,8 @@ use Rattle.nd_types.specs.Table.{Table, type_at}
 use Rattle.nd_value.specs.declared.item.Home.{Home}
 use Rattle.nd_value.specs.declared.item.Item.{Item}
 use Rattle.nd_value.specs.Tree as tree
-use Rattle.nd_value.specs.Tree.{Tree, Trees, node, none, more, Flat, flat, count, node_count, joined, is_pointer}
-use Rattle.nd_grammar.specs.Entry.{Entry, EntryAt}
+use Rattle.nd_value.specs.Tree.{Tree, Trees, node, none, more, flat, count, node_count, joined, is_pointer}
+use Rattle.nd_grammar.specs.Entry.{EntryAt}
 use Rattle.nd_grammar.specs.InPlace.{child_tests, own_tests}
 use Rattle.nd_grammar.specs.Reader.{Names, Read, ReadAll, pass_all, read_list, read_in_place, tree_nodes}
 use Rattle.ndr_code.specs.declared.instr.Instr.{Instr}
@@ -20,7 +20,6 @@ use Rattle.ndr_code.specs.Code.{place_at}
 use Rattle.ndr_code.proofs.Runs.{next_at}
 use Rattle.ndr_decoder_laws.specs.reader.Around.{Around, going, finish, nodes_around}
 use Rattle.ndr_decoder_laws.proofs.reader.FlatNodes.{length_flat}
-use Rattle.ndr_decoder_laws.specs.declared.frame.Frame.{Frame}
 use Rattle.ndr_decoder_laws.specs.declared.frame.Frame.TheVariants as frame
 use Rattle.ndr_decoder_laws.specs.declared.first.First.{First}
 use Rattle.ndr_decoder_laws.specs.declared.first.First.TheVariants as first

@@ -1,18 +1,15 @@
 -- The cells that are counted, from entry to entry.
-use Rattle.std.proofs.Common.{◌≡◌, ◌≤◌, ℕ, ◌+◌, Bool, true, false, List, [], ◌∷◌, ◌++◌, length, Option, Some, None, refl, ap, sym, ◌∙◌, subst, arith}
+use Rattle.std.proofs.Common.{◌≡◌, ◌≤◌, ℕ, ◌+◌, Bool, true, false, List, [], ◌∷◌, ◌++◌, Some, None, sym, subst, arith}
 use Rattle.std.specs.Prelude.{cond}
 use Rattle.std.specs.List.{AllByRecursion}
 use Rattle.std.proofs.lemmas.Option.{same_Some}
-use Rattle.nd_value.proofs.Apart.{all_append, all_weaker}
+use Rattle.nd_value.proofs.Apart.{all_append}
 use Rattle.nd_grammar.specs.Entry.{EntryAt}
 use Rattle.nd_grammar.specs.NextMark.{named_cell}
 use Rattle.ndr_decoder_laws.proofs.verdict.CellsSeen.{entry_seen, known_seen, fresh_seen}
 use Rattle.ndr_refs.specs.declared.referents.Known.{Known}
 use Rattle.ndr_refs.specs.Known.{known}
 use Rattle.ndr_decoder_laws.specs.steps.Good.{HasCells}
-
-abbrev IsThere : ℕ → ℕ × Known → Type 0
-IsThere n x = x.1.cell.0 ≤ n
 
 still_there : (n : ℕ) (xs : List (ℕ × Known)) → AllByRecursion (λ (x : ℕ × Known). x.1.cell.0 ≤ n) xs → AllByRecursion (λ (x : ℕ × Known). x.1.cell.0 ≤ n + 1) xs
 still_there n [] a = tt

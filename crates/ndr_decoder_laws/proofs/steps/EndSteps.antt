@@ -1,22 +1,19 @@
 -- The end of a value: the next member of its struct, the next element, the end of its array, union or pipe, or that of the home.
-use Rattle.std.proofs.Common.{◌≡◌, ◌≤◌, ◌<◌, ℕ, ◌+◌, zero, suc, Bool, true, false, List, [], ◌∷◌, ◌++◌, length, Option, Some, None, refl, ap, ap₂, sym, ◌∙◌, subst, arith, append_assoc, length-append, map, flat_map}
+use Rattle.std.proofs.Common.{◌≡◌, ℕ, ◌+◌, zero, suc, Bool, true, false, List, [], ◌∷◌, ◌++◌, length, Some, refl, ap, ap₂, sym, ◌∙◌, subst, arith, append_assoc, length-append, map, flat_map}
 use Rattle.std.specs.Prelude.{replicate}
 use Rattle.std.specs.List.{AllByRecursion}
 use Rattle.std.proofs.lemmas.List.{append-nil, length-replicate}
 use Rattle.std.proofs.lemmas.Grind.{flat_map-append}
 use Rattle.nd_base.specs.declared.octets.Order.{Order}
-use Rattle.nd_types.specs.declared.types.TypeDef.{TypeDef}
 use Rattle.nd_types.specs.declared.types.TypeDef.TheVariants as def
-use Rattle.nd_types.specs.declared.types.Field.{Field}
-use Rattle.nd_types.specs.declared.types.TypeId.{TypeId}
 use Rattle.nd_types.specs.Table.{Table, type_at}
 use Rattle.nd_value.specs.declared.item.Home.{Home}
 use Rattle.nd_value.specs.declared.item.Item.{Item}
 use Rattle.nd_value.specs.Nodes.{child_agreements, nodes_of}
 use Rattle.nd_value.specs.Deferral.{pointer, home_pointers}
 use Rattle.nd_value.specs.Tree as tree
-use Rattle.nd_value.specs.Tree.{Tree, Trees, node, none, more, joined, Label, Flat, flat, count, node_count, is_pointer}
-use Rattle.nd_grammar.specs.Entry.{Entry, EntryAt}
+use Rattle.nd_value.specs.Tree.{Tree, Trees, node, none, more, joined, Label, flat, count, node_count, is_pointer}
+use Rattle.nd_grammar.specs.Entry.{EntryAt}
 use Rattle.nd_grammar.specs.InPlace.{child_tests, own_tests}
 use Rattle.nd_grammar.specs.Reader.{Names, Read, read_in_place, tree_nodes, pass_all}
 use Rattle.ndr_code.specs.declared.instr.Instr.{Instr}
@@ -29,13 +26,12 @@ use Rattle.ndr_decoder_laws.specs.reader.Points.{between, has}
 use Rattle.ndr_decoder_laws.proofs.reader.Continuing.{moves, goes_on}
 use Rattle.ndr_decoder_laws.proofs.reader.FlatNodes.{length_flat, count_joined, nodes_moved, node_closed, length_more}
 use Rattle.ndr_decoder_laws.proofs.reader.HomePointers.{nodes_joined, pointers_moved, pointers_node, of_array, of_union}
-use Rattle.ndr_decoder_laws.specs.declared.first.Member.{Member}
 use Rattle.ndr_decoder_laws.specs.declared.frame.Frame.{Frame}
 use Rattle.ndr_decoder_laws.specs.declared.frame.Frame.TheVariants as frame
-use Rattle.ndr_decoder_laws.specs.steps.Spots.{IsFine, IsPlanned, IsStruct, IsArray, IsUnion, IsPipe, IsFrame, in_struct, in_array, in_union, in_pipe, Inside, Fits, at_ret, IsShaped, AreShaped, FitsPointer}
-use Rattle.ndr_decoder_laws.specs.steps.Steps.{State, Outcome, goes, whole, begun, back_to, jumped, popped_to, with_frames}
-use Rattle.ndr_decoder_laws.specs.steps.Good.{Told, Good, IsRight, owed, Begin, BeginsAt, BeginStruct, members_around, members_of, read_members, open_member}
-use Rattle.ndr_decoder_laws.proofs.steps.Arriving.{Within, KeptAll, KeptOwn, parts_of, arrives}
+use Rattle.ndr_decoder_laws.specs.steps.Spots.{IsFine, IsPlanned, IsFrame, in_struct, in_array, in_union, in_pipe, Inside, Fits, at_ret, IsShaped, AreShaped, FitsPointer}
+use Rattle.ndr_decoder_laws.specs.steps.Steps.{State, Outcome, goes, back_to, jumped, popped_to, with_frames}
+use Rattle.ndr_decoder_laws.specs.steps.Good.{Told, IsRight, owed, Begin, BeginsAt, BeginStruct, members_around, members_of, read_members, open_member}
+use Rattle.ndr_decoder_laws.proofs.steps.Arriving.{KeptAll, KeptOwn, arrives}
 use Rattle.ndr_decoder_laws.proofs.steps.Adding.{no_pointer}
 use Rattle.ndr_decoder_laws.proofs.steps.StructSteps.{deeper}
 

@@ -1,5 +1,5 @@
 -- The maximum count before a home's value: its gap, the count, and the call of the value.
-use Rattle.std.proofs.Common.{◌≡◌, ◌≤◌, ◌<◌, ◌⊎◌, inl, inr, ℕ, ◌+◌, zero, suc, Bool, true, false, ◌&&◌, List, [], ◌∷◌, ◌++◌, length, Option, Some, None, refl, ap, ap₂, sym, ◌∙◌, subst, arith, append_assoc, length-append, map}
+use Rattle.std.proofs.Common.{◌≡◌, ◌≤◌, ℕ, ◌+◌, Bool, true, false, ◌&&◌, List, [], ◌∷◌, ◌++◌, length, Some, None, refl, ap, sym, ◌∙◌, subst, arith, length-append}
 use Rattle.std.specs.Prelude.{pos, ◌||◌, eqb}
 use Rattle.std.specs.List.{slice_get}
 use Rattle.nd_base.specs.declared.octets.Order.{Order}
@@ -11,28 +11,26 @@ use Rattle.nd_types.specs.Table.{Table}
 use Rattle.nd_value.specs.declared.item.Home.{Home}
 use Rattle.nd_value.specs.declared.item.Item.{Item}
 use Rattle.nd_value.specs.declared.item.ItemKind.TheVariants as item
-use Rattle.nd_grammar.specs.declared.reason.Reason.{Reason}
-use Rattle.nd_grammar.specs.Entry.{Kind, Entry, EntryAt, size_at, gap, Align, Max}
+use Rattle.nd_grammar.specs.Entry.{Entry, EntryAt, gap, Align, Max}
 use Rattle.nd_grammar.specs.Refusal.{refusal, tested_at, same_home}
-use Rattle.nd_grammar.specs.Reader.{Progress, Names, Read, pass, taken, number_in, read_in_place, read_hoisted}
+use Rattle.nd_grammar.specs.Reader.{Names, Read, pass, taken, number_in, read_in_place, read_hoisted}
 use Rattle.ndr_code.specs.declared.instr.Instr.{Instr}
 use Rattle.ndr_code.specs.declared.instr.Instr.TheVariants as op
 use Rattle.ndr_code.specs.declared.lists.EnumList.{EnumList}
 use Rattle.ndr_code.specs.Code.{place_at}
 use Rattle.ndr_code.specs.Runs.{IsRunAt}
 use Rattle.ndr_code.proofs.Runs.{next_at}
-use Rattle.ndr_refs.specs.declared.referents.Known.{Known}
 use Rattle.ndr_decoder_laws.specs.reader.Halves.{hoisted_after}
-use Rattle.ndr_decoder_laws.specs.reader.Around.{Around, going, stopped, finish}
-use Rattle.ndr_decoder_laws.specs.reader.Points.{hoisting, counting, called}
+use Rattle.ndr_decoder_laws.specs.reader.Around.{going, stopped, finish}
+use Rattle.ndr_decoder_laws.specs.reader.Points.{counting, called}
 use Rattle.ndr_decoder_laws.proofs.reader.Continuing.{passed, refused as stops_at, in_place_stays}
 use Rattle.ndr_decoder_laws.proofs.reader.FromPoint.{hoisted_in_halves}
 use Rattle.ndr_decoder_laws.specs.declared.first.First.{First}
 use Rattle.ndr_decoder_laws.specs.declared.first.Member.{Member}
 use Rattle.ndr_decoder_laws.specs.declared.frame.Frame.TheVariants as frame
 use Rattle.ndr_decoder_laws.specs.steps.Spots.{IsFine, IsPlanned}
-use Rattle.ndr_decoder_laws.specs.steps.Steps.{State, Outcome, goes, begun, gap_read, past, done_after, with_max, call_from, place_of, no_place}
-use Rattle.ndr_decoder_laws.specs.steps.Good.{Told, Kept, Good, IsRight, place_at as place_of_node}
+use Rattle.ndr_decoder_laws.specs.steps.Steps.{State, Outcome, goes, gap_read, past, done_after, with_max, call_from, place_of, no_place}
+use Rattle.ndr_decoder_laws.specs.steps.Good.{Told, IsRight, place_at as place_of_node}
 use Rattle.ndr_decoder_laws.specs.steps.StepItems.{item_here, gap_items, count_items}
 use Rattle.ndr_decoder_laws.proofs.steps.CountedCells.{none_named}
 use Rattle.ndr_decoder_laws.proofs.steps.Passing.{items_it, gap_noted, noted_joined, onward, no_less, silent, told_passed, known_joined, lie_joined, lie_longer, judged, taken_it, lies_it, same_homes, tested_now, tested_passed}

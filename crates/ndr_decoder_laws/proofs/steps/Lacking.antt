@@ -1,6 +1,6 @@
 -- The octets that a step wants are not all there, or would end past the limit of a stream: the plain reader refuses them too.
-use Rattle.std.proofs.Common.{◌≡◌, ◌≤◌, ◌<◌, ◌⊎◌, inl, inr, ℕ, ◌+◌, zero, suc, Bool, true, false, List, [], ◌∷◌, ◌++◌, length, Option, Some, None, refl, ap, ap₂, sym, ◌∙◌, subst, arith, append_assoc, length-append}
-use Rattle.std.specs.Prelude.{ℤ, pos, ltb, replicate}
+use Rattle.std.proofs.Common.{◌≡◌, ◌<◌, ◌⊎◌, inl, inr, ℕ, ◌+◌, zero, suc, Bool, true, false, List, [], ◌∷◌, ◌++◌, length, Option, Some, None, refl, ap, sym, ◌∙◌, subst, arith}
+use Rattle.std.specs.Prelude.{pos, ltb, replicate}
 use Rattle.std.specs.List.{slice_get}
 use Rattle.std.proofs.lemmas.List.{length-replicate, append-nil}
 use Rattle.std.proofs.lemmas.Option.{same_Some}
@@ -18,9 +18,8 @@ use Rattle.nd_types.specs.declared.types.TypeId.{TypeId}
 use Rattle.nd_types.specs.Table.{Table, type_at, width}
 use Rattle.nd_value.specs.declared.item.Home.{Home}
 use Rattle.nd_value.specs.declared.item.Item.{Item}
-use Rattle.nd_grammar.specs.declared.reason.Reason.{Reason}
 use Rattle.nd_grammar.specs.declared.reason.Reason.TheVariants.{Truncated, TooLong}
-use Rattle.nd_grammar.specs.Entry.{Kind, Entry, EntryAt, size_at, gap, Align, Max, Offset, Actual, Num, Text, Tag, Number, Context}
+use Rattle.nd_grammar.specs.Entry.{Entry, EntryAt, size_at, Align, Max, Offset, Actual, Num, Text, Tag, Number, Context}
 use Rattle.nd_grammar.specs.Refusal.{is_long, refusal}
 use Rattle.nd_grammar.specs.Reader.{Names, Read}
 use Rattle.ndr_code.specs.declared.instr.Instr.{Instr}
@@ -30,10 +29,10 @@ use Rattle.ndr_code.specs.Code.{place_at, whole_at, id, text_bound, arm_run, arm
 use Rattle.ndr_code.specs.Runs.{IsRunAt}
 use Rattle.ndr_code.proofs.Runs.{first_at}
 use Rattle.ndr_decoder_laws.specs.reader.Around.{Around, going, stopped, finish, nodes_around}
-use Rattle.ndr_decoder_laws.specs.reader.Points.{Point, TagForm, hoisting, counting, called, due, opened, offset_read as at_offset, text_offset, text_counted, tagged, between, checking, has, read_at, held}
+use Rattle.ndr_decoder_laws.specs.reader.Points.{Point, hoisting, counting, called, due, opened, offset_read as at_offset, text_offset, text_counted, tagged, between, checking, has, read_at, held}
 use Rattle.ndr_decoder_laws.proofs.reader.Fetched.{long_refused, cut_refused}
 use Rattle.ndr_decoder_laws.specs.steps.Spots.{IsFine, IsFormed, IsPlanned, Spot, FitsAt, ChecksLeft, no_check, at_member, AtEnd, at_ret, at_void, rest_run, body_run}
-use Rattle.ndr_decoder_laws.specs.steps.Steps.{State, begun, gap_read, offset_read, count_read, Want, no_octets, gap_of, item_of, wants, hoist_want, text_want, tag_form}
+use Rattle.ndr_decoder_laws.specs.steps.Steps.{State, begun, gap_read, Want, no_octets, gap_of, item_of, wants, hoist_want, text_want}
 use Rattle.ndr_code.specs.Fields.{prim_of}
 use Rattle.ndr_decoder_laws.specs.steps.Good.{Good, IsCut, IsTooLong, phase_at}
 use Rattle.ndr_decoder_laws.proofs.steps.Passing.{no_less}

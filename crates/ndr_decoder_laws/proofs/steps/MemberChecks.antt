@@ -1,37 +1,28 @@
 -- The agreements of a struct's members: those of a pointer join its pending referent, those of any other are tried in its first node.
 -- `x` is the member that is governed, `xs` and `ys` are those before and after it, `w` is what is kept of its first node.
 use Rattle.std.proofs.Common.{◌≡◌, ◌≤◌, ◌<◌, ◌⊎◌, inl, inr, ℕ, ◌+◌, zero, suc, Bool, true, false, List, [], ◌∷◌, ◌++◌, length, Option, Some, None, refl, ap, ap₂, sym, ◌∙◌, subst, arith, append_assoc, length-append, map, flat_map}
-use Rattle.std.specs.Prelude.{ℤ, pos, ◌-ℤ◌, cond, option_map, if◌then◌else◌}
-use Rattle.std.specs.List.{AllByRecursion, slice_get}
-use Rattle.std.specs.Ordering.{int_eq}
+use Rattle.std.specs.List.{slice_get}
 use Rattle.std.proofs.lemmas.Grind.{flat_map-append}
-use Rattle.std.proofs.lemmas.List.{append-nil, length-map, map-append}
-use Rattle.std.proofs.lemmas.Option.{same_Some, slice_get_within}
-use Rattle.nd_base.specs.declared.octets.Order.{Order}
+use Rattle.std.proofs.lemmas.List.{length-map, map-append}
 use Rattle.nd_types.specs.declared.types.Attr.{Attr}
 use Rattle.nd_types.specs.declared.types.Attr.TheVariants as attr
-use Rattle.nd_types.specs.declared.types.AttrVar.{AttrVar}
-use Rattle.nd_types.specs.declared.types.Field.{Field}
 use Rattle.nd_types.specs.declared.types.TypeDef.{TypeDef}
 use Rattle.nd_types.specs.declared.types.TypeDef.TheVariants as def
 use Rattle.nd_types.specs.Table.{Table, type_at}
 use Rattle.nd_value.specs.declared.item.Home.{Home}
-use Rattle.nd_value.specs.Agreement.{Agreement, agreement, member_agreements, number_of, number_in, found_in, max_of, offset_of, tag_of}
+use Rattle.nd_value.specs.Agreement.{Agreement, number_in}
 use Rattle.nd_value.specs.Deferral.{Pending, pointer, pointer_by}
 use Rattle.nd_value.specs.Nodes.{nodes_of, child_types, child_agreements, first_agreements, rest_agreements}
 use Rattle.nd_value.specs.Tree as tree
-use Rattle.nd_value.specs.Tree.{Tree, Trees, node, none, more, joined, Label, Flat, flat, count, node_count, is_pointer, cell_in}
+use Rattle.nd_value.specs.Tree.{Tree, Trees, node, none, more, joined, Label, Flat, count, node_count, is_pointer, cell_in}
 use Rattle.nd_grammar.specs.Reader.{tree_nodes}
-use Rattle.nd_grammar.specs.InPlace.{child_tests, own_tests, tests}
-use Rattle.nd_grammar.specs.Entry.{Entry, EntryAt}
-use Rattle.ndr_decoder_laws.specs.reader.Around.{Around, pointers, governed_pointers}
-use Rattle.ndr_decoder_laws.specs.reader.ChildNodes.{first_nodes, tree_at, top, top_of, flat_number, flat_actual, flat_found}
-use Rattle.ndr_decoder_laws.proofs.reader.ChildPlaces.{first_node_is, same_number, same_found, number_at}
+use Rattle.ndr_decoder_laws.specs.reader.Around.{pointers, governed_pointers}
+use Rattle.ndr_decoder_laws.specs.reader.ChildNodes.{first_nodes, tree_at, flat_number, flat_found}
 use Rattle.ndr_decoder_laws.proofs.reader.HomePointers.{governed_at}
 use Rattle.ndr_decoder_laws.specs.declared.first.First.{First}
 use Rattle.ndr_decoder_laws.specs.declared.first.Member.{Member}
-use Rattle.ndr_decoder_laws.specs.steps.Spots.{FitsPointer, IsShaped, AreShaped}
-use Rattle.ndr_decoder_laws.specs.steps.Steps.{Owed, Place, place_of, place_in, first_of, first_number, first_found, is_owing, joined_by}
+use Rattle.ndr_decoder_laws.specs.steps.Spots.{FitsPointer}
+use Rattle.ndr_decoder_laws.specs.steps.Steps.{Owed, place_of, place_in, first_of, first_number, first_found, is_owing, joined_by}
 use Rattle.ndr_decoder_laws.specs.steps.Good.{owed, members_of}
 use Rattle.ndr_decoder_laws.proofs.steps.EndSteps.{pointers_first}
 
@@ -253,11 +244,6 @@ joined_at : (ws : List Agreement) (xs : List Owed) (o : Owed) (ys : List Owed)
     → joined_by ws (xs ++ o ∷ ys) (length xs) ≡ xs ++ record { class = o.class; to = o.to; run = o.run; cell = o.cell; agreements = o.agreements ++ ws } ∷ ys
 joined_at ws [] o ys = refl
 joined_at ws (x ∷ xs) o ys = ap (λ zs. x ∷ zs) (joined_at ws xs o ys)
-
-pub joined_none : (os : List Owed) (n : ℕ) → joined_by [] os n ≡ os
-joined_none [] n = refl
-joined_none (o ∷ os) zero = ap (λ ws. record { class = o.class; to = o.to; run = o.run; cell = o.cell; agreements = ws } ∷ os) (append-nil o.agreements)
-joined_none (o ∷ os) (suc n) = ap (λ zs. o ∷ zs) (joined_none os n)
 
 module _ (table : Table) (h : Home) (around : List Pending) (us ts : List ℕ) (vs : List (List Agreement)) (u n : ℕ) (xs ys : Trees) (l : Label) (ks : Trees) (many : length us ≡ count xs) (as_many : length vs ≡ count xs) where
   abbrev with_it : List Agreement → List Pending

@@ -1,5 +1,5 @@
 -- Gaps, numbers and context handles: one entry each, and for all but a gap the value is whole then.
-use Rattle.std.proofs.Common.{◌≡◌, ◌≤◌, ◌<◌, ℕ, ◌+◌, zero, suc, Bool, true, false, List, [], ◌∷◌, ◌++◌, length, Option, Some, None, refl, ap, ap₂, sym, ◌∙◌, subst, arith, append_assoc, length-append, map}
+use Rattle.std.proofs.Common.{◌≡◌, ◌≤◌, ℕ, ◌+◌, suc, Bool, true, false, List, [], ◌∷◌, ◌++◌, length, Option, Some, None, refl, ap, sym, ◌∙◌, subst, arith, length-append, map}
 use Rattle.std.specs.Prelude.{ℤ, pos, not, take, drop, if◌then◌else◌}
 use Rattle.std.proofs.lemmas.List.{append-nil}
 use Rattle.nd_base.specs.declared.octets.Order.{Order}
@@ -15,10 +15,9 @@ use Rattle.nd_value.specs.declared.item.Home.{Home}
 use Rattle.nd_value.specs.declared.item.Item.{Item}
 use Rattle.nd_value.specs.declared.item.ItemKind.TheVariants as item
 use Rattle.nd_value.specs.Tree as tree
-use Rattle.nd_value.specs.Tree.{Tree, Trees, node, none, more}
-use Rattle.nd_grammar.specs.declared.reason.Reason.{Reason}
+use Rattle.nd_value.specs.Tree.{node, none, more}
 use Rattle.nd_grammar.specs.declared.reason.Reason.TheVariants as reason
-use Rattle.nd_grammar.specs.Entry.{Kind, Entry, EntryAt, size_at, gap, Align, Num, Context}
+use Rattle.nd_grammar.specs.Entry.{Entry, EntryAt, gap, Align, Num, Context}
 use Rattle.nd_grammar.specs.Refusal.{refusal, refused_if, is_enumerator}
 use Rattle.nd_grammar.specs.Reader.{Progress, Names, Read, pass, taken, value_in, identifier, attributes_in, identifier_in, read_in_place}
 use Rattle.ndr_code.specs.declared.instr.Instr.{Instr}
@@ -26,14 +25,14 @@ use Rattle.ndr_code.specs.declared.instr.Instr.TheVariants as op
 use Rattle.ndr_code.specs.declared.lists.EnumList.{EnumList}
 use Rattle.ndr_code.specs.Runs.{IsRunAt}
 use Rattle.ndr_code.proofs.Runs.{next_at}
-use Rattle.ndr_decoder_laws.specs.reader.Halves.{gap_of, past_gap, after_gap, number_after, context_after}
+use Rattle.ndr_decoder_laws.specs.reader.Halves.{gap_of, past_gap, number_after, context_after}
 use Rattle.ndr_decoder_laws.specs.reader.Around.{Around, going, stopped, finish, nodes_around, pointers, pointers_around}
-use Rattle.ndr_decoder_laws.specs.reader.Points.{due, opened, read_at}
+use Rattle.ndr_decoder_laws.specs.reader.Points.{opened, read_at}
 use Rattle.ndr_decoder_laws.proofs.reader.Continuing.{passed, refused as stops_at, after_gap_stays}
 use Rattle.ndr_decoder_laws.proofs.reader.FromPoint.{due_opens}
 use Rattle.ndr_decoder_laws.proofs.reader.HomePointers.{of_context}
 use Rattle.ndr_decoder_laws.specs.steps.Spots.{IsFine, IsDue, body_run, at_ret}
-use Rattle.ndr_decoder_laws.specs.steps.Steps.{State, Outcome, goes, refused, begun, done_after, with_node, number_step}
+use Rattle.ndr_decoder_laws.specs.steps.Steps.{State, Outcome, goes, refused, done_after, with_node, number_step}
 use Rattle.ndr_code.specs.Fields.{prim_of}
 use Rattle.ndr_decoder_laws.specs.steps.Good.{Told, IsRight, owed}
 use Rattle.ndr_decoder_laws.specs.steps.StepItems.{item_here, next_item, gap_items, number_items}

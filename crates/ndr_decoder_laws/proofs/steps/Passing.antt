@@ -1,8 +1,8 @@
 -- What the state keeps of the entries seen, as one entry more is passed.
 -- `x` is the entry at its place, `os` are the octets that were fetched for it, `y` is a node, `h` the home, `a` an attribute.
 use Rattle.std.proofs.Common.{◌≡◌, ◌≤◌, ◌<◌, ◌⊎◌, inl, inr, ℕ, ◌+◌, zero, suc, Bool, true, false, ◌&&◌, List, [], ◌∷◌, ◌++◌, length, Option, Some, None, refl, ap, ap₂, sym, ◌∙◌, subst, arith, append_assoc, length-append}
-use Rattle.std.specs.Prelude.{pos, cond, eqb, ltb, not, ◌||◌, map}
-use Rattle.std.specs.List.{AllByRecursion, slice_get}
+use Rattle.std.specs.Prelude.{pos, cond, eqb, ltb, ◌||◌}
+use Rattle.std.specs.List.{AllByRecursion}
 use Rattle.std.proofs.lemmas.List.{append-nil}
 use Rattle.std.proofs.lemmas.Bool.Decides.{nat_tests}
 use Rattle.nd_base.specs.declared.octets.Order.{Order}
@@ -15,12 +15,11 @@ use Rattle.nd_value.specs.declared.item.Item.{Item}
 use Rattle.nd_value.specs.declared.item.ItemKind.TheVariants as item
 use Rattle.nd_value.specs.declared.item.Home.TheVariants as home
 use Rattle.nd_value.specs.Tree.{Flat}
-use Rattle.nd_grammar.specs.declared.reason.Reason.{Reason}
 use Rattle.nd_grammar.specs.Entry.{Kind, Entry, EntryAt, size_at, gap, Align, Max, Offset, Actual, Chunk, Number, Num, Tag, Text, Context, Test, Unread}
 use Rattle.nd_grammar.specs.NextMark.{named_cell}
 use Rattle.nd_grammar.specs.Items.{items, item_at, item_of as item_in}
 use Rattle.nd_grammar.specs.Represents.{piece}
-use Rattle.nd_grammar.specs.Reader.{Names, Progress, pass, taken}
+use Rattle.nd_grammar.specs.Reader.{Names, taken}
 use Rattle.nd_grammar.specs.Refusal.{is_other, tested_at, kind_agrees, same_home, is_max, other_pointee, refusal, kind_refusal, is_long}
 use Rattle.ndr_code.proofs.Runs.{item_before}
 use Rattle.ndr_refs.specs.declared.referents.Known.{Known}
@@ -28,8 +27,7 @@ use Rattle.ndr_decoder_laws.specs.reader.Around.{going, Around}
 use Rattle.nd_grammar.proofs.next.Spelt.{piece_left}
 use Rattle.ndr_decoder_laws.proofs.reader.Fetched.{others_stay, judged_fetched, taken_fetched, piece_fetched}
 use Rattle.ndr_decoder_laws.specs.declared.first.First.{First}
-use Rattle.ndr_decoder_laws.specs.declared.first.Member.{Member}
-use Rattle.ndr_decoder_laws.specs.steps.Steps.{Place, no_place, place_of, place_in, first_of}
+use Rattle.ndr_decoder_laws.specs.steps.Steps.{Place, no_place, place_of}
 use Rattle.ndr_decoder_laws.specs.steps.StepItems.{item_here, gap_items}
 use Rattle.ndr_decoder_laws.proofs.steps.CountedCells.{none_named}
 use Rattle.ndr_decoder_laws.specs.steps.Good.{Told, Kept, IsKnownAs, OwnIn, place_at}

@@ -1,5 +1,5 @@
 -- The code and the lists of a plan of a legal interface are those that steps look up.
-use Rattle.std.proofs.Common.{◌≡◌, ℕ, ◌+◌, zero, suc, Bool, true, List, [], ◌∷◌, ◌++◌, length, take, drop, Some, refl, ap, sym, ◌∙◌, subst, arith}
+use Rattle.std.proofs.Common.{◌≡◌, ℕ, ◌+◌, zero, suc, Bool, true, List, [], ◌∷◌, ◌++◌, length, take, drop, Some, refl, sym, ◌∙◌, subst, arith}
 use Rattle.std.specs.Prelude.{not, false, ◌==◌, Option, slice_get}
 use Rattle.std.specs.List.{list_all, starts_with}
 use Rattle.std.proofs.lemmas.Option.{same_Some}
@@ -7,9 +7,8 @@ use Rattle.std.proofs.lemmas.Bool.{eqb-true}
 use lib.Pointwise.{pointwise}
 use Rattle.nd_types.specs.declared.types.Operation.{Operation}
 use Rattle.nd_types.specs.declared.types.Primitive.{Primitive}
-use Rattle.nd_types.specs.declared.types.TypeDef.{TypeDef}
 use Rattle.nd_types.specs.declared.types.TypeDef.TheVariants as def
-use Rattle.nd_types.specs.Table.{Table, type_at}
+use Rattle.nd_types.specs.Table.{Table}
 use Rattle.nd_types.specs.Kinds.{prim_number, basic_types, basic_number, is_basic, is_same_basic}
 use Rattle.nd_types.specs.Legal.{IsLegal}
 use Rattle.nd_types.proofs.LegalLaws.{passes_at}

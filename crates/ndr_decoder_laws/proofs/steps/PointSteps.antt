@@ -1,5 +1,5 @@
 -- One step at each point is right.
-use Rattle.std.proofs.Common.{◌≡◌, ◌≤◌, ◌<◌, ◌⊎◌, inl, inr, ℕ, ◌+◌, zero, suc, Bool, true, false, List, [], ◌∷◌, ◌++◌, length, Option, Some, None, refl, ap, ap₂, sym, ◌∙◌, subst, arith, append_assoc, length-append, map}
+use Rattle.std.proofs.Common.{◌≡◌, ℕ, ◌+◌, zero, suc, Bool, true, false, List, [], ◌∷◌, ◌++◌, length, Option, Some, None, refl, ap, ap₂, sym, ◌∙◌, subst, arith, append_assoc, length-append, map}
 use Rattle.std.specs.Prelude.{ℤ, ◌≢◌}
 use Rattle.std.specs.List.{AllByRecursion, slice_get}
 use Rattle.std.specs.Ordering.{int_eq}
@@ -8,23 +8,20 @@ use Rattle.std.proofs.lemmas.Option.{same_Some}
 use Rattle.nd_base.specs.declared.octets.Order.{Order}
 use Rattle.nd_types.specs.declared.types.Arm.{Arm}
 use Rattle.nd_types.specs.declared.types.AttrVar.{AttrVar}
-use Rattle.nd_types.specs.declared.types.Class.{Class}
 use Rattle.nd_types.specs.declared.types.Class.TheVariants.{Ref, Unique, Full}
 use Rattle.nd_types.specs.declared.types.Field.{Field}
-use Rattle.nd_types.specs.declared.types.Primitive.{Primitive}
 use Rattle.nd_types.specs.declared.types.Primitive.TheVariants.{Short}
 use Rattle.nd_types.specs.declared.types.TypeDef.{TypeDef}
 use Rattle.nd_types.specs.declared.types.TypeDef.TheVariants as def
 use Rattle.nd_types.specs.declared.types.TypeId.{TypeId}
 use Rattle.nd_types.specs.Layout.{parts}
-use Rattle.nd_types.specs.Number.{unsigned}
 use Rattle.nd_types.specs.Table.{Table, type_at, width}
 use Rattle.nd_value.specs.declared.item.Home.{Home}
 use Rattle.nd_value.specs.declared.item.Item.{Item}
 use Rattle.nd_value.specs.Agreement.{Agreement, member_agreements}
 use Rattle.nd_value.specs.Nodes.{child_agreements}
 use Rattle.nd_value.specs.Tree as tree
-use Rattle.nd_value.specs.Tree.{Tree, Trees, node, none, more, joined, Label, Flat, flat, count, node_count, is_pointer}
+use Rattle.nd_value.specs.Tree.{Tree, Trees, node, none, more, joined, count, node_count, is_pointer}
 use Rattle.nd_grammar.specs.Entry.{Entry, EntryAt}
 use Rattle.nd_grammar.specs.InPlace.{child_tests, own_tests}
 use Rattle.nd_grammar.specs.Reader.{Names, Read, bound_or, tree_nodes}
@@ -32,23 +29,18 @@ use Rattle.ndr_code.specs.declared.instr.Instr.{Instr}
 use Rattle.ndr_code.specs.declared.instr.Instr.TheVariants as op
 use Rattle.ndr_code.specs.declared.lists.EnumList.{EnumList}
 use Rattle.ndr_code.specs.Code.{place_at, whole_at, id, text_bound, arm_run, arms_code, default_code, field_checks, member_checks}
-use Rattle.ndr_code.specs.Lines.{enumerators}
 use Rattle.ndr_code.specs.Runs.{IsRunAt}
 use Rattle.ndr_code.proofs.Runs.{first_at, next_at}
-use Rattle.ndr_decoder_laws.specs.reader.Around.{Around, going, finish, tried, nodes_around, nodes_between, pointers_around, governed_pointers, tests_of}
-use Rattle.ndr_decoder_laws.specs.reader.Points.{Point, TagForm, IsTagForm, hoisting, counting, called, due, opened, offset_read as at_offset, text_offset, text_counted, tagged, between, checking, has, read_at, held, type_of, nodes_at, pointers_at, NumberedAt, TiedAt}
+use Rattle.ndr_decoder_laws.specs.reader.Around.{Around, going, finish, tried, nodes_around, pointers_around, governed_pointers}
+use Rattle.ndr_decoder_laws.specs.reader.Points.{Point, TagForm, IsTagForm, hoisting, counting, called, due, opened, offset_read as at_offset, text_offset, text_counted, tagged, between, checking, has, read_at, held, nodes_at, pointers_at, NumberedAt, TiedAt}
 use Rattle.ndr_decoder_laws.proofs.reader.FromPoint.{members_read}
 use Rattle.ndr_decoder_laws.proofs.reader.HomePointers.{of_number, of_enumerated}
 use Rattle.ndr_decoder_laws.proofs.reader.FlatNodes.{count_joined}
-use Rattle.ndr_decoder_laws.specs.declared.first.First.{First}
-use Rattle.ndr_decoder_laws.specs.declared.first.Member.{Member}
-use Rattle.ndr_decoder_laws.specs.declared.frame.Frame.{Frame}
-use Rattle.ndr_decoder_laws.specs.declared.frame.Frame.TheVariants as frame
-use Rattle.ndr_decoder_laws.specs.steps.Spots.{IsFine, IsDue, IsFormed, IsPlanned, IsStruct, InsideAt, Spot, FitsAt, Fits, ChecksLeft, no_check, at_member, own_tests_of, AtEnd, at_ret, at_void, rest_run, body_run, types_of, IsShaped}
-use Rattle.ndr_decoder_laws.specs.steps.Steps.{State, Outcome, goes, refused, whole, begun, gap_read, offset_read, count_read, wants, item_of, text_want, hoist_want, hoist_by, step, next, number_step, vary_by, text_by, limit_of, tag_step, tag_form, pointer_step, back_to, check_in, close_of, jumped}
+use Rattle.ndr_decoder_laws.specs.steps.Spots.{IsFine, IsFormed, IsPlanned, IsStruct, InsideAt, Spot, FitsAt, ChecksLeft, no_check, at_member, own_tests_of, AtEnd, at_ret, at_void, rest_run, body_run}
+use Rattle.ndr_decoder_laws.specs.steps.Steps.{State, Outcome, offset_read, count_read, wants, item_of, text_want, hoist_want, hoist_by, step, number_step, vary_by, text_by, limit_of, tag_step}
 use Rattle.ndr_code.specs.Fields.{prim_of}
 use Rattle.ndr_decoder_laws.specs.steps.StepItems.{step_items, number_items, vary_items, text_items, hoist_items, tag_items, arm_items}
-use Rattle.ndr_decoder_laws.specs.steps.Good.{Told, Kept, Good, IsRight, HasOctets, Holds, HasRegisters, OwnAt, BeginAt, members_at, owed, phase_at, half_at, unread_at}
+use Rattle.ndr_decoder_laws.specs.steps.Good.{Told, Good, IsRight, HasOctets, Holds, HasRegisters, OwnAt, BeginAt, members_at, owed, phase_at, half_at, unread_at}
 use Rattle.ndr_decoder_laws.proofs.steps.Arriving.{Within, KeptAll, KeptOwn, parts_of}
 use Rattle.ndr_decoder_laws.proofs.steps.Adding.{none_found}
 use Rattle.ndr_decoder_laws.proofs.steps.NumberSteps.{prim_back, gap_right, number_right, context_right}

@@ -1,6 +1,6 @@
 -- Pointers: their numbers, and the cells that these name.
 -- `v` is the number, `to` the type of the referent, `c` the cell.
-use Rattle.std.proofs.Common.{◌≡◌, ◌≤◌, ◌<◌, ℕ, ◌+◌, zero, suc, Bool, true, false, ◌&&◌, List, [], ◌∷◌, ◌++◌, length, Option, Some, None, refl, ap, ap₂, sym, ◌∙◌, subst, arith, append_assoc, length-append, map}
+use Rattle.std.proofs.Common.{◌≡◌, ◌≤◌, ◌<◌, ℕ, ◌+◌, Bool, true, false, ◌&&◌, List, [], ◌∷◌, ◌++◌, length, Option, Some, None, refl, ap, ap₂, sym, ◌∙◌, subst, arith, append_assoc, length-append, map}
 use Rattle.std.specs.Prelude.{pos, cond, eqb, not, nat_eq, if◌then◌else◌, ◌||◌}
 use Rattle.std.proofs.lemmas.Bool.{eqb-true}
 use Rattle.std.proofs.lemmas.Bool.Decides.{nat_tests}
@@ -16,16 +16,14 @@ use Rattle.nd_types.specs.Table.{Table, type_at}
 use Rattle.nd_value.specs.declared.item.Home.{Home}
 use Rattle.nd_value.specs.declared.item.Item.{Item}
 use Rattle.nd_value.specs.declared.item.ItemKind.TheVariants as item
-use Rattle.nd_value.specs.declared.value.CellId.{CellId}
 use Rattle.nd_value.specs.Setting.{unread}
 use Rattle.nd_value.specs.Tree as tree
-use Rattle.nd_value.specs.Tree.{Tree, Trees, node, none, more}
-use Rattle.nd_grammar.specs.declared.reason.Reason.{Reason}
+use Rattle.nd_value.specs.Tree.{node, none}
 use Rattle.nd_grammar.specs.declared.reason.Reason.TheVariants as reason
-use Rattle.nd_grammar.specs.Entry.{Kind, Entry, EntryAt, size_at, Number}
+use Rattle.nd_grammar.specs.Entry.{Entry, EntryAt, Number}
 use Rattle.nd_grammar.specs.Represents.{piece}
 use Rattle.nd_grammar.specs.Refusal.{refusal, refused_if, is_other, other_pointee}
-use Rattle.nd_grammar.specs.Reader.{Progress, Names, Named, Read, pass, taken, taken_by, number_in, named, numbered, fresh, with_cell, full_by as names_full}
+use Rattle.nd_grammar.specs.Reader.{Progress, Names, Named, Read, pass, taken, number_in, named, numbered, fresh, with_cell, full_by as names_full}
 use Rattle.ndr_code.specs.declared.instr.Instr.{Instr}
 use Rattle.ndr_code.specs.declared.instr.Instr.TheVariants as op
 use Rattle.ndr_code.specs.declared.lists.EnumList.{EnumList}
@@ -35,12 +33,12 @@ use Rattle.ndr_code.proofs.Runs.{next_at}
 use Rattle.ndr_refs.specs.declared.referents.Known.{Known}
 use Rattle.ndr_refs.specs.Known.{known, first_met}
 use Rattle.ndr_decoder_laws.specs.reader.Halves.{pointer_after}
-use Rattle.ndr_decoder_laws.specs.reader.Around.{Around, going, stopped, finish, nodes_around, pointers, pointers_around}
+use Rattle.ndr_decoder_laws.specs.reader.Around.{Around, going, finish, nodes_around, pointers_around}
 use Rattle.ndr_decoder_laws.proofs.reader.Continuing.{passed, refused as stops_at}
 use Rattle.ndr_decoder_laws.proofs.reader.Fetched.{others_stay, piece_fetched}
 use Rattle.ndr_decoder_laws.proofs.reader.HomePointers.{of_pointer}
 use Rattle.ndr_decoder_laws.specs.steps.Spots.{at_ret, FitsPointer}
-use Rattle.ndr_decoder_laws.specs.steps.Steps.{State, Outcome, Owed, Place, goes, refused, done_after, owing, new_cell, pointer_step, full_by}
+use Rattle.ndr_decoder_laws.specs.steps.Steps.{State, Outcome, Owed, goes, refused, done_after, owing, new_cell, pointer_step, full_by}
 use Rattle.ndr_decoder_laws.specs.steps.Good.{HasCells, Told, Good, IsRight, IsKnownAs, owed}
 use Rattle.nd_grammar.specs.Items.{items}
 use Rattle.ndr_decoder_laws.specs.steps.StepItems.{item_here, count_items}

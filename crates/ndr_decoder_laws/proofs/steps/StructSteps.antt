@@ -1,11 +1,10 @@
 -- Structs: their beginning, the calls of their members, and their end.
-use Rattle.std.proofs.Common.{◌≡◌, ◌≤◌, ◌<◌, ◌⊎◌, inl, inr, ℕ, ◌+◌, zero, suc, Bool, true, false, List, [], ◌∷◌, ◌++◌, length, Option, Some, None, refl, ap, ap₂, sym, ◌∙◌, subst, arith, append_assoc, length-append, map}
+use Rattle.std.proofs.Common.{◌≡◌, ◌≤◌, ◌<◌, ◌⊎◌, inl, inr, ℕ, ◌+◌, zero, suc, List, [], ◌∷◌, ◌++◌, length, Some, None, refl, ap, ap₂, sym, ◌∙◌, subst, arith, append_assoc, length-append, map}
 use Rattle.std.specs.Prelude.{take}
 use Rattle.std.specs.List.{AllByRecursion, slice_get}
 use Rattle.std.proofs.lemmas.List.{append-nil, length-map}
 use Rattle.std.proofs.lemmas.Option.{slice_get_within}
 use Rattle.nd_base.specs.declared.octets.Order.{Order}
-use Rattle.nd_types.specs.declared.types.TypeDef.{TypeDef}
 use Rattle.nd_types.specs.declared.types.TypeDef.TheVariants as def
 use Rattle.nd_types.specs.declared.types.Field.{Field}
 use Rattle.nd_types.specs.Table.{Table, type_at}
@@ -13,8 +12,8 @@ use Rattle.nd_value.specs.declared.item.Home.{Home}
 use Rattle.nd_value.specs.declared.item.Item.{Item}
 use Rattle.nd_value.specs.Agreement.{Agreement, member_agreements}
 use Rattle.nd_value.specs.Tree as tree
-use Rattle.nd_value.specs.Tree.{Tree, Trees, node, none, more, Label, Flat, flat, count, is_pointer}
-use Rattle.nd_grammar.specs.Entry.{Entry, EntryAt}
+use Rattle.nd_value.specs.Tree.{node, none, more, flat, count, is_pointer}
+use Rattle.nd_grammar.specs.Entry.{EntryAt}
 use Rattle.nd_grammar.specs.Reader.{Names, Read, read_in_place, read_children}
 use Rattle.ndr_code.specs.declared.instr.Instr.{Instr}
 use Rattle.ndr_code.specs.declared.instr.Instr.TheVariants as op
@@ -22,9 +21,8 @@ use Rattle.ndr_code.specs.declared.lists.EnumList.{EnumList}
 use Rattle.ndr_code.specs.Code.{place_at}
 use Rattle.ndr_code.specs.Runs.{IsRunAt}
 use Rattle.ndr_code.proofs.Runs.{next_at}
-use Rattle.ndr_decoder_laws.specs.reader.Halves.{after_gap}
-use Rattle.ndr_decoder_laws.specs.reader.Around.{Around, going, finish, continue, tried, nodes_around, nodes_between, pointers, governed_pointers, pointers_around, Numbered, with_left, with_child, Tied}
-use Rattle.ndr_decoder_laws.specs.reader.Points.{between, checking, has}
+use Rattle.ndr_decoder_laws.specs.reader.Around.{Around, going, finish, continue, nodes_around, nodes_between, pointers, governed_pointers, pointers_around, Numbered, with_left, with_child, Tied}
+use Rattle.ndr_decoder_laws.specs.reader.Points.{between, has}
 use Rattle.ndr_decoder_laws.proofs.reader.FlatNodes.{node_closed}
 use Rattle.ndr_decoder_laws.proofs.reader.HomePointers.{of_struct}
 use Rattle.ndr_decoder_laws.specs.declared.first.First.{First}
@@ -32,8 +30,8 @@ use Rattle.ndr_decoder_laws.specs.declared.first.Member.{Member}
 use Rattle.ndr_decoder_laws.specs.declared.frame.Frame.{Frame}
 use Rattle.ndr_decoder_laws.specs.declared.frame.Frame.TheVariants as frame
 use Rattle.ndr_decoder_laws.specs.steps.Spots.{IsFine, IsPlanned, IsStruct, in_struct, Inside, Fits, types_of, rest_run, body_run, at_ret, FitsPointer}
-use Rattle.ndr_decoder_laws.specs.steps.Steps.{State, Outcome, goes, begun, next, pushed, with_node, call_from, close_of, first_of, popped_to, with_members}
-use Rattle.ndr_decoder_laws.specs.steps.Good.{Told, Kept, Good, IsRight, owed, Begin, BeginsAt, BeginStruct, members_around, members_of, read_members, open_member}
+use Rattle.ndr_decoder_laws.specs.steps.Steps.{State, Outcome, goes, begun, next, pushed, with_node, call_from, close_of, popped_to, with_members}
+use Rattle.ndr_decoder_laws.specs.steps.Good.{Told, Kept, IsRight, owed, Begin, BeginsAt, BeginStruct, members_around, members_of, read_members, open_member}
 use Rattle.ndr_decoder_laws.proofs.steps.Arriving.{Within, KeptAll, KeptOwn, parts_of, arrives}
 use Rattle.ndr_decoder_laws.proofs.steps.Adding.{added, none_found, told_node, get_joined, no_pointer}
 

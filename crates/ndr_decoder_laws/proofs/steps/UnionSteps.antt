@@ -1,5 +1,5 @@
 -- Unions: the tag, and the arm that it selects.
-use Rattle.std.proofs.Common.{◌≡◌, ◌≤◌, ◌<◌, ◌⊎◌, inl, inr, ℕ, ◌+◌, zero, suc, Bool, true, false, List, [], ◌∷◌, ◌++◌, length, Option, Some, None, refl, ap, ap₂, sym, ◌∙◌, subst, arith, append_assoc, length-append, map}
+use Rattle.std.proofs.Common.{◌≡◌, ◌≤◌, inl, inr, ℕ, ◌+◌, suc, Bool, true, false, List, [], ◌∷◌, ◌++◌, length, Option, Some, None, refl, ap, ap₂, sym, ◌∙◌, subst, arith, append_assoc, length-append, map}
 use Rattle.std.specs.Prelude.{ℤ, pos, not, eqb, if◌then◌else◌}
 use Rattle.std.specs.List.{AllByRecursion}
 use Rattle.std.specs.Ordering.{int_eq}
@@ -22,10 +22,10 @@ use Rattle.nd_value.specs.declared.item.Item.{Item}
 use Rattle.nd_value.specs.declared.item.ItemKind.TheVariants as item
 use Rattle.nd_value.specs.Nodes.{selected_types, child_types}
 use Rattle.nd_value.specs.Tree as tree
-use Rattle.nd_value.specs.Tree.{Tree, Trees, node, none, more, Flat}
+use Rattle.nd_value.specs.Tree.{node, none, Flat}
 use Rattle.nd_grammar.specs.declared.reason.Reason.{Reason}
 use Rattle.nd_grammar.specs.declared.reason.Reason.TheVariants as reason
-use Rattle.nd_grammar.specs.Entry.{Kind, Entry, EntryAt, size_at, Tag}
+use Rattle.nd_grammar.specs.Entry.{Entry, EntryAt, Tag}
 use Rattle.nd_grammar.specs.Represents.{piece}
 use Rattle.nd_grammar.specs.Refusal.{refusal, refused_if, is_enumerator, is_selected}
 use Rattle.nd_grammar.specs.Reader.{Progress, Names, Read, pass, taken, taken_by, value_in, read_in_place, read_children}
@@ -33,17 +33,15 @@ use Rattle.ndr_code.specs.declared.instr.Instr.{Instr}
 use Rattle.ndr_code.specs.declared.instr.Instr.TheVariants as op
 use Rattle.ndr_code.specs.declared.lists.EnumList.{EnumList}
 use Rattle.ndr_code.specs.Code.{place_at, arm_run, arms_code, default_code, union_run}
-use Rattle.ndr_code.specs.Lines.{enumerators}
 use Rattle.ndr_code.specs.Runs.{IsRunAt}
 use Rattle.ndr_code.proofs.Runs.{next_at}
-use Rattle.ndr_decoder_laws.specs.reader.Around.{Around, going, stopped, finish, nodes_around, pointers, pointers_around}
+use Rattle.ndr_decoder_laws.specs.reader.Around.{Around, going, stopped, finish, nodes_around, pointers_around}
 use Rattle.ndr_decoder_laws.specs.reader.Points.{TagForm, IsTagForm, opened, tagged, read_at, tag_taken}
 use Rattle.ndr_decoder_laws.proofs.reader.Continuing.{passed, refused as stops_at, children_stay, in_place_stays}
 use Rattle.ndr_decoder_laws.proofs.reader.FromPoint.{tag_known}
 use Rattle.ndr_decoder_laws.proofs.reader.HomePointers.{of_union}
-use Rattle.ndr_decoder_laws.specs.declared.frame.Frame.TheVariants as frame
-use Rattle.ndr_decoder_laws.specs.steps.Spots.{IsFine, IsPlanned, ArmsLeft, in_union, at_void}
-use Rattle.ndr_decoder_laws.specs.steps.Steps.{State, Outcome, goes, refused, begun, next, past, with_node, with_tag, arm_taken, tag_step, tag_form, form_by, tag_at}
+use Rattle.ndr_decoder_laws.specs.steps.Spots.{IsFine, IsPlanned, in_union, at_void}
+use Rattle.ndr_decoder_laws.specs.steps.Steps.{State, Outcome, goes, refused, begun, next, with_tag, arm_taken, tag_step, tag_form, form_by, tag_at}
 use Rattle.ndr_code.specs.Fields.{prim_of}
 use Rattle.ndr_decoder_laws.specs.steps.Good.{Told, Good, HeldTag, IsRight, owed, members_around}
 use Rattle.ndr_decoder_laws.specs.steps.StepItems.{item_here, tag_items, arm_items}

@@ -1,5 +1,5 @@
 -- Counts: the offset and the actual count of a varying array and of a text, and a text's octets.
-use Rattle.std.proofs.Common.{◌≡◌, ◌≤◌, ◌<◌, ◌⊎◌, inl, inr, ℕ, ◌+◌, zero, suc, Bool, true, false, List, [], ◌∷◌, ◌++◌, length, Option, Some, None, refl, ap, ap₂, sym, ◌∙◌, subst, arith, append_assoc, length-append, map}
+use Rattle.std.proofs.Common.{◌≡◌, ◌≤◌, inl, inr, ℕ, ◌+◌, zero, suc, Bool, true, false, List, [], ◌∷◌, ◌++◌, length, Option, Some, None, refl, ap, ap₂, sym, ◌∙◌, subst, arith, length-append, map}
 use Rattle.std.specs.Prelude.{pos, ◌-◌, not, eqb, ltb, take, replicate, if◌then◌else◌, ◌≢◌}
 use Rattle.std.proofs.lemmas.List.{append-nil, length-replicate}
 use Rattle.nd_base.specs.declared.octets.Order.{Order}
@@ -15,20 +15,20 @@ use Rattle.nd_value.specs.declared.item.Home.{Home}
 use Rattle.nd_value.specs.declared.item.Item.{Item}
 use Rattle.nd_value.specs.declared.item.ItemKind.TheVariants as item
 use Rattle.nd_value.specs.Tree as tree
-use Rattle.nd_value.specs.Tree.{Tree, Trees, node, none, more}
+use Rattle.nd_value.specs.Tree.{node, none}
 use Rattle.nd_grammar.specs.declared.reason.Reason.{Reason}
 use Rattle.nd_grammar.specs.declared.reason.Reason.TheVariants as reason
-use Rattle.nd_grammar.specs.Entry.{Kind, Entry, EntryAt, size_at, Offset, Actual, Text}
+use Rattle.nd_grammar.specs.Entry.{Kind, Entry, EntryAt, Offset, Actual, Text}
 use Rattle.nd_grammar.specs.Refusal.{refusal, refused_if, text_refusal, is_max}
 use Rattle.nd_grammar.specs.Represents.{piece}
-use Rattle.nd_grammar.specs.Reader.{Progress, Names, Read, pass, taken, taken_by, number_in, text_in, bound_or, read_in_place, read_children}
+use Rattle.nd_grammar.specs.Reader.{Names, Read, pass, taken, taken_by, number_in, text_in, bound_or, read_in_place, read_children}
 use Rattle.ndr_code.specs.declared.instr.Instr.{Instr}
 use Rattle.ndr_code.specs.declared.instr.Instr.TheVariants as op
 use Rattle.ndr_code.specs.declared.lists.EnumList.{EnumList}
 use Rattle.ndr_code.specs.Code.{place_at, text_bound}
 use Rattle.ndr_code.specs.Runs.{IsRunAt}
-use Rattle.ndr_decoder_laws.specs.reader.Around.{Around, going, stopped, finish, nodes_around, pointers, pointers_around}
-use Rattle.ndr_decoder_laws.specs.reader.Points.{Point, opened, offset_read as at_offset, text_offset, text_counted, has, read_at}
+use Rattle.ndr_decoder_laws.specs.reader.Around.{Around, going, stopped, finish, nodes_around, pointers_around}
+use Rattle.ndr_decoder_laws.specs.reader.Points.{opened, offset_read as at_offset, text_offset, text_counted, has, read_at}
 use Rattle.ndr_decoder_laws.proofs.reader.Continuing.{passed, refused as stops_at, children_stay, in_place_stays}
 use Rattle.ndr_decoder_laws.specs.reader.Halves.{array_after_offset, text_after_offset, text_after_count}
 use Rattle.ndr_decoder_laws.proofs.reader.FromPoint.{array_offset, array_count, text_begins, text_count, text_ends}

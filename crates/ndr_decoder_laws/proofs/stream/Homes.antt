@@ -12,8 +12,7 @@ use Rattle.nd_grammar.specs.Entry.{EntryAt}
 use Rattle.nd_grammar.specs.Reader.{Names, Progress, Read, read_whole}
 use Rattle.nd_grammar.specs.StreamReader.{Reading}
 use Rattle.ndr_decoder_laws.specs.reader.Around.{going}
-use Rattle.ndr_decoder_laws.specs.steps.Good.{Told, Whole}
-use Rattle.ndr_decoder_laws.specs.steps.Good.{Kept as IsKept}
+use Rattle.ndr_decoder_laws.specs.steps.Good.{Told, Whole, Kept as IsKept}
 use Rattle.ndr_decoder_laws.specs.steps.Steps.{State}
 use Rattle.ndr_decoder_laws.specs.stream.Added.{Added}
 use Rattle.ndr_decoder_laws.specs.stream.Between.{Between, Keeps, IsUnread, IsKeptOf, AreKept}

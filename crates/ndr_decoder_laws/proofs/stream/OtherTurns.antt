@@ -18,13 +18,12 @@ use Rattle.nd_grammar.specs.Entry.{EntryAt}
 use Rattle.nd_grammar.specs.InPlace.{tests}
 use Rattle.nd_grammar.specs.LegalSide.{IsLegalSide}
 use Rattle.nd_grammar.specs.Reader.{Progress, pass_all}
-use Rattle.nd_grammar.specs.StreamReader.{Reading, graph_of, stands_among, stood, read_referent, read_pending, read_first, read_next, read_stream}
+use Rattle.nd_grammar.specs.StreamReader.{Reading, graph_of, stands_among, stood, read_referent, read_pending, read_first, read_next}
 use Rattle.ndr_decoder_laws.specs.reader.Around.{going, stopped}
 use Rattle.ndr_decoder_laws.specs.worklist.Reached.{Reached}
 use Rattle.ndr_decoder_laws.proofs.worklist.Turns.{turns}
 use Rattle.ndr_decoder_laws.specs.stream.Parameters.{head_read}
-use Rattle.ndr_decoder_laws.specs.stream.Between.{Between, Keeps, Agrees, IsKeptOf, kept_at}
-use Rattle.ndr_decoder_laws.specs.stream.Between.{taken}
+use Rattle.ndr_decoder_laws.specs.stream.Between.{Between, Keeps, Agrees, IsKeptOf, kept_at, taken}
 use Rattle.ndr_decoder_laws.specs.stream.Report.{IsRefusedAfter}
 use Rattle.ndr_decoder_laws.specs.stream.Tests.{disagreement, AllAgree, all_at}
 use Rattle.ndr_decoder_laws.specs.declared.kept.Kept.{Kept}

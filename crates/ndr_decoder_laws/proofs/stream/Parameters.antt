@@ -16,7 +16,7 @@ use Rattle.nd_value.specs.Agreement.{Agreement, number_of, found_in}
 use Rattle.nd_value.specs.Seen.{cell_number}
 use Rattle.nd_value.specs.Setting.{Setting, unread, or_unread, root_at, cell_home, cell_at, cell_tree}
 use Rattle.nd_value.specs.Tree as tree
-use Rattle.nd_value.specs.Tree.{Tree, Referent, node, more, none, Flat, flat, count, is_pointer}
+use Rattle.nd_value.specs.Tree.{Tree, Referent, node, count}
 use Rattle.nd_value.specs.Deferral.{IsPlaced}
 use Rattle.nd_value.specs.Variables.{starred}
 use Rattle.nd_value.proofs.Apart.{all_append}

@@ -185,9 +185,6 @@ module _ (w : Setting) (side : IsLegalSide w) (order : Order) (fetched : List �
           ap (λ (u : Progress). u.stop)
           (stream_stays w order (fetched ++ part) at seen' (length (fetched ++ part), reason.Truncated) (referent_refused part a at seen' (length (fetched ++ part), reason.Truncated) stop))
 
-      pub needed_so : NeededAfter w order fetched more
-      needed_so = needed_then
-
       -- after the value the agreements are tried
       next_then : (later : List ℕ) → read_next w order ((fetched ++ more) ++ later) s.due s ≡ after (pass_all order ((fetched ++ more) ++ later) all_tests (going x.at is.seen))
       next_then later = next_is ((fetched ++ more) ++ later) ∙ ap (with_read ((fetched ++ more) ++ later)) (sym (is.is later))

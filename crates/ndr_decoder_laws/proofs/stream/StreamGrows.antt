@@ -13,8 +13,8 @@ use Rattle.nd_types.specs.Table.{type_at}
 use Rattle.nd_value.specs.declared.item.Home.{Home}
 use Rattle.nd_value.specs.declared.item.Home.TheVariants as home
 use Rattle.nd_value.specs.Deferral.{Pending, Due, due_root, due_referent, before_pipes, root_type}
-use Rattle.nd_value.specs.Setting.{Setting, root_list, unread, cell_at, cell_home}
-use Rattle.nd_value.specs.Tree.{Tree, none, joined, node_count}
+use Rattle.nd_value.specs.Setting.{Setting, root_list, cell_at, cell_home}
+use Rattle.nd_value.specs.Tree.{none, joined, node_count}
 use Rattle.nd_value.proofs.Apart.{all_append}
 use Rattle.nd_grammar.specs.declared.reason.Reason.{Reason}
 use Rattle.nd_grammar.specs.Entry.{Entry, Align, Chunk}
@@ -22,7 +22,6 @@ use Rattle.nd_grammar.specs.InPlace.{tests}
 use Rattle.nd_grammar.specs.LegalSide.{IsLegalSide}
 use Rattle.nd_grammar.specs.Refusal.{refusal}
 use Rattle.nd_grammar.specs.Reader.{Progress, Names, Read, ReadAll, is_stopped, here, advanced, pass, pass_all, taken, number_in, fresh, with_cell, read_list, read_in_place, read_whole}
-use Rattle.nd_grammar.specs.Stream.{root_tests}
 use Rattle.nd_grammar.specs.StreamReader.{Reading, ReadPipe, ReadPipes, graph_of, stood, read_root, read_referent, read_pending, read_next, read_due, read_chunks, read_pipe, read_pipes, read_stream}
 use Rattle.nd_grammar.proofs.reader.ReaderStream as stream
 use Rattle.ndr_decoder_laws.specs.worklist.Reached.{head, Comes, Reached}

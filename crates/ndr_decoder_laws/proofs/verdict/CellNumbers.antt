@@ -1,8 +1,8 @@
 -- Cells that are named in the order of their numbers: each for the first time as the next one.
 -- `n` and `m` are how many cells have been named, before and after, `c` and `d` are cells, `ds` those that are named, `seen` those that were counted.
-use Rattle.std.proofs.Common.{◌≡◌, ◌⊎◌, inl, inr, ℕ, ◌+◌, ◌<◌, ◌≤◌, zero, suc, Bool, true, false, List, [], ◌∷◌, ◌++◌, refl, ap, sym, ◌∙◌, arith, subst}
+use Rattle.std.proofs.Common.{◌≡◌, ◌⊎◌, inl, inr, ℕ, ◌+◌, ◌<◌, ◌≤◌, suc, Bool, true, false, List, [], ◌∷◌, ◌++◌, refl, ap, sym, ◌∙◌, arith, subst}
 use Rattle.std.specs.Prelude.{cond, eqb}
-use Rattle.std.proofs.lemmas.Bool.{eqb-true, eqb-false, eq-eqb}
+use Rattle.std.proofs.lemmas.Bool.{eqb-true, eqb-false}
 use Rattle.nd_value.specs.Canon.{has, number_from, canonical_number}
 
 -- Each cell is one of the first n, or the next one; at the end m are named.
@@ -14,11 +14,6 @@ pub counts_both : (n k m : ℕ) (xs ys : List ℕ) → Counts n xs k → Counts 
 counts_both n k m [] ys a b = subst (λ u. Counts u ys m) (sym a) b
 counts_both n k m (x ∷ xs) ys (inl a) b = inl (a.0, a.1, counts_both n k m xs ys a.2 b)
 counts_both n k m (x ∷ xs) ys (inr a) b = inr (a.0, counts_both (suc n) k m xs ys a.1 b)
-
-pub counts_more : (n m : ℕ) (xs : List ℕ) → Counts n xs m → n ≤ m
-counts_more n m [] a = omega (arith, a)
-counts_more n m (x ∷ xs) (inl a) = counts_more n m xs a.2
-counts_more n m (x ∷ xs) (inr a) = let h = counts_more (suc n) m xs a.1 in omega (arith, h)
 
 abbrev turn : Bool → Bool → ℕ → ℕ → ℕ → ℕ
 turn b e n p q = elim b [ true ↦ p | false ↦ elim e [ true ↦ n | false ↦ q ] ]

@@ -1,10 +1,8 @@
 -- Steps are no more than octets and roots: what the entries of a stream's first part count.
-use Rattle.std.proofs.Common.{◌≡◌, ℕ, ◌+◌, ◌*◌, ◌<◌, ◌≤◌, zero, suc, Bool, true, false, List, [], ◌∷◌, ◌++◌, length, length-append, Option, Some, None, refl, ap, sym, ◌∙◌, subst, arith}
+use Rattle.std.proofs.Common.{◌≡◌, ℕ, ◌+◌, ◌*◌, ◌≤◌, suc, Bool, true, false, List, [], ◌∷◌, ◌++◌, length, Some, None, refl, ap, sym, ◌∙◌, subst, arith}
 use Rattle.std.specs.Prelude.{cond, filter, flat_map}
 use Rattle.std.specs.List.{AllByRecursion}
 use Rattle.nd_base.specs.declared.octets.Order.{Order}
-use Rattle.nd_types.specs.Roots.{Root}
-use Rattle.nd_value.specs.declared.item.Home.{Home}
 use Rattle.nd_value.specs.Canon.{target, has}
 use Rattle.nd_value.specs.Setting.{Setting, root_list}
 use Rattle.nd_value.proofs.Apart.{all_weaker}
@@ -14,7 +12,7 @@ use Rattle.nd_grammar.specs.Items.{items}
 use Rattle.nd_grammar.specs.NextMark.{named_cell}
 use Rattle.nd_grammar.specs.Represents.{IsRendered}
 use Rattle.nd_grammar.proofs.ItemSizes.{numbers, items_size}
-use Rattle.nd_grammar.specs.decoded.Verdict.{IsReadThrough, DecodingSeen, IsCounted, once, cells_named, is_direct, direct_roots}
+use Rattle.nd_grammar.specs.decoded.Verdict.{IsReadThrough, DecodingSeen, IsCounted, once, cells_named, direct_roots}
 
 few_once : (others cs : List ℕ) → length (once others cs) ≤ length cs
 few_once others [] = omega arith

@@ -12,26 +12,25 @@ use Rattle.nd_types.specs.declared.types.Arm.{Arm}
 use Rattle.nd_types.specs.declared.types.TypeDef.TheVariants as def
 use Rattle.nd_types.specs.declared.types.Class.{Class}
 use Rattle.nd_types.specs.declared.types.Class.TheVariants.{Ref, Unique, Full}
-use Rattle.nd_types.specs.declared.types.Primitive.{Primitive}
 use Rattle.nd_types.specs.declared.types.Primitive.TheVariants.{Short}
 use Rattle.nd_types.specs.Table.{Table, type_at, width}
 use Rattle.nd_types.specs.Layout.{parts, hoists, align_of}
 use Rattle.nd_value.specs.declared.item.Home.{Home}
 use Rattle.nd_value.specs.Tree as tree
-use Rattle.nd_value.specs.Tree.{Tree, Trees, node, none, more, Label, Referent, count, is_pointer, cell_in}
+use Rattle.nd_value.specs.Tree.{Tree, Trees, node, none, Label, count, is_pointer, cell_in}
 use Rattle.nd_value.specs.Agreement.{Agreement}
 use Rattle.nd_value.specs.Canon.{target}
 use Rattle.nd_value.specs.Setting.{unread}
 use Rattle.nd_value.specs.Nodes.{nodes_of, child_types, child_agreements, first_agreements, rest_agreements}
 use Rattle.nd_value.specs.Deferral.{Pending, pointer, pointer_by, home_pointers}
 use Rattle.nd_value.proofs.Apart.{all_weaker}
-use Rattle.nd_grammar.specs.Entry.{Kind, Entry, Align, Max, Offset, Actual, Number, Num, Tag, Text, Context}
-use Rattle.nd_grammar.specs.Reader.{Progress, Names, Named, Read, ReadAll, is_stopped, pass, taken, number_in, value_in, text_in, attributes_in, identifier_in, fresh, with_cell, numbered, new_cell, full_by, named, read_if, read_list, tree_nodes, read_children, read_array, read_text, read_tagged, read_context, read_number, read_pointer, read_by, read_in_place, read_hoisted, read_whole, bound_or}
+use Rattle.nd_grammar.specs.Entry.{Kind, Entry, Align, Max, Offset, Actual, Number, Tag, Text, Context}
+use Rattle.nd_grammar.specs.Reader.{Progress, Names, Named, Read, ReadAll, is_stopped, pass, taken, number_in, value_in, fresh, with_cell, numbered, new_cell, full_by, named, read_if, read_list, tree_nodes, read_children, read_array, read_tagged, read_by, read_in_place, read_hoisted, read_whole, bound_or}
 use Rattle.nd_grammar.proofs.next.Mapped.{in_parts}
 use Rattle.nd_grammar.proofs.reader.ReaderInPlace.{Readable, list_read, Reads, in_place_read}
 use Rattle.nd_grammar.proofs.reader.ReaderLeaves.{value_pointers, after_value, first_value, no_pointer_unread}
 use Rattle.nd_grammar.proofs.reader.ReaderCells.{value_is}
-use Rattle.ndr_decoder_laws.proofs.verdict.CellNumbers.{Counts, counts_both, counts_more}
+use Rattle.ndr_decoder_laws.proofs.verdict.CellNumbers.{Counts, counts_both}
 
 -- the cells that pointers name
 abbrev pub cells_of : List Pending → List ℕ

@@ -1,6 +1,6 @@
 -- Octets that the reader refuses: where the refused entry ends, that they stay refused whatever follows, and that no graph is among them.
-use Rattle.std.proofs.Common.{◌≡◌, ◌⊎◌, inl, inr, ℕ, ◌+◌, ◌<◌, ◌≤◌, zero, suc, Bool, true, false, ◌&&◌, List, [], ◌∷◌, ◌++◌, length, length-append, Option, Some, None, refl, ap, sym, ◌∙◌, subst, arith}
-use Rattle.std.specs.Prelude.{ltb, not, eqb, cond, ◌||◌, ℤ, option_map}
+use Rattle.std.proofs.Common.{◌≡◌, ◌⊎◌, inl, inr, ℕ, ◌+◌, ◌<◌, ◌≤◌, Bool, true, false, ◌&&◌, List, [], ◌∷◌, ◌++◌, length, length-append, Option, Some, None, refl, ap, sym, ◌∙◌, subst, arith}
+use Rattle.std.specs.Prelude.{ltb, not, eqb, cond, ℤ, option_map}
 use Rattle.std.specs.Ordering.{int_eq}
 use Rattle.std.specs.List.{AllByRecursion}
 use Rattle.std.proofs.lemmas.Bool.{ltb-false, cases_lt}
@@ -28,10 +28,10 @@ use Rattle.nd_grammar.proofs.OneRefusal.{one_bad}
 use Rattle.nd_grammar.proofs.ReaderLaws.{reader_refuses}
 use Rattle.nd_grammar.proofs.StaysBad.{stays_bad, judged_alike}
 use Rattle.nd_grammar.proofs.next.Spelt.{piece_left}
-use Rattle.nd_grammar.proofs.reader.ReaderStream.{Pipes, G, ms, numbering, is_partial, is_stream, numbered, ends_in_octets}
+use Rattle.nd_grammar.proofs.reader.ReaderStream.{G, ms, numbering, is_partial, is_stream, numbered, ends_in_octets}
 use Rattle.nd_grammar.specs.decoded.Needed.{IsNeeded}
 use Rattle.nd_grammar.specs.decoded.Verdict.{MayFollow, fetched_to}
-use Rattle.ndr_decoder_laws.proofs.verdict.ReadThrough.{Gone, stream_gone}
+use Rattle.ndr_decoder_laws.proofs.verdict.ReadThrough.{stream_gone}
 
 -- ## An entry is judged alike by octets that end later
 

@@ -5,13 +5,12 @@ use Rattle.std.specs.Prelude.{◌≡◌, ℕ, ◌+◌, Bool, true, false, eqb, L
 use Rattle.nd_base.specs.declared.octets.Order.{Order}
 use Rattle.nd_types.specs.Roots.{Root}
 use Rattle.nd_value.specs.declared.item.Home.{Home}
-use Rattle.nd_value.specs.declared.value.Graph.{Graph}
 use Rattle.nd_value.specs.Setting.{Setting}
 use Rattle.nd_value.specs.Tree as tree
 use Rattle.nd_value.specs.Tree.{Tree, Trees, node, none, joined, node_count}
-use Rattle.nd_grammar.specs.Entry.{Entry, Kind, Align, Chunk}
+use Rattle.nd_grammar.specs.Entry.{Entry, Kind, Chunk}
 use Rattle.nd_grammar.specs.Reader.{Progress, Names, ReadAll, pass, taken, number_in, read_list, read_in_place}
-use Rattle.nd_grammar.specs.StreamReader.{ReadPipe, ReadPipes, graph_of, read_chunks, read_pipes, read_stream}
+use Rattle.nd_grammar.specs.StreamReader.{ReadPipe, graph_of, read_chunks, read_pipes, read_stream}
 
 -- an entry of the pipe as a whole
 abbrev pub of_pipe : Home → Kind → Entry

@@ -34,10 +34,6 @@ pub record Around : Type 0 where
   pub child : ℕ
   pub before : List ℕ
 
--- a node whose children begin here: its first child is due, and the others after it
-abbrev pub opened : ℕ → ℕ → Option TypeDef → ℕ → Label → List ℕ → Around
-opened ty t d n l types = record { node = n; of = d; label = l; done = none; next = n + 1; left = types; typed = ty; child = t; before = [] }
-
 -- the child that was read joins those before it, and the next of these types is due
 abbrev pub moved : Around → Tree → ℕ → List ℕ → Around
 moved f v t types = record {

@@ -14,7 +14,7 @@ use Rattle.nd_types.specs.Table.{Table, type_at, width}
 use Rattle.nd_types.specs.Layout.{align_of}
 use Rattle.nd_value.specs.declared.item.Home.{Home}
 use Rattle.nd_value.specs.Tree as tree
-use Rattle.nd_value.specs.Tree.{Tree, Trees, node, none}
+use Rattle.nd_value.specs.Tree.{node, none}
 use Rattle.nd_value.specs.Setting.{unread}
 use Rattle.nd_value.specs.Nodes.{child_types}
 use Rattle.nd_grammar.specs.Entry.{Kind, Align, Max, Offset, Actual, Number, Num, Tag, Text, Context}

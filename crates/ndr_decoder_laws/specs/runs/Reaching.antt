@@ -1,7 +1,7 @@
 -- What is reached by steps.
 -- `s0` is the state at the beginning, `s` one that was reached, `fetched` are the octets of the steps so far and `noted` their items, `os` the octets of
 -- one step, `i` is an instruction.
-use Rattle.std.specs.Prelude.{◌≡◌, ◌≤◌, ◌<◌, ◌^◌, ℕ, ◌+◌, List, [], ◌++◌, length, slice_get, Option, Some}
+use Rattle.std.specs.Prelude.{◌≡◌, ◌≤◌, ◌<◌, ◌^◌, ℕ, ◌+◌, List, [], ◌++◌, length, slice_get, Some}
 use Rattle.nd_base.specs.declared.octets.Order.{Order}
 use Rattle.nd_base.specs.declared.TheConstants.{STREAM_LIMIT}
 use Rattle.nd_types.specs.Number.{AreOctets}

@@ -1,6 +1,6 @@
 -- The elements of a pipe, chunk by chunk: where the decoder is at the beginning of a chunk that has elements, and what the plain reader reads of it.
 -- `pipe` is the pipe's type, `elem` that of its elements, `done` are the elements of the chunks before, `n` is how many elements come after the first.
-use Rattle.std.specs.Prelude.{◌≡◌, ℕ, ◌+◌, suc, List, [], ◌∷◌, length, map, replicate, Option, Some, None}
+use Rattle.std.specs.Prelude.{◌≡◌, ℕ, ◌+◌, suc, List, [], ◌∷◌, length, map, replicate, Some}
 use Rattle.nd_base.specs.declared.octets.Order.{Order}
 use Rattle.nd_types.specs.declared.types.Attr.{Attr}
 use Rattle.nd_types.specs.declared.types.TypeId.{TypeId}

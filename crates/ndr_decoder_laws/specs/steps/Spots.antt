@@ -17,7 +17,7 @@ use Rattle.nd_value.specs.declared.item.Home.{Home}
 use Rattle.nd_value.specs.Agreement.{Agreement, member_agreements}
 use Rattle.nd_value.specs.Nodes.{selected_types}
 use Rattle.nd_value.specs.Tree as tree
-use Rattle.nd_value.specs.Tree.{Tree, Trees, none, more, node, joined, count, is_pointer, Label, node_count}
+use Rattle.nd_value.specs.Tree.{Tree, Trees, none, more, node, joined, count, is_pointer, node_count}
 use Rattle.nd_grammar.specs.Entry.{Entry}
 use Rattle.nd_grammar.specs.InPlace.{child_tests, own_tests}
 use Rattle.nd_grammar.specs.Reader.{bound_or, tree_nodes}

@@ -1,7 +1,7 @@
 -- What each instruction of a plan does to the state of the decoder, as functions on lists. A step handles one gap, one item or none: `wants` says which, and
 -- `step` gets the octets of it, all fetched. Where they are not all there, or would end past the limit of a stream, no step is taken.
 -- `s` is a state, `i` an instruction, `os` the octets of the step, `z` a value, `o` an offset, `c` a count, `v` a pointer's number.
-use Rattle.std.specs.Prelude.{◌≡◌, ◌⊎◌, ℕ, ◌+◌, ◌-◌, ◌-ℤ◌, zero, suc, ℤ, pos, Bool, true, false, not, ◌&&◌, cond, eqb, ltb, if◌then◌else◌, List, [], ◌∷◌, ◌++◌, length, take, drop, Option, Some, None}
+use Rattle.std.specs.Prelude.{◌≡◌, ◌⊎◌, ℕ, ◌+◌, ◌-◌, ◌-ℤ◌, zero, suc, ℤ, pos, Bool, true, false, eqb, ltb, if◌then◌else◌, List, [], ◌∷◌, ◌++◌, length, take, drop, Option, Some, None}
 use Rattle.std.specs.List.{slice_get}
 use Rattle.std.specs.Ordering.{int_eq}
 use Rattle.nd_base.specs.declared.octets.Order.{Order}
@@ -11,12 +11,11 @@ use Rattle.nd_types.specs.declared.types.Class.{Class}
 use Rattle.nd_types.specs.declared.types.Class.TheVariants.{Ref, Unique, Full}
 use Rattle.nd_types.specs.declared.types.Primitive.{Primitive}
 use Rattle.ndr_code.specs.Fields.{prim_of}
-use Rattle.nd_types.specs.declared.types.Primitive.TheVariants.{Boolean, Char, Byte, Small, UnsignedSmall, Short, UnsignedShort, Long, UnsignedLong, Hyper, UnsignedHyper}
+use Rattle.nd_types.specs.declared.types.Primitive.TheVariants.{Short}
 use Rattle.nd_types.specs.declared.types.TypeId.{TypeId}
 use Rattle.nd_types.specs.Number.{unsigned, value_of_octets}
 use Rattle.nd_types.specs.Table.{width}
-use Rattle.nd_value.specs.declared.value.CellId.{CellId}
-use Rattle.nd_value.specs.Agreement.{Agreement, agreement, wanted_by}
+use Rattle.nd_value.specs.Agreement.{Agreement, agreement}
 use Rattle.nd_value.specs.Tree as tree
 use Rattle.nd_value.specs.Tree.{Flat}
 use Rattle.nd_grammar.specs.declared.reason.Reason.{Reason}

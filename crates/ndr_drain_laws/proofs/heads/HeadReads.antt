@@ -163,9 +163,6 @@ accepts_first : (order : Order) (octets : List ℕ) (seen xs ys : List EntryAt) 
 accepts_first order octets seen [] ys a = tt
 accepts_first order octets seen (x ∷ xs) ys a = (a.0, accepts_first order octets (seen ++ x ∷ []) xs ys a.1)
 
-no_cuts : ℕ → List (List ℕ)
-no_cuts n = replicate n []
-
 all_cut : (n : ℕ) → AllCut (replicate n empty_pipe) (replicate n [])
 all_cut zero = tt
 all_cut (suc n) = ((refl, tt), all_cut n)

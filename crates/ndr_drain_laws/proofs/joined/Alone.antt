@@ -1,6 +1,5 @@
 -- A head and chunks up to the end of every pipe represent one graph alone.
-use Rattle.std.proofs.Common.{◌≡◌, ◌≤◌, ◌∙◌, ap, ap₂, sym, subst, refl, ℕ, List, [], ◌∷◌, ◌++◌, length, replicate, Option, Some, None, arith}
-use Rattle.std.specs.List.{AllByRecursion}
+use Rattle.std.proofs.Common.{◌≡◌, ◌≤◌, ap, ap₂, sym, subst, refl, ℕ, List, [], ◌∷◌, ◌++◌, length, replicate, Some, None, arith}
 use Rattle.std.proofs.lemmas.List.{append-nil}
 use Rattle.nd_base.specs.declared.octets.Order.{Order}
 use Rattle.nd_types.specs.Table.{Table, type_at}
@@ -21,7 +20,7 @@ use Rattle.nd_grammar.specs.Represents.{IsNumbering, Represents}
 use Rattle.nd_grammar.proofs.OneGraph.{one_graph}
 use Rattle.nd_grammar.proofs.conforming.GoodTrees.{GoodTrees}
 use Rattle.nd_grammar.specs.decoded.Verdict.{RepresentsAlone}
-use Rattle.ndr_drain_laws.specs.parts.Parts.{AreParts, AreReadTo, IsElement, Part, Spot, after, after_all, elem_at, first_spot, no_graph, octets_of, pipes_by, pipes_of, with_pipes}
+use Rattle.ndr_drain_laws.specs.parts.Parts.{AreParts, AreReadTo, Part, Spot, after, after_all, elem_at, first_spot, no_graph, octets_of, pipes_by, pipes_of, with_pipes}
 use Rattle.ndr_drain_laws.proofs.parts.Chunks.{parts_entries}
 use Rattle.ndr_drain_laws.proofs.parts.Conforming.{conforming}
 use Rattle.ndr_drain_laws.proofs.parts.Elements.{NamesNone, names_none_by}

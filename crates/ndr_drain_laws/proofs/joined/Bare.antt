@@ -1,5 +1,5 @@
 -- Entries of pipes name no cells.
-use Rattle.std.proofs.Common.{◌≡◌, ◌∙◌, ap, ap₂, sym, subst, refl, ℕ, ◌+◌, zero, suc, ℤ, Bool, true, false, List, [], ◌∷◌, ◌++◌, length, drop, replicate, Option, Some, None}
+use Rattle.std.proofs.Common.{◌≡◌, ◌∙◌, ap, ap₂, subst, refl, ℕ, ◌+◌, zero, suc, ℤ, Bool, true, false, List, [], ◌∷◌, ◌++◌, length, drop, replicate, Option, Some, None}
 use Rattle.std.specs.List.{AllByRecursion, list_all}
 use Rattle.std.proofs.lemmas.Bool.{and_parts}
 use Rattle.nd_base.specs.declared.octets.Order.{Order}
@@ -19,7 +19,7 @@ use Rattle.nd_value.specs.Misfit.{is_partial_node}
 use Rattle.nd_value.specs.Nodes.{TypedNode, child_agreements, child_types, first_agreements, home_nodes, nodes_of, rest_agreements}
 use Rattle.nd_value.specs.Setting.{Setting, root_list, unread}
 use Rattle.nd_value.proofs.Apart.{all_left, all_right}
-use Rattle.nd_grammar.specs.Entry.{Kind, Entry, Align, Chunk, Number, full_cell, full_cells}
+use Rattle.nd_grammar.specs.Entry.{Entry, Number, full_cells}
 use Rattle.nd_grammar.specs.InPlace.{before_children, child_tests, counts, entries, in_place, own_tests, tag_entries, tests}
 use Rattle.nd_grammar.specs.LegalSide.{IsLegalSide}
 use Rattle.nd_grammar.specs.Stream.{pipe_entries, pipes_entries}

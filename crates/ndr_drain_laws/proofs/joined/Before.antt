@@ -1,9 +1,9 @@
 -- Entries of a chunk are accepted or refused as they are, whatever entries come before the chunk.
-use Rattle.std.proofs.Common.{◌≡◌, ◌<◌, ◌≤◌, ◌∙◌, ap, ap₂, sym, subst, refl, ℕ, ◌+◌, ℤ, Bool, true, false, ◌&&◌, List, [], ◌∷◌, ◌++◌, length, append_assoc, Option, Some, None, inl, inr, ◌⊎◌, arith}
+use Rattle.std.proofs.Common.{◌≡◌, ◌≤◌, ◌∙◌, ap, ap₂, sym, subst, refl, ℕ, ◌+◌, Bool, true, false, ◌&&◌, List, [], ◌∷◌, ◌++◌, length, append_assoc, Option, Some, None, inl, inr, ◌⊎◌, arith}
 use Rattle.std.specs.Prelude.{cond, eqb, ltb, not, option_map, ◌||◌}
 use Rattle.std.specs.List.{AllByRecursion}
 use Rattle.std.specs.Ordering.{int_eq}
-use Rattle.std.proofs.lemmas.Bool.{and_from, and_parts, and_right, eq-eqb}
+use Rattle.std.proofs.lemmas.Bool.{and_right, eq-eqb}
 use Rattle.nd_base.specs.declared.octets.Order.{Order}
 use Rattle.nd_base.specs.declared.TheConstants.{STREAM_LIMIT}
 use Rattle.nd_types.specs.declared.types.Attr.{Attr}
@@ -124,9 +124,6 @@ module _ (order : Order) (octets : List ℕ) (front : List EntryAt) where
   pub still_refused : (seen : List EntryAt) (x : EntryAt) (r : ℕ × Reason) → Unmet x.entry x.entry.kind → refusal order octets seen x ≡ Some r
       → refusal order octets (front ++ seen) x ≡ Some r
   still_refused seen x r u e = within seen x (Some r) (kind_refused seen x.at x.entry x.entry.kind (piece octets x.at x.entry.kind) r u) e
-
-  abbrev AllUnmet : List EntryAt → Type 0
-  AllUnmet xs = AllByRecursion (λ x. Unmet x.entry x.entry.kind) xs
 
   -- accepted ones
   pub still_accepted : (seen xs : List EntryAt) → AllByRecursion (λ x. Unmet x.entry x.entry.kind) xs → AllByRecursion (IsRendered order (λ c. 0) octets) xs

@@ -6,7 +6,7 @@ use Rattle.std.proofs.lemmas.List.{length-replicate}
 use Rattle.nd_base.specs.declared.octets.Order.{Order}
 use Rattle.nd_value.specs.declared.item.Home.TheVariants as home
 use Rattle.nd_value.specs.Tree as tree
-use Rattle.nd_value.specs.Tree.{Tree, node, more, none, trees, take_trees}
+use Rattle.nd_value.specs.Tree.{Tree, node, more, trees, take_trees}
 use Rattle.nd_value.specs.Setting.{Setting, root_list, unread}
 use Rattle.nd_value.specs.Deferral.{before_pipes}
 use Rattle.nd_grammar.specs.Entry.{Entry, Align, Chunk}
@@ -118,10 +118,6 @@ module _ (w : Setting) (side : IsLegalSide w) (order : Order) where
     then_joins : (ps : List Part) → Rest ps
     then_joins [] s vs a low f = f vs
     then_joins (p ∷ ps) s vs a low f = by_elements s vs (length p.octets) p.elements ps (λ s' vs' a' l' f'. then_joins ps s' vs' a' l' f') a.1 low f
-
-  -- a spot is never at a root before an earlier one
-  abbrev Onward : List Part → Type 0
-  Onward ps = (s : Spot) → s.root ≤ (after_all s ps).root
 
   root_after : (s : Spot) (n : ℕ) (els : List Tree) → s.root ≤ (spot_after s n els).root
   root_after s n [] = omega arith

@@ -1,5 +1,5 @@
 -- In which homes, and at which nodes, the entries of a head and of chunks are.
-use Rattle.std.proofs.Common.{◌≡◌, ◌<◌, ◌≤◌, ◌∙◌, ap, sym, subst, refl, ℕ, ◌+◌, zero, suc, ℤ, Bool, true, false, List, [], ◌∷◌, ◌++◌, length, drop, map, flat_map, replicate, Option, Some, None, inl, inr, ◌⊎◌, arith}
+use Rattle.std.proofs.Common.{◌≡◌, ◌<◌, ◌≤◌, ap, sym, subst, refl, ℕ, ◌+◌, suc, ℤ, Bool, true, false, List, [], ◌∷◌, ◌++◌, length, map, flat_map, replicate, Option, Some, None, inl, inr, ◌⊎◌, arith}
 use Rattle.std.specs.List.{AllByRecursion, slice_get}
 use Rattle.nd_types.specs.declared.types.Arm.{Arm}
 use Rattle.nd_types.specs.declared.types.TypeDef.{TypeDef}
@@ -13,7 +13,7 @@ use Rattle.nd_value.specs.declared.item.Home.TheVariants as home
 use Rattle.nd_value.specs.declared.value.Graph.{Graph}
 use Rattle.nd_value.specs.Tree as tree
 use Rattle.nd_value.specs.Tree.{Tree, Trees, node, none, more, node_count, trees, Label, is_pointer}
-use Rattle.nd_value.specs.Deferral.{Deferral, none_due, at_root, at_null, at_standing, at_referent, Due, due_root, due_referent, Step, Pending, Placed_cells, standing_root, standing_cell, standing_by, direct, root_type, home_pointers}
+use Rattle.nd_value.specs.Deferral.{Deferral, none_due, at_root, at_null, at_standing, at_referent, Due, due_referent, Step, Pending, Placed_cells, standing_root, standing_cell, standing_by, direct, root_type, home_pointers}
 use Rattle.nd_value.specs.Nodes.{child_agreements, child_types, first_agreements, rest_agreements}
 use Rattle.nd_value.specs.Setting.{Setting, root_list, root_at, cell_at, cell_home}
 use Rattle.nd_value.specs.Variables.{root_agreements}

@@ -1,6 +1,6 @@
 -- A head that is read excludes a refused head, and a chunk that is read a refused chunk; and each is refused at one place, for one reason.
 -- `w` is a setting, `s` a spot, `vs` and `us` are elements, `before` any octets that come before the spot, `g` the graph of a head.
-use Rattle.std.proofs.Common.{◌≡◌, ◌<◌, ◌≤◌, ◌-◌, ◌∙◌, ap, ap₂, sym, subst, refl, ℕ, ◌+◌, zero, suc, true, false, List, [], ◌∷◌, ◌++◌, length, length-append, append_assoc, drop, flat_map, replicate, Some, None, inl, inr, arith}
+use Rattle.std.proofs.Common.{◌≡◌, ◌<◌, ◌≤◌, ◌-◌, ◌∙◌, ap, ap₂, sym, subst, refl, ℕ, ◌+◌, zero, suc, true, false, List, [], ◌∷◌, ◌++◌, length, length-append, append_assoc, drop, flat_map, replicate, Some, None, inr, arith}
 use Rattle.std.specs.List.{AllByRecursion, list_all, slice_get}
 use Rattle.std.proofs.lemmas.Bool.{and_parts}
 use Rattle.std.proofs.lemmas.List.{append-nil, length-replicate}
@@ -23,14 +23,14 @@ use Rattle.nd_grammar.specs.declared.reason.Reason.{Reason}
 use Rattle.nd_grammar.specs.Entry.{Entry, EntryAt, end_of, end_to_end, full_cells, size_at}
 use Rattle.nd_grammar.specs.InPlace.{in_place}
 use Rattle.nd_grammar.specs.LegalSide.{IsLegalSide}
-use Rattle.nd_grammar.specs.Refusal.{Accepts}
-use Rattle.nd_grammar.specs.Represents.{IsNumbering, IsRendered}
+use Rattle.nd_grammar.specs.Represents.{IsRendered}
 use Rattle.nd_grammar.specs.Stream.{head_entries, pipes_entries, root_tests, step_entries}
 use Rattle.nd_grammar.proofs.LegalSides.{laid_out}
 use Rattle.nd_grammar.proofs.OneGraph.{readings}
 use Rattle.nd_grammar.proofs.OneRefusal.{AreAccepted, IsRefused, are_accepted, is_refused, not_both, one_refusal}
 use Rattle.nd_grammar.proofs.conforming.Accepted.{accepted}
-use Rattle.nd_grammar.proofs.conforming.GoodEntries.{GoodEntry, HoldsNoPipe, IsNoPipe, good_in_place}
+use Rattle.nd_grammar.proofs.conforming.GoodEntries.{GoodEntry, HoldsNoPipe, good_in_place}
+use Rattle.nd_grammar.specs.ReaderState.{IsNoPipe}
 use Rattle.nd_grammar.proofs.legal.LegalPipes.{holds_no_pipe}
 use Rattle.nd_grammar.proofs.next.HoistedMaxes.{maxes_of_many}
 use Rattle.nd_grammar.proofs.next.KnownNodes.{SoundNode, known_nodes}

@@ -1,5 +1,5 @@
 -- The graph of a stream of which a chunk was begun is a partial graph.
-use Rattle.std.proofs.Common.{◌≡◌, ◌<◌, ◌≤◌, ◌∙◌, ap, ap₂, sym, subst, refl, ℕ, ◌+◌, zero, suc, Bool, true, false, ◌&&◌, List, [], ◌∷◌, ◌++◌, length, length-append, take, drop, map, replicate, Option, Some, None, inl, inr, ◌⊎◌, arith}
+use Rattle.std.proofs.Common.{◌≡◌, ◌∙◌, ap, ap₂, sym, subst, refl, ℕ, ◌+◌, zero, suc, Bool, true, false, ◌&&◌, List, [], ◌∷◌, ◌++◌, length, length-append, take, map, replicate, Option, Some, None, inl, inr, ◌⊎◌, arith}
 use Rattle.std.specs.Prelude.{eqb, ◌||◌}
 use Rattle.std.specs.List.{AllByRecursion, list_all, slice_get}
 use Rattle.std.proofs.lemmas.Bool.{and_from, and_parts, eq-eqb}
@@ -16,7 +16,7 @@ use Rattle.nd_value.specs.declared.item.Home.{Home}
 use Rattle.nd_value.specs.declared.item.Home.TheVariants as home
 use Rattle.nd_value.specs.declared.value.Graph.{Graph}
 use Rattle.nd_value.specs.Tree as tree
-use Rattle.nd_value.specs.Tree.{Tree, Trees, node, none, more, count, trees, Label}
+use Rattle.nd_value.specs.Tree.{Tree, Trees, node, count, trees, Label}
 use Rattle.nd_value.specs.Conforms.{AllEarlier, Conforms, IsPartial, ShareOnlyIfFull}
 use Rattle.nd_value.specs.Deferral.{before_pipes, root_type}
 use Rattle.nd_value.specs.Homes.{HomeNode, in_home, root_nodes, all_nodes, cell_pointers}

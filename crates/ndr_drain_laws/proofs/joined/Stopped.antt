@@ -1,5 +1,5 @@
 -- Streams that are read in parts and not to their end.
-use Rattle.std.proofs.Common.{◌≡◌, ◌<◌, ◌≤◌, ◌∙◌, ap, ap₂, sym, subst, refl, ℕ, List, [], ◌∷◌, ◌++◌, length, append_assoc, Some, inl, inr, ◌⊎◌}
+use Rattle.std.proofs.Common.{◌≡◌, ◌<◌, ◌≤◌, ◌∙◌, ap, sym, subst, refl, ℕ, List, [], ◌++◌, length, inl, inr, ◌⊎◌}
 use Rattle.std.proofs.lemmas.List.{append-nil}
 use Rattle.std.specs.List.{AllByRecursion}
 use Rattle.nd_base.specs.declared.octets.Order.{Order}
@@ -7,7 +7,7 @@ use Rattle.nd_value.specs.declared.value.Graph.{Graph}
 use Rattle.nd_value.specs.Setting.{Setting, root_list}
 use Rattle.nd_grammar.specs.declared.reason.Reason.{Reason}
 use Rattle.nd_grammar.specs.Bad.{Bad}
-use Rattle.nd_grammar.specs.Entry.{EntryAt, end_to_end, full_cells}
+use Rattle.nd_grammar.specs.Entry.{EntryAt, end_to_end}
 use Rattle.nd_grammar.specs.LegalSide.{IsLegalSide}
 use Rattle.nd_grammar.specs.Refusal.{Accepts}
 use Rattle.nd_grammar.specs.Represents.{IsNumbering, IsRendered}

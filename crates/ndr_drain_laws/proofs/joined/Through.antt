@@ -1,11 +1,11 @@
 -- The entries of a head, of chunks, and the first of the next chunk are the first entries of a stream of a partial graph.
-use Rattle.std.proofs.Common.{◌≡◌, ◌<◌, ◌≤◌, ◌∙◌, ap, ap₂, sym, subst, refl, ℕ, ◌+◌, List, [], ◌∷◌, ◌++◌, length, length-append, append_assoc, Some, None, arith}
+use Rattle.std.proofs.Common.{◌≡◌, ◌∙◌, ap, ap₂, sym, subst, ℕ, ◌+◌, List, [], ◌∷◌, ◌++◌, length, length-append, append_assoc, Some}
 use Rattle.std.specs.List.{AllByRecursion}
 use Rattle.std.proofs.lemmas.List.{append-nil}
 use Rattle.nd_base.specs.declared.octets.Order.{Order}
 use Rattle.nd_value.specs.declared.value.Graph.{Graph}
 use Rattle.nd_value.specs.Conforms.{IsPartial}
-use Rattle.nd_value.specs.Setting.{Setting, root_list}
+use Rattle.nd_value.specs.Setting.{Setting}
 use Rattle.nd_value.specs.Tree.{Tree}
 use Rattle.nd_value.proofs.Apart.{all_append, all_left, all_right, all_weaker}
 use Rattle.nd_grammar.specs.declared.reason.Reason.{Reason}
@@ -19,13 +19,13 @@ use Rattle.nd_grammar.proofs.reader.ReaderTests.{Top}
 use Rattle.ndr_drain_laws.specs.parts.Parts.{AreReadTo, IsPartThrough, Part, Spot, after_all, first_spot, octets_of, part_entries, with_pipes}
 use Rattle.ndr_drain_laws.proofs.parts.Chunks.{parts_entries}
 use Rattle.ndr_drain_laws.proofs.parts.Spelt.{ends_append, full_append}
-use Rattle.ndr_drain_laws.proofs.parts.Streams.{AreJoined, Same, first_end, first_entries, first_numbers, first_rendered, same, stream}
+use Rattle.ndr_drain_laws.proofs.parts.Streams.{AreJoined, first_end, first_entries, first_numbers, first_rendered, same, stream}
 use Rattle.ndr_drain_laws.specs.joined.Entries.{entries_to}
 use Rattle.ndr_drain_laws.proofs.joined.Bare.{after_bare, part_bare}
 use Rattle.ndr_drain_laws.proofs.joined.Before.{Unmet, at_places, own_unmet, still_accepted, still_refused}
 use Rattle.ndr_drain_laws.proofs.joined.Begun.{begun_entries, begun_joined, begun_pipes, entries_after, last_pipes, last_tops, then_tops, unreached_pipes}
 use Rattle.ndr_drain_laws.proofs.joined.Front.{front_accepted, front_before, front_is, place_from}
-use Rattle.ndr_drain_laws.proofs.joined.Homes.{IsBefore, IsOwn, part_own}
+use Rattle.ndr_drain_laws.proofs.joined.Homes.{IsOwn, part_own}
 use Rattle.ndr_drain_laws.proofs.joined.Partial.{part_elements, part_pipes, partial_graph}
 
 pub place_after : (w : Setting) (head : List ℕ) (parts : List Part) → (after_all (first_spot w head) parts).place ≡ length (head ++ octets_of parts)

@@ -80,9 +80,6 @@ module _ (w : Setting) (order : Order) where
 
 -- ## The nodes of roots
 
-no_nodes : (w : Setting) (k : Graph) (i j : ℕ) (vs : List Tree) → root_nodes w k i [] vs ≡ root_nodes w k j [] vs
-no_nodes w k i j vs = refl
-
 -- the nodes of roots, in two parts
 node_parts : (w : Setting) (k : Graph) (i : ℕ) (rs : List Root) (us vs : List Tree)
     → root_nodes w k i rs (us ++ vs) ≡ root_nodes w k i rs us ++ root_nodes w k (i + length us) (drop (length us) rs) vs

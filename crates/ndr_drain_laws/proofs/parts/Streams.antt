@@ -4,9 +4,8 @@ use Rattle.std.specs.List.{AllByRecursion, slice_get}
 use Rattle.std.proofs.lemmas.List.{append-nil}
 use Rattle.nd_base.specs.declared.octets.Order.{Order}
 use Rattle.nd_base.specs.declared.TheConstants.{STREAM_LIMIT}
-use Rattle.nd_types.specs.Roots.{Root}
+use Rattle.nd_types.specs.Roots.{Root, root_index}
 use Rattle.nd_types.specs.declared.types.AttrVar.{AttrVar}
-use Rattle.nd_types.specs.Roots.{root_index}
 use Rattle.nd_value.specs.Agreement.{agreement, number_of}
 use Rattle.nd_value.specs.Variables.{given_value, root_agreements, starred, variable}
 use Rattle.nd_value.specs.declared.value.Graph.{Graph}

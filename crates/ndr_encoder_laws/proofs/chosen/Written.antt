@@ -1,17 +1,15 @@
 -- What the runs of all homes write is the stream.
 use Rattle.std.proofs.Common.{◌≡◌, ℕ, ◌+◌, ◌-◌, ◌*◌, ◌^◌, ◌<◌, ◌≤◌, zero, suc, List, [], ◌∷◌, ◌++◌, length, map, drop, get_or, Option, Some, None, refl, ap, ap₂, sym, ◌∙◌, subst, arith, append_assoc, length-drop}
-use Rattle.std.specs.Prelude.{replicate}
 use Rattle.std.specs.List.{AllByRecursion, slice_get, flat_map}
 use mathlib.Core.Path.{fun_ext}
 use Rattle.nd_base.specs.declared.octets.Order.{Order}
-use Rattle.nd_types.specs.declared.types.Operation.{Operation}
 use Rattle.nd_types.specs.Table.{type_at}
 use Rattle.nd_types.specs.Roots.{Root}
 use Rattle.nd_value.specs.declared.value.Graph.{Graph}
 use Rattle.nd_value.specs.declared.item.Home.{Home}
 use Rattle.nd_value.specs.declared.item.Home.TheVariants as home
 use Rattle.nd_value.specs.Tree as tree
-use Rattle.nd_value.specs.Tree.{Tree, Trees, node, none, more, count, node_count, Label, Referent, flat}
+use Rattle.nd_value.specs.Tree.{Tree, Trees, node, none, more, count, node_count, Referent, flat}
 use Rattle.nd_value.specs.Canon.{canonical_number, named_cells}
 use Rattle.nd_value.specs.Setting.{Setting, root_list, root_at, or_unread, cell_at, cell_tree}
 use Rattle.nd_value.specs.Deferral.{Step, root_stands, referent_stands, stands_already, Deferral, due_roots, before_pipes, Standing, standing_by, direct, root_type}
@@ -28,7 +26,7 @@ use Rattle.ndr_code.specs.declared.instr.Instr.TheVariants as op
 use Rattle.ndr_code.specs.Code.{whole_at, place_at, pipe_at, code_of, pipe_roots}
 use Rattle.ndr_code.specs.Runs.{IsRunAt}
 use Rattle.ndr_code.proofs.SideRuns.{pipe_run_at}
-use Rattle.ndr_encoder_laws.specs.pieces.Pieces.{Piece, pieces_octets, pieces_end}
+use Rattle.ndr_encoder_laws.specs.pieces.Pieces.{pieces_octets, pieces_end}
 use Rattle.ndr_encoder_laws.specs.pieces.Shown.{shown, pipe_pieces}
 use Rattle.ndr_encoder_laws.specs.pieces.Heads.{standings, homes_pieces, pipes_pieces, stream_pieces}
 use Rattle.ndr_encoder_laws.proofs.pieces.Showing.{shown_whole}

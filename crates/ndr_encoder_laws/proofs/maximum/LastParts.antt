@@ -1,9 +1,9 @@
 -- The maximum count that is found along the nodes of a value is the one before it.
-use Rattle.std.proofs.Common.{◌≡◌, ℕ, ◌+◌, ◌-◌, ◌≤◌, zero, suc, Bool, true, false, List, [], ◌∷◌, ◌++◌, Option, Some, None, refl, ap, ap₂, sym, ◌∙◌, arith, append_assoc, append-nil}
+use Rattle.std.proofs.Common.{◌≡◌, ℕ, ◌+◌, ◌-◌, ◌≤◌, zero, suc, Bool, true, false, List, [], ◌∷◌, ◌++◌, Some, None, refl, ap, ap₂, ◌∙◌, arith, append_assoc, append-nil}
 use Rattle.std.specs.Prelude.{◌==◌}
 use Rattle.std.proofs.lemmas.Bool.{eqb-true}
 use Rattle.nd_value.specs.Tree as tree
-use Rattle.nd_value.specs.Tree.{Tree, Trees, node, none, more, count, Label, Flat, flat}
+use Rattle.nd_value.specs.Tree.{Tree, Trees, node, none, more, count, Flat, flat}
 use Rattle.nd_grammar.specs.InPlace.{own_max, hoisted_max}
 use Rattle.ndr_encoder_laws.specs.maximum.LastPart.{own_count, last_max}
 

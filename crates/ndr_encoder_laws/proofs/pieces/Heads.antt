@@ -1,5 +1,5 @@
 -- The pieces of a whole stream: first those of the homes, one home after the other, then those of the pipes.
-use Rattle.std.proofs.Common.{◌≡◌, ℕ, ◌+◌, List, [], ◌∷◌, ◌++◌, drop, Option, Some, None, refl, ap, ap₂, sym, ◌∙◌, append-nil}
+use Rattle.std.proofs.Common.{◌≡◌, ℕ, ◌+◌, List, [], ◌∷◌, ◌++◌, drop, Some, None, refl, ap, ap₂, sym, ◌∙◌, append-nil}
 use Rattle.std.specs.Prelude.{flat_map}
 use Rattle.nd_base.specs.declared.octets.Order.{Order}
 use Rattle.nd_types.specs.Table.{Table}
@@ -15,9 +15,9 @@ use Rattle.nd_value.specs.Deferral.{Step, root_stands, referent_stands, stands_a
 use Rattle.nd_grammar.specs.Entry.{Entry, end_of}
 use Rattle.nd_grammar.specs.Stream.{step_entries, standing_entries, step_tests, root_test, root_tests, head_entries, pipes_entries, representation}
 use Rattle.nd_grammar.specs.Chosen.{octets_from}
-use Rattle.ndr_encoder_laws.specs.pieces.Pieces.{Piece, pieces_octets, pieces_end}
+use Rattle.ndr_encoder_laws.specs.pieces.Pieces.{pieces_octets, pieces_end}
 use Rattle.ndr_encoder_laws.specs.pieces.Shown.{shown}
-use Rattle.ndr_encoder_laws.specs.pieces.Heads.{standings, homes_pieces, pipes_pieces, stream_pieces}
+use Rattle.ndr_encoder_laws.specs.pieces.Heads.{standings, homes_pieces, stream_pieces}
 use Rattle.ndr_encoder_laws.proofs.pieces.Showing.{shown_joined, shown_tests, shown_pipes, shown_octets, shown_end}
 
 shown_root_test : (table : Table) (g : Graph) (i : ℕ) (l : Label) (ks : Trees) (given : List Agreement) → shown table (root_test g i (node l ks) given) ≡ []

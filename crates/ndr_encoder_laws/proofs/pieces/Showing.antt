@@ -1,5 +1,5 @@
 -- The pieces of entries, and their octets.
-use Rattle.std.proofs.Common.{◌≡◌, ℕ, ◌+◌, ◌-◌, ◌*◌, ◌/◌, ◌%◌, ◌<◌, ◌≤◌, zero, suc, ℤ, pos, Bool, true, false, List, [], ◌∷◌, ◌++◌, length, Option, Some, None, refl, ap, ap₂, sym, ◌∙◌, subst, arith, append_assoc, append-nil}
+use Rattle.std.proofs.Common.{◌≡◌, ℕ, ◌+◌, ◌-◌, ◌%◌, Bool, true, false, List, [], ◌∷◌, ◌++◌, Option, Some, refl, ap, ap₂, sym, ◌∙◌, arith, append_assoc, append-nil}
 use Rattle.std.specs.Prelude.{eqb, replicate}
 use Rattle.std.proofs.lemmas.Bool.{eqb-true}
 use Rattle.std.proofs.Math.Nat.{mod-one}
@@ -13,13 +13,13 @@ use Rattle.nd_value.specs.declared.item.Home.{Home}
 use Rattle.nd_value.specs.declared.item.Home.TheVariants as home
 use Rattle.nd_value.specs.Agreement.{Agreement}
 use Rattle.nd_value.specs.Tree as tree
-use Rattle.nd_value.specs.Tree.{Tree, Trees, node, none, more, count, node_count, Label, is_pointer, take_trees, drop_trees}
+use Rattle.nd_value.specs.Tree.{Tree, Trees, node, none, more, node_count, Label, is_pointer, take_trees, drop_trees}
 use Rattle.nd_value.specs.Nodes.{child_types, child_agreements, first_agreements, rest_agreements}
 use Rattle.nd_grammar.specs.Entry.{Kind, Entry, Align, Max, Offset, Actual, Chunk, Number, Num, Tag, Text, Context, Test, Unread, size_at, gap, end_of}
 use Rattle.nd_grammar.specs.InPlace.{entries, tests, own_tests, child_tests, in_place, before_children, hoisted, hoisted_max, whole_value}
-use Rattle.nd_grammar.specs.Stream.{chunk_entries, chunks, pipe_entries, pipes_entries}
+use Rattle.nd_grammar.specs.Stream.{chunks, pipe_entries, pipes_entries}
 use Rattle.nd_grammar.specs.Chosen.{octets_of, octets_from}
-use Rattle.ndr_encoder_laws.specs.pieces.Pieces.{Piece, Gap, Figure, Name, Raw, Handle, four, gap_pieces, piece_size, piece_octets, pieces_end, pieces_octets}
+use Rattle.ndr_encoder_laws.specs.pieces.Pieces.{Piece, Gap, four, piece_size, piece_octets, pieces_end, pieces_octets}
 use Rattle.ndr_encoder_laws.specs.pieces.Shown.{piece_of, kinds_pieces, shown, values_pieces, chunks_pieces, pipe_pieces}
 use Rattle.ndr_encoder_laws.specs.pieces.Heads.{pipes_pieces}
 

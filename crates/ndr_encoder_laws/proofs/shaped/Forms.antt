@@ -1,7 +1,7 @@
 -- Nodes that fit have the forms of their types.
 use Rattle.std.proofs.Common.{◌≡◌, ℕ, ◌+◌, zero, suc, ℤ, Bool, true, false, List, [], ◌∷◌, length, take, drop, Option, Some, None, refl, ap, sym, ◌∙◌, subst, arith}
 use Rattle.std.specs.Prelude.{not, ◌==◌}
-use Rattle.std.specs.List.{AllByRecursion, slice_get, list_all, starts_with}
+use Rattle.std.specs.List.{AllByRecursion, slice_get, list_all}
 use Rattle.std.proofs.lemmas.Option.{same_Some}
 use Rattle.std.proofs.lemmas.Bool.{eqb-true}
 use lib.Pointwise.{pointwise}
@@ -19,11 +19,10 @@ use Rattle.nd_types.proofs.LegalLaws.{passes_at, prim_at}
 use Rattle.nd_types.proofs.LayoutLaws.{left_true, right_true}
 use Rattle.nd_value.specs.declared.value.Graph.{Graph}
 use Rattle.nd_value.specs.Tree as tree
-use Rattle.nd_value.specs.Tree.{Tree, Trees, node, none, more, Label}
+use Rattle.nd_value.specs.Tree.{Trees, node, none, more, Label}
 use Rattle.nd_value.specs.Agreement.{Agreement}
 use Rattle.nd_value.specs.Nodes.{child_types, child_agreements, rest_agreements}
 use Rattle.nd_value.specs.Misfit.{has_shape, has_arm, selects}
-use Rattle.nd_value.proofs.NodeFacts.{IsFit}
 use Rattle.nd_grammar.proofs.conforming.GoodTrees.{GoodTrees}
 use Rattle.nd_grammar.proofs.next.Mapped.{in_parts}
 use Rattle.nd_grammar.proofs.reader.ReaderInPlace.{Fine, Readable}

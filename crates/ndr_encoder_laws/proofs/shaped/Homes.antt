@@ -68,9 +68,6 @@ module _ (w : Setting) (side : IsLegalSide w) (g : Graph) (c : Conforms w g) whe
   each_shaped [] a = tt
   each_shaped (x ∷ xs) a = (standing_shaped x a.0, each_shaped xs a.1)
 
-  first_pipe : ℕ
-  first_pipe = before_pipes (root_list w)
-
   pub homes_shaped : (steps : List Step) → Deferral w g [] (due_roots 0 (before_pipes (root_list w))) steps
       → AllByRecursion (λ (x : Standing). Shaped 32 w.table (x.of ∷ []) (more x.val none)) (standings w g steps)
   homes_shaped steps d =

@@ -1,5 +1,5 @@
 -- What the pieces of a value name is what its pointers name.
-use Rattle.std.proofs.Common.{◌≡◌, ℕ, ◌+◌, ◌*◌, ◌-◌, ◌^◌, ◌<◌, ◌≤◌, zero, suc, ℤ, Bool, true, false, List, [], ◌∷◌, ◌++◌, length, Option, Some, None, refl, ap, ap₂, sym, ◌∙◌, subst, map, arith, append_assoc, append-nil}
+use Rattle.std.proofs.Common.{◌≡◌, ℕ, ◌+◌, ◌*◌, ◌^◌, ◌<◌, ◌≤◌, zero, suc, ℤ, Bool, true, false, List, [], ◌∷◌, ◌++◌, Option, Some, None, refl, ap, ap₂, sym, ◌∙◌, subst, arith, append_assoc}
 use Rattle.std.specs.Prelude.{flat_map, ◌==◌}
 use Rattle.nd_types.specs.declared.types.Operation.{Operation}
 use Rattle.nd_types.specs.declared.types.TypeDef.{TypeDef}
@@ -11,14 +11,13 @@ use Rattle.nd_value.specs.declared.item.Home.{Home}
 use Rattle.nd_value.specs.Agreement.{Agreement}
 use Rattle.nd_value.specs.Canon.{target}
 use Rattle.nd_value.specs.Tree as tree
-use Rattle.nd_value.specs.Tree.{Tree, Trees, node, none, more, count, node_count, Label, flat}
+use Rattle.nd_value.specs.Tree.{Tree, Trees, node, none, more, count, node_count, Label}
 use Rattle.nd_value.specs.Nodes.{TypedNode, nodes_of, child_types, child_agreements, first_agreements, rest_agreements}
 use Rattle.nd_value.specs.Deferral.{Pending, pointer, pointer_by, home_pointers}
 use Rattle.nd_grammar.specs.InPlace.{before_children, counts, tag_entries, hoisted}
 use Rattle.ndr_code.specs.Code.{whole_at, code_of}
-use Rattle.ndr_encoder_laws.specs.pieces.Pieces.{Piece, Gap, Figure, Name, Raw, Handle, gap_pieces, named_cell, piece_names, pieces_names}
-use Rattle.ndr_encoder_laws.specs.pieces.Shown.{piece_of, kinds_pieces, values_pieces}
-use Rattle.ndr_encoder_laws.specs.written.Run.{run}
+use Rattle.ndr_encoder_laws.specs.pieces.Pieces.{Piece, Gap, Figure, gap_pieces, named_cell, piece_names, pieces_names}
+use Rattle.ndr_encoder_laws.specs.pieces.Shown.{kinds_pieces, values_pieces}
 use Rattle.ndr_encoder_laws.specs.written.Shaped.{Form, form_num, form_enum, form_struct, form_array, form_text, form_union, form_pointer, form_context, Shaped}
 use Rattle.ndr_encoder_laws.proofs.written.Runs.{home_written}
 use Rattle.ndr_encoder_laws.specs.turns.Turned.{STEPS, names_of, cells_of}

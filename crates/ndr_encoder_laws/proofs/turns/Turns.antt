@@ -1,5 +1,5 @@
 -- The homes of a graph that conforms have their turns in the order of deferral.
-use Rattle.std.proofs.Common.{◌≡◌, ◌⊎◌, inl, inr, ℕ, ◌+◌, ◌<◌, ◌≤◌, ◌^◌, zero, suc, true, false, List, [], ◌∷◌, ◌++◌, length, map, Option, Some, None, refl, ap, ap₂, sym, ◌∙◌, subst, arith, append_assoc, append-nil}
+use Rattle.std.proofs.Common.{◌≡◌, inl, inr, ℕ, ◌+◌, ◌<◌, ◌≤◌, ◌^◌, zero, suc, true, false, List, [], ◌∷◌, ◌++◌, length, map, Option, Some, None, refl, ap, sym, ◌∙◌, subst, arith, append_assoc}
 use Rattle.std.specs.Prelude.{flat_map}
 use Rattle.std.specs.List.{AllByRecursion, slice_get}
 use Rattle.std.proofs.lemmas.Option.{slice_get-get_or}
@@ -16,7 +16,7 @@ use Rattle.nd_value.specs.Tree.{Tree, Trees, node, none, more, node_count, Label
 use Rattle.nd_value.specs.Setting.{Setting, Among, root_list, root_at, or_unread, cell_at, cell_tree, cell_home}
 use Rattle.nd_value.specs.Misfit.{has_shape, is_no_null_ref}
 use Rattle.nd_value.specs.Variables.{root_agreements}
-use Rattle.nd_value.specs.Canon.{target, named, own_cell, named_cells, step_names}
+use Rattle.nd_value.specs.Canon.{named, own_cell, named_cells}
 use Rattle.nd_value.specs.Deferral.{Pending, home_pointers, Step, Due, due_root, due_referent, due_roots, before_pipes, Deferral, none_due, at_root, at_null, at_standing, at_referent, Placed_cells, IsPlaced, Standing, standing_root, standing_by, standing_cell, root_type, direct, due_of, root_cell, AreFree}
 use Rattle.nd_value.specs.Conforms.{Conforms, FewNodes}
 use Rattle.nd_value.proofs.Apart.{all_append, all_left, all_right}

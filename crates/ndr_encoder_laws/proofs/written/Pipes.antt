@@ -1,5 +1,5 @@
 -- The run of a pipe writes its elements in chunks.
-use Rattle.std.proofs.Common.{◌≡◌, ℕ, ◌+◌, ◌-◌, ◌*◌, ◌<◌, ◌≤◌, zero, suc, Bool, true, false, List, [], ◌∷◌, ◌++◌, drop, length, Option, Some, None, refl, ap, ap₂, sym, ◌∙◌, subst, arith, append-nil, append_assoc}
+use Rattle.std.proofs.Common.{◌≡◌, ℕ, ◌+◌, ◌-◌, ◌*◌, ◌≤◌, zero, suc, Bool, true, false, List, [], ◌∷◌, ◌++◌, length, Option, Some, None, refl, ap, ap₂, sym, ◌∙◌, subst, arith, append-nil, append_assoc}
 use Rattle.std.specs.Prelude.{ltb, replicate}
 use Rattle.std.specs.List.{slice_get}
 use Rattle.std.proofs.lemmas.Bool.Decides.{nat_tests}
@@ -9,24 +9,24 @@ use Rattle.nd_types.specs.declared.types.TypeDef.TheVariants as def
 use Rattle.nd_types.specs.declared.types.Primitive.{Primitive}
 use Rattle.nd_types.specs.Table.{Table, type_at}
 use Rattle.nd_value.specs.Tree as tree
-use Rattle.nd_value.specs.Tree.{Tree, Trees, node, none, more, count, node_count, Label, Flat, flat, take_trees, drop_trees}
+use Rattle.nd_value.specs.Tree.{Trees, node, none, more, count, node_count, Label, Flat, flat, take_trees, drop_trees}
 use Rattle.nd_grammar.specs.Chosen.{cut_within, cut_of}
 use Rattle.ndr_code.specs.declared.instr.Instr.{Instr}
 use Rattle.ndr_code.specs.declared.instr.Instr.TheVariants as op
-use Rattle.ndr_code.specs.Code.{place_at, whole_at, place_run, code_of}
+use Rattle.ndr_code.specs.Code.{place_at, code_of}
 use Rattle.ndr_code.specs.Runs.{IsRunAt}
 use Rattle.ndr_code.proofs.Runs.{first_at, next_at}
 use Rattle.ndr_code.proofs.TypeRuns.{place_run_at}
-use Rattle.ndr_encoder_laws.specs.pieces.Pieces.{Piece, Gap, four, row_pieces}
+use Rattle.ndr_encoder_laws.specs.pieces.Pieces.{Piece, Gap, four}
 use Rattle.ndr_encoder_laws.specs.pieces.Shown.{values_pieces, chunks_pieces}
 use Rattle.ndr_encoder_laws.specs.declared.frames.Frame.{Frame}
 use Rattle.ndr_encoder_laws.specs.declared.frames.Frame.TheVariants as frame
 use Rattle.ndr_encoder_laws.specs.written.Frames.{pushed}
-use Rattle.ndr_encoder_laws.specs.written.Run.{run, back, chunk, chunk_elements, chunk_count, row_at, numbers, after}
+use Rattle.ndr_encoder_laws.specs.written.Run.{run, back, chunk_elements, chunk_count, row_at, after}
 use Rattle.ndr_encoder_laws.specs.written.Shaped.{Shaped}
 use Rattle.ndr_encoder_laws.proofs.written.Steps.{run_step}
 use Rattle.ndr_encoder_laws.proofs.written.Rows.{row_forms}
-use Rattle.ndr_encoder_laws.proofs.written.Runs.{AllRun, Reach, reach_as, by_step, by_ret, pushed_room, all_run, values_split}
+use Rattle.ndr_encoder_laws.proofs.written.Runs.{AllRun, pushed_room, all_run, values_split}
 
 -- the first k trees and the others: their nodes
 flat_parted : (k : ℕ) (ts : Trees) → flat ts ≡ flat (take_trees k ts) ++ flat (drop_trees k ts)

@@ -10,8 +10,7 @@ use Rattle.nd_types.specs.declared.types.Primitive.{Primitive}
 use Rattle.nd_types.specs.Table.{Table, type_at, width}
 use Rattle.nd_types.specs.Layout.{align_of}
 use Rattle.nd_value.specs.Tree as tree
-use Rattle.nd_value.specs.Tree.{Tree, Trees, node, none, more, count, Label, Flat, flat}
-use Rattle.nd_value.specs.Nodes.{child_types}
+use Rattle.nd_value.specs.Tree.{Trees, node, none, more, count, Label, Flat, flat}
 use Rattle.nd_grammar.specs.InPlace.{before_children}
 use Rattle.ndr_code.specs.declared.instr.Instr.{Instr}
 use Rattle.ndr_code.specs.declared.instr.Instr.TheVariants as op
@@ -19,7 +18,7 @@ use Rattle.ndr_code.specs.Code.{array_run, text_bound, whole_at, place_at, code_
 use Rattle.ndr_code.specs.Runs.{IsRunAt}
 use Rattle.ndr_code.proofs.Runs.{first_at, next_at}
 use Rattle.ndr_code.proofs.TypeRuns.{place_run_at}
-use Rattle.ndr_encoder_laws.specs.pieces.Pieces.{Piece, number_pieces, row_pieces}
+use Rattle.ndr_encoder_laws.specs.pieces.Pieces.{number_pieces, row_pieces}
 use Rattle.ndr_encoder_laws.specs.pieces.Shown.{kinds_pieces, values_pieces}
 use Rattle.ndr_encoder_laws.specs.written.Run.{carrier_of, is_ret, row_of, row_at, numbers, after}
 use Rattle.ndr_encoder_laws.specs.written.Shaped.{Form, form_num, form_enum, form_struct, form_array, form_text, form_union, form_pointer, form_context, Shaped}
@@ -33,9 +32,6 @@ abbrev gapped : Bool → ℕ → List Instr → List Instr
 gapped b a is = elim b [ true ↦ [] | false ↦ op.Align a ∷ [] ] ++ is
 
 module _ (code : List Instr) (at : ℕ) (p : Primitive) (e : row_at code at ≡ Some p) where
-  abbrev first : Option Instr
-  first = slice_get code at
-
   abbrev second : Option Instr
   second = slice_get code (at + 1)
 

@@ -1,6 +1,6 @@
 -- A run of a plan over the nodes of values of its types writes the pieces of these values.
-use Rattle.std.proofs.Common.{◌≡◌, ℕ, ◌+◌, ◌-◌, ◌<◌, ◌≤◌, zero, suc, ℤ, pos, Bool, true, false, List, [], ◌∷◌, ◌++◌, length, Option, Some, None, refl, ap, ap₂, sym, ◌∙◌, subst, take, drop, map, arith, append_assoc, append-nil, add-one, lt-ltb, ◌*◌}
-use Rattle.std.specs.Prelude.{eqb, ltb, replicate}
+use Rattle.std.proofs.Common.{◌≡◌, ℕ, ◌+◌, ◌-◌, ◌<◌, ◌≤◌, zero, suc, ℤ, Bool, true, false, List, [], ◌∷◌, ◌++◌, length, Option, Some, None, refl, ap, ap₂, sym, ◌∙◌, subst, drop, map, arith, append_assoc, append-nil, lt-ltb, ◌*◌}
+use Rattle.std.specs.Prelude.{eqb, replicate}
 use Rattle.std.specs.List.{slice_get}
 use Rattle.nd_types.specs.declared.types.Field.{Field}
 use Rattle.nd_types.specs.declared.types.Operation.{Operation}
@@ -17,22 +17,22 @@ use Rattle.std.proofs.lemmas.Option.{same_Some}
 use Rattle.nd_types.specs.Layout.{align_of, align_by, align_within, hoists, type_list}
 use Rattle.nd_types.specs.declared.types.Primitive.{Primitive}
 use Rattle.nd_value.specs.Tree as tree
-use Rattle.nd_value.specs.Tree.{Tree, Trees, node, none, more, count, node_count, Label, Flat, flat, take_trees, drop_trees}
+use Rattle.nd_value.specs.Tree.{Trees, node, none, more, count, node_count, Label, Flat, flat}
 use Rattle.nd_value.specs.Nodes.{child_types, selected_types}
-use Rattle.nd_grammar.specs.InPlace.{before_children, tag_entries, hoisted, hoisted_max}
+use Rattle.nd_grammar.specs.InPlace.{before_children, tag_entries, hoisted}
 use Rattle.nd_grammar.specs.Entry.{Align, Max}
 use Rattle.ndr_code.specs.declared.instr.Instr.{Instr}
 use Rattle.ndr_code.specs.declared.instr.Instr.TheVariants as op
-use Rattle.ndr_code.specs.Code.{place_run, gap_run, arm_run, arms_code, default_code, member_calls, member_checks, field_checks, array_run, text_bound, whole_at, place_at, code_of, id}
+use Rattle.ndr_code.specs.Code.{gap_run, arm_run, arms_code, default_code, member_calls, member_checks, field_checks, text_bound, whole_at, place_at, code_of, id}
 use Rattle.ndr_code.specs.Runs.{IsRunAt}
 use Rattle.ndr_code.proofs.Runs.{first_at, next_at, behind_at}
 use Rattle.ndr_code.proofs.TypeRuns.{place_run_at, hoist_run_at, whole_is_place}
 use Rattle.ndr_encoder_laws.specs.declared.frames.Frame.{Frame}
 use Rattle.ndr_encoder_laws.specs.declared.frames.Frame.TheVariants as frame
 use Rattle.ndr_encoder_laws.specs.written.Frames.{pushed}
-use Rattle.ndr_encoder_laws.specs.pieces.Pieces.{Piece, Gap, Figure, Name, Raw, Handle, four, gap_pieces, number_pieces, row_pieces}
-use Rattle.ndr_encoder_laws.specs.written.Run.{run, stepped, back, here, later, num_in, numbers, after, carrier_of, target, past_checks, row_at, elements}
-use Rattle.ndr_encoder_laws.specs.pieces.Shown.{piece_of, kinds_pieces, values_pieces}
+use Rattle.ndr_encoder_laws.specs.pieces.Pieces.{Piece, Gap, Figure, Name, Raw, Handle, four, gap_pieces}
+use Rattle.ndr_encoder_laws.specs.written.Run.{run, stepped, back, carrier_of, target, past_checks, row_at, elements}
+use Rattle.ndr_encoder_laws.specs.pieces.Shown.{kinds_pieces, values_pieces}
 use Rattle.ndr_encoder_laws.specs.written.Shaped.{Form, form_num, form_enum, form_struct, form_array, form_text, form_union, form_pointer, form_context, TagType, tag_prim, tag_enum, Shaped}
 use Rattle.ndr_encoder_laws.proofs.written.Steps.{run_step}
 use Rattle.ndr_encoder_laws.proofs.written.Rows.{row_forms}

@@ -1,11 +1,10 @@
 -- One step of a run.
-use Rattle.std.proofs.Common.{◌≡◌, ℕ, suc, List, [], Option, Some, None, ap}
+use Rattle.std.proofs.Common.{◌≡◌, ℕ, suc, List, [], Some, None, ap, refl}
 use Rattle.std.specs.List.{slice_get}
 use Rattle.nd_value.specs.Tree.{Flat}
 use Rattle.ndr_code.specs.declared.instr.Instr.{Instr}
 use Rattle.ndr_encoder_laws.specs.declared.frames.Frame.{Frame}
 use Rattle.ndr_encoder_laws.specs.written.Run.{stepped, run}
-use Rattle.std.proofs.Common.{refl}
 
 pub run_step : (code : List Instr) (m k n pc : ℕ) (frames : List Frame) (fs : List Flat) (i : Instr) → slice_get code pc ≡ Some i
     → run code m k (suc n) pc frames fs ≡ stepped (run code m k n) code m k pc frames fs (Some i)

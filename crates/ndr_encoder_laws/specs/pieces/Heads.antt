@@ -1,6 +1,6 @@
 -- The pieces of a stream, home by home.
 -- `w` is a setting, `g` a graph, `x` a value as a whole, `r` a root, `v` its value, `cut` are the counts of a pipe.
-use Rattle.std.specs.Prelude.{List, [], ◌∷◌, ◌++◌, drop}
+use Rattle.std.specs.Prelude.{List, [], ◌∷◌, ◌++◌, drop, ℕ}
 use Rattle.nd_types.specs.Table.{Table, type_at}
 use Rattle.nd_types.specs.Roots.{Root}
 use Rattle.nd_value.specs.declared.value.Graph.{Graph}
@@ -8,7 +8,6 @@ use Rattle.nd_value.specs.Tree.{Tree}
 use Rattle.nd_value.specs.Setting.{Setting, root_list}
 use Rattle.nd_value.specs.Deferral.{Step, root_stands, referent_stands, stands_already, Standing, standing_root, standing_cell, before_pipes}
 use Rattle.nd_grammar.specs.Stream.{standing_entries}
-use Rattle.std.specs.Prelude.{ℕ}
 use Rattle.ndr_encoder_laws.specs.pieces.Pieces.{Piece}
 use Rattle.ndr_encoder_laws.specs.pieces.Shown.{shown, pipe_pieces}
 

@@ -1,7 +1,7 @@
 -- What an encoder writes, piece by piece (C706 14.2 and 14.3). A piece has no place: places follow from those before it.
 -- `n` is a number to whose multiple a gap leads, `p` a primitive, `z` its value, `c` the cell that a pointer names, `a` the address of a run,
 -- `os` are octets, `x` is a piece, `at` its place.
-use Rattle.std.specs.Prelude.{ℕ, ◌+◌, ℤ, pos, true, false, ◌==◌, List, [], ◌∷◌, ◌++◌, length, map, flat_map, replicate, Option, Some, None}
+use Rattle.std.specs.Prelude.{ℕ, ◌+◌, ℤ, pos, true, false, ◌==◌, List, [], ◌∷◌, ◌++◌, length, flat_map, replicate, Option, Some, None}
 use Rattle.nd_base.specs.declared.octets.Order.{Order}
 use Rattle.nd_types.specs.declared.types.Primitive.{Primitive}
 use Rattle.nd_types.specs.declared.types.Primitive.TheVariants.{UnsignedLong}

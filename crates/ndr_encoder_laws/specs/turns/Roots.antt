@@ -1,6 +1,6 @@
 -- The roots of a side that are no pipes, as a search for turns begins with them.
 -- `w` is a setting, `x` a value as a whole.
-use Rattle.std.specs.Prelude.{ℕ, suc, zero, List, [], ◌∷◌, Option, Some, None, map}
+use Rattle.std.specs.Prelude.{ℕ, suc, zero, List, [], ◌∷◌, Option, Some, map}
 use Rattle.std.specs.List.{slice_get}
 use Rattle.nd_types.specs.declared.types.Class.TheVariants.{Ref}
 use Rattle.nd_types.specs.declared.types.TypeDef.{TypeDef}

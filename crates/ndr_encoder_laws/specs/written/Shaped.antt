@@ -1,6 +1,6 @@
 -- Values of which each node has the form of its type.
 -- `t` is a type's number, `l` a label, `ks` are its children, `d` is how deep values nest at most.
-use Rattle.std.specs.Prelude.{◌≡◌, ℕ, suc, zero, ℤ, Bool, List, [], ◌∷◌, Option, Some, None}
+use Rattle.std.specs.Prelude.{◌≡◌, ℕ, suc, zero, ℤ, Bool, List, [], ◌∷◌, Option, Some}
 use Rattle.nd_types.specs.declared.types.TypeDef.TheVariants as def
 use Rattle.nd_types.specs.declared.types.TypeId.{TypeId}
 use Rattle.nd_types.specs.declared.types.Field.{Field}

@@ -1,4 +1,4 @@
-use Rattle.std.proofs.Common.{◌≡◌, List, ℕ, length, take, subst, arith}
+use Rattle.std.proofs.Common.{List, ℕ, subst, arith}
 use Rattle.std.specs.Io.KnownBytes.{Consumes}
 use Rattle.std.proofs.lemmas.List.{take_all}
 use Rattle.command_label.proofs.label.fill.Goals as goal

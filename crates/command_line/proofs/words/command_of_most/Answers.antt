@@ -1,4 +1,4 @@
-use Rattle.std.proofs.Common.{◌∙◌, ap, map}
+use Rattle.std.proofs.Common.{◌∙◌, ap}
 use Rattle.std.specs.String.{string_bytes}
 use Rattle.command_line.specs.Words.{command}
 use Rattle.command_line.proofs.TakenWords.{eight_words, nine_words}

@@ -1,5 +1,5 @@
 use Rattle.std.proofs.Common.{option_map}
-use Rattle.nd_value.specs.Fitting.{setting_of, setting_beside}
+use Rattle.nd_value.specs.Fitting.{setting_beside}
 use Rattle.command_text.proofs.Fitted.{read_is, text_refused, fault_is}
 use Rattle.command_text.proofs.Beside.{reads_beside}
 use Rattle.command_text.proofs.fitting.fit_text.Goals as goal

@@ -1,4 +1,4 @@
-use Rattle.std.proofs.Common.{◌≡◌, [], Some, None, Ok, Err, refl, sym, subst, drop, option_map}
+use Rattle.std.proofs.Common.{◌≡◌, [], None, Err, refl, sym, subst, drop, option_map}
 use Rattle.nd_base.specs.Over.{source_seen}
 use Rattle.nd_value.proofs.FewRoots.{item_at}
 use Rattle.nd_value.specs.Fitting.{setting_beside}

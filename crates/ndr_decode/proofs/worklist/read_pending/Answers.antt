@@ -1,10 +1,8 @@
-use Rattle.std.proofs.Common.{◌≡◌, Option, None, length, refl, ap, subst, ◌∙◌, le_refl, le_trans}
+use Rattle.std.proofs.Common.{refl, ap, ◌∙◌, le_refl, le_trans}
 use Rattle.nd_base.specs.Over.{source_seen}
 use Rattle.nd_flat.specs.Building.{Building}
 use Rattle.ndr_decoder_state.specs.declared.machine.Machine.{Machine}
-use Rattle.ndr_decoder_state.specs.declared.machine.Owed.{Owed}
 use Rattle.nd_grammar.specs.decoded.Verdict.{decoding_seen}
-use Rattle.ndr_decode.specs.Streaming.{with_next, with_taken}
 use Rattle.ndr_decode.proofs.PendingSoFar.{fault_then, given_up, pending_fault, next_due, none_left, so_far_more, so_far_none}
 use Rattle.ndr_decode.proofs.worklist.read_pending.Goals as goal
 

@@ -1,8 +1,8 @@
-use Rattle.std.proofs.Common.{◌≡◌, ◌+◌, ◌∙◌, arith, refl, length, ap}
+use Rattle.std.proofs.Common.{◌≡◌, ◌+◌, ◌∙◌, arith, refl, ap}
 use Rattle.ndr_decoder_state.specs.Seen.{state_of}
 use Rattle.ndr_decoder_fast.specs.Structs.{pointer_read}
 use Rattle.std.specs.Prelude.{false}
-use Rattle.ndr_decoder_fast.proofs.Owing.{cells_counted, cells_idle, new_is, next_cell, one_cell_more, outside_stays, reserved_is, with_builder}
+use Rattle.ndr_decoder_fast.proofs.Owing.{cells_counted, cells_idle, new_is, next_cell, outside_stays, reserved_is, with_builder}
 use Rattle.ndr_decoder_fast.proofs.forms.name_new.Goals as goal
 
 pub returns-clause-ok : goal.returns-clause-ok

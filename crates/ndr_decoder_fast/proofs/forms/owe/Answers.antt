@@ -1,4 +1,4 @@
-use Rattle.std.proofs.Common.{ap, refl, sym, ◌∙◌}
+use Rattle.std.proofs.Common.{refl}
 use Rattle.ndr_decoder_state.specs.Seen.{state_of}
 use Rattle.ndr_decoder_fast.proofs.Owing.{owing_is, spans_pushed}
 use Rattle.ndr_decoder_fast.proofs.forms.owe.Goals as goal

@@ -1,4 +1,4 @@
-use Rattle.std.proofs.Common.{◌≡◌, ◌≤◌, ◌<◌, ◌+◌, sym, subst, arith}
+use Rattle.std.proofs.Common.{◌≤◌, ◌<◌, ◌+◌, subst, arith}
 use Rattle.nd_base.specs.declared.TheConstants.{STREAM_LIMIT}
 use Rattle.ndr_decoder_laws.specs.steps.Steps.{limit_of}
 use Rattle.ndr_decoder_state.specs.Seen.{state_of}

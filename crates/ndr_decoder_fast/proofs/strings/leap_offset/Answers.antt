@@ -1,4 +1,4 @@
-use Rattle.std.proofs.Common.{◌≡◌, ◌≤◌, ◌+◌, arith}
+use Rattle.std.proofs.Common.{◌≤◌, ◌+◌, arith}
 use Rattle.nd_base.specs.declared.TheConstants.{STREAM_LIMIT}
 use Rattle.ndr_decoder_state.specs.Seen.{state_of}
 use Rattle.ndr_decoder_fast.proofs.TextSteps.{nothing_read, offset_refused, offset_passed}

@@ -1,11 +1,10 @@
-use Rattle.std.proofs.Common.{◌≡◌, ◌<◌, ◌≤◌, ◌^◌, ◌+◌, ◌-◌, ◌∙◌, ℕ, arith, ap, sym, refl, length, Some}
+use Rattle.std.proofs.Common.{◌≡◌, ◌<◌, ◌≤◌, ◌^◌, ◌+◌, ◌-◌, ◌∙◌, arith, ap, sym, length}
 use Rattle.nd_grammar.specs.Entry.{gap}
 use Rattle.ndr_code.specs.declared.instr.Instr.TheVariants as op
 use Rattle.ndr_decoder_laws.specs.steps.Steps.{State}
 use Rattle.ndr_decoder_state.specs.Seen.{state_of}
 use Rattle.ndr_code.specs.Lengths.{field_len, form_width}
 use Rattle.ndr_decoder_fast.specs.Structs.{at_address}
-use Rattle.ndr_code.specs.Fields.{field_of}
 use Rattle.ndr_decoder_fast.proofs.StructReading.{address_short, field_fits, field_on, field_stopped, memory_stops, pc_here, reading_begun, reading_over, safe_first, some_field, stopped_first}
 use Rattle.ndr_decoder_fast.proofs.structs.read_struct.Goals as goal
 

@@ -1,4 +1,4 @@
-use Rattle.std.proofs.Common.{◌≡◌, ◌∙◌, ◌≤◌, ◌+◌, ◌-◌, length, take, arith, rules}
+use Rattle.std.proofs.Common.{◌≡◌, ◌≤◌, ◌+◌, ◌-◌, length, take, arith, rules}
 use Rattle.ndr_decoder_input.proofs.Taken.{came_behind, came_long}
 use Rattle.ndr_decoder_input.proofs.intake.fetch_behind.Goals as goal
 

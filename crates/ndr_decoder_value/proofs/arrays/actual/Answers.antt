@@ -1,4 +1,4 @@
-use Rattle.std.proofs.Common.{◌≡◌, ◌+◌, Some, [], ◌∷◌, pos, ap, ◌∙◌, arith}
+use Rattle.std.proofs.Common.{◌≡◌, Some, [], ◌∷◌, pos, ap, ◌∙◌, arith}
 use Rattle.nd_value.specs.Tree as tree
 use Rattle.ndr_decoder_laws.specs.steps.Steps.{State, past, begun, with_node}
 use Rattle.nd_value.specs.declared.item.ItemKind.TheVariants as item

@@ -1,4 +1,4 @@
-use Rattle.std.proofs.Common.{rules, ◌∙◌, arith}
+use Rattle.std.proofs.Common.{◌∙◌, arith}
 use Rattle.std.proofs.lemmas.Bool.{eq-eqb, ne_eqb}
 use Rattle.ndr_decoder_value.proofs.Searches.{list_next, carrier_found, carrier_none}
 use Rattle.ndr_decoder_value.proofs.enumerators.carrier_of.Goals as goal

@@ -1,4 +1,4 @@
-use Rattle.std.proofs.Common.{◌∙◌, ◌∷◌, [], ℕ, List, None, ap, sym, pos, take, drop}
+use Rattle.std.proofs.Common.{◌∙◌, ℕ, List, None, ap, sym, pos, take, drop}
 use Rattle.nd_grammar.specs.Reader.{identifier}
 use Rattle.nd_value.specs.Tree as tree
 use Rattle.nd_value.specs.declared.item.ItemKind.TheVariants as item

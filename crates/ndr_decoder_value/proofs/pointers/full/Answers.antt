@@ -1,4 +1,4 @@
-use Rattle.std.proofs.Common.{ap, subst, sym, ◌∙◌, ◌+◌, ◌<◌, ◌≤◌, ◌≡◌, ℕ, length}
+use Rattle.std.proofs.Common.{ap, subst, sym, ◌+◌, ◌<◌, ◌≤◌, ℕ, length}
 use Rattle.ndr_decoder_laws.specs.steps.Steps.{Outcome}
 use Rattle.ndr_decoder_state.specs.Notes.{Noted, notes_seen}
 use Rattle.ndr_decoder_state.specs.Seen.{state_of, Does}

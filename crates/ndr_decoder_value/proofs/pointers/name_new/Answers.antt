@@ -2,13 +2,13 @@ use mir.Val.{SFits}
 use mir.Syntax.{w128}
 use Rattle.std.proofs.lemmas.Int.{to_z-of_z}
 use Rattle.nd_value.specs.Logged.{noted}
-use Rattle.std.proofs.Common.{rules, ℤ, ◌∙◌, ◌∷◌, [], ◌≡◌, ◌<◌, ◌^◌, ◌+◌, ◌-◌, ℕ, Some, ap, sym, pos, Err, refl, arith}
+use Rattle.std.proofs.Common.{rules, ℤ, ◌∙◌, ◌≡◌, ◌+◌, ◌-◌, ℕ, Some, ap, pos, Err, refl, arith}
 use Rattle.nd_value.specs.declared.item.ItemKind.TheVariants as item
 use Rattle.ndr_decoder_laws.specs.steps.StepItems.{next_item}
-use Rattle.ndr_decoder_laws.specs.steps.Steps.{State, goes, done_after, new_cell, owing}
+use Rattle.ndr_decoder_laws.specs.steps.Steps.{done_after, new_cell, owing}
 use Rattle.ndr_decoder_state.specs.declared.fault.DecodeFault.TheVariants as fault
 use Rattle.ndr_decoder_state.specs.Seen.{state_of}
-use Rattle.ndr_decoder_value.proofs.Noting.{cell_count, goes_memory, stopped_before}
+use Rattle.ndr_decoder_value.proofs.Noting.{goes_memory}
 use Rattle.ndr_decoder_value.proofs.Owing.{with_builder, reserved_is, new_is}
 use Rattle.ndr_decoder_value.proofs.Reserving.{stopped_at_cell, one_with_cell, next_cell, cells_after, one_cell_more, outside_stays}
 use Rattle.ndr_decoder_value.proofs.pointers.name_new.Goals as goal

@@ -1,4 +1,4 @@
-use Rattle.std.proofs.Common.{[], ◌≡◌, ℕ, List, OnOk, Ok, refl, sym, ap, ◌∙◌, subst, le_refl, le_trans}
+use Rattle.std.proofs.Common.{[], ◌≡◌, OnOk, Ok, refl, ap, ◌∙◌, subst, le_refl, le_trans}
 use Rattle.std.proofs.lemmas.Option.{slice_get_within}
 use Rattle.std.proofs.KnownBytes.{Consumes-nil}
 use Rattle.ndr_decoder_laws.specs.runs.Reaching.{IsSafe, begins}

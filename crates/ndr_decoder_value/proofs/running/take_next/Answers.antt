@@ -1,4 +1,4 @@
-use Rattle.std.proofs.Common.{◌≤◌, ◌<◌, [], ◌∙◌, length, arith, sym}
+use Rattle.std.proofs.Common.{◌≤◌, [], ◌∙◌, arith, sym}
 use Rattle.std.proofs.lemmas.Option.{slice_get_within}
 use Rattle.std.proofs.KnownBytes.{Consumes-nil}
 use Rattle.nd_base.specs.declared.TheConstants.{STREAM_LIMIT}

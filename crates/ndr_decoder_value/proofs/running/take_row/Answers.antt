@@ -1,6 +1,5 @@
-use Rattle.std.proofs.Common.{◌≡◌, ◌<◌, ◌≤◌, ◌*◌, ◌/◌, ◌+◌, ◌^◌, ℕ, List, [], length, take, Result, Ok, Err, sym, ap, ◌∙◌, subst, arith}
-use Rattle.nd_base.specs.Over.{SourceSeen, source_seen}
-use Rattle.nd_types.specs.declared.types.Primitive.{Primitive}
+use Rattle.std.proofs.Common.{◌≡◌, ◌<◌, ◌≤◌, ◌*◌, ◌/◌, ◌+◌, ◌^◌, [], length, take, Ok, Err, sym, ap, ◌∙◌, subst, arith}
+use Rattle.nd_base.specs.Over.{source_seen}
 use Rattle.nd_types.specs.Number.{AreOctets}
 use Rattle.nd_types.specs.Table.{width}
 use Rattle.ndr_code.specs.declared.instr.Instr.TheVariants as op
@@ -8,9 +7,8 @@ use Rattle.ndr_decoder_laws.specs.steps.Steps.{goes, item_of}
 use Rattle.ndr_code.specs.Fields.{prim_of}
 use Rattle.ndr_decoder_laws.specs.runs.Reaching.{begins}
 use Rattle.ndr_decoder_laws.specs.runs.Rows.{row_read}
-use Rattle.ndr_decoder_state.specs.declared.fault.DecodeFault.{DecodeFault}
 use Rattle.ndr_decoder_state.specs.Seen.{state_of, Does}
-use Rattle.ndr_decoder_state.specs.Notes.{NotesSeen, notes_seen}
+use Rattle.ndr_decoder_state.specs.Notes.{notes_seen}
 use Rattle.ndr_decoder_value.specs.Notes.{RowNoted}
 use Rattle.ndr_decoder_value.specs.Reaching.{Fetches}
 use Rattle.ndr_decoder_value.proofs.Taking.{address_fits, count_fits}

@@ -1,6 +1,6 @@
 use Rattle.std.proofs.Common.{◌≡◌, ◌<◌, ◌^◌, ℤ, None, refl, sym, ap, ◌∙◌, length, pos, arith}
 use Rattle.std.proofs.lemmas.Int.{to_z_pos}
-use mir.Val.{hbits, to_z}
+use mir.Val.{hbits}
 use mir.Syntax.{w128}
 use Rattle.nd_value.specs.Logged.{noted}
 use Rattle.nd_grammar.specs.Refusal.{text_refusal}

@@ -3,7 +3,7 @@ use Rattle.nd_base.specs.Over.{source_seen}
 use Rattle.ndr_decoder_state.specs.Notes.{notes_seen}
 use Rattle.ndr_decoder_state.specs.Seen.{state_of}
 use Rattle.nd_grammar.specs.decoded.Verdict.{decoding_seen}
-use Rattle.ndr_drain_reader.specs.Chunks.{FillsNot, FilledWhole}
+use Rattle.ndr_drain_reader.specs.Chunks.{FillsNot}
 use Rattle.ndr_drain_reader.proofs.Headers.{filled_none, handed_fault, stopped_there}
 use Rattle.ndr_drain_reader.proofs.Runs.{begun_part, chunk_safe, fault_comes, filled, some_is}
 use Rattle.ndr_drain_reader.proofs.chunk.fill_chunk.Goals as goal

@@ -1,8 +1,8 @@
-use Rattle.std.proofs.Common.{◌≡◌, ◌∷◌, [], List, ap, ◌∙◌, subst}
+use Rattle.std.proofs.Common.{◌≡◌, ◌∷◌, [], ap, ◌∙◌, subst}
 use Rattle.nd_value.specs.declared.value.Graph.{Graph}
 use Rattle.nd_value.specs.Setting.{root_at}
 use Rattle.nd_value.specs.Tree as tree
-use Rattle.nd_value.specs.Tree.{Tree, flat, more, node, none, take_trees, trees}
+use Rattle.nd_value.specs.Tree.{flat, more, node, none, take_trees, trees}
 use Rattle.nd_flat.specs.Building.{closed}
 use Rattle.nd_flat.specs.FlatForm.{flat_seen}
 use Rattle.nd_flat.specs.declared.node.Seen.{Seen}

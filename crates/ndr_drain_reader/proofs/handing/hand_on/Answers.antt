@@ -1,4 +1,4 @@
-use Rattle.std.proofs.Common.{ap, sym, subst, ◌∙◌}
+use Rattle.std.proofs.Common.{◌∙◌}
 use Rattle.ndr_drain_reader.proofs.Handed.{hands_err, noted_more, some_noted}
 use Rattle.ndr_drain_reader.proofs.handing.hand_on.Goals as goal
 

@@ -1,4 +1,4 @@
-use Rattle.std.proofs.Common.{rules, ◌≡◌, ◌≤◌, ℕ, List, [], ◌++◌, length, drop, refl, ap, sym, ◌∙◌, subst}
+use Rattle.std.proofs.Common.{rules, ◌≡◌, ℕ, List, [], ◌++◌, length, drop, refl, sym, subst}
 use Rattle.ndr_encoder_laws.specs.pieces.Pieces.{Piece, pieces_names}
 use Rattle.ndr_encoder_output.specs.Counting.{names_of}
 use Rattle.ndr_encoder_laws.specs.turns.Turned.{cells_of}

@@ -1,11 +1,5 @@
-use Rattle.std.proofs.Common.{◌≡◌, ℕ, ◌≤◌, ◌^◌, List, [], ◌∷◌, ap₂, sym, ◌∙◌, subst, length}
-use Rattle.std.proofs.lemmas.List.{length-take-le}
 use Rattle.nd_value.specs.Tree.{flat}
-use Rattle.ndr_encoder_laws.specs.pieces.Pieces.{Piece, Gap, four}
-use Rattle.ndr_encoder_laws.specs.written.Run.{run}
-use Rattle.ndr_encoder_structs.specs.Structs.{members_of}
-use Rattle.ndr_encoder_homes.specs.Elements.{elements_pieces, array_pieces}
-use Rattle.ndr_encoder_homes.proofs.Following.{array_written, few_steps, home_pieces}
+use Rattle.ndr_encoder_homes.proofs.Following.{home_pieces}
 use Rattle.ndr_encoder_value.proofs.Going.{able_from, moves_from}
 use Rattle.ndr_encoder_homes.proofs.arrays.write_array.Goals as goal
 

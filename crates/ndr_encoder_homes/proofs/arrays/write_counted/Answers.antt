@@ -1,4 +1,4 @@
-use Rattle.std.proofs.Common.{[], ◌∷◌}
+use Rattle.std.proofs.Common.{◌∷◌}
 use Rattle.nd_value.specs.Tree.{flat}
 use Rattle.ndr_encoder_laws.specs.pieces.Pieces.{four}
 use Rattle.ndr_encoder_homes.specs.Elements.{elements_pieces}

@@ -1,4 +1,3 @@
-use Rattle.std.proofs.Common.{◌+◌}
 use Rattle.nd_value.specs.Tree.{flat}
 use Rattle.ndr_encoder_homes.proofs.Elements.{able_next, next_went}
 use Rattle.ndr_encoder_homes.proofs.arrays.write_elements.Goals as goal

@@ -1,4 +1,4 @@
-use Rattle.std.proofs.Common.{◌≡◌, ◌≤◌, ap, sym, ◌∙◌, arith}
+use Rattle.std.proofs.Common.{◌≤◌, ap, sym, ◌∙◌, arith}
 use Rattle.nd_value.specs.Tree.{Trees, none, more, flat}
 use Rattle.ndr_encoder_laws.specs.turns.Turned.{STEPS}
 use Rattle.ndr_encoder_laws.specs.chosen.Written.{value_at}

@@ -1,6 +1,5 @@
 use Rattle.std.proofs.Common.{Some, ap, sym, ◌∙◌}
 use Rattle.nd_value.specs.Tree.{flat}
-use Rattle.ndr_encoder_laws.specs.declared.frames.Frame.TheVariants as frame
 use Rattle.ndr_encoder_value.specs.Going.{left}
 use Rattle.ndr_encoder_value.proofs.Going.{able_from, moves_from, moves_to, stays}
 use Rattle.ndr_encoder_value.proofs.Elements.{back_first, back_none}

@@ -1,4 +1,3 @@
-use Rattle.std.proofs.Common.{reverse}
 use Rattle.ndr_explain.proofs.Places.{has_child, ends_at, goes_at}
 use Rattle.ndr_explain.proofs.cursor.advance.Goals as goal
 

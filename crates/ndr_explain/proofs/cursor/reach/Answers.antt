@@ -1,4 +1,4 @@
-use Rattle.std.proofs.Common.{◌+◌, ◌≤◌, ◌<◌, ◌≡◌, Option, refl, subst, arith}
+use Rattle.std.proofs.Common.{◌+◌, ◌<◌, ◌≡◌, Option, subst, arith}
 use Rattle.std.specs.Prelude.{IfSome}
 use Rattle.ndr_explain.specs.declared.cursor.Cursor.{Cursor}
 use Rattle.ndr_explain.proofs.Places.{past_later, reaches_none, reaches_some}

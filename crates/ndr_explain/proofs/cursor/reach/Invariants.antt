@@ -1,4 +1,4 @@
-use Rattle.std.proofs.Common.{◌≡◌, ◌≤◌, ◌-◌, List, ℕ}
+use Rattle.std.proofs.Common.{◌≤◌, ◌-◌, List, ℕ}
 use Rattle.nd_value.specs.Tree.{Flat}
 use Rattle.ndr_explain.specs.Cursors.{IsAt}
 use Rattle.ndr_explain.proofs.cursor.reach.Given as goal

@@ -1,6 +1,5 @@
-use Rattle.std.proofs.Common.{◌++◌, append-nil, sym, ap, ◌∙◌, arith}
+use Rattle.std.proofs.Common.{◌++◌, sym, ap, ◌∙◌, arith}
 use Rattle.text_grammar.specs.Paths.{home_name}
-use Rattle.ndr_explain.specs.Explained.{home_paths, path_in}
 use Rattle.ndr_explain.proofs.Lines.{own_path}
 use Rattle.ndr_explain.proofs.explaining.append_missing.Goals as goal
 

@@ -1,5 +1,4 @@
-use Rattle.std.proofs.Common.{◌∙◌, ◌+◌, ◌++◌, ap, sym, drop, arith}
-use Rattle.std.proofs.Common.{append_assoc}
+use Rattle.std.proofs.Common.{◌∙◌, ◌+◌, ◌++◌, ap, sym, drop, arith, append_assoc}
 use Rattle.nd_types.specs.Layout.{hoists}
 use Rattle.ndr_code.specs.Code.{whole_run, place_run, type_runs}
 use Rattle.ndr_plan.specs.Addresses.{place_in, whole_in}

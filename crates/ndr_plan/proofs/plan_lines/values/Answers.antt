@@ -1,5 +1,4 @@
-use Rattle.std.proofs.Common.{◌∙◌, ap, sym, drop, map, ◌++◌, arith}
-use Rattle.std.proofs.Common.{◌+◌, [], ◌∷◌, rules}
+use Rattle.std.proofs.Common.{◌∙◌, ap, sym, drop, map, ◌++◌, arith, ◌+◌, [], ◌∷◌, rules}
 use Rattle.std.proofs.lemmas.Int.{to_z-of_z}
 use mir.Val.{SFits}
 use mir.Syntax.{w128}

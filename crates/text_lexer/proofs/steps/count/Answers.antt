@@ -1,10 +1,8 @@
-use Rattle.std.proofs.Common.{◌∙◌, sym, ap, subst, length, pos, codes}
-use Rattle.text_grammar.specs.Tokens.{Word, Number, Cell, Mark, Str, Bytes}
-use Rattle.text_grammar.specs.Written.{Name, Other, version_number}
-use Rattle.text_grammar.specs.Dues.{This, AVersion, ANumber, ACount, AString, SomeBytes, APointer}
-use Rattle.text_reading_laws.proofs.OneText.{cut_less, one_next}
-use Rattle.text_lexer.specs.declared.stop.Stop.TheVariants as stop
-use Rattle.text_lexer.specs.Lexemes.{plain, other_reason, name_reason}
+use Rattle.std.proofs.Common.{sym, subst, pos}
+use Rattle.text_grammar.specs.Tokens.{Number}
+use Rattle.text_grammar.specs.Dues.{ACount}
+use Rattle.text_reading_laws.proofs.OneText.{cut_less}
+use Rattle.text_lexer.specs.Lexemes.{plain, other_reason}
 use Rattle.text_lexer.specs.Misses.{Misses}
 use Rattle.text_lexer.proofs.OneStep.{a_count, misses, no_count}
 use Rattle.text_lexer.proofs.steps.count.Goals as goal

@@ -8,7 +8,7 @@ use Rattle.nd_types.specs.declared.types.Field.{Field}
 use Rattle.nd_types.specs.Layout.{type_list}
 use Rattle.nd_types.specs.Table.{selected}
 use Rattle.nd_value.specs.Tree as tree
-use Rattle.nd_value.specs.Tree.{Tree, node, trees, node_count, more, none}
+use Rattle.nd_value.specs.Tree.{Tree, node, trees, more, none}
 use Rattle.nd_value.specs.Seen.{tree_of}
 use Rattle.nd_value.specs.Nodes.{selected_types}
 use Rattle.nd_value.proofs.FewRoots.{past_end}

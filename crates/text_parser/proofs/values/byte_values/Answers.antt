@@ -3,7 +3,7 @@ use Rattle.std.proofs.lemmas.Int.{to_z-of_z}
 use mir.Val.{SFits}
 use mir.Syntax.{w128}
 use Rattle.nd_value.specs.Tree as tree
-use Rattle.nd_value.specs.Tree.{Tree, node, none}
+use Rattle.nd_value.specs.Tree.{node, none}
 use Rattle.text_grammar.specs.Tokens.{hex_pair}
 use Rattle.text_reading_laws.proofs.Quoted.{pair_quote}
 use Rattle.text_lexer.proofs.Scanning.{begun, one_more, whole}

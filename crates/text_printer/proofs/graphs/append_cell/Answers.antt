@@ -1,4 +1,4 @@
-use Rattle.std.proofs.Common.{codes, decimal, subst, ap, ◌∷◌, [], sym, ◌++◌, ◌≡◌, ◌∙◌}
+use Rattle.std.proofs.Common.{codes, decimal, subst, ap, ◌∷◌, [], sym, ◌++◌, ◌∙◌}
 use Rattle.std.proofs.lemmas.Result.{on_ok_weaker}
 use Rattle.nd_value.specs.Tree.{more, none}
 use Rattle.text_printer.specs.Texts.{text_of}

@@ -1,6 +1,5 @@
 use Rattle.std.proofs.Common.{codes}
 use Rattle.std.proofs.lemmas.Result.{on_ok_weaker}
-use Rattle.nd_types.specs.Walk.{root_value}
 use Rattle.text_printer.specs.Texts.{text_of}
 use Rattle.text_printer.proofs.Identifiers.{four}
 use Rattle.text_printer.proofs.Lines.{value_written}

@@ -1,4 +1,4 @@
-use Rattle.std.proofs.Common.{◌≡◌, ◌++◌, ap, ◌∙◌, sym}
+use Rattle.std.proofs.Common.{◌++◌, ap, ◌∙◌, sym}
 use Rattle.nd_value.specs.Seen.{tree_of}
 use Rattle.text_printer.proofs.Sound.{value_is_printed}
 use Rattle.text_printer.proofs.graphs.append_value_text.Goals as goal

@@ -1,4 +1,4 @@
-use Rattle.std.proofs.Common.{rules, ◌≡◌, ◌++◌, ◌+◌, ◌-◌, add-one, ℤ, ◌∷◌, [], List, ℕ, suc, length, codes, drop, map, replicate, subst, ap, ◌∙◌, sym, append_assoc, arith, Some}
+use Rattle.std.proofs.Common.{rules, ◌≡◌, ◌++◌, ◌+◌, ◌-◌, add-one, ℤ, List, ℕ, suc, codes, drop, map, replicate, subst, ap, ◌∙◌, sym, arith, Some}
 use Rattle.std.specs.Fmt.{signed_decimal}
 use Rattle.std.proofs.lemmas.Result.{on_ok_weaker}
 use Rattle.std.proofs.lemmas.Int.{to_z-of_z}
@@ -7,12 +7,12 @@ use mir.Syntax.{w128}
 use Rattle.nd_types.specs.declared.types.TypeDef.TheVariants as def
 use Rattle.nd_types.specs.Table.{type_at}
 use Rattle.nd_value.specs.Tree as tree
-use Rattle.nd_value.specs.Tree.{Trees, none, flat, take_trees}
+use Rattle.nd_value.specs.Tree.{none, take_trees}
 use Rattle.nd_value.specs.Nodes.{child_types}
 use Rattle.nd_value.proofs.LocalPass.{drop-get, drop-past}
 use Rattle.nd_flat.specs.FlatForm.{flat_seen, armed_count}
-use Rattle.text_printer.specs.Texts.{separator, listed, member_texts, list_text, counts_text, arm_text}
-use Rattle.text_printer.specs.Walks.{Writes, first_text}
+use Rattle.text_printer.specs.Texts.{separator, listed, member_texts, arm_text}
+use Rattle.text_printer.specs.Walks.{Writes}
 use Rattle.text_printer.proofs.Walking.{next_written, fewer_after, member_then, element_then, members_over, elements_over, bytes_written, union_written, array_written}
 use Rattle.text_printer.proofs.walked.+walked.Goals as goal
 

@@ -1,4 +1,4 @@
-use Rattle.std.proofs.Common.{◌≡◌, ◌≤◌, ◌+◌, ◌-◌, ◌*◌, ℕ, List, length, map, drop, replicate}
+use Rattle.std.proofs.Common.{◌≤◌, ◌+◌, ◌-◌, ◌*◌, ℕ, List, length, map, drop, replicate}
 use Rattle.nd_value.specs.Tree.{Trees, flat}
 use Rattle.text_printer.specs.Texts.{listed, member_texts}
 use Rattle.text_printer.specs.Walks.{Writes}

@@ -1,4 +1,4 @@
-use Rattle.std.proofs.Common.{◌≡◌, ◌∙◌, ap, refl, nat_eq, List, [], ◌∷◌, ◌++◌, None}
+use Rattle.std.proofs.Common.{◌≡◌, ◌∙◌, ap, refl, nat_eq, [], ◌∷◌, ◌++◌, None}
 use Rattle.indexmap.proofs.CallerLemmas.{insert_entry-new}
 use Rattle.ndr_refs.specs.Known.{known, first_met}
 use Rattle.ndr_refs.proofs.referents.Referents.keep.Goals as goal
