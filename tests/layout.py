@@ -6,7 +6,7 @@
 - crates.txt has floors, `# N. heading` in order, and a line `# what it has` before each crate. A crate uses only crates that come before it:
   those of lower floors, and those above it on its own floor. Each crate is a folder of crates/, and each folder a crate.
 - No crate's former name appears in any file.
-- No line of src/ or specs/ is over 150 characters, none of proofs/ over 200.
+- No line of src/ or specs/ is over 150 characters, none of proofs/ over 200, except for a string or a list of tactics, which cannot be broken.
 - No file of specs/ imports another crate's proofs/.
 """
 
@@ -23,6 +23,7 @@ sys.dont_write_bytecode = True
 
 ROOT = Path(__file__).resolve().parent.parent
 LONGEST = {"src": 150, "specs": 150, "proofs": 200}
+STRING = re.compile(r'"(?:[^"\\]|\\.)*"')
 FLOOR = re.compile(r"# (\d+)\. \S.*")
 CRATE = re.compile(r"(?P<name>\w+)[^:#]*:(?P<uses>[^#]*)")
 
@@ -106,12 +107,17 @@ def faults_of_names(path: Path, text: str) -> Iterator[str]:
             yield f"{path}:{number}: {found} is the former name of a crate"
 
 
+def is_unbroken(line: str, most: int) -> bool:
+    """Whether nothing in a line can be broken: a list of tactics, which the layout tool keeps on one line, or a string that makes it long."""
+    return line.lstrip().startswith("#[tactic(") or len(STRING.sub("", line)) <= most
+
+
 def faults_of_lines(path: Path, text: str) -> Iterator[str]:
     """Where a file of a crate has too long a line."""
     parts = path.parts
     most = LONGEST.get(parts[2]) if len(parts) > 3 and parts[0] == "crates" and path.suffix in (".rt", ".antt") else None
     for number, line in enumerate(text.splitlines(), 1) if most else ():
-        if len(line) > most:
+        if len(line) > most and not is_unbroken(line, most):
             yield f"{path}:{number}: {len(line)} characters, more than {most}"
 
 
