@@ -2,7 +2,8 @@
 """Says where the time of the gate goes: minutes for each crate, and the longest chain of crates that wait for each other.
 
     .ci/run 2>&1 | bench/gate.py --stamp > LOG     copies the gate's lines to LOG, each with its time
-    bench/gate.py LOG                              prints the minutes that LOG has
+    bench/gate.py LOG                              prints the minutes that LOG has (`bench/run gate LOG` keeps them, too)
+    bench/gate.py --estimate N                     prints how many minutes the gate takes with N checks at once, by bench/minutes.txt
 
 The lines of `rt ci` carry no times, and it says when a proof ends but not when it begins. So `--stamp` puts the seconds since
 its start before each line, and every two seconds adds a line on the checks that run: `CRATE proof`, `CRATE tests` or
@@ -228,13 +229,41 @@ def report(crates: Dict[str, Times], uses: Dict[str, List[str]], end: float) -> 
     print(f"The longest work beside the proofs: {work} of {name}, {minutes(longest)} minutes.")
 
 
+def keep_minutes(crates: Dict[str, Times], uses: Dict[str, List[str]], kept: Path) -> None:
+    """Writes the minutes of a processor of each crate; of one that was not proved in this run those that the file has stay."""
+    old: Dict[str, List[str]] = {}
+    if kept.is_file():
+        old = {words[0]: words[1:4] for words in (line.split("#")[0].split() for line in kept.read_text(encoding="utf-8").splitlines()) if words}
+    lines = ["# Minutes of a processor: crate, proof, tests, must-fail edits. `bench/run gate LOG` writes them; bin/build and .ci/run estimate by them."]
+    for name in uses:
+        used = crates[name].used if name in crates else {}
+        cells = [f"{used[work] / 60:.1f}" if work in used else before for work, before in zip(WORKS, [*old.get(name, []), "0", "0", "0"][:3])]
+        lines.append(f"{name} {' '.join(cells)}")
+    kept.write_text("\n".join(lines) + "\n", encoding="utf-8")
+
+
+def estimate(kept: Path, lanes: int) -> float:
+    """How many minutes the gate takes with so many checks at once, where nothing is kept: its work, or the longest chain of proofs."""
+    uses = libraries((ROOT / "crates.txt").read_text(encoding="utf-8"))
+    rows = [line.split("#")[0].split() for line in kept.read_text(encoding="utf-8").splitlines()] if kept.is_file() else []
+    minutes_of = {words[0]: [float(it) for it in words[1:4]] for words in rows if words}
+    work = sum(sum(minutes_of.get(name, [1.5])) for name in uses)
+    proofs = {name: minutes_of.get(name, [1.5])[0] for name in uses}
+    return max(work / lanes, sum(proofs[name] for name in longest_chain(uses, proofs)))
+
+
 def main() -> int:
     parser = argparse.ArgumentParser(description="Says where the time of the gate goes.")
     parser.add_argument("--stamp", action="store_true", help="copy standard input to standard output, with times")
+    parser.add_argument("--estimate", type=int, metavar="N", help="print how many minutes the gate takes with N checks at once")
+    parser.add_argument("--minutes", type=Path, metavar="FILE", help="write the minutes of each crate in LOG to this file")
     parser.add_argument("log", nargs="?", type=Path, metavar="LOG", help="a log that --stamp wrote")
     words = parser.parse_args()
-    if words.stamp == (words.log is not None):
-        parser.error("either --stamp or LOG")
+    if [words.stamp, words.log is not None, words.estimate is not None].count(True) != 1:
+        parser.error("one of --stamp, --estimate and LOG")
+    if words.estimate is not None:
+        print(f"{estimate(ROOT / 'bench' / 'minutes.txt', max(words.estimate, 1)):.0f}")
+        return 0
     if words.stamp:
         stamp()
         return 0
@@ -242,7 +271,10 @@ def main() -> int:
     if not crates:
         print(f"{words.log} has no stamped line on a crate: write it with `rt ci 2>&1 | bench/gate.py --stamp`", file=sys.stderr)
         return 1
-    report(crates, libraries((ROOT / "crates.txt").read_text(encoding="utf-8")), end)
+    uses = libraries((ROOT / "crates.txt").read_text(encoding="utf-8"))
+    report(crates, uses, end)
+    if words.minutes:
+        keep_minutes(crates, uses, words.minutes)
     return 0
 
 

@@ -76,7 +76,8 @@ class Case:
     """One run of the real program in a fresh folder, and what has to come of it.
 
     `words` are the words after the program's name. `files` are made in the folder that the program runs in; a file that
-    is not among them is missing. What is left out has its usual value: no input, nothing written, status 0.
+    is not among them is missing. `room` is how many octets of address space the run may take. What is left out has its
+    usual value: no input, nothing written, status 0, no limit.
     """
 
     name: str
@@ -88,6 +89,15 @@ class Case:
     status: int = 0
     ends: Mapping[str, bytes] = field(default_factory=dict)
     left: Optional[bytes] = None
+    room: Optional[int] = None
+
+
+@dataclass(frozen=True)
+class Late:
+    """A large case, which is made when it runs."""
+
+    name: str
+    make: Callable[[], Case]
 
 
 @dataclass(frozen=True)

@@ -30,9 +30,9 @@ from typing import BinaryIO, List, Mapping, Optional, Sequence, Union
 sys.dont_write_bytecode = True
 sys.path.append(str(Path(__file__).resolve().parent / "cases"))  # files of cases may take cases of each other
 
-from case import ROOT, Begins, Case, Check, Command, Folder, LinkTo, OneAtATime, Sparse, Stream, Unreadable, printable
+from case import ROOT, Begins, Case, Check, Command, Folder, Late, LinkTo, OneAtATime, Sparse, Stream, Unreadable, printable
 
-AnyCase = Union[Case, Command, Check]
+AnyCase = Union[Case, Late, Command, Check]
 SECONDS = 300
 SHOWN = 400  # octets of a long text that a failure shows
 
@@ -178,7 +178,8 @@ def run(program: str, case: Case) -> Ran:
         os.mkdir(folder)
         make_files(case, folder)
         streams = [input_of(case, os.path.join(place, "input")), output_of(case.out), output_of(case.notes)]
-        command = ["/bin/sh", "-c", f'exec "$0" "$@" {redirected(case)}', program, *case.words]
+        limit = "" if case.room is None else f"ulimit -v {case.room >> 10} && "
+        command = ["/bin/sh", "-c", f'{limit}exec "$0" "$@" {redirected(case)}', program, *case.words]
         child = subprocess.Popen(command, cwd=folder, stdin=streams[0], stdout=streams[1], stderr=streams[2])
         for stream in streams[1:]:
             if stream >= 0:
@@ -242,6 +243,8 @@ def faults(program: str, case: AnyCase) -> List[str]:
         return ["  " + fault for fault in case.find()]
     if isinstance(case, Command):
         return difference("shown", case.shown, run_command(program, case))
+    if isinstance(case, Late):
+        return faults(program, case.make())
     ran = run(program, case)
     found = [] if ran.status == case.status else [f"  status: wanted {case.status}, found {ran.status}"]
     found += difference("out", case.out, ran.out) + difference("notes", case.notes, ran.notes)

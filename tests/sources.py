@@ -119,8 +119,8 @@ def cut(source: Source) -> None:
             last = None
             at += 1
             continue
-        if re.match(r"(pub )?module |mutual\b", body):
-            while not body.startswith("mutual") and not code(source.lines[at]).rstrip().endswith("where"):
+        if re.match(r"(pub )?module |(abbrev )?mutual\b", body):
+            while not re.match(r"(abbrev )?mutual\b", body) and not code(source.lines[at]).rstrip().endswith("where"):
                 at += 1
             at += 1
             inner = next((indent(other) for other in source.lines[at:] if other.strip()), 0)

@@ -1,6 +1,7 @@
-//! Measures `decode`, `Work::for_graph` and `encode_with`. The octets of an operation's inputs, in little order, are the standard input. They are read to their end first; then they are
-//! decoded so many times from memory, and their graph is encoded as often, into a buffer that the octets are then copied to. It says how many nanoseconds the fastest of each took. If they are to be decoded
-//! no time, they are decoded once, straight from the input, and nothing is kept of them: so it shows what memory that takes.
+//! Measures `decode`, `Work::for_graph` and `encode_with`. The octets of an operation's inputs, in little order, are the standard input. They are
+//! read to their end first; then they are decoded so many times from memory, and their graph is encoded as often, into a buffer that the octets are
+//! then copied to. It says how many nanoseconds the fastest of each took. If they are to be decoded no time, they are decoded once, straight from the
+//! input, and nothing is kept of them: so it shows what memory that takes.
 //!
 //! The words are the interface file, the number of the operation, and how many times the octets are decoded.
 #![tactic(auto)]
@@ -16,8 +17,8 @@ use std::{env, io};
 // The most octets that are read.
 const MOST: usize = 67_108_864;
 
-// How many octets are read at once. The buffer is given back before anything is measured, and the C library keeps memory that is given back up to twice the size of
-// the largest block that it saw given back: so each round has the memory of the one before, as in a program that has run for long.
+// How many octets are read at once. The buffer is given back before anything is measured, and the C library keeps memory that is given back up to
+// twice the size of the largest block that it saw given back: so each round has the memory of the one before, as in a program that has run for long.
 const PIECE: usize = 33_500_000;
 
 fn main(rt: HostRuntime) -> io::Result<()> {

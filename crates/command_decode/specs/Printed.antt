@@ -36,8 +36,8 @@ pub record IsPrinted (s : SourceSeen) (w : Setting) (order : Order) (text : List
   pub whole : IsWhole s octets
   pub decoding : IsDecoding w order octets text
 
--- The octets that were taken are refused, and end with what is refused; so are all that begin with them, and where they are cut short the source gives
--- no more.
+-- The octets that were taken are refused, and end with what is refused; so are all that begin with them, and where they are cut short the source
+-- gives no more.
 pub record IsRefusedInput (s : SourceSeen) (w : Setting) (order : Order) (place : ℕ) (why : Reason) : Type 0 where
   pub octets : List ℕ
   pub taken : Consumes s.left s.left_now octets

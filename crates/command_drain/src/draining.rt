@@ -22,15 +22,16 @@ use ndr_plan::make;
 use std::alloc::Global;
 use value_text::print;
 
-/// Gives the pipes of a side of an operation to ends, of the octets that a source has left, in NDR (C706, chapter 14), and prints the text of the values with every pipe
-/// empty. `op` must be the number of an operation of the interface, and no end be finished. A request that is given must be one of that operation, and then
-/// the side is that of its outputs: they are judged beside it.
+/// Gives the pipes of a side of an operation to ends, of the octets that a source has left, in NDR (C706, chapter 14), and prints the text of the
+/// values with every pipe empty. `op` must be the number of an operation of the interface, and no end be finished. A request that is given must be
+/// one of that operation, and then the side is that of its outputs: they are judged beside it.
 ///
 /// The source is asked for no octet past the values but one, which tells whether they end it; by then all ends were served.
 ///
 /// # Errors
-/// TooFewEnds where the side has more pipes than there are ends. BadOctets, the first place at which the octets are refused: that of an octet which follows the values, if
-/// one does. ReadFault, where the source failed. EndFailed, where an end failed. Memory where memory was refused. What the ends have then is as `drain` says.
+/// TooFewEnds where the side has more pipes than there are ends. BadOctets, the first place at which the octets are refused: that of an octet which
+/// follows the values, if one does. ReadFault, where the source failed. EndFailed, where an end failed. Memory where memory was refused. What the
+/// ends have then is as `drain` says.
 ///
 /// Takes memory for the plan of the interface, what is kept, a chunk at a time, and the text. The time is in proportion to these and the octets.
 pub fn drain_octets<S: Source, E: PipeEnd>(

@@ -10,7 +10,8 @@ use Rattle.nd_value.specs.Setting.{Setting}
 use Rattle.nd_grammar.specs.Chosen.{Chosen}
 use Rattle.ndr_encode.specs.Work.{WorkSeen, IsWorkFor, IsTooLong, IsChosen}
 use Rattle.command_refusals.specs.declared.refusal.Refusal.{Refusal}
-use Rattle.command_refusals.specs.declared.refusal.Refusal.TheVariants.{Memory, Absent, FileFailed, BadIdl, NoOperation, ReadFault, BadOctets, BadText, BadValue, TooLong, BadRequest, BadLabel, ShortLabel, TooFewEnds, EndFailed}
+use Rattle.command_refusals.specs.declared.refusal.Refusal.TheVariants.{Memory, Absent, FileFailed, BadIdl, NoOperation, ReadFault, BadOctets, BadText, BadValue, TooLong, BadRequest, BadLabel}
+use Rattle.command_refusals.specs.declared.refusal.Refusal.TheVariants.{ShortLabel, TooFewEnds, EndFailed}
 use Rattle.command_encode.specs.Written.{IsWritten, IsLong, IsWritingCause}
 use Rattle.command_encode.specs.Prepared.{IsUnprepared}
 

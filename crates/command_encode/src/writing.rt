@@ -23,8 +23,8 @@ use std::alloc::Global;
 /// # Errors
 /// TooLong, exactly where the octets are more than a stream may have: so many. Memory where memory was refused.
 ///
-/// Takes memory for the plan of the interface, for 12 octets for each root and cell and 4 for each cell, and for the octets. The time is in proportion
-/// to the plan, the values and the octets.
+/// Takes memory for the plan of the interface, for 12 octets for each root and cell and 4 for each cell, and for the octets. The time is in
+/// proportion to the plan, the values and the octets.
 pub fn write_octets(
     alloc: Global,
     interface: &Interface,

@@ -42,9 +42,13 @@ pub fn explain_octets<S: Source>(
     requires known { op < length interface.now.operations }
     requires request { IsRequestOf interface.now op side (option_map (λ f. f.now) given) }
     ensures explained { (o : Operation) → slice_get interface.now.operations op ≡ Some o
-        → IfOk result (IsExplained (source_seen S.left S.ended S.faults input.old input.new) (setting_beside interface.now o side (option_map (λ f. f.now.graph) given.entry)) order) }
+        → IfOk result
+        (IsExplained (source_seen S.left S.ended S.faults input.old input.new)
+        (setting_beside interface.now o side (option_map (λ f. f.now.graph) given.entry)) order) }
     ensures refused { (o : Operation) → slice_get interface.now.operations op ≡ Some o
-        → IfErr result (IsInputCause (source_seen S.left S.ended S.faults input.old input.new) (setting_beside interface.now o side (option_map (λ f. f.now.graph) given.entry)) order) }
+        → IfErr result
+        (IsInputCause (source_seen S.left S.ended S.faults input.old input.new)
+        (setting_beside interface.now o side (option_map (λ f. f.now.graph) given.entry)) order) }
 {
     let plan = make(alloc, interface)?;
     let mut items = ItemLog::keeping(alloc);
@@ -69,13 +73,17 @@ fn decode<S: Source>(
     requires request { IsRequestOf plan.now.tie op side (option_map (λ f. f.now) given) }
     requires empty { items.old ≡ record { keeps = true; items = [] } }
     ensures logged { (o : Operation) → slice_get plan.now.tie.operations op ≡ Some o
-        → IfOk result (λ d. IsLogged (source_seen S.left S.ended S.faults input.old input.new) (setting_beside plan.now.tie o side (option_map (λ f. f.now.graph) given.entry)) order d.taken d.fit.graph items.new.items) }
+        → IfOk result
+        (λ d. IsLogged (source_seen S.left S.ended S.faults input.old input.new)
+        (setting_beside plan.now.tie o side (option_map (λ f. f.now.graph) given.entry)) order d.taken d.fit.graph items.new.items) }
     ensures interface { IfOk result (λ d. d.fit.interface ≡ plan.now.tie) }
     ensures number { IfOk result (λ d. d.fit.op ≡ op) }
     ensures side { IfOk result (λ d. d.fit.side ≡ side) }
     ensures beside { IfOk result (λ d. d.fit.given ≡ option_map (λ f. f.now.graph) given.entry) }
     ensures refused { (o : Operation) → slice_get plan.now.tie.operations op ≡ Some o
-        → IfErr result (IsInputCause (source_seen S.left S.ended S.faults input.old input.new) (setting_beside plan.now.tie o side (option_map (λ f. f.now.graph) given.entry)) order) }
+        → IfErr result
+        (IsInputCause (source_seen S.left S.ended S.faults input.old input.new)
+        (setting_beside plan.now.tie o side (option_map (λ f. f.now.graph) given.entry)) order) }
     ensures later { S.faults input.old ≤ S.faults input.new }
 {
     let mut steps = Steps::new(Uncounted::new());

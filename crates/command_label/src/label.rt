@@ -12,8 +12,8 @@ use ndr_prim::read_label;
 /// label is asked for.
 ///
 /// # Errors
-/// BadLabel, where the four octets were taken and are no label that is read. ShortLabel, where the source gave fewer than four and has ended. ReadFault,
-/// where the source failed.
+/// BadLabel, where the four octets were taken and are no label that is read. ShortLabel, where the source gave fewer than four and has ended.
+/// ReadFault, where the source failed.
 ///
 /// Takes no memory.
 pub fn take_label<S: Source>(input: &mut S) -> Result<Order, Refusal>

@@ -156,6 +156,7 @@ command (verb ∷ idl ∷ acf ∷ op ∷ side ∷ order ∷ chunk ∷ []) =
 command (how ∷ idl ∷ acf ∷ op ∷ side ∷ order ∷ given ∷ text ∷ []) =
     if is_word given (codes "given") then read_beside (reading_of how) idl acf op (side_of side) (order_of order) text else None
 command (verb ∷ idl ∷ acf ∷ op ∷ side ∷ order ∷ chunk ∷ given ∷ text ∷ []) =
-    if is_word verb (codes "encode") && is_word given (codes "given") then encode_beside idl acf op (side_of side) (order_of order) (chunk_of chunk) text
+    if is_word verb (codes "encode")
+    && is_word given (codes "given") then encode_beside idl acf op (side_of side) (order_of order) (chunk_of chunk) text
     else None
 command _ = None

@@ -1,7 +1,9 @@
 // The words of a command line, and the command that they are.
 ghost use Rattle.std.specs.Prelude.{◌≡◌, ◌≤◌, ◌<◌, [], ◌∷◌, ◌++◌, length, map, OnOk, OnErr, IfSome, option_map};
 ghost use Rattle.std.specs.String.{string_bytes};
-ghost use Rattle.command_line.specs.Words.{command, acf_of, order_of, side_of, reading_of, chunk_of, read as read_of, read_beside as read_beside_of, encode as encode_of, encode_beside as encode_beside_of, migrate as migrate_of, sample as sample_of, listing as listing_of, subject as subject_by};
+ghost use Rattle.command_line.specs.Words.{command, acf_of, order_of, side_of, reading_of, chunk_of, read as read_of, read_beside as read_beside_of};
+ghost use Rattle.command_line.specs.Words.{encode as encode_of, encode_beside as encode_beside_of, migrate as migrate_of, sample as sample_of};
+ghost use Rattle.command_line.specs.Words.{listing as listing_of, subject as subject_by};
 ghost use Rattle.command_line.specs.declared.TheConstants.{COUNT_LIMIT};
 ghost use Rattle.command_line.specs.Commands.{command_of, subject_of, IsWellFormed};
 

@@ -12,7 +12,8 @@ use Rattle.nd_value.specs.declared.item.Home.{Home}
 use Rattle.nd_value.specs.declared.item.Home.TheVariants as home
 use Rattle.nd_value.specs.Tree.{Tree}
 use Rattle.nd_value.specs.Setting.{Setting, root_list, cell_at, cell_tree, cell_home}
-use Rattle.nd_value.specs.Deferral.{home_pointers, Due, due_referent, Step, root_stands, referent_stands, stands_already, Deferral, none_due, at_root, at_null, at_standing, at_referent, Placed_cells, IsPlaced, IsPlacedFull, due_roots, before_pipes}
+use Rattle.nd_value.specs.Deferral.{home_pointers, Due, due_referent, Step, root_stands, referent_stands, stands_already, Deferral, none_due, at_root, at_null, at_standing, at_referent, Placed_cells}
+use Rattle.nd_value.specs.Deferral.{IsPlaced, IsPlacedFull, due_roots, before_pipes}
 use Rattle.nd_value.proofs.DeferralLaws.{one_order}
 use Rattle.nd_grammar.specs.Entry.{Kind, Entry, Align, Num, Number, gap, size_at, end_of}
 use Rattle.nd_grammar.specs.Stream.{representation, step_entries, standing_entries}

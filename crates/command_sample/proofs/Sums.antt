@@ -235,7 +235,8 @@ module _ (g h : Graph) (s : Same g h) where
   pub same_sum : values_sum h.cells ≡ values_sum g.cells
   same_sum =
       by_places h.cells ∙ ap (total at_image) (sym s.as_many)
-      ∙ sym (rearranged at_image (length g.cells) (images (length g.cells)) (distinct_images (length g.cells) (omega arith)) (below_images (length g.cells) (omega arith)) (length_images (length g.cells)))
+      ∙ sym (rearranged at_image (length g.cells) (images (length g.cells)) (distinct_images (length g.cells) (omega arith)) (below_images (length g.cells) (omega arith))
+      (length_images (length g.cells)))
       ∙ images_total (length g.cells)
       ∙ total_same (λ c. at_image (pred (s.image (suc c)))) (λ c. value_in (slice_get g.cells c)) (length g.cells) value_at_image
       ∙ sym (by_places g.cells)

@@ -18,7 +18,8 @@ pub fn sample_conforms()
 
 /// Its stream has a pointer for the root, and three numbers of four octets for each node.
 pub fn sample_length()
-    ensures { (seed n : ℕ) → 1 ≤ n → n ≤ 1000000 → (steps : List Step) → Deferral sample_setting (sample_graph seed n) [] (due_roots 0 (before_pipes (root_list sample_setting))) steps
+    ensures { (seed n : ℕ) → 1 ≤ n → n ≤ 1000000 → (steps : List Step)
+        → Deferral sample_setting (sample_graph seed n) [] (due_roots 0 (before_pipes (root_list sample_setting))) steps
         → (cuts : List (List ℕ)) → end_of 0 (representation sample_setting (sample_graph seed n) steps cuts) ≡ 4 + 12 * n }
 {}
 

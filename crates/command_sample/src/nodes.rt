@@ -8,8 +8,8 @@ use nd_types::TypeId;
 use nd_value::{Cell, CellId, Cells, Graph, Val, Vals};
 use std::alloc::Global;
 
-/// The graph of the sample: `count` nodes, drawn from a seed. Each node has a value below 1000, names the next one on its left and any one on its right, and
-/// the root is the first. Takes memory for it; out of memory is the only refusal.
+/// The graph of the sample: `count` nodes, drawn from a seed. Each node has a value below 1000, names the next one on its left and any one on its
+/// right, and the root is the first. Takes memory for it; out of memory is the only refusal.
 pub fn graph(alloc: Global, seed: u32, count: u32) -> Result<Graph, Memory>
     requires some { 1 ≤ count }
     ensures { IfOk result (λ g. g ≡ sample_graph seed count) }

@@ -13,9 +13,9 @@ use nd_types::{Interface, Side};
 use ndr_plan::make;
 use std::alloc::Global;
 
-/// Draws a graph of `count` nodes, from 1 to 1,000,000, from a seed; fits it to the operation of the sample, encodes it in little order and decodes the
-/// octets (C706, chapter 14). The answer is four lines: how many nodes were decoded, how many octets there are, the sum of the values that were decoded,
-/// and whether the graph that was decoded is the one that was encoded, up to the numbers of its cells. It always is.
+/// Draws a graph of `count` nodes, from 1 to 1,000,000, from a seed; fits it to the operation of the sample, encodes it in little order and decodes
+/// the octets (C706, chapter 14). The answer is four lines: how many nodes were decoded, how many octets there are, the sum of the values that were
+/// decoded, and whether the graph that was decoded is the one that was encoded, up to the numbers of its cells. It always is.
 ///
 /// # Errors
 /// Memory where memory was refused.

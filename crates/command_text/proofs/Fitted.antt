@@ -14,7 +14,8 @@ use Rattle.text_grammar.specs.declared.fault.TextFault.{TextFault}
 use Rattle.text_grammar.specs.declared.fault.TextFault.TheVariants as fault
 use Rattle.text_grammar.specs.Reads.{ReadsAs, IsFault}
 use Rattle.command_refusals.specs.declared.refusal.Refusal.{Refusal}
-use Rattle.command_refusals.specs.declared.refusal.Refusal.TheVariants.{Memory, Absent, FileFailed, BadIdl, NoOperation, ReadFault, BadOctets, BadText, BadValue, TooLong, BadRequest, BadLabel, ShortLabel, TooFewEnds, EndFailed}
+use Rattle.command_refusals.specs.declared.refusal.Refusal.TheVariants.{Memory, Absent, FileFailed, BadIdl, NoOperation, ReadFault, BadOctets, BadText, BadValue, TooLong, BadRequest, BadLabel}
+use Rattle.command_refusals.specs.declared.refusal.Refusal.TheVariants.{ShortLabel, TooFewEnds, EndFailed}
 use Rattle.command_text.specs.Fitted.{IsTextCause, IsValueCause, IsMisfitAt}
 use Rattle.command_text.proofs.Beside.{reads_beside, fault_beside, path_beside}
 use Rattle.command_text.proofs.Paths.{misfit_path}

@@ -5,7 +5,8 @@ use Rattle.nd_base.specs.Over.{FilesSeen}
 use Rattle.nd_value.specs.Setting.{Setting}
 use Rattle.nd_value.specs.Fitting.{Fitting}
 use Rattle.command_refusals.specs.declared.refusal.Refusal.{Refusal}
-use Rattle.command_refusals.specs.declared.refusal.Refusal.TheVariants.{Memory, Absent, FileFailed, BadIdl, NoOperation, ReadFault, BadOctets, BadText, BadValue, TooLong, BadRequest, BadLabel, ShortLabel, TooFewEnds, EndFailed}
+use Rattle.command_refusals.specs.declared.refusal.Refusal.TheVariants.{Memory, Absent, FileFailed, BadIdl, NoOperation, ReadFault, BadOctets, BadText, BadValue, TooLong, BadRequest, BadLabel}
+use Rattle.command_refusals.specs.declared.refusal.Refusal.TheVariants.{ShortLabel, TooFewEnds, EndFailed}
 use Rattle.command_text.specs.Request.{IsRequestText, IsTextRefusal, HoldsRequest, HoldsNoRequest}
 
 module _ (f : FilesSeen) (name : List ℕ) (w : Setting) where

@@ -14,7 +14,8 @@ use Rattle.ndr_drain.specs.Given.{pipe_count, end_of_root, end_after, ends_after
 use Rattle.command_drain.specs.Printed.{IsPrinted, IsDrainRefusal}
 use Rattle.command_decode.proofs.Steps.{refused_is}
 use Rattle.command_refusals.specs.declared.refusal.Refusal.{Refusal}
-use Rattle.command_refusals.specs.declared.refusal.Refusal.TheVariants.{Memory, Absent, FileFailed, BadIdl, NoOperation, ReadFault, BadOctets, BadText, BadValue, TooLong, BadRequest, BadLabel, ShortLabel, TooFewEnds, EndFailed}
+use Rattle.command_refusals.specs.declared.refusal.Refusal.TheVariants.{Memory, Absent, FileFailed, BadIdl, NoOperation, ReadFault, BadOctets, BadText, BadValue, TooLong, BadRequest, BadLabel}
+use Rattle.command_refusals.specs.declared.refusal.Refusal.TheVariants.{ShortLabel, TooFewEnds, EndFailed}
 use Rattle.command_refusals.specs.declared.refusal.OctetsFault.TheVariants.{Refused, Trailing}
 use Rattle.dceidl.specs.Rows.{AreGiven, AreSound, EndRose}
 use Rattle.dceidl.proofs.OneReading.{IsOctetsCause, refused_here, trailing_here}

@@ -15,7 +15,8 @@ use Rattle.command_text.specs.Fitted.{IsTextCause}
 use Rattle.text_grammar.specs.Printed.{IsText}
 use Rattle.text_grammar.specs.Reads.{ReadsAs}
 use Rattle.command_refusals.specs.declared.refusal.Refusal.{Refusal}
-use Rattle.command_refusals.specs.declared.refusal.Refusal.TheVariants.{Memory, Absent, FileFailed, BadIdl, NoOperation, ReadFault, BadOctets, BadText, BadValue, TooLong, BadRequest, BadLabel, ShortLabel, TooFewEnds, EndFailed}
+use Rattle.command_refusals.specs.declared.refusal.Refusal.TheVariants.{Memory, Absent, FileFailed, BadIdl, NoOperation, ReadFault, BadOctets, BadText, BadValue, TooLong, BadRequest, BadLabel}
+use Rattle.command_refusals.specs.declared.refusal.Refusal.TheVariants.{ShortLabel, TooFewEnds, EndFailed}
 use Rattle.dceidl.specs.Encode.{IsEncoding, IsEncodingCause, IsMigration}
 
 -- why a text is refused is why it is not encoded

@@ -14,7 +14,8 @@ use Rattle.command_line.specs.declared.command.Task.{Task}
 use Rattle.command_line.specs.declared.command.Task.TheVariants.{Read, Encode, Migrate}
 use Rattle.command_refusals.specs.declared.refusal.OctetsFault.{OctetsFault}
 use Rattle.command_refusals.specs.declared.refusal.Refusal.{Refusal}
-use Rattle.command_refusals.specs.declared.refusal.Refusal.TheVariants.{Memory, Absent, FileFailed, BadIdl, NoOperation, ReadFault, BadOctets, BadText, BadValue, TooLong, BadRequest, BadLabel, ShortLabel, TooFewEnds, EndFailed}
+use Rattle.command_refusals.specs.declared.refusal.Refusal.TheVariants.{Memory, Absent, FileFailed, BadIdl, NoOperation, ReadFault, BadOctets, BadText, BadValue, TooLong, BadRequest, BadLabel}
+use Rattle.command_refusals.specs.declared.refusal.Refusal.TheVariants.{ShortLabel, TooFewEnds, EndFailed}
 use Rattle.command_refusals.specs.declared.refusal.OctetsFault.TheVariants.{Refused, Trailing}
 use Rattle.command_refusals.specs.declared.refusal.RequestFault.{RequestFault}
 use Rattle.command_refusals.specs.Lines.{status_of, line_of}
@@ -29,7 +30,8 @@ use Rattle.command_text.proofs.OneText.{good_cause, fault_cause, misfit_cause}
 use Rattle.dceidl.specs.Causes.{IsMade, IsCause}
 use Rattle.dceidl.specs.Encode.{IsLabelledEncoding, IsLongEncoding, IsEncodingCause, IsMigration}
 use Rattle.dceidl.specs.Input.{OfText, IsMadeOf, IsTaskCause, IsInputTextCause, IsInputEncodingCause}
-use Rattle.dceidl.specs.Rows.{IsSound, AreAccepted, IsInput, AreGiven, AreGivenIn, IsRefusedAt, HasEnds, CanBeMade, MustBeUnready, MustBeNoRequest, MustBeNoLabel, MustBeNoOctets, MustBeNoText, MustBeNoEncoding, MustBeNoInput, CanBeDone, MustBeRefused, IsCompleted, Refuses}
+use Rattle.dceidl.specs.Rows.{IsSound, AreAccepted, IsInput, AreGiven, AreGivenIn, IsRefusedAt, HasEnds, CanBeMade, MustBeUnready, MustBeNoRequest, MustBeNoLabel, MustBeNoOctets, MustBeNoText}
+use Rattle.dceidl.specs.Rows.{MustBeNoEncoding, MustBeNoInput, CanBeDone, MustBeRefused, IsCompleted, Refuses}
 use Rattle.dceidl.specs.Seen.{Seen}
 use Rattle.command_line.specs.Words.{Command, Subject, Values, Compile, Plan, Sample, Help, Version, idl_of, op_of, order_in}
 use Rattle.dceidl.proofs.HeldFiles.{compiled_cause, no_idl, no_idl_cause}
@@ -73,7 +75,8 @@ text_causes s w text input P wanting by Memory cause = wanting
 text_causes s w text input P wanting by ReadFault rose = absurd (input.reads rose)
 text_causes s w text input P wanting by (Absent other) cause = by (Absent other) (of_text s text input (λ l. IsTextCause w l (Absent other)) cause)
 text_causes s w text input P wanting by (FileFailed other) cause = by (FileFailed other) (of_text s text input (λ l. IsTextCause w l (FileFailed other)) cause)
-text_causes s w text input P wanting by (BadIdl file line column reason) cause = by (BadIdl file line column reason) (of_text s text input (λ l. IsTextCause w l (BadIdl file line column reason)) cause)
+text_causes s w text input P wanting by (BadIdl file line column reason) cause =
+    by (BadIdl file line column reason) (of_text s text input (λ l. IsTextCause w l (BadIdl file line column reason)) cause)
 text_causes s w text input P wanting by NoOperation cause = by NoOperation (of_text s text input (λ l. IsTextCause w l NoOperation) cause)
 text_causes s w text input P wanting by (BadOctets place why) cause = by (BadOctets place why) (of_text s text input (λ l. IsTextCause w l (BadOctets place why)) cause)
 text_causes s w text input P wanting by (BadText line column reason) cause = by (BadText line column reason) (of_text s text input (λ l. IsTextCause w l (BadText line column reason)) cause)
@@ -93,7 +96,8 @@ encoding_causes s w chunk text input P wanting by Memory cause = wanting
 encoding_causes s w chunk text input P wanting by ReadFault rose = absurd (input.reads rose)
 encoding_causes s w chunk text input P wanting by (Absent other) cause = by (Absent other) (of_text s text input (λ l. IsTextCause w l (Absent other)) cause)
 encoding_causes s w chunk text input P wanting by (FileFailed other) cause = by (FileFailed other) (of_text s text input (λ l. IsTextCause w l (FileFailed other)) cause)
-encoding_causes s w chunk text input P wanting by (BadIdl file line column reason) cause = by (BadIdl file line column reason) (of_text s text input (λ l. IsTextCause w l (BadIdl file line column reason)) cause)
+encoding_causes s w chunk text input P wanting by (BadIdl file line column reason) cause =
+    by (BadIdl file line column reason) (of_text s text input (λ l. IsTextCause w l (BadIdl file line column reason)) cause)
 encoding_causes s w chunk text input P wanting by NoOperation cause = by NoOperation (of_text s text input (λ l. IsTextCause w l NoOperation) cause)
 encoding_causes s w chunk text input P wanting by (BadOctets place why) cause = by (BadOctets place why) (of_text s text input (λ l. IsTextCause w l (BadOctets place why)) cause)
 encoding_causes s w chunk text input P wanting by (BadText line column reason) cause = by (BadText line column reason) (of_text s text input (λ l. IsTextCause w l (BadText line column reason)) cause)

@@ -15,7 +15,8 @@ use Rattle.nd_types.specs.Meant.{Meant}
 use Rattle.nd_types.specs.Meant.{meant_by}
 use Rattle.command_refusals.specs.declared.refusal.IdlReason.{IdlReason}
 use Rattle.command_refusals.specs.declared.refusal.Refusal.{Refusal}
-use Rattle.command_refusals.specs.declared.refusal.Refusal.TheVariants.{Memory, Absent, FileFailed, BadIdl, NoOperation, ReadFault, BadOctets, BadText, BadValue, TooLong, BadRequest, BadLabel, ShortLabel, TooFewEnds, EndFailed}
+use Rattle.command_refusals.specs.declared.refusal.Refusal.TheVariants.{Memory, Absent, FileFailed, BadIdl, NoOperation, ReadFault, BadOctets, BadText, BadValue, TooLong, BadRequest, BadLabel}
+use Rattle.command_refusals.specs.declared.refusal.Refusal.TheVariants.{ShortLabel, TooFewEnds, EndFailed}
 use Rattle.command_line.specs.Words.{Subject}
 use Rattle.command_compile.specs.Idl.{Means, IsIdlFault, IsDueAfter, IsDueFile}
 use Rattle.dceidl.specs.Ready.{IsNamed, IsReady, IsReadyCause}
@@ -176,7 +177,8 @@ module _ (f : FilesSeen) (idl : List ℕ) (acf : Option (List ℕ)) (loads : Has
 module _ (f : FilesSeen) (of : Subject) where
   -- what is accepted is ready in one way
   pub one_setting : (w v : Setting) → IsAccepted f of w → IsReady f of v → v ≡ w
-  one_setting w v a r = r.setting_is ∙ same (ap (λ (z : Meant). z.types) meant) (same_operation r.interface a.interface of.op r.number a.number r.operation a.operation meant r.found.named a.named) ∙ sym a.setting_is
+  one_setting w v a r =
+      r.setting_is ∙ same (ap (λ (z : Meant). z.types) meant) (same_operation r.interface a.interface of.op r.number a.number r.operation a.operation meant r.found.named a.named) ∙ sym a.setting_is
     where
       meant : meant_by r.interface ≡ meant_by a.interface
       meant = one_meaning f of.idl a.file of.acf a.held r.interface a.interface (means_here f of.idl a.file of.acf a.held r.interface r.found.compiled) a.means

@@ -1,4 +1,5 @@
--- What a run may ask for: files only when they are due, and each once; the input only if the command reads it; and the ends of pipes only if it drains.
+-- What a run may ask for: files only when they are due, and each once; the input only if the command reads it; and the ends of pipes only if it
+-- drains.
 use Rattle.std.specs.Prelude.{◌≡◌, ◌⊎◌, ℕ, Bool, true, false, List, [], ◌∷◌, ◌++◌, Option, None, Some, ⊤}
 use Rattle.nd_base.specs.Outside.{IsContent}
 use Rattle.nd_base.specs.Over.{FilesSeen, SourceSeen, AreUntouched, IsUntouched}

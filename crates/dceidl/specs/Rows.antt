@@ -1,5 +1,6 @@
 -- The rows of a run, each for all commands at once: what a status says by itself, and what comes where nothing fails.
-use Rattle.std.specs.Prelude.{◌≡◌, ◌⊎◌, ℕ, ◌+◌, ◌<◌, ◌++◌, Err, length, true, false, List, [], ◌∷◌, codes, decimal, take, option_map, Option, None, Some, ⊤}
+use Rattle.std.specs.Prelude.{◌≡◌, ◌⊎◌, ℕ, ◌+◌, ◌<◌, ◌++◌, Err, length, true, false, List, [], ◌∷◌, codes, decimal, take, option_map, Option, None}
+use Rattle.std.specs.Prelude.{Some, ⊤}
 use Rattle.std.specs.List.{slice_get}
 use Rattle.nd_base.specs.declared.octets.Order.{Order}
 use Rattle.nd_base.specs.Outside.{IsMissing, loaded}
@@ -42,7 +43,8 @@ use Rattle.command_line.specs.declared.command.OrderWord.TheVariants.{Fixed, Lab
 use Rattle.command_line.specs.declared.command.Task.{Task}
 use Rattle.command_line.specs.declared.command.Task.TheVariants.{Read, Encode, Migrate}
 use Rattle.command_refusals.specs.declared.refusal.Refusal.{Refusal}
-use Rattle.command_refusals.specs.declared.refusal.Refusal.TheVariants.{BadIdl, NoOperation, BadOctets, BadText, BadValue, TooLong, BadRequest, BadLabel, ShortLabel, TooFewEnds}
+use Rattle.command_refusals.specs.declared.refusal.Refusal.TheVariants.{BadIdl, NoOperation, BadOctets, BadText, BadValue, TooLong, BadRequest}
+use Rattle.command_refusals.specs.declared.refusal.Refusal.TheVariants.{BadLabel, ShortLabel, TooFewEnds}
 use Rattle.command_refusals.specs.declared.refusal.OctetsFault.{OctetsFault}
 use Rattle.command_refusals.specs.declared.refusal.OctetsFault.TheVariants.{Refused, Trailing}
 use Rattle.command_refusals.specs.declared.refusal.RequestFault.{RequestFault}
@@ -90,7 +92,8 @@ IsDue (Some c) held name = IsDueOf held (asks_files c) name ⊎ IsDueRequest hel
 
 -- the file of a line is due and, where the contents of files are known, not held
 abbrev pub IsDueAndMissing : Option Command → Option (List ℕ → Option (List ℕ)) → SinkSeen → Type 0
-IsDueAndMissing command held notes = (name : List ℕ) × IsDue command held name × IsMissing held name × Got notes (joined (codes "absent: " ∷ name ∷ codes "\n" ∷ []))
+IsDueAndMissing command held notes =
+    (name : List ℕ) × IsDue command held name × IsMissing held name × Got notes (joined (codes "absent: " ∷ name ∷ codes "\n" ∷ []))
 
 -- the file of a line is due
 abbrev pub IsDueAndReported : Option Command → Option (List ℕ → Option (List ℕ)) → SinkSeen → Type 0
@@ -194,7 +197,8 @@ abbrev pub CanBeMade : SourceSeen → EndsSeen → Task → Setting → Type 0
 CanBeMade s e (Read how word) w =
     (order : Order) × (octets : List ℕ) × (g : Graph) × AreGivenIn s word order octets × Represents w order octets g × Conforms w g × HasEnds how w e
 CanBeMade s e (Encode word chunk) w =
-    (text : List ℕ) × (g : Graph) × (octets : List ℕ) × IsInput s TEXT_LIMIT text × ReadsAs w text g × Conforms w g × IsWritten w (order_in word) chunk g octets
+    (text : List ℕ) × (g : Graph) × (octets : List ℕ) × IsInput s TEXT_LIMIT text × ReadsAs w text g × Conforms w g
+    × IsWritten w (order_in word) chunk g octets
 CanBeMade s e Migrate w = (text : List ℕ) × (g : Graph) × IsInput s TEXT_LIMIT text × ReadsAs w text g × Conforms w g
 
 -- Where no load fails and notes do not, a command of which this holds is done, unless it runs out of memory or out fails.

@@ -30,9 +30,12 @@ pub(crate) fn encode(
     requires request { IsRequestOf ready.now.interface ready.now.number ready.now.side (option_map (λ f. f.now) given) }
     requires chunk { 1 ≤ chunk }
     ensures done { (o : Operation) → slice_get ready.now.interface.operations ready.now.number ≡ Some o
-        → IfOk result (IsLabelledEncoding (setting_beside ready.now.interface o ready.now.side (option_map (λ f. f.now.graph) given.entry)) order chunk text.now) }
+        → IfOk result
+        (IsLabelledEncoding
+        (setting_beside ready.now.interface o ready.now.side (option_map (λ f. f.now.graph) given.entry)) order chunk text.now) }
     ensures refused { (o : Operation) → slice_get ready.now.interface.operations ready.now.number ≡ Some o
-        → IfErr result (IsEncodingCause (setting_beside ready.now.interface o ready.now.side (option_map (λ f. f.now.graph) given.entry)) chunk text.now) }
+        → IfErr result
+        (IsEncodingCause (setting_beside ready.now.interface o ready.now.side (option_map (λ f. f.now.graph) given.entry)) chunk text.now) }
 {
     let octets = encode_values(alloc, ready, given, order.order(), chunk, text)?;
     Ok(labelled(alloc, order, octets)?)
@@ -65,9 +68,11 @@ fn encode_values(
     requires request { IsRequestOf ready.now.interface ready.now.number ready.now.side (option_map (λ f. f.now) given) }
     requires chunk { 1 ≤ chunk }
     ensures done { (o : Operation) → slice_get ready.now.interface.operations ready.now.number ≡ Some o
-        → IfOk result (IsEncoding (setting_beside ready.now.interface o ready.now.side (option_map (λ f. f.now.graph) given.entry)) order chunk text.now) }
+        → IfOk result
+        (IsEncoding (setting_beside ready.now.interface o ready.now.side (option_map (λ f. f.now.graph) given.entry)) order chunk text.now) }
     ensures refused { (o : Operation) → slice_get ready.now.interface.operations ready.now.number ≡ Some o
-        → IfErr result (IsEncodingCause (setting_beside ready.now.interface o ready.now.side (option_map (λ f. f.now.graph) given.entry)) chunk text.now) }
+        → IfErr result
+        (IsEncodingCause (setting_beside ready.now.interface o ready.now.side (option_map (λ f. f.now.graph) given.entry)) chunk text.now) }
 {
     let fit = fit_text(
         alloc,

@@ -31,7 +31,8 @@ use text_laws::laws::same_texts;
 pub fn one_idl_verdict()
     ensures one_interface { (held : List ℕ → Option (List ℕ)) (idl text : List ℕ) (acf : Option (List ℕ)) (i j : Interface)
         → Means (Some held) idl text acf i → Means (Some held) idl text acf j → i ≡ j }
-    ensures one_fault { (held : List ℕ → Option (List ℕ)) (idl text : List ℕ) (acf : Option (List ℕ)) (file other : List ℕ) (line column row place : ℕ)
+    ensures one_fault { (held : List ℕ → Option (List ℕ)) (idl text : List ℕ) (acf : Option (List ℕ)) (file other : List ℕ)
+        (line column row place : ℕ)
         → (why because : IdlReason)
         → IsIdlFault (Some held) idl text acf (refusal.BadIdl file line column why)
         → IsIdlFault (Some held) idl text acf (refusal.BadIdl other row place because)
@@ -53,9 +54,9 @@ pub fn attribute_files_change_nothing()
         → Means (Some held) idl text acf i → Means (Some held) idl text other j → i ≡ j }
 {}
 
-/// `decode` undoes `encode`: the octets that `encode` writes of a text represent the graph that the text reads as; what `decode` of the same order reads
-/// them as is the same graph up to the numbers of its cells; and what it writes is what is printed of that graph, so it is what `migrate` writes of the
-/// text, and a text that was printed comes back.
+/// `decode` undoes `encode`: the octets that `encode` writes of a text represent the graph that the text reads as; what `decode` of the same order
+/// reads them as is the same graph up to the numbers of its cells; and what it writes is what is printed of that graph, so it is what `migrate`
+/// writes of the text, and a text that was printed comes back.
 pub fn decode_undoes_encode()
     ensures represents { (i : Interface) (n : ℕ) (o : Operation) (s : Side) (q : Option Graph) (order : Order) (chunk : ℕ) (text octets : List ℕ)
         → slice_get i.operations n ≡ Some o → 1 ≤ chunk
@@ -65,11 +66,13 @@ pub fn decode_undoes_encode()
         → slice_get i.operations n ≡ Some o → 1 ≤ chunk
         → (e : IsEncoding (setting_beside i o s q) order chunk text octets) → (d : IsDecoding (setting_beside i o s q) order octets made)
         → Same e.graph d.graph }
-    ensures printed { (i : Interface) (n : ℕ) (o : Operation) (s : Side) (q : Option Graph) (order : Order) (chunk : ℕ) (text octets made other : List ℕ)
+    ensures printed { (i : Interface) (n : ℕ) (o : Operation) (s : Side) (q : Option Graph) (order : Order) (chunk : ℕ)
+        (text octets made other : List ℕ)
         → slice_get i.operations n ≡ Some o → 1 ≤ chunk
         → (e : IsEncoding (setting_beside i o s q) order chunk text octets) → IsDecoding (setting_beside i o s q) order octets made
         → IsText (setting_beside i o s q) e.graph other → made ≡ other }
-    ensures migrated { (i : Interface) (n : ℕ) (o : Operation) (s : Side) (q : Option Graph) (order : Order) (chunk : ℕ) (text octets made other : List ℕ)
+    ensures migrated { (i : Interface) (n : ℕ) (o : Operation) (s : Side) (q : Option Graph) (order : Order) (chunk : ℕ)
+        (text octets made other : List ℕ)
         → slice_get i.operations n ≡ Some o → 1 ≤ chunk
         → IsEncoding (setting_beside i o s q) order chunk text octets → IsDecoding (setting_beside i o s q) order octets made
         → IsMigration (setting_beside i o s q) text other → made ≡ other }
@@ -77,18 +80,20 @@ pub fn decode_undoes_encode()
     same_texts();
 }
 
-/// `encode` undoes `decode`: a text that `decode` writes, if it is within its limit, reads as the canonical form of the graph that the octets represent;
-/// and what `encode` writes of it, in any order, is what is chosen for that graph, and represents it. Octets that were chosen come back.
+/// `encode` undoes `decode`: a text that `decode` writes, if it is within its limit, reads as the canonical form of the graph that the octets
+/// represent; and what `encode` writes of it, in any order, is what is chosen for that graph, and represents it. Octets that were chosen come back.
 pub fn encode_undoes_decode()
     ensures reads { (i : Interface) (n : ℕ) (o : Operation) (s : Side) (q : Option Graph) (order : Order) (octets text : List ℕ)
         → slice_get i.operations n ≡ Some o
         → (d : IsDecoding (setting_beside i o s q) order octets text) → length text ≤ TEXT_LIMIT
         → ReadsAs (setting_beside i o s q) text d.is_text.canonical }
-    ensures chosen { (i : Interface) (n : ℕ) (o : Operation) (s : Side) (q : Option Graph) (order other : Order) (chunk : ℕ) (octets text made : List ℕ)
+    ensures chosen { (i : Interface) (n : ℕ) (o : Operation) (s : Side) (q : Option Graph) (order other : Order) (chunk : ℕ)
+        (octets text made : List ℕ)
         → slice_get i.operations n ≡ Some o
         → (d : IsDecoding (setting_beside i o s q) order octets text) → IsEncoding (setting_beside i o s q) other chunk text made
         → Chosen (setting_beside i o s q) other chunk d.graph made }
-    ensures represents { (i : Interface) (n : ℕ) (o : Operation) (s : Side) (q : Option Graph) (order other : Order) (chunk : ℕ) (octets text made : List ℕ)
+    ensures represents { (i : Interface) (n : ℕ) (o : Operation) (s : Side) (q : Option Graph) (order other : Order) (chunk : ℕ)
+        (octets text made : List ℕ)
         → slice_get i.operations n ≡ Some o → 1 ≤ chunk
         → (d : IsDecoding (setting_beside i o s q) order octets text) → IsEncoding (setting_beside i o s q) other chunk text made
         → Represents (setting_beside i o s q) other made d.graph }

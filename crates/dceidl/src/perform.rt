@@ -43,13 +43,16 @@ pub(crate) fn perform<F: Files, S: Source, E: PipeEnd>(
     requires open { AreOpen (ends_seen E.seen ends.old) }
     requires formed { IsWellFormed command }
     ensures asked { AsksFor
-        (seen_over (files_seen F.held F.absences F.faults F.asked files.old files.new) (source_seen S.left S.ended S.faults input.old input.new) (ends_over E.seen ends.old ends.new))
+        (seen_over (files_seen F.held F.absences F.faults F.asked files.old files.new) (source_seen S.left S.ended S.faults input.old input.new)
+        (ends_over E.seen ends.old ends.new))
         (command_of command.entry) }
     ensures done { IfOk result (IsMade
-        (seen_over (files_seen F.held F.absences F.faults F.asked files.old files.new) (source_seen S.left S.ended S.faults input.old input.new) (ends_over E.seen ends.old ends.new))
+        (seen_over (files_seen F.held F.absences F.faults F.asked files.old files.new) (source_seen S.left S.ended S.faults input.old input.new)
+        (ends_over E.seen ends.old ends.new))
         (command_of command.entry)) }
     ensures refused { IfErr result (IsCause
-        (seen_over (files_seen F.held F.absences F.faults F.asked files.old files.new) (source_seen S.left S.ended S.faults input.old input.new) (ends_over E.seen ends.old ends.new))
+        (seen_over (files_seen F.held F.absences F.faults F.asked files.old files.new) (source_seen S.left S.ended S.faults input.old input.new)
+        (ends_over E.seen ends.old ends.new))
         (command_of command.entry)) }
 {
     match command {
@@ -83,13 +86,16 @@ fn perform_alone<F: Files, S: Source, E: PipeEnd>(
     requires open { AreOpen (ends_seen E.seen ends.old) }
     requires chunk { HasChunks task }
     ensures asked { AsksFor
-        (seen_over (files_seen F.held F.absences F.faults F.asked files.old files.new) (source_seen S.left S.ended S.faults input.old input.new) (ends_over E.seen ends.old ends.new))
+        (seen_over (files_seen F.held F.absences F.faults F.asked files.old files.new) (source_seen S.left S.ended S.faults input.old input.new)
+        (ends_over E.seen ends.old ends.new))
         (Values task (subject_of of.entry) None) }
     ensures done { IfOk result (IsMade
-        (seen_over (files_seen F.held F.absences F.faults F.asked files.old files.new) (source_seen S.left S.ended S.faults input.old input.new) (ends_over E.seen ends.old ends.new))
+        (seen_over (files_seen F.held F.absences F.faults F.asked files.old files.new) (source_seen S.left S.ended S.faults input.old input.new)
+        (ends_over E.seen ends.old ends.new))
         (Values task (subject_of of.entry) None)) }
     ensures refused { IfErr result (IsCause
-        (seen_over (files_seen F.held F.absences F.faults F.asked files.old files.new) (source_seen S.left S.ended S.faults input.old input.new) (ends_over E.seen ends.old ends.new))
+        (seen_over (files_seen F.held F.absences F.faults F.asked files.old files.new) (source_seen S.left S.ended S.faults input.old input.new)
+        (ends_over E.seen ends.old ends.new))
         (Values task (subject_of of.entry) None)) }
 {
     let ready = make_ready(alloc, of, files)?;
@@ -110,13 +116,16 @@ fn perform_beside<F: Files, S: Source, E: PipeEnd>(
     requires chunk { HasChunks task }
     requires outputs { of.side ≡ Out }
     ensures asked { AsksFor
-        (seen_over (files_seen F.held F.absences F.faults F.asked files.old files.new) (source_seen S.left S.ended S.faults input.old input.new) (ends_over E.seen ends.old ends.new))
+        (seen_over (files_seen F.held F.absences F.faults F.asked files.old files.new) (source_seen S.left S.ended S.faults input.old input.new)
+        (ends_over E.seen ends.old ends.new))
         (Values task (subject_of of.entry) (Some name.now)) }
     ensures done { IfOk result (IsMade
-        (seen_over (files_seen F.held F.absences F.faults F.asked files.old files.new) (source_seen S.left S.ended S.faults input.old input.new) (ends_over E.seen ends.old ends.new))
+        (seen_over (files_seen F.held F.absences F.faults F.asked files.old files.new) (source_seen S.left S.ended S.faults input.old input.new)
+        (ends_over E.seen ends.old ends.new))
         (Values task (subject_of of.entry) (Some name.now))) }
     ensures refused { IfErr result (IsCause
-        (seen_over (files_seen F.held F.absences F.faults F.asked files.old files.new) (source_seen S.left S.ended S.faults input.old input.new) (ends_over E.seen ends.old ends.new))
+        (seen_over (files_seen F.held F.absences F.faults F.asked files.old files.new) (source_seen S.left S.ended S.faults input.old input.new)
+        (ends_over E.seen ends.old ends.new))
         (Values task (subject_of of.entry) (Some name.now))) }
 {
     let ready = make_ready(alloc, of, files)?;
@@ -143,10 +152,14 @@ fn perform_after<F: Files, S: Source, E: PipeEnd>(
     ensures absences_later { F.absences files.old ≤ F.absences files.new }
     ensures ends { AsksEnds (ends_over E.seen ends.old ends.new) (drains task) }
     ensures done { (o : Operation) → slice_get ready.now.interface.operations ready.now.number ≡ Some o
-        → IfOk result (IsMadeBeside (files_seen F.held F.absences F.faults F.asked files.old files.new) (source_seen S.left S.ended S.faults input.old input.new) (ends_over E.seen ends.old ends.new) name.now task
+        → IfOk result
+        (IsMadeBeside (files_seen F.held F.absences F.faults F.asked files.old files.new)
+        (source_seen S.left S.ended S.faults input.old input.new) (ends_over E.seen ends.old ends.new) name.now task
         (setting_of ready.now.interface o ready.now.side)) }
     ensures refused { (o : Operation) → slice_get ready.now.interface.operations ready.now.number ≡ Some o
-        → IfErr result (IsBesideCause (files_seen F.held F.absences F.faults F.asked files.old files.new) (source_seen S.left S.ended S.faults input.old input.new) (ends_over E.seen ends.old ends.new) name.now task
+        → IfErr result
+        (IsBesideCause (files_seen F.held F.absences F.faults F.asked files.old files.new)
+        (source_seen S.left S.ended S.faults input.old input.new) (ends_over E.seen ends.old ends.new) name.now task
         (setting_of ready.now.interface o ready.now.side)) }
 {
     let request = load_request(alloc, &ready.interface, ready.number, name, files)?;

@@ -10,7 +10,8 @@ ghost use Rattle.dceidl.specs.Asked.{Asks};
 ghost use Rattle.dceidl.specs.Causes.{statuses_of};
 ghost use Rattle.command_line.specs.Commands.{command_of};
 ghost use Rattle.command_refusals.specs.Lines.{status_of, line_of};
-ghost use Rattle.dceidl.specs.Rows.{IsOneOf, IsDone, IsRefusedWith, ReadsInput, IsDueAndMissing, IsDueAndReported, IsEndReported, HasNotFailed, IsSound, CanBeDone, MustBeRefused, IsCompleted, Refuses};
+ghost use Rattle.dceidl.specs.Rows.{IsOneOf, IsDone, IsRefusedWith, ReadsInput, IsDueAndMissing, IsDueAndReported, IsEndReported, HasNotFailed};
+ghost use Rattle.dceidl.specs.Rows.{IsSound, CanBeDone, MustBeRefused, IsCompleted, Refuses};
 ghost use Rattle.dceidl.specs.Run.{IsOutcome, IsDelivered, HasRun, IsReported};
 ghost use Rattle.dceidl.specs.Seen.{seen_over};
 ghost use Rattle.command_line.specs.Words.{Command as Wanted, command, idl_of, op_of};
@@ -37,14 +38,15 @@ pub(crate) const OUT_OF_MEMORY: Status = 5;
 
 /// Runs a command line and returns the exit status.
 ///
-/// `--help` and `--version` write their text to `out`, and `sample` the summary of a sample, as no words do. The other commands load the interface file,
-/// the files that it imports, and then the attribute configuration file if one is named (C706, chapter 4), and check the rules of the language. `compile`
-/// writes the listing of the interface to `out`, `plan` that of its plan. `decode` writes the values of one side of the operation as text to `out`: its `[in]`
-/// parameters, or its `[out]` parameters and its result (C706, chapter 14); it asks for no octet past the values but one. `explain` writes a line for
-/// each item of the same octets. `drain` gives the elements of their pipes to `ends`, the i-th pipe to the i-th end, and writes the text of the values with
-/// empty pipes. With ORDER `label` four octets, a format label (C706, section 14.1), are before the octets and state their order. `encode` and `migrate`
-/// read such a text to its end, or to one octet past its limit, [`TEXT_LIMIT`](value_text::TEXT_LIMIT) octets. `encode` writes the octets of its
-/// values, at most [`STREAM_LIMIT`](nd_base::STREAM_LIMIT), after a label if one is asked for, and `migrate` writes it as it is printed.
+/// `--help` and `--version` write their text to `out`, and `sample` the summary of a sample, as no words do. The other commands load the interface
+/// file, the files that it imports, and then the attribute configuration file if one is named (C706, chapter 4), and check the rules of the language.
+/// `compile` writes the listing of the interface to `out`, `plan` that of its plan. `decode` writes the values of one side of the operation as text
+/// to `out`: its `[in]` parameters, or its `[out]` parameters and its result (C706, chapter 14); it asks for no octet past the values but one.
+/// `explain` writes a line for each item of the same octets. `drain` gives the elements of their pipes to `ends`, the i-th pipe to the i-th end, and
+/// writes the text of the values with empty pipes. With ORDER `label` four octets, a format label (C706, section 14.1), are before the octets and
+/// state their order. `encode` and `migrate` read such a text to its end, or to one octet past its limit, [`TEXT_LIMIT`](value_text::TEXT_LIMIT)
+/// octets. `encode` writes the octets of its values, at most [`STREAM_LIMIT`](nd_base::STREAM_LIMIT), after a label if one is asked for, and
+/// `migrate` writes it as it is printed.
 ///
 /// Nothing is requested before it is needed, and no file more than once: no file for an invalid command line, `--help` or
 /// `--version`, an import when its declaration is reached, the attribute configuration file when all names are resolved (it is loaded
@@ -55,8 +57,8 @@ pub(crate) const OUT_OF_MEMORY: Status = 5;
 /// there are several reasons, the first in the order of work is reported. If `out` fails, it may have received a prefix of the text, a
 /// line on `notes` says so, and the status is 4; if `notes` fails, the status is 4 too.
 ///
-/// No end may be finished before. Only `drain` calls ends, once the label is read and there are enough of them: each chunk's lines are given once the chunk
-/// is read, and an end is finished where its pipe ends. If an end fails, the status is 8.
+/// No end may be finished before. Only `drain` calls ends, once the label is read and there are enough of them: each chunk's lines are given once the
+/// chunk is read, and an end is finished where its pipe ends. If an end fails, the status is 8.
 ///
 /// Memory is taken for the files and their declarations, for the input with a buffer of 65,536 octets while it is read, for the
 /// values, and for the text or the line. All of it is released before `run` returns.
@@ -71,12 +73,15 @@ pub fn run<F: Files, S: Source, K: Sink, N: Sink>(
 ) -> Status
     requires open { AreOpen (ends_seen seen ends.old) }
     ensures whole { HasRun words.now
-        (seen_over (files_seen F.held F.absences F.faults F.asked files.old files.new) (source_seen S.left S.ended S.faults input.old input.new) (ends_over seen ends.old ends.new))
+        (seen_over (files_seen F.held F.absences F.faults F.asked files.old files.new) (source_seen S.left S.ended S.faults input.old input.new)
+        (ends_over seen ends.old ends.new))
         (sink_seen K.written K.faults out.old out.new)
         (sink_seen N.written N.faults notes.old notes.new) result }
     // What a run asks for: files only when they are due and each once (an attribute file that is a file of IDL too is loaded again), the input only
     // if the command reads it.
-    ensures asked { Asks (seen_over (files_seen F.held F.absences F.faults F.asked files.old files.new) (source_seen S.left S.ended S.faults input.old input.new) (ends_over seen ends.old ends.new)) (command words.now) }
+    ensures asked { Asks
+        (seen_over (files_seen F.held F.absences F.faults F.asked files.old files.new) (source_seen S.left S.ended S.faults input.old input.new)
+        (ends_over seen ends.old ends.new)) (command words.now) }
     // What each status says.
     ensures statuses { (c : Wanted) → command words.now ≡ Some c → IsOneOf (statuses_of c) result }
     ensures words { result ≡ 2 → command words.now ≡ None }
@@ -92,26 +97,37 @@ pub fn run<F: Files, S: Source, K: Sink, N: Sink>(
     ensures quiet { result ≡ 0 → N.written notes.new ≡ N.written notes.old }
     ensures nothing_given { result ≢ 0 → result ≢ 4 → K.written out.new ≡ K.written out.old }
     ensures unfailed { HasNotFailed
-        (seen_over (files_seen F.held F.absences F.faults F.asked files.old files.new) (source_seen S.left S.ended S.faults input.old input.new) (ends_over seen ends.old ends.new))
+        (seen_over (files_seen F.held F.absences F.faults F.asked files.old files.new) (source_seen S.left S.ended S.faults input.old input.new)
+        (ends_over seen ends.old ends.new))
         (sink_seen K.written K.faults out.old out.new)
         (sink_seen N.written N.faults notes.old notes.new) → IsOneOf (0 ∷ 1 ∷ 2 ∷ 5 ∷ 6 ∷ []) result }
     // What a command comes to: it is done, or it is refused for a cause, under its status and with its line.
     ensures done { (c : Wanted) → command words.now ≡ Some c → result ≡ 0 → IsDone
-        (seen_over (files_seen F.held F.absences F.faults F.asked files.old files.new) (source_seen S.left S.ended S.faults input.old input.new) (ends_over seen ends.old ends.new))
+        (seen_over (files_seen F.held F.absences F.faults F.asked files.old files.new) (source_seen S.left S.ended S.faults input.old input.new)
+        (ends_over seen ends.old ends.new))
         (sink_seen K.written K.faults out.old out.new)
         (sink_seen N.written N.faults notes.old notes.new) c }
     ensures refused { (c : Wanted) → command words.now ≡ Some c → result ≢ 0 → result ≢ 4 → result ≢ 5 → IsRefusedWith
-        (seen_over (files_seen F.held F.absences F.faults F.asked files.old files.new) (source_seen S.left S.ended S.faults input.old input.new) (ends_over seen ends.old ends.new))
+        (seen_over (files_seen F.held F.absences F.faults F.asked files.old files.new) (source_seen S.left S.ended S.faults input.old input.new)
+        (ends_over seen ends.old ends.new))
         (sink_seen K.written K.faults out.old out.new)
         (sink_seen N.written N.faults notes.old notes.new) c result }
     // Which of these comes, where no load fails and notes do not.
     ensures complete { (c : Wanted) → command words.now ≡ Some c
-        → IsSound (seen_over (files_seen F.held F.absences F.faults F.asked files.old files.new) (source_seen S.left S.ended S.faults input.old input.new) (ends_over seen ends.old ends.new)) (sink_seen N.written N.faults notes.old notes.new)
-        → CanBeDone (seen_over (files_seen F.held F.absences F.faults F.asked files.old files.new) (source_seen S.left S.ended S.faults input.old input.new) (ends_over seen ends.old ends.new)) c
+        → IsSound
+        (seen_over (files_seen F.held F.absences F.faults F.asked files.old files.new) (source_seen S.left S.ended S.faults input.old input.new)
+        (ends_over seen ends.old ends.new)) (sink_seen N.written N.faults notes.old notes.new)
+        → CanBeDone
+        (seen_over (files_seen F.held F.absences F.faults F.asked files.old files.new) (source_seen S.left S.ended S.faults input.old input.new)
+        (ends_over seen ends.old ends.new)) c
         → IsCompleted (sink_seen K.written K.faults out.old out.new) result }
     ensures exactly { (c : Wanted) (r : Why) → command words.now ≡ Some c
-        → IsSound (seen_over (files_seen F.held F.absences F.faults F.asked files.old files.new) (source_seen S.left S.ended S.faults input.old input.new) (ends_over seen ends.old ends.new)) (sink_seen N.written N.faults notes.old notes.new)
-        → MustBeRefused (seen_over (files_seen F.held F.absences F.faults F.asked files.old files.new) (source_seen S.left S.ended S.faults input.old input.new) (ends_over seen ends.old ends.new)) c r
+        → IsSound
+        (seen_over (files_seen F.held F.absences F.faults F.asked files.old files.new) (source_seen S.left S.ended S.faults input.old input.new)
+        (ends_over seen ends.old ends.new)) (sink_seen N.written N.faults notes.old notes.new)
+        → MustBeRefused
+        (seen_over (files_seen F.held F.absences F.faults F.asked files.old files.new) (source_seen S.left S.ended S.faults input.old input.new)
+        (ends_over seen ends.old ends.new)) c r
         → Refuses c (sink_seen N.written N.faults notes.old notes.new) result r }
 {
     run_over(alloc, words, files, input, out, notes, ends)
@@ -129,7 +145,8 @@ fn run_over<F: Files, S: Source, K: Sink, N: Sink, E: PipeEnd>(
 ) -> Status
     requires open { AreOpen (ends_seen E.seen ends.old) }
     ensures { HasRun words.now
-        (seen_over (files_seen F.held F.absences F.faults F.asked files.old files.new) (source_seen S.left S.ended S.faults input.old input.new) (ends_over E.seen ends.old ends.new))
+        (seen_over (files_seen F.held F.absences F.faults F.asked files.old files.new) (source_seen S.left S.ended S.faults input.old input.new)
+        (ends_over E.seen ends.old ends.new))
         (sink_seen K.written K.faults out.old out.new)
         (sink_seen N.written N.faults notes.old notes.new) result }
 {
@@ -146,8 +163,12 @@ fn answer<F: Files, S: Source, E: PipeEnd>(
     ends: &mut Ends<E>,
 ) -> Outcome
     requires open { AreOpen (ends_seen E.seen ends.old) }
-    ensures asked { Asks (seen_over (files_seen F.held F.absences F.faults F.asked files.old files.new) (source_seen S.left S.ended S.faults input.old input.new) (ends_over E.seen ends.old ends.new)) (command words.now) }
-    ensures outcome { IsOutcome (seen_over (files_seen F.held F.absences F.faults F.asked files.old files.new) (source_seen S.left S.ended S.faults input.old input.new) (ends_over E.seen ends.old ends.new)) (command words.now) result }
+    ensures asked { Asks
+        (seen_over (files_seen F.held F.absences F.faults F.asked files.old files.new) (source_seen S.left S.ended S.faults input.old input.new)
+        (ends_over E.seen ends.old ends.new)) (command words.now) }
+    ensures outcome { IsOutcome
+        (seen_over (files_seen F.held F.absences F.faults F.asked files.old files.new) (source_seen S.left S.ended S.faults input.old input.new)
+        (ends_over E.seen ends.old ends.new)) (command words.now) result }
 {
     match words.command() {
         None => refused(alloc, WORDS_REFUSED, b"words refused\n"),
@@ -169,7 +190,8 @@ fn refused(alloc: Global, status: Status, line: &[u8]) -> Outcome
 
 // A refusal with its status and line.
 fn refused_command(alloc: Global, command: Command<'_>, refusal: &Refusal) -> Outcome
-    ensures { (result ≡ Outcome.Refused (status_of refusal.now) (line_of (idl_of (command_of command.entry)) (op_of (command_of command.entry)) refusal.now))
+    ensures { (result ≡ Outcome.Refused (status_of refusal.now)
+        (line_of (idl_of (command_of command.entry)) (op_of (command_of command.entry)) refusal.now))
         ⊎ (result ≡ Outcome.Wanting) }
 {
     match command_line(alloc, command, refusal) {

@@ -28,7 +28,8 @@ abbrev pub sized_by : ℕ → Bool → List AttrVar
 sized_by v star = record { attr = attr.Size; var = v; star = star } ∷ []
 
 abbrev pub setting : List TypeDef → List Param → Side → Option Graph → Setting
-setting types params s given = record { table = basic_types ++ types; op = record { name = []; params = params; result = None }; side = s; given = given }
+setting types params s given =
+    record { table = basic_types ++ types; op = record { name = []; params = params; result = None }; side = s; given = given }
 
 abbrev pub num : ℤ → Tree
 num z = node (tree.Num z) none
@@ -51,7 +52,11 @@ sized =
 
 -- n is 3, and a has two elements
 abbrev pub other_size : Graph
-other_size = record { roots = pointer_to 1 ∷ []; cells = cell 13 (node tree.Rec (two (num (pos 3)) (node (tree.Arr 2 0) (two (num (pos 1)) (num (pos 2)))))) ∷ [] }
+other_size =
+    record {
+      roots = pointer_to 1 ∷ [];
+      cells = cell 13 (node tree.Rec (two (num (pos 3)) (node (tree.Arr 2 0) (two (num (pos 1)) (num (pos 2)))))) ∷ [];
+    }
 
 -- void say([in, string] char *s): the string 12, the pointer 13
 abbrev pub said : Setting
@@ -64,7 +69,8 @@ zero_within = record { roots = pointer_to 1 ∷ []; cells = cell 12 (node (tree.
 -- void r([in] unsigned long n, [out, size_is(n)] byte a[*]): the array 12; n does not travel back
 abbrev pub sized_back : Option Graph → Setting
 sized_back given =
-    setting (def.Array (id 2) None false ∷ []) ((record { field = field 8 []; way = way.In }) ∷ (record { field = field 12 (sized_by 0 false); way = way.Out }) ∷ []) side.Out given
+    setting (def.Array (id 2) None false ∷ [])
+    ((record { field = field 8 []; way = way.In }) ∷ (record { field = field 12 (sized_by 0 false); way = way.Out }) ∷ []) side.Out given
 
 abbrev pub two_back : Graph
 two_back = record { roots = node (tree.Arr 2 0) (two (num (pos 171)) (num (pos 205))) ∷ []; cells = [] }

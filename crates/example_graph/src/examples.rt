@@ -6,7 +6,8 @@ ghost use Rattle.nd_value.specs.Setting.{cell_home};
 ghost use Rattle.nd_value.specs.Conforms.{Conforms};
 ghost use Rattle.nd_value.specs.Same.{Same};
 ghost use Rattle.nd_value.specs.FirstMisfit.{IsFirstMisfit};
-ghost use Rattle.example_graph.specs.Examples.{sized, other_size, said, zero_within, sized_back, two_back, asked, sized_by_own, one_back, asked_by_pointer, ring_of_one, ring_of_two};
+ghost use Rattle.example_graph.specs.Examples.{sized, other_size, said, zero_within, sized_back, two_back, asked, sized_by_own, one_back};
+ghost use Rattle.example_graph.specs.Examples.{asked_by_pointer, ring_of_one, ring_of_two};
 
 /// A member's size_is states another number than its array's maximum count: the place is the array. A zero within a string: the place is
 /// the string.
@@ -19,7 +20,8 @@ pub fn misfits_in_cells()
 pub fn size_by_request()
     ensures free { Conforms (sized_back None) two_back }
     ensures agrees { Conforms (sized_back (Some (asked (pos 2)))) two_back }
-    ensures disagrees { IsFirstMisfit (sized_back (Some (asked (pos 3)))) two_back (record { home = home.Root 0; node = 0; reason = misfit.Disagrees (pos 3) (pos 2) }) }
+    ensures disagrees { IsFirstMisfit (sized_back (Some (asked (pos 3)))) two_back
+        (record { home = home.Root 0; node = 0; reason = misfit.Disagrees (pos 3) (pos 2) }) }
 {}
 
 /// Where the variable travels back the response's own number counts, whatever the request's is.

@@ -14,7 +14,8 @@ ghost use Rattle.nd_value.specs.FirstMisfit.{MisfitAt, IsFirstMisfit};
 
 /// A graph of a side whose roots are primitives, with few cells, each of a simple type, and few nodes, conforms where it has no first misfit.
 pub fn numbers_exact()
-    ensures { (i : Interface) (op : ℕ) (o : Operation) (s : Side) (g : Graph) → has_number_roots i.types s o ≡ true → has_simple_cells i.types g ≡ true
+    ensures { (i : Interface) (op : ℕ) (o : Operation) (s : Side) (g : Graph) → has_number_roots i.types s o ≡ true
+        → has_simple_cells i.types g ≡ true
         → slice_get i.operations op ≡ Some o → ((m : MisfitAt) → ¬ IsFirstMisfit (setting_of i o s) g m)
         → length g.cells < 2 ^ 32 → HasFewNodes g → Conforms (setting_of i o s) g }
 {}

@@ -21,7 +21,8 @@ pub read_no_arm : IsStopped (read_stream (choice None) Little (4 ∷ 0 ∷ [])) 
 unfolding align_of hoists roots_of
 read_no_arm = refl
 
-pub read_tag_agrees : IsFound (read_stream switched Little (1 ∷ 0 ∷ 1 ∷ 0 ∷ four 5 [])) (switched_graph (pos 1) (node (tree.Union (pos 1)) (one (num (pos 5))))) (length {A = ℕ} (1 ∷ 0 ∷ 1 ∷ 0 ∷ four 5 []))
+pub read_tag_agrees : IsFound (read_stream switched Little (1 ∷ 0 ∷ 1 ∷ 0 ∷ four 5 [])) (switched_graph (pos 1) (node (tree.Union (pos 1)) (one (num (pos 5)))))
+    (length {A = ℕ} (1 ∷ 0 ∷ 1 ∷ 0 ∷ four 5 []))
 unfolding align_of hoists roots_of
 read_tag_agrees = (refl, (refl, refl))
 

@@ -14,7 +14,8 @@ use Rattle.nd_grammar.specs.Represents.{Represents}
 use Rattle.nd_grammar.specs.Bad.{Bad}
 use Rattle.nd_grammar.specs.Chosen.{Chosen}
 use Rattle.nd_grammar.specs.ExampleParts.{request, num}
-use Rattle.example_ndr.specs.ExamplesPlain.{integers, one_two_three, integers_little, integers_big, cut_in_hyper, cut_in_gap, flag, true_flag, colour, colour_4, handle, a_handle, handle_little, handle_big}
+use Rattle.example_ndr.specs.ExamplesPlain.{integers, one_two_three, integers_little, integers_big, cut_in_hyper, cut_in_gap, flag, true_flag, colour, colour_4, handle, a_handle, handle_little}
+use Rattle.example_ndr.specs.ExamplesPlain.{handle_big}
 use Rattle.example_ndr.proofs.Check.{represents_so, bad_so, partial_so, chosen_so}
 
 pub three_integers : Represents integers Little integers_little one_two_three

@@ -15,10 +15,13 @@ ghost use Rattle.nd_grammar.specs.Bad.{Bad};
 ghost use Rattle.nd_grammar.specs.Chosen.{Chosen};
 ghost use Rattle.example_ndr.specs.Examples.{ring, ring_of_one, ring_of_two, ring_swapped, ring_and_stray};
 ghost use Rattle.nd_grammar.specs.ExampleParts.{num, one, four};
-ghost use Rattle.example_ndr.specs.ExamplesPlain.{integers, one_two_three, integers_little, integers_big, cut_in_hyper, cut_in_gap, flag, true_flag, handle, a_handle, handle_little, handle_big};
-ghost use Rattle.example_ndr.specs.ExamplesPointers.{pairs, shared_leaf, shared_leaf_octets, null_pair, unique_longs, shared_five, full_longs, long_and_short, one_five_one};
+ghost use Rattle.example_ndr.specs.ExamplesPlain.{integers, one_two_three, integers_little, integers_big, cut_in_hyper, cut_in_gap, flag, true_flag};
+ghost use Rattle.example_ndr.specs.ExamplesPlain.{handle, a_handle, handle_little, handle_big};
+ghost use Rattle.example_ndr.specs.ExamplesPointers.{pairs, shared_leaf, shared_leaf_octets, null_pair, unique_longs, shared_five, full_longs};
+ghost use Rattle.example_ndr.specs.ExamplesPointers.{long_and_short, one_five_one};
 ghost use Rattle.example_ndr.specs.ExamplesArrays.{sized, sized_graph, sized_octets, nested, nested_graph, nested_octets};
-ghost use Rattle.example_ndr.specs.ExamplesUnions.{choice_of_hyper, default_chosen, choice_octets, pipe_of_longs, three_piped, chunks_of_two, first_chunk};
+ghost use Rattle.example_ndr.specs.ExamplesUnions.{choice_of_hyper, default_chosen, choice_octets, pipe_of_longs, three_piped, chunks_of_two};
+ghost use Rattle.example_ndr.specs.ExamplesUnions.{first_chunk};
 
 use nd_grammar::Reason;
 

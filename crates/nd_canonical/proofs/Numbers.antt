@@ -1,6 +1,7 @@
 -- The numbers of cells by the order in which they are named.
 -- `c`, `d` and `e` are cells' numbers, `ds` named cells, `seen` those that were named before, `xs` cells of which none is twice, `n`, `k` and `v` are numbers.
-use Rattle.std.proofs.Common.{◌≡◌, ◌⊎◌, inl, inr, ℕ, ◌+◌, ◌<◌, ◌≤◌, ◌^◌, zero, suc, Bool, true, false, cond, ◌||◌, eqb, List, [], ◌∷◌, ◌++◌, length, get_or, set, refl, ap, sym, ◌∙◌, subst, arith, append_assoc, length-append}
+use Rattle.std.proofs.Common.{◌≡◌, ◌⊎◌, inl, inr, ℕ, ◌+◌, ◌<◌, ◌≤◌, ◌^◌, zero, suc, Bool, true, false, cond, ◌||◌, eqb, List, [], ◌∷◌, ◌++◌, length, get_or, set, refl, ap, sym, ◌∙◌, subst, arith}
+use Rattle.std.proofs.Common.{append_assoc, length-append}
 use Rattle.std.specs.List.{AllByRecursion}
 use Rattle.std.proofs.lemmas.Bool.{eqb-true, eqb-false, eq-eqb, ne_eqb}
 use Rattle.nd_value.specs.Setting.{Among}
@@ -158,7 +159,8 @@ pub not_again : (seen ds : List ℕ) (c : ℕ) → has seen c ≡ true → has (
 not_again seen [] c h = refl
 not_again seen (d ∷ ds) c h = go (not_again seen ds c h) (not_again (d ∷ seen) ds c (has_more d c seen h)) (has seen d) refl (eqb c d) refl
   where
-    go : has (firsts seen ds) c ≡ false → has (firsts (d ∷ seen) ds) c ≡ false → (b : Bool) → has seen d ≡ b → (x : Bool) → eqb c d ≡ x → has (elim b [ true ↦ firsts seen ds | false ↦ d ∷ firsts (d ∷ seen) ds ]) c ≡ false
+    go : has (firsts seen ds) c ≡ false → has (firsts (d ∷ seen) ds) c ≡ false → (b : Bool) → has seen d ≡ b → (x : Bool) → eqb c d ≡ x
+        → has (elim b [ true ↦ firsts seen ds | false ↦ d ∷ firsts (d ∷ seen) ds ]) c ≡ false
     go p q true e x f = p
     go p q false e true f =
         let z : has seen d ≡ true = ap (has seen) (sym (eqb-true c d f)) ∙ h in

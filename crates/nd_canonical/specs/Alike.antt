@@ -1,6 +1,6 @@
 -- Two graphs beside each other, pointers being compared by the numbers of their cells in the order of each graph.
--- `g` and `h` are graphs, `m` and `n` the numbers of their cells, `i` is a root's index, `k` a place among the cells by their numbers, `cs` and `ds` are the cells
--- of the two in these orders, `fs` are nodes.
+-- `g` and `h` are graphs, `m` and `n` the numbers of their cells, `i` is a root's index, `k` a place among the cells by their numbers, `cs` and `ds`
+-- are the cells of the two in these orders, `fs` are nodes.
 use Rattle.std.specs.Prelude.{◌≡◌, ℕ, ◌<◌, List, length, get_or, map}
 use Rattle.nd_value.specs.declared.value.Graph.{Graph}
 use Rattle.nd_value.specs.Tree.{Flat}

@@ -5,7 +5,8 @@ ghost use Rattle.nd_value.specs.Tree.{flat};
 ghost use Rattle.nd_value.specs.Same.{Same};
 ghost use Rattle.nd_flat.specs.FlatForm.{flat_seen};
 ghost use Rattle.nd_canonical.specs.Order.{IsOrder};
-ghost use Rattle.nd_canonical.specs.Alike.{AreAlike, AreSameRoots, AreSameCells, IsSameCell, number_by as numbers_by, renumbered_flat, renumbered_flats};
+ghost use Rattle.nd_canonical.specs.Alike.{AreAlike, AreSameRoots, AreSameCells, IsSameCell, number_by as numbers_by, renumbered_flat};
+ghost use Rattle.nd_canonical.specs.Alike.{renumbered_flats};
 
 use crate::order::{Order, order_of};
 use nd_base::Memory;

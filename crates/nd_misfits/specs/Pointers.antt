@@ -1,7 +1,8 @@
 -- How the second and the third pass go over the pointers of a graph.
 -- `t` is a type's number, `l` a label, `ks` and `vs` are values, `h` a home, `n` a node's number or how a cell is named, `k` a class,
 -- `c` a cell's number, `p` a pointer.
-use Rattle.std.specs.Prelude.{◌≡◌, ℕ, ◌+◌, ◌<◌, ◌^◌, Bool, true, false, not, ◌&&◌, List, [], ◌∷◌, ◌++◌, Option, Some, None, Result, Ok, Err, set, flat_map}
+use Rattle.std.specs.Prelude.{◌≡◌, ℕ, ◌+◌, ◌<◌, ◌^◌, Bool, true, false, not, ◌&&◌, List, [], ◌∷◌, ◌++◌, Option, Some, None, Result, Ok, Err, set}
+use Rattle.std.specs.Prelude.{flat_map}
 use Rattle.std.specs.List.{slice_get, AllByRecursion}
 use Rattle.nd_base.specs.declared.octets.Memory.{Memory}
 use Rattle.nd_types.specs.declared.types.TypeDef.{TypeDef}

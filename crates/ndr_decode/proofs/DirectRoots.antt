@@ -22,7 +22,7 @@ use Rattle.nd_value.specs.Deferral.{Pending}
 use Rattle.nd_value.specs.Logged.{Logged}
 use Rattle.nd_value.specs.Seen.{cell_number}
 use Rattle.nd_value.specs.Setting.{Setting, root_list, cell_at, cell_home, unread}
-use Rattle.nd_value.specs.Tree.{Tree}
+use Rattle.nd_value.specs.Tree.{Tree, Referent}
 use Rattle.nd_value.proofs.Apart.{all_append}
 use Rattle.nd_flat.specs.Building.{Building, CanClose, closed, opened}
 use Rattle.nd_grammar.specs.Entry.{EntryAt}
@@ -48,7 +48,7 @@ use Rattle.ndr_decoder_laws.specs.steps.Steps.{State}
 use Rattle.ndr_decoder_laws.specs.declared.kept.Kept.{Kept}
 use Rattle.ndr_decoder_laws.specs.declared.kept.KeptRoot.{KeptRoot}
 use Rattle.ndr_decoder_laws.specs.stream.Added.{Goes}
-use Rattle.ndr_decoder_laws.specs.stream.Between.{Agrees, Between, CellFilled, CellKept, Opens, cell_read, home_target, with_pointer}
+use Rattle.ndr_decoder_laws.specs.stream.Between.{Agrees, Between, CellFilled, CellKept, Opens, cell_read, home_target, kept_at, with_pointer}
 use Rattle.ndr_decoder_laws.specs.stream.Calls.{CutOff, Took, TookPart}
 use Rattle.ndr_decoder_laws.specs.stream.Parameters.{head_read}
 use Rattle.ndr_decoder_laws.specs.stream.Report.{AreCells, StreamCut, the_head}
@@ -117,6 +117,16 @@ module _ (plan : Plan) (order : Order) (to : TypeId) (run : ℕ) (x : Stream) (w
 
   one_more : length ((between_of x).cells ++ to.0 ∷ []) ≡ cells_of x + 1
   one_more = length-append (between_of x).cells (to.0 ∷ []) ∙ ap (λ (k : ℕ). k + 1) (types_length x.machine.builder)
+
+  -- nothing was kept of the cell that has the next number
+  pub direct_unread : (k : ℕ) → k ≡ length x.machine.builder.graph.cells + 1 → kept_at x.cells.items k ≡ None
+  direct_unread k is =
+      let told = st.agrees.keeps.told (home.Root (length s.roots)) (omega arith) in
+      let many : length s.names.cells ≡ length x.machine.builder.graph.cells =
+      sym (length-map s.names.cells (λ (c : Referent). c.of)) ∙ sym (ap length told.cells_are) ∙ length-map x.machine.builder.graph.cells (λ (c : Referent). c.of) in
+      let same : k ≡ length s.names.cells + 1 = omega (arith, is, many) in
+      subst (λ (j : ℕ). kept_at x.cells.items j ≡ None) (sym same)
+      (st.agrees.keeps.not_read (length s.names.cells + 1) (law.free w side order fetched noted direct (between_of x) s seen n st.agrees r there to refers))
 
   -- the cell has its number, and nothing of its value was read
   cut_begun : StreamCut the_head w order fetched noted (length ((between_of x).cells ++ to.0 ∷ []))

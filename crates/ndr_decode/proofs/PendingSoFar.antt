@@ -1,7 +1,8 @@
 -- The loop over the pending referents: what was read so far.
 -- `x` is what was kept of the stream before the loop, `y` before a turn, with `q`, if it was taken from it, `y'` the same without the next of the pending referents,
 -- `o` that referent, `z` after it was read; 0, 1 and 2 number what was seen before the loop, before the turn and after it.
-use Rattle.std.proofs.Common.{◌≡◌, ◌≤◌, ℕ, ◌+◌, Bool, List, [], ◌++◌, length, Option, None, Result, Ok, Err, IsErrAnd, refl, sym, ap, subst}
+use Rattle.std.proofs.Common.{◌≡◌, ◌≤◌, ◌<◌, ℕ, ◌+◌, ◌*◌, ◌^◌, suc, Bool, List, [], ◌++◌, length, reverse, Option, None, Result, Ok, Err, IsErrAnd, refl, sym, ap, ◌∙◌, subst, arith}
+use Rattle.std.proofs.lemmas.List.{length-map, length-reverse}
 use Rattle.nd_base.specs.declared.octets.Order.{Order}
 use Rattle.nd_base.specs.declared.TheConstants.{STREAM_LIMIT}
 use Rattle.nd_base.specs.Over.{SourceSeen}
@@ -15,21 +16,18 @@ use Rattle.nd_grammar.specs.LegalSide.{IsLegalSide}
 use Rattle.nd_grammar.specs.StreamReader.{Reading}
 use Rattle.ndr_code.specs.declared.plan.Plan.{Plan}
 use Rattle.ndr_decoder_state.specs.declared.fault.DecodeFault.{DecodeFault}
-use Rattle.ndr_decoder_state.specs.declared.fault.DecodeFault.TheVariants as fault
 use Rattle.ndr_decoder_state.specs.declared.machine.Machine.{Machine}
 use Rattle.ndr_decoder_state.specs.declared.machine.Owed.{Owed}
+use Rattle.ndr_decoder_state.specs.Seen.{owed_of}
 use Rattle.nd_grammar.specs.decoded.Verdict.{DecodingSeen, decoding_seen}
 use Rattle.ndr_decoder_laws.specs.stream.Between.{Agrees, Between}
 use Rattle.ndr_decoder_laws.specs.stream.Calls.{Follows, Took}
 use Rattle.ndr_decoder_pending.specs.declared.stream.Stream.{Stream}
 use Rattle.ndr_decoder_pending.specs.Seen.{pending_in}
 use Rattle.ndr_decoder_laws.specs.stream.Report.{the_head}
-use Rattle.ndr_decode.specs.Streaming.{FaultOf, IsAtReferent, IsStreaming, PendingReads, ReferentReads, Stands, WentOn, WentOnTaking, cells_of, with_next, with_taken}
+use Rattle.ndr_decode.specs.Streaming.{ArePaid, FaultOf, IsAtReferent, IsStreaming, PendingReads, ReferentReads, Stands, WentOn, WentOnTaking, cells_of, with_next, with_taken}
 use Rattle.ndr_decode.proofs.PendingTurns.{HasNext, none_due, stands_next}
-use Rattle.ndr_decode.proofs.Placed.{types_length}
-use Rattle.ndr_decode.proofs.Standing.{cut_off_here, then_fault, then_went_taking, went_nowhere}
-
--- ## The list of those that are pending
+use Rattle.ndr_decode.proofs.Standing.{then_fault, then_went_taking, went_nowhere}
 
 -- ## Calls one after the other
 
@@ -50,6 +48,19 @@ followed l0 l1 l2 e1 e2 f0 f1 f2 g0 g1 g2 k0 k1 k2 = record {
   steps_middle = refl;
   steps_now = refl;
 }
+
+-- Of the referents that were pending, and of those that became it, one was taken in each turn.
+abbrev pub AreTurns : ℕ → Stream → Option Owed → Stream → Type 0
+AreTurns turns x q y = 4 * (turns + length (with_taken q y).pending) + x.machine.at ≤ 4 * length (with_taken None x).pending + y.machine.at
+
+pub one_turn : (turns : ℕ) (x : Stream) (q : Option Owed) (y y' : Stream) (o : Owed) (q' : Option Owed) (z : Stream) → AreTurns turns x q y → y'.machine ≡ y.machine
+    → with_next o y' ≡ with_taken q y → ArePaid y' q' z → AreTurns (turns + 1) x q' z
+one_turn turns x q y y' o q' z t same e paid =
+    let at : y'.machine.at ≡ y.machine.at = ap (λ (m : Machine). m.at) same in
+    let one_more : suc (length (with_taken None y').pending) ≡ length (with_taken q y).pending = ap (λ (b : Between). length b.pending) e in
+    let before : 4 * (turns + length (with_taken q y).pending) + x.machine.at ≤ 4 * length (with_taken None x).pending + y.machine.at = t in
+    let now : 4 * length (with_taken q' z).pending + y'.machine.at ≤ 4 * length (with_taken None y').pending + z.machine.at = paid in
+    omega (arith, before, now, at, one_more)
 
 -- what was read so far
 abbrev pub SoFar : Plan → Order → Stream → SourceSeen → DecodingSeen → Option Owed → Stream → Type 0
@@ -106,19 +117,20 @@ module _ (plan : Plan) (order : Order) (x : Stream) (q : Option Owed) (y : Strea
       } in
       (now, none_due w side order (fetched ++ g.octets) (noted ++ g.items) g.direct None y' g.s g.seen n g.ps now.stands (ap (pending_in y'.wanted.items) none))
 
-  module _ (later : f0 ≤ f1) where
-    -- memory failed between two turns
-    pub given_up : (z : Stream) → PendingReads plan order x (source_by l0 l1 e1 f0 f1) (decoding_seen g0 g1 k0 k1) z (Err fault.Memory)
-    given_up z w side fetched noted direct s seen ps n table st =
-        let g : WentOnTaking w side order fetched noted (cells_of x) (source_by l0 l1 e1 f0 f1) (decoding_seen g0 g1 k0 k1) q y n = so_far w side fetched noted direct s seen ps n table st in
-        let idle : SourceSeen = source_by l1 l1 e1 f1 f1 in
-        let follow : Follows (source_by l0 l1 e1 f0 f1) idle (source_by l0 l1 e1 f0 f1) (decoding_seen g0 g1 k0 k1) (decoding_seen g1 g1 k1 k1) (decoding_seen g0 g1 k0 k1) =
-        followed l0 l1 l1 e1 e1 f0 f1 f1 g0 g1 g1 k0 k1 k1 in
-        then_fault w side order fetched noted (cells_of x) (source_by l0 l1 e1 f0 f1) idle (source_by l0 l1 e1 f0 f1) (decoding_seen g0 g1 k0 k1) (decoding_seen g1 g1 k1 k1)
-        (decoding_seen g0 g1 k0 k1) follow g.octets g.items (cells_of y) g.took the_head later refl fault.Memory
-        (cut_off_here l1 e1 (record { before = f1; now = f1 }) g1 k1 w side order (fetched ++ g.octets) (noted ++ g.items) g.direct (with_taken q y) g.s g.seen g.ps n (cells_of y)
-        (sym (types_length y.machine.builder)) g.stands.agrees)
+  -- no stream has so many turns
+  pub few_turns : (turns : ℕ) → AreTurns turns x q y → IsStreaming plan order x → 18446744073709551615 ≤ turns → ⊥
+  few_turns turns t i many =
+      let g : WentOnTaking i.w i.side order i.fetched i.noted (cells_of x) (source_by l0 l1 e1 f0 f1) (decoding_seen g0 g1 k0 k1) q y i.n =
+      so_far i.w i.side i.fetched i.noted i.direct i.s i.seen i.ps i.n i.table i.stands in
+      let within : y.machine.at ≤ STREAM_LIMIT = g.stands.within in
+      let listed : length (pending_in x.wanted.items x.todo.items) ≡ length x.todo.items = length-map (reverse x.todo.items) (owed_of x.wanted.items) ∙ length-reverse x.todo.items in
+      let is : x.todo.len ≡ length x.todo.items = x.todo.ok.0 in
+      let room : x.todo.len ≤ x.todo.cap = x.todo.ok.1 in
+      let small : x.todo.cap < 2 ^ 63 = x.todo.small in
+      let taken : 4 * (turns + length (with_taken q y).pending) + x.machine.at ≤ 4 * length (pending_in x.wanted.items x.todo.items) + y.machine.at = t in
+      omega (arith, taken, many, within, listed, is, room, small)
 
+  module _ (later : f0 ≤ f1) where
     -- ## A turn
 
     module _ (l2 : Option (List ℕ)) (e2 : Bool) (f2 : ℕ) (g2 : Logged) (k2 : ℕ) where

@@ -25,7 +25,6 @@ use Rattle.ndr_decoder_laws.specs.stream.Calls.{Follows, Took}
 use Rattle.ndr_decoder_laws.specs.stream.Report.{StreamCut, the_stream}
 use Rattle.ndr_decoder_laws.proofs.stream.Joined.{took_twice}
 use Rattle.ndr_decoder_laws.specs.pipes.Pipes.{Position}
-use Rattle.ndr_decoder_laws.proofs.pipes.PipeEntries.{chunk_goes}
 use Rattle.ndr_decoder_laws.proofs.pipes.PipesBegin.{pipes_add}
 use Rattle.ndr_decode.specs.Piping.{ChunkComes, ElementsRead, IsAtChunk, IsAtPipe, IsBefore, IsInPipe, IsPipeBy, PipeComes, PipeRead}
 use Rattle.ndr_decode.specs.Streaming.{FaultOf}
@@ -100,16 +99,6 @@ module _ (plan : Plan) (w : Setting) (legal : IsLegalSide w) (order : Order) (fe
   -- ## A turn
 
   module _ (n : Machine) (a : SourceSeen) (s : DecodingSeen) (so_far : ℕ) (x : ElementsRead w order fetched noted direct first i rs roots elem m.cells a s n so_far) where
-    -- memory fails between two chunks
-    pub turn_memory : FaultOf the_stream w order fetched noted m.cells a s fault.Memory
-    turn_memory =
-        let q = x.in_pipe in
-        let many : length x.k.cells ≡ n.cells = ap length (sym q.is_at.cells) ∙ sym (cells_many n) in
-        cut_after w order fetched noted m.cells n.cells a s x.octets x.items x.took
-        (subst (StreamCut the_stream w order (fetched ++ x.octets) (noted ++ x.items)) many
-        (cut_at w order (fetched ++ x.octets) (noted ++ x.items) direct (home.Root i) x.k.seen x.k.names x.k.cells x.k.numbers _ _ _ x.k.at q.in_pipe.stands.octets q.few q.in_pipe.told
-        (λ later all. chunk_goes w order (fetched ++ x.octets) (noted ++ x.items) direct first i rs roots elem x.done n.max_at x.k q.in_pipe later all)))
-
     module _ (z : Machine) (b e : SourceSeen) (t u : DecodingSeen) (f : Follows a b e s t u) where
       abbrev Comes : Result ℕ DecodeFault → Type 0
       Comes result = ChunkComes w order (fetched ++ x.octets) (noted ++ x.items) direct first i rs roots elem so_far n.cells b t z result

@@ -36,13 +36,13 @@ use Rattle.ndr_decoder_laws.proofs.stream.FineTypes.{usable_fine}
 use Rattle.ndr_decoder_pending.specs.declared.stream.Stream.{Stream}
 use Rattle.ndr_decoder_pending.specs.Seen.{CellEnds, HasOwn, IsCleared, KeepsAll, KeepsHomes, between_of, pending_in, pending_with}
 use Rattle.ndr_decoder_laws.specs.stream.Report.{the_head}
-use Rattle.ndr_decode.specs.Streaming.{FaultOf, HomeWhole, StandsWith, WentOnTaking, cells_of, purpose_of, with_next}
+use Rattle.ndr_decode.specs.Streaming.{ArePaid, FaultOf, HomeWhole, StandsWith, WentOnTaking, cells_of, purpose_of, with_next}
 use Rattle.ndr_decode.specs.Tried.{AreTried}
 use Rattle.ndr_decode.proofs.AtRoots.{code_is, legal_is, planned_is}
 use Rattle.ndr_decode.proofs.HomeComes.{decoding_of}
 use Rattle.ndr_decode.proofs.PaidHomes.{opened_paid, paid_between, roots_within}
 use Rattle.ndr_decode.proofs.Placed.{kept_of, types_length}
-use Rattle.ndr_decode.proofs.ReferentDone.{referent_done}
+use Rattle.ndr_decode.proofs.ReferentDone.{referent_done, referent_paid}
 use Rattle.ndr_decode.proofs.ReferentFails.{referent_cut, referent_disagrees}
 use Rattle.ndr_decode.proofs.ReferentReads.{its_usable, referent_fault, referent_safe, referent_whole, run_is}
 use Rattle.ndr_decode.proofs.SamePurpose.{same_purpose}
@@ -135,6 +135,17 @@ module _ (plan : Plan) (order : Order) (o : Owed) (x : Stream) (c : CellId) (som
       → WentOnTaking w side order fetched noted (cells_of x) source (decoding_of notes) q s4 n
   settled {s2} {s3} s4 k kept own keeps out agree source notes ends q pending cleared homes w side fetched noted direct s seen p ps n table st =
       referent_done w side order fetched noted direct o x s seen p ps n st c some unread source (decoding_of notes) s1 s2 builder opens.cells keeps out
+      (is_whole w side fetched noted direct s seen p ps n table st source notes s2.machine ends) s3 s4 k own kept agree q pending cleared homes
+
+  pub settled_paid : {s2 s3 : Stream} (s4 : Stream) (k : Kept) → CellEnds c.0 k s2 s3 → HasOwn s2.machine k → KeepsAll x s2 → outside s2.machine ≡ outside s1.machine
+      → AllAgree k (owed_of x.wanted.items o).agreements → (source : SourceSeen) (notes : NotesSeen)
+      → EndsWhole plan.values order plan.code s1.machine.home (state_of s1.machine) source notes (state_of s2.machine) → (q : Option Owed)
+      → pending_with q s4.wanted.items s4.todo.items ≡ (state_of s3.machine).fresh ++ pending_in s3.wanted.items s3.todo.items → IsCleared s3.machine s4.machine
+      → KeepsHomes s3 s4 → (w : Setting) (side : IsLegalSide w) (fetched : List ℕ) (noted : List Item) (direct : ℕ) (s : Reading) (seen : List EntryAt)
+      (p : Pending) (ps : List Pending) (n : ℕ) → w.table ≡ plan.tie.types → StandsWith w side order fetched noted direct o x s seen p ps n
+      → ArePaid x q s4
+  settled_paid {s2} {s3} s4 k kept own keeps out agree source notes ends q pending cleared homes w side fetched noted direct s seen p ps n table st =
+      referent_paid w side order fetched noted direct o x s seen p ps n st c some unread source (decoding_of notes) s1 s2 builder opens.cells keeps out
       (is_whole w side fetched noted direct s seen p ps n table st source notes s2.machine ends) s3 s4 k own kept agree q pending cleared homes
 
   -- and the graph is for what it was for

@@ -1,8 +1,8 @@
 -- The next of the pending referents, which was read and kept: what is kept of the stream then.
 -- `o` is the referent as code has it, `x` what was kept before it, `c` its cell, `s1` the stream when its home was open, `s2` after its value, `s3` after its cell
 -- was kept, `s4` after its pointers became pending.
-use Rattle.std.proofs.Common.{◌≡◌, ◌≤◌, ◌<◌, ℕ, List, [], ◌∷◌, ◌++◌, length, map, Option, Some, None, sym, ap, ◌∙◌, subst, arith}
-use Rattle.std.proofs.lemmas.List.{length-map}
+use Rattle.std.proofs.Common.{◌≡◌, ◌≤◌, ◌<◌, ℕ, ◌+◌, ◌*◌, List, [], ◌∷◌, ◌++◌, length, map, Option, Some, None, sym, ap, ◌∙◌, subst, arith}
+use Rattle.std.proofs.lemmas.List.{length-append, length-map}
 use Rattle.nd_base.specs.declared.octets.Order.{Order}
 use Rattle.nd_base.specs.Over.{SourceSeen}
 use Rattle.nd_types.specs.declared.types.Class.TheVariants.{Full}
@@ -10,7 +10,7 @@ use Rattle.nd_types.specs.Number.{AreOctets}
 use Rattle.nd_value.specs.declared.item.Item.{Item}
 use Rattle.nd_value.specs.declared.value.CellId.{CellId}
 use Rattle.nd_value.specs.declared.value.Graph.{Graph}
-use Rattle.nd_value.specs.Deferral.{Pending}
+use Rattle.nd_value.specs.Deferral.{Pending, home_pointers}
 use Rattle.nd_value.specs.Seen.{cell_number}
 use Rattle.nd_value.specs.Setting.{Setting, cell_home}
 use Rattle.nd_value.specs.Tree.{Tree}
@@ -19,9 +19,11 @@ use Rattle.nd_flat.specs.Building.{Building, CanClose, closed, opened}
 use Rattle.nd_grammar.specs.Entry.{EntryAt}
 use Rattle.nd_grammar.specs.LegalSide.{IsLegalSide}
 use Rattle.nd_grammar.specs.StreamReader.{Reading}
+use Rattle.nd_grammar.proofs.reader.ReaderMoves.{paid}
 use Rattle.nd_grammar.proofs.reader.ReaderNames.{longer}
 use Rattle.nd_grammar.proofs.reader.ReaderStates.{WholeRead, read_wholly}
 use Rattle.ndr_decoder_laws.specs.reader.Around.{going}
+use Rattle.ndr_decoder_laws.specs.steps.Good.{owed}
 use Rattle.ndr_decoder_laws.specs.steps.Steps as steps
 use Rattle.ndr_decoder_state.specs.declared.machine.Machine.{Machine}
 use Rattle.ndr_decoder_state.specs.declared.machine.Owed.{Owed}
@@ -37,7 +39,7 @@ use Rattle.ndr_decoder_pending.specs.declared.stream.Stream.{Stream}
 use Rattle.ndr_decoder_pending.specs.Ends.{HomeRan}
 use Rattle.ndr_decoder_pending.specs.Seen.{CellEnds, HasOwn, IsCleared, KeepsAll, KeepsHomes, between_of, pending_in, pending_with}
 use Rattle.ndr_decoder_pending.proofs.GraphEnds.{cell_ends}
-use Rattle.ndr_decode.specs.Streaming.{HomeWhole, StandsWith, WentOnTaking, cells_of, with_next, with_taken}
+use Rattle.ndr_decode.specs.Streaming.{ArePaid, HomeWhole, StandsWith, WentOnTaking, cells_of, with_next, with_taken}
 use Rattle.ndr_decode.proofs.OwedReads.{agreements_are, cell_is, class_is}
 use Rattle.ndr_decode.proofs.Placed.{can_close, kept_of, ran, took_by, types_length}
 use Rattle.ndr_decode.proofs.ReferentReads.{cell_there, its_usable}
@@ -152,3 +154,14 @@ module _ (w : Setting) (side : IsLegalSide w) (order : Order) (fetched : List �
             took = took_by source t (length (state_of s1.machine).cells) (cells_of x) (length (state_of m).cells) (cells_of s4) hw.octets hw.items (ap length cells ∙ types_length b)
                 (types_length m.builder ∙ sym (ap (λ (u : Building). length u.graph.cells) built)) hw.took;
           }
+
+      -- each of its pointers took four octets
+      pub referent_paid : ArePaid x q s4
+      referent_paid =
+          let its : List Pending = home_pointers w.table (cell_home c.0) p.to v in
+          let cost : 4 * length its + paid (going x.machine.at seen) ≤ paid (going m.at hw.is.seen) = wholly.cost in
+          let made : length (state_of m).fresh ≡ length its = ap length hw.is.pending ∙ length-map its (owed w.table) in
+          let all : length (pending_with q s4.wanted.items s4.todo.items) ≡ length (state_of m).fresh + length (pending_in x.wanted.items x.todo.items) =
+          ap length now_pending ∙ length-append (state_of m).fresh (pending_in x.wanted.items x.todo.items) in
+          let at : s4.machine.at ≡ m.at = cleared.at ∙ ap (λ (q : Machine). q.at) same_machine in
+          omega (arith, cost, made, all, at)

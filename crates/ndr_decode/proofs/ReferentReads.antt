@@ -92,6 +92,10 @@ module _ (w : Setting) (side : IsLegalSide w) (order : Order) (fetched : List �
       let e : length s.names.cells ≡ cells_of x = many in
       (positive s.names.cells c.0 at_it.there.0 at_it.there.1, omega (arith, m, e))
 
+  -- and nothing of it was kept
+  pub cell_unread : kept_at x.cells.items c.0 ≡ None
+  cell_unread = ag.keeps.not_read c.0 (law.free w side order fetched noted direct (with_next o x) s seen p ps n ag c.0 is_cell new)
+
   abbrev target : List ℕ → Read
   target = home_target w order (between_of x) seen (cell_home c.0) p.to s.names
 

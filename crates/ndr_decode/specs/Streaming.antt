@@ -1,7 +1,7 @@
 -- What a call of the decoder comes to, over the roots and referents of a stream.
 -- `reach` is what is read of a stream, `plan` is a plan, `w` a setting of its interface, `fetched` are the octets that were fetched and `noted` the items that were noted before the call, `x` is what
 -- is kept of the stream after it, `source` and `t` are what was seen of the source, the log and the steps over it, `n` is how many cells there were.
-use Rattle.std.specs.Prelude.{◌≡◌, ◌≤◌, ℕ, suc, List, [], ◌∷◌, ◌++◌, length, Option, Some, None, Result, Ok, Err}
+use Rattle.std.specs.Prelude.{◌≡◌, ◌≤◌, ℕ, ◌+◌, ◌*◌, suc, List, [], ◌∷◌, ◌++◌, length, Option, Some, None, Result, Ok, Err}
 use Rattle.std.specs.List.{slice_get}
 use Rattle.nd_base.specs.declared.octets.Order.{Order}
 use Rattle.nd_base.specs.declared.TheConstants.{STREAM_LIMIT}
@@ -61,6 +61,10 @@ with_taken q x =
 
 abbrev pub with_next : code.Owed → Stream → Between
 with_next o x = with_taken (Some o) x
+
+-- for each referent that became pending, from here to there, four octets were read
+abbrev pub ArePaid : Stream → Option code.Owed → Stream → Type 0
+ArePaid x q y = 4 * length (with_taken q y).pending + x.machine.at ≤ 4 * length (with_taken None x).pending + y.machine.at
 
 -- What is kept of the stream is right, with the referent that was taken: so many roots that are no pipes are left, and these pointers are due.
 pub record StandsTaking (w : Setting) (side : IsLegalSide w) (order : Order) (fetched : List ℕ) (noted : List Item) (direct : ℕ) (q : Option code.Owed) (x : Stream) (s : Reading) (seen : List EntryAt) (ps : List Pending) (n : ℕ) : Type 0 where

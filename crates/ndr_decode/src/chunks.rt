@@ -104,7 +104,7 @@ fn read_pipe<S: Source, L: Ledger>(
 {
     open_pipe(machine, number, elem)?;
     let mut so_far: u32 = 0;
-    // No stream within the limit has so many chunks.
+    // Each chunk but the last one has an element, and a pipe has fewer than 2^32 of them.
     for _chunk in 0..u64::MAX {
         let count = read_chunk(
             plan, order, number, elem, so_far, machine, intake, source, items, steps,
@@ -114,7 +114,7 @@ fn read_pipe<S: Source, L: Ledger>(
         }
         so_far += count;
     }
-    Err(DecodeFault::Memory)
+    unreachable!()
 }
 
 // Reads the next chunk of a pipe that has so many elements so far: how many it has, 0 where the pipe has ended. Of more elements than a pipe may have a part is

@@ -5,7 +5,7 @@ ghost use Rattle.nd_types.specs.declared.types.Class.TheVariants.{Full};
 ghost use Rattle.ndr_decoder_state.specs.Seen.{agreement_of, owed_of};
 ghost use Rattle.nd_grammar.specs.decoded.Verdict.{decoding_seen};
 ghost use Rattle.ndr_decoder_laws.specs.stream.Between.{kept_at};
-ghost use Rattle.ndr_decode.specs.Streaming.{IsAtReferent, IsStreaming, PendingReads, ReferentReads, purpose_of, with_taken};
+ghost use Rattle.ndr_decode.specs.Streaming.{ArePaid, IsAtReferent, IsStreaming, PendingReads, ReferentReads, purpose_of, with_taken};
 ghost use Rattle.ndr_decode.specs.Tried.{AreTried};
 
 use crate::homes::read_home;
@@ -36,14 +36,14 @@ pub(crate) fn read_pending<S: Source, L: Ledger>(
     ensures later { S.Source.faults source.old ≤ S.Source.faults source.new }
 {
     let mut next = None;
-    // No stream within the limit has so many referents.
+    // Each turn takes one of the referents that are pending, and for each that becomes pending four octets are read.
     for _turn in 0..u64::MAX {
         let Some(owed) = take_next(next, stream) else {
             return Ok(());
         };
         next = read_owed(plan, order, owed, stream, intake, source, items, steps)?;
     }
-    Err(DecodeFault::Memory)
+    unreachable!()
 }
 
 // The next of the pending referents: the one that was given, if one was.
@@ -79,6 +79,7 @@ fn read_owed<S: Source, L: Ledger>(
     ensures reads { ReferentReads plan.now order owed stream.old (source_seen S.Source.left S.Source.ended S.Source.faults source.old source.new)
         (decoding_seen items.old items.new (L.number steps.old) (L.number steps.new)) stream.new result }
     ensures given { IfOk result (λ q. IfSome q (λ o. o.from + o.len ≤ length stream.new.wanted.items)) }
+    ensures paid { IfOk result (λ q. ArePaid stream.old q stream.new) }
     ensures same { OnOk result (purpose_of stream.new ≡ purpose_of stream.old) }
     ensures later { S.Source.faults source.old ≤ S.Source.faults source.new }
 {
@@ -116,6 +117,7 @@ fn read_referent<S: Source, L: Ledger>(
     ensures reads { ReferentReads plan.now order owed stream.old (source_seen S.Source.left S.Source.ended S.Source.faults source.old source.new)
         (decoding_seen items.old items.new (L.number steps.old) (L.number steps.new)) stream.new result }
     ensures given { IfOk result (λ q. IfSome q (λ o. o.from + o.len ≤ length stream.new.wanted.items)) }
+    ensures paid { IfOk result (λ q. ArePaid stream.old q stream.new) }
     ensures same { OnOk result (purpose_of stream.new ≡ purpose_of stream.old) }
     ensures later { S.Source.faults source.old ≤ S.Source.faults source.new }
 {

@@ -101,6 +101,7 @@ fn read_elements<L: Ledger>(
 // many octets were kept already. So the list grows by half at least where it is moved, and the time stays linear.
 fn room_for(machine: &Machine, elements: &Elements, len: usize, ahead: usize) -> usize
     requires { 0 < elements.now.count }
+    ensures at_hand { result ≤ ahead }
 {
     let Frame::Elements {
         left,

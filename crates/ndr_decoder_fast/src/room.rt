@@ -1,5 +1,5 @@
 // Room for elements that are pointers, or begin with one.
-ghost use Rattle.std.specs.Prelude.{◌≡◌};
+ghost use Rattle.std.specs.Prelude.{◌≡◌, ◌≤◌, ◌*◌};
 ghost use Rattle.ndr_decoder_state.specs.Seen.{outside, state_of};
 
 use ndr_decoder_state::Machine;
@@ -14,10 +14,17 @@ pub(crate) fn make_room(machine: &mut Machine, left: u32, ahead: usize)
     ensures outside { outside machine.new ≡ outside machine.old }
 {
     let pending = machine.fresh.len();
-    let more = (ahead / 4).min(left as usize + 1);
+    let more = pointers_for(left, ahead);
     if more < pending {
         return;
     }
     machine.builder.make_room(more.saturating_mul(3), more);
     let _fresh = machine.fresh.reserve_exact(more);
+}
+
+// How many pointers may be given room, of so many elements after the first: each of them takes four of the octets at hand.
+fn pointers_for(left: u32, ahead: usize) -> usize
+    ensures at_hand { result * 4 ≤ ahead }
+{
+    (ahead / 4).min(left as usize + 1)
 }

@@ -68,9 +68,9 @@ impl Intake {
 
     /// Fetches the octets of a gap, which begins at a place of the stream. A gap is never too long. What was held before is gone.
     ///
-    /// No octet more is asked for than the gap has. At `Ok` all of them are held; else those that came, fewer than wanted. `Truncated` is answered only
-    /// if the source has ended and has nothing left, `ReadFault` only if its count of faults rose, `Memory` only if there was none; then too nothing that
-    /// was fetched is lost. It takes memory for the octets, a piece at a time, before each piece is fetched.
+    /// No octet more is asked for than the gap has. At `Ok` all of them are held; else those that came, fewer than wanted. `Truncated` is answered
+    /// only if the source has ended and has nothing left, `ReadFault` only if its count of faults rose, `Memory` only if there was none; then too
+    /// nothing that was fetched is lost. It takes memory for the octets, a piece at a time, before each piece is fetched.
     #[inline(always)]
     pub fn gap<S: Source>(&mut self, source: &mut S, at: u32, count: u32) -> Result<(), IntakeFault>
         requires small { at + count < 2 ^ 32 }
@@ -97,7 +97,8 @@ impl Intake {
         ensures all { IfOk result (λ _. length self.new ≡ count) }
         ensures within { IfOk result (λ _. at + count ≤ STREAM_LIMIT) }
         ensures too_long { STREAM_LIMIT < at + count → IsErrOf result TooLong }
-        ensures fault { IfErr result (IsItemFault (source_seen S.Source.left S.Source.ended S.Source.faults source.old source.new) at count self.new) }
+        ensures fault { IfErr result
+            (IsItemFault (source_seen S.Source.left S.Source.ended S.Source.faults source.old source.new) at count self.new) }
         ensures later { S.Source.faults source.old ≤ S.Source.faults source.new }
     {
         self.len = 0;
@@ -107,8 +108,8 @@ impl Intake {
         self.fetch(source, at, count)
     }
 
-    /// Fetches so many octets, a piece at most, if the source has them at hand, and says whether it did. Else nothing is taken. What was held before is gone;
-    /// if the octets came, they are held. Takes no memory.
+    /// Fetches so many octets, a piece at most, if the source has them at hand, and says whether it did. Else nothing is taken. What was held before
+    /// is gone; if the octets came, they are held. Takes no memory.
     #[inline(always)]
     pub fn at_hand<S: Source>(&mut self, source: &mut S, count: u32) -> bool
         requires small { count ≤ PIECE }
@@ -154,7 +155,8 @@ impl Intake {
     #[inline(always)]
     fn fetch_some<S: Source>(&mut self, source: &mut S, most: u32) -> Result<u32, IntakeFault>
         requires some { 0 < most }
-        ensures octets { (start : Option (List ℕ)) → Consumes start (S.Source.left source.old) self.old → Consumes start (S.Source.left source.new) self.new }
+        ensures octets { (start : Option (List ℕ)) → Consumes start (S.Source.left source.old) self.old
+            → Consumes start (S.Source.left source.new) self.new }
         ensures count { IfOk result (λ n. length self.new ≡ length self.old + n) }
         ensures bound { IfOk result (λ n. n ≤ most) }
         ensures end { IfOk result (λ n. n ≡ 0 → (S.Source.ended source.new ≡ true) × IsAtEnd (S.Source.left source.new)) }
@@ -199,7 +201,10 @@ fn fetch_behind<S: Source>(
 ) -> Result<usize, ReadFailed>
     requires within { len + room ≤ length buffer.old }
     requires some { 0 < room }
-    ensures came { IfOk result (λ n. (os : List ℕ) × ((length os ≡ n) × (Consumes (S.Source.left source.old) (S.Source.left source.new) os × (take (len + n) buffer.new ≡ take len buffer.old ++ os)))) }
+    ensures came { IfOk result
+        (λ n. (os : List ℕ)
+        × ((length os ≡ n)
+        × (Consumes (S.Source.left source.old) (S.Source.left source.new) os × (take (len + n) buffer.new ≡ take len buffer.old ++ os)))) }
     ensures bound { IfOk result (λ n. n ≤ room) }
     ensures end { IfOk result (λ n. n ≡ 0 → (S.Source.ended source.new ≡ true) × IsAtEnd (S.Source.left source.new)) }
     ensures nothing { OnErr result (Keeps (S.Source.left source.old) (S.Source.left source.new)) }

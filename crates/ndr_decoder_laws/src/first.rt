@@ -1,7 +1,7 @@
 // Members of structs that are open.
 
-/// What the agreements of a struct find in the first node of a member. `place` is where its actual count or its tag is in the stream, if it has one; an
-/// offset comes four octets before an actual count.
+/// What the agreements of a struct find in the first node of a member. `place` is where its actual count or its tag is in the stream, if it has one;
+/// an offset comes four octets before an actual count.
 #[derive(Clone, Copy, Debug, PartialEq, Eq)]
 pub enum First {
     /// A number: a primitive, or an enumerated value.

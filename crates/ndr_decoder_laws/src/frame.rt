@@ -8,7 +8,7 @@ pub enum Frame {
     Home,
     /// A struct: its next instruction is at `back`. Its members' first nodes are listed from `first` on.
     Record { back: usize, first: usize },
-    /// An array, the arm of a union or the elements of a chunk: so many more elements are left after the one that is being read, each by the run; then the
-    /// instruction at `back`.
+    /// An array, the arm of a union or the elements of a chunk: so many more elements are left after the one that is being read, each by the run;
+    /// then the instruction at `back`.
     Elements { left: u32, run: u32, back: usize },
 }

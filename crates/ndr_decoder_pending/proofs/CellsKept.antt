@@ -1,6 +1,7 @@
 -- What is kept of cells, by their numbers.
-use Rattle.std.proofs.Common.{◌≡◌, ◌<◌, ℕ, ◌+◌, ◌-◌, zero, suc, List, [], ◌∷◌, ◌++◌, length, map, Option, Some, refl, ap, ap₂, sym, ◌∙◌, subst, arith}
+use Rattle.std.proofs.Common.{◌≡◌, ◌≤◌, ◌<◌, ℕ, ◌+◌, ◌-◌, ◌^◌, zero, suc, List, [], ◌∷◌, ◌++◌, length, map, Option, Some, None, refl, ap, ap₂, sym, ◌∙◌, subst, arith}
 use Rattle.std.proofs.lemmas.List.{append-nil, length-append, length-map}
+use Rattle.std.proofs.lemmas.Option.{same_Some}
 use Rattle.std.specs.Prelude.{slice_get, slice_set, option_map}
 use Rattle.std.specs.List.{AllByRecursion}
 use Rattle.ndr_decoder_laws.specs.declared.kept.Kept.{Kept}
@@ -8,7 +9,7 @@ use Rattle.ndr_decoder_laws.specs.stream.Between.{CellKept, kept_at, or_none}
 use Rattle.ndr_decoder_pending.specs.declared.cells.CellEntry.{CellEntry}
 use Rattle.ndr_decoder_pending.specs.declared.cells.CellEntry.TheVariants as entry
 use Rattle.ndr_decoder_pending.specs.declared.cells.Lists.{Lists}
-use Rattle.ndr_decoder_pending.specs.Entries.{HasGrown, IsListed, IsPut, counts_kept, entry_seen, said_at}
+use Rattle.ndr_decoder_pending.specs.Entries.{HasGrown, HasMore, IsListed, IsPut, IsSound, counts_kept, entry_seen, read_count, said_at}
 
 -- room for one cell more changes nothing
 pub none_pushed : (l : Lists) (es : List CellEntry) (i : ℕ) → said_at l (es ++ entry.Unread ∷ []) i ≡ said_at l es i
@@ -106,6 +107,143 @@ set_within l (f ∷ es) (suc i) e a p = (a.0, set_within l es i e a.1 p)
 pub grown_within : (l m : Lists) → HasGrown l m → (es : List CellEntry) → AllByRecursion (IsListed l) es → AllByRecursion (IsListed m) es
 grown_within l m g [] a = tt
 grown_within l m g (e ∷ es) a = (listed_more l m g e a.0, grown_within l m g es a.1)
+
+-- ## Cells that were read
+
+read_most : (es : List CellEntry) → read_count es ≤ length es
+read_most [] = omega arith
+read_most (entry.Unread ∷ es) = let l = read_most es in omega (arith, l)
+read_most (entry.Plain ∷ es) = let l = read_most es in omega (arith, l)
+read_most (entry.Counted i ∷ es) = let l = read_most es in omega (arith, l)
+read_most (entry.Listed i ∷ es) = let l = read_most es in omega (arith, l)
+
+-- so both lists are short
+pub counted_short : (l : Lists) (es : List CellEntry) → IsSound l es → length l.counted.items < 2 ^ 32
+counted_short l es s = omega (arith, s.counted_few, s.cells_few, read_most es)
+
+pub listed_short : (l : Lists) (es : List CellEntry) → IsSound l es → length l.listed.items < 2 ^ 32
+listed_short l es s = omega (arith, s.listed_few, s.cells_few, read_most es)
+
+read_more : (es : List CellEntry) (e : CellEntry) → read_count es ≤ read_count (es ++ e ∷ [])
+read_more [] e = omega arith
+read_more (entry.Unread ∷ es) e = read_more es e
+read_more (entry.Plain ∷ es) e = let l = read_more es e in omega (arith, l)
+read_more (entry.Counted i ∷ es) e = let l = read_more es e in omega (arith, l)
+read_more (entry.Listed i ∷ es) e = let l = read_more es e in omega (arith, l)
+
+set_length : (es : List CellEntry) (i : ℕ) (e : CellEntry) → length (slice_set es i e) ≡ length es
+set_length [] i e = refl
+set_length (f ∷ es) zero e = refl
+set_length (f ∷ es) (suc i) e = ap suc (set_length es i e)
+
+read_plain : (es : List CellEntry) (i : ℕ) → read_count es ≤ read_count (slice_set es i entry.Plain)
+read_plain [] i = omega arith
+read_plain (entry.Unread ∷ es) zero = omega arith
+read_plain (entry.Plain ∷ es) zero = omega arith
+read_plain (entry.Counted j ∷ es) zero = omega arith
+read_plain (entry.Listed j ∷ es) zero = omega arith
+read_plain (entry.Unread ∷ es) (suc i) = read_plain es i
+read_plain (entry.Plain ∷ es) (suc i) = let l = read_plain es i in omega (arith, l)
+read_plain (entry.Counted j ∷ es) (suc i) = let l = read_plain es i in omega (arith, l)
+read_plain (entry.Listed j ∷ es) (suc i) = let l = read_plain es i in omega (arith, l)
+
+-- a cell that was not read is read
+read_set : (m : Lists) (k : Kept) (es : List CellEntry) (i : ℕ) (e : CellEntry) → slice_get es i ≡ Some entry.Unread → entry_seen m e ≡ Some k → read_count (slice_set es i e) ≡ suc (read_count es)
+read_set m k [] i e there f = cc
+read_set m k (u ∷ es) zero e there f = here u e (same_Some u entry.Unread there) f
+  where
+    here : (u e : CellEntry) → u ≡ entry.Unread → entry_seen m e ≡ Some k → read_count (e ∷ es) ≡ suc (read_count (u ∷ es))
+    here u entry.Unread is f = cc
+    here u entry.Plain is f = ap (λ v. suc (read_count (v ∷ es))) (sym is)
+    here u (entry.Counted j) is f = ap (λ v. suc (read_count (v ∷ es))) (sym is)
+    here u (entry.Listed j) is f = ap (λ v. suc (read_count (v ∷ es))) (sym is)
+read_set m k (entry.Unread ∷ es) (suc i) e there f = read_set m k es i e there f
+read_set m k (entry.Plain ∷ es) (suc i) e there f = ap suc (read_set m k es i e there f)
+read_set m k (entry.Counted j ∷ es) (suc i) e there f = ap suc (read_set m k es i e there f)
+read_set m k (entry.Listed j ∷ es) (suc i) e there f = ap suc (read_set m k es i e there f)
+
+-- an entry that says nothing is of a cell that was not read
+got_some : {A B : Type 0} (f : A → B) (xs : List A) (i : ℕ) → i < length xs → option_map f (slice_get xs i) ≡ None → ⊥
+got_some f [] i p e = omega (arith, p)
+got_some f (x ∷ xs) zero p e = cc
+got_some f (x ∷ xs) (suc i) p e = got_some f xs i (omega (arith, p)) e
+
+got_one : {A : Type 0} (xs : List A) (i : ℕ) → i < length xs → slice_get xs i ≡ None → ⊥
+got_one [] i p e = omega (arith, p)
+got_one (x ∷ xs) zero p e = cc
+got_one (x ∷ xs) (suc i) p e = got_one xs i (omega (arith, p)) e
+
+unread_there : (l : Lists) (es : List CellEntry) (i : ℕ) → AllByRecursion (IsListed l) es → i < length es → said_at l es i ≡ None → slice_get es i ≡ Some entry.Unread
+unread_there l [] i a p e = absurd (omega (arith, p))
+unread_there l (entry.Unread ∷ es) zero a p e = refl
+unread_there l (entry.Plain ∷ es) zero a p e = cc
+unread_there l (entry.Counted j ∷ es) zero a p e = absurd (got_some counts_kept l.counted.items j a.0 e)
+unread_there l (entry.Listed j ∷ es) zero a p e = absurd (got_one l.listed.items j a.0 e)
+unread_there l (f ∷ es) (suc i) a p e = unread_there l es i a.1 (omega (arith, p)) e
+
+-- ## What is kept stays right
+
+-- room for one cell more
+pub sound_unread : (l : Lists) (es : List CellEntry) → length es + 1 < 2 ^ 32 → IsSound l es → IsSound l (es ++ entry.Unread ∷ [])
+sound_unread l es few s =
+    let n : length (es ++ entry.Unread ∷ []) ≡ length es + 1 = length-append es (entry.Unread ∷ []) in
+    let m = read_more es entry.Unread in
+    record {
+      listed = within_more l es entry.Unread s.listed tt;
+      counted_few = omega (arith, s.counted_few, m);
+      listed_few = omega (arith, s.listed_few, m);
+      cells_few = omega (arith, n, few);
+    }
+
+-- a plain cell more, or one that becomes plain
+pub sound_plain : (l : Lists) (es : List CellEntry) → length es + 1 < 2 ^ 32 → IsSound l es → IsSound l (es ++ entry.Plain ∷ [])
+sound_plain l es few s =
+    let n : length (es ++ entry.Plain ∷ []) ≡ length es + 1 = length-append es (entry.Plain ∷ []) in
+    let m = read_more es entry.Plain in
+    record {
+      listed = within_more l es entry.Plain s.listed tt;
+      counted_few = omega (arith, s.counted_few, m);
+      listed_few = omega (arith, s.listed_few, m);
+      cells_few = omega (arith, n, few);
+    }
+
+pub sound_set_plain : (l : Lists) (es : List CellEntry) (i : ℕ) → IsSound l es → IsSound l (slice_set es i entry.Plain)
+sound_set_plain l es i s =
+    let n : length (slice_set es i entry.Plain) ≡ length es = set_length es i entry.Plain in
+    let m = read_plain es i in
+    record {
+      listed = set_within l es i entry.Plain s.listed tt;
+      counted_few = omega (arith, s.counted_few, m);
+      listed_few = omega (arith, s.listed_few, m);
+      cells_few = omega (arith, n, s.cells_few);
+    }
+
+-- nothing was listed
+pub sound_same : (l m : Lists) (es : List CellEntry) → HasGrown l m → HasMore 0 l m → IsSound l es → IsSound m es
+sound_same l m es g h s = record {
+  listed = grown_within l m g es s.listed;
+  counted_few = omega (arith, s.counted_few, h.counted);
+  listed_few = omega (arith, s.listed_few, h.listed);
+  cells_few = s.cells_few;
+}
+
+-- one more was listed, of a cell that was not read
+pub sound_set : (l m : Lists) (es : List CellEntry) (i : ℕ) (e : CellEntry) (k : Kept) → HasGrown l m → HasMore 1 l m → i < length es → said_at l es i ≡ None → IsListed m e
+    → entry_seen m e ≡ Some k → IsSound l es → IsSound m (slice_set es i e)
+sound_set l m es i e k g h p none in_it is s =
+    let n : length (slice_set es i e) ≡ length es = set_length es i e in
+    let r : read_count (slice_set es i e) ≡ suc (read_count es) = read_set m k es i e (unread_there l es i s.listed p none) is in
+    record {
+      listed = set_within m es i e (grown_within l m g es s.listed) in_it;
+      counted_few = omega (arith, s.counted_few, h.counted, r);
+      listed_few = omega (arith, s.listed_few, h.listed, r);
+      cells_few = omega (arith, n, s.cells_few);
+    }
+
+-- a cell that was not read, by its number, is the one at a place
+pub unread_at : (l : Lists) (es : List CellEntry) (c : ℕ) → 0 < c → kept_at (map (entry_seen l) es) c ≡ None → said_at l es (c - 1) ≡ None
+unread_at l es zero p e = absurd (omega (arith, p))
+unread_at l es (suc i) p e = (let at : suc i - 1 ≡ i = omega arith in ap (said_at l es) at ∙ e)
 
 -- nothing more is listed
 pub same_grown : (l : Lists) → HasGrown l l

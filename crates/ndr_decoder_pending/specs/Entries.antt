@@ -1,6 +1,7 @@
 -- What an entry of a cell says.
 -- `l` are the lists of what is kept of cells that are not plain.
-use Rattle.std.specs.Prelude.{◌≡◌, ℕ, ◌<◌, ◌-◌, List, ◌++◌, length, map, slice_get, Option, Some, None, option_map}
+use Rattle.std.specs.Prelude.{◌≡◌, ℕ, ◌<◌, ◌≤◌, ◌+◌, ◌-◌, ◌^◌, suc, List, [], ◌∷◌, ◌++◌, length, map, slice_get, Option, Some, None, option_map}
+use Rattle.std.specs.List.{AllByRecursion}
 use Rattle.ndr_decoder_laws.specs.declared.first.First.TheVariants as first
 use Rattle.ndr_decoder_laws.specs.declared.kept.Kept.{Kept}
 use Rattle.ndr_decoder_laws.specs.stream.Between.{or_none}
@@ -27,6 +28,25 @@ abbrev pub IsListed : Lists → CellEntry → Type 0
 IsListed l (entry.Counted i) = i < length l.counted.items
 IsListed l (entry.Listed i) = i < length l.listed.items
 IsListed l _ = Unit {0}
+
+-- how many cells were read
+abbrev pub read_count : List CellEntry → ℕ
+read_count [] = 0
+read_count (entry.Unread ∷ es) = read_count es
+read_count (_ ∷ es) = suc (read_count es)
+
+-- What is kept is right: each entry that is in one of the lists has one of its numbers, and neither list is longer than there are cells that were read, whose
+-- numbers have 32 bits.
+pub record IsSound (l : Lists) (es : List CellEntry) : Type 0 where
+  pub listed : AllByRecursion (IsListed l) es
+  pub counted_few : length l.counted.items ≤ read_count es
+  pub listed_few : length l.listed.items ≤ read_count es
+  pub cells_few : length es < 2 ^ 32
+
+-- at most so many more are listed
+pub record HasMore (n : ℕ) (old new : Lists) : Type 0 where
+  pub counted : length new.counted.items ≤ length old.counted.items + n
+  pub listed : length new.listed.items ≤ length old.listed.items + n
 
 -- the lists have what they had, and more after it
 pub record HasGrown (old new : Lists) : Type 0 where

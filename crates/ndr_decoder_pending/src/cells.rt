@@ -1,9 +1,9 @@
 // What is kept of cells, in little room.
-ghost use Rattle.std.specs.Prelude.{◌≡◌, ◌<◌, ◌^◌, ℕ, [], length, slice_get, Some, true, OnOk, IfOk, IfSome};
-ghost use Rattle.std.specs.List.{AllByRecursion};
-ghost use Rattle.ndr_decoder_laws.specs.stream.Between.{CellKept, or_none};
+ghost use Rattle.std.specs.Prelude.{◌≡◌, ◌<◌, ◌+◌, ◌^◌, ℕ, [], length, slice_get, Some, None, true, OnOk, OnErr, IfOk, IfSome, vec_capacity, vec_len};
+ghost use Rattle.ndr_decoder_laws.specs.stream.Between.{CellKept, kept_at, or_none};
+ghost use Rattle.ndr_decoder_pending.specs.declared.cells.CellEntry.TheVariants as entry;
 ghost use Rattle.ndr_decoder_pending.specs.declared.cells.Lists.{Lists};
-ghost use Rattle.ndr_decoder_pending.specs.Entries.{HasGrown, IsListed, IsPut, counts_kept, entry_seen, plain, said_at};
+ghost use Rattle.ndr_decoder_pending.specs.Entries.{HasGrown, HasMore, IsListed, IsPut, IsSound, counts_kept, entry_seen, plain, said_at};
 
 use nd_base::{Memory, push};
 use nd_value::CellId;
@@ -51,16 +51,15 @@ pub struct KeptCells {
 
 impl Model for KeptCells {
     ghost use Rattle.std.specs.Prelude.{map};
-    ghost use Rattle.std.specs.List.{AllByRecursion};
     ghost use Rattle.ndr_decoder_pending.specs.Cells.{CellsSeen};
 
     ghost Value = { CellsSeen };
 
-    ghost use Rattle.ndr_decoder_pending.specs.Entries.{IsListed, entry_seen};
+    ghost use Rattle.ndr_decoder_pending.specs.Entries.{IsSound, entry_seen};
 
     ghost view = { λ c. record { items = map (entry_seen c.lists) c.entries.items } };
 
-    ghost invariant = { λ c. AllByRecursion (IsListed c.lists) c.entries.items };
+    ghost invariant = { λ c. IsSound c.lists c.entries.items };
 }
 
 impl KeptCells {
@@ -106,13 +105,16 @@ impl KeptCells {
         let _entries = self.entries.reserve_exact(cells);
     }
 
-    /// Keeps what is needed of a cell that was read. It takes memory, and out of memory is the only refusal.
+    /// Keeps what is needed of a cell that was read now. It takes memory, and out of memory is the only refusal.
     pub fn keep(&mut self, cell: CellId, kept: Kept) -> Result<(), Memory>
         requires there { 0 < cell.0 }
+        requires unread { kept_at self.old.items cell.0 ≡ None }
         ensures kept { OnOk result (CellKept cell.0 kept self.old.items self.new.items) }
     {
+        let at = cell.0 as usize - 1;
+        reach(&mut self.entries, at)?;
         let entry = entry_of(&mut self.lists, kept)?;
-        put(&mut self.entries, cell.0 as usize - 1, entry)?;
+        self.entries[at] = entry;
         Ok(())
     }
 
@@ -122,18 +124,21 @@ impl KeptCells {
         requires there { 0 < cell.0 }
         ensures kept { OnOk result (CellKept cell.0 plain self.old.items self.new.items) }
     {
-        put(&mut self.entries, cell.0 as usize - 1, CellEntry::Plain)?;
+        put_plain(&mut self.entries, cell.0 as usize - 1)?;
         Ok(())
     }
 
-    /// Keeps of a cell that was read the counts of its first node, as `keep` does.
+    /// Keeps of a cell that was read now the counts of its first node, as `keep` does.
     #[inline(always)]
     pub fn keep_counts(&mut self, cell: CellId, counts: Counts) -> Result<(), Memory>
         requires there { 0 < cell.0 }
+        requires unread { kept_at self.old.items cell.0 ≡ None }
         ensures kept { OnOk result (CellKept cell.0 (counts_kept counts) self.old.items self.new.items) }
     {
-        let counted = count(&mut self.lists, counts)?;
-        put(&mut self.entries, cell.0 as usize - 1, counted)?;
+        let at = cell.0 as usize - 1;
+        reach(&mut self.entries, at)?;
+        let entry = count(&mut self.lists, counts)?;
+        self.entries[at] = entry;
         Ok(())
     }
 }
@@ -173,9 +178,13 @@ fn kept_counts(counts: Counts) -> Kept
 
 // The entry of a cell of which this is kept; it is listed, unless it is plain.
 fn entry_of(lists: &mut Lists, kept: Kept) -> Result<CellEntry, Memory>
+    requires few_counted { length lists.old.counted.items < 2 ^ 32 }
+    requires few_listed { length lists.old.listed.items < 2 ^ 32 }
     ensures grown { HasGrown lists.old lists.new }
     ensures seen { IfOk result (λ e. entry_seen lists.new e ≡ Some kept) }
     ensures within { IfOk result (λ e. IsListed lists.new e) }
+    ensures more { OnOk result (HasMore 1 lists.old lists.new) }
+    ensures no_more { OnErr result (HasMore 0 lists.old lists.new) }
 {
     if is_plain(kept) {
         return Ok(CellEntry::Plain);
@@ -233,73 +242,74 @@ pub(crate) fn counts_of(first: First, max_at: Option<u32>) -> Option<Counts>
     })
 }
 
-// Lists the counts of a cell.
+// Lists the counts of a cell. Out of memory is answered only where the list had no room left.
 #[inline(always)]
 fn count(lists: &mut Lists, counts: Counts) -> Result<CellEntry, Memory>
+    requires few { length lists.old.counted.items < 2 ^ 32 }
     ensures grown { HasGrown lists.old lists.new }
     ensures seen { IfOk result (λ e. entry_seen lists.new e ≡ Some (counts_kept counts)) }
     ensures within { IfOk result (λ e. IsListed lists.new e) }
+    ensures more { OnOk result (HasMore 1 lists.old lists.new) }
+    ensures no_more { OnErr result (HasMore 0 lists.old lists.new) }
+    ensures full { OnErr result (vec_len lists.old.counted ≡ vec_capacity lists.old.counted) }
 {
     let number = lists.counted.as_slice().len();
-    // No memory has room for so many.
-    if number >= 4_294_967_296 {
-        return Err(Memory);
-    }
     let Ok(()) = push(&mut lists.counted, counts) else {
         return Err(Memory);
     };
     Ok(CellEntry::Counted(number as u32))
 }
 
-// Lists what is kept of a cell.
+// Lists what is kept of a cell, in the same way.
 fn list(lists: &mut Lists, kept: Kept) -> Result<CellEntry, Memory>
+    requires few { length lists.old.listed.items < 2 ^ 32 }
     ensures grown { HasGrown lists.old lists.new }
     ensures seen { IfOk result (λ e. entry_seen lists.new e ≡ Some kept) }
     ensures within { IfOk result (λ e. IsListed lists.new e) }
+    ensures more { OnOk result (HasMore 1 lists.old lists.new) }
+    ensures no_more { OnErr result (HasMore 0 lists.old lists.new) }
+    ensures full { OnErr result (vec_len lists.old.listed ≡ vec_capacity lists.old.listed) }
 {
     let number = lists.listed.as_slice().len();
-    // No memory has room for so many.
-    if number >= 4_294_967_296 {
-        return Err(Memory);
-    }
     let Ok(()) = push(&mut lists.listed, kept) else {
         return Err(Memory);
     };
     Ok(CellEntry::Listed(number as u32))
 }
 
-// Makes this the entry of the cell at a place. Most cells are read in the order of their numbers, so that it is the next one.
+// Makes the entry of the cell at a place a plain one. Most cells are read in the order of their numbers, so that it is the next one.
 #[inline(always)]
-fn put(entries: &mut Vec<CellEntry>, at: usize, entry: CellEntry) -> Result<(), Memory>
-    requires small { at < 2 ^ 32 }
-    ensures put { OnOk result (IsPut at entry entries.old.items entries.new.items) }
-    ensures within { (l : Lists) → AllByRecursion (IsListed l) entries.old.items → IsListed l entry → AllByRecursion (IsListed l) entries.new.items }
+fn put_plain(entries: &mut Vec<CellEntry>, at: usize) -> Result<(), Memory>
+    requires small { at + 1 < 2 ^ 32 }
+    ensures put { OnOk result (IsPut at entry.Plain entries.old.items entries.new.items) }
+    ensures sound { (l : Lists) → IsSound l entries.old.items → IsSound l entries.new.items }
 {
     if at == entries.as_slice().len() {
-        push(entries, entry)?;
+        push(entries, CellEntry::Plain)?;
         return Ok(());
     }
-    put_apart(entries, at, entry)
+    put_plain_apart(entries, at)
 }
 
 // The same where the cell is not the next one.
 #[inline(never)]
-fn put_apart(entries: &mut Vec<CellEntry>, at: usize, entry: CellEntry) -> Result<(), Memory>
-    requires small { at < 2 ^ 32 }
-    ensures put { OnOk result (IsPut at entry entries.old.items entries.new.items) }
-    ensures within { (l : Lists) → AllByRecursion (IsListed l) entries.old.items → IsListed l entry → AllByRecursion (IsListed l) entries.new.items }
+fn put_plain_apart(entries: &mut Vec<CellEntry>, at: usize) -> Result<(), Memory>
+    requires small { at + 1 < 2 ^ 32 }
+    ensures put { OnOk result (IsPut at entry.Plain entries.old.items entries.new.items) }
+    ensures sound { (l : Lists) → IsSound l entries.old.items → IsSound l entries.new.items }
 {
     reach(entries, at)?;
-    entries[at] = entry;
+    entries[at] = CellEntry::Plain;
     Ok(())
 }
 
 // Makes room for what is kept of the cell at a place; of those that are not read nothing is kept.
+#[inline(always)]
 fn reach(entries: &mut Vec<CellEntry>, at: usize) -> Result<(), Memory>
-    requires small { at < 2 ^ 32 }
+    requires small { at + 1 < 2 ^ 32 }
     ensures long { OnOk result (at < length entries.new.items) }
     ensures same { (l : Lists) (i : ℕ) → said_at l entries.new.items i ≡ said_at l entries.old.items i }
-    ensures within { (l : Lists) → AllByRecursion (IsListed l) entries.old.items → AllByRecursion (IsListed l) entries.new.items }
+    ensures sound { (l : Lists) → IsSound l entries.old.items → IsSound l entries.new.items }
 {
     for _next in entries.as_slice().len()..at + 1 {
         let Ok(()) = push(entries, CellEntry::Unread) else {

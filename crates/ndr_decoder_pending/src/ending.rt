@@ -1,7 +1,8 @@
 // Where homes end.
-ghost use Rattle.std.specs.Prelude.{◌≡◌, ◌<◌, OnOk, IfOk, IfErr};
+ghost use Rattle.std.specs.Prelude.{◌≡◌, ◌<◌, None, OnOk, IfOk, IfErr};
 ghost use Rattle.ndr_decoder_state.specs.declared.fault.DecodeFault.TheVariants as fault;
 ghost use Rattle.ndr_decoder_pending.specs.Entries.{counts_kept, plain};
+ghost use Rattle.ndr_decoder_laws.specs.stream.Between.{kept_at};
 ghost use Rattle.ndr_decoder_pending.specs.Seen.{CellEnds, CellPassed, HasOwn, ReferenceEnds, RootEnds};
 
 use crate::Stream;
@@ -27,10 +28,11 @@ impl Stream {
         Ok(())
     }
 
-    /// Keeps the cell whose value was read, and gives what is kept of it. Its pointers are not pending yet. It takes memory, and out of memory is the only
+    /// Keeps the cell whose value was read now, and gives what is kept of it. Its pointers are not pending yet. It takes memory, and out of memory is the only
     /// refusal.
     pub fn end_cell(&mut self, cell: CellId) -> Result<Kept, DecodeFault>
         requires there { 0 < cell.0 }
+        requires unread { kept_at self.old.cells.items cell.0 ≡ None }
         ensures own { IfOk result (λ k. HasOwn self.old.machine k) }
         ensures ends { IfOk result (λ k. CellEnds cell.0 k self.old self.new) }
         ensures memory { IfErr result (λ e. e ≡ fault.Memory) }
@@ -40,10 +42,11 @@ impl Stream {
         Ok(kept)
     }
 
-    /// Keeps the cell whose value was read, as `end_cell` does, where nobody asks at once what is kept of it.
+    /// Keeps the cell whose value was read now, as `end_cell` does, where nobody asks at once what is kept of it.
     #[inline(always)]
     pub fn pass_cell(&mut self, cell: CellId) -> Result<(), Memory>
         requires there { 0 < cell.0 }
+        requires unread { kept_at self.old.cells.items cell.0 ≡ None }
         ensures ends { OnOk result (CellPassed cell.0 self.old self.new) }
     {
         if is_plain_home(&self.machine) {
@@ -70,6 +73,7 @@ impl Stream {
     #[inline(always)]
     fn pass_counted(&mut self, cell: CellId, counts: Counts) -> Result<(), Memory>
         requires there { 0 < cell.0 }
+        requires unread { kept_at self.old.cells.items cell.0 ≡ None }
         requires own { HasOwn self.old.machine (counts_kept counts) }
         ensures ends { OnOk result (CellPassed cell.0 self.old self.new) }
     {
@@ -81,6 +85,7 @@ impl Stream {
     #[inline(never)]
     fn pass_other(&mut self, cell: CellId) -> Result<(), Memory>
         requires there { 0 < cell.0 }
+        requires unread { kept_at self.old.cells.items cell.0 ≡ None }
         ensures ends { OnOk result (CellPassed cell.0 self.old self.new) }
     {
         let kept = kept_home(&self.machine);
@@ -92,6 +97,7 @@ impl Stream {
     /// the only refusal.
     pub fn end_reference(&mut self, cell: CellId) -> Result<(), DecodeFault>
         requires there { 0 < cell.0 }
+        requires unread { kept_at self.old.cells.items cell.0 ≡ None }
         ensures ends { OnOk result (ReferenceEnds cell self.old self.new) }
         ensures memory { IfErr result (λ e. e ≡ fault.Memory) }
     {

@@ -77,9 +77,10 @@ impl Stream {
         self.cells.get(cell.0 as usize - 1)
     }
 
-    /// Keeps what is needed of a cell that was read. It takes memory, and out of memory is the only refusal.
+    /// Keeps what is needed of a cell that was read now. It takes memory, and out of memory is the only refusal.
     pub fn keep_cell(&mut self, cell: CellId, kept: Kept) -> Result<(), Memory>
         requires there { 0 < cell.0 }
+        requires unread { kept_at self.old.cells.items cell.0 ≡ None }
         ensures kept { OnOk result (CellKept cell.0 kept self.old.cells.items self.new.cells.items) }
         ensures others { KeepsOthers self.old self.new }
     {

@@ -1,5 +1,5 @@
 // Room for what is read.
-ghost use Rattle.std.specs.Prelude.{◌≡◌};
+ghost use Rattle.std.specs.Prelude.{◌≡◌, ◌≤◌};
 ghost use Rattle.ndr_decoder_pending.specs.Seen.{IsSame};
 
 use crate::KeptCells;
@@ -17,20 +17,42 @@ pub(crate) fn make_room(machine: &mut Machine, cells: &mut KeptCells, ahead: usi
     ensures cells { cells.new ≡ cells.old }
 {
     let read = cells.len().max(1);
-    let wide = (machine.at as usize / read).max(1);
-    let coming = (ahead / wide).min(read.saturating_mul(8));
+    let coming = cells_for(machine, read, ahead);
     let unread = (machine.cells as usize).saturating_sub(read);
     let more = coming.saturating_add(unread);
     if more < read {
         return;
     }
-    let nodes = more
-        .saturating_mul((machine.count as usize).min(16))
-        .min(ahead);
-    let octets = more.saturating_mul(actual_count(machine)).min(ahead);
+    let nodes = nodes_for(machine, more, ahead);
+    let octets = octets_for(machine, more, ahead);
     machine.builder.make_room(nodes, coming);
     machine.builder.make_room_for_octets(octets);
     cells.make_room(more);
+}
+
+// How many cells the octets at hand may give, after so many that were read.
+fn cells_for(machine: &Machine, read: usize, ahead: usize) -> usize
+    requires { 0 < read }
+    ensures at_hand { result ≤ ahead }
+{
+    let wide = (machine.at as usize / read).max(1);
+    (ahead / wide).min(read.saturating_mul(8))
+}
+
+// How many nodes the octets at hand may give in so many cells.
+fn nodes_for(machine: &Machine, cells: usize, ahead: usize) -> usize
+    ensures at_hand { result ≤ ahead }
+{
+    cells
+        .saturating_mul((machine.count as usize).min(16))
+        .min(ahead)
+}
+
+// How many octets of texts are at hand for so many cells.
+fn octets_for(machine: &Machine, cells: usize, ahead: usize) -> usize
+    ensures at_hand { result ≤ ahead }
+{
+    cells.saturating_mul(actual_count(machine)).min(ahead)
 }
 
 // The actual count of the home that was read last; 0 if it has none.

@@ -85,6 +85,7 @@ pub fn read_row<L: Ledger>(
 // already. So the list grows by half at least where it is moved, and the time stays linear.
 fn room_for(machine: &Machine, count: u32, prim: Prim, ahead: usize) -> usize
     requires { 0 < count }
+    ensures at_hand { result ≤ ahead }
 {
     let Frame::Elements {
         left,

@@ -1,6 +1,7 @@
 -- Octets that are given to an end piece by piece.
 -- `at` is the number of the end, `done` what it has taken, `rest` what is due, `e` an end.
-use Rattle.std.proofs.Common.{◌≡◌, ◌∙◌, ap, sym, refl, subst, ℕ, zero, suc, List, [], ◌∷◌, ◌++◌, take, drop, length, Option, option_map, Some, None, slice_set, ◌+◌, ◌<◌, ◌≤◌, Result, Ok, Err, arith, add-one, append_assoc}
+use Rattle.std.proofs.Common.{◌≡◌, ◌∙◌, ap, sym, refl, subst, ℕ, zero, suc, List, [], ◌∷◌, ◌++◌, take, drop, length, Option, option_map, Some, None, slice_set, ◌+◌, ◌<◌, ◌≤◌, Result, Ok, Err, arith}
+use Rattle.std.proofs.Common.{add-one, append_assoc}
 use Rattle.std.specs.List.{slice_get}
 use Rattle.std.specs.Result.{IsErrAnd}
 use Rattle.std.specs.Io.KnownBytes.{append_known}

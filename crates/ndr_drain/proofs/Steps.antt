@@ -28,7 +28,8 @@ all_sound table t [] a = tt
 all_sound table t (v ∷ vs) a = (sound_nodes table no_graph (home_nodes table t v) a.0.local, all_sound table t vs a.1)
 
 -- the elements of a chunk, by the table and the type with which they are printed
-pub sound_for : (w : Setting) (types : Table) (r of : ℕ) (vs : List Tree) → w.table ≡ types → of ≡ elem_at w r → AllByRecursion (IsElement w.table (elem_at w r)) vs → AllByRecursion (IsSound types of) vs
+pub sound_for : (w : Setting) (types : Table) (r of : ℕ) (vs : List Tree) → w.table ≡ types → of ≡ elem_at w r → AllByRecursion (IsElement w.table (elem_at w r)) vs
+    → AllByRecursion (IsSound types of) vs
 sound_for w types r of vs same e a =
     let T : Table → Type 0 = λ t. AllByRecursion (IsSound t of) vs in
     let N : ℕ → Type 0 = λ n. AllByRecursion (IsSound w.table n) vs in
@@ -43,20 +44,23 @@ lines_after : (w : Setting) (i : IntakeSeen) (vs : List Tree) (which : ℕ) (end
 lines_after w i [] which ends ends_now h e g = absurd (none_long h)
 lines_after w i (v ∷ vs) which ends ends_now h e g = g ∙ ap (λ n. change_at n (with_octets (chunk_lines w i.spot (v ∷ vs))) ends) e
 
-pub given : (w : Setting) (types : Table) → w.table ≡ types → (i now : IntakeSeen) (s : SourceSeen) (t : DecodingSeen) (vs : List Tree) (which of : ℕ) (ends ends_now : List EndSeen) → IsAnswered w s t i now (Some vs)
+pub given : (w : Setting) (types : Table) → w.table ≡ types → (i now : IntakeSeen) (s : SourceSeen) (t : DecodingSeen) (vs : List Tree) (which of : ℕ) (ends ends_now : List EndSeen)
+    → IsAnswered w s t i now (Some vs)
     → which ≡ end_of_root w i.spot.root → of ≡ elem_at w i.spot.root → ends_now ≡ change_at which (with_octets (lines types of vs)) ends
     → HasPassed w i now s (record { before = ends; now = ends_now }) t
 given w types same i now s t vs which of ends ends_now a e f g = record {
   elements = vs;
   read = a.0;
-  given = lines_after w i vs which ends ends_now a.1 e (g ∙ ap (λ (tb : Table). change_at which (with_octets (lines tb of vs)) ends) (sym same) ∙ ap (λ n. change_at which (with_octets (lines w.table n vs)) ends) f);
+  given = lines_after w i vs which ends ends_now a.1 e
+      (g ∙ ap (λ (tb : Table). change_at which (with_octets (lines tb of vs)) ends) (sym same) ∙ ap (λ n. change_at which (with_octets (lines w.table n vs)) ends) f);
 }
 
 pub finished : (w : Setting) (i now : IntakeSeen) (s : SourceSeen) (t : DecodingSeen) (which : ℕ) (ends ends_now : List EndSeen) → IsAnswered w s t i now None
     → which ≡ end_of_root w i.spot.root → ends_now ≡ change_at which ended ends → HasPassed w i now s (record { before = ends; now = ends_now }) t
 finished w i now s t which ends ends_now a e g = record { elements = []; read = a; given = g ∙ ap (λ n. change_at n ended ends) e }
 
-pub cut_lines : (w : Setting) (types : Table) → w.table ≡ types → (i now : IntakeSeen) (s : SourceSeen) (t : DecodingSeen) (vs : List Tree) (which of : ℕ) (ends ends_now : List EndSeen) → IsAnswered w s t i now (Some vs)
+pub cut_lines : (w : Setting) (types : Table) → w.table ≡ types → (i now : IntakeSeen) (s : SourceSeen) (t : DecodingSeen) (vs : List Tree) (which of : ℕ) (ends ends_now : List EndSeen)
+    → IsAnswered w s t i now (Some vs)
     → which ≡ end_of_root w i.spot.root → of ≡ elem_at w i.spot.root → AreCut ends ends_now which (lines types of vs) give.Memory
     → IsStepCause w i s (record { before = ends; now = ends_now }) t fault.Memory
 cut_lines w types same i now s t vs which of ends ends_now a e f (cut, g) = inr (record {
@@ -68,7 +72,8 @@ cut_lines w types same i now s t vs which of ends ends_now a e f (cut, g) = inr 
       ∙ ap (λ n. change_at n (with_octets (take cut (chunk_lines w i.spot vs))) ends) e;
 })
 
-pub end_failed : (w : Setting) (types : Table) → w.table ≡ types → (i now : IntakeSeen) (s : SourceSeen) (t : DecodingSeen) (vs : List Tree) (which of : ℕ) (ends ends_now : List EndSeen) → IsAnswered w s t i now (Some vs)
+pub end_failed : (w : Setting) (types : Table) → w.table ≡ types → (i now : IntakeSeen) (s : SourceSeen) (t : DecodingSeen) (vs : List Tree) (which of : ℕ) (ends ends_now : List EndSeen)
+    → IsAnswered w s t i now (Some vs)
     → which ≡ end_of_root w i.spot.root → of ≡ elem_at w i.spot.root → AreCut ends ends_now which (lines types of vs) give.End
     → IsStepCause w i s (record { before = ends; now = ends_now }) t (fault.EndFailed which)
 end_failed w types same i now s t vs which of ends ends_now a e f g = record {

@@ -396,7 +396,8 @@ module _ (w : Setting) (legal : IsLegalSide w) (b first : IntakeSeen) (l0 l1 l2 
               inr (inl (cut_in_chunk d.parts d.passed.read d.left d.consumed d.log d.steps (d.noted.logged, d.noted.stepped) d.faults (subst S d.passed.reached c.0) (c.1 ∙ d.passed.given)))
           by_place (inr c) =
               let S : Spot → Type 0 = λ s. HasChunk w (over d.left l2 e2 d.faults f2) (decoding_seen d.log g2 d.steps n2) (moved_to s d.count F) c.now c.elements in
-              let q = chunk_read d.parts d.passed.read d.left d.consumed d.log d.steps (d.noted.logged, d.noted.stepped) d.faults d.count c.now c.elements (subst S d.passed.reached c.read) d.ends d.passed.given in
+              let q = chunk_read d.parts d.passed.read d.left d.consumed d.log d.steps (d.noted.logged, d.noted.stepped) d.faults d.count c.now c.elements
+              (subst S d.passed.reached c.read) d.ends d.passed.given in
               let L : Spot → List Tree → List EndSeen = λ s vs. change_at (end_of_root w s.root) (with_octets (take c.cut (chunk_lines w s vs))) d.ends in
               inr (inr (record {
                 ends = d.ends;
@@ -412,11 +413,13 @@ module _ (w : Setting) (legal : IsLegalSide w) (b first : IntakeSeen) (l0 l1 l2 
           )
       at_spot (fault.Bad place why) d =
           let S : Spot → Type 0 = λ s. IsChunkRefused w b.order s (over d.left l2 e2 d.faults f2) place why (decoding_seen d.log g2 d.steps n2) in
-          inr (refused_in_chunk d.parts d.passed.read d.left d.consumed d.log d.steps (d.noted.logged, d.noted.stepped) d.faults place why (subst S d.passed.reached d.cause.0) (d.cause.1 ∙ d.passed.given))
+          inr (refused_in_chunk d.parts d.passed.read d.left d.consumed d.log d.steps (d.noted.logged, d.noted.stepped) d.faults place why (subst S d.passed.reached d.cause.0)
+          (d.cause.1 ∙ d.passed.given))
       at_spot (fault.EndFailed which) d =
           let c = d.cause in
           let S : Spot → Type 0 = λ s. HasChunk w (over d.left l2 e2 d.faults f2) (decoding_seen d.log g2 d.steps n2) (moved_to s d.count F) c.now c.elements in
-          let q = chunk_read d.parts d.passed.read d.left d.consumed d.log d.steps (d.noted.logged, d.noted.stepped) d.faults d.count c.now c.elements (subst S d.passed.reached c.read) d.ends d.passed.given in
+          let q = chunk_read d.parts d.passed.read d.left d.consumed d.log d.steps (d.noted.logged, d.noted.stepped) d.faults d.count c.now c.elements
+          (subst S d.passed.reached c.read) d.ends d.passed.given in
           let L : List ℕ → Type 0 = λ l. FailsAt d.ends last which l in
           record {
             ends = d.ends;

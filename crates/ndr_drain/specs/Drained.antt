@@ -20,8 +20,8 @@ use Rattle.ndr_drain.specs.declared.fault.DrainFault.TheVariants.{Memory, ReadFa
 
 -- ## Where all was read
 
--- The octets were decoded to a graph, as `decode` decodes them: it conforms, is its own canonical form, and is the only one that they represent; its items and cells
--- were logged and counted. What is kept is that graph with every pipe empty. Each end took the lines of its pipe and is finished.
+-- The octets were decoded to a graph, as `decode` decodes them: it conforms, is its own canonical form, and is the only one that they represent; its
+-- items and cells were logged and counted. What is kept is that graph with every pipe empty. Each end took the lines of its pipe and is finished.
 pub record IsDrained (w : Setting) (order : Order) (s : SourceSeen) (e : EndsSeen) (t : DecodingSeen) (taken : ℕ) (kept : Graph) : Type 0 where
   pub graph : Graph
   pub decoded : IsDecoded w order s taken graph t
@@ -109,7 +109,8 @@ pub record IsCutInLines (w : Setting) (order : Order) (s : SourceSeen) (e : Ends
   pub ends : List EndSeen
   pub chunk_read : IsChunkRead w order s t e.before ends
   pub cut : ℕ
-  pub given : e.now ≡ change_at (end_of_root w chunk_read.spot.root) (with_octets (take cut (chunk_lines w chunk_read.spot chunk_read.chunk.elements))) ends
+  pub given : e.now
+      ≡ change_at (end_of_root w chunk_read.spot.root) (with_octets (take cut (chunk_lines w chunk_read.spot chunk_read.chunk.elements))) ends
 
 -- The end of its pipe failed at its lines, or where it was to be finished, as the chunk was the last. The ends after that are as before.
 pub record HasEndFailed (w : Setting) (order : Order) (s : SourceSeen) (e : EndsSeen) (t : DecodingSeen) (which : ℕ) : Type 0 where

@@ -129,7 +129,8 @@ pub record StopsUnderWay (w : Setting) (first : IntakeSeen) (s : SourceSeen) (e 
   pub noted : AreNoted w first.order first.spot parts (record { log = t.log; log_now = log; steps = t.steps; steps_now = steps })
   pub faults : ℕ
   pub no_fewer : s.faults.before ≤ faults
-  pub cause : IsStepCause w (moved_to spot count first) (record { left = left; left_now = s.left_now; ended = s.ended; faults = record { before = faults; now = s.faults.now } })
+  pub cause : IsStepCause w (moved_to spot count first)
+      (record { left = left; left_now = s.left_now; ended = s.ended; faults = record { before = faults; now = s.faults.now } })
       (record { before = ends; now = e.now }) (record { log = log; log_now = t.log_now; steps = steps; steps_now = t.steps_now }) fault
 
 -- All pipes were read and given; this is the graph that is kept, and so many octets were taken.

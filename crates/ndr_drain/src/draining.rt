@@ -39,29 +39,29 @@ pub struct Drained {
     pub taken: u32,
 }
 
-/// Reads a stream of a side of an operation from the octets that a source has left (C706, chapter 14), and gives its pipes to ends: the i-th pipe to the
-/// i-th end. Each element is one line, the text of its value and a line feed. The lines of a chunk are given once the chunk is whole, before the next
-/// count is read; after the end of a pipe its end is finished. So no more than one chunk is held at a time. The rest of the graph is kept.
+/// Reads a stream of a side of an operation from the octets that a source has left (C706, chapter 14), and gives its pipes to ends: the i-th pipe to
+/// the i-th end. Each element is one line, the text of its value and a line feed. The lines of a chunk are given once the chunk is whole, before the
+/// next count is read; after the end of a pipe its end is finished. So no more than one chunk is held at a time. The rest of the graph is kept.
 ///
-/// The interface must be that of the plan, `op` the number of one of its operations, and no end be finished. A request that is given beside a response must be
-/// one of the same operation and interface: then attributes whose variable travels in the request alone are checked against it.
+/// The interface must be that of the plan, `op` the number of one of its operations, and no end be finished. A request that is given beside a
+/// response must be one of the same operation and interface: then attributes whose variable travels in the request alone are checked against it.
 ///
-/// At `Ok` the octets taken represent a graph that conforms, as `decode` answers it: it is the only one that they represent. What is kept is that graph with
-/// its pipes empty. Each end took the lines of its pipe and is finished; an end without a pipe is as before.
+/// At `Ok` the octets taken represent a graph that conforms, as `decode` answers it: it is the only one that they represent. What is kept is that
+/// graph with its pipes empty. Each end took the lines of its pipe and is finished; an end without a pipe is as before.
 ///
 /// # Errors
-/// `TooFewEnds` exactly where the side has more pipes than there are ends, before anything is fetched or given. `Bad` and `ReadFault` as of `decode`: before the
-/// pipes, where nothing was given; or in a chunk, which is not whole: then each end took exactly the lines of the chunks before it, and is finished if the end of its
-/// pipe was read. `EndFailed` names the end of the
-/// pipe that was read, whose count of faults rose; it took the lines of the whole chunks before, and then a prefix of those of the chunk with which the octets fetched end;
-/// the ends before it are finished, and those after it are as before. After `Memory` the end of the pipe that was read took besides whole chunks at most a prefix of the lines of
-/// the next, and is not finished. At every answer but `EndFailed` the counts of faults of all ends are as before, then those of the others.
+/// `TooFewEnds` exactly where the side has more pipes than there are ends, before anything is fetched or given. `Bad` and `ReadFault` as of `decode`:
+/// before the pipes, where nothing was given; or in a chunk, which is not whole: then each end took exactly the lines of the chunks before it, and is
+/// finished if the end of its pipe was read. `EndFailed` names the end of the pipe that was read, whose count of faults rose; it took the lines of
+/// the whole chunks before, and then a prefix of those of the chunk with which the octets fetched end; the ends before it are finished, and those
+/// after it are as before. After `Memory` the end of the pipe that was read took besides whole chunks at most a prefix of the lines of the next, and
+/// is not finished. At every answer but `EndFailed` the counts of faults of all ends are as before, then those of the others.
 ///
-/// A log that keeps items gets those of the pipes too. `steps` counts each item but the gaps, and each cell of what is kept: never more than the octets fetched and the
-/// roots.
+/// A log that keeps items gets those of the pipes too. `steps` counts each item but the gaps, and each cell of what is kept: never more than the
+/// octets fetched and the roots.
 ///
-/// Octets are asked for only once the value must have them. The time is linear in the octets fetched and the lines. It takes memory for what is kept, and for one
-/// chunk and one line at a time.
+/// Octets are asked for only once the value must have them. The time is linear in the octets fetched and the lines. It takes memory for what is kept,
+/// and for one chunk and one line at a time.
 pub fn drain<S: Source, L: Ledger>(
     alloc: Global,
     interface: &Interface,
@@ -80,15 +80,18 @@ pub fn drain<S: Source, L: Ledger>(
     requires request { IsRequestOf interface.now op side (option_map (λ f. f.now) given) }
     requires open { AreOpen (ends_seen seen ends.old) }
     ensures drained { IfOk result (λ d. (o : Operation) → slice_get interface.now.operations op ≡ Some o
-        → IsDrained (setting_beside interface.now o side (option_map (λ f. f.now.graph) given.entry)) order (source_seen S.left S.ended S.faults source.old source.new)
+        → IsDrained (setting_beside interface.now o side (option_map (λ f. f.now.graph) given.entry)) order
+        (source_seen S.left S.ended S.faults source.old source.new)
         (ends_over seen ends.old ends.new) (decoding_seen items.old items.new (L.number steps.old) (L.number steps.new)) d.taken d.fit.graph) }
     ensures of { IfOk result (λ d. (d.fit.op ≡ op) × (d.fit.side ≡ side) × (d.fit.interface ≡ interface.now)) }
     ensures beside { IfOk result (λ d. d.fit.given ≡ option_map (λ f. f.now.graph) given.entry) }
     ensures cause { IfErr result (λ f. (o : Operation) → slice_get interface.now.operations op ≡ Some o
-        → IsDrainCause (setting_beside interface.now o side (option_map (λ f. f.now.graph) given.entry)) order (source_seen S.left S.ended S.faults source.old source.new)
+        → IsDrainCause (setting_beside interface.now o side (option_map (λ f. f.now.graph) given.entry)) order
+        (source_seen S.left S.ended S.faults source.old source.new)
         (ends_over seen ends.old ends.new) (decoding_seen items.old items.new (L.number steps.old) (L.number steps.new)) f) }
     ensures enough { (o : Operation) → slice_get interface.now.operations op ≡ Some o
-        → length (ends_seen seen ends.old) < pipe_count (setting_beside interface.now o side (option_map (λ f. f.now.graph) given.entry)) → MatchResult result (λ _. ⊥) IsTooFewEnds }
+        → length (ends_seen seen ends.old) < pipe_count (setting_beside interface.now o side (option_map (λ f. f.now.graph) given.entry))
+        → MatchResult result (λ _. ⊥) IsTooFewEnds }
     ensures later { S.faults source.old ≤ S.faults source.new }
 {
     drain_over(
@@ -115,15 +118,18 @@ pub fn drain_over<S: Source, L: Ledger, E: PipeEnd>(
     requires request { IsRequestOf interface.now op side (option_map (λ f. f.now) given) }
     requires open { AreOpen (ends_seen E.seen ends.old) }
     ensures drained { IfOk result (λ d. (o : Operation) → slice_get interface.now.operations op ≡ Some o
-        → IsDrained (setting_beside interface.now o side (option_map (λ f. f.now.graph) given.entry)) order (source_seen S.left S.ended S.faults source.old source.new)
+        → IsDrained (setting_beside interface.now o side (option_map (λ f. f.now.graph) given.entry)) order
+        (source_seen S.left S.ended S.faults source.old source.new)
         (ends_over E.seen ends.old ends.new) (decoding_seen items.old items.new (L.number steps.old) (L.number steps.new)) d.taken d.fit.graph) }
     ensures of { IfOk result (λ d. (d.fit.op ≡ op) × (d.fit.side ≡ side) × (d.fit.interface ≡ interface.now)) }
     ensures beside { IfOk result (λ d. d.fit.given ≡ option_map (λ f. f.now.graph) given.entry) }
     ensures cause { IfErr result (λ f. (o : Operation) → slice_get interface.now.operations op ≡ Some o
-        → IsDrainCause (setting_beside interface.now o side (option_map (λ f. f.now.graph) given.entry)) order (source_seen S.left S.ended S.faults source.old source.new)
+        → IsDrainCause (setting_beside interface.now o side (option_map (λ f. f.now.graph) given.entry)) order
+        (source_seen S.left S.ended S.faults source.old source.new)
         (ends_over E.seen ends.old ends.new) (decoding_seen items.old items.new (L.number steps.old) (L.number steps.new)) f) }
     ensures enough { (o : Operation) → slice_get interface.now.operations op ≡ Some o
-        → length (ends_seen E.seen ends.old) < pipe_count (setting_beside interface.now o side (option_map (λ f. f.now.graph) given.entry)) → MatchResult result (λ _. ⊥) IsTooFewEnds }
+        → length (ends_seen E.seen ends.old) < pipe_count (setting_beside interface.now o side (option_map (λ f. f.now.graph) given.entry))
+        → MatchResult result (λ _. ⊥) IsTooFewEnds }
     ensures later { S.faults source.old ≤ S.faults source.new }
 {
     let Ok(mut intake) = Intake::begin(alloc, plan, op, side, order) else {
@@ -178,12 +184,16 @@ fn drain_rest<S: Source, L: Ledger, E: PipeEnd>(
     requires enough { length types.now ≤ length (ends_seen E.seen ends.old) }
     requires few { length types.now < 2 ^ 32 }
     ensures read { IfOk result (λ d. OfSetting (intake_seen intake.entry) (λ w. IsReadToEnd w (intake_seen intake.entry)
-        (source_seen S.left S.ended S.faults source.old source.new) (ends_over E.seen ends.old ends.new) (decoding_seen items.old items.new (L.number steps.old) (L.number steps.new))
+        (source_seen S.left S.ended S.faults source.old source.new) (ends_over E.seen ends.old ends.new)
+        (decoding_seen items.old items.new (L.number steps.old) (L.number steps.new))
         d.fit.graph d.taken)) }
-    ensures of { IfOk result (λ d. (d.fit.op ≡ (intake_seen intake.entry).op) × (d.fit.side ≡ (intake_seen intake.entry).side) × (d.fit.interface ≡ (intake_seen intake.entry).interface)) }
+    ensures of { IfOk result
+        (λ d. (d.fit.op ≡ (intake_seen intake.entry).op) × (d.fit.side ≡ (intake_seen intake.entry).side)
+        × (d.fit.interface ≡ (intake_seen intake.entry).interface)) }
     ensures beside { IfOk result (λ d. d.fit.given ≡ (intake_seen intake.entry).given) }
     ensures cause { IfErr result (λ f. OfSetting (intake_seen intake.entry) (λ w. StopsUnderWay w (intake_seen intake.entry)
-        (source_seen S.left S.ended S.faults source.old source.new) (ends_over E.seen ends.old ends.new) (decoding_seen items.old items.new (L.number steps.old) (L.number steps.new)) f)) }
+        (source_seen S.left S.ended S.faults source.old source.new) (ends_over E.seen ends.old ends.new)
+        (decoding_seen items.old items.new (L.number steps.old) (L.number steps.new)) f)) }
     ensures later { S.faults source.old ≤ S.faults source.new }
 {
     let mut intake = intake;

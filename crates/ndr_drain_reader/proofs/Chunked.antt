@@ -98,7 +98,8 @@ module _ (i : Intake) (ready : IsReady i) (some : 0 < i.left) (o : Operation) (t
 
   pub nothing_read : (left : Option (List ℕ)) (ended : Bool) (faults : Count) (g : Logged) (steps : ℕ) → IsChunkCut its i.order spot (idle_source left ended faults) (idle_log g steps)
   nothing_read left ended faults g steps =
-      cut_counted its i.order spot (idle_source left ended faults) (idle_log g steps) [] [] (gap_cut its (side_legal i ready some o there) i.order spot (at_pipe i ready some o there) [] tt) (consumes_none left)
+      cut_counted its i.order spot (idle_source left ended faults) (idle_log g steps) [] [] (gap_cut its (side_legal i ready some o there) i.order spot (at_pipe i ready some o there) [] tt)
+      (consumes_none left)
       (none_noted (idle_log g steps) refl) (omega arith)
 
   abbrev pub at_chunk : (run : ℕ) → ElementsRun i.plan.now i.op i.side i.line (Some run) → (m : Machine) → IsOpened spot m → IsAtChunk i.plan.now run m
@@ -147,7 +148,8 @@ module _ (i : Intake) (ready : IsReady i) (some : 0 < i.left) (o : Operation) (t
       some_are = let a = x.as_many in omega (arith, a, is_more)
 
       -- the spot after elements
-      after_some : (vs : List Tree) → 1 ≤ length vs → after spot (record { octets = x.octets; elements = vs }) ≡ record { place = i.at + length x.octets; root = i.root; node = i.node + node_count (trees vs) }
+      after_some : (vs : List Tree) → 1 ≤ length vs
+          → after spot (record { octets = x.octets; elements = vs }) ≡ record { place = i.at + length x.octets; root = i.root; node = i.node + node_count (trees vs) }
       after_some [] l = absurd (omega (arith, l))
       after_some (v ∷ vs) l = refl
 

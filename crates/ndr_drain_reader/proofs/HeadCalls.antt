@@ -63,7 +63,8 @@ HeadFaultsLaw =
 -- a fault has its cause
 module _ (law : HeadFaultsLaw) (w : Setting) (legal : IsLegalSide w) (order : Order) (a : SourceSeen) (t : DecodingSeen) where
   -- where the head is refused, so is the stream, after the same entries
-  abbrev of_stream : (octets : List ℕ) (noted : List Item) (n place : ℕ) (why : Reason) → StreamRefused the_head w order octets noted n place why → StreamRefused the_stream w order octets noted n place why
+  abbrev of_stream : (octets : List ℕ) (noted : List Item) (n place : ℕ) (why : Reason) → StreamRefused the_head w order octets noted n place why
+      → StreamRefused the_stream w order octets noted n place why
   of_stream octets noted n place why r = record {
     octets = r.octets;
     at = r.at;
@@ -119,7 +120,8 @@ module _ (law : HeadFaultsLaw) (w : Setting) (legal : IsLegalSide w) (order : Or
       by fault.Memory x = cut_so x
 
 -- memory fails after the head was read
-pub cut_after : (w : Setting) (legal : IsLegalSide w) (order : Order) (n : ℕ) (a : SourceSeen) (t : DecodingSeen) (y : Stream) → ReadTo w legal order n a t y → FaultOf the_head w order [] [] n a t fault.Memory
+pub cut_after : (w : Setting) (legal : IsLegalSide w) (order : Order) (n : ℕ) (a : SourceSeen) (t : DecodingSeen) (y : Stream) → ReadTo w legal order n a t y
+    → FaultOf the_head w order [] [] n a t fault.Memory
 cut_after w legal order n a t y r =
     let follows : Follows a (idle_source a.left_now a.ended a.faults) a t (idle_log t.log_now t.steps_now) t = record {
       before = refl;
@@ -135,7 +137,8 @@ cut_after w legal order n a t y r =
     } in
     let none : a.faults.before ≤ a.faults.before = omega arith in
     then_fault w legal order [] [] n a (idle_source a.left_now a.ended a.faults) a t (idle_log t.log_now t.steps_now) t follows r.octets r.items (cells_of y) r.took the_head none refl fault.Memory
-    (cut_off_here a.left_now a.ended a.faults t.log_now t.steps_now w legal order r.octets r.items r.direct (between_of y) r.s r.seen [] 0 (cells_of y) (sym (types_length y.machine.builder)) r.stands.agrees)
+    (cut_off_here a.left_now a.ended a.faults t.log_now t.steps_now w legal order r.octets r.items r.direct (between_of y) r.s r.seen [] 0 (cells_of y)
+    (sym (types_length y.machine.builder)) r.stands.agrees)
 
 -- what is built for a purpose is a fit
 abbrev fit_for : Graph → Purpose → Fitting

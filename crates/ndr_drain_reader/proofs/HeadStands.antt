@@ -88,7 +88,8 @@ module _ (w : Setting) (legal : IsLegalSide w) (i : IntakeSeen) (n0 : ℕ) (a : 
   graph_is : head_graph w i.order r.octets ≡ with_empty many (closed x.machine.builder)
   graph_is = ap (graph_after w) roots_are ∙ sym (ap (with_empty many) keeps.graph)
 
-  pub reads_head : HeadsLaw → (k : ℕ) → k ≡ length (drop (before_pipes (root_list w)) (root_list w)) → (g : Graph) → g ≡ with_empty k (closed x.machine.builder) → HeadRead w i.order r.octets g r.hold.after
+  pub reads_head : HeadsLaw → (k : ℕ) → k ≡ length (drop (before_pipes (root_list w)) (root_list w)) → (g : Graph) → g ≡ with_empty k (closed x.machine.builder)
+      → HeadRead w i.order r.octets g r.hold.after
   reads_head law k e g f =
       let at : (head_tested w i.order r.octets).at ≡ length r.octets = ap (λ (p : Progress). p.at) tested_is ∙ sym ag.keeps.at in
       let h : HeadRead w i.order r.octets (head_graph w i.order r.octets) (head_tested w i.order r.octets).seen =

@@ -31,7 +31,8 @@ use Rattle.ndr_drain_laws.proofs.reader.Meeting.{count_cut, count_end, count_lon
 use Rattle.ndr_drain_reader.specs.Chunks.{Fills, FillsNot, FilledBad, FilledPart, FilledWhole, HasElements, IsOpened, TookOctets}
 
 -- what is right of a fault is right of the answer that hands it on
-pub handed_fault : (w : Setting) (order : Order) (spot : Spot) (s : SourceSeen) (t : DecodingSeen) (n : Machine) (r : Result ℕ DecodeFault) (e : DecodeFault) → IsErrAnd r (λ y. y ≡ e) → FillsNot w order spot s t e
+pub handed_fault : (w : Setting) (order : Order) (spot : Spot) (s : SourceSeen) (t : DecodingSeen) (n : Machine) (r : Result ℕ DecodeFault) (e : DecodeFault) → IsErrAnd r (λ y. y ≡ e)
+    → FillsNot w order spot s t e
     → Fills w order spot s t n r
 handed_fault w order spot s t n (Ok count) e is x = absurd is
 handed_fault w order spot s t n (Err y) e is x = subst (FillsNot w order spot s t) (sym is) x
@@ -213,7 +214,8 @@ module _ (w : Setting) (legal : IsLegalSide w) (order : Order) (spot : Spot) (pi
     header_noted = subst (λ z. HasNoted z t) header_are c.logged
 
     pub header_stepped : t.steps_now ≡ t.steps + length (but_gaps (header_items order spot c.gap_octets c.count_octets))
-    header_stepped = let one : length (but_gaps (header_items order spot c.gap_octets c.count_octets)) ≡ 1 = header_steps order spot c.gap_octets c.count_octets in let k : t.steps_now ≡ t.steps + 1 = c.steps in omega (arith, one, k)
+    header_stepped = let one : length (but_gaps (header_items order spot c.gap_octets c.count_octets)) ≡ 1 = header_steps order spot c.gap_octets c.count_octets in let k : t.steps_now ≡ t.steps + 1 =
+        c.steps in omega (arith, one, k)
 
     pub took_header : TookOctets s t (c.gap_octets ++ c.count_octets) (header_items order spot c.gap_octets c.count_octets)
     took_header = record { left = c.left; logged = header_noted; steps = (let k = header_stepped in omega (arith, k)) }

@@ -1,7 +1,8 @@
 -- The elements of a chunk that is read by itself.
 -- `m` is the machine before the chunk, `n` the one after its count, `o` the one at the beginning of its elements, `z` the one at their end; `a` and `d` are what was
 -- seen of the source, and of the log and the steps, over the count, `b` and `notes` over the elements, `s` and `t` over both. `suc k` is the count.
-use Rattle.std.proofs.Common.{◌≡◌, ◌≤◌, ◌<◌, ◌-◌, ◌⊎◌, inl, inr, ℕ, ◌+◌, suc, pos, Bool, true, false, List, [], ◌∷◌, ◌++◌, length, map, Some, None, refl, ap, ap₂, sym, ◌∙◌, subst, append_assoc, length-append, arith}
+use Rattle.std.proofs.Common.{◌≡◌, ◌≤◌, ◌<◌, ◌-◌, ◌⊎◌, inl, inr, ℕ, ◌+◌, suc, pos, Bool, true, false, List, [], ◌∷◌, ◌++◌, length, map, Some, None, refl, ap, ap₂, sym, ◌∙◌, subst, append_assoc}
+use Rattle.std.proofs.Common.{length-append, arith}
 use Rattle.std.specs.Prelude.{if◌then◌else◌, not, cond}
 use Rattle.std.specs.Io.KnownBytes.{Consumes, IsAtEnd}
 use Rattle.std.proofs.KnownBytes.{Consumes-trans}
@@ -149,7 +150,8 @@ no_cells m e = empty m.builder.graph.cells (sym (length-map m.builder.graph.cell
 one_tree : (v : Tree) (ks : Trees) → v ≡ node tree.Pipe ks → flat (more v none) ≡ flat (more (node tree.Pipe (trees (items ks))) none)
 one_tree v ks e = ap (λ u. flat (more u none)) (e ∙ ap (node tree.Pipe) (sym (trees-items ks)))
 
-module _ (plan : Plan) (w : Setting) (legal : IsLegalSide w) (order : Order) (spot : Spot) (pipe : IsAtPipe w spot) (elem : TypeId) (run : ℕ) (by_plan : IsPipeBy plan w (type_of_root w spot.root) elem run)
+module _ (plan : Plan) (w : Setting) (legal : IsLegalSide w) (order : Order) (spot : Spot) (pipe : IsAtPipe w spot) (elem : TypeId) (run : ℕ)
+    (by_plan : IsPipeBy plan w (type_of_root w spot.root) elem run)
     (m : Machine) (opened : IsOpened spot m) (a : SourceSeen) (d : DecodingSeen) (n : Machine) (count : ℕ) (c : ChunkCounted order m n a d count) (k : ℕ) (some : count ≡ suc k) where
   abbrev g : List ℕ
   g = c.gap_octets
@@ -207,9 +209,25 @@ module _ (plan : Plan) (w : Setting) (legal : IsLegalSide w) (order : Order) (sp
   begun_part =
       let x : State = opening (place_at w.table elem.0) k (after_count spot) in
       let open_at : OpensPart (place_at w.table elem.0) k (after_count spot) x =
-      record { pc = refl; phase = refl; place = refl; max = refl; max_at = refl; top = refl; stack = refl; nodes = refl; own = refl; members = refl; firsts = refl; fresh = refl; cells = refl; numbers = refl } in
+      record {
+        pc = refl;
+        phase = refl;
+        place = refl;
+        max = refl;
+        max_at = refl;
+        top = refl;
+        stack = refl;
+        nodes = refl;
+        own = refl;
+        members = refl;
+        firsts = refl;
+        fresh = refl;
+        cells = refl;
+        numbers = refl;
+      } in
       let there : Good order (f0 ++ []) plan.code w.table h own 33 (n0 ++ []) 0 target x =
-      subst (λ z. Good order z plan.code w.table h own 33 (n0 ++ []) 0 target x) (sym (append-nil f0)) (subst (λ z. Good order f0 plan.code w.table h own 33 z 0 target x) (sym (append-nil n0)) (good x open_at)) in
+      subst (λ z. Good order z plan.code w.table h own 33 (n0 ++ []) 0 target x) (sym (append-nil f0))
+      (subst (λ z. Good order f0 plan.code w.table h own 33 z 0 target x) (sym (append-nil n0)) (good x open_at)) in
       let cut : PartCut w order spot ((c.gap_octets ++ c.count_octets) ++ ([] ++ [])) (n0 ++ []) = (cut_at [] [] tt tt [] x there).0 in
       record {
         octets = c.gap_octets ++ c.count_octets;
@@ -220,7 +238,8 @@ module _ (plan : Plan) (w : Setting) (legal : IsLegalSide w) (order : Order) (sp
 
   -- ## Their beginning
 
-  module _ (moved : HasMoved m n) (o : Machine) (begins : BeginsElements run (count - 1) (raised count n.builder.nodes) (state_of n) (state_of o)) (built : o.builder ≡ with_nodes (raised count n.builder.nodes) n.builder) (at_home : o.home ≡ n.home) where
+  module _ (moved : HasMoved m n) (o : Machine) (begins : BeginsElements run (count - 1) (raised count n.builder.nodes) (state_of n) (state_of o))
+      (built : o.builder ≡ with_nodes (raised count n.builder.nodes) n.builder) (at_home : o.home ≡ n.home) where
     less : count - 1 ≡ k
     less = omega (arith, some)
 
@@ -295,7 +314,8 @@ module _ (plan : Plan) (w : Setting) (legal : IsLegalSide w) (order : Order) (sp
           → IsLogged e.noted (state_of o) e.s notes → (why ≡ reason.Truncated → b.ended ≡ true) → (why ≡ reason.Truncated → IsAtEnd b.left_now) → FilledBad w order spot s t place why
       bad_of e place why here needs (log, steps) ended at_end =
           let (part, clear) =
-          elements_refused w legal order spot pipe elem by_plan.there c.gap_octets c.count_octets gall gsize oall c.size near k (c.value ∙ some) (e.fetched ++ e.os) (all_of e) e.noted (length e.s.cells) place why here needs in
+          elements_refused w legal order spot pipe elem by_plan.there c.gap_octets c.count_octets gall gsize oall c.size near k (c.value ∙ some) (e.fetched ++ e.os) (all_of e) e.noted
+          (length e.s.cells) place why here needs in
           record {
             octets = (c.gap_octets ++ c.count_octets) ++ (e.fetched ++ e.os);
             noted = n0 ++ e.noted;
@@ -310,7 +330,8 @@ module _ (plan : Plan) (w : Setting) (legal : IsLegalSide w) (order : Order) (sp
       unread_of e cut (log, steps) =
           let octets : List ℕ = (c.gap_octets ++ c.count_octets) ++ (e.fetched ++ e.os) in
           let (part, clear) =
-          elements_refused w legal order spot pipe elem by_plan.there c.gap_octets c.count_octets gall gsize oall c.size near k (c.value ∙ some) (e.fetched ++ e.os) (all_of e) e.noted (length e.s.cells)
+          elements_refused w legal order spot pipe elem by_plan.there c.gap_octets c.count_octets gall gsize oall c.size near k (c.value ∙ some) (e.fetched ++ e.os) (all_of e) e.noted
+          (length e.s.cells)
           (e.s.at + length e.os) reason.Truncated
           (cut_end plan.values order plan.code w.table h own 33 0 target planned f0 n0 (state_of o) g0 e.fetched e.noted e.s e.reached e.i e.there e.os cut) (needed_of e (inr cut)) in
           let place : e.s.at + length e.os ≡ length (f0 ++ (e.fetched ++ e.os)) = cut_place plan.values order plan.code w.table h own 33 0 target planned f0 n0 (state_of o) g0 b notes e cut in
@@ -343,13 +364,16 @@ module _ (plan : Plan) (w : Setting) (legal : IsLegalSide w) (order : Order) (sp
       bad_comes s1 place reason.TooLong (e, (long, (nothing, (is, logged)))) =
           let same : e.fetched ++ e.os ≡ e.fetched = ap (λ z. e.fetched ++ z) nothing ∙ append-nil e.fetched in
           let needs : AreNeeded target f0 e.fetched =
-          λ part last u. let x : IsShort target (f0 ++ part) = needed_along plan.values order plan.code w.table h own 33 0 target planned f0 n0 (state_of o) g0 e.reached part last u in (x.0, x.1.0, x.1.1) in
+          λ part last u. let x : IsShort target (f0 ++ part) =
+          needed_along plan.values order plan.code w.table h own 33 0 target planned f0 n0 (state_of o) g0 e.reached part last u in (x.0, x.1.0, x.1.1) in
           subst (λ z. FilledBad w order spot s t z reason.TooLong) (sym is)
-          (bad_of e STREAM_LIMIT reason.TooLong (long_end plan.values order plan.code w.table h own 33 0 target planned f0 n0 (state_of o) g0 e.fetched e.noted e.s e.reached e.i e.there e.os long nothing)
+          (bad_of e STREAM_LIMIT reason.TooLong
+          (long_end plan.values order plan.code w.table h own 33 0 target planned f0 n0 (state_of o) g0 e.fetched e.noted e.s e.reached e.i e.there e.os long nothing)
           (subst (AreNeeded target f0) (sym same) needs) logged (λ u. not_cut u) (λ u. not_cut u))
       bad_comes s1 place reason.Truncated (e, (cut, (is, (ended, (at_end, logged))))) =
           subst (λ z. FilledBad w order spot s t z reason.Truncated) (sym is)
-          (bad_of e (e.s.at + length e.os) reason.Truncated (cut_end plan.values order plan.code w.table h own 33 0 target planned f0 n0 (state_of o) g0 e.fetched e.noted e.s e.reached e.i e.there e.os cut)
+          (bad_of e (e.s.at + length e.os) reason.Truncated
+          (cut_end plan.values order plan.code w.table h own 33 0 target planned f0 n0 (state_of o) g0 e.fetched e.noted e.s e.reached e.i e.there e.os cut)
           (needed_of e (inr cut)) logged (λ u. ended) (λ u. at_end))
       bad_comes s1 place reason.EnumValue x = step_refused place reason.EnumValue tt x
       bad_comes s1 place reason.PastBound x = step_refused place reason.PastBound tt x
@@ -361,13 +385,15 @@ module _ (plan : Plan) (w : Setting) (legal : IsLegalSide w) (order : Order) (sp
       bad_comes s1 place reason.OtherType x = step_refused place reason.OtherType tt x
       bad_comes s1 place (reason.Disagrees wanted found) x = step_refused place (reason.Disagrees wanted found) tt x
 
-      fault_here : s.faults.now ≡ b.faults.now → s.faults.before ≤ b.faults.before → (s1 : State) (e : DecodeFault) → EndsFault plan.values order plan.code h (state_of o) b notes s1 e → FillsNot w order spot s t e
+      fault_here : s.faults.now ≡ b.faults.now → s.faults.before ≤ b.faults.before → (s1 : State) (e : DecodeFault) → EndsFault plan.values order plan.code h (state_of o) b notes s1 e
+          → FillsNot w order spot s t e
       fault_here same low s1 (fault.Bad place why) x = bad_comes s1 place why x
       fault_here same low s1 fault.ReadFault ((e, (cut, logged)), risen) =
           (subst (λ z. Rose s.faults.before z) (sym same) (rose_later s.faults.before b.faults.before b.faults.now low risen), unread_of e cut logged)
       fault_here same low s1 fault.Memory (e, logged) = part_of e logged
 
-      pub fault_comes : s.faults.now ≡ b.faults.now → s.faults.before ≤ b.faults.before → (s1 : State) (e : DecodeFault) → EndsFault plan.values order plan.code o.home (state_of o) b notes s1 e → FillsNot w order spot s t e
+      pub fault_comes : s.faults.now ≡ b.faults.now → s.faults.before ≤ b.faults.before → (s1 : State) (e : DecodeFault) → EndsFault plan.values order plan.code o.home (state_of o) b notes s1 e
+          → FillsNot w order spot s t e
       fault_comes same low s1 e x = fault_here same low s1 e (subst (λ u. EndsFault plan.values order plan.code u (state_of o) b notes s1 e) at_root x)
 
       -- ## The end
@@ -410,7 +436,8 @@ module _ (plan : Plan) (w : Setting) (legal : IsLegalSide w) (order : Order) (sp
             let x : length (f0 ++ read.octets) ≡ length f0 + length read.octets = length-append f0 read.octets in
             let y : length f0 ≡ length (before_place spot) + length (c.gap_octets ++ c.count_octets) = length-append (before_place spot) (c.gap_octets ++ c.count_octets) in
             let i : length (before_place spot) ≡ spot.place = length-replicate spot.place 0 in
-            let j : length ((c.gap_octets ++ c.count_octets) ++ read.octets) ≡ length (c.gap_octets ++ c.count_octets) + length read.octets = length-append (c.gap_octets ++ c.count_octets) read.octets in
+            let j : length ((c.gap_octets ++ c.count_octets) ++ read.octets) ≡ length (c.gap_octets ++ c.count_octets) + length read.octets =
+            length-append (c.gap_octets ++ c.count_octets) read.octets in
             omega (arith, all, x, y, i, j)
 
         pub filled : FilledWhole w order spot s t z count

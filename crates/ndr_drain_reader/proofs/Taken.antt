@@ -86,11 +86,13 @@ module _ (w : Setting) (order : Order) (spot : Spot) (s : SourceSeen) (t : Decod
       → length (but_gaps noted) ≤ length octets → HasNoted (moved_items spot noted) t → t.steps_now ≤ t.steps + length (but_gaps noted) → IsChunkCounted order spot.place octets earlier t
   counted_of octets noted earlier are few log steps = record {
     logged = λ before l. subst (λ xs. HasNoted xs t) (sym (are before l)) log;
-    by_items = λ before l. let x : length (but_gaps (items order (before ++ octets) earlier)) ≡ length (but_gaps noted) = ap (λ xs. length (but_gaps xs)) (are before l) ∙ as_many_steps (spot.node - 1) noted in omega (arith, x, steps);
+    by_items = λ before l. let x : length (but_gaps (items order (before ++ octets) earlier)) ≡ length (but_gaps noted) =
+        ap (λ xs. length (but_gaps xs)) (are before l) ∙ as_many_steps (spot.node - 1) noted in omega (arith, x, steps);
     by_octets = omega (arith, few, steps);
   }
 
-  pub cut_counted : (octets : List ℕ) (noted : List Item) → PartCut w order spot octets noted → Consumes s.left s.left_now octets → HasNoted (moved_items spot noted) t → t.steps_now ≤ t.steps + length (but_gaps noted)
+  pub cut_counted : (octets : List ℕ) (noted : List Item) → PartCut w order spot octets noted → Consumes s.left s.left_now octets → HasNoted (moved_items spot noted) t
+      → t.steps_now ≤ t.steps + length (but_gaps noted)
       → IsChunkCut w order spot s t
   cut_counted octets noted cut left log steps =
       record { fetched = octets; left = left; earlier = cut.earlier; read = cut.through; counted = counted_of octets noted cut.earlier cut.items_are cut.few log steps }
@@ -125,7 +127,8 @@ module _ (w : Setting) (order : Order) (spot : Spot) (s : SourceSeen) (t : Decod
     read = x.whole.read;
     logged = λ before l. subst (λ xs. HasNoted xs t) (sym (x.whole.items_are before l)) log;
     stepped = λ before l.
-        let y : length (but_gaps (part_items w order (before ++ x.octets) spot x.elements)) ≡ length (but_gaps x.noted) = ap (λ xs. length (but_gaps xs)) (x.whole.items_are before l) ∙ as_many_steps (spot.node - 1) x.noted in
+        let y : length (but_gaps (part_items w order (before ++ x.octets) spot x.elements)) ≡ length (but_gaps x.noted) =
+        ap (λ xs. length (but_gaps xs)) (x.whole.items_are before l) ∙ as_many_steps (spot.node - 1) x.noted in
         omega (arith, y, steps);
     by_octets = (let few = x.whole.cut.few in omega (arith, few, steps));
     few_then = x.whole.few_then;
@@ -152,7 +155,8 @@ part_of w order spot s d m (Err fault.ReadFault) (risen, x) = record {
 }
 part_of w order spot s d m (Err fault.Memory) x = x
 
-module _ (w : Setting) (order : Order) (spot : Spot) (s : SourceSeen) (own kept g h : Logged) (from to steps : ℕ) (before : ℕ) (is_before : spot.node - 1 ≡ before) (keeps : own.keeps ≡ g.keeps) (empty : own.items ≡ [])
+module _ (w : Setting) (order : Order) (spot : Spot) (s : SourceSeen) (own kept g h : Logged) (from to steps : ℕ) (before : ℕ) (is_before : spot.node - 1 ≡ before) (keeps : own.keeps ≡ g.keeps)
+    (empty : own.items ≡ [])
     (none : from ≡ 0) (m : Machine) (r : Result ℕ DecodeFault) (fills : Fills w order spot s (decoding_seen own kept from to) m r) where
   -- the items could not all be noted, and no step was counted
   pub handed_part : AreNotedPart before kept.items g h → IsChunkCut w order spot s (decoding_seen g h steps steps)
@@ -190,6 +194,7 @@ module _ (w : Setting) (order : Order) (spot : Spot) (s : SourceSeen) (own kept 
             cut_counted w order spot s (decoding_seen g h steps after) x.octets x.noted x.cut x.took.left (log_of_all x.noted x.took.logged) (few_steps x.noted x.took.steps)
 
 -- out of memory, where reading was cut off
-pub taken_memory : (w : Setting) (order : Order) (spot : Spot) (s : SourceSeen) (t : DecodingSeen) (m : Machine) (r : Result ℕ DecodeFault) → IsErrAnd r (λ y. y ≡ fault.Memory) → IsChunkCut w order spot s t → Takes w order spot s t m r
+pub taken_memory : (w : Setting) (order : Order) (spot : Spot) (s : SourceSeen) (t : DecodingSeen) (m : Machine) (r : Result ℕ DecodeFault) → IsErrAnd r (λ y. y ≡ fault.Memory)
+    → IsChunkCut w order spot s t → Takes w order spot s t m r
 taken_memory w order spot s t m (Ok count) is x = absurd is
 taken_memory w order spot s t m (Err e) is x = subst (IsChunkFault w order spot s t) (sym is) x

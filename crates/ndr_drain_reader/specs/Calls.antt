@@ -1,5 +1,6 @@
 -- What the calls of an intake come to.
--- `w` is the setting of the stream, `s` the source over the call, `t` the log of items and the count of steps over the call, `i` the intake before the call and
+-- `w` is the setting of the stream, `s` the source over the call, `t` the log of items and the count of steps over the call, `i` the intake before
+-- the call and
 -- `now` after it.
 use Rattle.std.specs.Prelude.{◌≡◌, ◌≤◌, ℕ, ◌+◌, ◌-◌, true, List, [], ◌∷◌, ◌++◌, length, Option, Some, None}
 use Rattle.std.specs.Io.KnownBytes.{Consumes, IsAtEnd}
@@ -39,8 +40,8 @@ pub record HasBegun (interface : Interface) (op : ℕ) (o : Operation) (side : S
 
 -- ## The head
 
--- The head was read: the octets fetched are the head of a stream of the graph that is kept, which conforms, has empty pipes and is its own canonical form. The
--- items of the head were logged; each of them but the gaps is a step, and so is each cell.
+-- The head was read: the octets fetched are the head of a stream of the graph that is kept, which conforms, has empty pipes and is its own canonical
+-- form. The items of the head were logged; each of them but the gaps is a step, and so is each cell.
 pub record HasHead (w : Setting) (s : SourceSeen) (t : DecodingSeen) (i now : IntakeSeen) : Type 0 where
   pub octets : List ℕ
   pub left : Consumes s.left s.left_now octets
@@ -54,20 +55,21 @@ pub record HasHead (w : Setting) (s : SourceSeen) (t : DecodingSeen) (i now : In
   pub spot : now.spot ≡ first_spot w octets
   pub as_many : now.left ≡ i.left
   pub logged : HasNoted (items i.order octets (end_to_end 0 (head_entries w now.graph read.is_head.steps))) t
-  pub stepped : t.steps_now ≡ t.steps + length (but_gaps (items i.order octets (end_to_end 0 (head_entries w now.graph read.is_head.steps)))) + length now.graph.cells
+  pub stepped : t.steps_now
+      ≡ t.steps + length (but_gaps (items i.order octets (end_to_end 0 (head_entries w now.graph read.is_head.steps)))) + length now.graph.cells
   -- so they are no more than the octets and the roots
   pub counted : IsCounted w i.order octets (end_to_end 0 (head_entries w now.graph read.is_head.steps)) t
 
--- The octets are refused, as `decode` refuses them, whatever follows them. They are refused in the head: the refused entry comes before the pipes, and so do all that
--- were read.
+-- The octets are refused, as `decode` refuses them, whatever follows them. They are refused in the head: the refused entry comes before the pipes,
+-- and so do all that were read.
 pub record IsHeadRefused (w : Setting) (order : Order) (s : SourceSeen) (place : ℕ) (why : Reason) (t : DecodingSeen) : Type 0 where
   pub refused : IsRefused w order s place why t
   pub in_head : BadHead w order refused.fetched place why
   -- after the same entries
   pub as_far : in_head.bad.earlier ≡ refused.bad.earlier
 
--- The source failed, and the octets that were fetched are cut short where they end, in the head: the entry that lacks octets comes before the pipes, and so do all
--- that were read.
+-- The source failed, and the octets that were fetched are cut short where they end, in the head: the entry that lacks octets comes before the pipes,
+-- and so do all that were read.
 pub record IsHeadUnread (w : Setting) (order : Order) (s : SourceSeen) (t : DecodingSeen) : Type 0 where
   pub unread : IsUnread w order s t
   pub in_head : BadHead w order unread.cut.fetched (length unread.cut.fetched) reason.Truncated
@@ -92,15 +94,16 @@ abbrev pub left_after : ℕ → List Tree → ℕ
 left_after n [] = n - 1
 left_after n (v ∷ vs) = n
 
--- A chunk was read at the spot: the octets fetched are its count and these elements, which conform. Its items were logged, and each of them but the gap is a step:
--- so no more than the octets fetched.
+-- A chunk was read at the spot: the octets fetched are its count and these elements, which conform. Its items were logged, and each of them but the
+-- gap is a step: so no more than the octets fetched.
 pub record HasChunk (w : Setting) (s : SourceSeen) (t : DecodingSeen) (i now : IntakeSeen) (elements : List Tree) : Type 0 where
   pub octets : List ℕ
   pub left : Consumes s.left s.left_now octets
   pub read : IsPart w i.order i.spot (record { octets = octets; elements = elements })
   pub moved : now ≡ moved_to (after i.spot (record { octets = octets; elements = elements })) (left_after i.left elements) i
   pub logged : (before : List ℕ) → length before ≡ i.spot.place → HasNoted (part_items w i.order (before ++ octets) i.spot elements) t
-  pub stepped : (before : List ℕ) → length before ≡ i.spot.place → t.steps_now ≡ t.steps + length (but_gaps (part_items w i.order (before ++ octets) i.spot elements))
+  pub stepped : (before : List ℕ) → length before ≡ i.spot.place
+      → t.steps_now ≡ t.steps + length (but_gaps (part_items w i.order (before ++ octets) i.spot elements))
   pub by_octets : t.steps_now ≤ t.steps + length octets
 
 -- Elements are answered, and none where the pipe has ended.
@@ -114,8 +117,8 @@ pub record IsChunkCounted (order : Order) (place : ℕ) (fetched : List ℕ) (ea
   pub by_items : (before : List ℕ) → length before ≡ place → t.steps_now ≤ t.steps + length (but_gaps (items order (before ++ fetched) earlier))
   pub by_octets : t.steps_now ≤ t.steps + length fetched
 
--- The octets fetched are refused in the chunk, and those that begin with them, at the same place and for the same reason, whatever follows. They end with the
--- refused entry. Everything before it was read, was logged and is counted.
+-- The octets fetched are refused in the chunk, and those that begin with them, at the same place and for the same reason, whatever follows. They end
+-- with the refused entry. Everything before it was read, was logged and is counted.
 pub record IsChunkRefused (w : Setting) (order : Order) (spot : Spot) (s : SourceSeen) (place : ℕ) (why : Reason) (t : DecodingSeen) : Type 0 where
   pub fetched : List ℕ
   pub left : Consumes s.left s.left_now fetched
@@ -126,8 +129,8 @@ pub record IsChunkRefused (w : Setting) (order : Order) (spot : Spot) (s : Sourc
   pub counted : IsChunkCounted order spot.place fetched bad.earlier t
   pub stays : (more : List ℕ) → MayFollow why more → BadPart w order spot (fetched ++ more) place why
 
--- The source failed, and the octets that were fetched are cut short where they end: the next entry of the chunk lacks some of its own, so the chunk is not whole.
--- The entries before it were read, were logged and are counted.
+-- The source failed, and the octets that were fetched are cut short where they end: the next entry of the chunk lacks some of its own, so the chunk
+-- is not whole. The entries before it were read, were logged and are counted.
 pub record IsChunkUnread (w : Setting) (order : Order) (spot : Spot) (s : SourceSeen) (t : DecodingSeen) : Type 0 where
   pub fetched : List ℕ
   pub left : Consumes s.left s.left_now fetched

@@ -1,5 +1,6 @@
 -- What reading a chunk by a machine of its own comes to.
--- `w` is a setting, `spot` the spot at which the chunk begins, `m` a machine, `s` the source over the call, `t` the log and the count of steps over it.
+-- `w` is a setting, `spot` the spot at which the chunk begins, `m` a machine, `s` the source over the call, `t` the log and the count of steps over
+-- it.
 use Rattle.std.specs.Prelude.{◌≡◌, ◌≤◌, ℕ, ◌+◌, ◌*◌, List, [], ◌∷◌, ◌++◌, length, Some, None, true, Result, Ok, Err}
 use Rattle.std.specs.Io.KnownBytes.{Consumes, IsAtEnd}
 use Rattle.nd_base.specs.declared.octets.Order.{Order}
@@ -114,9 +115,11 @@ pub record TakenWhole (w : Setting) (order : Order) (spot : Spot) (s : SourceSee
   pub left : Consumes s.left s.left_now octets
   pub read : IsPart w order spot (record { octets = octets; elements = elements })
   pub logged : (before : List ℕ) → length before ≡ spot.place → HasNoted (part_items w order (before ++ octets) spot elements) t
-  pub stepped : (before : List ℕ) → length before ≡ spot.place → t.steps_now ≡ t.steps + length (but_gaps (part_items w order (before ++ octets) spot elements))
+  pub stepped : (before : List ℕ) → length before ≡ spot.place
+      → t.steps_now ≡ t.steps + length (but_gaps (part_items w order (before ++ octets) spot elements))
   pub by_octets : t.steps_now ≤ t.steps + length octets
-  pub few_then : (after spot (record { octets = octets; elements = elements })).node ≤ 32 * (after spot (record { octets = octets; elements = elements })).place + 1
+  pub few_then : (after spot (record { octets = octets; elements = elements })).node ≤ 32 *
+      (after spot (record { octets = octets; elements = elements })).place + 1
   pub cut : IsChunkCut w order spot s t
   pub as_many : length elements ≡ count
   pub at : m.at ≡ spot.place + length octets

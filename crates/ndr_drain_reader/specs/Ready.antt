@@ -16,7 +16,8 @@ use Rattle.ndr_drain_reader.specs.declared.intake.Intake.{Intake}
 pub record IsAtPipe (i : Intake) (o : Operation) : Type 0 where
   pub after_values : before_pipes (roots_of i.plan.now.tie.types i.side o) ≤ i.root
   pub all : i.root + i.left ≡ length (roots_of i.plan.now.tie.types i.side o)
-  pub line : i.line ≡ line_at i.plan.now.tie.types i.plan.now.tie.operations i.op o i.side + length (value_roots (roots_of i.plan.now.tie.types i.side o)) + 1
+  pub line : i.line
+      ≡ line_at i.plan.now.tie.types i.plan.now.tie.operations i.op o i.side + length (value_roots (roots_of i.plan.now.tie.types i.side o)) + 1
       + (i.root - before_pipes (roots_of i.plan.now.tie.types i.side o))
 
 -- nothing was read, and the first pipe is next

@@ -24,7 +24,8 @@ pub(crate) fn begin_intake<'p>(
     order: Order,
 ) -> Result<Intake<'p>, Memory>
     requires known { op < length plan.now.tie.operations }
-    ensures begun { IfOk result (λ i. (o : Operation) → slice_get plan.now.tie.operations op ≡ Some o → HasBegun plan.now.tie op o side order (intake_seen i)) }
+    ensures begun { IfOk result
+        (λ i. (o : Operation) → slice_get plan.now.tie.operations op ≡ Some o → HasBegun plan.now.tie op o side order (intake_seen i)) }
     ensures ready { IfOk result IsAtHead }
 {
     let buffer = Buffer::new(alloc)?;

@@ -40,7 +40,8 @@ pub(crate) fn read_chunk<S: Source, L: Ledger>(
         (decoding_seen items.old items.new (L.number steps.old) (L.number steps.new)) (intake_seen intake.old) (intake_seen intake.new) vals) }
     ensures ready { OnOk result (IsReady intake.new) }
     ensures cause { IfErr result (λ e. (o : Operation) → slice_get (intake_seen intake.old).interface.operations (intake_seen intake.old).op ≡ Some o
-        → IsChunkCause (setting_in (intake_seen intake.old) o) (intake_seen intake.old) (source_seen S.Source.left S.Source.ended S.Source.faults source.old source.new)
+        → IsChunkCause (setting_in (intake_seen intake.old) o) (intake_seen intake.old)
+        (source_seen S.Source.left S.Source.ended S.Source.faults source.old source.new)
         (decoding_seen items.old items.new (L.number steps.old) (L.number steps.new)) e) }
     ensures later { S.Source.faults source.old ≤ S.Source.faults source.new }
 {
@@ -87,7 +88,8 @@ fn open_chunk(intake: &Intake<'_>, elem: u32) -> Result<Machine, DecodeFault>
     Ok(machine)
 }
 
-// Reads a chunk with a log and a counter of its own, and then notes its items, whose nodes come after so many of the chunks before, and counts its steps.
+// Reads a chunk with a log and a counter of its own, and then notes its items, whose nodes come after so many of the chunks before, and counts its
+// steps.
 fn take_chunk<S: Source, L: Ledger>(
     alloc: Global,
     plan: &Plan,

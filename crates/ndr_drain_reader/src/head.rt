@@ -41,16 +41,20 @@ pub(crate) fn read_head<S: Source, L: Ledger>(
 ) -> Result<(), DecodeFault>
     requires begun { (intake_seen intake.old).phase ≡ phase.Begun }
     requires ready { IsAtHead intake.old }
-    requires request { IsRequestOf (intake_seen intake.old).interface (intake_seen intake.old).op (intake_seen intake.old).side (option_map (λ f. f.now) given) }
+    requires request { IsRequestOf (intake_seen intake.old).interface (intake_seen intake.old).op (intake_seen intake.old).side
+        (option_map (λ f. f.now) given) }
     ensures read { OnOk result ((o : Operation) → slice_get (intake_seen intake.old).interface.operations (intake_seen intake.old).op ≡ Some o
         → HasHead (setting_beside (intake_seen intake.old).interface o (intake_seen intake.old).side (option_map (λ f. f.now.graph) given.entry))
-        (source_seen S.Source.left S.Source.ended S.Source.faults source.old source.new) (decoding_seen items.old items.new (L.number steps.old) (L.number steps.new))
+        (source_seen S.Source.left S.Source.ended S.Source.faults source.old source.new)
+        (decoding_seen items.old items.new (L.number steps.old) (L.number steps.new))
         (intake_seen intake.old) (intake_seen intake.new)) }
     ensures beside { OnOk result ((intake_seen intake.new).given ≡ option_map (λ f. f.now.graph) given.entry) }
     ensures ready { OnOk result (IsReady intake.new) }
     ensures cause { IfErr result (λ e. (o : Operation) → slice_get (intake_seen intake.old).interface.operations (intake_seen intake.old).op ≡ Some o
-        → IsHeadCause (setting_beside (intake_seen intake.old).interface o (intake_seen intake.old).side (option_map (λ f. f.now.graph) given.entry)) (intake_seen intake.old).order
-        (source_seen S.Source.left S.Source.ended S.Source.faults source.old source.new) (decoding_seen items.old items.new (L.number steps.old) (L.number steps.new)) e) }
+        → IsHeadCause (setting_beside (intake_seen intake.old).interface o (intake_seen intake.old).side (option_map (λ f. f.now.graph) given.entry))
+        (intake_seen intake.old).order
+        (source_seen S.Source.left S.Source.ended S.Source.faults source.old source.new)
+        (decoding_seen items.old items.new (L.number steps.old) (L.number steps.new)) e) }
     ensures later { S.Source.faults source.old ≤ S.Source.faults source.new }
 {
     // A request conforms to the inputs of the operation, and what is read of a head is right.

@@ -25,7 +25,8 @@ pub(crate) fn pass_end(intake: &mut Intake<'_>, at: u32)
     requires ready { IsReady intake.old }
     requires pipe { 0 < intake.old.left }
     requires within { at ≤ STREAM_LIMIT }
-    ensures seen { intake_seen intake.new ≡ moved_to (record { place = at; root = intake.old.root + 1; node = 1 }) (intake.old.left - 1) (intake_seen intake.old) }
+    ensures seen { intake_seen intake.new
+        ≡ moved_to (record { place = at; root = intake.old.root + 1; node = 1 }) (intake.old.left - 1) (intake_seen intake.old) }
     ensures ready { IsReady intake.new }
 {
     // The number of lines has 64 bits, and so the number after that of a line.
@@ -42,7 +43,8 @@ pub(crate) fn pass_elements(intake: &mut Intake<'_>, at: u32, nodes: u32)
     requires ready { IsReady intake.old }
     requires within { at ≤ STREAM_LIMIT }
     requires few { intake.old.node + nodes ≤ 32 * at + 1 }
-    ensures seen { intake_seen intake.new ≡ moved_to (record { place = at; root = intake.old.root; node = intake.old.node + nodes }) intake.old.left (intake_seen intake.old) }
+    ensures seen { intake_seen intake.new
+        ≡ moved_to (record { place = at; root = intake.old.root; node = intake.old.node + nodes }) intake.old.left (intake_seen intake.old) }
     ensures ready { IsReady intake.new }
 {
     intake.at = at;

@@ -36,8 +36,10 @@ pub(crate) fn find_pipes(plan: &Plan, op: u32, side: Side) -> Pipes
 // The number of the line of the agreements of a side, whose first line is this.
 fn checks_line(plan: &Plan, op: u32, side: Side, first: usize) -> usize
     requires known { op < length plan.now.tie.operations }
-    requires first { (o : Operation) → slice_get plan.now.tie.operations op ≡ Some o → first ≡ line_at plan.now.tie.types plan.now.tie.operations op o side }
-    ensures at { (o : Operation) → slice_get plan.now.tie.operations op ≡ Some o → result ≡ first + before_pipes (roots_of plan.now.tie.types side o) }
+    requires first { (o : Operation) → slice_get plan.now.tie.operations op ≡ Some o
+        → first ≡ line_at plan.now.tie.types plan.now.tie.operations op o side }
+    ensures at { (o : Operation) → slice_get plan.now.tie.operations op ≡ Some o
+        → result ≡ first + before_pipes (roots_of plan.now.tie.types side o) }
     ensures room { result + 1 < 2 ^ 64 }
 {
     let lines = plan.entries.as_slice();

@@ -180,7 +180,8 @@ module _ (plan : Plan) (f : Fitting) (tied : plan.tie ≡ f.interface) (k : ℕ)
         let t : Turned plan.code f.graph [] (root_items W 0 first) x.homes x.names =
         subst (λ code. Turned code f.graph [] (root_items W 0 first) x.homes x.names) (sym same_code) (turns_are W side f.graph fit.conforms has_stream.steps has_stream.deferral) in
         let i : length (root_items W 0 first) ≡ first = items_many W 0 first in
-        let p : length x.pipes ≡ length (drop first (root_list W)) = pipes_many (pipe_at f.interface.types f.interface.operations f.op fit.operation f.side) first 0 (length (drop first (root_list W))) in
+        let p : length x.pipes ≡ length (drop first (root_list W)) =
+        pipes_many (pipe_at f.interface.types f.interface.operations f.op fit.operation f.side) first 0 (length (drop first (root_list W))) in
         let l : length (drop first (root_list W)) ≡ length (root_list W) - first = length-drop first (root_list W) in
         let few : first ≤ length (root_list W) = some_before W f.graph (root_list W) in
         let roots : length f.graph.roots ≡ length (root_list W) = fit.conforms.all_roots in

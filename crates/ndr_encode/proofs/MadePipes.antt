@@ -52,7 +52,8 @@ reversed_long (d ∷ ds) =
 
 none_pending : (ds : List Named) → pending_names ds ≡ [] → ds ≡ []
 none_pending [] e = refl
-none_pending (d ∷ ds) e = let l : length (pending_names (d ∷ ds)) ≡ suc (length ds) = reversed_long (d ∷ ds) in let z : length (pending_names (d ∷ ds)) ≡ 0 = ap length e in absurd (omega (arith, l, z))
+none_pending (d ∷ ds) e = let l : length (pending_names (d ∷ ds)) ≡ suc (length ds) = reversed_long (d ∷ ds) in let z : length (pending_names (d ∷ ds)) ≡ 0 =
+    ap length e in absurd (omega (arith, l, z))
 
 module _ (p : Plan) (k : ℕ) (f : Fitting) where
   -- the roots that are no pipes

@@ -1,6 +1,7 @@
 -- One home more of a search.
 -- `xs` is what is pending, the next first, `u` is the turn of a home.
-use Rattle.std.proofs.Common.{◌≡◌, inl, inr, ℕ, ◌+◌, ◌*◌, ◌^◌, ◌<◌, ◌≤◌, zero, suc, Bool, true, false, List, [], ◌∷◌, ◌++◌, length, Option, Some, None, refl, ap, ap₂, sym, ◌∙◌, subst, arith, append_assoc, append-nil}
+use Rattle.std.proofs.Common.{◌≡◌, inl, inr, ℕ, ◌+◌, ◌*◌, ◌^◌, ◌<◌, ◌≤◌, zero, suc, Bool, true, false, List, [], ◌∷◌, ◌++◌, length, Option, Some, None, refl, ap, ap₂, sym, ◌∙◌, subst, arith}
+use Rattle.std.proofs.Common.{append_assoc, append-nil}
 use Rattle.std.specs.Prelude.{eqb, cond, get_or, set, take, drop, reverse}
 use Rattle.std.specs.List.{AllByRecursion, slice_get}
 use Rattle.std.proofs.lemmas.Option.{same_Some}
@@ -388,7 +389,8 @@ module _ (code : List Instr) (k : ℕ) (g : Graph) (x : Stream) (y : IsSearchabl
             (passed_over code g old.placed.items s.stands s.marks (pending_names old.count.names.items) due s.rest s.rest_names s.turned);
         turns = ap (λ ts. turn_pairs ts.items ++ s.rest) turns_same ∙ s.turns;
         named = s.named;
-        numbers = subst (λ v. IsNumbered (length g.cells) s.names new.numbers.items v) (sym named_same) (subst (λ v. IsNumbered (length g.cells) s.names v.items old.named) (sym numbers_same) s.numbers);
+        numbers =
+            subst (λ v. IsNumbered (length g.cells) s.names new.numbers.items v) (sym named_same) (subst (λ v. IsNumbered (length g.cells) s.names v.items old.named) (sym numbers_same) s.numbers);
         marks = λ c. ap (λ bs. get_or bs.items c false) placed_same ∙ s.marks c;
         pending = subst (AreCells g) (sym no_names) tt;
         counted =
@@ -449,7 +451,8 @@ module _ (code : List Instr) (k : ℕ) (g : Graph) (x : Stream) (y : IsSearchabl
     pub direct_within : (0 < direct.cell) × (direct.cell ≤ length g.cells)
     direct_within = (all_right (IsCounted code k g) (turn_pairs old.turns.items) (D ∷ direct.later) (subst (AllByRecursion (IsCounted code k g)) (sym direct_here) y.homes)).0.there
 
-    pub direct_ready : (mid : Search) (cell : CellId) → cell.0 ≡ direct.cell → mid.placed.items ≡ set old.placed.items cell.0 true → mid.turns.items ≡ old.turns.items → mid.count.names.items ≡ old.count.names.items
+    pub direct_ready : (mid : Search) (cell : CellId) → cell.0 ≡ direct.cell → mid.placed.items ≡ set old.placed.items cell.0 true → mid.turns.items ≡ old.turns.items
+        → mid.count.names.items ≡ old.count.names.items
         → mid.count.at ≡ old.count.at → AreKnown code mid.known
         → ((names : List ℕ) → IsNumbered (length g.cells) names old.numbers.items old.named → IsNumbered (length g.cells) (names ++ cell.0 ∷ []) mid.numbers.items mid.named)
         → Ready due (record { home = home.Cell cell; start = a }) mid
@@ -505,7 +508,8 @@ pub rest_within : (n : ℕ) (xs ys : List (ℕ × ℕ)) (y : ℕ × ℕ) → xs 
 rest_within n xs ys y e a = (subst (AllByRecursion (λ x. x.0 < n)) e a).1
 
 -- the first that is left has a place for its mark
-pub unplaced_room : (code : List Instr) (g : Graph) (marks : List Bool) (xs ys : List (ℕ × ℕ)) (y : ℕ × ℕ) → length marks ≡ length g.cells + 1 → AreCells g xs → unplaced marks xs ≡ y ∷ ys → y.0 < length marks
+pub unplaced_room : (code : List Instr) (g : Graph) (marks : List Bool) (xs ys : List (ℕ × ℕ)) (y : ℕ × ℕ) → length marks ≡ length g.cells + 1 → AreCells g xs → unplaced marks xs ≡ y ∷ ys
+    → y.0 < length marks
 unplaced_room code g marks xs ys y e a h = first_within (length marks) (unplaced marks xs) ys y h (in_marks (length marks) g (unplaced marks xs) e (cells_left code g marks xs a))
 
 -- ## What was counted

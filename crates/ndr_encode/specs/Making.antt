@@ -40,20 +40,23 @@ pub record HasStream (p : Plan) (k : ℕ) (f : Fitting) : Type 0 where
 pub record BeginsRoots (p : Plan) (k : ℕ) (f : Fitting) (line : ℕ) (s : Search) : Type 0 where
   pub stream : HasStream p k f
   pub line_is : line ≡ line_at f.interface.types f.interface.operations f.op stream.operation f.side
-  pub searched : IsSearched p.code k f.graph (stream_of f stream.operation stream.steps) (root_items (setting f stream.operation) 0 (before_pipes (root_list (setting f stream.operation)))) s
+  pub searched : IsSearched p.code k f.graph (stream_of f stream.operation stream.steps)
+      (root_items (setting f stream.operation) 0 (before_pipes (root_list (setting f stream.operation)))) s
   pub pending : s.count.names.items ≡ []
 
 -- they took their turns
 abbrev pub RootsTaken : Plan → ℕ → Fitting → Search → Search → Type 0
 RootsTaken p k f old new =
     (h : HasStream p k f) → old.count.names.items ≡ []
-    → IsSearched p.code k f.graph (stream_of f h.operation h.steps) (root_items (setting f h.operation) 0 (before_pipes (root_list (setting f h.operation)))) old
+    → IsSearched p.code k f.graph (stream_of f h.operation h.steps)
+    (root_items (setting f h.operation) 0 (before_pipes (root_list (setting f h.operation)))) old
     → IsSearched p.code k f.graph (stream_of f h.operation h.steps) [] new × (new.count.names.items ≡ [])
 
 -- the pipes are next, from the line on, and from a root on
 pub record BeginsPipes (p : Plan) (k : ℕ) (f : Fitting) (line next : ℕ) (s : Search) : Type 0 where
   pub stream : HasStream p k f
-  pub line_is : line ≡ line_at f.interface.types f.interface.operations f.op stream.operation f.side + before_pipes (root_list (setting f stream.operation)) + 1
+  pub line_is : line
+      ≡ line_at f.interface.types f.interface.operations f.op stream.operation f.side + before_pipes (root_list (setting f stream.operation)) + 1
   pub next_is : next ≡ before_pipes (root_list (setting f stream.operation))
   pub searched : ArePipes p.code k f.graph (stream_of f stream.operation stream.steps) (stream_of f stream.operation stream.steps).pipes s
 

@@ -1,6 +1,8 @@
 -- How far the search for the homes of a graph has come.
--- `code` is a plan's code, `g` a graph, `k` the greatest count of a chunk, `n` the number of its cells, `c` a cell's number, `s` what is known so far.
-use Rattle.std.specs.Prelude.{◌≡◌, ℕ, ◌+◌, ◌^◌, ◌<◌, ◌≤◌, suc, Bool, true, false, List, [], ◌∷◌, ◌++◌, length, get_or, reverse, replicate, Option, Some, None}
+-- `code` is a plan's code, `g` a graph, `k` the greatest count of a chunk, `n` the number of its cells, `c` a cell's number, `s` what is known so
+-- far.
+use Rattle.std.specs.Prelude.{◌≡◌, ℕ, ◌+◌, ◌^◌, ◌<◌, ◌≤◌, suc, Bool, true, false, List, [], ◌∷◌, ◌++◌, length, get_or, reverse, replicate, Option}
+use Rattle.std.specs.Prelude.{Some, None}
 use Rattle.std.specs.List.{AllByRecursion}
 use Rattle.nd_value.specs.declared.value.Graph.{Graph}
 use Rattle.nd_value.specs.declared.item.Home.{Home}
@@ -128,7 +130,8 @@ CanSearch code k g s = (x : Stream) × (due : List Item) × IsSearchable code k 
 
 -- whatever it was for, it has come further
 abbrev pub StillSearched : List Instr → ℕ → Graph → Search → Search → Type 0
-StillSearched code k g old new = (x : Stream) (due : List Item) → IsSearchable code k g x → IsSearched code k g x due old → IsSearched code k g x due new
+StillSearched code k g old new =
+    (x : Stream) (due : List Item) → IsSearchable code k g x → IsSearched code k g x due old → IsSearched code k g x due new
 
 -- the cell that a value names, if it is a pointer
 abbrev pub first_cell : Tree → Option ℕ
@@ -160,7 +163,8 @@ pub record CanItem (code : List Instr) (k : ℕ) (g : Graph) (item : Item) (s : 
 -- it took its turn
 abbrev pub ItemTaken : List Instr → ℕ → Graph → Item → Search → Search → Type 0
 ItemTaken code k g item old new =
-    (x : Stream) (due : List Item) → IsSearchable code k g x → old.count.names.items ≡ [] → IsSearched code k g x (item ∷ due) old → IsSearched code k g x due new
+    (x : Stream) (due : List Item) → IsSearchable code k g x → old.count.names.items ≡ [] → IsSearched code k g x (item ∷ due) old
+    → IsSearched code k g x due new
 
 -- a root is next, and nothing is pending
 pub record CanRoot (code : List Instr) (k : ℕ) (g : Graph) (i : ℕ) (first : Option Instr) (s : Search) : Type 0 where
@@ -175,4 +179,5 @@ pub record CanRoot (code : List Instr) (k : ℕ) (g : Graph) (i : ℕ) (first : 
 -- it took its turn
 abbrev pub RootTaken : List Instr → ℕ → Graph → ℕ → Option Instr → Search → Search → Type 0
 RootTaken code k g i first old new =
-    (x : Stream) (due : List Item) (item : Item) → root_by i first ≡ item ∷ [] → IsSearchable code k g x → old.count.names.items ≡ [] → IsSearched code k g x (item ∷ due) old → IsSearched code k g x due new
+    (x : Stream) (due : List Item) (item : Item) → root_by i first ≡ item ∷ [] → IsSearchable code k g x → old.count.names.items ≡ []
+    → IsSearched code k g x (item ∷ due) old → IsSearched code k g x due new

@@ -36,10 +36,12 @@ setting f o = setting_beside f.interface o f.side f.given
 
 -- where the entries of a fit end, which does not depend on the order of octets
 abbrev pub chosen_length : Fitting → Operation → ℕ → List Step → ℕ
-chosen_length f o k steps = end_of 0 (representation (setting f o) f.graph steps (pipe_cuts k (drop (before_pipes (root_list (setting f o))) f.graph.roots)))
+chosen_length f o k steps =
+    end_of 0 (representation (setting f o) f.graph steps (pipe_cuts k (drop (before_pipes (root_list (setting f o))) f.graph.roots)))
 
--- What `encode_with` needs of a work for a fit, with chunks of k elements, at least one: the values as a whole in the order of deferral, then the pipes, each by the run of its
--- type; the cells by their numbers in the order of the stream; and where the entries end, which is within the limit of a stream.
+-- What `encode_with` needs of a work for a fit, with chunks of k elements, at least one: the values as a whole in the order of deferral, then the
+-- pipes, each by the run of its type; the cells by their numbers in the order of the stream; and where the entries end, which is within the limit of
+-- a stream.
 pub record IsWorkFor (f : Fitting) (k : ℕ) (work : WorkSeen) : Type 0 where
   pub operation : Operation
   pub is_there : slice_get f.interface.operations f.op ≡ Some operation

@@ -12,6 +12,7 @@ ghost use Rattle.nd_grammar.specs.Stream.{representation};
 
 /// As many octets are written for a graph that conforms as its entries have, end to end: so many in either order.
 pub fn octets_end_with_entries()
-    ensures { (w : Setting) → IsLegalSide w → (g : Graph) → Conforms w g → (order : Order) (chunk : ℕ) (octets : List ℕ) → (c : Chosen w order chunk g octets)
+    ensures { (w : Setting) → IsLegalSide w → (g : Graph) → Conforms w g → (order : Order) (chunk : ℕ) (octets : List ℕ)
+        → (c : Chosen w order chunk g octets)
         → length octets ≡ end_of 0 (representation w g c.steps (pipe_cuts chunk (drop (before_pipes (root_list w)) g.roots))) }
 {}

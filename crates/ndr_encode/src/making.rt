@@ -34,7 +34,8 @@ fn number_of(side: Side) -> usize
 fn first_line(plan: &Plan, fit: &Fit) -> usize
     requires known { fit.now.op < length plan.now.tie.operations }
     ensures small { result < 2 ^ 32 }
-    ensures line { (o : Operation) → slice_get plan.now.tie.operations fit.now.op ≡ Some o → result ≡ line_at plan.now.tie.types plan.now.tie.operations fit.now.op o fit.now.side }
+    ensures line { (o : Operation) → slice_get plan.now.tie.operations fit.now.op ≡ Some o
+        → result ≡ line_at plan.now.tie.types plan.now.tie.operations fit.now.op o fit.now.side }
 {
     plan.sides.as_slice()[fit.op() as usize * 2 + number_of(fit.side())] as usize
 }
@@ -50,7 +51,8 @@ fn roots(
     requires tied { plan.now.tie ≡ fit.now.interface }
     requires begins { BeginsRoots plan.now chunk fit.now first search.old }
     ensures taken { OnOk result (RootsTaken plan.now chunk fit.now search.old search.new) }
-    ensures count { IfOk result (λ n. (o : Operation) → slice_get plan.now.tie.operations fit.now.op ≡ Some o → n ≡ before_pipes (root_list (setting fit.now o))) }
+    ensures count { IfOk result
+        (λ n. (o : Operation) → slice_get plan.now.tie.operations fit.now.op ≡ Some o → n ≡ before_pipes (root_list (setting fit.now o))) }
 {
     let code = plan.code.as_slice();
     let lines = plan.entries.as_slice();
@@ -120,7 +122,8 @@ fn pipes(
 
 // A work of what was found, if it is not too long.
 fn finish(search: Search, chunk: u32) -> Result<Work, EncodeFault>
-    ensures made { IfOk result (λ work. work ≡ record { turns = search.turns.items; numbers = search.numbers.items; length = search.count.at; chunk = chunk }) }
+    ensures made { IfOk result
+        (λ work. work ≡ record { turns = search.turns.items; numbers = search.numbers.items; length = search.count.at; chunk = chunk }) }
     ensures within { IfOk result (λ work. search.count.at ≤ STREAM_LIMIT) }
     ensures long { (n : ℕ) → result ≡ Err (TooLong n) → (n ≡ search.count.at) × (STREAM_LIMIT < n) }
 {
@@ -137,9 +140,10 @@ fn finish(search: Search, chunk: u32) -> Result<Work, EncodeFault>
 }
 
 impl Work {
-    /// Prepares the encoding of a graph that conforms: the plan is of the interface of the fit, and each chunk of a pipe is to have `chunk` elements, at least one, except the last,
-    /// which may have fewer (C706 chapter 14). It takes memory for 12 octets for each root and cell and 4 for each cell, which it keeps, and for a mark for each cell and 8 octets for
-    /// each pending referent, which it gives back. The length of the work is that of the octets; `TooLong` exactly if they are more than a stream may have.
+    /// Prepares the encoding of a graph that conforms: the plan is of the interface of the fit, and each chunk of a pipe is to have `chunk` elements,
+    /// at least one, except the last, which may have fewer (C706 chapter 14). It takes memory for 12 octets for each root and cell and 4 for each
+    /// cell, which it keeps, and for a mark for each cell and 8 octets for each pending referent, which it gives back. The length of the work is that
+    /// of the octets; `TooLong` exactly if they are more than a stream may have.
     pub fn for_graph(alloc: Global, plan: &Plan, fit: &Fit, chunk: u32) -> Result<Work, EncodeFault>
         requires tied { plan.now.tie ≡ fit.now.interface }
         requires some { 1 ≤ chunk }

@@ -11,7 +11,8 @@ use ndr_encoder_output::Named;
 #[inline(always)]
 pub(crate) fn number(cell: CellId, numbers: &mut Vec<u32>, named: &mut u32)
     requires { (n : ℕ) × (names : List ℕ) × (n < 2 ^ 32) × (0 < cell.0) × (cell.0 ≤ n) × IsNumbered n names numbers.old.items named.old }
-    ensures { (n : ℕ) (names : List ℕ) → 0 < cell.0 → cell.0 ≤ n → IsNumbered n names numbers.old.items named.old → IsNumbered n (names ++ cell.0 ∷ []) numbers.new.items named.new }
+    ensures { (n : ℕ) (names : List ℕ) → 0 < cell.0 → cell.0 ≤ n → IsNumbered n names numbers.old.items named.old
+        → IsNumbered n (names ++ cell.0 ∷ []) numbers.new.items named.new }
 {
     let at = cell.0 as usize;
     if numbers[at] != 0 {
@@ -24,7 +25,8 @@ pub(crate) fn number(cell: CellId, numbers: &mut Vec<u32>, named: &mut u32)
 // Cells have the next numbers, each unless it has one.
 #[inline(always)]
 fn number_all(cells: &[Named], numbers: &mut Vec<u32>, named: &mut u32)
-    requires { (n : ℕ) × (names : List ℕ) × (n < 2 ^ 32) × AreWithin n (cells_of (names_of cells.now)) × IsNumbered n names numbers.old.items named.old }
+    requires { (n : ℕ) × (names : List ℕ) × (n < 2 ^ 32) × AreWithin n (cells_of (names_of cells.now))
+        × IsNumbered n names numbers.old.items named.old }
     ensures { (n : ℕ) (names : List ℕ) → AreWithin n (cells_of (names_of cells.now)) → IsNumbered n names numbers.old.items named.old
         → IsNumbered n (names ++ cells_of (names_of cells.now)) numbers.new.items named.new }
 {
@@ -46,9 +48,11 @@ fn turn_around(before: usize, names: &mut Vec<Named>)
 #[inline(never)]
 fn settle_all(before: usize, names: &mut Vec<Named>, numbers: &mut Vec<u32>, named: &mut u32)
     requires within { before ≤ length names.old.items }
-    requires cells { (n : ℕ) × (ns : List ℕ) × (n < 2 ^ 32) × AreWithin n (cells_of (names_of (drop before names.old.items))) × IsNumbered n ns numbers.old.items named.old }
+    requires cells { (n : ℕ) × (ns : List ℕ) × (n < 2 ^ 32) × AreWithin n (cells_of (names_of (drop before names.old.items)))
+        × IsNumbered n ns numbers.old.items named.old }
     ensures names { names.new.items ≡ take before names.old.items ++ reverse (drop before names.old.items) }
-    ensures numbers { (n : ℕ) (ns : List ℕ) → AreWithin n (cells_of (names_of (drop before names.old.items))) → IsNumbered n ns numbers.old.items named.old
+    ensures numbers { (n : ℕ) (ns : List ℕ) → AreWithin n (cells_of (names_of (drop before names.old.items)))
+        → IsNumbered n ns numbers.old.items named.old
         → IsNumbered n (ns ++ cells_of (names_of (drop before names.old.items))) numbers.new.items named.new }
 {
     number_all(&names.as_slice()[before..], numbers, named);
@@ -59,21 +63,25 @@ fn settle_all(before: usize, names: &mut Vec<Named>, numbers: &mut Vec<u32>, nam
 #[inline(always)]
 fn settle_one(before: usize, names: &Vec<Named>, numbers: &mut Vec<u32>, named: &mut u32)
     requires one { length names.now.items ≡ before + 1 }
-    requires cells { (n : ℕ) × (ns : List ℕ) × (n < 2 ^ 32) × AreWithin n (cells_of (names_of (drop before names.now.items))) × IsNumbered n ns numbers.old.items named.old }
-    ensures numbers { (n : ℕ) (ns : List ℕ) → AreWithin n (cells_of (names_of (drop before names.now.items))) → IsNumbered n ns numbers.old.items named.old
+    requires cells { (n : ℕ) × (ns : List ℕ) × (n < 2 ^ 32) × AreWithin n (cells_of (names_of (drop before names.now.items)))
+        × IsNumbered n ns numbers.old.items named.old }
+    ensures numbers { (n : ℕ) (ns : List ℕ) → AreWithin n (cells_of (names_of (drop before names.now.items)))
+        → IsNumbered n ns numbers.old.items named.old
         → IsNumbered n (ns ++ cells_of (names_of (drop before names.now.items))) numbers.new.items named.new }
 {
     number(names[before].cell, numbers, named);
 }
 
-// The names from a place on have the next numbers, each cell unless it has one, and are pending: they are turned around, the first one last. There is a way of its own for one
-// name, as many homes have.
+// The names from a place on have the next numbers, each cell unless it has one, and are pending: they are turned around, the first one last. There is
+// a way of its own for one name, as many homes have.
 #[inline(always)]
 pub(crate) fn settle(before: usize, names: &mut Vec<Named>, numbers: &mut Vec<u32>, named: &mut u32)
     requires within { before ≤ length names.old.items }
-    requires cells { (n : ℕ) × (ns : List ℕ) × (n < 2 ^ 32) × AreWithin n (cells_of (names_of (drop before names.old.items))) × IsNumbered n ns numbers.old.items named.old }
+    requires cells { (n : ℕ) × (ns : List ℕ) × (n < 2 ^ 32) × AreWithin n (cells_of (names_of (drop before names.old.items)))
+        × IsNumbered n ns numbers.old.items named.old }
     ensures names { names.new.items ≡ take before names.old.items ++ reverse (drop before names.old.items) }
-    ensures numbers { (n : ℕ) (ns : List ℕ) → AreWithin n (cells_of (names_of (drop before names.old.items))) → IsNumbered n ns numbers.old.items named.old
+    ensures numbers { (n : ℕ) (ns : List ℕ) → AreWithin n (cells_of (names_of (drop before names.old.items)))
+        → IsNumbered n ns numbers.old.items named.old
         → IsNumbered n (ns ++ cells_of (names_of (drop before names.old.items))) numbers.new.items named.new }
 {
     let added = names.len() - before;

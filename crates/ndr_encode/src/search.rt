@@ -6,7 +6,8 @@ ghost use Rattle.nd_value.specs.declared.item.Home.TheVariants as home;
 ghost use Rattle.nd_flat.specs.Building.{HasHome};
 ghost use Rattle.ndr_encoder_laws.specs.turns.Turned.{root_due, direct_due};
 ghost use Rattle.ndr_encoder_laws.specs.chosen.Written.{value_at};
-ghost use Rattle.ndr_encode.specs.Search.{IsFresh, IsTaken, CanTake, CanSearch, StillSearched, CanRoot, RootTaken, CanItem, ItemTaken, called_run, direct_run, unplaced, pending_names, unmarked, first_cell};
+ghost use Rattle.ndr_encode.specs.Search.{IsFresh, IsTaken, CanTake, CanSearch, StillSearched, CanRoot, RootTaken, CanItem, ItemTaken, called_run};
+ghost use Rattle.ndr_encode.specs.Search.{direct_run, unplaced, pending_names, unmarked, first_cell};
 
 use crate::numbering::{number, settle};
 use nd_base::{Memory, push};
@@ -19,8 +20,8 @@ use ndr_encoder_output::{Count, Named};
 use ndr_encoder_structs::Known;
 use std::alloc::Global;
 
-// How far the search has come: the turns so far, the numbers of the cells that are named and how many these are, the cells that have their turn, and the octets so far. The
-// names that are kept with these are the referents that are pending, the next one last.
+// How far the search has come: the turns so far, the numbers of the cells that are named and how many these are, the cells that have their turn, and
+// the octets so far. The names that are kept with these are the referents that are pending, the next one last.
 #[derive(Drop)]
 pub(crate) struct Search {
     pub(crate) turns: Vec<Turn>,
@@ -117,7 +118,8 @@ fn next_referent(search: &mut Search, code: &[Instr], chunk: u32, fit: &Fit) -> 
     requires { CanSearch code.now chunk fit.now.graph search.old }
     ensures searched { OnOk result (StillSearched code.now chunk fit.now.graph search.old search.new) }
     ensures more { IfOk result (λ more. more ≡ true → unmarked search.new.placed.items < unmarked search.old.placed.items) }
-    ensures over { IfOk result (λ more. more ≡ false → (search.new.count.names.items ≡ []) × (unmarked search.new.placed.items ≤ unmarked search.old.placed.items)) }
+    ensures over { IfOk result
+        (λ more. more ≡ false → (search.new.count.names.items ≡ []) × (unmarked search.new.placed.items ≤ unmarked search.old.placed.items)) }
 {
     let Some(named) = next_unplaced(search.placed.as_slice(), &mut search.count.names) else {
         return Ok(false);
@@ -233,7 +235,8 @@ fn direct_root(
     Ok(())
 }
 
-// A root that is no pipe takes its turn by the first instruction of its run: as it is, or the referent that it names in its place. No referent is pending.
+// A root that is no pipe takes its turn by the first instruction of its run: as it is, or the referent that it names in its place. No referent is
+// pending.
 pub(crate) fn root(
     search: &mut Search,
     code: &[Instr],

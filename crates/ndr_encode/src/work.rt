@@ -28,8 +28,8 @@ impl From<Memory> for EncodeFault {
     }
 }
 
-/// What is prepared for the encoding of a graph: the homes in the order of the stream, the numbers of the cells, the length of the octets, and the greatest count of
-/// a chunk. It can be used as often as needed, in either order of octets.
+/// What is prepared for the encoding of a graph: the homes in the order of the stream, the numbers of the cells, the length of the octets, and the
+/// greatest count of a chunk. It can be used as often as needed, in either order of octets.
 #[derive(Drop)]
 pub struct Work {
     pub(crate) turns: Vec<Turn>,

@@ -20,7 +20,8 @@ module _ {S : Type 0} (can : S → List Piece → Type 0) (whole : S → List Pi
   able_part : (s : S) (ps qs : List Piece) → Able can s (ps ++ qs) → Able can s ps
   able_part s ps qs h = record { rest = qs ++ h.rest; can_follow = subst (can s) (append_assoc ps qs h.rest) h.can_follow }
 
-  module _ (of : StructRun) (count turn : ℕ) (first fs : List Flat) (old mid : S) (low : turn < count) (went : Moves can whole old mid (elements_pieces of count first) (elements_pieces of (count - turn) fs)) where
+  module _ (of : StructRun) (count turn : ℕ) (first fs : List Flat) (old mid : S) (low : turn < count)
+      (went : Moves can whole old mid (elements_pieces of count first) (elements_pieces of (count - turn) fs)) where
     left_is : elements_pieces of (count - turn) fs ≡ struct_pieces of fs ++ elements_pieces of (count - (turn + 1)) (after (length (members_of of)) (later fs))
     left_is = let e : count - turn ≡ suc (count - (turn + 1)) = omega (arith, low) in ap (λ n. elements_pieces of n fs) e
 

@@ -1,4 +1,5 @@
--- What is counted home by home: the octets that a home has, and the cells that its pointers name. A maximum count has four octets whatever it is, so 0 is taken for each.
+-- What is counted home by home: the octets that a home has, and the cells that its pointers name. A maximum count has four octets whatever it is, so
+-- 0 is taken for each.
 -- `code` is a plan's code, `g` a graph, `u` a home with the address of its run, `k` the greatest count of a chunk.
 use Rattle.std.specs.Prelude.{◌≡◌, ℕ, ◌+◌, ◌^◌, ◌<◌, ◌≤◌, List, [], length, flat_map}
 use Rattle.std.specs.List.{AllByRecursion}
@@ -24,7 +25,8 @@ counted_turns code k g us = flat_map (counted_turn code k g) us
 abbrev pub AreCells : Graph → List (ℕ × ℕ) → Type 0
 AreCells g names = AllByRecursion (λ x. (0 < x.0) × (x.0 ≤ length g.cells)) names
 
--- A home can be counted: it is there, its pieces can be counted and end where those that are written end, they are not too many, and their pointers name cells of the graph.
+-- A home can be counted: it is there, its pieces can be counted and end where those that are written end, they are not too many, and their pointers
+-- name cells of the graph.
 pub record IsCounted (code : List Instr) (k : ℕ) (g : Graph) (u : Home × ℕ) : Type 0 where
   pub there : HasHome g u.0
   pub fits : AllByRecursion FitsPiece (counted_turn code k g u)

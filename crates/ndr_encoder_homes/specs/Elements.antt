@@ -1,5 +1,6 @@
 -- Arrays of structs of numbers and pointers: the runs that write them, and what these write.
--- `x` is a member, `s` a struct, `a` a multiple to which a gap leads, `at`, `run` and `start` are addresses, `m` is the maximum count before a home, `fs` are the nodes to come.
+-- `x` is a member, `s` a struct, `a` a multiple to which a gap leads, `at`, `run` and `start` are addresses, `m` is the maximum count before a home,
+-- `fs` are the nodes to come.
 use Rattle.std.specs.Prelude.{◌≡◌, ◌⊎◌, ℕ, ◌+◌, zero, suc, false, ◌==◌, List, [], ◌∷◌, ◌++◌, length, Some}
 use Rattle.std.specs.List.{slice_get}
 use Rattle.nd_value.specs.Tree.{Flat}

@@ -88,9 +88,10 @@ fn is_octet(number: u8)
     ensures { number < 2 ^ 8 }
 {}
 
-/// Writes a home whose run, at `start`, is a conformant array of structs of numbers and pointers, with this maximum count before it (C706 sections 14.3.3 and
-/// 14.3.7), and gives true. Else it gives false, which it may do for such an array too, as where its struct has more than eight members: then nothing was
-/// written, and `known` may have changed. It takes no memory itself, and fails only where the output is refused memory.
+/// Writes a home whose run, at `start`, is a conformant array of structs of numbers and pointers, with this maximum count before it (C706 sections
+/// 14.3.3 and
+/// 14.3.7), and gives true. Else it gives false, which it may do for such an array too, as where its struct has more than eight members: then nothing
+/// was written, and `known` may have changed. It takes no memory itself, and fails only where the output is refused memory.
 #[inline(always)]
 pub fn write_array<O: Output>(
     code: &[Instr],

@@ -22,7 +22,8 @@ fn fill_from(code: &[Instr], chunk: u32, turns: &[Turn], fit: &Fit, fill: &mut F
     requires can { FillCan 0 fill.old.out.now (written_turns code.now chunk fit.now.graph (turn_pairs turns.now) ++ []) }
     requires long { pieces_end 0 (written_turns code.now chunk fit.now.graph (turn_pairs turns.now)) ≡ length fill.old.out.now }
     ensures same_reference { fill.new.out.ghost_name ≡ fill.old.out.ghost_name }
-    ensures filled { fill.new.out.now ≡ pieces_octets fill.old.order (λ c. get_or fill.old.numbers.now c 0) 0 (written_turns code.now chunk fit.now.graph (turn_pairs turns.now)) }
+    ensures filled { fill.new.out.now
+        ≡ pieces_octets fill.old.order (λ c. get_or fill.old.numbers.now c 0) 0 (written_turns code.now chunk fit.now.graph (turn_pairs turns.now)) }
 {
     let mut frames = Frames::new();
     let mut known = Known::new();
@@ -31,8 +32,8 @@ fn fill_from(code: &[Instr], chunk: u32, turns: &[Turn], fit: &Fit, fill: &mut F
     };
 }
 
-/// Fills octets with homes in their order, each by its run: gaps of zeros, and for each pointer the number of its cell. `chunk` is the greatest count of a chunk. It takes no
-/// memory, and cannot fail.
+/// Fills octets with homes in their order, each by its run: gaps of zeros, and for each pointer the number of its cell. `chunk` is the greatest count
+/// of a chunk. It takes no memory, and cannot fail.
 pub fn fill_turns(
     code: &[Instr],
     chunk: u32,

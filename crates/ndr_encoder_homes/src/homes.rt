@@ -22,8 +22,8 @@ use ndr_encoder_output::Output;
 use ndr_encoder_structs::Known;
 use ndr_encoder_value::{Run, write_plain_struct, write_run, write_struct};
 
-/// Writes a home by its run, with a maximum count before it where the run begins with one. `chunk` is the greatest count of a chunk, and `known` what is known of runs of the same
-/// code. It takes no memory apart from that of the output.
+/// Writes a home by its run, with a maximum count before it where the run begins with one. `chunk` is the greatest count of a chunk, and `known` what
+/// is known of runs of the same code. It takes no memory apart from that of the output.
 #[inline(always)]
 pub fn write_home<O: Output>(
     code: &[Instr],
@@ -56,7 +56,8 @@ fn write_known<O: Output>(turn: Turn, fit: &Fit, known: &Known, out: &mut O) -> 
     requires there { HasHome fit.now.graph turn.home }
     requires able { (code : List Instruction) × (m k : ℕ) × AreKnown code known.now
         × Able O.can out.old (written_by code m k STEPS turn.start [] (flat (more (value_at fit.now.graph turn.home) none))) }
-    ensures written { IfOk result (λ done. done ≡ true → (code : List Instruction) (m k : ℕ) → AreKnown code known.now → Moves O.can O.whole out.old out.new
+    ensures written { IfOk result
+        (λ done. done ≡ true → (code : List Instruction) (m k : ℕ) → AreKnown code known.now → Moves O.can O.whole out.old out.new
         (written_by code m k STEPS turn.start [] (flat (more (value_at fit.now.graph turn.home) none))) []) }
     ensures stays { IfOk result (λ done. done ≡ false → out.new ≡ out.old) }
     ensures fails { IsErr result → O.may_fail ≡ true }

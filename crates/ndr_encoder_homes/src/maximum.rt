@@ -49,8 +49,8 @@ fn last_maximum(due: u64, seen: &Seen<'_>) -> Option<u32>
     if due == 1 { own_maximum(seen) } else { None }
 }
 
-// The maximum count of a value: its own, else that of its last part; 0 where none has one. `due` is how many values are still to come: where it is 1, the next node is the
-// last part of all around it.
+// The maximum count of a value: its own, else that of its last part; 0 where none has one. `due` is how many values are still to come: where it is 1,
+// the next node is the last part of all around it.
 pub(crate) fn maximum_of(walk: &mut Walk<'_>) -> u32
     requires few { length (flat walk.old) < 2 ^ 32 }
     ensures { result ≡ last_max 1 (flat walk.old) }

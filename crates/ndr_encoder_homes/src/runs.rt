@@ -4,7 +4,8 @@ ghost use Rattle.std.specs.List.{slice_get};
 ghost use Rattle.ndr_code.specs.declared.instr.Instr.TheVariants.{Align, Call, Close, Conf, Hoist, Ret};
 ghost use Rattle.ndr_encoder_structs.specs.declared.members.Member.TheVariants.{Number, Pointer};
 ghost use Rattle.ndr_encoder_structs.specs.Structs.{IsMember, member_gap};
-ghost use Rattle.ndr_encoder_homes.specs.Elements.{EndsMember, IsMemberRun as IsRunOf, CallsMember, CallMembers, HasRecord, Begins, IsElementRun, IsArrayRun};
+ghost use Rattle.ndr_encoder_homes.specs.Elements.{EndsMember, IsMemberRun as IsRunOf, CallsMember, CallMembers, HasRecord, Begins, IsElementRun};
+ghost use Rattle.ndr_encoder_homes.specs.Elements.{IsArrayRun};
 
 use nd_types::Prim;
 use ndr_code::Instr;

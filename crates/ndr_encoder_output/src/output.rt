@@ -11,8 +11,8 @@ use nd_types::Prim;
 use nd_value::CellId;
 use uuid::Uuid;
 
-/// Takes the pieces of a stream in their order (C706 sections 14.2 and 14.3). Each call takes the pieces that come next, and the output must be able to take
-/// them. Only `name` may be refused memory.
+/// Takes the pieces of a stream in their order (C706 sections 14.2 and 14.3). Each call takes the pieces that come next, and the output must be able
+/// to take them. Only `name` may be refused memory.
 pub trait Output {
     /// Whether it can take these pieces.
     ghost can: { Self → List Piece → Type 0 };

@@ -13,7 +13,8 @@ use nd_flat::Row;
 use nd_types::Prim;
 use ndr_prim::{read_num, width_of};
 
-// The octets of the numbers of a row as numbers of a primitive, from a place on; it gives the place after them. They are copied if they are kept as they are written.
+// The octets of the numbers of a row as numbers of a primitive, from a place on; it gives the place after them. They are copied if they are kept as
+// they are written.
 pub(crate) fn write_row(order: Order, prim: Prim, row: &Row<'_>, at: usize, out: &mut [u8]) -> usize
     requires whole { IsRow row.now }
     requires range { AllByRecursion (λ z. in_range prim z ≡ true) (row_numbers row.now) }

@@ -1,6 +1,6 @@
 -- Structs of numbers and pointers, whose members are written one after the other: what their runs write, and how far such a run is followed.
--- `x` is a member, `s` a struct, `at` an address, `m` the maximum count before a home, `k` the greatest count of a chunk, `n` how many steps may be taken, `fs` are the nodes to
--- come, `G` is what is written from there on.
+-- `x` is a member, `s` a struct, `at` an address, `m` the maximum count before a home, `k` the greatest count of a chunk, `n` how many steps may be
+-- taken, `fs` are the nodes to come, `G` is what is written from there on.
 use Rattle.std.specs.Prelude.{◌≡◌, ℕ, ◌+◌, ◌*◌, ◌≤◌, List, [], ◌∷◌, ◌++◌, length, take, Option, Some}
 use Rattle.std.specs.List.{AllByRecursion}
 use Rattle.nd_types.specs.Table.{width}
@@ -52,7 +52,9 @@ IsMember i x =
 
 -- an instruction passes the node of a struct
 abbrev pub IsNode : Option Instr → Type 0
-IsNode i = (G : Rest) (code : List Instr) (m k at : ℕ) (frames : List Frame) (fs : List Flat) → stepped G code m k at frames fs i ≡ G (at + 1) frames (later fs)
+IsNode i =
+    (G : Rest) (code : List Instr) (m k at : ℕ) (frames : List Frame) (fs : List Flat)
+    → stepped G code m k at frames fs i ≡ G (at + 1) frames (later fs)
 
 -- in some steps, at most so many, a run comes to this
 pub record Comes (code : List Instr) (at : ℕ) (frames : List Frame) (most : ℕ) (written : Rest → List Flat → List Piece) : Type 0 where

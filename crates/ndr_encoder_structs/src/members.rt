@@ -2,7 +2,8 @@
 ghost use Rattle.std.specs.Prelude.{◌≡◌, ◌+◌, ◌<◌, ◌≤◌, [], ◌∷◌, ◌++◌, true, length, IfSome, Some};
 ghost use Rattle.std.specs.List.{slice_get};
 ghost use Rattle.ndr_code.specs.declared.instr.Instr.TheVariants.{Ret};
-ghost use Rattle.ndr_encoder_structs.specs.Structs.{members_of, member_gap, IsMember, IsMemberRun, IsNode, IsMemberCall, HasBegun, HasClosed, HasEnded, IsStructRun};
+ghost use Rattle.ndr_encoder_structs.specs.Structs.{members_of, member_gap, IsMember, IsMemberRun, IsNode, IsMemberCall, HasBegun, HasClosed};
+ghost use Rattle.ndr_encoder_structs.specs.Structs.{HasEnded, IsStructRun};
 
 use crate::lookups::{carrier_of, instr_at, past_checks};
 use nd_types::Prim;
@@ -19,7 +20,8 @@ pub enum Member {
     Pointer { run: u32 },
 }
 
-/// A struct of numbers and pointers, as its run writes it: the multiple to which the gap before it leads, 1 where there is none, and its members, the first `count` of these.
+/// A struct of numbers and pointers, as its run writes it: the multiple to which the gap before it leads, 1 where there is none, and its members, the
+/// first `count` of these.
 #[derive(Clone, Copy)]
 pub struct StructRun {
     pub align: u8,

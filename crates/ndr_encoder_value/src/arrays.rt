@@ -6,7 +6,8 @@ ghost use Rattle.ndr_encoder_output.specs.Outputs.{Moves, Able};
 ghost use Rattle.ndr_encoder_laws.specs.written.Frames.{pushed};
 ghost use Rattle.ndr_encoder_laws.specs.declared.frames.Frame.TheVariants.{Array, Pipe};
 ghost use Rattle.ndr_code.specs.declared.instr.Instr.{Instr};
-ghost use Rattle.ndr_encoder_laws.specs.written.Run.{Rest, here, later, offset_in, row_at, back, elements as elements_written, chunk_count as count_of_chunk, chunk_elements as chunk_written, chunk as chunk_of};
+ghost use Rattle.ndr_encoder_laws.specs.written.Run.{Rest, here, later, offset_in, row_at, back, elements as elements_written};
+ghost use Rattle.ndr_encoder_laws.specs.written.Run.{chunk_count as count_of_chunk, chunk_elements as chunk_written, chunk as chunk_of};
 
 use crate::lookups::row_of;
 use crate::nodes::{count_of, next_node, offset_of};
@@ -52,10 +53,12 @@ pub(crate) fn array<O: Output>(
     frames: &mut Frames,
     out: &mut O,
 ) -> bool
-    requires { (G : Rest) × Able O.can out.old (elements_written G (row_at code.now run) (here (flat walk.old)).1 run pc.old frames.old (later (flat walk.old))) }
+    requires { (G : Rest)
+        × Able O.can out.old (elements_written G (row_at code.now run) (here (flat walk.old)).1 run pc.old frames.old (later (flat walk.old))) }
     ensures on { result ≡ true }
     ensures written { (G : Rest) → Moves O.can O.whole out.old out.new
-        (elements_written G (row_at code.now run) (here (flat walk.old)).1 run pc.old frames.old (later (flat walk.old))) (G pc.new frames.new (flat walk.new)) }
+        (elements_written G (row_at code.now run) (here (flat walk.old)).1 run pc.old frames.old (later (flat walk.old)))
+        (G pc.new frames.new (flat walk.new)) }
 {
     let count = count_of(&next_node(walk));
     elements(code, count, run, pc, walk, frames, out);
@@ -75,7 +78,8 @@ pub(crate) fn varying<O: Output>(
         ∷ elements_written G (row_at code.now run) (here (flat walk.old)).1 run pc.old frames.old (later (flat walk.old))) }
     ensures on { result ≡ true }
     ensures written { (G : Rest) → Moves O.can O.whole out.old out.new (four (offset_in (here (flat walk.old)).0) ∷ four (here (flat walk.old)).1
-        ∷ elements_written G (row_at code.now run) (here (flat walk.old)).1 run pc.old frames.old (later (flat walk.old))) (G pc.new frames.new (flat walk.new)) }
+        ∷ elements_written G (row_at code.now run) (here (flat walk.old)).1 run pc.old frames.old (later (flat walk.old)))
+        (G pc.new frames.new (flat walk.new)) }
 {
     let node = next_node(walk);
     let offset = offset_of(&node);
@@ -157,7 +161,8 @@ pub(crate) fn next_element(
     frames: &mut Frames,
 ) -> bool
     ensures on { result ≡ true }
-    ensures next { (G : Rest) (code : List Instr) (k : ℕ) (fs : List Flat) → back G code k (Array left run to ∷ frames.old) fs ≡ G pc.new frames.new fs }
+    ensures next { (G : Rest) (code : List Instr) (k : ℕ) (fs : List Flat)
+        → back G code k (Array left run to ∷ frames.old) fs ≡ G pc.new frames.new fs }
 {
     if left == 0 {
         *pc = to;

@@ -21,7 +21,8 @@ fn write_plain_member<O: Output>(
     out: &mut O,
 ) -> Result<bool, Memory>
     requires { (qs : List Piece) × Able O.can out.old (member_pieces member.now (here (flat nodes.old)) ++ qs) }
-    ensures written { IfOk result (λ done. done ≡ true → (qs : List Piece) → Moves O.can O.whole out.old out.new (member_pieces member.now (here (flat nodes.old)) ++ qs) qs) }
+    ensures written { IfOk result
+        (λ done. done ≡ true → (qs : List Piece) → Moves O.can O.whole out.old out.new (member_pieces member.now (here (flat nodes.old)) ++ qs) qs) }
     ensures rest { IfOk result (λ done. done ≡ true → flat nodes.new ≡ later (flat nodes.old)) }
     ensures stays { IfOk result (λ done. done ≡ false → (nodes.new ≡ nodes.old) × (out.new ≡ out.old)) }
     ensures fails { IsErr result → O.may_fail ≡ true }
@@ -95,8 +96,8 @@ fn write_whole<O: Output>(of: &StructRun, nodes: PlainWalk<'_>, out: &mut O) -> 
     Ok(())
 }
 
-/// Writes a struct of numbers and pointers over its nodes: its gap, then its members (C706 sections 14.2 and 14.3). It is fast where the nodes are kept one by one. It takes no memory
-/// itself, and fails only where the output is refused memory.
+/// Writes a struct of numbers and pointers over its nodes: its gap, then its members (C706 sections 14.2 and 14.3). It is fast where the nodes are
+/// kept one by one. It takes no memory itself, and fails only where the output is refused memory.
 #[inline(always)]
 pub fn write_plain_struct<O: Output>(
     of: &StructRun,

@@ -43,7 +43,8 @@ pub(crate) fn write_align<O: Output>(to: u8, out: &mut O)
 #[inline(always)]
 fn write_member<O: Output>(member: &Member, walk: &mut Walk<'_>, out: &mut O) -> Result<(), Memory>
     requires { (qs : List Piece) × Able O.can out.old (member_pieces member.now (here (flat walk.old)) ++ qs) }
-    ensures written { OnOk result ((qs : List Piece) → Moves O.can O.whole out.old out.new (member_pieces member.now (here (flat walk.old)) ++ qs) qs) }
+    ensures written { OnOk result
+        ((qs : List Piece) → Moves O.can O.whole out.old out.new (member_pieces member.now (here (flat walk.old)) ++ qs) qs) }
     ensures rest { OnOk result (flat walk.new ≡ later (flat walk.old)) }
     ensures fails { IsErr result → O.may_fail ≡ true }
 {
@@ -78,8 +79,8 @@ pub(crate) fn write_members<O: Output>(
     Ok(())
 }
 
-/// Writes a struct of numbers and pointers over the nodes of a walk: its gap, then its members (C706 sections 14.2 and 14.3). It takes no memory itself, and fails only where the output
-/// is refused memory.
+/// Writes a struct of numbers and pointers over the nodes of a walk: its gap, then its members (C706 sections 14.2 and 14.3). It takes no memory
+/// itself, and fails only where the output is refused memory.
 #[inline(always)]
 pub fn write_struct<O: Output>(
     of: &StructRun,

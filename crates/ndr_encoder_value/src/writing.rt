@@ -5,7 +5,8 @@ ghost use Rattle.ndr_encoder_laws.specs.pieces.Pieces.{Piece, Gap, Figure, Name,
 ghost use Rattle.ndr_encoder_output.specs.Outputs.{Moves, Able};
 ghost use Rattle.ndr_encoder_laws.specs.written.Frames.{pushed};
 ghost use Rattle.ndr_encoder_laws.specs.declared.frames.Frame.TheVariants.{Call};
-ghost use Rattle.ndr_encoder_laws.specs.written.Run.{Rest, here, later, num_in, tag_in, octets_in, handle_in, past_checks as past, target, back, stepped, run as written_by};
+ghost use Rattle.ndr_encoder_laws.specs.written.Run.{Rest, here, later, num_in, tag_in, octets_in, handle_in, past_checks as past, target, back};
+ghost use Rattle.ndr_encoder_laws.specs.written.Run.{stepped, run as written_by};
 ghost use Rattle.ndr_encoder_value.specs.Going.{left};
 
 use crate::arrays::{array, next_element, next_of_pipe, pipe, varying};
@@ -101,7 +102,8 @@ fn number<O: Output>(prim: Prim, walk: &mut Walk<'_>, out: &mut O) -> bool
 
 // A string: its offset, which is 0, its actual count, and its octets.
 fn text<O: Output>(walk: &mut Walk<'_>, out: &mut O) -> bool
-    requires { (qs : List Piece) × Able O.can out.old (four 0 ∷ four (length (octets_in (here (flat walk.old)).0) + 1) ∷ Raw (octets_in (here (flat walk.old)).0) ∷ qs) }
+    requires { (qs : List Piece)
+        × Able O.can out.old (four 0 ∷ four (length (octets_in (here (flat walk.old)).0) + 1) ∷ Raw (octets_in (here (flat walk.old)).0) ∷ qs) }
     ensures on { result ≡ true }
     ensures written { (qs : List Piece) → Moves O.can O.whole out.old out.new
         (four 0 ∷ four (length (octets_in (here (flat walk.old)).0) + 1) ∷ Raw (octets_in (here (flat walk.old)).0) ∷ qs) qs }
@@ -192,9 +194,11 @@ fn one<O: Output>(
     out: &mut O,
 ) -> Result<bool, Memory>
     requires within { pc.old ≤ length run.now.code.now }
-    requires able { (G : Rest) × (at : ℕ) × (at + 1 ≡ pc.old) × Able O.can out.old (stepped G run.now.code.now run.now.max run.now.chunk at frames.old (flat walk.old) (Some instr)) }
+    requires able { (G : Rest) × (at : ℕ) × (at + 1 ≡ pc.old)
+        × Able O.can out.old (stepped G run.now.code.now run.now.max run.now.chunk at frames.old (flat walk.old) (Some instr)) }
     ensures moved { IfOk result (λ on. (G : Rest) (at : ℕ) → at + 1 ≡ pc.old → Moves O.can O.whole out.old out.new
-        (stepped G run.now.code.now run.now.max run.now.chunk at frames.old (flat walk.old) (Some instr)) (left on (G pc.new frames.new (flat walk.new)))) }
+        (stepped G run.now.code.now run.now.max run.now.chunk at frames.old (flat walk.old) (Some instr))
+        (left on (G pc.new frames.new (flat walk.new)))) }
     ensures fails { IsErr result → O.may_fail ≡ true }
 {
     match instr {
@@ -253,8 +257,8 @@ fn step<O: Output>(
     }
 }
 
-/// Writes what a run of the code writes from an address on over the nodes of a walk, in at most so many steps (C706 sections 14.2 and 14.3). Frames that are there
-/// are taken away first. It takes no memory itself, and fails only where the output is refused memory.
+/// Writes what a run of the code writes from an address on over the nodes of a walk, in at most so many steps (C706 sections 14.2 and 14.3). Frames
+/// that are there are taken away first. It takes no memory itself, and fails only where the output is refused memory.
 pub fn write_run<O: Output>(
     run: &Run<'_>,
     start: usize,
@@ -264,7 +268,8 @@ pub fn write_run<O: Output>(
     out: &mut O,
 ) -> Result<(), Memory>
     requires { Able O.can out.old (written_by run.now.code.now run.now.max run.now.chunk most start [] (flat walk.old)) }
-    ensures written { OnOk result (Moves O.can O.whole out.old out.new (written_by run.now.code.now run.now.max run.now.chunk most start [] (flat walk.old)) []) }
+    ensures written { OnOk result
+        (Moves O.can O.whole out.old out.new (written_by run.now.code.now run.now.max run.now.chunk most start [] (flat walk.old)) []) }
     ensures fails { IsErr result → O.may_fail ≡ true }
 {
     frames.clear();

@@ -1,6 +1,7 @@
 -- The nodes of values that are left in a walk, with their paths.
 -- `types` and `T` are types of values, `paths` and `P` their paths, `ks` are the children of a node, `us` and `w` values, `n` is a node's number.
-use Rattle.std.proofs.Common.{◌≡◌, ℕ, ◌+◌, ◌<◌, ◌≤◌, zero, suc, true, false, List, [], ◌∷◌, ◌++◌, length, drop, Option, None, Some, refl, ap, ap₂, sym, ◌∙◌, subst, append_assoc, add-zero, arith, length-append}
+use Rattle.std.proofs.Common.{◌≡◌, ℕ, ◌+◌, ◌<◌, ◌≤◌, zero, suc, true, false, List, [], ◌∷◌, ◌++◌, length, drop, Option, None, Some, refl, ap, ap₂, sym, ◌∙◌, subst, append_assoc, add-zero, arith}
+use Rattle.std.proofs.Common.{length-append}
 use Rattle.std.specs.List.{slice_get}
 use Rattle.std.proofs.lemmas.Bool.{eq-eqb, ne_eqb}
 use Rattle.std.proofs.lemmas.List.{drop-drop}
@@ -78,7 +79,8 @@ module _ (table : Table) (t : ℕ) (p : List ℕ) (T : List ℕ) (P : List (List
     where
       by_inner : (i : Option Level) → IsLevelOf (child_types (type_at table t) l ks) (λ q. child_paths (type_at table t) l q ks) i
           → node_paths table (child_types (type_at table t) l ks) (child_paths (type_at table t) l p ks) (n + 1) ks ≡ node_paths table (inner_types i) (inner_paths p i) (n + 1) ks
-      by_inner None e = ap (λ ts. node_paths table ts (child_paths (type_at table t) l p ks) (n + 1) ks) e ∙ no_paths table (child_paths (type_at table t) l p ks) (n + 1) ks ∙ sym (no_paths table [] (n + 1) ks)
+      by_inner None e =
+          ap (λ ts. node_paths table ts (child_paths (type_at table t) l p ks) (n + 1) ks) e ∙ no_paths table (child_paths (type_at table t) l p ks) (n + 1) ks ∙ sym (no_paths table [] (n + 1) ks)
       by_inner (Some L) k = ap₂ (λ ts ps. node_paths table ts ps (n + 1) ks) (sym k.0.1) (sym (k.1 p))
 
   after_node : IsLevelOf (child_types (type_at table t) l ks) (λ q. child_paths (type_at table t) l q ks) inner → Begins table (t ∷ T) (more (node l ks) us) → count us ≡ length T

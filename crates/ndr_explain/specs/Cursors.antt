@@ -1,7 +1,8 @@
 -- Where a cursor is among the nodes of a home.
 -- `L` is a level, `Ls` are levels, the innermost first; `p` is a path; `t` is a type's number, `c` a cursor, `w` the values that are left
 -- of a home from the node at which it is, `m` and `n` are numbers of nodes.
-use Rattle.std.specs.Prelude.{◌≡◌, ℕ, ℤ, zero, suc, ◌+◌, ◌-◌, ◌<◌, ◌≤◌, List, [], ◌∷◌, ◌++◌, drop, length, map, replicate, reverse, Option, None, Some, decimal, codes}
+use Rattle.std.specs.Prelude.{◌≡◌, ℕ, ℤ, zero, suc, ◌+◌, ◌-◌, ◌<◌, ◌≤◌, List, [], ◌∷◌, ◌++◌, drop, length, map, replicate, reverse, Option, None}
+use Rattle.std.specs.Prelude.{Some, decimal, codes}
 use Rattle.std.specs.List.{slice_get}
 use Rattle.nd_types.specs.declared.interface.Interface.{Interface}
 use Rattle.nd_types.specs.declared.types.Operation.{Operation}
@@ -113,7 +114,8 @@ IsChildLevel table t f result =
 abbrev pub AreLevelsOf : List ℕ → (List ℕ → List (List ℕ)) → Option Levels → Type 0
 AreLevelsOf types paths None = types ≡ []
 AreLevelsOf types paths (Some s) =
-    ((0 < length (level_types s.top)) × (types_from s.top (reverse s.below.items) ≡ types)) × ((p : List ℕ) → paths_from p s.top (reverse s.below.items) ≡ paths p)
+    ((0 < length (level_types s.top)) × (types_from s.top (reverse s.below.items) ≡ types))
+    × ((p : List ℕ) → paths_from p s.top (reverse s.below.items) ≡ paths p)
 
 -- ## The parts of a type that has children
 
@@ -164,7 +166,8 @@ pub record IsAt (table : Table) (name : List ℕ) (paths : List (ℕ × List ℕ
   pub begins : Begins table (types_from c.top (reverse c.below.items)) left
   pub all : count left ≡ length (types_from c.top (reverse c.below.items))
   pub paths_are : (m : ℕ) → c.node ≤ m
-      → path_in paths m ≡ path_in (node_paths table (types_from c.top (reverse c.below.items)) (paths_from name c.top (reverse c.below.items)) c.node left) m
+      → path_in paths m
+      ≡ path_in (node_paths table (types_from c.top (reverse c.below.items)) (paths_from name c.top (reverse c.below.items)) c.node left) m
   pub flats_are : drop c.node flats ≡ flat left
 
 -- A home has no node from this number on: no path, except the name of the home itself, and no text or context handle to show.

@@ -1,5 +1,6 @@
 // Children of nodes, one after the other.
-ghost use Rattle.std.specs.Prelude.{◌≡◌, ◌<◌, ◌+◌, ◌++◌, ◌∷◌, ℕ, List, [], drop, length, map, replicate, reverse, Some, OnOk, IfOk, option_map, option_copied};
+ghost use Rattle.std.specs.Prelude.{◌≡◌, ◌<◌, ◌+◌, ◌++◌, ◌∷◌, ℕ, List, [], drop, length, map, replicate, reverse, Some, OnOk, IfOk, option_map};
+ghost use Rattle.std.specs.Prelude.{option_copied};
 ghost use Rattle.nd_types.specs.Table.{type_at};
 ghost use Rattle.nd_types.specs.Layout.{arm_type};
 ghost use Rattle.nd_value.specs.Tree as tree;
@@ -9,7 +10,9 @@ ghost use Rattle.text_grammar.specs.Paths.{member_path, element_path, child_path
 ghost use Rattle.ndr_explain.specs.declared.levels.Level.TheVariants as level;
 ghost use Rattle.nd_flat.specs.FlatForm.{flat_seen};
 ghost use Rattle.std.specs.List.{slice_get};
-ghost use Rattle.ndr_explain.specs.Cursors.{level_types, level_paths, child_path, field_path, arm_path, armed_paths, elem_types, elem_paths, array_element, pipe_element, union_arm, index_paths, path_to, types_after, paths_after, inner_types, inner_paths, HasChild, IsLevelOf, IsChildLevel, AreLevelsOf};
+ghost use Rattle.ndr_explain.specs.Cursors.{level_types, level_paths, child_path, field_path, arm_path, armed_paths, elem_types, elem_paths};
+ghost use Rattle.ndr_explain.specs.Cursors.{array_element, pipe_element, union_arm, index_paths, path_to, types_after, paths_after, inner_types};
+ghost use Rattle.ndr_explain.specs.Cursors.{inner_paths, HasChild, IsLevelOf, IsChildLevel, AreLevelsOf};
 
 use nd_base::{Memory, Name, Octets};
 use nd_flat::Seen;
@@ -139,7 +142,8 @@ pub(crate) fn children<'a>(types: &'a Types, of: TypeId, seen: &Seen<'_>) -> Opt
 
 // The members of a struct, if it has any.
 fn members<'a>(types: &'a Types, of: TypeId) -> Option<Level<'a>>
-    ensures { (ks : Trees) → IsLevelOf (child_types (type_at types.now of.0) tree.Rec ks) (λ p. child_paths (type_at types.now of.0) tree.Rec p ks) result }
+    ensures { (ks : Trees)
+        → IsLevelOf (child_types (type_at types.now of.0) tree.Rec ks) (λ p. child_paths (type_at types.now of.0) tree.Rec p ks) result }
 {
     match types.get(of.0 as usize) {
         Some(TypeDef::Struct { members }) => first_member(members),
@@ -263,7 +267,8 @@ fn enter<'a>(
     top: Level<'a>,
     below: Vec<Level<'a>>,
 ) -> Result<Option<Levels<'a>>, Memory>
-    ensures { 0 < length (level_types inner.entry) → IfOk result (AreLevelsOf (level_types inner.entry ++ types_after (top.entry ∷ reverse below.entry.items))
+    ensures { 0 < length (level_types inner.entry)
+        → IfOk result (AreLevelsOf (level_types inner.entry ++ types_after (top.entry ∷ reverse below.entry.items))
         (λ p. level_paths (path_to p (top.entry ∷ reverse below.entry.items)) inner.entry ++ paths_after p (top.entry ∷ reverse below.entry.items))) }
 {
     let mut below = below;

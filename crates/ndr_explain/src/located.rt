@@ -34,7 +34,8 @@ pub(crate) fn locate<'a>(
     node: u32,
 ) -> Result<Option<Located<'a>>, Memory>
     requires tied { fit.now.interface ≡ interface.now }
-    ensures { (w : Setting) → IsSettingOf interface.now fit.now w → IsLast w fit.now.graph last.entry → IfOk result (IsFound w fit.now.graph home node) }
+    ensures { (w : Setting) → IsSettingOf interface.now fit.now w → IsLast w fit.now.graph last.entry
+        → IfOk result (IsFound w fit.now.graph home node) }
 {
     match resumed(last, home, node) {
         Some(found) => go_on(&interface.types, found, node),
@@ -155,7 +156,8 @@ fn first_of_root<'a>(
 
 // The first node of a cell.
 fn first_of_cell<'a>(alloc: Global, fit: &'a Fit, cell: CellId) -> Option<Cursor<'a>>
-    ensures is { (i : InterfaceValue) → fit.now.interface ≡ i → (w : Setting) → IsSettingOf i fit.now w → IsBegun w fit.now.graph (homes.Cell cell) result }
+    ensures is { (i : InterfaceValue) → fit.now.interface ≡ i → (w : Setting) → IsSettingOf i fit.now w
+        → IsBegun w fit.now.graph (homes.Cell cell) result }
     ensures first { IfSome result (λ c. c.node ≡ 0) }
 {
     let graph = fit.flat();

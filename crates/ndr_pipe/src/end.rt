@@ -21,8 +21,8 @@ pub trait PipeEnd: Drop {
         requires { (seen self.old).finished ≡ false }
         ensures { HasTaken (seen self.old) (seen self.new) line.now result };
 
-    /// Writes the lines that the end took and holds back. An end that holds nothing back does nothing, and that is what this does if an end does not say
-    /// otherwise. `EndFailed` comes only where the count of faults rose, and then the end is finished. The end must not be finished before.
+    /// Writes the lines that the end took and holds back. An end that holds nothing back does nothing, and that is what this does if an end does not
+    /// say otherwise. `EndFailed` comes only where the count of faults rose, and then the end is finished. The end must not be finished before.
     fn flush(&mut self) -> Result<(), EndFailed>
         requires { (seen self.old).finished ≡ false }
         ensures { HasFlushed (seen self.old) (seen self.new) result }
@@ -30,8 +30,8 @@ pub trait PipeEnd: Drop {
         Ok(())
     }
 
-    /// Writes what the end holds back, finishes it, and appends nothing. `EndFailed` comes only where the count of faults rose; the end is finished then too. The end must not
-    /// be finished before.
+    /// Writes what the end holds back, finishes it, and appends nothing. `EndFailed` comes only where the count of faults rose; the end is finished
+    /// then too. The end must not be finished before.
     fn finish(&mut self) -> Result<(), EndFailed>
         requires { (seen self.old).finished ≡ false }
         ensures { HasFinished (seen self.old) (seen self.new) result };

@@ -64,8 +64,8 @@ impl<E: PipeEnd> Ends<E> {
         self.items[at].take(line)
     }
 
-    /// Writes the lines that one end took and holds back, and leaves the others as they are. `EndFailed` comes only where the count of that end's faults rose. There
-    /// must be an end of this number, and it must not be finished. Takes no memory but what the end takes.
+    /// Writes the lines that one end took and holds back, and leaves the others as they are. `EndFailed` comes only where the count of that end's
+    /// faults rose. There must be an end of this number, and it must not be finished. Takes no memory but what the end takes.
     pub fn flush(&mut self, at: usize) -> Result<(), EndFailed>
         requires { IsOpenAt (ends_seen E.seen self.old) at }
         ensures { FlushesAt (ends_seen E.seen self.old) (ends_seen E.seen self.new) at result }

@@ -47,9 +47,10 @@ impl<R: rt::Files + Copy> Write for LateFile<R> {
     }
 }
 
-/// An end that writes to a file. It holds up to 64 KiB of lines back, and writes them when there is no more room for the next line, when it is flushed or
-/// finished, and when it is dropped; it cannot report that this last write failed. The file is made, or emptied, when something is first written, flushed or
-/// finished, so no file is made for an end that is never called. It shows nothing but whether it is finished. A call fails if the file cannot be made or written.
+/// An end that writes to a file. It holds up to 64 KiB of lines back, and writes them when there is no more room for the next line, when it is
+/// flushed or finished, and when it is dropped; it cannot report that this last write failed. The file is made, or emptied, when something is first
+/// written, flushed or finished, so no file is made for an end that is never called. It shows nothing but whether it is finished. A call fails if the
+/// file cannot be made or written.
 #[derive(Drop)]
 pub struct FileEnd<R: rt::Files + Copy> {
     writer: BufWriter<LateFile<R>>,
@@ -58,8 +59,8 @@ pub struct FileEnd<R: rt::Files + Copy> {
 }
 
 impl<R: rt::Files + Copy> FileEnd<R> {
-    /// An end that writes to the file of this name, a path from the current folder. Makes no file yet. Takes memory for the lines that are held back; running out of
-    /// memory is the only refusal.
+    /// An end that writes to the file of this name, a path from the current folder. Makes no file yet. Takes memory for the lines that are held back;
+    /// running out of memory is the only refusal.
     pub fn new(alloc: Global, rt: R, name: String) -> Result<Self, Memory>
         ensures finished { IfOk result (λ e. (⟦<FileEnd<R> as PipeEnd>⟧.seen e).finished ≡ false) }
         ensures faults { IfOk result (λ e. (⟦<FileEnd<R> as PipeEnd>⟧.seen e).faults ≡ 0) }

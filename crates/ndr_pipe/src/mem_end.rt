@@ -51,7 +51,8 @@ impl PipeEnd for MemEnd {
         ensures taken { written_octets (end_sink self.new) ≡ written_octets (end_sink self.old) ++ taken_of (end_sink self.old) line.now }
         ensures finished { is_finished self.new ≡ is_err result }
         ensures calls { CallMade (sink_calls (end_sink self.old)) (sink_calls (end_sink self.new)) }
-        ensures counted { sink_faults (end_sink self.new) ≡ (if is_err result then next_count (sink_faults (end_sink self.old)) else sink_faults (end_sink self.old)) }
+        ensures counted { sink_faults (end_sink self.new)
+            ≡ (if is_err result then next_count (sink_faults (end_sink self.old)) else sink_faults (end_sink self.old)) }
         ensures room { sink_room (end_sink self.new) ≡ sink_room (end_sink self.old) }
     {
         match self.sink.put(line) {
@@ -72,7 +73,8 @@ impl PipeEnd for MemEnd {
         ensures taken { written_octets (end_sink self.new) ≡ written_octets (end_sink self.old) }
         ensures finished { is_finished self.new ≡ true }
         ensures calls { CallMade (sink_calls (end_sink self.old)) (sink_calls (end_sink self.new)) }
-        ensures counted { sink_faults (end_sink self.new) ≡ (if is_err result then next_count (sink_faults (end_sink self.old)) else sink_faults (end_sink self.old)) }
+        ensures counted { sink_faults (end_sink self.new)
+            ≡ (if is_err result then next_count (sink_faults (end_sink self.old)) else sink_faults (end_sink self.old)) }
         ensures room { sink_room (end_sink self.new) ≡ sink_room (end_sink self.old) }
     {
         self.finished = true;

@@ -55,7 +55,8 @@ fn addresses(alloc: Global, interface: &Interface) -> Result<Addresses, Memory>
 
 // The runs of all types.
 fn push_types(code: &mut Code, interface: &Interface, addresses: &Addresses) -> Result<(), Memory>
-    ensures { OnOk result (code.new ≡ code.old ++ type_runs (place_in addresses.now) (whole_in addresses.now) interface.now.types 0 interface.now.types) }
+    ensures { OnOk result
+        (code.new ≡ code.old ++ type_runs (place_in addresses.now) (whole_in addresses.now) interface.now.types 0 interface.now.types) }
 {
     for at in 0..interface.types.len() {
         let Some(definition) = interface.types.get(at) else {

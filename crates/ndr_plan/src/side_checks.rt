@@ -50,7 +50,8 @@ fn push_check(
     field: u32,
     var: AttrVar,
 ) -> Result<(), Memory>
-    ensures { OnOk result (code.new ≡ code.old ++ check_by side (number_in numbers.now.here.items.items) (number_in numbers.now.asked.items.items) field var) }
+    ensures { OnOk result
+        (code.new ≡ code.old ++ check_by side (number_in numbers.now.here.items.items) (number_in numbers.now.asked.items.items) field var) }
 {
     match numbers.here.find(var.var) {
         Some(variable) => code.append(&[Instr::Check {
@@ -106,7 +107,8 @@ fn push_root(
 // The agreements of all roots.
 fn push_roots(code: &mut Code, side: &SideOf<'_>, numbers: &Numbers) -> Result<(), Memory>
     ensures { let check = check_by side.now.side (number_in numbers.now.here.items.items) (number_in numbers.now.asked.items.items) in
-        OnOk result (code.new ≡ code.old ++ checks_by check side.now.operation.now 0 (named_roots side.now.interface.now.types side.now.side side.now.operation.now)) }
+        OnOk result (code.new ≡ code.old
+        ++ checks_by check side.now.operation.now 0 (named_roots side.now.interface.now.types side.now.side side.now.operation.now)) }
 {
     let mut field: u32 = 0;
     for root in side.interface.params(side.op, side.side) {

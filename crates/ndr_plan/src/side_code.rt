@@ -131,7 +131,8 @@ impl Parts {
     // The runs of the roots that are no pipes.
     fn push_roots(&mut self, alloc: Global, side: &SideOf<'_>) -> Result<(), Memory>
         ensures { let table = side.now.interface.now.types in
-            OnOk result (HasRuns self.old self.new (value_run table) (value_line side.now.op side.now.operation.now side.now.side) (named_roots table side.now.side side.now.operation.now)) }
+            OnOk result (HasRuns self.old self.new (value_run table) (value_line side.now.op side.now.operation.now side.now.side)
+            (named_roots table side.now.side side.now.operation.now)) }
     {
         for root in side.interface.params(side.op, side.side) {
             self.push_root(alloc, side, &root)?;
@@ -142,7 +143,8 @@ impl Parts {
     // The runs of the pipes.
     fn push_pipes(&mut self, alloc: Global, side: &SideOf<'_>) -> Result<(), Memory>
         ensures { let table = side.now.interface.now.types in
-            OnOk result (HasRuns self.old self.new (pipe_run table) (pipe_line side.now.op side.now.operation.now side.now.side) (named_roots table side.now.side side.now.operation.now)) }
+            OnOk result (HasRuns self.old self.new (pipe_run table) (pipe_line side.now.op side.now.operation.now side.now.side)
+            (named_roots table side.now.side side.now.operation.now)) }
     {
         for root in side.interface.params(side.op, side.side) {
             self.push_pipe(alloc, side, &root)?;

@@ -3,7 +3,8 @@ ghost use Rattle.std.specs.Prelude.{◌≡◌, ◌++◌, ◌∷◌, [], OnOk, If
 ghost use Rattle.nd_types.specs.declared.types.TypeDef.TheVariants as def;
 ghost use Rattle.nd_types.specs.Layout.{hoists};
 ghost use Rattle.ndr_code.specs.declared.instr.Instr.TheVariants.{Align, Num, Enum, Ret};
-ghost use Rattle.ndr_code.specs.Code.{id, gap_run, arm_run, arms_code, default_code, member_calls, field_checks, member_checks, struct_run, array_run, union_run, text_bound, place_run, whole_run, type_run};
+ghost use Rattle.ndr_code.specs.Code.{id, gap_run, arm_run, arms_code, default_code, member_calls, field_checks, member_checks, struct_run};
+ghost use Rattle.ndr_code.specs.Code.{array_run, union_run, text_bound, place_run, whole_run, type_run};
 ghost use Rattle.ndr_plan.specs.Addresses.{place_in, whole_in};
 
 use crate::addresses::Addresses;
@@ -183,7 +184,8 @@ pub(crate) fn push_place(
     of: TypeId,
     definition: &TypeDef,
 ) -> Result<(), Memory>
-    ensures { OnOk result (code.new ≡ code.old ++ place_run (place_in addresses.now) (whole_in addresses.now) interface.now.types of.0 definition.now) }
+    ensures { OnOk result
+        (code.new ≡ code.old ++ place_run (place_in addresses.now) (whole_in addresses.now) interface.now.types of.0 definition.now) }
 {
     match definition {
         TypeDef::Prim(_) => push_primitive(code, interface.align(of), of),

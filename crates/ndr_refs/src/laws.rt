@@ -7,8 +7,8 @@ ghost use Rattle.ndr_refs.specs.declared.referents.RefFault.{RefFault};
 ghost use Rattle.ndr_refs.specs.Known.{IsKnown, IsMet, IsTurn};
 ghost use Rattle.ndr_refs.specs.Naming.{HasMet, IsOneToOne, IsUnnamed, NameAsBefore, cell_of};
 
-/// The numbers of a table are the domain of a map from numbers to cells: those that were met, and no others. The map is one to one as long as each number that is new
-/// is met with a cell that no number names.
+/// The numbers of a table are the domain of a map from numbers to cells: those that were met, and no others. The map is one to one as long as each
+/// number that is new is met with a cell that no number names.
 pub fn numbers_name_cells()
     ensures none { (n : ℕ) → cell_of n [] ≡ None }
     ensures met { (n : ℕ) (of : TypeId) (next c : CellId) (old new : List (ℕ × Known)) → IsMet n of next old (Ok c) new → HasMet n c old new }

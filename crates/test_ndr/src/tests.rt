@@ -169,7 +169,8 @@ fn are_written(
     )
 }
 
-// An array of structs with unique pointers: the graph, the octets taken, and the octets that the source has left. The source gives few octets at a call.
+// An array of structs with unique pointers: the graph, the octets taken, and the octets that the source has left. The source gives few octets at a
+// call.
 #[test]
 fn values_are_decoded(rt: HostRuntime) -> Result<(), Fail> {
     let mut octets = Octets::copy(rt.alloc(), HOLDERS_OCTETS)?;

@@ -1,5 +1,6 @@
 -- Decimal numbers: what `decimal` writes is read, and what is read is what `decimal` writes.
-use Rattle.std.proofs.Common.{◌≡◌, ◌≢◌, ℕ, zero, suc, ◌+◌, ◌-◌, ◌*◌, ◌/◌, ◌%◌, ◌^◌, ◌<◌, ◌≤◌, Bool, true, false, ◌&&◌, not, cond, eqb, List, [], ◌∷◌, ◌++◌, length, Some, None, refl, sym, ap, ap₂, subst, ◌∙◌, arith, inl, inr, append_assoc, append-nil, nat_le}
+use Rattle.std.proofs.Common.{◌≡◌, ◌≢◌, ℕ, zero, suc, ◌+◌, ◌-◌, ◌*◌, ◌/◌, ◌%◌, ◌^◌, ◌<◌, ◌≤◌, Bool, true, false, ◌&&◌, not, cond, eqb, List, [], ◌∷◌, ◌++◌, length, Some, None, refl, sym, ap, ap₂}
+use Rattle.std.proofs.Common.{subst, ◌∙◌, arith, inl, inr, append_assoc, append-nil, nat_le}
 use Rattle.std.specs.List.{list_all}
 use Rattle.std.specs.Fmt.{decimal}
 use Rattle.std.proofs.lemmas.Fmt.{decimal_digit, decimal_step_wide, decimal_by_steps_wide, length-decimal-le_wide}
@@ -148,7 +149,8 @@ module _ (n : ℕ) where
       let few : length all ≤ 20 = leb-true (length all) 20 r.0 in
       let below : value_from 0 all + 1 ≤ 10 ^ (0 + length all) = value_below 0 0 all r.1 (omega arith) in
       let low : value_from 0 all < 10 ^ 20 = omega (arith, below, fits (length all) few) in
-      let some : 0 < c - 48 = elim (cases_lt 0 (c - 48)) [ inl s ↦ s | inr none ↦ let z : eqb c 48 ≡ true = eq-eqb c 48 (omega (arith, none, range.0)) in absurd (both_ways false refl (sym (ap not z) ∙ p.0)) ] in
+      let some : 0 < c - 48 =
+      elim (cases_lt 0 (c - 48)) [ inl s ↦ s | inr none ↦ let z : eqb c 48 ≡ true = eq-eqb c 48 (omega (arith, none, range.0)) in absurd (both_ways false refl (sym (ap not z) ∙ p.0)) ] in
       let digit : decimal (0 * 10 + (c - 48)) ≡ c ∷ [] = decimal_digit (0 * 10 + (c - 48)) (omega (arith, range.1)) ∙ ap (λ (x : ℕ). x ∷ []) (omega (arith, range.0)) in
       let back : decimal (value_from 0 all) ≡ decimal (0 * 10 + (c - 48)) ++ (d ∷ ds) = value_after (0 * 10 + (c - 48)) (d ∷ ds) (omega (arith, some)) q.1 (omega (arith, low)) in
       (sym (ap decimal (sym e) ∙ back ∙ ap (λ (l : List ℕ). l ++ (d ∷ ds)) digit), omega (arith, e, low))

@@ -4,7 +4,8 @@ use Rattle.nd_types.specs.Roots.{roots_of}
 use Rattle.text_grammar.specs.declared.version.Version.TheVariants as version
 use Rattle.text_grammar.specs.Written.{graph_tokens}
 use Rattle.text_grammar.specs.Reads.{ReadsAs}
-use Rattle.text_grammar.specs.Examples.{adding, adding_text, three_numbers, ring, ring_text, ring_of_two, using, using_text, a_handle, putting, putting_text, putting_text_one, three_entries, listing, listing_text, four_lists, bytes, bytes_text, four_byte_lists}
+use Rattle.text_grammar.specs.Examples.{adding, adding_text, three_numbers, ring, ring_text, ring_of_two, using, using_text, a_handle, putting, putting_text, putting_text_one, three_entries, listing}
+use Rattle.text_grammar.specs.Examples.{listing_text, four_lists, bytes, bytes_text, four_byte_lists}
 use Rattle.text_grammar.proofs.Tested.{begins_tested}
 
 pub numbers_read : ReadsAs adding adding_text three_numbers

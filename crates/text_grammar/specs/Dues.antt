@@ -1,7 +1,8 @@
 -- What is due in a text: a list of dues, of which each token takes the first and may put others in its place. So a text is read token
 -- by token, from left to right, without looking ahead.
 -- `v` is a version, `w` a setting, `t` a type's number or a token, `d` what is due, `ds` are dues, `c` is a cell's number, `z` a number.
-use Rattle.std.specs.Prelude.{ℕ, ◌+◌, ℤ, pos, negsuc, Bool, true, false, ◌==◌, if◌then◌else◌, List, [], ◌∷◌, ◌++◌, map, flat_map, Option, None, Some, Result, Ok, Err, codes}
+use Rattle.std.specs.Prelude.{ℕ, ◌+◌, ℤ, pos, negsuc, Bool, true, false, ◌==◌, if◌then◌else◌, List, [], ◌∷◌, ◌++◌, map, flat_map, Option, None, Some}
+use Rattle.std.specs.Prelude.{Result, Ok, Err, codes}
 use Rattle.std.specs.Ordering.{int_eq}
 use Rattle.std.specs.Str.{bytes_eq}
 use Rattle.nd_types.specs.declared.types.TypeDef.{TypeDef}

@@ -82,7 +82,9 @@ abbrev pub putting : Setting
 putting =
     request_of (codes "put")
     (def.Enum (pos 0 ∷ pos 4 ∷ []) ∷ def.Union (id 12) false (file ∷ folder ∷ []) None
-    ∷ def.Struct (member (codes "kind") 12 ∷ member (codes "detail") 13 ∷ member (codes "name") 15 ∷ member (codes "parent") 16 ∷ member (codes "next") 17 ∷ [])
+    ∷ def.Struct
+    (member (codes "kind") 12 ∷ member (codes "detail") 13 ∷ member (codes "name") 15 ∷ member (codes "parent") 16 ∷ member (codes "next") 17
+    ∷ [])
     ∷ def.Text (id 1) (Some 16) ∷ def.Pointer Full (id 14) ∷ def.Pointer Unique (id 14) ∷ def.Array (id 2) None false ∷ [])
     (input (codes "e") 17 ∷ input (codes "n") 8 ∷ input (codes "data") 18 ∷ [])
 

@@ -1,6 +1,7 @@
 -- The text that is printed: the tokens of its lines in version 2, with the canonical blanks between them.
 -- `v` is a version, `t` and `u` are tokens, `b` is an octet, `n` a number below 16.
-use Rattle.std.specs.Prelude.{◌≡◌, ℕ, ◌/◌, ◌%◌, Bool, true, false, ◌==◌, ◌&&◌, ◌||◌, nat_le, if◌then◌else◌, List, [], ◌∷◌, ◌++◌, take, drop, map, flat_map, codes, decimal}
+use Rattle.std.specs.Prelude.{◌≡◌, ℕ, ◌/◌, ◌%◌, Bool, true, false, ◌==◌, ◌&&◌, ◌||◌, nat_le, if◌then◌else◌, List, [], ◌∷◌, ◌++◌, take, drop, map}
+use Rattle.std.specs.Prelude.{flat_map, codes, decimal}
 use Rattle.std.specs.Fmt.{signed_decimal}
 use Rattle.nd_base.specs.Text.{uuid_form, hex_digit}
 use Rattle.nd_types.specs.Table.{Table}

@@ -52,7 +52,8 @@ has_text_form v table (Some (def.Array elem bound varying)) (tree.Arr max offset
     has_maximum bound varying max ks && (has_offset varying offset && may_be_elements v (type_at table elem.0) ks)
 has_text_form v table (Some (def.Text elem (Some bound))) (tree.Text max octets) none = max == bound && list_all is_octet octets
 has_text_form v table (Some (def.Text elem None)) (tree.Text max octets) none = is_count max && list_all is_octet octets
-has_text_form v table (Some (def.Union tag encapsulated arms default)) (tree.Union z) ks = count ks == length (selected_types (selected arms default z))
+has_text_form v table (Some (def.Union tag encapsulated arms default)) (tree.Union z) ks =
+    count ks == length (selected_types (selected arms default z))
 has_text_form v table (Some (def.Pointer class to)) (tree.Ptr None) none = true
 has_text_form v table (Some (def.Pointer class to)) (tree.Ptr (Some c)) none = not (c == 0) && is_count c
 has_text_form v table (Some def.Context) (tree.Context attributes id) none = is_count attributes && (length id == 16 && list_all is_octet id)

@@ -1,5 +1,6 @@
 -- Runs of letters and digits at the front of a text, and the numbers that they write.
-use Rattle.std.specs.Prelude.{◌≡◌, ℕ, ◌+◌, ◌-◌, ◌*◌, ◌^◌, ◌<◌, Bool, true, false, ◌==◌, not, ◌&&◌, nat_le, if◌then◌else◌, List, [], ◌∷◌, ◌++◌, length, Option, None, Some, decimal}
+use Rattle.std.specs.Prelude.{◌≡◌, ℕ, ◌+◌, ◌-◌, ◌*◌, ◌^◌, ◌<◌, Bool, true, false, ◌==◌, not, ◌&&◌, nat_le, if◌then◌else◌, List, [], ◌∷◌, ◌++◌, length}
+use Rattle.std.specs.Prelude.{Option, None, Some, decimal}
 use Rattle.std.specs.List.{list_all}
 use Rattle.nd_base.specs.Text.{is_word_octet, is_digit}
 use Rattle.text_grammar.specs.Tokens.{ends_run}

@@ -5,7 +5,9 @@ ghost use Rattle.std.specs.Prelude.{◌≡◌};
 ghost use Rattle.text_grammar.specs.declared.version.Version.TheVariants as version;
 ghost use Rattle.text_grammar.specs.Printed.{graph_text};
 ghost use Rattle.text_grammar.specs.Reads.{ReadsAs};
-ghost use Rattle.text_grammar.specs.Examples.{adding, adding_text, three_numbers, ring, ring_text, ring_of_two, using, using_text, a_handle, putting, putting_text, putting_text_one, three_entries, listing, listing_text, four_lists, bytes, bytes_text, four_byte_lists};
+ghost use Rattle.text_grammar.specs.Examples.{adding, adding_text, three_numbers, ring, ring_text, ring_of_two, using, using_text, a_handle, putting};
+ghost use Rattle.text_grammar.specs.Examples.{putting_text, putting_text_one, three_entries, listing, listing_text, four_lists, bytes, bytes_text};
+ghost use Rattle.text_grammar.specs.Examples.{four_byte_lists};
 
 /// The text of three numbers.
 pub fn text_of_numbers()

@@ -116,7 +116,8 @@ module _ (ver : Version) (w : Setting) (side : IsLegalSide w) (g h : Graph) (c :
   root_fine : AllByRecursion FineHome (root_nodes w g 0 (root_list w) g.roots)
   root_fine = all_left FineHome (root_nodes w g 0 (root_list w) g.roots) (cell_nodes w.table 1 g.cells) fine
 
-  cell_fine_at : (n : ℕ) (xs : List Referent) (i : ℕ) (x : Referent) → slice_get xs i ≡ Some x → AllByRecursion FineHome (cell_nodes w.table n xs) → AllByRecursion FineNode (home_nodes w.table x.of x.val)
+  cell_fine_at : (n : ℕ) (xs : List Referent) (i : ℕ) (x : Referent) → slice_get xs i ≡ Some x → AllByRecursion FineHome (cell_nodes w.table n xs)
+      → AllByRecursion FineNode (home_nodes w.table x.of x.val)
   cell_fine_at n [] i x e a = cc
   cell_fine_at n (y ∷ ys) zero x e a =
       subst (λ u. AllByRecursion FineNode (home_nodes w.table u.of u.val)) (same_Some _ _ e)
@@ -129,7 +130,8 @@ module _ (ver : Version) (w : Setting) (side : IsLegalSide w) (g h : Graph) (c :
 
   -- ## Forms
 
-  roots_stand : (i : ℕ) (rs : List Root) (vs us : List Tree) → renumbered m (trees vs) ≡ trees us → AllByRecursion FineHome (root_nodes w g i rs vs) → AllByRecursion StandsHome (root_nodes w h i rs us)
+  roots_stand : (i : ℕ) (rs : List Root) (vs us : List Tree) → renumbered m (trees vs) ≡ trees us → AllByRecursion FineHome (root_nodes w g i rs vs)
+      → AllByRecursion StandsHome (root_nodes w h i rs us)
   roots_stand i [] vs us e a = tt
   roots_stand i (r ∷ rs) vs [] e a = tt
   roots_stand i (r ∷ rs) [] (u ∷ us) e a = cc
@@ -161,7 +163,8 @@ module _ (ver : Version) (w : Setting) (side : IsLegalSide w) (g h : Graph) (c :
       subst (λ t. AllByRecursion StandsNode (home_nodes w.table t y.val)) o.of
       (subst (λ (t : Trees). AllByRecursion StandsNode (nodes_of w.table (o.cell.of ∷ []) [] 0 t)) o.val
       (nodes_carried w.table small ver g m within (o.cell.of ∷ []) [] [] 0 0 (more o.cell.val none) (cell_fine o.index o.cell o.there))) in
-      all_append StandsHome (map (in_home (cell_home n)) (home_nodes w.table y.of y.val)) (cell_nodes w.table (n + 1) ys) (to_map StandsHome (in_home (cell_home n)) (home_nodes w.table y.of y.val) here)
+      all_append StandsHome (map (in_home (cell_home n)) (home_nodes w.table y.of y.val)) (cell_nodes w.table (n + 1) ys)
+      (to_map StandsHome (in_home (cell_home n)) (home_nodes w.table y.of y.val) here)
       (cells_stand (n + 1) (suc j) ys (suffix_next h.cells j y ys x))
 
   stand : AllByRecursion StandsHome (all_nodes w h)
@@ -237,7 +240,8 @@ module _ (ver : Version) (w : Setting) (side : IsLegalSide w) (g h : Graph) (c :
       let ps : List Pending = home_pointers w.table d o.cell.of o.cell.val in
       let r = pend_back m ps (home_pointers w.table d y.of y.val) (cells_alike o.cell y d d o.of o.val) q a in
       typed_by r.0 q r.2
-      (all_among (Pointee g) ps r.0 r.1 (pointees g w.table d (o.cell.of ∷ []) [] [] 0 (more o.cell.val none) (pointer_fits (home_nodes w.table o.cell.of o.cell.val) (cell_fine o.index o.cell o.there))))
+      (all_among (Pointee g) ps r.0 r.1
+      (pointees g w.table d (o.cell.of ∷ []) [] [] 0 (more o.cell.val none) (pointer_fits (home_nodes w.table o.cell.of o.cell.val) (cell_fine o.index o.cell o.there))))
 
   -- ## Names
 
@@ -279,7 +283,8 @@ module _ (ver : Version) (w : Setting) (side : IsLegalSide w) (g h : Graph) (c :
         let Y : Referent = get_or h.cells t z in
         let thereY : slice_get h.cells t ≡ Some Y = slice_get-get_or h.cells t z (omega (arith, low, mt, few)) in
         let same = canon.same.cells i t x Y (ap (cell_of_number g) (sym di) ∙ there) (ap m (sym di) ∙ mt) thereY in
-        let r = pend_among m (home_pointers w.table (cell_home d) x.of x.val) (home_pointers w.table (cell_home (suc t)) Y.of Y.val) (cells_alike x Y (cell_home d) (cell_home (suc t)) same.0 same.1) p a in
+        let r = pend_among m (home_pointers w.table (cell_home d) x.of x.val) (home_pointers w.table (cell_home (suc t)) Y.of Y.val)
+        (cells_alike x Y (cell_home d) (cell_home (suc t)) same.0 same.1) p a in
         found r.0 (b.cells t Y r.0 (omega (arith, low, mt)) thereY r.1) (r.2 ∙ ap (carried m) f ∙ ap Some o.image)
 
     by : IsSource w side g c L (suc o.index) → first_type before (suc j) ≡ Some y.of

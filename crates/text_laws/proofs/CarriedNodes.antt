@@ -1,6 +1,7 @@
 -- For graphs that are the same up to the numbers of their cells: where one conforms, the nodes of the other have the forms of a text.
 -- `d` is a node's type, `l` its label, `ks` are its children, `m` carries numbers of cells.
-use Rattle.std.proofs.Common.{◌≡◌, ℕ, ◌+◌, cond, replicate, ◌-◌, ◌<◌, ◌≤◌, ◌^◌, ℤ, pos, negsuc, Bool, true, false, not, ◌&&◌, ◌||◌, eqb, List, [], ◌∷◌, length, Option, Some, None, refl, ap, sym, ◌∙◌, subst, arith, lit<, int_le, unsigned_abs}
+use Rattle.std.proofs.Common.{◌≡◌, ℕ, ◌+◌, cond, replicate, ◌-◌, ◌<◌, ◌≤◌, ◌^◌, ℤ, pos, negsuc, Bool, true, false, not, ◌&&◌, ◌||◌, eqb, List, [], ◌∷◌, length, Option, Some, None, refl, ap, sym, ◌∙◌}
+use Rattle.std.proofs.Common.{subst, arith, lit<, int_le, unsigned_abs}
 use Rattle.std.specs.Ordering.{int_eq}
 use Rattle.std.specs.List.{list_all, list_any, AllByRecursion}
 use Rattle.std.proofs.lemmas.Int.{ints}
@@ -56,12 +57,13 @@ primitive_short UnsignedHyper z h = unsigned_short (2 ^ 64 - 1) z (lit< tt) h
 
 enumerated_short : (vs : List ℤ) (z : ℤ) → list_all (λ v. int_le (pos 0) v && int_le v (pos ENUMERATOR_LIMIT)) vs ≡ true → list_any (int_eq z) vs ≡ true → unsigned_abs z < 10 ^ 20
 enumerated_short [] z h a = cc
-enumerated_short (v ∷ vs) z h a = by (int_eq z v) refl a (and_parts (int_le (pos 0) v && int_le v (pos ENUMERATOR_LIMIT)) (list_all (λ y. int_le (pos 0) y && int_le y (pos ENUMERATOR_LIMIT)) vs) h) (enumerated_short vs z) where
-  by : (b : Bool) → int_eq z v ≡ b → (b || list_any (int_eq z) vs) ≡ true
-      → ((int_le (pos 0) v && int_le v (pos ENUMERATOR_LIMIT)) ≡ true) × (list_all (λ y. int_le (pos 0) y && int_le y (pos ENUMERATOR_LIMIT)) vs ≡ true)
-      → (list_all (λ y. int_le (pos 0) y && int_le y (pos ENUMERATOR_LIMIT)) vs ≡ true → list_any (int_eq z) vs ≡ true → unsigned_abs z < 10 ^ 20) → unsigned_abs z < 10 ^ 20
-  by true e a p again = subst (λ y. unsigned_abs y < 10 ^ 20) (sym ((Decides-int_eq z v).0 e)) (unsigned_short ENUMERATOR_LIMIT v (lit< tt) p.0)
-  by false e a p again = again p.1 a
+enumerated_short (v ∷ vs) z h a =
+    by (int_eq z v) refl a (and_parts (int_le (pos 0) v && int_le v (pos ENUMERATOR_LIMIT)) (list_all (λ y. int_le (pos 0) y && int_le y (pos ENUMERATOR_LIMIT)) vs) h) (enumerated_short vs z) where
+      by : (b : Bool) → int_eq z v ≡ b → (b || list_any (int_eq z) vs) ≡ true
+          → ((int_le (pos 0) v && int_le v (pos ENUMERATOR_LIMIT)) ≡ true) × (list_all (λ y. int_le (pos 0) y && int_le y (pos ENUMERATOR_LIMIT)) vs ≡ true)
+          → (list_all (λ y. int_le (pos 0) y && int_le y (pos ENUMERATOR_LIMIT)) vs ≡ true → list_any (int_eq z) vs ≡ true → unsigned_abs z < 10 ^ 20) → unsigned_abs z < 10 ^ 20
+      by true e a p again = subst (λ y. unsigned_abs y < 10 ^ 20) (sym ((Decides-int_eq z v).0 e)) (unsigned_short ENUMERATOR_LIMIT v (lit< tt) p.0)
+      by false e a p again = again p.1 a
 
 value_short : (d : Option TypeDef) (z : ℤ) → ((vs : List ℤ) → d ≡ Some (def.Enum vs) → has_small_values (def.Enum vs) ≡ true) → is_value d z ≡ true → unsigned_abs z < 10 ^ 20
 value_short (Some (def.Prim p)) z small v = primitive_short p z v
@@ -100,7 +102,8 @@ module _ (v : Version) (table : Table) where
       and_from (eqb max b) (eqb offset 0 && may_be_elements v (type_at table x.0) (renumbered m ks)) q.0 (and_from (eqb offset 0) (may_be_elements v (type_at table x.0) (renumbered m ks)) q.1 e)
   form_carried m (Some (def.Array x None true)) (tree.Arr max offset) ks s k a w c e =
       let p = and_parts (is_count max) (is_count offset) w in
-      and_from (is_count max) (is_count offset && may_be_elements v (type_at table x.0) (renumbered m ks)) p.0 (and_from (is_count offset) (may_be_elements v (type_at table x.0) (renumbered m ks)) p.1 e)
+      and_from (is_count max) (is_count offset && may_be_elements v (type_at table x.0) (renumbered m ks)) p.0
+      (and_from (is_count offset) (may_be_elements v (type_at table x.0) (renumbered m ks)) p.1 e)
   form_carried m (Some (def.Array x None false)) (tree.Arr max offset) ks s k a w c e =
       let p = and_parts (true && eqb offset 0) (eqb (count ks) max) k in
       and_from (eqb max (count (renumbered m ks))) (eqb offset 0 && may_be_elements v (type_at table x.0) (renumbered m ks))
@@ -202,7 +205,8 @@ module _ (table : Table) (small : list_all has_small_values table ≡ true) wher
     bytes_alone version.Two (Some (def.Prim Byte)) e = refl
     bytes_alone u d e = cc
 
-    list_fine : (t : ℕ) (ags : List (List Agreement)) (n : ℕ) (ks : Trees) → AllByRecursion Fine (nodes_of table (replicate (count ks) t) ags n ks) → may_be_elements v (type_at table t) (renumbered m ks) ≡ true
+    list_fine : (t : ℕ) (ags : List (List Agreement)) (n : ℕ) (ks : Trees) → AllByRecursion Fine (nodes_of table (replicate (count ks) t) ags n ks)
+        → may_be_elements v (type_at table t) (renumbered m ks) ≡ true
     list_fine t ags n ks a = by (writes_octets v (type_at table t)) refl where
       by : (b : Bool) → writes_octets v (type_at table t) ≡ b → cond b (are_octets (renumbered m ks)) true ≡ true
       by true e = octets_fine t (bytes_alone v (type_at table t) e) ags n ks a

@@ -35,7 +35,8 @@ module _ (table : Table) where
     read t rest c (Ok y) f again = let r = again y (t ∷ before) rest (omega (arith, cut_less (cutting before) text t rest c, few)) in (r.0, goes_on y t rest c f r.1)
     read t rest c (Err why) f again = (Stopped (length (skip text)) why, refused t rest why c f)
 
-    by : (l : Lexeme) → IsNext (cutting before) text l → ((y : Reading) (b : List Token) (u : List ℕ) → length u < n → (e : Ending) × ComesTo table y b u e) → (e : Ending) × ComesTo table x before text e
+    by : (l : Lexeme) → IsNext (cutting before) text l → ((y : Reading) (b : List Token) (u : List ℕ) → length u < n → (e : Ending) × ComesTo table y b u e)
+        → (e : Ending) × ComesTo table x before text e
     by (Cut t) c again = read t c.0 c.1 (next_read table x t) refl again
     by End c again = (at_end x, ended c)
     by Bad c again = (Stopped (length (skip text)) reason.BadToken, no_token c)
@@ -81,7 +82,8 @@ module _ (table : Table) where
       let same : x ≡ y = cc in
       subst (λ (l : List ℕ). ComesTo table x before l e) (sym b) (subst (λ (z : Reading). ComesTo table z before mid e) (sym same) c)
   comes_after x y before text (t ∷ ts) mid e b r c = by (next_read table x t) refl r (λ z r. comes_after z y (t ∷ before) b.0 ts mid e b.2 r c) where
-    by : (o : Result Reading TextReason) → next_read table x t ≡ o → go_on table o ts ≡ Ok y → ((z : Reading) → all_read table z ts ≡ Ok y → ComesTo table z (t ∷ before) b.0 e) → ComesTo table x before text e
+    by : (o : Result Reading TextReason) → next_read table x t ≡ o → go_on table o ts ≡ Ok y → ((z : Reading) → all_read table z ts ≡ Ok y → ComesTo table z (t ∷ before) b.0 e)
+        → ComesTo table x before text e
     by (Ok z) f r again = goes_on z t b.0 b.1 f (again z r)
     by (Err why) f r again = cc
 

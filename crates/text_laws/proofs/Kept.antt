@@ -9,7 +9,8 @@ use Rattle.nd_base.specs.Text.{is_word_octet, has_form, uuid_form}
 use Rattle.nd_value.specs.Misfit.{is_octet}
 use Rattle.text_grammar.specs.declared.version.Version.{Version}
 use Rattle.text_grammar.specs.declared.version.Version.TheVariants as version
-use Rattle.text_grammar.specs.Tokens.{Token, Word, Number, Cell, Str, Bytes, Uuid, Mark, Spells, Cutting, cutting, IsCut, Begins, is_uuid, is_bytes, begins_bytes, skip, is_mark, ends_run, uuid_due, is_version_two, after}
+use Rattle.text_grammar.specs.Tokens.{Token, Word, Number, Cell, Str, Bytes, Uuid, Mark, Spells, Cutting, cutting, IsCut, Begins, is_uuid, is_bytes, begins_bytes, skip, is_mark, ends_run, uuid_due}
+use Rattle.text_grammar.specs.Tokens.{is_version_two, after}
 use Rattle.text_grammar.specs.Written.{Piece, token_of}
 use Rattle.text_grammar.specs.Printed.{is_equals, is_comma, is_run, space, spelled, tokens_text, line_text}
 use Rattle.text_reading_laws.specs.Settled.{is_two, IsSettled, is_simple}
@@ -59,7 +60,8 @@ no_uuid_token (Bytes octets) s = refl
 no_uuid_token (Uuid id) s = cc
 no_uuid_token (Mark m) s = refl
 
-pub kept_more : (v : Version) (t : Token) (ts : List Token) → IsToken t → is_simple t ≡ true → (is_bytes t ≡ true → is_two v ≡ true) → (is_run t && starts_string ts) ≡ false → Kept v ts → Kept v (t ∷ ts)
+pub kept_more : (v : Version) (t : Token) (ts : List Token) → IsToken t → is_simple t ≡ true → (is_bytes t ≡ true → is_two v ≡ true) → (is_run t && starts_string ts) ≡ false → Kept v ts
+    → Kept v (t ∷ ts)
 kept_more v t ts h s b j k before c i =
     let r = k (t ∷ before) (settled_next v t before s c) j in
     ((h, c.calm.now ∙ sym (no_uuid_token t s), λ x. c.version ∙ b x, i, r.0), r.1)
@@ -183,10 +185,12 @@ read_alike : (before : List Token) (text other : List ℕ) (ts : List Token) (re
 read_alike before text other [] rest e r = record { end = other; begins = refl; left = sym e ∙ ap skip r.begins ∙ r.left }
 read_alike before text other (t ∷ ts) rest e r = record { end = r.end; begins = (r.begins.0, cut_alike (cutting before) text other t r.begins.0 e r.begins.1, r.begins.2); left = r.left }
 
-read_more : (before : List Token) (text : List ℕ) (t : Token) (ts : List Token) (mid rest : List ℕ) → IsCut (cutting before) text t mid → AreRead (t ∷ before) mid ts rest → AreRead before text (t ∷ ts) rest
+read_more : (before : List Token) (text : List ℕ) (t : Token) (ts : List Token) (mid rest : List ℕ) → IsCut (cutting before) text t mid → AreRead (t ∷ before) mid ts rest
+    → AreRead before text (t ∷ ts) rest
 read_more before text t ts mid rest c r = record { end = r.end; begins = (mid, c, r.begins); left = r.left }
 
-pub read_both : (before : List Token) (text : List ℕ) (ts us : List Token) (mid rest : List ℕ) → AreRead before text ts mid → AreRead (after before ts) mid us rest → AreRead before text (ts ++ us) rest
+pub read_both : (before : List Token) (text : List ℕ) (ts us : List Token) (mid rest : List ℕ) → AreRead before text ts mid → AreRead (after before ts) mid us rest
+    → AreRead before text (ts ++ us) rest
 read_both before text [] us mid rest a b = read_alike before mid text us rest (sym a.left ∙ ap skip (sym a.begins)) b
 read_both before text (t ∷ ts) us mid rest a b =
     read_more before text t (ts ++ us) a.begins.0 rest a.begins.1
@@ -206,7 +210,8 @@ pub line_read : (before ts : List Token) (more : List ℕ) → AreTokens before 
 line_read before [] more a = record { end = 10 ∷ more; begins = refl; left = refl }
 line_read before (t ∷ []) more a =
     subst (λ (text : List ℕ). AreRead before text (t ∷ []) more) (sym (append_assoc (spelled t) (10 ∷ []) more))
-    (read_more before (spelled t ++ (10 ∷ more)) t [] (10 ∷ more) more (token_cut (cutting before) t (10 ∷ more) a.0 a.1 a.2 (λ r. refl) (λ r. refl)) (record { end = 10 ∷ more; begins = refl; left = refl }))
+    (read_more before (spelled t ++ (10 ∷ more)) t [] (10 ∷ more) more (token_cut (cutting before) t (10 ∷ more) a.0 a.1 a.2 (λ r. refl) (λ r. refl))
+    (record { end = 10 ∷ more; begins = refl; left = refl }))
 line_read before (t ∷ u ∷ us) more a =
     let rest : List ℕ = line_text (u ∷ us) ++ more in
     let next : rest ≡ spelled u ++ (tail_text u us ++ more) = ap (λ (l : List ℕ). l ++ more) (line_first u us) ∙ append_assoc (spelled u) (tail_text u us) more in

@@ -1,6 +1,7 @@
 -- The text of a graph that a text can name is read as that graph.
 -- `v` is a version, `d` a node's type, `l` its label, `ks` are its children, `values` are the pieces of values, `x` is a value or a cell.
-use Rattle.std.proofs.Common.{◌≡◌, ℕ, zero, suc, ◌+◌, ◌<◌, ◌≤◌, ◌^◌, pos, Bool, true, false, not, ◌&&◌, cond, eqb, List, [], ◌∷◌, ◌++◌, length, map, Option, Some, None, refl, ap, sym, subst, ◌∙◌, arith, codes, lit<, unsigned_abs, length-append}
+use Rattle.std.proofs.Common.{◌≡◌, ℕ, zero, suc, ◌+◌, ◌<◌, ◌≤◌, ◌^◌, pos, Bool, true, false, not, ◌&&◌, cond, eqb, List, [], ◌∷◌, ◌++◌, length, map, Option, Some, None, refl, ap, sym, subst, ◌∙◌}
+use Rattle.std.proofs.Common.{arith, codes, lit<, unsigned_abs, length-append}
 use Rattle.std.specs.Prelude.{flat_map}
 use Rattle.std.specs.List.{list_all, AllByRecursion}
 use Rattle.std.proofs.lemmas.List.{map-append}
@@ -28,7 +29,8 @@ use Rattle.text_grammar.specs.declared.version.Version.{Version}
 use Rattle.text_grammar.specs.declared.version.Version.TheVariants as version
 use Rattle.text_grammar.specs.declared.TheConstants.{TEXT_LIMIT}
 use Rattle.text_grammar.specs.Tokens.{Token, Word, Number, Cell, Str, Bytes, Mark, is_bytes, is_mark}
-use Rattle.text_grammar.specs.Written.{Piece, Name, Other, word, token_of, separated, enclosed, named, members, octet_in, octets_in, writes_octets, list_pieces, array_counts, node_pieces, values_pieces, value_pieces, version_number, side_word, root_name, head_lines, root_lines, cell_lines, graph_lines, graph_tokens}
+use Rattle.text_grammar.specs.Written.{Piece, Name, Other, word, token_of, separated, enclosed, named, members, octet_in, octets_in, writes_octets, list_pieces, array_counts, node_pieces}
+use Rattle.text_grammar.specs.Written.{values_pieces, value_pieces, version_number, side_word, root_name, head_lines, root_lines, cell_lines, graph_lines, graph_tokens}
 use Rattle.text_grammar.specs.Printed.{is_run, tokens_text, graph_text}
 use Rattle.text_grammar.specs.Readable.{has_maximum, has_offset, may_be_elements, is_octet_number, are_octets, has_text_form, IsReadable}
 use Rattle.text_grammar.specs.Reads.{ReadsAs}
@@ -162,8 +164,10 @@ module _ (v : Version) where
         let f1 = and_parts (has_text_form v table d l us) _ f in
         let f2 = and_parts (have_forms v table (child_types d l us) us) (have_forms v table types ks) f1.1 in
         let p = and_parts (is_short l) (have_short us && have_short ks) h in
-        let q = and_parts (have_short us) (have_short ks) p.1 in
-        (node_kept table d l us (values_pieces v table (child_types d l us) us) (form_of v table d l us f1.0) p.0 (words t) (values_kept (child_types d l us) us f2.0 q.0), values_kept types ks f2.1 q.1)
+        let q = and_parts (have_short us) (have_short ks) p.1 in (
+          node_kept table d l us (values_pieces v table (child_types d l us) us) (form_of v table d l us f1.0) p.0 (words t) (values_kept (child_types d l us) us f2.0 q.0),
+          values_kept types ks f2.1 q.1,
+        )
 
     value_kept : (t : ℕ) (x : Tree) → have_forms v table (t ∷ []) (more x none) ≡ true → have_short (more x none) ≡ true → KeptPieces v (value_pieces v table t x)
     value_kept t (node l us) f h = (values_kept (t ∷ []) (more (node l us) none) f h).0

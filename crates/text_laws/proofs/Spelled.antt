@@ -1,5 +1,6 @@
 -- What is printed of a token is that token: its octets spell it, and begin with no blank.
-use Rattle.std.proofs.Common.{◌≡◌, ℕ, suc, ◌+◌, ◌-◌, ◌*◌, ◌/◌, ◌%◌, ◌^◌, ◌<◌, ◌≤◌, pos, negsuc, Bool, true, false, not, ◌&&◌, ◌||◌, cond, eqb, List, [], ◌∷◌, ◌++◌, length, take, drop, Some, None, refl, ap, ap₂, sym, ◌∙◌, subst, append_assoc, arith, unsigned_abs, nat_le}
+use Rattle.std.proofs.Common.{◌≡◌, ℕ, suc, ◌+◌, ◌-◌, ◌*◌, ◌/◌, ◌%◌, ◌^◌, ◌<◌, ◌≤◌, pos, negsuc, Bool, true, false, not, ◌&&◌, ◌||◌, cond, eqb, List, [], ◌∷◌, ◌++◌, length, take, drop, Some, None}
+use Rattle.std.proofs.Common.{refl, ap, ap₂, sym, ◌∙◌, subst, append_assoc, arith, unsigned_abs, nat_le}
 use Rattle.std.specs.Prelude.{filter, flat_map}
 use Rattle.std.specs.List.{list_all}
 use Rattle.std.specs.Fmt.{decimal}
@@ -8,7 +9,8 @@ use Rattle.std.proofs.lemmas.Bool.{and_parts, and_from, cond-true, cond-false, l
 use Rattle.std.proofs.lemmas.Bool.Decides.{nat_tests}
 use Rattle.nd_base.specs.Text.{is_word, is_letter, is_digit, is_word_octet, is_hex_digit, hex_value, has_form, uuid_form, hex_digit}
 use Rattle.nd_value.specs.Misfit.{is_octet}
-use Rattle.text_grammar.specs.Tokens.{Token, Word, Number, Cell, Str, Bytes, Uuid, Mark, Spells, Cutting, IsCut, is_uuid, is_bytes, begins_bytes, IsString, IsByteString, character, escape, hex_pair, is_plain, skip, is_blank, is_mark, ends_run}
+use Rattle.text_grammar.specs.Tokens.{Token, Word, Number, Cell, Str, Bytes, Uuid, Mark, Spells, Cutting, IsCut, is_uuid, is_bytes, begins_bytes, IsString, IsByteString, character, escape, hex_pair}
+use Rattle.text_grammar.specs.Tokens.{is_plain, skip, is_blank, is_mark, ends_run}
 use Rattle.text_grammar.specs.Tokens as tokens
 use Rattle.text_grammar.specs.Printed.{hex_octet, hex_text, uuid_text, fill, escaped, spelled, is_run}
 use Rattle.text_grammar.proofs.Classes.{range_digit}

@@ -20,7 +20,8 @@ pub use text_reading_laws::laws::{never_both, one_fault, one_graph};
 /// The text of a graph that a text can name is read as that graph, in either version: of each side of a legal interface, within the
 /// limit, and where numbers have at most 20 digits, as those of every graph that conforms have.
 pub fn text_is_read()
-    ensures { (v : Version) (w : Setting) (g : Graph) → IsLegalSide w → IsReadable v w g → HasShortNumbers w g → length (graph_text v w g) ≤ TEXT_LIMIT
+    ensures { (v : Version) (w : Setting) (g : Graph) → IsLegalSide w → IsReadable v w g → HasShortNumbers w g
+        → length (graph_text v w g) ≤ TEXT_LIMIT
         → ReadsAs w (graph_text v w g) g }
 {}
 
@@ -34,7 +35,8 @@ pub fn reading_after_printing()
 /// Each graph that conforms has one text.
 pub fn one_text()
     ensures exists { (w : Setting) (g : Graph) → IsLegalSide w → Conforms w g → (text : List ℕ) × IsText w g text }
-    ensures alone { (w : Setting) (g : Graph) (text other : List ℕ) → IsLegalSide w → Conforms w g → IsText w g text → IsText w g other → text ≡ other }
+    ensures alone { (w : Setting) (g : Graph) (text other : List ℕ) → IsLegalSide w → Conforms w g → IsText w g text → IsText w g other
+        → text ≡ other }
 {}
 
 /// Two graphs that conform to one side have one text exactly if they are the same up to the numbers of their cells.

@@ -37,7 +37,8 @@ Wrong d (lexeme.Mark c) why = IsWrong d (Cut (Mark c)) why
 Wrong d lexeme.End why = IsWrong d End why
 Wrong d lexeme.Bad why = IsWrong d Bad why
 
-pub misses : (v : Version) (d : Due) (text here rest : List ℕ) (l : shown.Lexeme) (why : TextReason) → here ≡ skip text → Comes v text l rest → Wrong d l why → Misses v d text (stop.At (length here) why)
+pub misses : (v : Version) (d : Due) (text here rest : List ℕ) (l : shown.Lexeme) (why : TextReason) → here ≡ skip text → Comes v text l rest → Wrong d l why
+    → Misses v d text (stop.At (length here) why)
 misses v d text here rest (lexeme.Word word) why e c w = record { left_is = ap length e; next = Cut (Word word.now); is_next = (rest, c); wrong = w }
 misses v d text here rest (lexeme.Number z) why e c w = record { left_is = ap length e; next = Cut (Number z); is_next = (rest, c); wrong = w }
 misses v d text here rest (lexeme.Cell n) why e c w = record { left_is = ap length e; next = Cut (Cell n); is_next = (rest, c); wrong = w }

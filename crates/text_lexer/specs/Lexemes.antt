@@ -7,7 +7,8 @@ use Rattle.nd_value.specs.Misfit.{is_count}
 use Rattle.text_grammar.specs.declared.version.Version.{Version}
 use Rattle.text_grammar.specs.declared.fault.TextReason.{TextReason}
 use Rattle.text_grammar.specs.declared.fault.TextReason.TheVariants as reason
-use Rattle.text_grammar.specs.Tokens.{Token, Word, Number, Cell, Str, Bytes, Mark, Spells, is_uuid, is_bytes, is_mark, begins_bytes, skip, IsString, IsByteString, Cutting, IsCut}
+use Rattle.text_grammar.specs.Tokens.{Token, Word, Number, Cell, Str, Bytes, Mark, Spells, is_uuid, is_bytes, is_mark, begins_bytes, skip, IsString}
+use Rattle.text_grammar.specs.Tokens.{IsByteString, Cutting, IsCut}
 use Rattle.text_grammar.specs.Reads.{IsNext, Bad}
 use Rattle.text_grammar.specs.Dues.{is_count_token, version_of}
 use Rattle.text_reading_laws.specs.Settled.{is_two}

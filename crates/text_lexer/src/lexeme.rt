@@ -121,7 +121,8 @@ fn first_plain(text: &[u8]) -> (Lexeme<'_>, &[u8])
 
 /// What follows `x"` at the front of a text of version 2.
 fn bytes_body(version: Version, text: &[u8]) -> Option<&[u8]>
-    ensures { MatchOption result ((is_two version && begins_bytes text.now) ≡ false) (λ body. (is_two version ≡ true) × (text.now ≡ 120 ∷ 34 ∷ body.now)) }
+    ensures { MatchOption result ((is_two version && begins_bytes text.now) ≡ false)
+        (λ body. (is_two version ≡ true) × (text.now ≡ 120 ∷ 34 ∷ body.now)) }
 {
     match version {
         Version::One => None,

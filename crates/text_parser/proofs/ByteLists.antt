@@ -1,5 +1,6 @@
 -- Lists of bytes by their digits.
-use Rattle.std.proofs.Common.{◌≡◌, ℕ, ◌+◌, ◌*◌, ◌<◌, pos, Bool, true, false, ◌&&◌, ◌||◌, cond, eqb, if◌then◌else◌, List, [], ◌∷◌, ◌++◌, length, map, replicate, Option, Some, None, refl, sym, ap, subst, ◌∙◌, arith}
+use Rattle.std.proofs.Common.{◌≡◌, ℕ, ◌+◌, ◌*◌, ◌<◌, pos, Bool, true, false, ◌&&◌, ◌||◌, cond, eqb, if◌then◌else◌, List, [], ◌∷◌, ◌++◌, length, map, replicate, Option, Some, None, refl, sym, ap}
+use Rattle.std.proofs.Common.{subst, ◌∙◌, arith}
 use Rattle.std.specs.List.{list_all}
 use Rattle.std.proofs.lemmas.Option.{same_Some}
 use Rattle.std.proofs.lemmas.Bool.{and_parts, and_from, lt-ltb}
@@ -113,7 +114,9 @@ module _ (v : Version) (table : Table) (t : ℕ) (octets : writes_octets v (type
   byte_forms : (os : List ℕ) → have_forms v table (replicate (length os) t) (trees (byte_trees os)) ≡ true
   byte_forms [] = refl
   byte_forms (b ∷ os) =
-      subst (λ (d : Option TypeDef). (has_text_form v table d (tree.Num (pos b)) none && (have_forms v table (child_types d (tree.Num (pos b)) none) none && have_forms v table (replicate (length os) t) (trees (byte_trees os)))) ≡ true)
+      subst (λ (d : Option TypeDef).
+      (has_text_form v table d (tree.Num (pos b)) none
+      && (have_forms v table (child_types d (tree.Num (pos b)) none) none && have_forms v table (replicate (length os) t) (trees (byte_trees os)))) ≡ true)
       (sym is) (byte_forms os)
 
   byte_noted : (os : List ℕ) (ns : Named) → noted table (replicate (length os) t) (trees (byte_trees os)) ns ≡ ns
@@ -133,7 +136,9 @@ module _ (v : Version) (table : Table) (t : ℕ) (octets : writes_octets v (type
     octets = ap (λ b. if b then are_octets (trees (byte_trees os)) else true) octets ∙ bytes_are os low;
     forms = subst (λ n. have_forms v table (replicate n t) (trees (byte_trees os)) ≡ true) (sym (counted os)) (byte_forms os);
     names = sym (ap (λ n. noted table (replicate n t) (trees (byte_trees os)) ns) (counted os) ∙ byte_noted os ns);
-    passes = subst (λ b. Passes v table (list_dues b t) ns text (map token_of (list_pieces b (trees (byte_trees os)) (values_pieces v table (element_types t (trees (byte_trees os))) (trees (byte_trees os))))) [] ns rest) (sym octets)
+    passes =
+        subst (λ b. Passes v table (list_dues b t) ns text
+        (map token_of (list_pieces b (trees (byte_trees os)) (values_pieces v table (element_types t (trees (byte_trees os))) (trees (byte_trees os))))) [] ns rest) (sym octets)
         (subst (λ (l : List ℕ). Passes v table (list_dues true t) ns text (Bytes l ∷ []) [] ns rest) (sym (bytes_in os))
         (passes_one v table (SomeBytes ∷ []) [] ns ns text rest (Bytes os) refl cut (λ more cells. refl)));
     few = omega (arith, byte_count os, quoted_count hex_pair pair_less os cut.spelled.0 rest cut.spelled.2, ap length cut.spelled.1, skip_less text);

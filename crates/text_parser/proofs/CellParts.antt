@@ -21,7 +21,8 @@ use Rattle.text_parser.specs.Passing.{Named}
 use Rattle.text_parser.specs.Lines.{at_line, LineHalts, IsCellBegun}
 
 module _ (v : Version) (table : Table) (count : ℕ) (ns : Named) (text here rest : List ℕ) where
-  halts_at : (t : Token) (why : TextReason) → here ≡ skip text → IsCut (plain v) text t rest → next_read table (at_line v ns count) t ≡ Err why → LineHalts v table count ns text (stop.At (length here) why)
+  halts_at : (t : Token) (why : TextReason) → here ≡ skip text → IsCut (plain v) text t rest → next_read table (at_line v ns count) t ≡ Err why
+      → LineHalts v table count ns text (stop.At (length here) why)
   halts_at t why e c r = λ before s.
       subst (λ n. ComesTo table (at_line v ns count) before text (Stopped n why)) (sym (ap length e))
       (refused t rest why (subst (λ (h : Cutting). IsCut h text t rest) (sym (settled_cutting v before s)) c) r)
@@ -38,18 +39,21 @@ module _ (v : Version) (table : Table) (count : ℕ) (ns : Named) (text here res
       subst (λ n. ComesTo table (at_line v ns count) before text (Stopped n reason.BadToken)) (sym (ap length e))
       (no_token (subst (λ (h : Cutting). IsNext h text Bad) (sym (settled_cutting v before s)) c))
 
-  pub out_of_order : (l : shown.Lexeme) → here ≡ skip text → Comes v text l rest → (n : ℕ) → cell_shown l ≡ Some n → n ≢ count + 1 → LineHalts v table count ns text (stop.At (length here) reason.OutOfOrder)
+  pub out_of_order : (l : shown.Lexeme) → here ≡ skip text → Comes v text l rest → (n : ℕ) → cell_shown l ≡ Some n → n ≢ count + 1
+      → LineHalts v table count ns text (stop.At (length here) reason.OutOfOrder)
   out_of_order l e c n is other =
       halts_at (Cell n) reason.OutOfOrder e (a_cell v text rest n l c is)
       (ap (λ b. cond b (with_line (at_line v ns count) [] (named_type ns n)) (Err reason.OutOfOrder)) (ne_eqb n (count + 1) other))
 
-  pub unnamed : (l : shown.Lexeme) → here ≡ skip text → Comes v text l rest → (n : ℕ) → cell_shown l ≡ Some n → n ≡ count + 1 → named_type ns n ≡ None → LineHalts v table count ns text (stop.At (length here) reason.Unnamed)
+  pub unnamed : (l : shown.Lexeme) → here ≡ skip text → Comes v text l rest → (n : ℕ) → cell_shown l ≡ Some n → n ≡ count + 1 → named_type ns n ≡ None
+      → LineHalts v table count ns text (stop.At (length here) reason.Unnamed)
   unnamed l e c n is here_is nobody =
       halts_at (Cell n) reason.Unnamed e (a_cell v text rest n l c is)
       (ap (λ b. cond b (with_line (at_line v ns count) [] (named_type ns n)) (Err reason.OutOfOrder)) (eq-eqb n (count + 1) here_is)
       ∙ ap (λ (o : Option ℕ). with_line (at_line v ns count) [] o) nobody)
 
-pub cell_begun : (v : Version) (count : ℕ) (ns : Named) (text rest : List ℕ) (l : shown.Lexeme) → Comes v text l rest → (n : ℕ) → cell_shown l ≡ Some n → n ≡ count + 1 → (of : ℕ) → named_type ns n ≡ Some of
+pub cell_begun : (v : Version) (count : ℕ) (ns : Named) (text rest : List ℕ) (l : shown.Lexeme) → Comes v text l rest → (n : ℕ) → cell_shown l ≡ Some n → n ≡ count + 1 → (of : ℕ)
+    → named_type ns n ≡ Some of
     → IsCellBegun v count ns text of rest
 cell_begun v count ns text rest l c n is here of named = record {
   type = ap (named_type ns) (sym here) ∙ named;

@@ -50,7 +50,8 @@ module _ (v : Version) (table : Table) (t : ℕ) (is : type_at table t ≡ Some 
           → ComesTo table (reading v (all_due ++ more) ns cells) before text e
       comes_2 more cells before s e h =
           goes_on (reading v (after_word ++ more) ns cells) (Word (codes "ctx")) r1 (subst (λ (h : Cutting). IsCut h text (Word (codes "ctx")) r1) (sym (settled_cutting v before s)) c1) refl
-          (goes_on (reading v (ACount ∷ This comma ∷ AUuid ∷ This (Other (Mark 41)) ∷ more) ns cells) (Mark 40) r2 (subst (λ (h : Cutting). IsCut h r1 (Mark 40) r2) (sym (cutting_ctx_1 v before s)) c2) refl h)
+          (goes_on (reading v (ACount ∷ This comma ∷ AUuid ∷ This (Other (Mark 41)) ∷ more) ns cells) (Mark 40) r2
+          (subst (λ (h : Cutting). IsCut h r1 (Mark 40) r2) (sym (cutting_ctx_1 v before s)) c2) refl h)
 
       pub count_halts : (e : Stop) → Misses v ACount r2 e → Halts v table (AValue t ∷ []) ns text e
       count_halts e m = halts_open v table t def.Context is ns text e (by e m) where
@@ -76,7 +77,8 @@ module _ (v : Version) (table : Table) (t : ℕ) (is : type_at table t ≡ Some 
           by stop.Memory m = tt
           by (stop.At left why) m = λ more cells before s.
               comes_3 more cells before s (Stopped left why)
-              (miss_comes v table (plain v) (This comma) (AUuid ∷ This (Other (Mark 41)) ∷ more) ns cells (Number (pos n) ∷ Mark 40 ∷ Word (codes "ctx") ∷ before) r3 left why refl (cutting_ctx_3 v before s (pos n)) m)
+              (miss_comes v table (plain v) (This comma) (AUuid ∷ This (Other (Mark 41)) ∷ more) ns cells (Number (pos n) ∷ Mark 40 ∷ Word (codes "ctx") ∷ before) r3 left why refl
+              (cutting_ctx_3 v before s (pos n)) m)
 
         module _ (r4 : List ℕ) (c4 : IsCut (plain v) r3 (Mark 44) r4) where
           comes_4 : (more : List Due) (cells : ℕ) (before : List Token) → IsSettled v before → (e : Ending)
@@ -92,7 +94,8 @@ module _ (v : Version) (table : Table) (t : ℕ) (is : type_at table t ≡ Some 
             by stop.Memory m = tt
             by (stop.At left why) m = λ more cells before s.
                 comes_4 more cells before s (Stopped left why)
-                (miss_comes v table (for_uuid v) AUuid (This (Other (Mark 41)) ∷ more) ns cells (Mark 44 ∷ Number (pos n) ∷ Mark 40 ∷ Word (codes "ctx") ∷ before) r4 left why refl (cutting_ctx_4 v before s (pos n)) m)
+                (miss_comes v table (for_uuid v) AUuid (This (Other (Mark 41)) ∷ more) ns cells (Mark 44 ∷ Number (pos n) ∷ Mark 40 ∷ Word (codes "ctx") ∷ before) r4 left why refl
+                (cutting_ctx_4 v before s (pos n)) m)
 
           module _ (id : List ℕ) (r5 : List ℕ) (c5 : IsCut (for_uuid v) r4 (Uuid id) r5) where
             pub closing_halts : (e : Stop) → Misses v (This (Other (Mark 41))) r5 e → Halts v table (AValue t ∷ []) ns text e
@@ -102,7 +105,8 @@ module _ (v : Version) (table : Table) (t : ℕ) (is : type_at table t ≡ Some 
               by (stop.At left why) m = λ more cells before s.
                   comes_4 more cells before s (Stopped left why)
                   (goes_on (reading v (This (Other (Mark 41)) ∷ more) ns cells) (Uuid id) r5 (subst (λ (h : Cutting). IsCut h r4 (Uuid id) r5) (sym (cutting_ctx_4 v before s (pos n))) c5) refl
-                  (miss_comes v table (plain v) (This (Other (Mark 41))) more ns cells (Uuid id ∷ Mark 44 ∷ Number (pos n) ∷ Mark 40 ∷ Word (codes "ctx") ∷ before) r5 left why refl (cutting_ctx_5 v before s (pos n) id) m))
+                  (miss_comes v table (plain v) (This (Other (Mark 41))) more ns cells (Uuid id ∷ Mark 44 ∷ Number (pos n) ∷ Mark 40 ∷ Word (codes "ctx") ∷ before) r5 left why refl
+                  (cutting_ctx_5 v before s (pos n) id) m))
 
             pub context_value : (rest : List ℕ) (val : Tree) → IsCut (plain v) r5 (Mark 41) rest → is_id id ≡ true → val ≡ node (tree.Context n id) none → IsValue v table t ns text val ns rest
             context_value rest val c6 good e =
@@ -132,7 +136,9 @@ module _ (v : Version) (table : Table) (t : ℕ) (is : type_at table t ≡ Some 
                   );
                   settled = λ before s. settled_ctx_6 v before s (pos n) id;
                   reads = λ more cells.
-                      ap (λ b. go_on table (went_on_if b (reading v (ACount ∷ This comma ∷ AUuid ∷ This (Other (Mark 41)) ∷ more) ns cells) (This comma ∷ AUuid ∷ This (Other (Mark 41)) ∷ more) reason.Expected) (Mark 44 ∷ Uuid id ∷ Mark 41 ∷ [])) fits;
+                      ap (λ b. go_on table
+                      (went_on_if b (reading v (ACount ∷ This comma ∷ AUuid ∷ This (Other (Mark 41)) ∷ more) ns cells) (This comma ∷ AUuid ∷ This (Other (Mark 41)) ∷ more) reason.Expected)
+                      (Mark 44 ∷ Uuid id ∷ Mark 41 ∷ [])) fits;
                 })
                 (omega (
                   arith,

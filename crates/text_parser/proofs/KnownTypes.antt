@@ -27,7 +27,8 @@ module _ (table : Table) (known : AreKnown table) where
 
   member_in : (fs : List Field) (at : ℕ) (f : Field) → list_all (is_in_table table) (map (λ (f : Field). f.of.0) fs) ≡ true → slice_get fs at ≡ Some f → is_in_table table f.of.0 ≡ true
   member_in [] at f h e = cc
-  member_in (g ∷ fs) zero f h e = ap (λ (x : Field). is_in_table table x.of.0) (sym (same_Some _ _ e)) ∙ (and_parts (is_in_table table g.of.0) (list_all (is_in_table table) (map (λ (f : Field). f.of.0) fs)) h).0
+  member_in (g ∷ fs) zero f h e =
+      ap (λ (x : Field). is_in_table table x.of.0) (sym (same_Some _ _ e)) ∙ (and_parts (is_in_table table g.of.0) (list_all (is_in_table table) (map (λ (f : Field). f.of.0) fs)) h).0
   member_in (g ∷ fs) (suc at) f h e = member_in fs at f (and_parts (is_in_table table g.of.0) (list_all (is_in_table table) (map (λ (f : Field). f.of.0) fs)) h).1 e
 
   pub member_known : (fs : List Field) (at : ℕ) (f : Field) → IsType table (def.Struct fs) → slice_get fs at ≡ Some f → f.of.0 < length table

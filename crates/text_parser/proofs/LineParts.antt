@@ -1,5 +1,6 @@
 -- Lines of a text: the head, the roots, the cells.
-use Rattle.std.proofs.Common.{◌≡◌, ℕ, ◌+◌, ◌<◌, ◌≤◌, pos, Bool, true, cond, List, [], ◌∷◌, ◌++◌, length, length-append, map, take, drop, Option, Some, Ok, Err, refl, sym, ap, ap₂, subst, ◌∙◌, append_assoc, append-nil, take-append-drop, bytes_eq, codes, arith}
+use Rattle.std.proofs.Common.{◌≡◌, ℕ, ◌+◌, ◌<◌, ◌≤◌, pos, Bool, true, cond, List, [], ◌∷◌, ◌++◌, length, length-append, map, take, drop, Option, Some, Ok, Err, refl, sym, ap, ap₂, subst, ◌∙◌}
+use Rattle.std.proofs.Common.{append_assoc, append-nil, take-append-drop, bytes_eq, codes, arith}
 use Rattle.std.specs.List.{slice_get, AllByRecursion}
 use Rattle.std.proofs.lemmas.Bool.{eq-eqb}
 use Rattle.std.proofs.lemmas.Slice.Eq.{bytes_eq-Decides}
@@ -29,7 +30,8 @@ use Rattle.text_lexer.specs.Lexemes.{plain}
 use Rattle.text_lexer.specs.Misses.{Misses}
 use Rattle.text_parser.specs.Passing.{Named, Passes, Halts, IsValue}
 use Rattle.text_parser.specs.ValueParts.{name_tokens}
-use Rattle.text_parser.specs.Lines.{head_dues, head_tokens, HasHead, HeadHalts, IsLine, lines_due, lines_tokens, AreFormed, all_noted, AreRoots, cell_tokens, cells_tokens, cell_noted, cells_noted, AreTyped, at_line, LinesPass, IsCellLine, IsCellBegun, LineHalts, CellsCame}
+use Rattle.text_parser.specs.Lines.{head_dues, head_tokens, HasHead, HeadHalts, IsLine, lines_due, lines_tokens, AreFormed, all_noted, AreRoots, cell_tokens, cells_tokens, cell_noted, cells_noted}
+use Rattle.text_parser.specs.Lines.{AreTyped, at_line, LinesPass, IsCellLine, IsCellBegun, LineHalts, CellsCame}
 use Rattle.text_parser.proofs.Passages.{passes_none, passes_then, halts_then, halts_framed, begins_both, after_both, read_both, comes_after, miss_comes}
 
 -- ## A root's line
@@ -50,7 +52,8 @@ module _ (v : Version) (table : Table) (name : List ℕ) (t : ℕ) (ns : Named) 
 -- ## The roots, one after the other
 
 module _ (v : Version) (table : Table) where
-  formed_more : (rs : List NamedRoot) (xs : List Tree) (r : NamedRoot) (x : Tree) → AreFormed v table rs xs → have_forms v table (r.of ∷ []) (more x none) ≡ true → AreFormed v table (rs ++ r ∷ []) (xs ++ x ∷ [])
+  formed_more : (rs : List NamedRoot) (xs : List Tree) (r : NamedRoot) (x : Tree) → AreFormed v table rs xs → have_forms v table (r.of ∷ []) (more x none) ≡ true
+      → AreFormed v table (rs ++ r ∷ []) (xs ++ x ∷ [])
   formed_more [] [] r x f h = (h, tt)
   formed_more [] (y ∷ xs) r x f h = absurd f
   formed_more (s ∷ rs) [] r x f h = absurd f
@@ -89,7 +92,8 @@ module _ (v : Version) (table : Table) where
         subst (λ (l : List Token). Passes v table (lines_due (rs ++ r ∷ [])) ns text l [] ls rest) (sym (tokens_more rs vals r x a.forms))
         (subst (λ (d : List Due). Passes v table d ns text (lines_tokens v table rs vals ++ map token_of (named r.name (value_pieces v table r.of x))) [] ls rest)
         (sym (flat_map-append (λ (r : NamedRoot). named_due r.name r.of) rs (r ∷ []) ∙ ap (λ (l : List Due). lines_due rs ++ l) (append-nil (named_due r.name r.of))))
-        (passes_then v table (lines_due rs) (named_due r.name r.of) ns ms ls text mid rest (lines_tokens v table rs vals) (map token_of (named r.name (value_pieces v table r.of x))) a.passes i.passes));
+        (passes_then v table (lines_due rs) (named_due r.name r.of) ns ms ls text mid rest (lines_tokens v table rs vals)
+        (map token_of (named r.name (value_pieces v table r.of x))) a.passes i.passes));
     few = all_more (λ t. node_count (more t none) ≤ length text) vals x a.few (omega (arith, a.less, i.few));
     less = omega (arith, a.less, i.few);
   })
@@ -99,18 +103,21 @@ module _ (v : Version) (table : Table) where
   root_halts rs r others ns ms text mid vals e a h =
       subst (λ (d : List Due). Halts v table d ns text e)
       (sym (ap lines_due (append_assoc rs (r ∷ []) others) ∙ flat_map-append (λ (r : NamedRoot). named_due r.name r.of) rs (r ∷ others)))
-      (halts_then v table (lines_due rs) (named_due r.name r.of ++ lines_due others) ns ms text mid (lines_tokens v table rs vals) e a.passes (halts_framed v table (named_due r.name r.of) (lines_due others) ms mid e h))
+      (halts_then v table (lines_due rs) (named_due r.name r.of ++ lines_due others) ns ms text mid (lines_tokens v table rs vals) e a.passes
+      (halts_framed v table (named_due r.name r.of) (lines_due others) ms mid e h))
 
   root_split : (all : List NamedRoot) (n : ℕ) (r : NamedRoot) → slice_get all n ≡ Some r → take (n + 1) all ≡ take n all ++ r ∷ []
   root_split all n r there =
       take_more all n r (slice_get_within all n r there) ∙ ap (λ u. take n all ++ u ∷ []) (get_or_from_slice_get all n r r there)
 
-  pub root_next : (all : List NamedRoot) (n : ℕ) (r : NamedRoot) (ns ms ls : Named) (text mid rest : List ℕ) (vals new : List Tree) (x : Tree) → slice_get all n ≡ Some r → AreRoots v table (take n all) ns text vals ms mid
+  pub root_next : (all : List NamedRoot) (n : ℕ) (r : NamedRoot) (ns ms ls : Named) (text mid rest : List ℕ) (vals new : List Tree) (x : Tree) → slice_get all n ≡ Some r
+      → AreRoots v table (take n all) ns text vals ms mid
       → IsLine v table r.name r.of ms mid x ls rest → new ≡ vals ++ x ∷ [] → AreRoots v table (take (n + 1) all) ns text new ls rest
   root_next all n r ns ms ls text mid rest vals new x there a i is =
       subst (λ (l : List NamedRoot). AreRoots v table l ns text new ls rest) (sym (root_split all n r there)) (root_came (take n all) r ns ms ls text mid rest vals new x a i is)
 
-  pub roots_stop : (all : List NamedRoot) (n : ℕ) (r : NamedRoot) (ns ms : Named) (text mid : List ℕ) (vals : List Tree) (e : Stop) → slice_get all n ≡ Some r → AreRoots v table (take n all) ns text vals ms mid
+  pub roots_stop : (all : List NamedRoot) (n : ℕ) (r : NamedRoot) (ns ms : Named) (text mid : List ℕ) (vals : List Tree) (e : Stop) → slice_get all n ≡ Some r
+      → AreRoots v table (take n all) ns text vals ms mid
       → Halts v table (named_due r.name r.of) ms mid e → Halts v table (lines_due all) ns text e
   roots_stop all n r ns ms text mid vals e there a h =
       subst (λ (l : List NamedRoot). Halts v table (lines_due l) ns text e) (sym (sym (take-append-drop (n + 1) all) ∙ ap (λ (l : List NamedRoot). l ++ drop (n + 1) all) (root_split all n r there)))
@@ -130,18 +137,21 @@ module _ (op side text : List ℕ) where
 module _ (op side text : List ℕ) where
   pub values_halt : (e : Stop) → Misses version.One (This (word (codes "values"))) text e → HeadHalts op side text e
   values_halt stop.Memory m = λ table later. tt
-  values_halt (stop.At left why) m = λ table later. miss_comes version.One table (plain version.One) (This (word (codes "values"))) (due_after op side text table later 1) [] 0 [] text left why refl cutting_first m
+  values_halt (stop.At left why) m =
+      λ table later. miss_comes version.One table (plain version.One) (This (word (codes "values"))) (due_after op side text table later 1) [] 0 [] text left why refl cutting_first m
 
   module _ (r1 : List ℕ) (c1 : IsCut (plain version.One) text (Word (codes "values")) r1) where
     comes_1 : (table : Table) (later : List Due) (e : Ending) → ComesTo table (reading version.One (due_after op side text table later 1) [] 0) (Word (codes "values") ∷ []) r1 e
         → ComesTo table (reading version.One (head_dues op side ++ later) [] 0) [] text e
     comes_1 table later e h =
-        goes_on (reading version.One (due_after op side text table later 1) [] 0) (Word (codes "values")) r1 (subst (λ (h : Cutting). IsCut h text (Word (codes "values")) r1) (sym cutting_first) c1) refl h
+        goes_on (reading version.One (due_after op side text table later 1) [] 0) (Word (codes "values")) r1
+        (subst (λ (h : Cutting). IsCut h text (Word (codes "values")) r1) (sym cutting_first) c1) refl h
 
     pub version_halts : (e : Stop) → Misses version.One AVersion r1 e → HeadHalts op side text e
     version_halts stop.Memory m = λ table later. tt
     version_halts (stop.At left why) m = λ table later.
-        comes_1 table later (Stopped left why) (miss_comes version.One table (plain version.One) AVersion (due_after op side text table later 2) [] 0 (Word (codes "values") ∷ []) r1 left why refl cutting_second m)
+        comes_1 table later (Stopped left why)
+        (miss_comes version.One table (plain version.One) AVersion (due_after op side text table later 2) [] 0 (Word (codes "values") ∷ []) r1 left why refl cutting_second m)
 
     module _ (v : Version) (r2 : List ℕ) (c2 : IsCut (plain version.One) r1 (Number (pos (version_number v))) r2) where
       abbrev before_2 : List Token
@@ -152,7 +162,8 @@ module _ (op side text : List ℕ) where
       version_read table later version.One = refl
       version_read table later version.Two = refl
 
-      comes_2 : (table : Table) (later : List Due) (e : Ending) → ComesTo table (reading v (due_after op side text table later 2) [] 0) before_2 r2 e → ComesTo table (reading version.One (head_dues op side ++ later) [] 0) [] text e
+      comes_2 : (table : Table) (later : List Due) (e : Ending) → ComesTo table (reading v (due_after op side text table later 2) [] 0) before_2 r2 e
+          → ComesTo table (reading version.One (head_dues op side ++ later) [] 0) [] text e
       comes_2 table later e h =
           comes_1 table later e
           (goes_on (reading v (due_after op side text table later 2) [] 0) (Number (pos (version_number v))) r2
@@ -167,7 +178,8 @@ module _ (op side text : List ℕ) where
         abbrev before_3 : List Token
         before_3 = Word (codes "op") ∷ before_2
 
-        comes_3 : (table : Table) (later : List Due) (e : Ending) → ComesTo table (reading v (due_after op side text table later 3) [] 0) before_3 r3 e → ComesTo table (reading version.One (head_dues op side ++ later) [] 0) [] text e
+        comes_3 : (table : Table) (later : List Due) (e : Ending) → ComesTo table (reading v (due_after op side text table later 3) [] 0) before_3 r3 e
+            → ComesTo table (reading version.One (head_dues op side ++ later) [] 0) [] text e
         comes_3 table later e h =
             comes_2 table later e
             (goes_on (reading v (due_after op side text table later 3) [] 0) (Word (codes "op")) r3 (subst (λ (h : Cutting). IsCut h r2 (Word (codes "op")) r3) (sym (cutting_third v)) c3) refl h)
@@ -224,12 +236,15 @@ module _ (op side text : List ℕ) where
 pub head_settled : (v : Version) (op side : List ℕ) → IsSettled v (tokens.after [] (head_tokens v op side))
 head_settled v op side = settled_next v (Word side) _ refl (settled_next v (Word op) _ refl (settled_head v))
 
-pub head_reads : (table : Table) (later : List Due) (v : Version) (op side : List ℕ) → all_read table (reading version.One (head_dues op side ++ later) [] 0) (head_tokens v op side) ≡ Ok (reading v later [] 0)
+pub head_reads : (table : Table) (later : List Due) (v : Version) (op side : List ℕ)
+    → all_read table (reading version.One (head_dues op side ++ later) [] 0) (head_tokens v op side) ≡ Ok (reading v later [] 0)
 head_reads table later version.One op side =
-    ap (λ b. go_on table (went_on_if b (reading version.One (This (Name op) ∷ This (Name side) ∷ later) [] 0) (This (Name side) ∷ later) reason.OtherName) (Word side ∷ [])) ((bytes_eq-Decides op op).1 refl)
+    ap (λ b. go_on table (went_on_if b (reading version.One (This (Name op) ∷ This (Name side) ∷ later) [] 0) (This (Name side) ∷ later) reason.OtherName) (Word side ∷ []))
+    ((bytes_eq-Decides op op).1 refl)
     ∙ ap (λ b. go_on table (went_on_if b (reading version.One (This (Name side) ∷ later) [] 0) later reason.OtherName) []) ((bytes_eq-Decides side side).1 refl)
 head_reads table later version.Two op side =
-    ap (λ b. go_on table (went_on_if b (reading version.Two (This (Name op) ∷ This (Name side) ∷ later) [] 0) (This (Name side) ∷ later) reason.OtherName) (Word side ∷ [])) ((bytes_eq-Decides op op).1 refl)
+    ap (λ b. go_on table (went_on_if b (reading version.Two (This (Name op) ∷ This (Name side) ∷ later) [] 0) (This (Name side) ∷ later) reason.OtherName) (Word side ∷ []))
+    ((bytes_eq-Decides op op).1 refl)
     ∙ ap (λ b. go_on table (went_on_if b (reading version.Two (This (Name side) ∷ later) [] 0) later reason.OtherName) []) ((bytes_eq-Decides side side).1 refl)
 
 -- ## The lines of cells
@@ -244,7 +259,8 @@ module _ (v : Version) (table : Table) (count : ℕ) (ns : Named) (text : List �
         ap (λ (t : Bool). cond t (with_line (at_line v ns count) [] (named_type ns (count + 1))) (Err reason.OutOfOrder)) (eq-eqb (count + 1) (count + 1) refl)
         ∙ ap (λ (o : Option ℕ). with_line (at_line v ns count) [] o) b.type
 
-    comes_number : (before : List Token) → IsSettled v before → (e : Ending) → ComesTo table (reading v after_number ns (count + 1)) (Cell (count + 1) ∷ before) mid e → ComesTo table (at_line v ns count) before text e
+    comes_number : (before : List Token) → IsSettled v before → (e : Ending) → ComesTo table (reading v after_number ns (count + 1)) (Cell (count + 1) ∷ before) mid e
+        → ComesTo table (at_line v ns count) before text e
     comes_number before s e h =
         goes_on (reading v after_number ns (count + 1)) (Cell (count + 1)) mid (subst (λ (h : Cutting). IsCut h text (Cell (count + 1)) mid) (sym (settled_cutting v before s)) b.cut) number_read h
 
@@ -305,7 +321,8 @@ module _ (v : Version) (table : Table) (ns : Named) (text : List ℕ) where
     less = omega arith;
   })
 
-  typed_more : (xs : List Referent) (x : Referent) (nb : Named) (c : ℕ) → AreTyped v table nb c xs → named_type (cells_noted table nb xs) (c + length xs) ≡ Some x.of → have_forms v table (x.of ∷ []) (more x.val none) ≡ true
+  typed_more : (xs : List Referent) (x : Referent) (nb : Named) (c : ℕ) → AreTyped v table nb c xs → named_type (cells_noted table nb xs) (c + length xs) ≡ Some x.of
+      → have_forms v table (x.of ∷ []) (more x.val none) ≡ true
       → AreTyped v table nb c (xs ++ x ∷ [])
   typed_more [] x nb c t n f = (ap (named_type nb) (omega arith) ∙ n, f, tt)
   typed_more (y ∷ xs) x nb c t n f =
@@ -330,7 +347,8 @@ module _ (v : Version) (table : Table) (ns : Named) (text : List ℕ) where
         comes_after table (at_line v ns 0) (at_line v ms (length cells)) before text (cells_tokens v table 1 cells) mid (Stopped left why) (a.passes.begins before s) a.passes.reads
         (h (tokens.after before (cells_tokens v table 1 cells)) (a.passes.settled before s))
 
-    pub cell_came : (x : Referent) (ls : Named) (rest : List ℕ) (new : List Referent) → IsCellLine v table (length cells) ms mid x ls rest → new ≡ cells ++ x ∷ [] → CellsCame v table ns text new ls rest
+    pub cell_came : (x : Referent) (ls : Named) (rest : List ℕ) (new : List Referent) → IsCellLine v table (length cells) ms mid x ls rest → new ≡ cells ++ x ∷ []
+        → CellsCame v table ns text new ls rest
     cell_came x ls rest new i is =
         let here : 1 + length cells ≡ length cells + 1 = omega arith in
         let many : length (cells ++ x ∷ []) ≡ length cells + 1 = length-append cells (x ∷ []) in

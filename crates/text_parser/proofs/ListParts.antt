@@ -1,5 +1,6 @@
 -- Elements of lists, one after the other.
-use Rattle.std.proofs.Common.{◌≡◌, ℕ, ◌+◌, ◌<◌, ◌≤◌, Bool, true, false, if◌then◌else◌, cond, eqb, List, [], ◌∷◌, ◌++◌, length, map, replicate, Ok, Err, refl, sym, ap, subst, ◌∙◌, append_assoc, length-append, arith}
+use Rattle.std.proofs.Common.{◌≡◌, ℕ, ◌+◌, ◌<◌, ◌≤◌, Bool, true, false, if◌then◌else◌, cond, eqb, List, [], ◌∷◌, ◌++◌, length, map, replicate, Ok, Err, refl, sym, ap, subst, ◌∙◌, append_assoc}
+use Rattle.std.proofs.Common.{length-append, arith}
 use Rattle.std.proofs.lemmas.Bool.{eqb-true, false_from_ne_true}
 use Rattle.std.proofs.lemmas.List.{map-append}
 use Rattle.nd_types.specs.Table.{Table, type_at}
@@ -60,7 +61,8 @@ module _ (v : Version) (table : Table) (t : ℕ) where
 
   module _ (ns ms : Named) (text mid next : List ℕ) (vs : List Tree) (came : HaveCome v table t ns text vs ms mid) (cut : IsCut (plain v) mid (Mark 44) next) where
     up_to_next : Passes v table (FirstElement t ∷ []) ns text (list_tokens vs ++ Mark 44 ∷ []) (AValue t ∷ NextElement t ∷ []) ms next
-    up_to_next = passes_both v table (FirstElement t ∷ []) (NextElement t ∷ []) (AValue t ∷ NextElement t ∷ []) ns ms ms text mid next (list_tokens vs) (Mark 44 ∷ []) came.passes (next_dues ms mid next cut)
+    up_to_next =
+        passes_both v table (FirstElement t ∷ []) (NextElement t ∷ []) (AValue t ∷ NextElement t ∷ []) ns ms ms text mid next (list_tokens vs) (Mark 44 ∷ []) came.passes (next_dues ms mid next cut)
 
     pub next_halts : (e : Stop) → Halts v table (AValue t ∷ []) ms next e → Halts v table (FirstElement t ∷ []) ns text e
     next_halts e h =
@@ -102,7 +104,8 @@ module _ (v : Version) (table : Table) (t : ℕ) where
   -- ## The end of a list
 
   -- neither a comma nor the closing bracket comes
-  list_stuck : (ns : Named) (cells : ℕ) (es : List Due) (tok : Token) (why : TextReason) (text rest : List ℕ) → IsCut (plain v) text tok rest → ((end : List ℕ) → IsCut (plain v) text (Mark 44) end → ⊥)
+  list_stuck : (ns : Named) (cells : ℕ) (es : List Due) (tok : Token) (why : TextReason) (text rest : List ℕ) → IsCut (plain v) text tok rest
+      → ((end : List ℕ) → IsCut (plain v) text (Mark 44) end → ⊥)
       → IsWrong (This (Other (Mark 93))) (Cut tok) why → next_read table (reading v (NextElement t ∷ es) ns cells) tok ≡ Err why
   list_stuck ns cells es (Mark c) why text rest cut free w = by (eqb c 93) (eqb c 44) refl refl where
     by : (b d : Bool) → eqb c 93 ≡ b → eqb c 44 ≡ d → next_read table (reading v (NextElement t ∷ es) ns cells) (Mark c) ≡ Err why
@@ -122,7 +125,8 @@ module _ (v : Version) (table : Table) (t : ℕ) where
   list_stuck ns cells es (Bytes octets) why text rest cut free w = w (reading v (NextElement t ∷ es) ns cells) es
   list_stuck ns cells es (Uuid id) why text rest cut free w = w (reading v (NextElement t ∷ es) ns cells) es
 
-  pub end_halts : (ns : Named) (text : List ℕ) (e : Stop) → ((end : List ℕ) → IsCut (plain v) text (Mark 44) end → ⊥) → Misses v (This (Other (Mark 93))) text e → Halts v table (NextElement t ∷ []) ns text e
+  pub end_halts : (ns : Named) (text : List ℕ) (e : Stop) → ((end : List ℕ) → IsCut (plain v) text (Mark 44) end → ⊥) → Misses v (This (Other (Mark 93))) text e
+      → Halts v table (NextElement t ∷ []) ns text e
   end_halts ns text stop.Memory free m = tt
   end_halts ns text (stop.At left why) free m = λ es cells before s. by es cells before s m.next m.is_next m.wrong where
     by : (es : List Due) (cells : ℕ) (before : List Token) (s : IsSettled v before) (n : Lexeme) → IsNext (plain v) text n → IsWrong (This (Other (Mark 93))) n why
@@ -136,7 +140,8 @@ module _ (v : Version) (table : Table) (t : ℕ) where
 
   -- ## A whole list
 
-  pub halts_at_first : (text : List ℕ) → ((rest : List ℕ) → IsCut (plain v) text (Mark 93) rest → ⊥) → (ns : Named) (e : Stop) → Halts v table (AValue t ∷ []) ns text e → Halts v table (FirstElement t ∷ []) ns text e
+  pub halts_at_first : (text : List ℕ) → ((rest : List ℕ) → IsCut (plain v) text (Mark 93) rest → ⊥) → (ns : Named) (e : Stop) → Halts v table (AValue t ∷ []) ns text e
+      → Halts v table (FirstElement t ∷ []) ns text e
   halts_at_first text free ns e h = passages.halts_first v table t text (unclosed v text free) ns e h
 
   pub start_halts : (ns : Named) (text : List ℕ) (e : Stop) → Misses v (This (Other (Mark 91))) text e → Halts v table (list_dues false t) ns text e

@@ -36,7 +36,8 @@ module _ (v : Version) (table : Table) (f : Field) (at : ℕ) (ns : Named) (text
           halts_then v table (comma_dues at) (named_due f.name f.of.0) ns ns text start (comma_tokens at) e p
           (halts_then v table (This (Name f.name) ∷ This equals ∷ []) (AValue f.of.0 ∷ []) ns ns start mid (name_tokens f.name) e q h)
 
-      pub member_read : (val : Tree) (ms : Named) (rest : List ℕ) → length start ≤ length text → length mid < length start → IsValue v table f.of.0 ns mid val ms rest → IsMember v table f at ns text val ms rest
+      pub member_read : (val : Tree) (ms : Named) (rest : List ℕ) → length start ≤ length text → length mid < length start → IsValue v table f.of.0 ns mid val ms rest
+          → IsMember v table f at ns text val ms rest
       member_read val ms rest less1 less2 i = record {
         forms = i.forms;
         names = i.names;

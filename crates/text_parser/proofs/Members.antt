@@ -1,5 +1,6 @@
 -- Members of a struct, one after the other.
-use Rattle.std.proofs.Common.{◌≡◌, ℕ, zero, suc, ◌+◌, ◌<◌, ◌≤◌, true, ◌&&◌, List, [], ◌∷◌, ◌++◌, length, length-append, map, take, drop, Some, refl, sym, ap, subst, ◌∙◌, append_assoc, take-append-drop, arith}
+use Rattle.std.proofs.Common.{◌≡◌, ℕ, zero, suc, ◌+◌, ◌<◌, ◌≤◌, true, ◌&&◌, List, [], ◌∷◌, ◌++◌, length, length-append, map, take, drop, Some, refl, sym, ap, subst, ◌∙◌, append_assoc}
+use Rattle.std.proofs.Common.{take-append-drop, arith}
 use Rattle.std.proofs.lemmas.List.{length-take-le, map-append, take_more, take_all}
 use Rattle.std.specs.List.{slice_get}
 use Rattle.std.proofs.lemmas.Bool.{and_parts, eq-eqb}
@@ -68,10 +69,13 @@ module _ (v : Version) (table : Table) where
   pieces_count (t ∷ types) [] h = refl
   pieces_count [] (x ∷ vs) h = cc
   pieces_count (t ∷ types) (node l ks ∷ vs) h =
-      ap suc (pieces_count types vs (and_parts (have_forms v table (child_types (type_at table t) l ks) ks) (have_forms v table types (trees vs)) (and_parts (has_text_form v table (type_at table t) l ks) (have_forms v table (child_types (type_at table t) l ks) ks && have_forms v table types (trees vs)) h).1).1)
+      ap suc (pieces_count types vs
+      (and_parts (have_forms v table (child_types (type_at table t) l ks) ks) (have_forms v table types (trees vs))
+      (and_parts (has_text_form v table (type_at table t) l ks) (have_forms v table (child_types (type_at table t) l ks) ks && have_forms v table types (trees vs)) h).1).1)
 
   -- what is due for one more, and its tokens
-  dues_step : (fs : List Field) (f : Field) → separated_dues (map (λ f. named_due f.name f.of.0) (fs ++ f ∷ [])) ≡ separated_dues (map (λ f. named_due f.name f.of.0) fs) ++ (comma_dues (length fs) ++ named_due f.name f.of.0)
+  dues_step : (fs : List Field) (f : Field)
+      → separated_dues (map (λ f. named_due f.name f.of.0) (fs ++ f ∷ [])) ≡ separated_dues (map (λ f. named_due f.name f.of.0) fs) ++ (comma_dues (length fs) ++ named_due f.name f.of.0)
   dues_step [] f = refl
   dues_step (g ∷ fs) f =
       ap separated_dues (map-append (λ (f : Field). named_due f.name f.of.0) (g ∷ fs) (f ∷ []))
@@ -112,7 +116,8 @@ module _ (v : Version) (table : Table) where
         ∙ sym (ap (λ (l : List ℕ). noted table l (trees (vs ++ x ∷ [])) ns) (map-append (λ (f : Field). f.of.0) fs (f ∷ [])) ∙ noted_more v table f.of.0 x (map (λ f. f.of.0) fs) vs ns c.forms);
     passes =
         subst (λ (l : List Token). Passes v table (separated_dues (map (λ f. named_due f.name f.of.0) (fs ++ f ∷ []))) ns text l [] ls rest) (sym (tokens_step fs vs f x c.many c.forms))
-        (subst (λ (d : List Due). Passes v table d ns text (member_tokens fs vs ++ (comma_tokens (length fs) ++ map token_of (named f.name (value_pieces v table f.of.0 x)))) [] ls rest) (sym (dues_step fs f))
+        (subst (λ (d : List Due). Passes v table d ns text (member_tokens fs vs ++ (comma_tokens (length fs) ++ map token_of (named f.name (value_pieces v table f.of.0 x)))) [] ls rest)
+        (sym (dues_step fs f))
         (passes_then v table (separated_dues (map (λ f. named_due f.name f.of.0) fs)) (comma_dues (length fs) ++ named_due f.name f.of.0) ns ms ls text mid rest
         (member_tokens fs vs) (comma_tokens (length fs) ++ map token_of (named f.name (value_pieces v table f.of.0 x))) c.passes
         (subst (λ n. Passes v table (comma_dues n ++ named_due f.name f.of.0) ms mid (comma_tokens n ++ map token_of (named f.name (value_pieces v table f.of.0 x))) [] ls rest) here i.passes)));
@@ -128,7 +133,10 @@ module _ (v : Version) (table : Table) where
 
   -- where a member halts, the members do
 
-  split_dues : (xs : List Field) (f : Field) (ys : List Field) → (es : List Due) × (separated_dues (map (λ f. named_due f.name f.of.0) ((xs ++ f ∷ []) ++ ys)) ≡ separated_dues (map (λ f. named_due f.name f.of.0) xs) ++ ((comma_dues (length xs) ++ named_due f.name f.of.0) ++ es))
+  split_dues : (xs : List Field) (f : Field) (ys : List Field)
+      → (es : List Due)
+      × (separated_dues (map (λ f. named_due f.name f.of.0) ((xs ++ f ∷ []) ++ ys)) ≡ separated_dues (map (λ f. named_due f.name f.of.0) xs)
+      ++ ((comma_dues (length xs) ++ named_due f.name f.of.0) ++ es))
   split_dues [] f ys = (
     led_dues (map (λ f. named_due f.name f.of.0) ys),
     dues_both (named_due f.name f.of.0) [] (map (λ f. named_due f.name f.of.0) ys),
@@ -151,11 +159,13 @@ module _ (v : Version) (table : Table) where
       let s = split_dues (take at fs) f (drop (at + 1) fs) in
       subst (λ (l : List Field). Halts v table (separated_dues (map (λ f. named_due f.name f.of.0) l)) ns text e) (sym (fields_split fs at f there))
       (subst (λ (l : List Due). Halts v table l ns text e) (sym s.1)
-      (halts_then v table (separated_dues (map (λ f. named_due f.name f.of.0) (take at fs))) ((comma_dues (length (take at fs)) ++ named_due f.name f.of.0) ++ s.0) ns ms text mid (member_tokens (take at fs) vs) e c.passes
+      (halts_then v table (separated_dues (map (λ f. named_due f.name f.of.0) (take at fs))) ((comma_dues (length (take at fs)) ++ named_due f.name f.of.0) ++ s.0) ns ms text mid
+      (member_tokens (take at fs) vs) e c.passes
       (halts_framed v table (comma_dues (length (take at fs)) ++ named_due f.name f.of.0) s.0 ms mid e
       (subst (λ n. Halts v table (comma_dues n ++ named_due f.name f.of.0) ms mid e) (sym is) h))))
 
-  pub member_next : (fs : List Field) (at : ℕ) (f : Field) (ns ms ls : Named) (text mid rest : List ℕ) (vs new : List Tree) (x : Tree) → slice_get fs at ≡ Some f → MembersCame (take at fs) ns text vs ms mid
+  pub member_next : (fs : List Field) (at : ℕ) (f : Field) (ns ms ls : Named) (text mid rest : List ℕ) (vs new : List Tree) (x : Tree) → slice_get fs at ≡ Some f
+      → MembersCame (take at fs) ns text vs ms mid
       → IsMember v table f at ms mid x ls rest → new ≡ vs ++ x ∷ [] → MembersCame (take (at + 1) fs) ns text new ls rest
   member_next fs at f ns ms ls text mid rest vs new x there c i is =
       let below = slice_get_within fs at f there in
@@ -163,7 +173,8 @@ module _ (v : Version) (table : Table) where
       (member_came (take at fs) f at ns ms ls text mid rest vs new x (sym (length-take-le at fs (omega (arith, below)))) c i is)
 
   -- the opening brace does not come
-  pub struct_refused : (t : ℕ) (fs : List Field) → type_at table t ≡ Some (def.Struct fs) → (ns : Named) (text : List ℕ) (e : Stop) → Misses v (This (Other (Mark 123))) text e → Halts v table (AValue t ∷ []) ns text e
+  pub struct_refused : (t : ℕ) (fs : List Field) → type_at table t ≡ Some (def.Struct fs) → (ns : Named) (text : List ℕ) (e : Stop) → Misses v (This (Other (Mark 123))) text e
+      → Halts v table (AValue t ∷ []) ns text e
   struct_refused t fs is ns text e m =
       halts_open v table t (def.Struct fs) is ns text e
       (halts_miss v table (This (Other (Mark 123))) (separated_dues (map (λ f. named_due f.name f.of.0) fs) ++ This (Other (Mark 125)) ∷ []) ns text e refl m)

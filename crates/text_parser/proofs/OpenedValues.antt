@@ -33,7 +33,8 @@ module _ (v : Version) (table : Table) (t : ℕ) (d : TypeDef) (is : type_at tab
       → IsValue v table t ns text val ms rest
   opened_value ns ms text rest val ts e form forms names tokens passes few = subst (λ (x : Tree). IsValue v table t ns text x ms rest) (sym e) (record {
     forms = subst (λ (x : Option TypeDef). node_forms v table x l ks ≡ true) (sym is)
-        (and_from (has_text_form v table (Some d) l ks) (have_forms v table (child_types (Some d) l ks) ks && true) form (and_from (have_forms v table (child_types (Some d) l ks) ks) true forms refl));
+        (and_from (has_text_form v table (Some d) l ks) (have_forms v table (child_types (Some d) l ks) ks && true) form
+        (and_from (have_forms v table (child_types (Some d) l ks) ks) true forms refl));
     names = names ∙ sym (ap (λ (x : Option TypeDef). noted table (child_types x l ks) ks (noted_node x l ns)) is);
     passes = subst (λ (x : List Token). Passes v table (AValue t ∷ []) ns text x [] ms rest)
         (sym (ap (λ (x : Option TypeDef). node_tokens v table x l ks) is ∙ tokens)) (passes_open v table t d is ns ms text rest ts passes);

@@ -9,7 +9,8 @@ use Rattle.text_grammar.specs.declared.fault.TextReason.TheVariants as reason
 use Rattle.text_grammar.specs.Tokens.{Token, Word, Number, Begins, after, skip, cutting, Cutting, IsCut}
 use Rattle.text_grammar.specs.Written.{writes_octets, version_number}
 use Rattle.text_grammar.specs.Reads.{Lexeme, Cut, End, Bad, IsNext}
-use Rattle.text_grammar.specs.Dues.{Due, This, AVersion, ANumber, ACount, AString, SomeBytes, AUuid, ATag, APointer, FirstElement, NextElement, AValue, ACellLine, Reading, taken_first, due_at, next_read, all_read, value_dues, list_dues, closes}
+use Rattle.text_grammar.specs.Dues.{Due, This, AVersion, ANumber, ACount, AString, SomeBytes, AUuid, ATag, APointer, FirstElement, NextElement, AValue, ACellLine, Reading, taken_first, due_at}
+use Rattle.text_grammar.specs.Dues.{next_read, all_read, value_dues, list_dues, closes}
 use Rattle.text_grammar.specs.Reader.{Ending, Whole, Stopped, ComesTo, goes_on, refused, no_token, ended, at_end}
 use Rattle.text_reading_laws.specs.Settled.{IsSettled, is_simple}
 use Rattle.text_reading_laws.specs.Values.{reading}
@@ -42,7 +43,8 @@ after_both before (t ∷ ts) us = after_both (t ∷ before) ts us
 pub read_both : (table : Table) (x y : Reading) (ts us : List Token) → all_read table x ts ≡ Ok y → all_read table x (ts ++ us) ≡ all_read table y us
 read_both table x y [] us e = let same : x ≡ y = cc in ap (λ z. all_read table z us) same
 read_both table x y (t ∷ ts) us e = by (next_read table x t) (λ z h. read_both table z y ts us h) e where
-  by : (r : Result Reading TextReason) → ((z : Reading) → all_read table z ts ≡ Ok y → all_read table z (ts ++ us) ≡ all_read table y us) → go_on table r ts ≡ Ok y → go_on table r (ts ++ us) ≡ all_read table y us
+  by : (r : Result Reading TextReason) → ((z : Reading) → all_read table z ts ≡ Ok y → all_read table z (ts ++ us) ≡ all_read table y us) → go_on table r ts ≡ Ok y
+      → go_on table r (ts ++ us) ≡ all_read table y us
   by (Ok z) more e = more z e
   by (Err why) more e = cc
 
@@ -53,7 +55,8 @@ comes_after table x y before text [] mid e b r c =
     let same : x ≡ y = cc in
     subst (λ (l : List ℕ). ComesTo table x before l e) (sym b) (subst (λ z. ComesTo table z before mid e) (sym same) c)
 comes_after table x y before text (t ∷ ts) mid e b r c = by (next_read table x t) refl (λ z h. comes_after table z y (t ∷ before) b.0 ts mid e b.2 h c) r where
-  by : (n : Result Reading TextReason) → next_read table x t ≡ n → ((z : Reading) → all_read table z ts ≡ Ok y → ComesTo table z (t ∷ before) b.0 e) → go_on table n ts ≡ Ok y → ComesTo table x before text e
+  by : (n : Result Reading TextReason) → next_read table x t ≡ n → ((z : Reading) → all_read table z ts ≡ Ok y → ComesTo table z (t ∷ before) b.0 e) → go_on table n ts ≡ Ok y
+      → ComesTo table x before text e
   by (Ok z) n more r = goes_on z t b.0 b.1 n (more z r)
   by (Err why) n more r = cc
 
@@ -109,14 +112,16 @@ module _ (v : Version) (table : Table) where
   halts_framed ds fs ns text (stop.At left why) h = λ more cells before s.
       subst (λ (l : List Due). ComesTo table (reading v l ns cells) before text (Stopped left why)) (sym (append_assoc ds fs more)) (h (fs ++ more) cells before s)
 
-  pub halts_after : (ds es : List Due) (ns ms : Named) (text mid : List ℕ) (ts : List Token) (e : Stop) → Passes v table ds ns text ts es ms mid → Halts v table es ms mid e → Halts v table ds ns text e
+  pub halts_after : (ds es : List Due) (ns ms : Named) (text mid : List ℕ) (ts : List Token) (e : Stop) → Passes v table ds ns text ts es ms mid → Halts v table es ms mid e
+      → Halts v table ds ns text e
   halts_after ds es ns ms text mid ts stop.Memory p h = tt
   halts_after ds es ns ms text mid ts (stop.At left why) p h = λ more cells before s.
       comes_after table (reading v (ds ++ more) ns cells) (reading v (es ++ more) ms cells) before text ts mid (Stopped left why) (p.begins before s) (p.reads more cells)
       (h more cells (after before ts) (p.settled before s))
 
   -- where what comes after a part halts, the whole does
-  pub halts_then : (ds fs : List Due) (ns ms : Named) (text mid : List ℕ) (ts : List Token) (e : Stop) → Passes v table ds ns text ts [] ms mid → Halts v table fs ms mid e → Halts v table (ds ++ fs) ns text e
+  pub halts_then : (ds fs : List Due) (ns ms : Named) (text mid : List ℕ) (ts : List Token) (e : Stop) → Passes v table ds ns text ts [] ms mid → Halts v table fs ms mid e
+      → Halts v table (ds ++ fs) ns text e
   halts_then ds fs ns ms text mid ts e p h = halts_after (ds ++ fs) fs ns ms text mid ts e (passes_framed ds [] fs ns ms text mid ts p) h
 
   -- ## One token
@@ -243,7 +248,8 @@ module _ (v : Version) (table : Table) where
         (λ tok rest c. next_element v table ns cells t more tok (open_list tok rest (subst (λ (h : Cutting). IsCut h text tok rest) (settled_cutting v before s) c)))
         (Stopped left why) (h (NextElement t ∷ more) cells before s)
 
-    pub passes_first : (ns ms : Named) (ts : List Token) (rest : List ℕ) → Passes v table (AValue t ∷ []) ns text ts [] ms rest → Passes v table (FirstElement t ∷ []) ns text ts (NextElement t ∷ []) ms rest
+    pub passes_first : (ns ms : Named) (ts : List Token) (rest : List ℕ) → Passes v table (AValue t ∷ []) ns text ts [] ms rest
+        → Passes v table (FirstElement t ∷ []) ns text ts (NextElement t ∷ []) ms rest
     passes_first ns ms [] rest p =
         let none : 1 ≡ 0 = ap (λ (r : Result Reading TextReason). elim r [ Ok y ↦ length y.due | Err why ↦ 0 ]) (p.reads [] 0) in
         absurd (omega (arith, none))

@@ -9,7 +9,8 @@ within line column [] some = (omega arith, omega arith)
 within line column (c ∷ cs) some = by (eqb c 10) (within (line + 1) 1 cs (omega arith)) (within line (column + 1) cs (omega (arith, some))) where
   by : (b : Bool) → ((position (line + 1) 1 cs).0 ≤ line + 1 + length cs) × ((position (line + 1) 1 cs).1 ≤ 1 + length cs)
       → ((position line (column + 1) cs).0 ≤ line + length cs) × ((position line (column + 1) cs).1 ≤ column + 1 + length cs)
-      → ((cond b (position (line + 1) 1 cs) (position line (column + 1) cs)).0 ≤ line + length (c ∷ cs)) × ((cond b (position (line + 1) 1 cs) (position line (column + 1) cs)).1 ≤ column + length (c ∷ cs))
+      → ((cond b (position (line + 1) 1 cs) (position line (column + 1) cs)).0 ≤ line + length (c ∷ cs))
+      × ((cond b (position (line + 1) 1 cs) (position line (column + 1) cs)).1 ≤ column + length (c ∷ cs))
   by true h k = (omega (arith, h.0), omega (arith, h.1, some))
   by false h k = (omega (arith, k.0), omega (arith, k.1))
 

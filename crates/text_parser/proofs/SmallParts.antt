@@ -58,14 +58,18 @@ module _ (v : Version) (table : Table) (ns : Named) (text rest : List ℕ) where
 
 module _ (v : Version) (table : Table) (ns : Named) (text mid rest : List ℕ) where
   pub named_passes : (w : List ℕ) → IsCut (plain v) text (Word w) mid → IsCut (plain v) mid (Mark 61) rest → Passes v table (This (Name w) ∷ This equals ∷ []) ns text (name_tokens w) [] ns rest
-  named_passes w a b = passes_then v table (This (Name w) ∷ []) (This equals ∷ []) ns ns ns text mid rest (Word w ∷ []) (Mark 61 ∷ []) (name_passes v table ns text mid w a) (mark_passes v table ns mid rest 61 refl b)
+  named_passes w a b =
+      passes_then v table (This (Name w) ∷ []) (This equals ∷ []) ns ns ns text mid rest (Word w ∷ []) (Mark 61 ∷ []) (name_passes v table ns text mid w a) (mark_passes v table ns mid rest 61 refl b)
 
   pub named_halts : (w : List ℕ) (e : Stop) → IsCut (plain v) text (Word w) mid → Misses v (This (Other (Mark 61))) mid e → Halts v table (This (Name w) ∷ This equals ∷ []) ns text e
   named_halts w e a m =
       halts_then v table (This (Name w) ∷ []) (This equals ∷ []) ns ns text mid (Word w ∷ []) e (name_passes v table ns text mid w a) (halts_miss v table (This equals) [] ns mid e refl m)
 
-  pub colon_passes : (n : ℕ) → is_count_token (pos n) ≡ true → IsCut (plain v) text (Number (pos n)) mid → IsCut (plain v) mid (Mark 58) rest → Passes v table count_due ns text (count_tokens n) [] ns rest
-  colon_passes n h a b = passes_then v table (ACount ∷ []) (This colon ∷ []) ns ns ns text mid rest (Number (pos n) ∷ []) (Mark 58 ∷ []) (count_passes v table ns text mid n h a) (mark_passes v table ns mid rest 58 refl b)
+  pub colon_passes : (n : ℕ) → is_count_token (pos n) ≡ true → IsCut (plain v) text (Number (pos n)) mid → IsCut (plain v) mid (Mark 58) rest
+      → Passes v table count_due ns text (count_tokens n) [] ns rest
+  colon_passes n h a b =
+      passes_then v table (ACount ∷ []) (This colon ∷ []) ns ns ns text mid rest (Number (pos n) ∷ []) (Mark 58 ∷ []) (count_passes v table ns text mid n h a)
+      (mark_passes v table ns mid rest 58 refl b)
 
   pub colon_halts : (n : ℕ) (e : Stop) → is_count_token (pos n) ≡ true → IsCut (plain v) text (Number (pos n)) mid → Misses v (This (Other (Mark 58))) mid e → Halts v table count_due ns text e
   colon_halts n e h a m =
@@ -75,7 +79,8 @@ pub none_written : (v : Version) (table : Table) (ns : Named) (text : List ℕ) 
 none_written v table ns text n true e = cc
 none_written v table ns text n false e = passes_none v table [] ns text
 
-pub some_written : (v : Version) (table : Table) (ns : Named) (text rest : List ℕ) (n : ℕ) (b : Bool) → b ≡ true → Passes v table count_due ns text (count_tokens n) [] ns rest → Passes v table (written_dues b) ns text (written_tokens b n) [] ns rest
+pub some_written : (v : Version) (table : Table) (ns : Named) (text rest : List ℕ) (n : ℕ) (b : Bool) → b ≡ true → Passes v table count_due ns text (count_tokens n) [] ns rest
+    → Passes v table (written_dues b) ns text (written_tokens b n) [] ns rest
 some_written v table ns text rest n true e p = p
 some_written v table ns text rest n false e p = cc
 

@@ -68,7 +68,8 @@ item_there (x ∷ xs) (suc n) h = item_there xs n (omega (arith, h))
 pub legal_side : (i : Interface) (n : ℕ) (o : Operation) (side : Side) → slice_get i.operations n ≡ Some o → IsLegalSide (setting_of i o side)
 legal_side i n o side there = record { operations = i.operations; legal = i.legal; operation = among_at i.operations n o there }
 
-known_at : (table : Table) (o : Operation) (rs : List Root) (n : ℕ) (r : NamedRoot) → list_all (λ (r : Root). is_in_table table r.of) rs ≡ true → slice_get (map (named_root o) rs) n ≡ Some r → r.of < length table
+known_at : (table : Table) (o : Operation) (rs : List Root) (n : ℕ) (r : NamedRoot) → list_all (λ (r : Root). is_in_table table r.of) rs ≡ true → slice_get (map (named_root o) rs) n ≡ Some r
+    → r.of < length table
 known_at table o [] n r h e = cc
 known_at table o (x ∷ rs) zero r h e =
     let p = and_parts (is_in_table table x.of) (list_all (λ (r : Root). is_in_table table r.of) rs) h in
@@ -117,4 +118,5 @@ few_of n short vals a = all_as (λ t. node_count (more t none) ≤ n) (λ t. nod
 
 pub few_nodes : (m n : ℕ) → m ≤ TEXT_LIMIT → n ≤ TEXT_LIMIT → (vals : List Tree) (cells : List Referent) → AllByRecursion (λ t. node_count (more t none) ≤ m) vals
     → AllByRecursion (λ t. node_count (more t none) ≤ n) (map (λ (c : Referent). c.val) cells) → AllByRecursion (λ t. node_count (more t none) < 2 ^ 32) (vals ++ map (λ (c : Referent). c.val) cells)
-few_nodes m n sm sn vals cells a b = all_of_both (λ t. node_count (more t none) < 2 ^ 32) vals (map (λ (c : Referent). c.val) cells) (few_of m sm vals a) (few_of n sn (map (λ (c : Referent). c.val) cells) b)
+few_nodes m n sm sn vals cells a b =
+    all_of_both (λ t. node_count (more t none) < 2 ^ 32) vals (map (λ (c : Referent). c.val) cells) (few_of m sm vals a) (few_of n sn (map (λ (c : Referent). c.val) cells) b)

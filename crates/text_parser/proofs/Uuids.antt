@@ -1,5 +1,6 @@
 -- UUIDs: their form, their digits and their octets.
-use Rattle.std.proofs.Common.{◌≡◌, ℕ, zero, suc, ◌+◌, ◌-◌, ◌*◌, ◌<◌, ◌≤◌, Bool, true, false, not, ◌&&◌, cond, eqb, List, [], ◌∷◌, ◌++◌, length, take, drop, filter, Option, Some, None, refl, sym, ap, ap₂, subst, ◌∙◌, take-append-drop, get_or, arith}
+use Rattle.std.proofs.Common.{◌≡◌, ℕ, zero, suc, ◌+◌, ◌-◌, ◌*◌, ◌<◌, ◌≤◌, Bool, true, false, not, ◌&&◌, cond, eqb, List, [], ◌∷◌, ◌++◌, length, take, drop, filter, Option, Some, None, refl, sym, ap}
+use Rattle.std.proofs.Common.{ap₂, subst, ◌∙◌, take-append-drop, get_or, arith}
 use Rattle.std.specs.List.{list_all}
 use Rattle.std.proofs.lemmas.List.{take_all}
 use Rattle.std.proofs.lemmas.Option.{same_Some}
@@ -74,7 +75,8 @@ form_digits (place ∷ form) (c ∷ cs) h =
         (ap (list_all is_hex_digit) left ∙ r.0, ap length left ∙ r.1 ∙ sym (ap length form_left))
     by false e k r =
         let kept : filter is_no_hyphen (c ∷ cs) ≡ c ∷ filter is_no_hyphen cs = cond-true (is_no_hyphen c) (c ∷ filter is_no_hyphen cs) (filter is_no_hyphen cs) (digit_no_hyphen c k) in
-        let form_kept : filter is_no_hyphen (place ∷ form) ≡ place ∷ filter is_no_hyphen form = cond-true (is_no_hyphen place) (place ∷ filter is_no_hyphen form) (filter is_no_hyphen form) (ap not e) in
+        let form_kept : filter is_no_hyphen (place ∷ form) ≡ place ∷ filter is_no_hyphen form =
+        cond-true (is_no_hyphen place) (place ∷ filter is_no_hyphen form) (filter is_no_hyphen form) (ap not e) in
         (ap (list_all is_hex_digit) kept ∙ and_from (is_hex_digit c) (list_all is_hex_digit (filter is_no_hyphen cs)) k r.0, ap length kept ∙ ap suc r.1 ∙ sym (ap length form_kept))
 
 -- ## Octets
@@ -82,7 +84,8 @@ form_digits (place ∷ form) (c ∷ cs) h =
 hex_low : (c : ℕ) → is_hex_digit c ≡ true → hex_value c < 16
 hex_low c h = grind (arith, nat_tests, h)
 
-pub pair_taken : (rest : List ℕ) (b : ℕ) (after : List ℕ) → hex_pair rest ≡ Some (b, after) → list_all is_hex_digit rest ≡ true → (hex_octets rest ≡ b ∷ hex_octets after) × (list_all is_hex_digit after ≡ true)
+pub pair_taken : (rest : List ℕ) (b : ℕ) (after : List ℕ) → hex_pair rest ≡ Some (b, after) → list_all is_hex_digit rest ≡ true
+    → (hex_octets rest ≡ b ∷ hex_octets after) × (list_all is_hex_digit after ≡ true)
 pair_taken [] b after e h = cc
 pair_taken (x ∷ []) b after e h = cc
 pair_taken (x ∷ y ∷ cs) b after e h = by (is_hex_digit x && is_hex_digit y) e where
@@ -116,7 +119,10 @@ pub id_length : (s : List ℕ) → has_form uuid_form s ≡ true → length (uui
 id_length s h = half 16 (filter is_no_hyphen s) (form_digits uuid_form s h).1
 
 pub an_id : (s id : List ℕ) → has_form uuid_form s ≡ true → id ≡ uuid_octets s → is_id id ≡ true
-an_id s id h e = ap is_id e ∙ and_from (eqb (length (uuid_octets s)) 16) (list_all is_octet (uuid_octets s)) (eq-eqb (length (uuid_octets s)) 16 (id_length s h)) (octets_low (filter is_no_hyphen s) (form_digits uuid_form s h).0)
+an_id s id h e =
+    ap is_id e
+    ∙ and_from (eqb (length (uuid_octets s)) 16) (list_all is_octet (uuid_octets s)) (eq-eqb (length (uuid_octets s)) 16 (id_length s h))
+    (octets_low (filter is_no_hyphen s) (form_digits uuid_form s h).0)
 
 -- ## The token
 

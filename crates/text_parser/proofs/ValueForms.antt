@@ -1,5 +1,6 @@
 -- Values of each form, from their parts.
-use Rattle.std.proofs.Common.{◌≡◌, ℕ, suc, ◌+◌, ◌<◌, ◌≤◌, ◌^◌, ℤ, pos, Bool, true, false, ◌&&◌, eqb, List, [], ◌∷◌, ◌++◌, length, map, replicate, Option, Some, None, refl, sym, ap, subst, ◌∙◌, append_assoc, codes, arith}
+use Rattle.std.proofs.Common.{◌≡◌, ℕ, suc, ◌+◌, ◌<◌, ◌≤◌, ◌^◌, ℤ, pos, Bool, true, false, ◌&&◌, eqb, List, [], ◌∷◌, ◌++◌, length, map, replicate, Option, Some, None, refl, sym, ap, subst, ◌∙◌}
+use Rattle.std.proofs.Common.{append_assoc, codes, arith}
 use Rattle.std.specs.List.{list_all}
 use Rattle.std.proofs.lemmas.Bool.{and_parts, and_from, eq-eqb}
 use Rattle.std.proofs.lemmas.List.{map-append}
@@ -39,7 +40,8 @@ forms_count v table (t ∷ types) none h = cc
 forms_count v table [] (more x ks) h = cc
 forms_count v table (t ∷ types) (more (node l ks) ts) h =
     ap suc (forms_count v table types ts
-    (and_parts (have_forms v table (child_types (type_at table t) l ks) ks) (have_forms v table types ts) (and_parts (has_text_form v table (type_at table t) l ks) (have_forms v table (child_types (type_at table t) l ks) ks && have_forms v table types ts) h).1).1)
+    (and_parts (have_forms v table (child_types (type_at table t) l ks) ks) (have_forms v table types ts)
+    (and_parts (has_text_form v table (type_at table t) l ks) (have_forms v table (child_types (type_at table t) l ks) ks && have_forms v table types ts) h).1).1)
 
 -- as many elements as were read
 pub few_items : (vs : List Tree) (text rest : List ℕ) → node_count (trees vs) + 1 + length rest ≤ length text → length text < 2 ^ 32 → length vs < 4294967296
@@ -71,9 +73,11 @@ module _ (v : Version) (table : Table) (t : ℕ) where
   numeral_value ns text rest z val n cut e = by (type_at table t) refl n where
     by : (d : Option TypeDef) → type_at table t ≡ d → is_numeral d ≡ true → IsValue v table t ns text val ns rest
     by (Some (def.Prim p)) is n =
-        opened_value v table t (def.Prim p) is (tree.Num z) none ns ns text rest val (Number z ∷ []) e refl refl refl refl (number_passes v table ns text rest z cut) (omega (arith, cut_less (plain v) text (Number z) rest cut))
+        opened_value v table t (def.Prim p) is (tree.Num z) none ns ns text rest val (Number z ∷ []) e refl refl refl refl (number_passes v table ns text rest z cut)
+        (omega (arith, cut_less (plain v) text (Number z) rest cut))
     by (Some (def.Enum vs)) is n =
-        opened_value v table t (def.Enum vs) is (tree.Num z) none ns ns text rest val (Number z ∷ []) e refl refl refl refl (number_passes v table ns text rest z cut) (omega (arith, cut_less (plain v) text (Number z) rest cut))
+        opened_value v table t (def.Enum vs) is (tree.Num z) none ns ns text rest val (Number z ∷ []) e refl refl refl refl (number_passes v table ns text rest z cut)
+        (omega (arith, cut_less (plain v) text (Number z) rest cut))
     by (Some (def.Struct m)) is n = cc
     by (Some (def.Array a b c)) is n = cc
     by (Some (def.Text a b)) is n = cc
@@ -121,13 +125,15 @@ module _ (v : Version) (table : Table) (t : ℕ) where
     module _ (written : ℕ) (r1 : List ℕ) (p1 : Passes v table (written_dues (writes_maximum bound varying)) ns text (written_tokens (writes_maximum bound varying) written) [] ns r1) where
       pub offset_halts : (e : Stop) → Halts v table (written_dues varying) ns r1 e → Halts v table (AValue t ∷ []) ns text e
       offset_halts e h =
-          array_halts e (halts_then v table (written_dues (writes_maximum bound varying)) (written_dues varying ++ elements_due) ns ns text r1 (written_tokens (writes_maximum bound varying) written) e p1
+          array_halts e
+          (halts_then v table (written_dues (writes_maximum bound varying)) (written_dues varying ++ elements_due) ns ns text r1 (written_tokens (writes_maximum bound varying) written) e p1
           (halts_framed v table (written_dues varying) elements_due ns r1 e h))
 
       module _ (offset : ℕ) (r2 : List ℕ) (p2 : Passes v table (written_dues varying) ns r1 (written_tokens varying offset) [] ns r2) where
         pub elements_halt : (e : Stop) → Halts v table elements_due ns r2 e → Halts v table (AValue t ∷ []) ns text e
         elements_halt e h =
-            array_halts e (halts_then v table (written_dues (writes_maximum bound varying)) (written_dues varying ++ elements_due) ns ns text r1 (written_tokens (writes_maximum bound varying) written) e p1
+            array_halts e
+            (halts_then v table (written_dues (writes_maximum bound varying)) (written_dues varying ++ elements_due) ns ns text r1 (written_tokens (writes_maximum bound varying) written) e p1
             (halts_then v table (written_dues varying) elements_due ns ns r1 r2 (written_tokens varying offset) e p2 h))
 
         module _ (vs : List Tree) (ms : Named) (rest : List ℕ) (are : AreElements v table elem.0 ns r2 (trees vs) ms rest) where
@@ -135,7 +141,8 @@ module _ (v : Version) (table : Table) (t : ℕ) where
           list_tokens = map token_of (list_pieces (writes_octets v (type_at table elem.0)) (trees vs) (values_pieces v table (replicate (count (trees vs)) elem.0) (trees vs)))
 
           counts_tokens : (bound : Option ℕ) (varying : Bool)
-              → map token_of (array_counts bound varying (maximum_by (known_maximum bound varying written) (length vs)) offset) ≡ written_tokens (writes_maximum bound varying) written ++ written_tokens varying offset
+              → map token_of (array_counts bound varying (maximum_by (known_maximum bound varying written) (length vs)) offset) ≡ written_tokens (writes_maximum bound varying) written
+              ++ written_tokens varying offset
           counts_tokens (Some b) true = refl
           counts_tokens (Some b) false = refl
           counts_tokens None true = refl
@@ -151,18 +158,22 @@ module _ (v : Version) (table : Table) (t : ℕ) where
           offset_fits false c z = eq-eqb offset 0 (z refl)
 
           pub array_value : (val : Tree) → is_count written ≡ true → is_count offset ≡ true → (varying ≡ false → offset ≡ 0)
-              → length r1 ≤ length text → length r2 ≤ length r1 → val ≡ node (tree.Arr (maximum_by (known_maximum bound varying written) (length vs)) offset) (trees vs) → IsValue v table t ns text val ms rest
+              → length r1 ≤ length text → length r2 ≤ length r1 → val ≡ node (tree.Arr (maximum_by (known_maximum bound varying written) (length vs)) offset) (trees vs)
+              → IsValue v table t ns text val ms rest
           array_value val cw co z less1 less2 e =
               opened_value v table t (def.Array elem bound varying) is (tree.Arr (maximum_by (known_maximum bound varying written) (length vs)) offset) (trees vs) ns ms text rest val
               (written_tokens (writes_maximum bound varying) written ++ (written_tokens varying offset ++ list_tokens)) e
-              (and_from (has_maximum bound varying (maximum_by (known_maximum bound varying written) (length vs)) (trees vs)) (has_offset varying offset && may_be_elements v (type_at table elem.0) (trees vs)) (maximum_fits bound varying cw)
+              (and_from (has_maximum bound varying (maximum_by (known_maximum bound varying written) (length vs)) (trees vs))
+              (has_offset varying offset && may_be_elements v (type_at table elem.0) (trees vs)) (maximum_fits bound varying cw)
               (and_from (has_offset varying offset) (may_be_elements v (type_at table elem.0) (trees vs)) (offset_fits varying co z) are.octets))
               are.forms are.names
-              (map-append token_of (array_counts bound varying (maximum_by (known_maximum bound varying written) (length vs)) offset) (list_pieces (writes_octets v (type_at table elem.0)) (trees vs) (values_pieces v table (replicate (count (trees vs)) elem.0) (trees vs)))
+              (map-append token_of (array_counts bound varying (maximum_by (known_maximum bound varying written) (length vs)) offset)
+              (list_pieces (writes_octets v (type_at table elem.0)) (trees vs) (values_pieces v table (replicate (count (trees vs)) elem.0) (trees vs)))
               ∙ ap (λ (l : List Token). l ++ list_tokens) (counts_tokens bound varying)
               ∙ append_assoc (written_tokens (writes_maximum bound varying) written) (written_tokens varying offset) list_tokens)
               (subst (λ (l : List Due). Passes v table l ns text (written_tokens (writes_maximum bound varying) written ++ (written_tokens varying offset ++ list_tokens)) [] ms rest) (sym all_due)
-              (passes_then v table (written_dues (writes_maximum bound varying)) (written_dues varying ++ elements_due) ns ns ms text r1 rest (written_tokens (writes_maximum bound varying) written) (written_tokens varying offset ++ list_tokens) p1
+              (passes_then v table (written_dues (writes_maximum bound varying)) (written_dues varying ++ elements_due) ns ns ms text r1 rest (written_tokens (writes_maximum bound varying) written)
+              (written_tokens varying offset ++ list_tokens) p1
               (passes_then v table (written_dues varying) elements_due ns ns ms r1 r2 rest (written_tokens varying offset) list_tokens p2 are.passes)))
               (omega (arith, are.few, less1, less2))
 
@@ -172,14 +183,16 @@ module _ (v : Version) (table : Table) (t : ℕ) where
     pub pipe_halts : (e : Stop) → Halts v table (list_dues (writes_octets v (type_at table elem.0)) elem.0) ns text e → Halts v table (AValue t ∷ []) ns text e
     pipe_halts e h = halts_open v table t (def.Pipe elem) is ns text e h
 
-    pub pipe_value : (vs : List Tree) (ms : Named) (rest : List ℕ) (val : Tree) → AreElements v table elem.0 ns text (trees vs) ms rest → val ≡ node tree.Pipe (trees vs) → IsValue v table t ns text val ms rest
+    pub pipe_value : (vs : List Tree) (ms : Named) (rest : List ℕ) (val : Tree) → AreElements v table elem.0 ns text (trees vs) ms rest → val ≡ node tree.Pipe (trees vs)
+        → IsValue v table t ns text val ms rest
     pipe_value vs ms rest val are e =
         opened_value v table t (def.Pipe elem) is tree.Pipe (trees vs) ns ms text rest val _ e are.octets are.forms are.names refl are.passes (omega (arith, are.few))
 
   -- ## Strings
 
   module _ (elem : TypeId) (bound : Option ℕ) (is : type_at table t ≡ Some (def.Text elem bound)) (ns : Named) (text : List ℕ) where
-    halts_text : (bound : Option ℕ) → type_at table t ≡ Some (def.Text elem bound) → (e : Stop) → Halts v table (written_dues (has_no_bound bound) ++ AString ∷ []) ns text e → Halts v table (AValue t ∷ []) ns text e
+    halts_text : (bound : Option ℕ) → type_at table t ≡ Some (def.Text elem bound) → (e : Stop) → Halts v table (written_dues (has_no_bound bound) ++ AString ∷ []) ns text e
+        → Halts v table (AValue t ∷ []) ns text e
     halts_text (Some b) is e h = halts_open v table t (def.Text elem (Some b)) is ns text e h
     halts_text None is e h = halts_open v table t (def.Text elem None) is ns text e h
 
@@ -189,9 +202,11 @@ module _ (v : Version) (table : Table) (t : ℕ) where
     module _ (written : ℕ) (r1 : List ℕ) (p1 : Passes v table (written_dues (has_no_bound bound)) ns text (written_tokens (has_no_bound bound) written) [] ns r1) where
       pub string_halts : (e : Stop) → Misses v AString r1 e → Halts v table (AValue t ∷ []) ns text e
       string_halts e m =
-          halts_text bound is e (halts_then v table (written_dues (has_no_bound bound)) (AString ∷ []) ns ns text r1 (written_tokens (has_no_bound bound) written) e p1 (halts_miss v table AString [] ns r1 e refl m))
+          halts_text bound is e
+          (halts_then v table (written_dues (has_no_bound bound)) (AString ∷ []) ns ns text r1 (written_tokens (has_no_bound bound) written) e p1 (halts_miss v table AString [] ns r1 e refl m))
 
-      string_passes : (octets rest : List ℕ) → IsCut (plain v) r1 (Str octets) rest → Passes v table (written_dues (has_no_bound bound) ++ AString ∷ []) ns text (written_tokens (has_no_bound bound) written ++ Str octets ∷ []) [] ns rest
+      string_passes : (octets rest : List ℕ) → IsCut (plain v) r1 (Str octets) rest
+          → Passes v table (written_dues (has_no_bound bound) ++ AString ∷ []) ns text (written_tokens (has_no_bound bound) written ++ Str octets ∷ []) [] ns rest
       string_passes octets rest cut =
           passes_then v table (written_dues (has_no_bound bound)) (AString ∷ []) ns ns ns text r1 rest (written_tokens (has_no_bound bound) written) (Str octets ∷ []) p1
           (passes_one v table (AString ∷ []) [] ns ns r1 rest (Str octets) refl cut (λ more cells. refl))
@@ -260,7 +275,8 @@ module _ (v : Version) (table : Table) (t : ℕ) where
             halts_open v table t (def.Union tag own arms default) is ns text e
             (halts_after v table (ATag arms default ∷ []) (arm_dues types) ns ns text r2 (Number z ∷ Mark 58 ∷ []) e up_to_arm h)
 
-        pub union_value : (vs : List Tree) (ms : Named) (rest : List ℕ) (val : Tree) → IsArm v table types ns r2 vs ms rest → val ≡ node (tree.Union z) (trees vs) → IsValue v table t ns text val ms rest
+        pub union_value : (vs : List Tree) (ms : Named) (rest : List ℕ) (val : Tree) → IsArm v table types ns r2 vs ms rest → val ≡ node (tree.Union z) (trees vs)
+            → IsValue v table t ns text val ms rest
         union_value vs ms rest val arm e =
             let tokens : List Token = map token_of (arm_pieces (values_pieces v table types (trees vs))) in
             opened_value v table t (def.Union tag own arms default) is (tree.Union z) (trees vs) ns ms text rest val (Number z ∷ Mark 58 ∷ tokens) e

@@ -32,7 +32,8 @@ use Rattle.text_parser.specs.Known.{AreKnown, NamesKnown}
 use Rattle.text_lexer.specs.declared.stop.Stop.{Stop}
 use Rattle.text_lexer.specs.declared.stop.Stop.TheVariants as stop
 use Rattle.text_parser.specs.Passing.{Named, Halts}
-use Rattle.text_parser.specs.Lines.{head_tokens, HasHead, Refuses, HeadHalts, lines_due, lines_tokens, AreFormed, all_noted, AreRoots, cell_tokens, cells_tokens, cell_noted, AreTyped, LineHalts, AreCells}
+use Rattle.text_parser.specs.Lines.{head_tokens, HasHead, Refuses, HeadHalts, lines_due, lines_tokens, AreFormed, all_noted, AreRoots, cell_tokens, cells_tokens, cell_noted, AreTyped, LineHalts}
+use Rattle.text_parser.specs.Lines.{AreCells}
 use Rattle.text_parser.proofs.Passages.{begins_both, comes_after}
 use Rattle.text_parser.proofs.LineParts.{head_settled, head_reads}
 
@@ -74,7 +75,8 @@ roots_same v table o (r ∷ rs) (x ∷ xs) =
 
 cells_same : (v : Version) (table : Table) (c : ℕ) (xs : List Referent) → flat_tokens (cell_lines v table c xs) ≡ cells_tokens v table c xs
 cells_same v table c [] = refl
-cells_same v table c (x ∷ xs) = flat_more (Other (tokens.Cell c) ∷ equals ∷ value_pieces v table x.of x.val) (cell_lines v table (c + 1) xs) ∙ ap (λ (l : List Token). cell_tokens v table c x ++ l) (cells_same v table (c + 1) xs)
+cells_same v table c (x ∷ xs) =
+    flat_more (Other (tokens.Cell c) ∷ equals ∷ value_pieces v table x.of x.val) (cell_lines v table (c + 1) xs) ∙ ap (λ (l : List Token). cell_tokens v table c x ++ l) (cells_same v table (c + 1) xs)
 
 -- ## Forms and names
 
@@ -102,7 +104,8 @@ cells_named v table before ns c (x ∷ xs) k t = (
 )
 
 -- the types of the cells that roots name are of the table
-named_known : (table : Table) (known : AreKnown table) (o : Operation) (rs : List Root) (xs : List Tree) (ns : Named) → NamesKnown table ns → NamesKnown table (all_noted table (map (named_root o) rs) xs ns)
+named_known : (table : Table) (known : AreKnown table) (o : Operation) (rs : List Root) (xs : List Tree) (ns : Named) → NamesKnown table ns
+    → NamesKnown table (all_noted table (map (named_root o) rs) xs ns)
 named_known table known o [] [] ns h = h
 named_known table known o [] (x ∷ xs) ns h = h
 named_known table known o (r ∷ rs) [] ns h = h

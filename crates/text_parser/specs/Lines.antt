@@ -48,7 +48,8 @@ HeadHalts op side text e = (table : Table) (more : List Due) → Refuses table (
 -- ## Roots
 
 -- the root's line is read
-pub record IsLine (v : Version) (table : Table) (name : List ℕ) (t : ℕ) (ns : Named) (text : List ℕ) (val : Tree) (ms : Named) (rest : List ℕ) : Type 0 where
+pub record IsLine (v : Version) (table : Table) (name : List ℕ) (t : ℕ) (ns : Named) (text : List ℕ) (val : Tree) (ms : Named)
+    (rest : List ℕ) : Type 0 where
   pub forms : have_forms v table (t ∷ []) (more val none) ≡ true
   pub names : ms ≡ noted table (t ∷ []) (more val none) ns
   pub passes : Passes v table (named_due name t) ns text (map token_of (named name (value_pieces v table t val))) [] ms rest
@@ -74,7 +75,8 @@ all_noted table (r ∷ rs) (x ∷ xs) ns = all_noted table rs xs (noted table (r
 all_noted table _ _ ns = ns
 
 -- the roots' lines are read
-pub record AreRoots (v : Version) (table : Table) (rs : List NamedRoot) (ns : Named) (text : List ℕ) (vals : List Tree) (ms : Named) (rest : List ℕ) : Type 0 where
+pub record AreRoots (v : Version) (table : Table) (rs : List NamedRoot) (ns : Named) (text : List ℕ) (vals : List Tree) (ms : Named)
+    (rest : List ℕ) : Type 0 where
   pub forms : AreFormed v table rs vals
   pub names : ms ≡ all_noted table rs vals ns
   pub passes : Passes v table (lines_due rs) ns text (lines_tokens v table rs vals) [] ms rest
@@ -101,20 +103,23 @@ cells_noted table ns (x ∷ xs) = cells_noted table (cell_noted table ns x) xs
 -- each cell from number c on has the type that it has when its line comes, and a value of its form
 abbrev pub AreTyped : Version → Table → Named → ℕ → List Referent → Type 0
 AreTyped v table ns c [] = Unit {0}
-AreTyped v table ns c (x ∷ xs) = (named_type ns c ≡ Some x.of) × (have_forms v table (x.of ∷ []) (more x.val none) ≡ true) × AreTyped v table (cell_noted table ns x) (c + 1) xs
+AreTyped v table ns c (x ∷ xs) =
+    (named_type ns c ≡ Some x.of) × (have_forms v table (x.of ∷ []) (more x.val none) ≡ true) × AreTyped v table (cell_noted table ns x) (c + 1) xs
 
 -- the reading where the line of the next cell is due, after those of so many
 abbrev pub at_line : Version → Named → ℕ → Reading
 at_line v ns count = reading v (ACellLine ∷ []) ns count
 
 -- lines come first in the text, wherever it is read on in the middle, and are read
-pub record LinesPass (v : Version) (table : Table) (ns : Named) (count : ℕ) (text : List ℕ) (ts : List Token) (ms : Named) (after : ℕ) (rest : List ℕ) : Type 0 where
+pub record LinesPass (v : Version) (table : Table) (ns : Named) (count : ℕ) (text : List ℕ) (ts : List Token) (ms : Named) (after : ℕ)
+    (rest : List ℕ) : Type 0 where
   pub begins : (before : List Token) → IsSettled v before → Begins before text ts rest
   pub settled : (before : List Token) → IsSettled v before → IsSettled v (tokens.after before ts)
   pub reads : all_read table (at_line v ns count) ts ≡ Ok (at_line v ms after)
 
 -- the line of the next cell is read, after those of so many
-pub record IsCellLine (v : Version) (table : Table) (count : ℕ) (ns : Named) (text : List ℕ) (x : Referent) (ms : Named) (rest : List ℕ) : Type 0 where
+pub record IsCellLine (v : Version) (table : Table) (count : ℕ) (ns : Named) (text : List ℕ) (x : Referent) (ms : Named)
+    (rest : List ℕ) : Type 0 where
   pub type : named_type ns (count + 1) ≡ Some x.of
   pub forms : have_forms v table (x.of ∷ []) (more x.val none) ≡ true
   pub names : ms ≡ cell_noted table ns x
@@ -129,7 +134,8 @@ pub record IsCellBegun (v : Version) (count : ℕ) (ns : Named) (text : List ℕ
 -- where the line of a cell or the end is due, the text is refused, unless memory ran out
 abbrev pub LineHalts : Version → Table → ℕ → Named → List ℕ → Stop → Type 0
 LineHalts v table count ns text stop.Memory = Unit {0}
-LineHalts v table count ns text (stop.At left why) = (before : List Token) → IsSettled v before → ComesTo table (at_line v ns count) before text (Stopped left why)
+LineHalts v table count ns text (stop.At left why) =
+    (before : List Token) → IsSettled v before → ComesTo table (at_line v ns count) before text (Stopped left why)
 
 -- the lines of these cells are read
 pub record CellsCame (v : Version) (table : Table) (ns : Named) (text : List ℕ) (cells : List Referent) (ms : Named) (rest : List ℕ) : Type 0 where

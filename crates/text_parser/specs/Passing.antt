@@ -19,7 +19,8 @@ abbrev pub Named : Type 0
 Named = List (ℕ × ℕ)
 
 -- The tokens come first in the text, wherever it is read on in the middle, and by them what is due becomes something else.
-pub record Passes (v : Version) (table : Table) (ds : List Due) (ns : Named) (text : List ℕ) (ts : List Token) (es : List Due) (ms : Named) (rest : List ℕ) : Type 0 where
+pub record Passes (v : Version) (table : Table) (ds : List Due) (ns : Named) (text : List ℕ) (ts : List Token) (es : List Due) (ms : Named)
+    (rest : List ℕ) : Type 0 where
   pub begins : (before : List Token) → IsSettled v before → Begins before text ts rest
   pub settled : (before : List Token) → IsSettled v before → IsSettled v (after before ts)
   pub reads : (more : List Due) (cells : ℕ) → all_read table (reading v (ds ++ more) ns cells) ts ≡ Ok (reading v (es ++ more) ms cells)
@@ -28,7 +29,8 @@ pub record Passes (v : Version) (table : Table) (ds : List Due) (ns : Named) (te
 abbrev pub Halts : Version → Table → List Due → Named → List ℕ → Stop → Type 0
 Halts v table ds ns text stop.Memory = Unit {0}
 Halts v table ds ns text (stop.At left why) =
-    (more : List Due) (cells : ℕ) (before : List Token) → IsSettled v before → ComesTo table (reading v (ds ++ more) ns cells) before text (Stopped left why)
+    (more : List Due) (cells : ℕ) (before : List Token) → IsSettled v before
+    → ComesTo table (reading v (ds ++ more) ns cells) before text (Stopped left why)
 
 -- a value of a type is read
 pub record IsValue (v : Version) (table : Table) (t : ℕ) (ns : Named) (text : List ℕ) (val : Tree) (ms : Named) (rest : List ℕ) : Type 0 where

@@ -1,6 +1,7 @@
 -- What the parts of a value are read as.
 -- `v` is a version, `t` a type's number, `f` a member, `ns` and `ms` are the cells that pointers have named, `vs` are values.
-use Rattle.std.specs.Prelude.{◌≡◌, ℕ, suc, zero, ◌+◌, ◌<◌, ◌≤◌, pos, Bool, true, false, List, [], ◌∷◌, ◌++◌, length, map, replicate, Option, Some, None}
+use Rattle.std.specs.Prelude.{◌≡◌, ℕ, suc, zero, ◌+◌, ◌<◌, ◌≤◌, pos, Bool, true, false, List, [], ◌∷◌, ◌++◌, length, map, replicate, Option, Some}
+use Rattle.std.specs.Prelude.{None}
 use Rattle.nd_types.specs.declared.types.Field.{Field}
 use Rattle.nd_types.specs.Table.{Table}
 use Rattle.nd_value.specs.Tree as tree
@@ -79,10 +80,12 @@ noted_reference (Some c) to ns = with_name ns c to
 -- ## Members and elements
 
 -- a member of a struct is read, by its place
-pub record IsMember (v : Version) (table : Table) (f : Field) (at : ℕ) (ns : Named) (text : List ℕ) (val : Tree) (ms : Named) (rest : List ℕ) : Type 0 where
+pub record IsMember (v : Version) (table : Table) (f : Field) (at : ℕ) (ns : Named) (text : List ℕ) (val : Tree) (ms : Named)
+    (rest : List ℕ) : Type 0 where
   pub forms : have_forms v table (f.of.0 ∷ []) (more val none) ≡ true
   pub names : ms ≡ noted table (f.of.0 ∷ []) (more val none) ns
-  pub passes : Passes v table (comma_dues at ++ named_due f.name f.of.0) ns text (comma_tokens at ++ map token_of (named f.name (value_pieces v table f.of.0 val))) [] ms rest
+  pub passes : Passes v table (comma_dues at ++ named_due f.name f.of.0) ns text
+      (comma_tokens at ++ map token_of (named f.name (value_pieces v table f.of.0 val))) [] ms rest
   pub few : node_count (more val none) + length rest < length text
 
 -- one or more elements of a list are read
@@ -90,11 +93,13 @@ pub record HaveCome (v : Version) (table : Table) (t : ℕ) (ns : Named) (text :
   pub some : 0 < length vs
   pub forms : have_forms v table (replicate (length vs) t) (trees vs) ≡ true
   pub names : ms ≡ noted table (replicate (length vs) t) (trees vs) ns
-  pub passes : Passes v table (FirstElement t ∷ []) ns text (map token_of (separated (values_pieces v table (replicate (length vs) t) (trees vs)))) (NextElement t ∷ []) ms rest
+  pub passes : Passes v table (FirstElement t ∷ []) ns text (map token_of (separated (values_pieces v table (replicate (length vs) t) (trees vs))))
+      (NextElement t ∷ []) ms rest
   pub few : node_count (trees vs) + length rest ≤ length text
 
 -- the value of an arm is read, where it has a type
-pub record IsArm (v : Version) (table : Table) (types : List ℕ) (ns : Named) (text : List ℕ) (vs : List Tree) (ms : Named) (rest : List ℕ) : Type 0 where
+pub record IsArm (v : Version) (table : Table) (types : List ℕ) (ns : Named) (text : List ℕ) (vs : List Tree) (ms : Named)
+    (rest : List ℕ) : Type 0 where
   pub forms : have_forms v table types (trees vs) ≡ true
   pub names : ms ≡ noted table types (trees vs) ns
   pub passes : Passes v table (arm_dues types) ns text (map token_of (arm_pieces (values_pieces v table types (trees vs)))) [] ms rest

@@ -8,7 +8,8 @@ ghost use Rattle.nd_value.specs.Seen.{cell_number};
 ghost use Rattle.text_grammar.specs.Written.{Name, equals, writes_octets};
 ghost use Rattle.text_grammar.specs.Dues.{This, count_due};
 ghost use Rattle.text_parser.specs.Passing.{Named, Passes, Halts};
-ghost use Rattle.text_parser.specs.ValueParts.{comma_dues, comma_tokens, name_tokens, count_tokens, writes_maximum, written_dues, written_tokens, maximum_by, known_maximum, has_no_bound, bound_or, noted_reference};
+ghost use Rattle.text_parser.specs.ValueParts.{comma_dues, comma_tokens, name_tokens, count_tokens, writes_maximum, written_dues, written_tokens};
+ghost use Rattle.text_parser.specs.ValueParts.{maximum_by, known_maximum, has_no_bound, bound_or, noted_reference};
 
 use crate::grammar::Grammar;
 use crate::names::Names;
@@ -20,7 +21,8 @@ use text_lexer::{Stop, count, mark, name};
 
 /// The comma before all members but the first.
 pub(crate) fn separator<'a>(version: Version, at: usize, text: &'a [u8]) -> Result<&'a [u8], Stop>
-    ensures ok { IfOk result (λ rest. (table : Table) (ns : Named) → Passes version table (comma_dues at) ns text.now (comma_tokens at) [] ns rest.now) }
+    ensures ok { IfOk result
+        (λ rest. (table : Table) (ns : Named) → Passes version table (comma_dues at) ns text.now (comma_tokens at) [] ns rest.now) }
     ensures less { IfOk result (λ rest. length rest.now ≤ length text.now) }
     ensures err { IfErr result (λ e. (table : Table) (ns : Named) → Halts version table (comma_dues at) ns text.now e) }
 {
@@ -61,7 +63,8 @@ pub(crate) fn written_count(
     written: bool,
     text: &[u8],
 ) -> Result<(u32, &[u8]), Stop>
-    ensures ok { IfOk result (λ x. (table : Table) (ns : Named) → Passes version table (written_dues written) ns text.now (written_tokens written x.0) [] ns x.1.now) }
+    ensures ok { IfOk result
+        (λ x. (table : Table) (ns : Named) → Passes version table (written_dues written) ns text.now (written_tokens written x.0) [] ns x.1.now) }
     ensures fits { IfOk result (λ x. is_count x.0 ≡ true) }
     ensures zero { IfOk result (λ x. written ≡ false → x.0 ≡ 0) }
     ensures less { IfOk result (λ x. length x.1.now ≤ length text.now) }

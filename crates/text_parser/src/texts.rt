@@ -16,7 +16,8 @@ ghost use Rattle.text_grammar.specs.Tokens.{skip};
 ghost use Rattle.text_grammar.specs.Reads.{ReadsAs, IsFault, IsRead};
 ghost use Rattle.text_parser.specs.Passing.{Halts};
 ghost use Rattle.text_parser.specs.Known.{NamesKnown};
-ghost use Rattle.text_parser.specs.Lines.{HasHead, HeadHalts, Refuses, IsLine, lines_due, AreRoots, AreCells, IsCellLine, IsCellBegun, LineHalts, fault_by, left_by};
+ghost use Rattle.text_parser.specs.Lines.{HasHead, HeadHalts, Refuses, IsLine, lines_due, AreRoots, AreCells, IsCellLine, IsCellBegun, LineHalts};
+ghost use Rattle.text_parser.specs.Lines.{fault_by, left_by};
 
 use crate::grammar::Grammar;
 use crate::names::Names;
@@ -136,7 +137,8 @@ fn root_line<'a>(
 ) -> Result<(Val, &'a [u8]), Stop>
     requires known { of.0 < length under.types.now }
     requires short { length text.now < 2 ^ 32 }
-    ensures ok { IfOk result (λ x. IsLine under.entry.version under.entry.types.now root.now of.0 names.old text.now (tree_of x.0) names.new x.1.now) }
+    ensures ok { IfOk result
+        (λ x. IsLine under.entry.version under.entry.types.now root.now of.0 names.old text.now (tree_of x.0) names.new x.1.now) }
     ensures err { IfErr result (λ e. Halts under.entry.version under.entry.types.now (named_due root.now of.0) names.old text.now e) }
 {
     let start = named(under.version, text, root)?;

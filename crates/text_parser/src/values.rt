@@ -320,9 +320,11 @@ fn union<'a>(
 ) -> Read<'a>
     requires known { IsUnion under.types.now arms.now default.now }
     requires short { length text.now < 2 ^ 32 }
-    ensures ok { IfOk result (λ x. (t : ℕ) (tag : TypeNumber) (own : Bool) → type_at under.entry.types.now t ≡ Some (def.Union tag own arms.now default.now)
+    ensures ok { IfOk result
+        (λ x. (t : ℕ) (tag : TypeNumber) (own : Bool) → type_at under.entry.types.now t ≡ Some (def.Union tag own arms.now default.now)
         → IsValue under.entry.version under.entry.types.now t names.old text.now (tree_of x.0) names.new x.1.now) }
-    ensures err { IfErr result (λ e. (t : ℕ) (tag : TypeNumber) (own : Bool) → type_at under.entry.types.now t ≡ Some (def.Union tag own arms.now default.now)
+    ensures err { IfErr result
+        (λ e. (t : ℕ) (tag : TypeNumber) (own : Bool) → type_at under.entry.types.now t ≡ Some (def.Union tag own arms.now default.now)
         → Halts under.entry.version under.entry.types.now (AValue t ∷ []) names.old text.now e) }
 {
     let (tag, middle) = number(under.version, text)?;

@@ -53,7 +53,8 @@ pub root_path : (w : Setting) (g : Graph) (i : ℕ) (r : NamedRoot) (n : ℕ) (q
 root_path w g i r n q e h = by_root (slice_get (root_list w) i) (e ∙ get_mapped w.op (root_list w) i) h
   where
     by_root : (o : Option Root) → Some r ≡ mapped w.op o
-        → Among ((0, elim o [ None ↦ codes "root" | Some x ↦ root_name w.op.params x ]) ∷ node_paths w.table (root_types o) (elim o [ None ↦ codes "root" | Some x ↦ root_name w.op.params x ] ∷ []) 0 (more (root_at g i) none)) (n, q)
+        → Among ((0, elim o [ None ↦ codes "root" | Some x ↦ root_name w.op.params x ])
+        ∷ node_paths w.table (root_types o) (elim o [ None ↦ codes "root" | Some x ↦ root_name w.op.params x ] ∷ []) 0 (more (root_at g i) none)) (n, q)
         → HasPath w.table r.of r.name (root_at g i) n q
     by_root None same a = cc
     by_root (Some x) same a =
@@ -68,7 +69,8 @@ pub no_root_path : (w : Setting) (g : Graph) (i : ℕ) (n : ℕ) (q : List ℕ) 
 no_root_path w g i n q e h = by_root (slice_get (root_list w) i) (e ∙ get_mapped w.op (root_list w) i) h
   where
     by_root : (o : Option Root) → None ≡ mapped w.op o
-        → Among ((0, elim o [ None ↦ codes "root" | Some x ↦ root_name w.op.params x ]) ∷ node_paths w.table (root_types o) (elim o [ None ↦ codes "root" | Some x ↦ root_name w.op.params x ] ∷ []) 0 (more (root_at g i) none)) (n, q)
+        → Among ((0, elim o [ None ↦ codes "root" | Some x ↦ root_name w.op.params x ])
+        ∷ node_paths w.table (root_types o) (elim o [ None ↦ codes "root" | Some x ↦ root_name w.op.params x ] ∷ []) 0 (more (root_at g i) none)) (n, q)
         → codes "root" ≡ q
     by_root None same a = only_own (codes "root") n q a
     by_root (Some x) same a = cc

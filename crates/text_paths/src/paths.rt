@@ -1,5 +1,6 @@
 // Where a node of a graph is, in words.
-ghost use Rattle.std.specs.Prelude.{◌≡◌, ◌<◌, ◌≤◌, ◌+◌, suc, [], ◌∷◌, List, ℕ, Some, None, length, IfOk, OnOk, MatchOption, option_map, option_copied};
+ghost use Rattle.std.specs.Prelude.{◌≡◌, ◌<◌, ◌≤◌, ◌+◌, suc, [], ◌∷◌, List, ℕ, Some, None, length, IfOk, OnOk, MatchOption, option_map};
+ghost use Rattle.std.specs.Prelude.{option_copied};
 ghost use Rattle.std.specs.List.{slice_get};
 ghost use Rattle.nd_types.specs.declared.types.Operation.{Operation};
 ghost use Rattle.nd_value.specs.Fitting.{setting_of};
@@ -12,7 +13,8 @@ ghost use Rattle.nd_value.specs.Seen.{tree_of, cell_of};
 ghost use Rattle.nd_value.specs.Setting.{Setting, or_unread, cell_of_number};
 ghost use Rattle.nd_value.specs.declared.item.Home.TheVariants as HomeValue;
 ghost use Rattle.text_grammar.specs.Paths.{IsPath, arm_paths, element_paths};
-ghost use Rattle.text_paths.specs.Steps.{HasPath, HasCellPath, IsStep, IsChildStep, IsChildAt, seen_step, seen_child, elem_types, member_types, member_paths, struct_members, union_arm, arm_path};
+ghost use Rattle.text_paths.specs.Steps.{HasPath, HasCellPath, IsStep, IsChildStep, IsChildAt, seen_step, seen_child, elem_types, member_types};
+ghost use Rattle.text_paths.specs.Steps.{member_paths, struct_members, union_arm, arm_path};
 
 use nd_base::{Memory, Name, Octets};
 use nd_types::{Arm, Fields, Interface, RootDef, Side, TypeDef, TypeId, Types};
@@ -120,7 +122,8 @@ fn append_root_steps(
     val: Option<&Val>,
     node: u32,
 ) -> Result<(), Memory>
-    ensures { OnOk result ((p : List ℕ) → HasPath types.now of.0 text.old (or_unread (option_map (λ v. tree_of v.now) val.entry)) node p → text.new ≡ p) }
+    ensures { OnOk result
+        ((p : List ℕ) → HasPath types.now of.0 text.old (or_unread (option_map (λ v. tree_of v.now) val.entry)) node p → text.new ≡ p) }
 {
     match val {
         Some(val) => append_steps(text, types, of, val, node),
@@ -290,7 +293,8 @@ fn to_element<'a>(
     node: u32,
 ) -> Result<Option<Step<'a>>, Memory>
     ensures { let ks = trees items.now in IfOk result (λ next. (table : Table)
-        → IsChildStep table (elem_types (option_map (λ t. t.0) elem) (count ks)) (element_paths text.old offset ks) ks node text.new (seen_step next)) }
+        → IsChildStep table (elem_types (option_map (λ t. t.0) elem) (count ks)) (element_paths text.old offset ks) ks node text.new
+        (seen_step next)) }
 {
     match elem {
         Some(elem) => to_one_element(text, elem, offset, items, node),
@@ -393,7 +397,8 @@ fn arm_of(types: &Types, of: TypeId, tag: i128) -> Option<&Arm>
 
 /// The type of the elements of an array.
 fn array_elem(types: &Types, of: TypeId) -> Option<TypeId>
-    ensures { (max offset : ℕ) (ks : Trees) → child_types (type_at types.now of.0) (tree.Arr max offset) ks ≡ elem_types (option_map (λ t. t.0) result) (count ks) }
+    ensures { (max offset : ℕ) (ks : Trees)
+        → child_types (type_at types.now of.0) (tree.Arr max offset) ks ≡ elem_types (option_map (λ t. t.0) result) (count ks) }
 {
     match types.get(of.0 as usize) {
         Some(TypeDef::Array { elem, .. }) => Some(*elem),

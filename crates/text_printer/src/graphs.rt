@@ -142,7 +142,8 @@ fn append_root(
     walk: &mut Walk<'_>,
 ) -> Result<(), Memory>
     ensures { let r = root_value root.entry in
-        OnOk result ((v : Tree) → walk.old ≡ more v none → Begins types.now (r.of ∷ []) (more v none) → text.new ≡ text.old ++ root_text types.now r v) }
+        OnOk result ((v : Tree) → walk.old ≡ more v none → Begins types.now (r.of ∷ []) (more v none)
+        → text.new ≡ text.old ++ root_text types.now r v) }
 {
     text.append(root.name)?;
     text.append(b" = ")?;

@@ -7,7 +7,8 @@ ghost use Rattle.nd_value.specs.Nodes.{child_types};
 ghost use Rattle.nd_value.specs.Seen.{tree_of};
 ghost use Rattle.text_grammar.specs.declared.version.Version.TheVariants as version;
 ghost use Rattle.text_grammar.specs.Written.{writes_octets};
-ghost use Rattle.text_printer.specs.Texts.{text_of, texts_of, listed, member_texts, bytes_text, byte_of, list_text, struct_text, array_text, pipe_text, arm_text};
+ghost use Rattle.text_printer.specs.Texts.{text_of, texts_of, listed, member_texts, bytes_text, byte_of, list_text, struct_text, array_text};
+ghost use Rattle.text_printer.specs.Texts.{pipe_text, arm_text};
 
 use crate::digits::{append_byte, append_number};
 use crate::forms::{

@@ -47,7 +47,8 @@ fn append_node(
     walk: &mut Walk<'_>,
 ) -> Result<(), Memory>
     ensures text { let f = flat_seen seen.now in let d = type_at types.now of.0 in let ks = take_trees f.1 walk.old in
-        OnOk result (HasNext f.1 walk.old → Writes types.now (child_types d f.0 ks) (node_text types.now d f.0 ks) text.old walk.old text.new walk.new) }
+        OnOk result (HasNext f.1 walk.old
+        → Writes types.now (child_types d f.0 ks) (node_text types.now d f.0 ks) text.old walk.old text.new walk.new) }
     ensures fewer { OnOk result (length (flat walk.new) ≤ length (flat walk.old)) }
 {
     match seen {
@@ -94,7 +95,8 @@ fn append_members(
     members: &Fields,
     walk: &mut Walk<'_>,
 ) -> Result<(), Memory>
-    ensures text { OnOk result (Writes types.now (map (λ f. f.of.0) members.now) (λ xs. listed 0 (member_texts members.now xs)) text.old walk.old text.new walk.new) }
+    ensures text { OnOk result
+        (Writes types.now (map (λ f. f.of.0) members.now) (λ xs. listed 0 (member_texts members.now xs)) text.old walk.old text.new walk.new) }
     ensures fewer { OnOk result (length (flat walk.new) ≤ length (flat walk.old)) }
 {
     for at in 0..members.len() {
@@ -148,7 +150,8 @@ fn append_pipe(
     walk: &mut Walk<'_>,
 ) -> Result<(), Memory>
     ensures text { let d = type_at types.now of.0 in let ks = take_trees count walk.old in
-        OnOk result (HasNext count walk.old → Writes types.now (child_types d tree.Pipe ks) (pipe_text types.now d ks) text.old walk.old text.new walk.new) }
+        OnOk result (HasNext count walk.old
+        → Writes types.now (child_types d tree.Pipe ks) (pipe_text types.now d ks) text.old walk.old text.new walk.new) }
     ensures fewer { OnOk result (length (flat walk.new) ≤ length (flat walk.old)) }
 {
     match types.get(of.0 as usize) {

@@ -10,7 +10,8 @@ use Rattle.text_grammar.specs.declared.fault.TextReason.{TextReason}
 use Rattle.text_grammar.specs.declared.fault.TextReason.TheVariants as reason
 use Rattle.text_grammar.specs.Tokens.{Token, Word, Number, Cell, Mark}
 use Rattle.text_grammar.specs.Written.{Name, Other, writes_octets, equals}
-use Rattle.text_grammar.specs.Dues.{Due, This, AVersion, ACount, APointer, FirstElement, NextElement, AValue, ACellLine, Reading, taken, taken_first, went_on_if, with_version, with_line, is_this, why_not, is_count_token, version_of, named_type, value_dues, list_dues, due_at, opened, closes, next_read, all_read}
+use Rattle.text_grammar.specs.Dues.{Due, This, AVersion, ACount, APointer, FirstElement, NextElement, AValue, ACellLine, Reading, taken, taken_first, went_on_if, with_version, with_line, is_this}
+use Rattle.text_grammar.specs.Dues.{why_not, is_count_token, version_of, named_type, value_dues, list_dues, due_at, opened, closes, next_read, all_read}
 use Rattle.text_reading_laws.specs.Values.{reading}
 
 -- what comes of more tokens, after what came of one

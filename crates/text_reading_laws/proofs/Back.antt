@@ -1,7 +1,8 @@
 -- Tokens that are read to the end are those of a graph.
 -- `y` is what has been read at the end, `w` a setting, `v` a version, `r` a root, `x` a value or a cell, `nb` are the cells that have a type,
 -- `k` is how many have a line, `ts` are tokens.
-use Rattle.std.proofs.Common.{◌≡◌, ℕ, zero, suc, ◌+◌, ◌≤◌, pos, Bool, true, false, cond, eqb, List, [], ◌∷◌, ◌++◌, length, Option, Some, None, Ok, Err, refl, ap, ap₂, sym, ◌∙◌, append-nil, arith, codes}
+use Rattle.std.proofs.Common.{◌≡◌, ℕ, zero, suc, ◌+◌, ◌≤◌, pos, Bool, true, false, cond, eqb, List, [], ◌∷◌, ◌++◌, length, Option, Some, None, Ok, Err, refl, ap, ap₂, sym, ◌∙◌, append-nil, arith}
+use Rattle.std.proofs.Common.{codes}
 use Rattle.std.specs.List.{list_all}
 use Rattle.std.proofs.lemmas.Bool.{and_parts, and_from, eqb-true}
 use Rattle.std.proofs.lemmas.Option.{same_Some}
@@ -196,7 +197,8 @@ module _ (w : Setting) (known : KnowsTypes w.table) (roots : list_all (λ (r : R
       let real_f = real_rest (Word (side_word w.side)) f.0 (ap (list_all is_real) (sym f.1) ∙ real_d) in
       let r = roots_taken w.table known y ends v w.op.params (root_list w) roots f.0 real_f (ACellLine ∷ []) [] refl 0 f.2 in
       let kn = roots_know w.table 0 (root_list w) r.values [] [] knows_none in
-      let q = cells_taken w.table known y ends v (length r.others) r.others (omega arith) r.real (root_pointers w.table 0 (root_list w) r.values) (roots_noted w.table (root_list w) r.values []) kn r.names 0 r.read in
+      let q = cells_taken w.table known y ends v (length r.others) r.others (omega arith) r.real (root_pointers w.table 0 (root_list w) r.values)
+      (roots_noted w.table (root_list w) r.values []) kn r.names 0 r.read in
       let g : Graph = record { roots = r.values; cells = q.cells } in
       let head : List (List Piece) = head_lines v w in
       let root_part : List (List Piece) = root_lines v w.table w.op.params (root_list w) r.values in

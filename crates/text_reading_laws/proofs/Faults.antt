@@ -1,6 +1,7 @@
 -- Where a text stops it has its first fault.
 -- `w` is a setting, `ts` are the tokens before, `x` what has been read of them, `t` is the token that comes next, `text` what is left, `whole` the whole text.
-use Rattle.std.proofs.Common.{◌≡◌, ℕ, ◌+◌, ◌-◌, ◌≤◌, Bool, true, false, cond, eqb, List, [], ◌∷◌, ◌++◌, length, map, Option, Some, None, Ok, Err, refl, ap, ap₂, sym, subst, ◌∙◌, append_assoc, append-nil, arith, codes, get_or}
+use Rattle.std.proofs.Common.{◌≡◌, ℕ, ◌+◌, ◌-◌, ◌≤◌, Bool, true, false, cond, eqb, List, [], ◌∷◌, ◌++◌, length, map, Option, Some, None, Ok, Err, refl, ap, ap₂, sym, subst, ◌∙◌, append_assoc}
+use Rattle.std.proofs.Common.{append-nil, arith, codes, get_or}
 use Rattle.std.specs.List.{list_all, AllByRecursion}
 use Rattle.std.specs.Str.{bytes_eq}
 use Rattle.std.proofs.lemmas.Bool.{and_parts, and_from, both_ways, lt-ltb, eqb-true, eq-eqb}
@@ -27,7 +28,9 @@ use Rattle.text_grammar.specs.Tokens.{Token, Word, Number, Cell, Str, Bytes, Uui
 use Rattle.text_grammar.specs.Written.{Piece, Name, Other, token_of, comma, writes_octets, graph_pieces, graph_tokens}
 use Rattle.text_grammar.specs.Readable.{IsReadable}
 use Rattle.text_grammar.specs.Reads.{Lexeme, Cut, End, Bad, IsNext, CanGoOn, IsWhole, GoesOn, IsNameDue, IsReason, IsFirstFault}
-use Rattle.text_grammar.specs.Dues.{Due, This, AVersion, ANumber, ACount, AString, SomeBytes, AUuid, ATag, APointer, FirstElement, NextElement, AValue, ACellLine, Reading, value_dues, list_dues, nothing_read, named_type, is_this, is_count_token, version_of, went_on_if, with_version, with_line, taken_first, due_at, opened, closes, next_read, may_end, all_read}
+use Rattle.text_grammar.specs.Dues.{Due, This, AVersion, ANumber, ACount, AString, SomeBytes, AUuid, ATag, APointer, FirstElement, NextElement, AValue, ACellLine, Reading, value_dues, list_dues}
+use Rattle.text_grammar.specs.Dues.{nothing_read, named_type, is_this, is_count_token, version_of, went_on_if, with_version, with_line, taken_first, due_at, opened, closes, next_read, may_end}
+use Rattle.text_grammar.specs.Dues.{all_read}
 use Rattle.text_grammar.specs.Reader.{Ending, Whole, Stopped, ComesTo, goes_on, refused, no_token, ended}
 use Rattle.text_reading_laws.specs.Values.{reading}
 use Rattle.text_reading_laws.specs.Real.{is_real}
@@ -196,7 +199,8 @@ module _ (v : Version) (nb : List (ℕ × ℕ)) (k : ℕ) (table : Table) where
     p : (may_come table d ≡ true) × (list_all (may_come table) fs ≡ true)
     p = and_parts (may_come table d) (list_all (may_come table) fs) h
 
-    other_due : (d : Due) → name_due (d ∷ (fs ++ ACellLine ∷ [])) ≡ true → next_read table (reading v (d ∷ (fs ++ ACellLine ∷ [])) nb k) t ≡ Err why → Refusal (reading v (d ∷ (fs ++ ACellLine ∷ [])) nb k) t why
+    other_due : (d : Due) → name_due (d ∷ (fs ++ ACellLine ∷ [])) ≡ true → next_read table (reading v (d ∷ (fs ++ ACellLine ∷ [])) nb k) t ≡ Err why
+        → Refusal (reading v (d ∷ (fs ++ ACellLine ∷ [])) nb k) t why
     other_due (This (Name n)) f e = name_refused n fs t why e
     other_due d f e = cc
 
@@ -292,9 +296,11 @@ module _ (w : Setting) (side : IsLegalSide w) (whole : List ℕ) (short : length
       by ds h = cc
 
     -- of a graph that goes on there is a piece next
-    piece_next : (ps : List Piece) (us : List Token) (t : Token) → map token_of ps ≡ ts ++ t ∷ us → (before : List Piece) × (p : Piece) × (others : List Piece) × (ps ≡ before ++ p ∷ others) × (map token_of before ≡ ts)
+    piece_next : (ps : List Piece) (us : List Token) (t : Token) → map token_of ps ≡ ts ++ t ∷ us
+        → (before : List Piece) × (p : Piece) × (others : List Piece) × (ps ≡ before ++ p ∷ others) × (map token_of before ≡ ts)
     piece_next ps us t e = split ps ts e where
-      split : (ps : List Piece) (ts : List Token) → map token_of ps ≡ ts ++ t ∷ us → (before : List Piece) × (p : Piece) × (others : List Piece) × (ps ≡ before ++ p ∷ others) × (map token_of before ≡ ts)
+      split : (ps : List Piece) (ts : List Token) → map token_of ps ≡ ts ++ t ∷ us
+          → (before : List Piece) × (p : Piece) × (others : List Piece) × (ps ≡ before ++ p ∷ others) × (map token_of before ≡ ts)
       split [] [] e = cc
       split [] (u ∷ ts) e = cc
       split (p ∷ ps) [] e = ([], p, ps, refl, refl)
@@ -311,7 +317,8 @@ module _ (w : Setting) (side : IsLegalSide w) (whole : List ℕ) (short : length
       as_name (Other u) i = cc
 
       by : (us : List Token) → graph_tokens begun.writing.version w begun.writing.graph ≡ ts ++ us → IsNameDue w ts
-      by [] e = absurd (both_ways (may_end x) (may_not_end h) (whole_ends begun.writing.graph (record { version = begun.writing.version; readable = begun.writing.readable; tokens = e ∙ append-nil ts })).0)
+      by [] e =
+          absurd (both_ways (may_end x) (may_not_end h) (whole_ends begun.writing.graph (record { version = begun.writing.version; readable = begun.writing.readable; tokens = e ∙ append-nil ts })).0)
       by (t ∷ us) e =
           let r = piece_next (graph_pieces begun.writing.version w begun.writing.graph) us t e in
           let i = name_there w begun.writing.version begun.writing.graph begun.writing.readable r.0 r.2 r.1 r.3 x (ap (all_read w.table (nothing_read w)) r.4 ∙ c.read) in

@@ -16,7 +16,8 @@ use Rattle.nd_value.specs.Nodes.{selected_types}
 use Rattle.text_grammar.specs.declared.version.Version.{Version}
 use Rattle.text_grammar.specs.Tokens.{Token, Word, Number, Str, Bytes, Uuid, Mark}
 use Rattle.text_grammar.specs.Written.{Piece, Name, Other, token_of, comma, word, writes_octets}
-use Rattle.text_grammar.specs.Dues.{Due, This, AVersion, ANumber, ACount, AString, SomeBytes, AUuid, ATag, APointer, FirstElement, NextElement, AValue, ACellLine, separated_dues, count_dues, list_dues, arm_dues, value_dues, is_this, why_not, went_on_if, all_read}
+use Rattle.text_grammar.specs.Dues.{Due, This, AVersion, ANumber, ACount, AString, SomeBytes, AUuid, ATag, APointer, FirstElement, NextElement, AValue, ACellLine, separated_dues, count_dues}
+use Rattle.text_grammar.specs.Dues.{list_dues, arm_dues, value_dues, is_this, why_not, went_on_if, all_read}
 use Rattle.text_reading_laws.specs.Values.{reading}
 use Rattle.text_reading_laws.specs.Real.{is_real}
 use Rattle.text_reading_laws.proofs.Alike.{go_on, all_open, name_read}
@@ -195,7 +196,8 @@ module _ (table : Table) (v : Version) where
         value_filled t (def.Text elem None) e (record { first = Number (pos 0); others = Mark 58 ∷ Str [] ∷ []; real = refl; reads = λ more nb k ts. refl })
     by_type t (def.Union tag encapsulated arms default) e test fill h =
         value_filled t (def.Union tag encapsulated arms default) e
-        (tag_begun arms default (arm_filled (selected_types (selected arms default (pos 0))) (all_filled (selected_types (selected arms default (pos 0))) (selected_passes test arms default (pos 0) h))))
+        (tag_begun arms default
+        (arm_filled (selected_types (selected arms default (pos 0))) (all_filled (selected_types (selected arms default (pos 0))) (selected_passes test arms default (pos 0) h))))
       where
         all_filled : (us : List ℕ) → list_all test us ≡ true → FillsParts us
         all_filled [] h = tt

@@ -21,7 +21,9 @@ use Rattle.text_grammar.specs.declared.fault.TextReason.{TextReason}
 use Rattle.text_grammar.specs.declared.fault.TextReason.TheVariants as reason
 use Rattle.text_grammar.specs.Tokens.{Token, Word, Number, Cell, Str, Bytes, Uuid, Mark}
 use Rattle.text_grammar.specs.Written.{Name, Other, comma, colon, equals, word, side_word, writes_octets}
-use Rattle.text_grammar.specs.Dues.{Due, This, AVersion, ANumber, ACount, AString, SomeBytes, AUuid, ATag, APointer, FirstElement, NextElement, AValue, ACellLine, Reading, separated_dues, count_dues, list_dues, arm_dues, value_dues, root_dues, nothing_read, named_type, with_name, opened, due_at, closes, is_this, why_not, is_count_token, version_of, went_on_if, with_version, with_line, taken_first, next_read, may_end, all_read}
+use Rattle.text_grammar.specs.Dues.{Due, This, AVersion, ANumber, ACount, AString, SomeBytes, AUuid, ATag, APointer, FirstElement, NextElement, AValue, ACellLine, Reading, separated_dues, count_dues}
+use Rattle.text_grammar.specs.Dues.{list_dues, arm_dues, value_dues, root_dues, nothing_read, named_type, with_name, opened, due_at, closes, is_this, why_not, is_count_token, version_of, went_on_if}
+use Rattle.text_grammar.specs.Dues.{with_version, with_line, taken_first, next_read, may_end, all_read}
 use Rattle.text_reading_laws.specs.Values.{reading}
 use Rattle.text_reading_laws.specs.Real.{is_real}
 use Rattle.text_reading_laws.proofs.Alike.{go_on}
@@ -108,8 +110,11 @@ module _ (table : Table) (known : KnowsTypes table) where
 
     value_at : (tok : Token) (t : ℕ) (fs : List Due) → list_all (may_come table) fs ≡ true
         → (front : List Due) × (opened v table (AValue t ∷ (fs ++ ACellLine ∷ [])) ≡ front ++ ACellLine ∷ []) × (list_all (may_come table) front ≡ true)
-    value_at tok t fs h =
-        (value_dues v table (type_at table t) ++ fs, sym (append_assoc (value_dues v table (type_at table t)) fs (ACellLine ∷ [])), good_more (value_dues v table (type_at table t)) fs (value_good v t (type_at table t) refl) h)
+    value_at tok t fs h = (
+      value_dues v table (type_at table t) ++ fs,
+      sym (append_assoc (value_dues v table (type_at table t)) fs (ACellLine ∷ [])),
+      good_more (value_dues v table (type_at table t)) fs (value_good v t (type_at table t) refl) h,
+    )
 
     at_token : (tok : Token) (ds : List Due) → list_all (may_come table) ds ≡ true → AtToken tok ds
     at_token tok [] h = record { front = []; is = refl; good = refl }

@@ -41,7 +41,8 @@ pieces_both table x (p ∷ ps) qs = by (piece_read table x p) (λ y. pieces_both
 pub pieces_tokens : (table : Table) (x y : Reading) (ps : List Piece) → all_pieces table x ps ≡ Ok y → all_read table x (map token_of ps) ≡ Ok y
 pieces_tokens table x y [] e = e
 pieces_tokens table x y (p ∷ ps) e = by (agree (is_name p) (name_due x.due)) e (λ z e. pieces_tokens table z y ps e) where
-  on : (r : Result Reading TextReason) → ((z : Reading) → all_pieces table z ps ≡ Ok y → all_read table z (map token_of ps) ≡ Ok y) → pieces_on table r ps ≡ Ok y → go_on table r (map token_of ps) ≡ Ok y
+  on : (r : Result Reading TextReason) → ((z : Reading) → all_pieces table z ps ≡ Ok y → all_read table z (map token_of ps) ≡ Ok y) → pieces_on table r ps ≡ Ok y
+      → go_on table r (map token_of ps) ≡ Ok y
   on (Ok z) again e = again z e
   on (Err why) again e = cc
 
@@ -137,16 +138,17 @@ module _ (w : Setting) where
   -- A piece of a graph is a name exactly if one is due where it is read.
   pub name_there : (v : Version) (g : Graph) → IsReadable v w g → (ps qs : List Piece) (p : Piece) → graph_pieces v w g ≡ ps ++ p ∷ qs → (x : Reading)
       → all_read w.table (nothing_read w) (map token_of ps) ≡ Ok x → is_name p ≡ name_due x.due
-  name_there v g r ps qs p e x f = by (all_pieces w.table (nothing_read w) ps) refl (sym (pieces_both w.table (nothing_read w) ps (p ∷ qs)) ∙ ap (all_pieces w.table (nothing_read w)) (sym e) ∙ (graph_reads v g r).1) where
-    z : Reading
-    z = (graph_reads v g r).0
+  name_there v g r ps qs p e x f =
+      by (all_pieces w.table (nothing_read w) ps) refl (sym (pieces_both w.table (nothing_read w) ps (p ∷ qs)) ∙ ap (all_pieces w.table (nothing_read w)) (sym e) ∙ (graph_reads v g r).1) where
+        z : Reading
+        z = (graph_reads v g r).0
 
-    at_piece : (y : Reading) → y ≡ x → (b : Bool) → agree (is_name p) (name_due y.due) ≡ b → pieces_on w.table (piece_if w.table b y p) qs ≡ Ok z → is_name p ≡ name_due x.due
-    at_piece y s true h i = agreed (is_name p) (name_due y.due) h ∙ ap (λ (u : Reading). name_due u.due) s
-    at_piece y s false h i = cc
+        at_piece : (y : Reading) → y ≡ x → (b : Bool) → agree (is_name p) (name_due y.due) ≡ b → pieces_on w.table (piece_if w.table b y p) qs ≡ Ok z → is_name p ≡ name_due x.due
+        at_piece y s true h i = agreed (is_name p) (name_due y.due) h ∙ ap (λ (u : Reading). name_due u.due) s
+        at_piece y s false h i = cc
 
-    by : (o : Result Reading TextReason) → all_pieces w.table (nothing_read w) ps ≡ o → pieces_on w.table o (p ∷ qs) ≡ Ok z → is_name p ≡ name_due x.due
-    by (Ok y) h i =
-        let same : y ≡ x = let q = sym (pieces_tokens w.table (nothing_read w) y ps h) ∙ f in cc in
-        at_piece y same (agree (is_name p) (name_due y.due)) refl i
-    by (Err why) h i = cc
+        by : (o : Result Reading TextReason) → all_pieces w.table (nothing_read w) ps ≡ o → pieces_on w.table o (p ∷ qs) ≡ Ok z → is_name p ≡ name_due x.due
+        by (Ok y) h i =
+            let same : y ≡ x = let q = sym (pieces_tokens w.table (nothing_read w) y ps h) ∙ f in cc in
+            at_piece y same (agree (is_name p) (name_due y.due)) refl i
+        by (Err why) h i = cc

@@ -21,9 +21,11 @@ use Rattle.text_grammar.specs.declared.version.Version.TheVariants as version
 use Rattle.text_grammar.specs.declared.fault.TextReason.{TextReason}
 use Rattle.text_grammar.specs.declared.fault.TextReason.TheVariants as reason
 use Rattle.text_grammar.specs.Tokens.{Word, Number, Cell, Str, Bytes, Uuid, Mark}
-use Rattle.text_grammar.specs.Written.{Piece, Name, Other, token_of, comma, colon, equals, separated, members, named, octets_in, writes_octets, list_pieces, array_counts, arm_pieces, node_pieces, values_pieces, value_pieces}
+use Rattle.text_grammar.specs.Written.{Piece, Name, Other, token_of, comma, colon, equals, separated, members, named, octets_in, writes_octets, list_pieces, array_counts, arm_pieces, node_pieces}
+use Rattle.text_grammar.specs.Written.{values_pieces, value_pieces}
 use Rattle.text_grammar.specs.Readable.{has_offset, has_maximum, has_text_form}
-use Rattle.text_grammar.specs.Dues.{Due, This, ACount, AString, AUuid, FirstElement, NextElement, AValue, Reading, separated_dues, count_dues, list_dues, value_dues, arm_dues, closes, next_read, why_not, is_count_token, went_on_if}
+use Rattle.text_grammar.specs.Dues.{Due, This, ACount, AString, AUuid, FirstElement, NextElement, AValue, Reading, separated_dues, count_dues, list_dues, value_dues, arm_dues, closes, next_read}
+use Rattle.text_grammar.specs.Dues.{why_not, is_count_token, went_on_if}
 use Rattle.text_reading_laws.specs.Values.{reading, have_forms, noted_node, noted}
 use Rattle.text_reading_laws.proofs.Alike.{next_open, next_element}
 use Rattle.text_reading_laws.proofs.Forms.{Form, form_of, a_number, an_enum, a_struct, an_array, a_bound_text, a_text, a_union, a_null, a_pointer, a_context, a_pipe}
@@ -320,7 +322,8 @@ module _ (v : Version) (table : Table) where
       (λ ds nb cells ts.
       ap (λ (l : List Due). all_pieces table (reading v l nb cells) ((array_counts bound varying max offset ++ list_pieces w ks values) ++ ts))
       (append_assoc (count_dues bound varying) (list_dues w elem.0) ds)
-      ∙ ap (λ (l : List Piece). all_pieces table (reading v (count_dues bound varying ++ (list_dues w elem.0 ++ ds)) nb cells) l) (append_assoc (array_counts bound varying max offset) (list_pieces w ks values) ts)
+      ∙ ap (λ (l : List Piece). all_pieces table (reading v (count_dues bound varying ++ (list_dues w elem.0 ++ ds)) nb cells) l)
+      (append_assoc (array_counts bound varying max offset) (list_pieces w ks values) ts)
       ∙ counts_read bound varying max offset ks m o (list_dues w elem.0 ++ ds) nb cells ((list_pieces w ks values) ++ ts)
       ∙ list_read elem.0 ks each ds nb cells ts)
   by_form t _ _ _ e (a_bound_text elem bound octets o) each =

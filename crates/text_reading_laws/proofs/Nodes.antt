@@ -126,8 +126,10 @@ module _ (v : Version) (w : Setting) (g : Graph) where
   roots_forth i (r ∷ rs) (x ∷ xs) l h =
       let here : List HomeNode = map (in_home (home.Root i)) (governed r x) in
       let p = and_parts (list_all graph_test here) (list_all graph_test (root_nodes w g (i + 1) rs xs)) (sym (list_all-append graph_test here (root_nodes w g (i + 1) rs xs)) ∙ h) in
-      let l' : length xs ≡ length rs = cc in
-      (nodes_forms v w.table (r.of ∷ []) (root_agreements w g r.vars ∷ []) 0 (more x none) refl (sym (list_all-map graph_test (in_home (home.Root i)) (governed r x)) ∙ p.0), roots_forth (i + 1) rs xs l' p.1)
+      let l' : length xs ≡ length rs = cc in (
+        nodes_forms v w.table (r.of ∷ []) (root_agreements w g r.vars ∷ []) 0 (more x none) refl (sym (list_all-map graph_test (in_home (home.Root i)) (governed r x)) ∙ p.0),
+        roots_forth (i + 1) rs xs l' p.1,
+      )
 
   roots_back : (i : ℕ) (rs : List Root) (xs : List Tree) → RootsFormed v w.table rs xs → list_all graph_test (root_nodes w g i rs xs) ≡ true
   roots_back i [] [] f = refl

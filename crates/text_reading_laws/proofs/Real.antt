@@ -1,5 +1,6 @@
 -- The tokens of a text: octets are below 256, and identifiers have 16 of them.
-use Rattle.std.proofs.Common.{◌≡◌, ℕ, suc, ◌+◌, ◌-◌, ◌*◌, ◌<◌, ◌≤◌, ◌^◌, Bool, true, false, not, ◌&&◌, ◌||◌, cond, eqb, List, [], ◌∷◌, length, Option, Some, None, refl, ap, sym, subst, ◌∙◌, arith, nat_le}
+use Rattle.std.proofs.Common.{◌≡◌, ℕ, suc, ◌+◌, ◌-◌, ◌*◌, ◌<◌, ◌≤◌, ◌^◌, Bool, true, false, not, ◌&&◌, ◌||◌, cond, eqb, List, [], ◌∷◌, length, Option, Some, None, refl, ap, sym, subst, ◌∙◌, arith}
+use Rattle.std.proofs.Common.{nat_le}
 use Rattle.std.specs.Prelude.{filter}
 use Rattle.std.specs.List.{list_all}
 use Rattle.std.proofs.lemmas.Bool.{and_parts, and_from, cond-true, cond-false, lt-ltb, leb-true, eqb-true, eq-eqb, ne_eqb}
@@ -56,7 +57,8 @@ character_is_octet (c ∷ cs) b after e = by (eqb c 92) e where
     is_d : d < 256 → d ≡ b → is_octet b ≡ true
     is_d low f = subst (λ x. is_octet x ≡ true) f (lt-ltb d 256 low)
 
-    by_mark : (s : Bool) → eqb d 34 ≡ s → (t : Bool) → eqb d 92 ≡ t → (u : Bool) → cond {A = Option (ℕ × List ℕ)} (s || t) (Some (d, ds)) (cond u (hex_pair ds) None) ≡ Some (b, after) → is_octet b ≡ true
+    by_mark : (s : Bool) → eqb d 34 ≡ s → (t : Bool) → eqb d 92 ≡ t → (u : Bool) → cond {A = Option (ℕ × List ℕ)} (s || t) (Some (d, ds)) (cond u (hex_pair ds) None) ≡ Some (b, after)
+        → is_octet b ≡ true
     by_mark true s t k u e = is_d (omega (arith, eqb-true d 34 s)) (ap (λ x. x.0) (same_Some _ _ e))
     by_mark false s true k u e = is_d (omega (arith, eqb-true d 92 k)) (ap (λ x. x.0) (same_Some _ _ e))
     by_mark false s false k true e = pair_is_octet ds b after e
@@ -95,18 +97,20 @@ form_digits : (form octets : List ℕ) → has_form form octets ≡ true → Are
 form_digits [] [] h = record { digits = refl; many = refl }
 form_digits [] (c ∷ cs) h = cc
 form_digits (place ∷ form) [] h = cc
-form_digits (place ∷ form) (c ∷ cs) h = both (by (eqb place 45) (and_parts (cond (eqb place 45) (eqb c 45) (is_hex_digit c)) (has_form form cs) h).0 (form_digits form cs (and_parts (cond (eqb place 45) (eqb c 45) (is_hex_digit c)) (has_form form cs) h).1)) where
-  both : (list_all is_hex_digit (filter is_no_hyphen (c ∷ cs)) ≡ true) × (length (filter is_no_hyphen (c ∷ cs)) ≡ places (place ∷ form)) → AreDigits (place ∷ form) (c ∷ cs)
-  both p = record { digits = p.0; many = p.1 }
+form_digits (place ∷ form) (c ∷ cs) h =
+    both (by (eqb place 45) (and_parts (cond (eqb place 45) (eqb c 45) (is_hex_digit c)) (has_form form cs) h).0
+    (form_digits form cs (and_parts (cond (eqb place 45) (eqb c 45) (is_hex_digit c)) (has_form form cs) h).1)) where
+      both : (list_all is_hex_digit (filter is_no_hyphen (c ∷ cs)) ≡ true) × (length (filter is_no_hyphen (c ∷ cs)) ≡ places (place ∷ form)) → AreDigits (place ∷ form) (c ∷ cs)
+      both p = record { digits = p.0; many = p.1 }
 
-  by : (t : Bool) → cond t (eqb c 45) (is_hex_digit c) ≡ true → AreDigits form cs
-      → (list_all is_hex_digit (filter is_no_hyphen (c ∷ cs)) ≡ true) × (length (filter is_no_hyphen (c ∷ cs)) ≡ elim t [ true ↦ places form | false ↦ suc (places form) ])
-  by true e a =
-      let f : filter is_no_hyphen (c ∷ cs) ≡ filter is_no_hyphen cs = cond-false (is_no_hyphen c) (c ∷ filter is_no_hyphen cs) (filter is_no_hyphen cs) (ap not e) in
-      (ap (list_all is_hex_digit) f ∙ a.digits, ap length f ∙ a.many)
-  by false e a =
-      let f : filter is_no_hyphen (c ∷ cs) ≡ c ∷ filter is_no_hyphen cs = cond-true (is_no_hyphen c) (c ∷ filter is_no_hyphen cs) (filter is_no_hyphen cs) (digit_no_hyphen c e) in
-      (ap (list_all is_hex_digit) f ∙ and_from (is_hex_digit c) (list_all is_hex_digit (filter is_no_hyphen cs)) e a.digits, ap length f ∙ ap suc a.many)
+      by : (t : Bool) → cond t (eqb c 45) (is_hex_digit c) ≡ true → AreDigits form cs
+          → (list_all is_hex_digit (filter is_no_hyphen (c ∷ cs)) ≡ true) × (length (filter is_no_hyphen (c ∷ cs)) ≡ elim t [ true ↦ places form | false ↦ suc (places form) ])
+      by true e a =
+          let f : filter is_no_hyphen (c ∷ cs) ≡ filter is_no_hyphen cs = cond-false (is_no_hyphen c) (c ∷ filter is_no_hyphen cs) (filter is_no_hyphen cs) (ap not e) in
+          (ap (list_all is_hex_digit) f ∙ a.digits, ap length f ∙ a.many)
+      by false e a =
+          let f : filter is_no_hyphen (c ∷ cs) ≡ c ∷ filter is_no_hyphen cs = cond-true (is_no_hyphen c) (c ∷ filter is_no_hyphen cs) (filter is_no_hyphen cs) (digit_no_hyphen c e) in
+          (ap (list_all is_hex_digit) f ∙ and_from (is_hex_digit c) (list_all is_hex_digit (filter is_no_hyphen cs)) e a.digits, ap length f ∙ ap suc a.many)
 
 hex_pairs : (n : ℕ) (ds : List ℕ) → length ds ≡ n + n → list_all is_hex_digit ds ≡ true → (length (hex_octets ds) ≡ n) × (list_all is_octet (hex_octets ds) ≡ true)
 hex_pairs n [] l h = (omega (arith, l), refl)

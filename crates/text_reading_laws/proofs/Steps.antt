@@ -15,7 +15,8 @@ use Rattle.text_grammar.specs.declared.version.Version.TheVariants as version
 use Rattle.text_grammar.specs.declared.fault.TextReason.TheVariants as reason
 use Rattle.text_grammar.specs.Tokens.{Token, Word, Number, Cell, Str, Bytes, Uuid, Mark}
 use Rattle.text_grammar.specs.Written.{Piece, Name, Other, token_of, comma, version_number}
-use Rattle.text_grammar.specs.Dues.{Due, This, AVersion, ANumber, ACount, AString, SomeBytes, AUuid, ATag, APointer, NextElement, AValue, Reading, tag_dues, is_this, why_not, went_on_if, with_version, version_of, opened, taken_first, may_end, all_read}
+use Rattle.text_grammar.specs.Dues.{Due, This, AVersion, ANumber, ACount, AString, SomeBytes, AUuid, ATag, APointer, NextElement, AValue, Reading, tag_dues, is_this, why_not, went_on_if, with_version}
+use Rattle.text_grammar.specs.Dues.{version_of, opened, taken_first, may_end, all_read}
 use Rattle.text_reading_laws.specs.Values.{reading}
 use Rattle.text_reading_laws.specs.Real.{is_real}
 use Rattle.text_reading_laws.proofs.Alike.{go_on}
@@ -126,7 +127,8 @@ module _ (table : Table) (y : Reading) (ends : may_end y ≡ true) where
       by false f true g = inr (ap (λ (n : ℕ). Mark n) (eqb-true c 44 g))
       by false f false g =
           let e1 : go_on table (taken_first (reading v (NextElement t ∷ ds) nb k) (This comma ∷ AValue t ∷ NextElement t ∷ ds) (Mark c)) rest ≡ Ok y =
-          sym (ap (λ (b : Bool). go_on table (taken_first (reading v (NextElement t ∷ ds) nb k) (opened v table (cond b (This (Other (Mark 93)) ∷ ds) (This comma ∷ AValue t ∷ NextElement t ∷ ds))) (Mark c)) rest) f) ∙ e in
+          sym (ap (λ (b : Bool). go_on table
+          (taken_first (reading v (NextElement t ∷ ds) nb k) (opened v table (cond b (This (Other (Mark 93)) ∷ ds) (This comma ∷ AValue t ∷ NextElement t ∷ ds))) (Mark c)) rest) f) ∙ e in
           let e2 : Err reason.Expected ≡ Ok y =
           sym (ap (λ (b : Bool). go_on table (went_on_if b (reading v (NextElement t ∷ ds) nb k) (AValue t ∷ NextElement t ∷ ds) reason.Expected) rest) g) ∙ e1 in
           cc

@@ -1,7 +1,8 @@
 -- Where reading comes to its end, a value that was due has taken the tokens of one of its type.
 -- `y` is what has been read at the end, `t` a type's number, `d` a type, `ds` are dues, `nb` the cells that have a type, `k` how many have a line,
 -- `ts` are tokens, `n` a number that their length does not pass.
-use Rattle.std.proofs.Common.{◌≡◌, ◌⊎◌, inl, inr, ℕ, zero, suc, ◌+◌, ◌≤◌, ℤ, pos, Bool, true, false, ◌&&◌, cond, eqb, List, [], ◌∷◌, ◌++◌, length, map, replicate, get_or, Option, Some, None, Ok, refl, ap, sym, subst, ◌∙◌, append_assoc, arith, length-append, codes}
+use Rattle.std.proofs.Common.{◌≡◌, ◌⊎◌, inl, inr, ℕ, zero, suc, ◌+◌, ◌≤◌, ℤ, pos, Bool, true, false, ◌&&◌, cond, eqb, List, [], ◌∷◌, ◌++◌, length, map, replicate, get_or, Option, Some, None, Ok, refl}
+use Rattle.std.proofs.Common.{ap, sym, subst, ◌∙◌, append_assoc, arith, length-append, codes}
 use Rattle.std.specs.List.{list_all}
 use Rattle.std.proofs.lemmas.Bool.{and_parts, and_from, both_ways, ltb-true, eqb-true, eq-eqb}
 use Rattle.std.proofs.lemmas.Option.{slice_get-get_or}
@@ -25,14 +26,17 @@ use Rattle.nd_value.specs.Misfit.{is_octet, is_count}
 use Rattle.text_grammar.specs.declared.version.Version.{Version}
 use Rattle.text_grammar.specs.declared.version.Version.TheVariants as version
 use Rattle.text_grammar.specs.Tokens.{Token, Word, Number, Cell, Str, Bytes, Uuid, Mark}
-use Rattle.text_grammar.specs.Written.{Piece, Name, Other, token_of, comma, colon, equals, word, separated, members, named, octets_in, writes_octets, list_pieces, arm_pieces, node_pieces, values_pieces, value_pieces}
+use Rattle.text_grammar.specs.Written.{Piece, Name, Other, token_of, comma, colon, equals, word, separated, members, named, octets_in, writes_octets, list_pieces, arm_pieces, node_pieces}
+use Rattle.text_grammar.specs.Written.{values_pieces, value_pieces}
 use Rattle.text_grammar.specs.Readable.{has_maximum, has_offset, are_octets, may_be_elements, has_text_form}
-use Rattle.text_grammar.specs.Dues.{Due, This, ACount, AString, AUuid, FirstElement, NextElement, AValue, Reading, separated_dues, count_dues, list_dues, arm_dues, value_dues, closes, may_end, all_read}
+use Rattle.text_grammar.specs.Dues.{Due, This, ACount, AString, AUuid, FirstElement, NextElement, AValue, Reading, separated_dues, count_dues, list_dues, arm_dues, value_dues, closes, may_end}
+use Rattle.text_grammar.specs.Dues.{all_read}
 use Rattle.text_reading_laws.specs.Values.{reading, have_forms, noted, value_tokens}
 use Rattle.text_reading_laws.specs.Real.{is_real}
 use Rattle.text_reading_laws.proofs.Alike.{all_open, all_element}
 use Rattle.text_reading_laws.proofs.ValuesRead.{tail, separated_tail, member_due, member_tail, separated_members, map_both, value_read}
-use Rattle.text_reading_laws.proofs.Steps.{real_rest, real_others, not_yet, this_taken, number_taken, count_taken, string_taken, bytes_taken, uuid_taken, tag_taken, PointerTaken, null_taken, cell_taken, pointer_taken, bracket_or_comma}
+use Rattle.text_reading_laws.proofs.Steps.{real_rest, real_others, not_yet, this_taken, number_taken, count_taken, string_taken, bytes_taken, uuid_taken, tag_taken, PointerTaken, null_taken}
+use Rattle.text_reading_laws.proofs.Steps.{cell_taken, pointer_taken, bracket_or_comma}
 
 -- ## The types of a table that names none but its own
 
@@ -63,14 +67,17 @@ module _ (table : Table) (known : KnowsTypes table) where
 module _ (test : ℕ → Bool) where
   labelled_passes : (arms : List Arm) (z : ℤ) (others : List ℕ) → list_all test (arm_types arms) ≡ true → list_all test (selected_types (labelled arms z)) ≡ true
   labelled_passes [] z others h = refl
-  labelled_passes (a ∷ arms) z others h = by (int_eq a.label z) (and_parts (list_all test (arm_type a)) (list_all test (arm_types arms)) (sym (list_all-append test (arm_type a) (arm_types arms)) ∙ h)) (λ i. labelled_passes arms z others i) where
-    by : (b : Bool) → (list_all test (arm_type a) ≡ true) × (list_all test (arm_types arms) ≡ true)
-        → (list_all test (arm_types arms) ≡ true → list_all test (selected_types (labelled arms z)) ≡ true)
-        → list_all test (selected_types (elim b as (λ _. Option Arm) [ true ↦ Some a | false ↦ labelled arms z ])) ≡ true
-    by true p again = p.0
-    by false p again = again p.1
+  labelled_passes (a ∷ arms) z others h =
+      by (int_eq a.label z) (and_parts (list_all test (arm_type a)) (list_all test (arm_types arms)) (sym (list_all-append test (arm_type a) (arm_types arms)) ∙ h))
+      (λ i. labelled_passes arms z others i) where
+        by : (b : Bool) → (list_all test (arm_type a) ≡ true) × (list_all test (arm_types arms) ≡ true)
+            → (list_all test (arm_types arms) ≡ true → list_all test (selected_types (labelled arms z)) ≡ true)
+            → list_all test (selected_types (elim b as (λ _. Option Arm) [ true ↦ Some a | false ↦ labelled arms z ])) ≡ true
+        by true p again = p.0
+        by false p again = again p.1
 
-  or_passes : (o : Option Arm) (default : Option Arm) → list_all test (selected_types o) ≡ true → list_all test (selected_types default) ≡ true → list_all test (selected_types (or_else o default)) ≡ true
+  or_passes : (o : Option Arm) (default : Option Arm) → list_all test (selected_types o) ≡ true → list_all test (selected_types default) ≡ true
+      → list_all test (selected_types (or_else o default)) ≡ true
   or_passes None default h i = i
   or_passes (Some a) default h i = h
 
@@ -78,7 +85,8 @@ module _ (test : ℕ → Bool) where
   default_passes None h = refl
   default_passes (Some a) h = h
 
-  pub selected_passes : (arms : List Arm) (default : Option Arm) (z : ℤ) → list_all test (arm_types arms ++ default_type default) ≡ true → list_all test (selected_types (selected arms default z)) ≡ true
+  pub selected_passes : (arms : List Arm) (default : Option Arm) (z : ℤ) → list_all test (arm_types arms ++ default_type default) ≡ true
+      → list_all test (selected_types (selected arms default z)) ≡ true
   selected_passes arms default z h =
       let p = and_parts (list_all test (arm_types arms)) (list_all test (default_type default)) (sym (list_all-append test (arm_types arms) (default_type default)) ∙ h) in
       or_passes (labelled arms z) default (labelled_passes arms z [] p.0) (default_passes default p.1)
@@ -226,7 +234,8 @@ module _ (table : Table) (known : KnowsTypes table) (y : Reading) (ends : may_en
       by (bracket_or_comma table y ends v ds nb k t tok rest e) (λ ts few short. elements_taken m n takes t h ts few short)
     where
       by : (tok ≡ Mark 93) ⊎ (tok ≡ Mark 44)
-          → ((ts : List Token) → length ts ≤ m → length ts ≤ n + 1 → list_all is_real ts ≡ true → (ds : List Due) (nb : List (ℕ × ℕ)) (k : ℕ) → all_read table (reading v (NextElement t ∷ ds) nb k) ts ≡ Ok y → ElementsTaken t ts)
+          → ((ts : List Token) → length ts ≤ m → length ts ≤ n + 1 → list_all is_real ts ≡ true → (ds : List Due) (nb : List (ℕ × ℕ)) (k : ℕ)
+          → all_read table (reading v (NextElement t ∷ ds) nb k) ts ≡ Ok y → ElementsTaken t ts)
           → ElementsTaken t (tok ∷ rest)
       by (inl f) again = record { values = none; forms = refl; others = rest; is = ap (λ (x : Token). x ∷ rest) f }
       by (inr f) again =
@@ -234,7 +243,8 @@ module _ (table : Table) (known : KnowsTypes table) (y : Reading) (ends : may_en
           let real' = real_rest tok rest real in
           let x = takes t h rest (omega (arith, short)) real' (NextElement t ∷ ds) nb k e' in
           let less = after_short t rest x in
-          let r = again x.others (omega (arith, less, few)) (omega (arith, less, short)) (after_real t rest x real') ds (noted table (t ∷ []) (more x.value none) nb) k (after_value t rest x (NextElement t ∷ ds) nb k e') in
+          let r = again x.others (omega (arith, less, few)) (omega (arith, less, short)) (after_real t rest x real') ds (noted table (t ∷ []) (more x.value none) nb) k
+          (after_value t rest x (NextElement t ∷ ds) nb k e') in
           let value : List Piece = value_pieces v table t x.value in
           let others : List Piece = tail (pieces_of v table (many_of t r.values) r.values) 93 in
           record {
@@ -477,7 +487,8 @@ module _ (table : Table) (known : KnowsTypes table) (y : Reading) (ends : may_en
         let real_d = real_rest (Mark 44) d.0 (ap (list_all is_real) (sym d.1) ∙ real_c) in
         let p = and_parts (is_real (Uuid u.0)) (list_all is_real u.1) (ap (list_all is_real) (sym u.2) ∙ real_d) in
         node_taken t def.Context (tree.Context c.0 u.0) none ts z.0 e (and_from (is_count c.0) (is_real (Uuid u.0)) c.3 p.0) refl
-        (a.1 ∙ ap (λ (l : List Token). Word (codes "ctx") ∷ l) (b.1 ∙ ap (λ (l : List Token). Mark 40 ∷ l) (c.2 ∙ ap (λ (l : List Token). Number (pos c.0) ∷ l) (d.1 ∙ ap (λ (l : List Token). Mark 44 ∷ l)
+        (a.1 ∙ ap (λ (l : List Token). Word (codes "ctx") ∷ l)
+        (b.1 ∙ ap (λ (l : List Token). Mark 40 ∷ l) (c.2 ∙ ap (λ (l : List Token). Number (pos c.0) ∷ l) (d.1 ∙ ap (λ (l : List Token). Mark 44 ∷ l)
         (u.2 ∙ ap (λ (l : List Token). Uuid u.0 ∷ l) z.1)))))
 
     by_type : (d : TypeDef) → type_at table t ≡ Some d → list_all (is_in_table table) (parts (Some d)) ≡ true → IsDue d → Taken t ts

@@ -17,7 +17,8 @@ use Rattle.nd_value.specs.Nodes.{child_types, selected_types}
 use Rattle.text_grammar.specs.declared.version.Version.{Version}
 use Rattle.text_grammar.specs.declared.version.Version.TheVariants as version
 use Rattle.text_grammar.specs.Tokens.{Token, Mark}
-use Rattle.text_grammar.specs.Written.{Piece, Other, token_of, separated, members, named, octet_in, octets_in, writes_octets, list_pieces, array_counts, arm_pieces, node_pieces, values_pieces, value_pieces}
+use Rattle.text_grammar.specs.Written.{Piece, Other, token_of, separated, members, named, octet_in, octets_in, writes_octets, list_pieces, array_counts, arm_pieces, node_pieces, values_pieces}
+use Rattle.text_grammar.specs.Written.{value_pieces}
 use Rattle.text_grammar.specs.Readable.{has_offset, has_maximum, may_be_elements, is_octet_number, are_octets, has_text_form}
 use Rattle.text_grammar.specs.Dues.{closes}
 use Rattle.text_reading_laws.specs.Values.{have_forms, value_tokens}
@@ -77,7 +78,8 @@ module _ (v : Version) (table : Table) where
       (ap₂ (λ x xs. more x xs) r.0 s.0, s.1)
 
   struct_one : (fs : List Field) (ks us : Trees) → EachOne (types_of fs) ks → have_forms v table (types_of fs) us ≡ true → (ts rs : List Token)
-      → map token_of (separated (members fs (pieces_of (types_of fs) ks)) ++ Other (Mark 125) ∷ []) ++ ts ≡ map token_of (separated (members fs (pieces_of (types_of fs) us)) ++ Other (Mark 125) ∷ []) ++ rs
+      → map token_of (separated (members fs (pieces_of (types_of fs) ks)) ++ Other (Mark 125) ∷ []) ++ ts ≡ map token_of (separated (members fs (pieces_of (types_of fs) us)) ++ Other (Mark 125) ∷ [])
+      ++ rs
       → (ks ≡ us) × (ts ≡ rs)
   struct_one [] none none each h ts rs e = (refl, cc)
   struct_one [] none (more u us) each h ts rs e = cc
@@ -242,7 +244,8 @@ module _ (v : Version) (table : Table) where
   node_one _ _ _ _ _ (a_number p z) (a_number _ y) each g h ts rs e = let f : z ≡ y = cc in (ap (λ x. node (tree.Num x) none) f, cc)
   node_one _ _ _ _ _ (an_enum values z) (an_enum _ y) each g h ts rs e = let f : z ≡ y = cc in (ap (λ x. node (tree.Num x) none) f, cc)
   node_one _ _ _ _ _ (a_struct fs ks many) (a_struct _ us many') each g h ts rs e =
-      let e' : map token_of (separated (members fs (pieces_of (types_of fs) ks)) ++ Other (Mark 125) ∷ []) ++ ts ≡ map token_of (separated (members fs (pieces_of (types_of fs) us)) ++ Other (Mark 125) ∷ []) ++ rs = cc in
+      let e' : map token_of (separated (members fs (pieces_of (types_of fs) ks)) ++ Other (Mark 125) ∷ []) ++ ts
+      ≡ map token_of (separated (members fs (pieces_of (types_of fs) us)) ++ Other (Mark 125) ∷ []) ++ rs = cc in
       let r = struct_one fs ks us each h ts rs e' in
       (ap (node tree.Rec) r.0, r.1)
   node_one _ _ _ _ _ (an_array elem bound varying max offset ks m o b) (an_array _ _ _ max' offset' us m' o' b') each g h ts rs e =
@@ -261,7 +264,8 @@ module _ (v : Version) (table : Table) where
       (ap₂ (λ x (y : List ℕ). node (tree.Text x y) none) k f, cc)
   node_one _ _ _ _ _ (a_union tag encapsulated arms default z ks many) (a_union _ _ _ _ y us many') each g h ts rs e =
       let f : z ≡ y = cc in
-      let e' : map token_of (arm_pieces (pieces_of (selected_types (selected arms default z)) ks)) ++ ts ≡ map token_of (arm_pieces (pieces_of (selected_types (selected arms default y)) us)) ++ rs = cc in
+      let e' : map token_of (arm_pieces (pieces_of (selected_types (selected arms default z)) ks)) ++ ts ≡ map token_of (arm_pieces (pieces_of (selected_types (selected arms default y)) us)) ++ rs =
+      cc in
       by y f us h e'
     where
       by : (y : ℤ) → z ≡ y → (us : Trees) → have_forms v table (selected_types (selected arms default y)) us ≡ true
@@ -269,7 +273,9 @@ module _ (v : Version) (table : Table) where
           → (node (tree.Union z) ks ≡ node (tree.Union y) us) × (ts ≡ rs)
       by y f us h e =
           let h' = subst (λ x. have_forms v table (selected_types (selected arms default x)) us ≡ true) (sym f) h in
-          let e' = subst (λ x. map token_of (arm_pieces (pieces_of (selected_types (selected arms default z)) ks)) ++ ts ≡ map token_of (arm_pieces (pieces_of (selected_types (selected arms default x)) us)) ++ rs) (sym f) e in
+          let e' =
+          subst (λ x. map token_of (arm_pieces (pieces_of (selected_types (selected arms default z)) ks)) ++ ts
+          ≡ map token_of (arm_pieces (pieces_of (selected_types (selected arms default x)) us)) ++ rs) (sym f) e in
           let r = arm_one (selected arms default z) ks us each h' ts rs e' in
           (ap₂ (λ x xs. node (tree.Union x) xs) f r.0, r.1)
   node_one _ _ _ _ _ (a_null class to) (a_null _ _) each g h ts rs e = (refl, cc)

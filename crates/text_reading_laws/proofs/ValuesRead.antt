@@ -19,7 +19,8 @@ use Rattle.nd_value.specs.Misfit.{is_count}
 use Rattle.text_grammar.specs.declared.version.Version.{Version}
 use Rattle.text_grammar.specs.declared.version.Version.TheVariants as version
 use Rattle.text_grammar.specs.Tokens.{Token, Word, Number, Cell, Str, Bytes, Uuid, Mark}
-use Rattle.text_grammar.specs.Written.{Piece, Name, Other, token_of, comma, colon, equals, separated, members, named, octets_in, writes_octets, list_pieces, array_counts, arm_pieces, node_pieces, values_pieces, value_pieces}
+use Rattle.text_grammar.specs.Written.{Piece, Name, Other, token_of, comma, colon, equals, separated, members, named, octets_in, writes_octets, list_pieces, array_counts, arm_pieces, node_pieces}
+use Rattle.text_grammar.specs.Written.{values_pieces, value_pieces}
 use Rattle.text_grammar.specs.Readable.{has_offset, has_maximum, has_text_form}
 use Rattle.text_grammar.specs.Dues.{Due, This, ACount, AString, AUuid, FirstElement, NextElement, AValue, separated_dues, named_due, count_dues, list_dues, value_dues, arm_dues, closes, all_read}
 use Rattle.text_reading_laws.specs.Values.{reading, have_forms, noted_node, noted, value_tokens}
@@ -266,7 +267,8 @@ module _ (v : Version) (table : Table) where
       (λ ds nb cells ts.
       ap (λ (l : List Due). all_read table (reading v l nb cells) (map token_of (array_counts bound varying max offset ++ list_pieces w ks values) ++ ts))
       (append_assoc (count_dues bound varying) (list_dues w elem.0) ds)
-      ∙ ap (λ (l : List Token). all_read table (reading v (count_dues bound varying ++ (list_dues w elem.0 ++ ds)) nb cells) l) (map_both (array_counts bound varying max offset) (list_pieces w ks values) ts)
+      ∙ ap (λ (l : List Token). all_read table (reading v (count_dues bound varying ++ (list_dues w elem.0 ++ ds)) nb cells) l)
+      (map_both (array_counts bound varying max offset) (list_pieces w ks values) ts)
       ∙ counts_read bound varying max offset ks m o (list_dues w elem.0 ++ ds) nb cells (map token_of (list_pieces w ks values) ++ ts)
       ∙ list_read elem.0 ks each ds nb cells ts)
   by_form t _ _ _ e (a_bound_text elem bound octets o) each =

@@ -68,7 +68,8 @@ module _ (w : Setting) (order : Order) (z : List ℕ) (more : ℕ) (h : Home) (e
       → past (unsigned order os) ≡ q → count_then w order z more h elem n (going at seen) s ≡ by_count b (unsigned order os) q
   count_taken os t b e q f = by_taken (Some os) t ∙ ap₂ (λ c u. by_count c (unsigned order os) u) e f
 
-module _ (w : Setting) (order : Order) (fetched : List ℕ) (noted : List Item) (direct : ℕ) (first : Names) (i : ℕ) (rs : List Root) (roots : List Tree) (elem : TypeId) (done : Trees) (max_at : Option ℕ) (k : Position)
+module _ (w : Setting) (order : Order) (fetched : List ℕ) (noted : List Item) (direct : ℕ) (first : Names) (i : ℕ) (rs : List Root) (roots : List Tree) (elem : TypeId) (done : Trees)
+    (max_at : Option ℕ) (k : Position)
     (p : InPipe w order fetched noted direct first i rs roots elem done max_at 4 (at_count w order i elem done k) k) where
   abbrev h : Home
   h = home.Root i
@@ -182,7 +183,9 @@ module _ (w : Setting) (order : Order) (fetched : List ℕ) (noted : List Item) 
             }
 
     -- it is not: so many elements are due
-    pub count_goes_on : (c : ℕ) → unsigned order os ≡ suc c → InPipe w order (fetched ++ os) (noted ++ count_item order i os k) direct first i rs roots elem done max_at 0 (at_elements (suc c) w order i elem done (past_count order i os k)) (past_count order i os k)
+    pub count_goes_on : (c : ℕ) → unsigned order os ≡ suc c
+        → InPipe w order (fetched ++ os) (noted ++ count_item order i os k) direct first i rs roots elem done max_at 0 (at_elements (suc c) w order i elem done (past_count order i os k))
+        (past_count order i os k)
     count_goes_on c some = record {
       stands = stands_now;
       told = count_told;

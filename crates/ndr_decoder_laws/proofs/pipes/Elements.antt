@@ -75,7 +75,8 @@ module _ (order : Order) (octets : List ℕ) (table : Table) (read : ℕ → ℕ
     pub alike_stop : (k n : ℕ) (p : Progress) (s : Names) → p ≡ end → (all_of (replicate k t) n p s).progress ≡ end
     alike_stop k n p s e = ap (λ q. (all_of (replicate k t) n q s).progress) e ∙ alike_stay k n s
 
-module _ (w : Setting) (side : IsLegalSide w) (order : Order) (fetched : List ℕ) (noted : List Item) (direct : ℕ) (first : Names) (i : ℕ) (rs : List Root) (roots : List Tree) (pipe : ℕ) (elem : TypeId) (done : Trees) (max_at : Option ℕ) (c r m : ℕ) (k : Position) (parts : suc c + r ≡ m)
+module _ (w : Setting) (side : IsLegalSide w) (order : Order) (fetched : List ℕ) (noted : List Item) (direct : ℕ) (first : Names) (i : ℕ) (rs : List Root) (roots : List Tree) (pipe : ℕ)
+    (elem : TypeId) (done : Trees) (max_at : Option ℕ) (c r m : ℕ) (k : Position) (parts : suc c + r ≡ m)
     (there : type_at w.table pipe ≡ Some (def.Pipe elem)) (p : InPipe w order fetched noted direct first i rs roots elem done max_at 0 (at_elements m w order i elem done k) k) where
   abbrev h : Home
   h = home.Root i

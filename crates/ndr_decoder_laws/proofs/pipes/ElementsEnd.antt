@@ -51,7 +51,8 @@ few_trees : (ts : Trees) → count ts ≤ node_count ts
 few_trees none = omega arith
 few_trees (more (node l ks) ts) = let e : count ts ≤ node_count ts = few_trees ts in omega (arith, e)
 
-module _ (w : Setting) (side : IsLegalSide w) (order : Order) (fetched : List ℕ) (noted : List Item) (direct : ℕ) (first : Names) (i : ℕ) (rs : List Root) (roots : List Tree) (pipe : ℕ) (elem : TypeId) (done : Trees) (max_at : Option ℕ) (c : ℕ) (k : Position)
+module _ (w : Setting) (side : IsLegalSide w) (order : Order) (fetched : List ℕ) (noted : List Item) (direct : ℕ) (first : Names) (i : ℕ) (rs : List Root) (roots : List Tree) (pipe : ℕ)
+    (elem : TypeId) (done : Trees) (max_at : Option ℕ) (c : ℕ) (k : Position)
     (there : type_at w.table pipe ≡ Some (def.Pipe elem)) (p : InPipe w order fetched noted direct first i rs roots elem done max_at 0 (at_elements (suc c) w order i elem done k) k) where
   abbrev h : Home
   h = home.Root i
@@ -70,7 +71,8 @@ module _ (w : Setting) (side : IsLegalSide w) (order : Order) (fetched : List �
 
   -- ## Their end
 
-  module _ (next : List ℕ) (all : AreOctets next) (noted' : List Item) (x : State) (is : Whole order (fetched ++ next) w.table (home.Root i) pipe noted' direct target x) (needs : AreNeeded target fetched next) where
+  module _ (next : List ℕ) (all : AreOctets next) (noted' : List Item) (x : State) (is : Whole order (fetched ++ next) w.table (home.Root i) pipe noted' direct target x)
+      (needs : AreNeeded target fetched next) where
     abbrev then : Position
     then = read_to x is.seen is.names
 
@@ -108,7 +110,8 @@ module _ (w : Setting) (side : IsLegalSide w) (order : Order) (fetched : List �
     its_entries : Added h (going k.at k.seen) (going x.at is.seen)
     its_entries =
         subst (Added h (going k.at k.seen)) (sym (its_progress []))
-        (list_adds order ((fetched ++ next) ++ []) w.table h (read_in_place order ((fetched ++ next) ++ []) w.table h 32 0) (in_place_adds order ((fetched ++ next) ++ []) w.table h 32 0) (replicate (suc c) elem.0) n (going k.at k.seen) k.names)
+        (list_adds order ((fetched ++ next) ++ []) w.table h (read_in_place order ((fetched ++ next) ++ []) w.table h 32 0) (in_place_adds order ((fetched ++ next) ++ []) w.table h 32 0)
+        (replicate (suc c) elem.0) n (going k.at k.seen) k.names)
 
     found_then : (a : Attr) → tested_at is.seen a h 0 ≡ place_of a x.max_at no_place
     found_then a =
@@ -130,7 +133,8 @@ module _ (w : Setting) (side : IsLegalSide w) (order : Order) (fetched : List �
     needs_stream part last e =
         let (at, seen, stop) = needs part last e in
         let a : AreOctets part = all_left (λ b. b < 256) part (last ∷ []) (subst AreOctets e all) in
-        ap (λ (u : Progress). u.stop) (elements_refused w side order fetched noted direct first i rs roots pipe elem done max_at c 0 (suc c) k none_left there p part a at seen (length (fetched ++ part), reason.Truncated) stop)
+        ap (λ (u : Progress). u.stop)
+        (elements_refused w side order fetched noted direct first i rs roots pipe elem done max_at c 0 (suc c) k none_left there p part a at seen (length (fetched ++ part), reason.Truncated) stop)
 
     -- what the reader has still to read
     abbrev Before : List ℕ → Type 0
@@ -192,9 +196,13 @@ module _ (w : Setting) (side : IsLegalSide w) (order : Order) (fetched : List �
     reads_then later (suc m, few, r) = (m, omega (arith, few, nearer), reads_next later m r)
 
     -- after them the next chunk is due
-    pub elements_end : IsFine w.table 32 elem.0 → InPipe w order (fetched ++ next) noted' direct first i rs roots elem (kids_of is.v) x.max_at 4 (at_chunk w order i elem (kids_of is.v) (read_to x is.seen is.names)) (read_to x is.seen is.names)
+    pub elements_end : IsFine w.table 32 elem.0
+        → InPipe w order (fetched ++ next) noted' direct first i rs roots elem (kids_of is.v) x.max_at 4 (at_chunk w order i elem (kids_of is.v) (read_to x is.seen is.names))
+        (read_to x is.seen is.names)
     elements_end fine = record {
-      stands = stands_on w order fetched noted direct first i k p.stands next all noted' then its_entries.added its_entries.seen its_entries.own is.reached x.max_at (length x.nodes) [] is.told needs_stream;
+      stands =
+          stands_on w order fetched noted direct first i k p.stands next all noted' then its_entries.added its_entries.seen its_entries.own is.reached x.max_at
+          (length x.nodes) [] is.told needs_stream;
       told = subst (λ a. Told noted' direct order (fetched ++ next) h is.seen is.names x.cells x.numbers x.max_at a []) as_many is.told;
       found = found_then;
       made = made_then fine;

@@ -59,7 +59,8 @@ module _ (w : Setting) (order : Order) (fetched : List ℕ) (noted : List Item) 
 
 -- ## The gap before a count
 
-module _ (w : Setting) (order : Order) (fetched : List ℕ) (noted : List Item) (direct : ℕ) (first : Names) (i : ℕ) (rs : List Root) (roots : List Tree) (elem : TypeId) (done : Trees) (max_at : Option ℕ) (k : Position)
+module _ (w : Setting) (order : Order) (fetched : List ℕ) (noted : List Item) (direct : ℕ) (first : Names) (i : ℕ) (rs : List Root) (roots : List Tree) (elem : TypeId) (done : Trees)
+    (max_at : Option ℕ) (k : Position)
     (p : InPipe w order fetched noted direct first i rs roots elem done max_at 4 (at_chunk w order i elem done k) k) where
   abbrev h : Home
   h = home.Root i
@@ -98,7 +99,8 @@ module _ (w : Setting) (order : Order) (fetched : List ℕ) (noted : List Item) 
     gap_told : Told (noted ++ gap_items h k.at os) direct order (fetched ++ os) h (k.seen ++ x ∷ []) k.names k.cells k.numbers max_at n []
     gap_told =
         told_passed (gap_items h k.at os) order fetched os h k.seen k.names k.cells k.numbers max_at n [] x
-        (items_it order fetched os [] k.at p.stands.reached m k.seen (sym size) ∙ gap_noted order h 0 4 k.at os (sym size)) tt tt refl (lies_it order fetched os [] k.at p.stands.reached m k.seen (sym size)) p.told
+        (items_it order fetched os [] k.at p.stands.reached m k.seen (sym size) ∙ gap_noted order h 0 4 k.at os (sym size)) tt tt refl
+        (lies_it order fetched os [] k.at p.stands.reached m k.seen (sym size)) p.told
 
     goes_past : (later : List ℕ) → pass order ((fetched ++ os) ++ later) m (going k.at k.seen) ≡ going (k.at + length os) (k.seen ++ x ∷ [])
     goes_past later =
@@ -106,7 +108,8 @@ module _ (w : Setting) (order : Order) (fetched : List ℕ) (noted : List Item) 
         ∙ ap (λ a. going (k.at + a) (k.seen ++ x ∷ [])) (sym size)
 
     -- after the gap the count is due
-    pub gap_passes : InPipe w order (fetched ++ os) (noted ++ gap_items (home.Root i) k.at os) direct first i rs roots elem done max_at 4 (at_count w order i elem done (past_gap i os k)) (past_gap i os k)
+    pub gap_passes : InPipe w order (fetched ++ os) (noted ++ gap_items (home.Root i) k.at os) direct first i rs roots elem done max_at 4 (at_count w order i elem done (past_gap i os k))
+        (past_gap i os k)
     gap_passes = record {
       stands = stands_on w order fetched noted direct first i k p.stands os all (noted ++ gap_items h k.at os) (past_gap i os k) (x ∷ []) refl (refl, tt)
           (length-append fetched os ∙ ap (λ a. a + length os) p.stands.reached) max_at n [] gap_told needs;

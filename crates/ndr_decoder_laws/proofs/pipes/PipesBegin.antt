@@ -77,7 +77,8 @@ module _ (w : Setting) (order : Order) (fetched : List ℕ) (noted : List Item) 
     one_on a j = let z : 1 + j ≡ 0 + (1 + j) = omega arith in ap (tested_at k.seen a (home.Root i)) z
 
     told_from : Told noted direct order fetched (home.Root i) k.seen k.names k.cells k.numbers None 0 [] → Told noted direct order fetched (home.Root i) k.seen k.names k.cells k.numbers None 1 []
-    told_from t = record { noted_are = t.noted_are; cells_are = t.cells_are; cells_named = t.cells_named; numbers_are = t.numbers_are; ahead = λ a j. one_on a j ∙ t.ahead a (1 + j); lie_within = t.lie_within }
+    told_from t =
+        record { noted_are = t.noted_are; cells_are = t.cells_are; cells_named = t.cells_named; numbers_are = t.numbers_are; ahead = λ a j. one_on a j ∙ t.ahead a (1 + j); lie_within = t.lie_within }
 
     pub pipe_begins : InPipe w order fetched noted direct first i rs roots elem none None 4 (at_chunk w order i elem none k) k
     pipe_begins = record {
@@ -94,7 +95,8 @@ module _ (w : Setting) (order : Order) (fetched : List ℕ) (noted : List Item) 
       reads = λ later a. (length (fetched ++ later), omega arith, by_type later (p.reads later a));
     }
       where
-        by_type : (later : List ℕ) → ReadsPipes w order (fetched ++ later) i (r ∷ rs) roots (going k.at k.seen) k.names → Reads w order (fetched ++ later) i rs roots none (at_chunk w order i elem none k (fetched ++ later) (length (fetched ++ later)))
+        by_type : (later : List ℕ) → ReadsPipes w order (fetched ++ later) i (r ∷ rs) roots (going k.at k.seen) k.names
+            → Reads w order (fetched ++ later) i rs roots none (at_chunk w order i elem none k (fetched ++ later) (length (fetched ++ later)))
         by_type later q =
             let z : List ℕ = fetched ++ later in
             let of_type : Option TypeDef → ReadPipe = λ d. read_pipe w order z d false i (going k.at k.seen) k.names in
@@ -108,7 +110,8 @@ module _ (w : Setting) (order : Order) (fetched : List ℕ) (noted : List Item) 
             }
 
   -- there is none: the stream ends
-  pub pipes_end : InPipes w order fetched noted direct first i [] roots k → ((read_stream w order fetched).progress ≡ going (length fetched) k.seen) × ((read_stream w order fetched).graph ≡ graph_of roots first)
+  pub pipes_end : InPipes w order fetched noted direct first i [] roots k
+      → ((read_stream w order fetched).progress ≡ going (length fetched) k.seen) × ((read_stream w order fetched).graph ≡ graph_of roots first)
   pipes_end p =
       let z : fetched ++ [] ≡ fetched = append-nil fetched in
       let q : ReadsPipes w order fetched i [] roots (going k.at k.seen) k.names = subst (λ u. ReadsPipes w order u i [] roots (going k.at k.seen) k.names) z (p.reads [] tt) in

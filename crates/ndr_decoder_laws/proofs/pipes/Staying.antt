@@ -54,7 +54,8 @@ module _ (w : Setting) (order : Order) (octets : List ℕ) where
         let q : Progress = pass order octets (of_pipe h (Chunk k)) gap in
         let kids : ReadAll = read_list w.table (read_in_place order octets w.table h 32 0) (replicate k elem) n q s in
         let others : ReadPipe = read_chunks w order octets more h elem (n + node_count kids.trees) kids.progress kids.names in
-        let first : Goes p q = goes_twice p gap q (goes_by h p gap (pass_adds order octets h (of_pipe h (Align 4)) p refl)) (goes_by h gap q (pass_adds order octets h (of_pipe h (Chunk k)) gap refl)) in
+        let first : Goes p q =
+        goes_twice p gap q (goes_by h p gap (pass_adds order octets h (of_pipe h (Align 4)) p refl)) (goes_by h gap q (pass_adds order octets h (of_pipe h (Chunk k)) gap refl)) in
         let elements : Goes q kids.progress =
         goes_by h q kids.progress (list_adds order octets w.table h (read_in_place order octets w.table h 32 0) (in_place_adds order octets w.table h 32 0) (replicate k elem) n q s) in
         by_count p (eqb k 0) (record { trees = none; cut = []; progress = q; names = s }) (elements_then w order octets more h elem n k q s) first
@@ -80,4 +81,5 @@ module _ (w : Setting) (order : Order) (octets : List ℕ) where
   pub reads_go : (i : ℕ) (rs : List Root) (roots : List Tree) (done : Trees) (rest : ReadPipe) → Reads w order octets i rs roots done rest → (p : Progress) → Goes p rest.progress
       → Goes p (read_stream w order octets).progress
   reads_go i rs roots done rest r p g =
-      subst (Goes p) (sym r.progress) (goes_twice p rest.progress (read_pipes w order octets (i + 1) rs rest.progress rest.names).progress g (pipes_go w order octets (i + 1) rs rest.progress rest.names))
+      subst (Goes p) (sym r.progress)
+      (goes_twice p rest.progress (read_pipes w order octets (i + 1) rs rest.progress rest.names).progress g (pipes_go w order octets (i + 1) rs rest.progress rest.names))

@@ -55,7 +55,8 @@ module _ (order : Order) (octets : List ℕ) (table : Table) (h : Home) where
         → at_point (suc k) (opened t (def.Array elem bound true)) n (going at seen) s
         ≡ at_point (suc k) (offset_read t (def.Array elem bound true) (bound_or bound m) elem.0 o) n (pass order octets (entry order octets table h n (Offset false o)) (going at seen)) s
     array_offset k t n o elem bound at seen s e =
-        ap (λ v. at_point (suc k) (offset_read t (def.Array elem bound true) (bound_or bound m) elem.0 v) n (pass order octets (entry order octets table h n (Offset false v)) (going at seen)) s) (sym e)
+        ap (λ v. at_point (suc k) (offset_read t (def.Array elem bound true) (bound_or bound m) elem.0 v) n (pass order octets (entry order octets table h n (Offset false v)) (going at seen)) s)
+        (sym e)
 
     pub array_count : (k t n max elem o c : ℕ) (d : TypeDef) (at : ℕ) (seen : List EntryAt) (s : Names)
         → c ≡ number_in order octets (taken order octets (entry order octets table h n (Actual false o max 0)) (going at seen))

@@ -47,7 +47,8 @@ made_joined table [] vs (more x xs) ys a b = absurd a
 made_joined table (u ∷ us) vs none ys a b = absurd a
 made_joined table (u ∷ us) vs (more (node l ks) xs) ys a b = (a.0, a.1, made_joined table us vs xs ys a.2 b)
 
-module _ (w : Setting) (side : IsLegalSide w) (order : Order) (h : Home) (pipe : ℕ) (elem : TypeId) (there : type_at w.table pipe ≡ Some (def.Pipe elem)) (fine : IsFine w.table 32 elem.0) (done : Trees)
+module _ (w : Setting) (side : IsLegalSide w) (order : Order) (h : Home) (pipe : ℕ) (elem : TypeId) (there : type_at w.table pipe ≡ Some (def.Pipe elem)) (fine : IsFine w.table 32 elem.0)
+    (done : Trees)
     (made : MadeTrees w.table (replicate (count done) elem.0) done) (k : ℕ) (p : Progress) (names : Names) where
   -- the pipe with the elements of a chunk more is made
   pub chunk_made : (octets : List ℕ) → AreOctets octets → MadeTree w.table (type_at w.table pipe) (chunk_read order w.table h elem done k p names octets).tree
@@ -61,7 +62,8 @@ module _ (w : Setting) (side : IsLegalSide w) (order : Order) (h : Home) (pipe :
       (many_alike (Make order octets all w.table h (small_bounds w.table side.operations side.legal) (laid_out w side).hoisting reader) elem.0 k each) (1 + node_count done) p names in
       let n : count kids.trees ≡ length (replicate k elem.0) = made_count w.table (replicate k elem.0) kids.trees news.made in
       let m : count (joined done kids.trees) ≡ count done + k = count_joined done kids.trees ∙ ap (λ j. count done + j) (n ∙ length-replicate k elem.0) in
-      let types : replicate (count done) elem.0 ++ replicate k elem.0 ≡ replicate (count (joined done kids.trees)) elem.0 = sym (more_alike elem.0 (count done) k) ∙ ap (λ j. replicate j elem.0) (sym m) in
+      let types : replicate (count done) elem.0 ++ replicate k elem.0 ≡ replicate (count (joined done kids.trees)) elem.0 =
+      sym (more_alike elem.0 (count done) k) ∙ ap (λ j. replicate j elem.0) (sym m) in
       let all_made : MadeTrees w.table (replicate (count (joined done kids.trees)) elem.0) (joined done kids.trees) =
       subst (λ ts. MadeTrees w.table ts (joined done kids.trees)) types (made_joined w.table (replicate (count done) elem.0) (replicate k elem.0) done kids.trees made news.made) in
       subst (λ d. MadeTree w.table d (node tree.Pipe (joined done kids.trees))) (sym there)

@@ -129,6 +129,7 @@ module _ (w : Setting) (side : IsLegalSide w) where
     at_point depth (tagged t d form arms default z) fs n q s a read = only_around fs (a.few read)
 
     -- the nodes at a point within a value that is made
-    pub few_at : (depth : ℕ) (p : Point) (fs : List Around) (n : ℕ) (q : Progress) (s : Names) → Made w.table (finish order octets w.table h m depth fs (read_at order octets w.table h m depth p n q s)).tree
+    pub few_at : (depth : ℕ) (p : Point) (fs : List Around) (n : ℕ) (q : Progress) (s : Names)
+        → Made w.table (finish order octets w.table h m depth fs (read_at order octets w.table h m depth p n q s)).tree
         → AllRead (nodes_at p fs) → length (nodes_at p fs) ≤ 32 * paid (nodes_at p fs) + 33 * suc (length fs)
     few_at depth p fs n q s made read = at_point depth p fs n q s (around_few depth fs (read_at order octets w.table h m depth p n q s) made) read

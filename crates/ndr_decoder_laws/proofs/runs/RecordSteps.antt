@@ -28,7 +28,8 @@ use Rattle.ndr_decoder_laws.specs.steps.Steps.{State, begun, number_step, own_by
 use Rattle.ndr_code.specs.Fields.{prim_of}
 use Rattle.ndr_decoder_laws.specs.steps.StepItems.{gap_items, item_here, step_items}
 use Rattle.ndr_decoder_laws.specs.runs.Reaching.{Reaches, steps_to}
-use Rattle.ndr_decoder_laws.specs.runs.Records.{Slot, IsNumberAt, IsSlotRun, AreSlots, IsNumberRecord, IsAmongElements, slots_len, slot_octets, after_slot, slot_flats, slot_items, record_read, records_read, IsRecordRun, next_place, records_len, record_flats, record_items, EndsWithin, slots_came, records_came}
+use Rattle.ndr_decoder_laws.specs.runs.Records.{Slot, IsNumberAt, IsSlotRun, AreSlots, IsNumberRecord, IsAmongElements, slots_len, slot_octets, after_slot, slot_flats, slot_items, record_read}
+use Rattle.ndr_decoder_laws.specs.runs.Records.{records_read, IsRecordRun, next_place, records_len, record_flats, record_items, EndsWithin, slots_came, records_came}
 use Rattle.ndr_decoder_laws.proofs.runs.RowSteps.{length_taken, length_left, taken_and_left}
 
 no_octets_at : (os : List ℕ) → length os ≡ 0 → os ≡ []
@@ -197,7 +198,8 @@ module _ (values : List EnumList) (order : Order) (code : List Instr) (h : Home)
         let read =
         run_comes run at (pc + 1) nodes (ms ++ m ∷ []) xs f fetched gs here noted called is_run (take_octets (gap at f.to) os octets)
         (take_octets (width f.prim) left (drop_octets (gap at f.to) os octets)) gap_size here_size (omega (arith, left_size, rest_size, short)) in
-        let others : Members (pc + 1) (at + gap at f.to + width f.prim) (nodes ++ x ∷ []) (ms ++ m ∷ []) (xs ++ first.Number z ∷ []) fs (fetched ++ (gs ++ here)) rest (noted ++ (gap_items h at gs ++ one ∷ [])) =
+        let others : Members (pc + 1) (at + gap at f.to + width f.prim) (nodes ++ x ∷ []) (ms ++ m ∷ []) (xs ++ first.Number z ∷ []) fs (fetched ++ (gs ++ here)) rest
+        (noted ++ (gap_items h at gs ++ one ∷ [])) =
         members_come fs (pc + 1) (at + gap at f.to + width f.prim) (pc + 1) (nodes ++ x ∷ []) (ms ++ m ∷ []) (xs ++ first.Number z ∷ []) (fetched ++ (gs ++ here)) rest
         (noted ++ (gap_items h at gs ++ one ∷ [])) read slots (drop_octets (width f.prim) left (drop_octets (gap at f.to) os octets)) whole_rest (omega (arith, left_size, rest_size, short)) in
         let more_items : List Item = slot_items order h (at + gap at f.to + width f.prim) (length nodes + 1) fs rest in
@@ -337,7 +339,8 @@ module _ (values : List EnumList) (order : Order) (code : List Instr) (h : Home)
         let next : Cut (at + gap at f.to + width f.prim) b.cells (fetched ++ (gs ++ here)) rest (noted ++ (gap_items h at gs ++ one ∷ []))
         (slots_came order h (at + gap at f.to + width f.prim) (length (nodes ++ x ∷ [])) fs rest) =
         members_cut fs (pc + 1) (at + gap at f.to + width f.prim) (pc + 1) (nodes ++ x ∷ []) (ms ++ m ∷ []) (xs ++ first.Number z ∷ []) (fetched ++ (gs ++ here)) rest
-        (noted ++ (gap_items h at gs ++ one ∷ [])) read slots (drop_octets (width f.prim) left (drop_octets (gap at f.to) os octets)) (omega (arith, rest_size, left_size, fewer)) (omega (arith, shorter)) in
+        (noted ++ (gap_items h at gs ++ one ∷ [])) read slots (drop_octets (width f.prim) left (drop_octets (gap at f.to) os octets)) (omega (arith, rest_size, left_size, fewer))
+        (omega (arith, shorter)) in
         cut_after at (at + gap at f.to + width f.prim) b.cells fetched (gs ++ here) rest os noted (gap_items h at gs ++ one ∷ [])
         (slots_came order h (at + gap at f.to + width f.prim) (length (nodes ++ x ∷ [])) fs rest) (gap_items h at gs ++ (one ∷ more_items)) next
         (append_assoc gs here rest ∙ ap (λ l. gs ++ l) (taken_and_left (width f.prim) left) ∙ taken_and_left (gap at f.to) os)
@@ -480,7 +483,8 @@ module _ (values : List EnumList) (order : Order) (code : List Instr) (h : Home)
       let first_items : List Item = slot_items order h s.at (length s.nodes + 1) fs here in
       let one : Comes (fetched ++ here) (noted ++ first_items) (records_read (s.pc + 1 + length fs + 1) end xs (frame.Elements (suc (n + more)) run back) s) =
       same refl refl (ap₂ (λ t k. records_read (s.pc + 1 + length fs + 1) (s.at + k) xs t s) top_is here_size)
-      (record_comes fs s fetched here noted r is.own (subst IsAmongElements (sym top_is) tt) level (take_octets (slots_len s.at fs) os octets) here_size (omega (arith, here_size, left_size, short))) in
+      (record_comes fs s fetched here noted r is.own (subst IsAmongElements (sym top_is) tt) level (take_octets (slots_len s.at fs) os octets) here_size
+      (omega (arith, here_size, left_size, short))) in
       let s1 : State = records_read s.pc (end + gap end to) xs (frame.Elements (n + more) run back) s in
       let two : Comes ((fetched ++ here) ++ gs) ((noted ++ first_items) ++ gap_items h end gs) s1 =
       next_comes s.pc end to (n + more) run back fs xs s (fetched ++ here) gs (noted ++ first_items) one is (take_octets (gap end to) left (drop_octets (slots_len s.at fs) os octets)) gap_size in
@@ -549,7 +553,8 @@ module _ (values : List EnumList) (order : Order) (code : List Instr) (h : Home)
             i = op.Align to;
             octets = refl;
             reached = same (append-nil fetched) refl refl
-                (steps_to fetched [] noted (records_read (pc + 1 + length fs + 1) at xs (frame.Elements (suc left) run back) s) (records_read run at xs (frame.Elements left run back) s) op.Ret r is.run_ends
+                (steps_to fetched [] noted (records_read (pc + 1 + length fs + 1) at xs (frame.Elements (suc left) run back) s)
+                (records_read run at xs (frame.Elements left run back) s) op.Ret r is.run_ends
                 refl tt refl);
             there = aligned;
             cut = few;

@@ -216,7 +216,9 @@ module _ (values : List EnumList) (order : Order) (code : List Instr) (h : Home)
       let now_aligned : at % width p ≡ 0 = still_aligned p s.at aligned in
       let r2 : Comes (fetched ++ here_os) (noted ++ item_of_row s.at (length s.nodes) here_os ∷ []) s2 =
       next_comes s1 (fetched ++ here_os) (noted ++ item_of_row s.at (length s.nodes) here_os ∷ []) s.pc (n + more) run back r1 refl refl refl numbers now_aligned in
-      let r3 = row_comes n more run back s2 (fetched ++ here_os) rest (noted ++ item_of_row s.at (length s.nodes) here_os ∷ []) of r2 at_pc is refl numbers (drop_octets w os octets) left_size now_aligned (omega (arith, split, short)) in
+      let r3 =
+      row_comes n more run back s2 (fetched ++ here_os) rest (noted ++ item_of_row s.at (length s.nodes) here_os ∷ []) of r2 at_pc is refl numbers (drop_octets w os octets) left_size now_aligned
+      (omega (arith, split, short)) in
       let more_nodes : length nodes ≡ length s.nodes + 1 = length-append s.nodes (x ∷ []) in
       let places : at + length rest ≡ s.at + length os = omega (arith, split) in
       same (append_assoc fetched here_os rest ∙ ap (λ xs. fetched ++ xs) (taken_and_left w os))

@@ -80,10 +80,12 @@ few_enough n p at k limit a b c d e = omega (arith, a, b, c, d, e)
 few_cells : (n at : ℕ) → 4 * n ≤ at + 4096 → at ≤ STREAM_LIMIT → n + 1 < 2 ^ 32
 few_cells n at a b = omega (arith, a, b)
 
-module _ (w : Setting) (side : IsLegalSide w) (values : List EnumList) (order : Order) (code : List Instr) (h : Home) (own limit direct : ℕ) (target : List ℕ → Read) (planned : IsPlanned code values w.table)
+module _ (w : Setting) (side : IsLegalSide w) (values : List EnumList) (order : Order) (code : List Instr) (h : Home) (own limit direct : ℕ) (target : List ℕ → Read)
+    (planned : IsPlanned code values w.table)
     (made : (octets : List ℕ) → AreOctets octets → MadeTree w.table (type_at w.table own) (target octets).tree) (nested : limit ≤ 33) where
   -- a state that means something has few nodes
-  pub good_safe : (fetched : List ℕ) (noted : List Item) (s : State) → Good order fetched code w.table h own limit noted direct target s → AreOctets fetched → length fetched ≤ STREAM_LIMIT → IsPaid s → IsSafe code s
+  pub good_safe : (fetched : List ℕ) (noted : List Item) (s : State) → Good order fetched code w.table h own limit noted direct target s → AreOctets fetched → length fetched ≤ STREAM_LIMIT → IsPaid s
+      → IsSafe code s
   good_safe fetched noted s g octets short pays =
       let here_it : (i : Instr) × (slice_get code s.pc ≡ Some i) × IsInner i = instruction_there order fetched code w.table h own limit noted direct target s g in
       let within : s.at ≤ STREAM_LIMIT = at_within order fetched code w.table h own limit noted direct target s g short in

@@ -163,7 +163,8 @@ module _ (table : Table) (laid : HoistsLast table) (members : (t : ℕ) (ms : Li
       omega (arith, y)
   array_some depth t e (Some b) v m o ks et c few z =
       by_count m (count ks) (trees_paid ks + one (hoists table t)) (let w : 1 ≤ b = bounds t e b v et in let k : m ≡ b = bound_is v c in omega (arith, w, k))
-      (λ h. let k : length (replicate (count ks) e.0) ≡ count ks = length-replicate (count ks) e.0 in let s : 1 ≤ trees_paid ks + ones (replicate (count ks) e.0) = few.some (omega (arith, k, h)) in omega (arith, s, z))
+      (λ h. let k : length (replicate (count ks) e.0) ≡ count ks = length-replicate (count ks) e.0 in let s : 1 ≤ trees_paid ks + ones (replicate (count ks) e.0) = few.some (omega (arith, k, h)) in
+      omega (arith, s, z))
     where
       bound_is : (v : Bool) → has_counts (Some (def.Array e (Some b) v)) (tree.Arr m o) ks ≡ true → m ≡ b
       bound_is true h = eqb-true m b h

@@ -103,4 +103,5 @@ module _ (values : List EnumList) (order : Order) (code : List Instr) (table : T
       let inner : IsInner i = inner_there order (f0 ++ fetched) code table h own limit (n0 ++ noted) direct target s g i there in
       let at_short : s.at ≤ STREAM_LIMIT = at_within order (f0 ++ fetched) code table h own limit (n0 ++ noted) direct target s g l in
       subst (λ k. length k ≤ STREAM_LIMIT) (append_assoc f0 fetched os)
-      (step_end (f0 ++ fetched) os (wants values i s) s.at l has (wanting order (f0 ++ fetched) code values table h own limit (n0 ++ noted) direct target s i g there) (wanted_end values os s at_short i inner has))
+      (step_end (f0 ++ fetched) os (wants values i s) s.at l has (wanting order (f0 ++ fetched) code values table h own limit (n0 ++ noted) direct target s i g there)
+      (wanted_end values os s at_short i inner has))

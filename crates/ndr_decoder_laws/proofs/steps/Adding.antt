@@ -120,7 +120,8 @@ added code table h own limit seen depth fs t q y place w found =
     (node_kept code table h seen q.max_at q.nodes y place found)
 
 -- the nodes after one that is added have no count or tag yet
-pub told_node : {noted : List Item} {direct : ℕ} (order : Order) (fetched : List ℕ) (h : Home) (seen : List EntryAt) (names : Names) (cells : List ℕ) (numbers : List (ℕ × Known)) (max_at : Option ℕ) (nodes : List Flat) (y : Flat) (half : List Place)
+pub told_node : {noted : List Item} {direct : ℕ} (order : Order) (fetched : List ℕ) (h : Home) (seen : List EntryAt) (names : Names) (cells : List ℕ) (numbers : List (ℕ × Known)) (max_at : Option ℕ)
+    (nodes : List Flat) (y : Flat) (half : List Place)
     → Told noted direct order fetched h seen names cells numbers max_at (length nodes) half → Told noted direct order fetched h seen names cells numbers max_at (length (nodes ++ y ∷ [])) []
 told_node order fetched h seen names cells numbers max_at nodes y half t = record {
   noted_are = t.noted_are;
@@ -134,7 +135,8 @@ told_node order fetched h seen names cells numbers max_at nodes y half t = recor
 }
 
 -- what is found of a node that has no count or tag
-pub none_found : {noted : List Item} {direct : ℕ} (order : Order) (fetched : List ℕ) (h : Home) (seen : List EntryAt) (names : Names) (cells : List ℕ) (numbers : List (ℕ × Known)) (max_at : Option ℕ) (n : ℕ) (half : List Place)
+pub none_found : {noted : List Item} {direct : ℕ} (order : Order) (fetched : List ℕ) (h : Home) (seen : List EntryAt) (names : Names) (cells : List ℕ) (numbers : List (ℕ × Known)) (max_at : Option ℕ)
+    (n : ℕ) (half : List Place)
     → Told noted direct order fetched h seen names cells numbers max_at n half → (a : Attr) → tested_at seen a h n ≡ place_of a max_at (place_at half 0)
 none_found order fetched h seen names cells numbers max_at n half t a = let z : n ≡ n + 0 = omega arith in ap (tested_at seen a h) z ∙ t.ahead a 0
 
@@ -172,7 +174,8 @@ after_leaf q pc at max tag carrier fresh cells numbers y place = record {
   numbers = numbers;
 }
 
-pub leaf_good : (order : Order) (fetched : List ℕ) (code : List Instr) (table : Table) (h : Home) (own limit : ℕ) (noted : List Item) (direct : ℕ) (target : List ℕ → Read) (q : Parts) (pc at max : ℕ) (tag : ℤ) (carrier : Primitive)
+pub leaf_good : (order : Order) (fetched : List ℕ) (code : List Instr) (table : Table) (h : Home) (own limit : ℕ) (noted : List Item) (direct : ℕ) (target : List ℕ → Read) (q : Parts) (pc at max : ℕ)
+    (tag : ℤ) (carrier : Primitive)
     (fresh : List Owed) (cells : List ℕ) (numbers : List (ℕ × Known)) (l : Label) (place : Option ℕ) (half : List Place) (seen : List EntryAt) (names : Names) (depth : ℕ) (fs : List Around) (t : ℕ)
     → Within code table h own limit seen depth fs t q
     → ((a : Attr) → tested_at seen a h (length q.nodes) ≡ place_of a q.max_at (place_in (first_of (l, 0) place)))
@@ -213,7 +216,8 @@ leaf_good order fetched code table h own limit noted direct target q pc at max t
 -- ## Refusals
 
 -- a value at which reading stops stops the home
-pub stop_by : (order : Order) (octets : List ℕ) (table : Table) (h : Home) (k m : ℕ) (fs : List Around) (r target : Read) (at : ℕ) (seen : List EntryAt) (why : ℕ × Reason) → r.progress ≡ stopped at seen why
+pub stop_by : (order : Order) (octets : List ℕ) (table : Table) (h : Home) (k m : ℕ) (fs : List Around) (r target : Read) (at : ℕ) (seen : List EntryAt) (why : ℕ × Reason)
+    → r.progress ≡ stopped at seen why
     → finish order octets table h m k fs r ≡ target → target.progress ≡ stopped at seen why
 stop_by order octets table h k m fs r target at seen why e rest = ap (λ u. u.progress) (sym rest) ∙ finish_stays order octets table h at seen why k m fs r e
 

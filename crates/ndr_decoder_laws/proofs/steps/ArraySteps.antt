@@ -33,18 +33,22 @@ pub all_same : (table : Table) (k n t : ℕ) → IsFine table k t → AllByRecur
 all_same table k zero t fine = tt
 all_same table k (suc n) t fine = (fine, all_same table k n t fine)
 
-module _ (order : Order) (fetched : List ℕ) (code : List Instr) (values : List EnumList) (table : Table) (h : Home) (own limit : ℕ) (noted : List Item) (direct : ℕ) (target : List ℕ → Read) (planned : IsPlanned code values table) where
-  pub elements_right : (s : State) (k : ℕ) (fs : List Around) (seen : List EntryAt) (names : Names) (t max offset c : ℕ) (elem : TypeId) (bound : Option ℕ) (varying : Bool) (place : Option ℕ) (half : List Place)
+module _ (order : Order) (fetched : List ℕ) (code : List Instr) (values : List EnumList) (table : Table) (h : Home) (own limit : ℕ) (noted : List Item) (direct : ℕ) (target : List ℕ → Read)
+    (planned : IsPlanned code values table) where
+  pub elements_right : (s : State) (k : ℕ) (fs : List Around) (seen : List EntryAt) (names : Names) (t max offset c : ℕ) (elem : TypeId) (bound : Option ℕ) (varying : Bool) (place : Option ℕ)
+      (half : List Place)
       → type_at table t ≡ Some (def.Array elem bound varying) → IsFine table k elem.0
       → Within code table h own limit seen (suc k) fs t (parts_of s)
       → ((a : Attr) → tested_at seen a h (length s.nodes) ≡ place_of a s.max_at (place_in (first_of (tree.Arr max offset, c) place)))
       → Told noted direct order fetched h seen names s.cells s.numbers s.max_at (length s.nodes) half → length fetched ≡ s.at → IsRunAt code (s.pc + 1) (op.Ret ∷ [])
       → ((later : List ℕ) → finish order (fetched ++ later) table h s.max (suc k) fs
-      (read_children order (fetched ++ later) table h (read_in_place order (fetched ++ later) table h k s.max) (Some (def.Array elem bound varying)) (length (nodes_around fs)) (tree.Arr max offset) (replicate c elem.0)
+      (read_children order (fetched ++ later) table h (read_in_place order (fetched ++ later) table h k s.max) (Some (def.Array elem bound varying)) (length (nodes_around fs)) (tree.Arr max offset)
+      (replicate c elem.0)
       (going s.at seen) names) ≡ target (fetched ++ later))
       → Good order fetched code table h own limit noted direct target (elements c (place_at table elem.0) (with_node (tree.Arr max offset, c) place s))
   elements_right s k fs seen names t max offset zero elem bound varying place half et fine w found told reached run rest =
-      leaf_good order fetched code table h own limit noted direct target (parts_of s) (s.pc + 1) s.at s.max s.tag s.carrier s.fresh s.cells s.numbers (tree.Arr max offset) place half seen names (suc k) fs t w found told reached (at_ret run) (no_pointer (type_at table t))
+      leaf_good order fetched code table h own limit noted direct target (parts_of s) (s.pc + 1) s.at s.max s.tag s.carrier s.fresh s.cells s.numbers (tree.Arr max offset) place half seen names
+      (suc k) fs t w found told reached (at_ret run) (no_pointer (type_at table t))
       (w.pending ∙ ap (map (owed table))
       (sym (append-nil (pointers_around table h fs)) ∙ ap (λ ps. pointers_around table h fs ++ ps) (sym (of_array table h t (length (nodes_around fs)) max offset elem bound varying none et))))
       rest

@@ -108,7 +108,8 @@ IsPlain _ = Unit {0}
 
 module _ (order : Order) (fetched : List ℕ) (code : List Instr) (table : Table) (h : Home) (own limit : ℕ) (noted : List Item) (direct : ℕ) (target : List ℕ → Read) where
   pub plain_good : (p : Point) → IsPlain p → (s : State) (depth : ℕ) (fs : List Around) (seen : List EntryAt) (names : Names)
-      → Within code table h own limit seen depth fs (type_of p) (parts_of s) → Spot code table h s.max depth s.pc p → s.phase ≡ phase_at p → HasRegisters p s → length fetched ≡ s.at + held p → Holds order fetched s.at p
+      → Within code table h own limit seen depth fs (type_of p) (parts_of s) → Spot code table h s.max depth s.pc p → s.phase ≡ phase_at p → HasRegisters p s → length fetched ≡ s.at + held p
+      → Holds order fetched s.at p
       → Told noted direct order fetched h seen names s.cells s.numbers s.max_at (length s.nodes) (half_at p s.at)
       → ((later : List ℕ)
       → finish order (fetched ++ later) table h s.max depth fs (read_at order (fetched ++ later) table h s.max depth p (length (nodes_around fs)) (going s.at seen) names)
@@ -204,7 +205,8 @@ module _ (code : List Instr) (table : Table) where
 
 -- ## The decoder is sent to the place run of a type that is due
 
-module _ (order : Order) (fetched : List ℕ) (code : List Instr) (values : List EnumList) (table : Table) (h : Home) (own limit : ℕ) (noted : List Item) (direct : ℕ) (target : List ℕ → Read) (planned : IsPlanned code values table) where
+module _ (order : Order) (fetched : List ℕ) (code : List Instr) (values : List EnumList) (table : Table) (h : Home) (own limit : ℕ) (noted : List Item) (direct : ℕ) (target : List ℕ → Read)
+    (planned : IsPlanned code values table) where
   one_gap : (at : ℕ) → gap at 1 ≡ 0
   one_gap at = omega arith
 
@@ -218,8 +220,10 @@ module _ (order : Order) (fetched : List ℕ) (code : List Instr) (values : List
       ap (λ b. refused_if b (length octets, Truncated) None) (no_less (length octets) (at + gap at 1) (omega (arith, z, within))) in
       passed order octets m at seen r ∙ ap (λ a. going a (seen ++ record { at = at; entry = m } ∷ [])) z
 
-  module _ (s : State) (k : ℕ) (fs : List Around) (seen : List EntryAt) (names : Names) (t : ℕ) (d : TypeDef) (fine : IsDue (IsFine table k) table t) (e : type_at table t ≡ Some d) (phase : s.phase ≡ begun)
-      (w : Within code table h own limit seen (suc k) fs t (parts_of s)) (told : Told noted direct order fetched h seen names s.cells s.numbers s.max_at (length s.nodes) []) (reached : length fetched ≡ s.at)
+  module _ (s : State) (k : ℕ) (fs : List Around) (seen : List EntryAt) (names : Names) (t : ℕ) (d : TypeDef) (fine : IsDue (IsFine table k) table t) (e : type_at table t ≡ Some d)
+      (phase : s.phase ≡ begun)
+      (w : Within code table h own limit seen (suc k) fs t (parts_of s)) (told : Told noted direct order fetched h seen names s.cells s.numbers s.max_at (length s.nodes) [])
+      (reached : length fetched ≡ s.at)
       (rest : (later : List ℕ) → finish order (fetched ++ later) table h s.max (suc k) fs
       (read_in_place order (fetched ++ later) table h (suc k) s.max t (length (nodes_around fs)) (going s.at seen) names) ≡ target (fetched ++ later)) where
     at_zero : length fetched ≡ s.at + 0
@@ -231,7 +235,8 @@ module _ (order : Order) (fetched : List ℕ) (code : List Instr) (values : List
         (λ later.
         ap (finish order (fetched ++ later) table h s.max (suc k) fs)
         (sym (due_opens order (fetched ++ later) table h s.max k t (length (nodes_around fs)) d (going s.at seen) names e
-        ∙ ap (λ g. read_at order (fetched ++ later) table h s.max (suc k) (opened t d) (length (nodes_around fs)) (past_gap order (fetched ++ later) table h (length (nodes_around fs)) g (going s.at seen)) names) ea))
+        ∙ ap (λ g. read_at order (fetched ++ later) table h s.max (suc k) (opened t d) (length (nodes_around fs))
+        (past_gap order (fetched ++ later) table h (length (nodes_around fs)) g (going s.at seen)) names) ea))
         ∙ rest later)
     by_entrance (gapped a ea (inr run)) =
         plain_good order fetched code table h own limit noted direct target (due t) tt s (suc k) fs seen names w (fine, (a, (d, e, ea, run))) phase tt at_zero tt told rest
@@ -240,7 +245,8 @@ module _ (order : Order) (fetched : List ℕ) (code : List Instr) (values : List
         let x : EntryAt = record { at = s.at; entry = record { home = h; node = n; kind = Align 1 } } in
         let z : s.at + gap s.at 1 ≡ s.at = let g : gap s.at 1 ≡ 0 = one_gap s.at in omega (arith, g) in
         let lies : Lies (fetched ++ []) x = omega (arith, z, reached, length-append fetched []) in
-        plain_good order fetched code table h own limit noted direct target (opened t d) tt s (suc k) fs (seen ++ x ∷ []) names (within_passed code table h own limit seen (suc k) fs t (parts_of s) x (λ a n l. silent a h n x tt) w) (fine, e, run) phase tt at_zero tt
+        plain_good order fetched code table h own limit noted direct target (opened t d) tt s (suc k) fs (seen ++ x ∷ []) names
+        (within_passed code table h own limit seen (suc k) fs t (parts_of s) x (λ a n l. silent a h n x tt) w) (fine, e, run) phase tt at_zero tt
         (subst (λ ns. Told ns direct order fetched h (seen ++ x ∷ []) names s.cells s.numbers s.max_at (length s.nodes) []) (append-nil noted)
         (subst (λ f. Told (noted ++ []) direct order f h (seen ++ x ∷ []) names s.cells s.numbers s.max_at (length s.nodes) []) (append-nil fetched)
         (told_passed [] order fetched [] h seen names s.cells s.numbers s.max_at (length s.nodes) [] x (items_it order fetched [] [] s.at reached x.entry seen (one_gap s.at)) tt tt refl lies told)))

@@ -22,7 +22,8 @@ use Rattle.ndr_decoder_laws.specs.steps.Steps.{State}
 use Rattle.ndr_decoder_laws.specs.steps.Good.{Kept, Good, IsBegun, due_member}
 use Rattle.ndr_decoder_laws.proofs.steps.Arriving.{Within, parts_of, arrives}
 
-module _ (order : Order) (fetched : List ℕ) (code : List Instr) (values : List EnumList) (table : Table) (h : Home) (own : ℕ) (noted : List Item) (direct : ℕ) (planned : IsPlanned code values table) (s : State) (seen : List EntryAt) (names : Names)
+module _ (order : Order) (fetched : List ℕ) (code : List Instr) (values : List EnumList) (table : Table) (h : Home) (own : ℕ) (noted : List Item) (direct : ℕ) (planned : IsPlanned code values table)
+    (s : State) (seen : List EntryAt) (names : Names)
     (fine : IsFine table 32 own) (begins : IsBegun noted direct order fetched h seen names s) where
   abbrev target : List ℕ → Read
   target octets = read_whole order octets table h own (going s.at seen) names

@@ -118,7 +118,8 @@ waiting_at code table (text_counted t max c) top stack fs inside = at_most (leng
 waiting_at code table (tagged t d form arms default z) top stack fs inside = at_most (length stack) (length fs) (waiting code table top stack fs inside)
 waiting_at code table (has t v) top stack fs inside = at_most (length stack) (length fs) (waiting code table top stack fs inside)
 
-module _ (order : Order) (fetched : List ℕ) (code : List Instr) (table : Table) (h : Home) (own limit : ℕ) (noted : List Item) (direct : ℕ) (target : List ℕ → Read) (s : State) (g : Good order fetched code table h own limit noted direct target s) where
+module _ (order : Order) (fetched : List ℕ) (code : List Instr) (table : Table) (h : Home) (own limit : ℕ) (noted : List Item) (direct : ℕ) (target : List ℕ → Read) (s : State)
+    (g : Good order fetched code table h own limit noted direct target s) where
   pub address_within : s.pc < length code
   address_within = let here_it = at_point code table h s.max s.pc g.depth g.point g.spot in slice_get_within code s.pc here_it.0 here_it.1
 

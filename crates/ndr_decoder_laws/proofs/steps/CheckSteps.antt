@@ -1,5 +1,6 @@
 -- `check`: an agreement of a struct's member, and the end of the struct after the last one.
-use Rattle.std.proofs.Common.{◌≡◌, ◌≤◌, ◌<◌, ◌⊎◌, inl, inr, ℕ, ◌+◌, suc, Bool, true, false, List, [], ◌∷◌, ◌++◌, length, Option, Some, None, refl, ap, ap₂, sym, ◌∙◌, subst, arith, append_assoc, length-append, map}
+use Rattle.std.proofs.Common.{◌≡◌, ◌≤◌, ◌<◌, ◌⊎◌, inl, inr, ℕ, ◌+◌, suc, Bool, true, false, List, [], ◌∷◌, ◌++◌, length, Option, Some, None, refl, ap, ap₂, sym, ◌∙◌, subst, arith, append_assoc}
+use Rattle.std.proofs.Common.{length-append, map}
 use Rattle.std.specs.Prelude.{ℤ, cond, option_map, if◌then◌else◌}
 use Rattle.std.specs.List.{AllByRecursion, slice_get}
 use Rattle.std.specs.Ordering.{int_eq}
@@ -37,15 +38,18 @@ use Rattle.ndr_decoder_laws.specs.declared.first.Member.{Member}
 use Rattle.ndr_decoder_laws.specs.declared.frame.Frame.{Frame}
 use Rattle.ndr_decoder_laws.specs.declared.frame.Frame.TheVariants as frame
 use Rattle.ndr_decoder_laws.specs.steps.Spots.{IsFine, IsStruct, Inside, Fits, IsShaped, AreShaped, at_member, types_of}
-use Rattle.ndr_decoder_laws.specs.steps.Steps.{State, Outcome, goes, refused, Owed, begun, next, with_fresh, joined_by, check_in, checked, try_all, disagreed, place_of, place_in, first_of, first_number, first_found, is_owing}
+use Rattle.ndr_decoder_laws.specs.steps.Steps.{State, Outcome, goes, refused, Owed, begun, next, with_fresh, joined_by, check_in, checked, try_all, disagreed, place_of, place_in, first_of}
+use Rattle.ndr_decoder_laws.specs.steps.Steps.{first_number, first_found, is_owing}
 use Rattle.ndr_decoder_laws.specs.steps.Good.{Told, Kept, Good, IsRight, owed, BeginsAt, Begin, BeginStruct, members_around, members_of, read_members}
 use Rattle.ndr_decoder_laws.proofs.steps.Passing.{told_passed, kept_passed, silent, judged, Lies}
 use Rattle.ndr_decoder_laws.proofs.steps.Arriving.{KeptAll, KeptOwn}
 use Rattle.ndr_decoder_laws.proofs.steps.Adding.{stop_by}
-use Rattle.ndr_decoder_laws.proofs.steps.MemberChecks.{first_number_is, owing_is, SameFound, found_is, get_behind, past_end, at_end, there, number_past, tree_there, member_at, member_is, other_joins, pointer_joins}
+use Rattle.ndr_decoder_laws.proofs.steps.MemberChecks.{first_number_is, owing_is, SameFound, found_is, get_behind, past_end, at_end, there, number_past, tree_there, member_at, member_is, other_joins}
+use Rattle.ndr_decoder_laws.proofs.steps.MemberChecks.{pointer_joins}
 
 -- a struct all of whose members were read
-pub record AllRead (noted : List Item) (direct : ℕ) (order : Order) (fetched : List ℕ) (code : List Instr) (table : Table) (h : Home) (own limit : ℕ) (k : ℕ) (fs : List Around) (f : Around) (members : List Field) (seen : List EntryAt) (names : Names) (s : State) : Type 0 where
+pub record AllRead (noted : List Item) (direct : ℕ) (order : Order) (fetched : List ℕ) (code : List Instr) (table : Table) (h : Home) (own limit : ℕ) (k : ℕ) (fs : List Around) (f : Around)
+    (members : List Field) (seen : List EntryAt) (names : Names) (s : State) : Type 0 where
   pub deep : suc k + length fs ≡ limit
   pub phase : s.phase ≡ begun
   pub is : IsStruct code table f [] members []
@@ -87,14 +91,16 @@ agreements_joined ks (x ∷ xs) ys =
 types_split : (passed : List Field) (g : Field) (later : List Field) → types_of (passed ++ g ∷ later) ≡ types_of passed ++ g.of.0 ∷ types_of later
 types_split passed g later = map-append (λ p. p.of.0) passed (g ∷ later)
 
-shaped_at : (table : Table) (us : List ℕ) (u : ℕ) (vs : List ℕ) (xs : Trees) (x : Tree) (ys : Trees) → length us ≡ count xs → AreShaped table (us ++ u ∷ vs) (joined xs (more x ys)) → IsShaped table u x
+shaped_at : (table : Table) (us : List ℕ) (u : ℕ) (vs : List ℕ) (xs : Trees) (x : Tree) (ys : Trees) → length us ≡ count xs → AreShaped table (us ++ u ∷ vs) (joined xs (more x ys))
+    → IsShaped table u x
 shaped_at table [] u vs none x ys e a = a.0
 shaped_at table [] u vs (more y xs) x ys e a = absurd (omega (arith, e))
 shaped_at table (w ∷ us) u vs none x ys e a = absurd (omega (arith, e))
 shaped_at table (w ∷ us) u vs (more y xs) x ys e a = shaped_at table us u vs xs x ys (omega (arith, e)) a.1
 
 module _ (order : Order) (fetched : List ℕ) (code : List Instr) (values : List EnumList) (table : Table) (h : Home) (own limit : ℕ) (noted : List Item) (direct : ℕ) (target : List ℕ → Read)
-    (s : State) (k : ℕ) (fs : List Around) (f : Around) (members : List Field) (seen : List EntryAt) (names : Names) (all : AllRead noted direct order fetched code table h own limit k fs f members seen names s) where
+    (s : State) (k : ℕ) (fs : List Around) (f : Around) (members : List Field) (seen : List EntryAt) (names : Names)
+    (all : AllRead noted direct order fetched code table h own limit k fs f members seen names s) where
   abbrev ps : ℕ
   ps = length (pointers_around table h fs)
 
@@ -164,7 +170,8 @@ module _ (order : Order) (fetched : List ℕ) (code : List Instr) (values : List
           ap first_number (kept.there_it ∙ ap Some kept.is_it) ∙ first_number_is (top y) kept.place ∙ same_number y ∙ sym (number_at f.done j y ey)
 
   -- an agreement of the member that comes after those passed
-  module _ (xs ys : Trees) (l : Label) (ks : Trees) (done later : List Field) (g : Field) (tried_ left : List AttrVar) (a : AttrVar) (em : members ≡ done ++ g ∷ later) (ed : f.done ≡ joined xs (more (node l ks) ys)) (ec : count xs ≡ length done)
+  module _ (xs ys : Trees) (l : Label) (ks : Trees) (done later : List Field) (g : Field) (tried_ left : List AttrVar) (a : AttrVar) (em : members ≡ done ++ g ∷ later)
+      (ed : f.done ≡ joined xs (more (node l ks) ys)) (ec : count xs ≡ length done)
       (ev : g.vars ≡ tried_ ++ a ∷ left) where
     abbrev x : Tree
     x = node l ks
@@ -187,9 +194,11 @@ module _ (order : Order) (fetched : List ℕ) (code : List Instr) (values : List
     kept_there = by_member (member_at table h ps f.before (f.node + 1) f.done (length done) all.is.many)
       where
         by_member : ((slice_get mine (length done) ≡ None) × (tree_at f.done (length done) ≡ None))
-            ⊎ ((m : Member) × (y : Tree) × (slice_get mine (length done) ≡ Some m) × (tree_at f.done (length done) ≡ Some y) × (slice_get (first_nodes (f.node + 1) f.done) (length done) ≡ Some m.node))
+            ⊎ ((m : Member) × (y : Tree) × (slice_get mine (length done) ≡ Some m) × (tree_at f.done (length done) ≡ Some y)
+            × (slice_get (first_nodes (f.node + 1) f.done) (length done) ≡ Some m.node))
             → KeptAs (length done) (record { node = number; pending = ps + length (pointers table h (types_of done) (f.node + 1) xs) }) x
-        by_member (inl e) = let wrong : None ≡ Some (record { node = number; pending = ps + length (pointers table h (types_of done) (f.node + 1) xs) }) = sym e.0 ∙ member_there in absurd (none_some (record { node = number; pending = ps + length (pointers table h (types_of done) (f.node + 1) xs) }) wrong)
+        by_member (inl e) = let wrong : None ≡ Some (record { node = number; pending = ps + length (pointers table h (types_of done) (f.node + 1) xs) }) =
+            sym e.0 ∙ member_there in absurd (none_some (record { node = number; pending = ps + length (pointers table h (types_of done) (f.node + 1) xs) }) wrong)
         by_member (inr (m, y, mem, ey, en)) =
             let same : m ≡ record { node = number; pending = ps + length (pointers table h (types_of done) (f.node + 1) xs) } = same_Some m _ (sym mem ∙ member_there) in
             let same_tree : y ≡ x = same_Some y x (sym ey ∙ (ap₂ (λ ts j. tree_at ts j) ed (sym ec) ∙ tree_there xs x ys)) in
@@ -212,7 +221,8 @@ module _ (order : Order) (fetched : List ℕ) (code : List Instr) (values : List
     Right o = IsRight order fetched code table h own limit noted direct target s.at seen o
 
     -- the step is the one of this member
-    outcome_is : check_in s.top a.attr (length done) a.var s ≡ checked agreed (Some (record { node = number; pending = ps + length (pointers table h (types_of done) (f.node + 1) xs) })) (Some kept_there.w) s
+    outcome_is : check_in s.top a.attr (length done) a.var s
+        ≡ checked agreed (Some (record { node = number; pending = ps + length (pointers table h (types_of done) (f.node + 1) xs) })) (Some kept_there.w) s
     outcome_is =
         ap (λ t. check_in t a.attr (length done) a.var s) all.top_is
         ∙ ap (λ o. checked (agreement a.attr o) (slice_get s.members (all.start + length done)) (slice_get s.firsts (all.start + length done)) s) (variable a.var)
@@ -273,17 +283,22 @@ module _ (order : Order) (fetched : List ℕ) (code : List Instr) (values : List
       many_before : length (map (λ p. member_agreements f.done p.vars) done) ≡ count xs
       many_before = length-map done (λ p. member_agreements f.done p.vars) ∙ sym ec
 
-      same_pointers : (ws : List (List Agreement)) → governed_pointers table h f.before ws (f.node + 1) f.done ≡ governed_pointers table h (types_of done ++ g.of.0 ∷ types_of later) ws (f.node + 1) (joined xs (more x ys))
+      same_pointers : (ws : List (List Agreement))
+          → governed_pointers table h f.before ws (f.node + 1) f.done ≡ governed_pointers table h (types_of done ++ g.of.0 ∷ types_of later) ws (f.node + 1) (joined xs (more x ys))
       same_pointers ws = ap₂ (λ us ts. governed_pointers table h us ws (f.node + 1) ts) types ed
 
       -- a pointer: the agreement joins its pending referent
       joins : is_pointer l ≡ true → there_all (joined_by agreed s.fresh (ps + length (pointers table h (types_of done) (f.node + 1) xs)))
       joins e =
-          ap (λ zs. joined_by agreed zs (ps + length (pointers table h (types_of done) (f.node + 1) xs))) (owes ∙ ap (λ zs. map (owed table) (pointers_around table h fs ++ zs)) (same_pointers (so_far_of tried_)))
+          ap (λ zs. joined_by agreed zs (ps + length (pointers table h (types_of done) (f.node + 1) xs)))
+          (owes ∙ ap (λ zs. map (owed table) (pointers_around table h fs ++ zs)) (same_pointers (so_far_of tried_)))
           ∙ pointer_joins table h (pointers_around table h fs) (types_of done) (types_of later) (map (λ p. member_agreements f.done p.vars) done) g.of.0 (f.node + 1) xs ys l ks many_types many_before
           (member_agreements f.done tried_) agreed e
-          (shaped_at table (types_of done) g.of.0 (types_of later) xs x ys many_types (subst (λ us. AreShaped table us (joined xs (more x ys))) types (subst (AreShaped table f.before) ed all.is.shaped)))
-          ∙ ap (λ w. map (owed table) (pointers_around table h fs ++ governed_pointers table h (types_of done ++ g.of.0 ∷ types_of later) (map (λ p. member_agreements f.done p.vars) done ++ w ∷ []) (f.node + 1) (joined xs (more x ys)))) so_far_joined
+          (shaped_at table (types_of done) g.of.0 (types_of later) xs x ys many_types
+          (subst (λ us. AreShaped table us (joined xs (more x ys))) types (subst (AreShaped table f.before) ed all.is.shaped)))
+          ∙ ap (λ w. map (owed table)
+          (pointers_around table h fs
+          ++ governed_pointers table h (types_of done ++ g.of.0 ∷ types_of later) (map (λ p. member_agreements f.done p.vars) done ++ w ∷ []) (f.node + 1) (joined xs (more x ys)))) so_far_joined
           ∙ ap (λ zs. map (owed table) (pointers_around table h fs ++ zs)) (sym (same_pointers (so_far_of (tried_ ++ a ∷ []))))
 
       -- no pointer: it changes none
@@ -330,7 +345,8 @@ module _ (order : Order) (fetched : List ℕ) (code : List Instr) (values : List
           ∙ rest after)
 
       -- it does not hold, at this place
-      fails : (z : ℤ) (place : ℕ) → is_pointer l ≡ false → number_in f.done a.var ≡ Some z → int_eq (wanted_by a.attr z) (found_in a.attr x) ≡ false → place_of a.attr s.max_at (place_in kept_there.w) ≡ Some place
+      fails : (z : ℤ) (place : ℕ) → is_pointer l ≡ false → number_in f.done a.var ≡ Some z → int_eq (wanted_by a.attr z) (found_in a.attr x) ≡ false
+          → place_of a.attr s.max_at (place_in kept_there.w) ≡ Some place
           → Right (refused place (reason.Disagrees (wanted_by a.attr z) (found_in a.attr x)))
       fails z place e en differs ep = λ after.
           let why : ℕ × Reason = (place, reason.Disagrees (wanted_by a.attr z) (found_in a.attr x)) in
@@ -411,5 +427,6 @@ module _ (order : Order) (fetched : List ℕ) (code : List Instr) (values : List
       pub check_right : Right (check_in s.top a.attr (length done) a.var s)
       check_right =
           subst Right (sym outcome_is)
-          (subst (λ b. Right (if b then goes (next (with_fresh (joined_by agreed s.fresh (ps + length (pointers table h (types_of done) (f.node + 1) xs))) s)) else try_all agreed kept_there.w s)) (sym owing)
+          (subst (λ b. Right (if b then goes (next (with_fresh (joined_by agreed s.fresh (ps + length (pointers table h (types_of done) (f.node + 1) xs))) s)) else try_all agreed kept_there.w s))
+          (sym owing)
           (by_pointer (is_pointer l) refl))

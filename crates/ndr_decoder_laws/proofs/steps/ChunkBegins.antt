@@ -42,7 +42,8 @@ all_alike : (P : ℕ → Type 0) (t n : ℕ) → P t → AllByRecursion P (repli
 all_alike P t zero a = tt
 all_alike P t (suc n) a = (a, all_alike P t n a)
 
-module _ (order : Order) (fetched : List ℕ) (code : List Instr) (values : List EnumList) (table : Table) (h : Home) (pipe : ℕ) (elem : TypeId) (noted : List Item) (direct : ℕ) (planned : IsPlanned code values table) (s : State)
+module _ (order : Order) (fetched : List ℕ) (code : List Instr) (values : List EnumList) (table : Table) (h : Home) (pipe : ℕ) (elem : TypeId) (noted : List Item) (direct : ℕ)
+    (planned : IsPlanned code values table) (s : State)
     (done : Trees) (n : ℕ) (seen : List EntryAt) (names : Names) (there : type_at table pipe ≡ Some (def.Pipe elem)) (fine : IsFine table 32 elem.0)
     (begins : IsChunkBegun noted direct order fetched table h elem done n seen names s) where
   abbrev f : Around

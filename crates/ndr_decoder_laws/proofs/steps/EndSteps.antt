@@ -48,7 +48,8 @@ snoc : (n t : ℕ) → replicate n t ++ t ∷ [] ≡ replicate (suc n) t
 snoc zero t = refl
 snoc (suc n) t = ap (λ xs. t ∷ xs) (snoc n t)
 
-shaped_moved : (table : Table) (us : List ℕ) (t : ℕ) (ts : Trees) (v : Tree) → length us ≡ count ts → AreShaped table us ts → IsShaped table t v → AreShaped table (us ++ t ∷ []) (joined ts (more v none))
+shaped_moved : (table : Table) (us : List ℕ) (t : ℕ) (ts : Trees) (v : Tree) → length us ≡ count ts → AreShaped table us ts → IsShaped table t v
+    → AreShaped table (us ++ t ∷ []) (joined ts (more v none))
 shaped_moved table [] t none v e a b = (b, tt)
 shaped_moved table [] t (more x xs) v e a b = absurd (omega (arith, e))
 shaped_moved table (u ∷ us) t none v e a b = absurd (omega (arith, e))
@@ -104,7 +105,8 @@ module _ (table : Table) (h : Home) where
       (ap₂ (λ u n. pointers table h f.before (f.node + 1) f.done ++ pointers table h (u ∷ []) n (more v none)) et (before_child f fs numbered)
       ∙ sym (pointers_moved table h f.before f.child (f.node + 1) f.done v many))
 
-module _ (order : Order) (fetched : List ℕ) (code : List Instr) (values : List EnumList) (table : Table) (h : Home) (own limit : ℕ) (noted : List Item) (direct : ℕ) (target : List ℕ → Read) (planned : IsPlanned code values table) where
+module _ (order : Order) (fetched : List ℕ) (code : List Instr) (values : List EnumList) (table : Table) (h : Home) (own limit : ℕ) (noted : List Item) (direct : ℕ) (target : List ℕ → Read)
+    (planned : IsPlanned code values table) where
   abbrev Right : ℕ → List EntryAt → Outcome → Type 0
   Right at seen o = IsRight order fetched code table h own limit noted direct target at seen o
 
@@ -245,7 +247,8 @@ module _ (order : Order) (fetched : List ℕ) (code : List Instr) (values : List
           let e : length (pointers_around table h (f ∷ fs)) ≡ ps + length (pointers table h f.before (f.node + 1) f.done) =
           length-append (pointers_around table h fs) (pointers table h f.before (f.node + 1) f.done) in
           ap (λ l. members_around table h fs ++ (read_members table h l f fs ++ open_member table h l f fs)) is.label
-          ∙ ap₂ (λ (a : ℕ) (b : ℕ). members_around table h fs ++ (members_of table h ps f.before (f.node + 1) f.done ++ record { node = a; pending = b } ∷ [])) (numbered.1 ∙ before_child table h f fs numbered) e
+          ∙ ap₂ (λ (a : ℕ) (b : ℕ). members_around table h fs ++ (members_of table h ps f.before (f.node + 1) f.done ++ record { node = a; pending = b } ∷ []))
+          (numbered.1 ∙ before_child table h f fs numbered) e
           ∙ ap (λ xs. members_around table h fs ++ xs) (sym (members_moved table h ps f.before f.child (f.node + 1) f.done v is.many))
           ∙ ap (λ l. members_around table h fs ++ read_members table h l g fs) (sym is.label) in
           record {

@@ -33,7 +33,8 @@ use Rattle.ndr_decoder_laws.specs.steps.Steps.{State, Outcome, goes, gap_read, p
 use Rattle.ndr_decoder_laws.specs.steps.Good.{Told, IsRight, place_at as place_of_node}
 use Rattle.ndr_decoder_laws.specs.steps.StepItems.{item_here, gap_items, count_items}
 use Rattle.ndr_decoder_laws.proofs.steps.CountedCells.{none_named}
-use Rattle.ndr_decoder_laws.proofs.steps.Passing.{items_it, gap_noted, noted_joined, onward, no_less, silent, told_passed, known_joined, lie_joined, lie_longer, judged, taken_it, lies_it, same_homes, tested_now, tested_passed}
+use Rattle.ndr_decoder_laws.proofs.steps.Passing.{items_it, gap_noted, noted_joined, onward, no_less, silent, told_passed, known_joined, lie_joined, lie_longer, judged, taken_it, lies_it, same_homes}
+use Rattle.ndr_decoder_laws.proofs.steps.Passing.{tested_now, tested_passed}
 use Rattle.ndr_decoder_laws.proofs.steps.Arriving.{Within, parts_of, within_passed, arrives}
 use Rattle.ndr_decoder_laws.proofs.steps.Adding.{stop_by, Stops}
 
@@ -57,9 +58,11 @@ module _ (order : Order) (octets : List ℕ) (table : Table) (h : Home) (m at : 
       (ap (λ p. (read_in_place order octets table h 32 v t 0 p names).progress) (stops_at order octets e at seen why r)
       ∙ in_place_stays order octets table h at seen why 32 v t 0 names) rest
 
-module _ (order : Order) (fetched os : List ℕ) (code : List Instr) (values : List EnumList) (table : Table) (h : Home) (own limit : ℕ) (noted : List Item) (direct : ℕ) (target : List ℕ → Read) (planned : IsPlanned code values table)
+module _ (order : Order) (fetched os : List ℕ) (code : List Instr) (values : List EnumList) (table : Table) (h : Home) (own limit : ℕ) (noted : List Item) (direct : ℕ) (target : List ℕ → Read)
+    (planned : IsPlanned code values table)
     (s : State) (seen : List EntryAt) (names : Names) (t : ℕ) (fine : IsFine table 32 t) (w : Within code table h own limit seen 32 [] t (parts_of s)) (reached : length fetched ≡ s.at)
-    (run : IsRunAt code s.pc (op.Hoist ∷ op.Call (place_at table t) ∷ op.Ret ∷ [])) (told : Told noted direct order fetched h seen names s.cells s.numbers s.max_at (length s.nodes) []) (no_max : s.max_at ≡ None) where
+    (run : IsRunAt code s.pc (op.Hoist ∷ op.Call (place_at table t) ∷ op.Ret ∷ [])) (told : Told noted direct order fetched h seen names s.cells s.numbers s.max_at (length s.nodes) [])
+    (no_max : s.max_at ≡ None) where
   abbrev Right : List Item → Outcome → Type 0
   Right news o = IsRight order (fetched ++ os) code table h own limit (noted ++ news) direct target s.at seen o
 
@@ -182,7 +185,8 @@ module _ (order : Order) (fetched os : List ℕ) (code : List Instr) (values : L
       ahead attr.Switch j = tested_passed seen x attr.Switch h (length s.nodes + j) refl ∙ none_yet attr.Switch j refl
 
 -- the call of a home's value
-pub jump_right : (order : Order) (fetched : List ℕ) (code : List Instr) (values : List EnumList) (table : Table) (h : Home) (own limit : ℕ) (noted : List Item) (direct : ℕ) (target : List ℕ → Read) → IsPlanned code values table
+pub jump_right : (order : Order) (fetched : List ℕ) (code : List Instr) (values : List EnumList) (table : Table) (h : Home) (own limit : ℕ) (noted : List Item) (direct : ℕ) (target : List ℕ → Read)
+    → IsPlanned code values table
     → (s : State) (depth : ℕ) (seen : List EntryAt) (names : Names) (t : ℕ) → IsFine table depth t → Within code table h own limit seen depth [] t (parts_of s) → length fetched ≡ s.at
     → Told noted direct order fetched h seen names s.cells s.numbers s.max_at (length s.nodes) []
     → ((later : List ℕ) → finish order (fetched ++ later) table h s.max depth [] (read_in_place order (fetched ++ later) table h depth s.max t 0 (going s.at seen) names) ≡ target (fetched ++ later))

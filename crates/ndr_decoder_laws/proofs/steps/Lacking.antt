@@ -77,7 +77,8 @@ module _ (order : Order) (fetched : List ℕ) (code : List Instr) (values : List
     abbrev n : ℕ
     n = length (nodes_around fs)
 
-    opened_next : (d : TypeDef) → type_at table t ≡ Some d → IsFormed table t d → s.phase ≡ begun → IsRunAt code s.pc (body_run code table t d) → Rest (suc k) fs (opened t d) → NextOf (wants values i s)
+    opened_next : (d : TypeDef) → type_at table t ≡ Some d → IsFormed table t d → s.phase ≡ begun → IsRunAt code s.pc (body_run code table t d) → Rest (suc k) fs (opened t d)
+        → NextOf (wants values i s)
     opened_next (def.Prim p) et formed phase run rest =
         let c = planned.carried t p et in
         first_wants (op.Num (id t)) (op.Ret ∷ []) run
@@ -151,7 +152,8 @@ module _ (order : Order) (fetched : List ℕ) (code : List Instr) (values : List
         })
     opened_next (def.Pipe elem) et formed phase run rest = absurd formed
 
-    count_next_of : (d : TypeDef) (max elem o : ℕ) (e : TypeId) (bound : Option ℕ) → d ≡ def.Array e bound true → IsRunAt code s.pc (body_run code table t d) → Rest (suc k) fs (at_offset t d max elem o) → NextOf (wants values i s)
+    count_next_of : (d : TypeDef) (max elem o : ℕ) (e : TypeId) (bound : Option ℕ) → d ≡ def.Array e bound true → IsRunAt code s.pc (body_run code table t d)
+        → Rest (suc k) fs (at_offset t d max elem o) → NextOf (wants values i s)
     count_next_of d max elem o e bound ed run rest = by_bound bound (subst (λ y. IsRunAt code s.pc (body_run code table t y)) ed run)
       where
         it : Wanted order fetched seen s.at target 4 (ltb STREAM_LIMIT (s.at + 4))
@@ -189,7 +191,8 @@ module _ (order : Order) (fetched : List ℕ) (code : List Instr) (values : List
   end_next (at_ret run) = first_wants op.Ret [] run tt
   end_next (at_void run) = first_wants op.Void (op.Ret ∷ []) run tt
 
-  hoist_next : (depth : ℕ) (fs : List Around) (t : ℕ) → fs ≡ [] → depth ≡ 32 → IsRunAt code s.pc (op.Hoist ∷ op.Call (place_at table t) ∷ op.Ret ∷ []) → s.phase ≡ begun → Rest depth fs (hoisting t) → NextOf (wants values i s)
+  hoist_next : (depth : ℕ) (fs : List Around) (t : ℕ) → fs ≡ [] → depth ≡ 32 → IsRunAt code s.pc (op.Hoist ∷ op.Call (place_at table t) ∷ op.Ret ∷ []) → s.phase ≡ begun → Rest depth fs (hoisting t)
+      → NextOf (wants values i s)
   hoist_next depth (f ∷ fs) t ef ed run phase rest = absurd (no_frames f fs ef)
   hoist_next depth [] t ef ed run phase rest =
       first_wants op.Hoist (op.Call (place_at table t) ∷ op.Ret ∷ []) run
@@ -201,7 +204,8 @@ module _ (order : Order) (fetched : List ℕ) (code : List Instr) (values : List
         stops = λ later. hoist_gap_next order (fetched ++ later) table h s.max s.at seen names (target (fetched ++ later)) t (rest later);
       }))
 
-  hoisted_next : (depth : ℕ) (fs : List Around) (t : ℕ) → fs ≡ [] → depth ≡ 32 → IsRunAt code s.pc (op.Hoist ∷ op.Call (place_at table t) ∷ op.Ret ∷ []) → s.phase ≡ gap_read → Rest depth fs (counting t) → NextOf (wants values i s)
+  hoisted_next : (depth : ℕ) (fs : List Around) (t : ℕ) → fs ≡ [] → depth ≡ 32 → IsRunAt code s.pc (op.Hoist ∷ op.Call (place_at table t) ∷ op.Ret ∷ []) → s.phase ≡ gap_read
+      → Rest depth fs (counting t) → NextOf (wants values i s)
   hoisted_next depth (f ∷ fs) t ef ed run phase rest = absurd (no_frames f fs ef)
   hoisted_next depth [] t ef ed run phase rest =
       first_wants op.Hoist (op.Call (place_at table t) ∷ op.Ret ∷ []) run
@@ -226,7 +230,8 @@ module _ (order : Order) (fetched : List ℕ) (code : List Instr) (values : List
         entry = record { home = h; node = length (nodes_around fs); kind = Align a };
         size = refl;
         long_is = refl;
-        stops = λ later. gap_next order (fetched ++ later) table h (suc k) s.max fs (length (nodes_around fs)) s.at seen names (target (fetched ++ later)) k t a d refl spot.1.1.1 spot.1.1.2 (rest later);
+        stops = λ later. gap_next order (fetched ++ later) table h (suc k) s.max fs (length (nodes_around fs)) s.at seen names (target (fetched ++ later)) k t a d refl spot.1.1.1 spot.1.1.2
+            (rest later);
       })
   point_next zero fs (opened t d) spot fits phase rest = absurd spot.0
   point_next (suc k) fs (opened t d) spot fits phase rest =
@@ -262,7 +267,8 @@ module _ (order : Order) (fetched : List ℕ) (code : List Instr) (values : List
   point_next depth fs (has t v) spot fits phase rest = end_next spot.0
 
 -- where octets are wanted those fetched end where the state is
-pub wanting : (order : Order) (fetched : List ℕ) (code : List Instr) (values : List EnumList) (table : Table) (h : Home) (own limit : ℕ) (noted : List Item) (direct : ℕ) (target : List ℕ → Read) (s : State) (i : Instr) (g : Good order fetched code table h own limit noted direct target s)
+pub wanting : (order : Order) (fetched : List ℕ) (code : List Instr) (values : List EnumList) (table : Table) (h : Home) (own limit : ℕ) (noted : List Item) (direct : ℕ) (target : List ℕ → Read)
+    (s : State) (i : Instr) (g : Good order fetched code table h own limit noted direct target s)
     → slice_get code s.pc ≡ Some i → (wants values i s ≡ no_octets) ⊎ (length fetched ≡ s.at)
 wanting order fetched code values table h own limit noted direct target s i g at_pc = by_point g.point g.depth g.spot g.reached
   where
@@ -291,7 +297,8 @@ wanting order fetched code values table h own limit noted direct target s i g at
 less_is : (a b : ℕ) → a < b → ltb a b ≡ true
 less_is a b l = grind (arith, nat_tests)
 
-module _ (order : Order) (fetched : List ℕ) (code : List Instr) (values : List EnumList) (table : Table) (h : Home) (own limit : ℕ) (noted : List Item) (direct : ℕ) (target : List ℕ → Read) (planned : IsPlanned code values table)
+module _ (order : Order) (fetched : List ℕ) (code : List Instr) (values : List EnumList) (table : Table) (h : Home) (own limit : ℕ) (noted : List Item) (direct : ℕ) (target : List ℕ → Read)
+    (planned : IsPlanned code values table)
     (s : State) (g : Good order fetched code table h own limit noted direct target s) (i : Instr) (at_pc : slice_get code s.pc ≡ Some i) where
   next_is : Next order fetched g.seen s.at target (wants values i s)
   next_is = point_next order fetched code values table h target planned s i at_pc g.seen g.names g.depth g.fs g.point g.spot g.fits g.phase g.rest
@@ -302,7 +309,8 @@ module _ (order : Order) (fetched : List ℕ) (code : List Instr) (values : List
       let m : Entry = w.entry in
       let all_of : (k : ℕ) → length fetched ≡ k → size_at k m.kind ≡ n → is_long k m.kind ≡ false
       → refusal order (fetched ++ os) g.seen (record { at = k; entry = m }) ≡ Some (length (fetched ++ os), Truncated) =
-      λ k e size l. subst (λ j. length os < size_at j m.kind → is_long j m.kind ≡ false → refusal order (fetched ++ os) g.seen (record { at = j; entry = m }) ≡ Some (length (fetched ++ os), Truncated)) e
+      λ k e size l. subst
+      (λ j. length os < size_at j m.kind → is_long j m.kind ≡ false → refusal order (fetched ++ os) g.seen (record { at = j; entry = m }) ≡ Some (length (fetched ++ os), Truncated)) e
       (λ a b. cut_refused order fetched os m g.seen a b) (omega (arith, size, less)) l in
       w.stops os (length (fetched ++ os), Truncated) (all_of s.at reached w.size (w.long_is ∙ short))
 
@@ -310,7 +318,8 @@ module _ (order : Order) (fetched : List ℕ) (code : List Instr) (values : List
   pub cut_right : (os : List ℕ) → IsCut (wants values i s) os s.at → (target (fetched ++ os)).progress ≡ stopped s.at g.seen (length (fetched ++ os), Truncated)
   cut_right os c = by_reached (wanting order fetched code values table h own limit noted direct target s i g at_pc)
     where
-      by_want : (x : Want) → Next order fetched g.seen s.at target x → IsCut x os s.at → length fetched ≡ s.at → (target (fetched ++ os)).progress ≡ stopped s.at g.seen (length (fetched ++ os), Truncated)
+      by_want : (x : Want) → Next order fetched g.seen s.at target x → IsCut x os s.at → length fetched ≡ s.at
+          → (target (fetched ++ os)).progress ≡ stopped s.at g.seen (length (fetched ++ os), Truncated)
       by_want no_octets w c r = absurd c
       by_want (gap_of n) w c r = cut_at n false w refl r os c
       by_want (item_of n) w c r = cut_at n (ltb STREAM_LIMIT (s.at + n)) w (no_less STREAM_LIMIT (s.at + n) c.1) r os c.0
@@ -323,7 +332,8 @@ module _ (order : Order) (fetched : List ℕ) (code : List Instr) (values : List
   pub long_right : IsTooLong (wants values i s) s.at → (later : List ℕ) → (target (fetched ++ later)).progress ≡ stopped s.at g.seen (STREAM_LIMIT, TooLong)
   long_right c later = by_reached (wanting order fetched code values table h own limit noted direct target s i g at_pc)
     where
-      at_limit : (n : ℕ) → Wanted order fetched g.seen s.at target n (ltb STREAM_LIMIT (s.at + n)) → STREAM_LIMIT < s.at + n → length fetched ≡ s.at → (target (fetched ++ later)).progress ≡ stopped s.at g.seen (STREAM_LIMIT, TooLong)
+      at_limit : (n : ℕ) → Wanted order fetched g.seen s.at target n (ltb STREAM_LIMIT (s.at + n)) → STREAM_LIMIT < s.at + n → length fetched ≡ s.at
+          → (target (fetched ++ later)).progress ≡ stopped s.at g.seen (STREAM_LIMIT, TooLong)
       at_limit n w past r =
           let m : Entry = w.entry in
           let long : is_long s.at m.kind ≡ true = w.long_is ∙ less_is STREAM_LIMIT (s.at + n) past in

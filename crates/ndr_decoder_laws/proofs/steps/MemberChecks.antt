@@ -1,6 +1,7 @@
 -- The agreements of a struct's members: those of a pointer join its pending referent, those of any other are tried in its first node.
 -- `x` is the member that is governed, `xs` and `ys` are those before and after it, `w` is what is kept of its first node.
-use Rattle.std.proofs.Common.{◌≡◌, ◌≤◌, ◌<◌, ◌⊎◌, inl, inr, ℕ, ◌+◌, zero, suc, Bool, true, false, List, [], ◌∷◌, ◌++◌, length, Option, Some, None, refl, ap, ap₂, sym, ◌∙◌, subst, arith, append_assoc, length-append, map, flat_map}
+use Rattle.std.proofs.Common.{◌≡◌, ◌≤◌, ◌<◌, ◌⊎◌, inl, inr, ℕ, ◌+◌, zero, suc, Bool, true, false, List, [], ◌∷◌, ◌++◌, length, Option, Some, None, refl, ap, ap₂, sym, ◌∙◌, subst, arith, append_assoc}
+use Rattle.std.proofs.Common.{length-append, map, flat_map}
 use Rattle.std.specs.List.{slice_get}
 use Rattle.std.proofs.lemmas.Grind.{flat_map-append}
 use Rattle.std.proofs.lemmas.List.{length-map, map-append}
@@ -206,7 +207,8 @@ module _ (table : Table) (h : Home) where
       ++ governed_pointers table h us (rest_agreements vs) (n + 1 + node_count ks) ts)
   governed_first u us vs n l ks ts =
       ap (λ xs. pointer_by (type_at table u) (is_pointer l) (cell_in l) h n (first_agreements vs) ++ xs)
-      (flat_map-append (pointer table h) (nodes_of table (child_types (type_at table u) l ks) (child_agreements (type_at table u) ks) (n + 1) ks) (nodes_of table us (rest_agreements vs) (n + 1 + node_count ks) ts))
+      (flat_map-append (pointer table h) (nodes_of table (child_types (type_at table u) l ks) (child_agreements (type_at table u) ks) (n + 1) ks)
+      (nodes_of table us (rest_agreements vs) (n + 1 + node_count ks) ts))
 
   -- as many as if nothing governed them
   pub as_many_governed : (us : List ℕ) (vs ws : List (List Agreement)) (n : ℕ) (ts : Trees) → length (governed_pointers table h us vs n ts) ≡ length (governed_pointers table h us ws n ts)
@@ -245,7 +247,8 @@ joined_at : (ws : List Agreement) (xs : List Owed) (o : Owed) (ys : List Owed)
 joined_at ws [] o ys = refl
 joined_at ws (x ∷ xs) o ys = ap (λ zs. x ∷ zs) (joined_at ws xs o ys)
 
-module _ (table : Table) (h : Home) (around : List Pending) (us ts : List ℕ) (vs : List (List Agreement)) (u n : ℕ) (xs ys : Trees) (l : Label) (ks : Trees) (many : length us ≡ count xs) (as_many : length vs ≡ count xs) where
+module _ (table : Table) (h : Home) (around : List Pending) (us ts : List ℕ) (vs : List (List Agreement)) (u n : ℕ) (xs ys : Trees) (l : Label) (ks : Trees) (many : length us ≡ count xs)
+    (as_many : length vs ≡ count xs) where
   abbrev with_it : List Agreement → List Pending
   with_it w = governed_pointers table h (us ++ u ∷ ts) (vs ++ w ∷ []) n (joined xs (more (node l ks) ys))
 

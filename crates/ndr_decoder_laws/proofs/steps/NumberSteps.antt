@@ -61,7 +61,8 @@ module _ (order : Order) (octets : List ℕ) (table : Table) (h : Home) (k m : �
       let z : ℤ = value_in order octets p (taken order octets (e (pos 0)) (going at seen)) in
       λ why r. stop_by order octets table h k m fs (number_after order octets table h n p zs (going at seen) names) target at seen why (stops_at order octets (e z) at seen why r) rest
 
-  pub context_next : finish order octets table h m k fs (context_after order octets table h n (going at seen) names) ≡ target → Stops order octets seen at target (record { home = h; node = n; kind = Context 0 [] })
+  pub context_next : finish order octets table h m k fs (context_after order octets table h n (going at seen) names) ≡ target
+      → Stops order octets seen at target (record { home = h; node = n; kind = Context 0 [] })
   context_next rest =
       let os : Option (List ℕ) = taken order octets (record { home = h; node = n; kind = Context 0 [] }) (going at seen) in
       let e : Entry = record { home = h; node = n; kind = Context (attributes_in order octets os) (identifier_in order octets os) } in
@@ -69,7 +70,8 @@ module _ (order : Order) (octets : List ℕ) (table : Table) (h : Home) (k m : �
 
   -- a gap before a value of a type
   pub gap_next : (k' t a : ℕ) (d : TypeDef) → k ≡ suc k' → type_at table t ≡ Some d → gap_of table t (Some d) ≡ Some a
-      → finish order octets table h m k fs (read_in_place order octets table h k m t n (going at seen) names) ≡ target → Stops order octets seen at target (record { home = h; node = n; kind = Align a })
+      → finish order octets table h m k fs (read_in_place order octets table h k m t n (going at seen) names) ≡ target
+      → Stops order octets seen at target (record { home = h; node = n; kind = Align a })
   gap_next k' t a d ek e ea rest =
       let x : Entry = record { home = h; node = n; kind = Align a } in
       λ why r. stop_by order octets table h k m fs (read_in_place order octets table h k m t n (going at seen) names) target at seen why
@@ -84,8 +86,10 @@ module _ (order : Order) (fetched os : List ℕ) (code : List Instr) (values : L
   Right news at seen o = IsRight order (fetched ++ os) code table h own limit (noted ++ news) direct target at seen o
 
   -- `align`: the gap before a value
-  pub gap_right : (s : State) (k : ℕ) (fs : List Around) (seen : List EntryAt) (names : Names) (t a : ℕ) (d : TypeDef) → IsDue (IsFine table k) table t → type_at table t ≡ Some d → gap_of table t (Some d) ≡ Some a
-      → IsRunAt code s.pc (op.Align a ∷ body_run code table t d) → Within code table h own limit seen (suc k) fs t (parts_of s) → Told noted direct order fetched h seen names s.cells s.numbers s.max_at (length s.nodes) []
+  pub gap_right : (s : State) (k : ℕ) (fs : List Around) (seen : List EntryAt) (names : Names) (t a : ℕ) (d : TypeDef) → IsDue (IsFine table k) table t → type_at table t ≡ Some d
+      → gap_of table t (Some d) ≡ Some a
+      → IsRunAt code s.pc (op.Align a ∷ body_run code table t d) → Within code table h own limit seen (suc k) fs t (parts_of s)
+      → Told noted direct order fetched h seen names s.cells s.numbers s.max_at (length s.nodes) []
       → length fetched ≡ s.at → length os ≡ gap s.at a
       → ((later : List ℕ) → finish order (fetched ++ later) table h s.max (suc k) fs
       (read_in_place order (fetched ++ later) table h (suc k) s.max t (length (nodes_around fs)) (going s.at seen) names) ≡ target (fetched ++ later))
@@ -146,14 +150,18 @@ module _ (order : Order) (fetched os : List ℕ) (code : List Instr) (values : L
           → finish order ((fetched ++ os) ++ later) table h s.max depth fs (number_after order ((fetched ++ os) ++ later) table h n p zs (going s.at seen) names) ≡ target ((fetched ++ os) ++ later)
       go_on = onward fetched os (λ o. finish order o table h s.max depth fs (number_after order o table h n p zs (going s.at seen) names) ≡ target o) rest
 
-      by_test : (b : Bool) → is_enumerator zs z ≡ b → Right (number_items order h os p s) s.at seen (if b then goes (done_after (width p) (with_node (tree.Num z, 0) None s)) else refused s.at reason.EnumValue)
+      by_test : (b : Bool) → is_enumerator zs z ≡ b
+          → Right (number_items order h os p s) s.at seen (if b then goes (done_after (width p) (with_node (tree.Num z, 0) None s)) else refused s.at reason.EnumValue)
       by_test false e = λ later.
-          (number_next order ((fetched ++ os) ++ later) table h depth s.max fs n s.at seen names (target ((fetched ++ os) ++ later)) p zs (go_on later)) (s.at, reason.EnumValue) (judge false e later (pos 0))
+          (number_next order ((fetched ++ os) ++ later) table h depth s.max fs n s.at seen names (target ((fetched ++ os) ++ later)) p zs (go_on later)) (s.at, reason.EnumValue)
+          (judge false e later (pos 0))
       by_test true e =
           let told' : Told (noted ++ number_items order h os p s) direct order (fetched ++ os) h (seen ++ x ∷ []) names s.cells s.numbers s.max_at (length s.nodes) [] =
           told_passed (number_items order h os p s) order fetched os h seen names s.cells s.numbers s.max_at (length s.nodes) [] x
-          (items_it order fetched os [] s.at reached (m z) seen (sym size) ∙ ap (λ j. item_here h s.at item.Num (width p) z j ∷ []) (sym same_count)) tt tt refl (lies_it order fetched os [] s.at reached (m z) seen (sym size)) told in
-          leaf_good order (fetched ++ os) code table h own limit (noted ++ number_items order h os p s) direct target (parts_of s) (s.pc + 1) (s.at + width p) s.max s.tag s.carrier s.fresh s.cells s.numbers (tree.Num z) None [] (seen ++ x ∷ []) names depth fs t
+          (items_it order fetched os [] s.at reached (m z) seen (sym size) ∙ ap (λ j. item_here h s.at item.Num (width p) z j ∷ []) (sym same_count)) tt tt refl
+          (lies_it order fetched os [] s.at reached (m z) seen (sym size)) told in
+          leaf_good order (fetched ++ os) code table h own limit (noted ++ number_items order h os p s) direct target (parts_of s) (s.pc + 1)
+          (s.at + width p) s.max s.tag s.carrier s.fresh s.cells s.numbers (tree.Num z) None [] (seen ++ x ∷ []) names depth fs t
           (within_passed code table h own limit seen depth fs t (parts_of s) x (λ a j l. silent a h j x tt) w)
           (none_found order (fetched ++ os) h (seen ++ x ∷ []) names s.cells s.numbers s.max_at (length s.nodes) [] told')
           told'
@@ -187,8 +195,10 @@ module _ (order : Order) (fetched os : List ℕ) (code : List Instr) (values : L
       λ later b c. judged order fetched os later s.at reached (m b c) seen (sym size) (no_less STREAM_LIMIT (s.at + 20) short) in
       let told' : Told (noted ++ next_item h s item.Context 20 (pos 0) ∷ []) direct order (fetched ++ os) h (seen ++ x ∷ []) names s.cells s.numbers s.max_at (length s.nodes) [] =
       told_passed (next_item h s item.Context 20 (pos 0) ∷ []) order fetched os h seen names s.cells s.numbers s.max_at (length s.nodes) [] x
-      (items_it order fetched os [] s.at reached (m a id) seen (sym size) ∙ ap (λ j. item_here h s.at item.Context 20 (pos 0) j ∷ []) (sym (ap length w.nodes))) tt tt refl (lies_it order fetched os [] s.at reached (m a id) seen (sym size)) told in
-      leaf_good order (fetched ++ os) code table h own limit (noted ++ next_item h s item.Context 20 (pos 0) ∷ []) direct target (parts_of s) (s.pc + 1) (s.at + 20) s.max s.tag s.carrier s.fresh s.cells s.numbers (tree.Context a id) None [] (seen ++ x ∷ []) names depth fs t
+      (items_it order fetched os [] s.at reached (m a id) seen (sym size) ∙ ap (λ j. item_here h s.at item.Context 20 (pos 0) j ∷ []) (sym (ap length w.nodes))) tt tt refl
+      (lies_it order fetched os [] s.at reached (m a id) seen (sym size)) told in
+      leaf_good order (fetched ++ os) code table h own limit (noted ++ next_item h s item.Context 20 (pos 0) ∷ []) direct target (parts_of s) (s.pc + 1)
+      (s.at + 20) s.max s.tag s.carrier s.fresh s.cells s.numbers (tree.Context a id) None [] (seen ++ x ∷ []) names depth fs t
       (within_passed code table h own limit seen depth fs t (parts_of s) x (λ c j l. silent c h j x tt) w)
       (none_found order (fetched ++ os) h (seen ++ x ∷ []) names s.cells s.numbers s.max_at (length s.nodes) [] told')
       told'

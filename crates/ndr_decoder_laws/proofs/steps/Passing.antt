@@ -1,6 +1,7 @@
 -- What the state keeps of the entries seen, as one entry more is passed.
 -- `x` is the entry at its place, `os` are the octets that were fetched for it, `y` is a node, `h` the home, `a` an attribute.
-use Rattle.std.proofs.Common.{◌≡◌, ◌≤◌, ◌<◌, ◌⊎◌, inl, inr, ℕ, ◌+◌, zero, suc, Bool, true, false, ◌&&◌, List, [], ◌∷◌, ◌++◌, length, Option, Some, None, refl, ap, ap₂, sym, ◌∙◌, subst, arith, append_assoc, length-append}
+use Rattle.std.proofs.Common.{◌≡◌, ◌≤◌, ◌<◌, ◌⊎◌, inl, inr, ℕ, ◌+◌, zero, suc, Bool, true, false, ◌&&◌, List, [], ◌∷◌, ◌++◌, length, Option, Some, None, refl, ap, ap₂, sym, ◌∙◌, subst, arith}
+use Rattle.std.proofs.Common.{append_assoc, length-append}
 use Rattle.std.specs.Prelude.{pos, cond, eqb, ltb, ◌||◌}
 use Rattle.std.specs.List.{AllByRecursion}
 use Rattle.std.proofs.lemmas.List.{append-nil}
@@ -282,8 +283,10 @@ own_map [] g o = tt
 own_map (f ∷ fs) g o = g o
 
 -- an entry that is no count, no tag and no number of a full pointer
-pub told_passed : {noted : List Item} {direct : ℕ} (own : List Item) (order : Order) (fetched os : List ℕ) (h : Home) (seen : List EntryAt) (names : Names) (cells : List ℕ) (numbers : List (ℕ × Known)) (max_at : Option ℕ) (n : ℕ) (half : List Place) (x : EntryAt)
-    → own_items order (fetched ++ os) x ≡ own → NoCount x.entry.kind → NotFull x.entry.kind → named_cell x.entry.kind ≡ None → Lies (fetched ++ os) x → Told noted direct order fetched h seen names cells numbers max_at n half
+pub told_passed : {noted : List Item} {direct : ℕ} (own : List Item) (order : Order) (fetched os : List ℕ) (h : Home) (seen : List EntryAt) (names : Names) (cells : List ℕ)
+    (numbers : List (ℕ × Known)) (max_at : Option ℕ) (n : ℕ) (half : List Place) (x : EntryAt)
+    → own_items order (fetched ++ os) x ≡ own → NoCount x.entry.kind → NotFull x.entry.kind → named_cell x.entry.kind ≡ None → Lies (fetched ++ os) x
+    → Told noted direct order fetched h seen names cells numbers max_at n half
     → Told (noted ++ own) direct order (fetched ++ os) h (seen ++ x ∷ []) names cells numbers max_at n half
 told_passed {noted = noted} {direct = direct} own order fetched os h seen names cells numbers max_at n half x e c f none_there lies t = record {
   noted_are = noted_joined order fetched os seen x noted own t.lie_within e t.noted_are;
@@ -296,7 +299,8 @@ told_passed {noted = noted} {direct = direct} own order fetched os h seen names 
 }
 
 -- octets that are fetched and not passed yet
-pub told_longer : {noted : List Item} {direct : ℕ} (order : Order) (fetched os : List ℕ) (h : Home) (seen : List EntryAt) (names : Names) (cells : List ℕ) (numbers : List (ℕ × Known)) (max_at : Option ℕ) (n : ℕ) (half : List Place)
+pub told_longer : {noted : List Item} {direct : ℕ} (order : Order) (fetched os : List ℕ) (h : Home) (seen : List EntryAt) (names : Names) (cells : List ℕ) (numbers : List (ℕ × Known))
+    (max_at : Option ℕ) (n : ℕ) (half : List Place)
     → Told noted direct order fetched h seen names cells numbers max_at n half → Told noted direct order (fetched ++ os) h seen names cells numbers max_at n half
 told_longer order fetched os h seen names cells numbers max_at n half t = record {
   noted_are = items_stay order fetched os seen t.lie_within ∙ t.noted_are;
@@ -341,16 +345,19 @@ module _ (order : Order) (fetched os later : List ℕ) (at : ℕ) (reached : len
   lies_it = omega (arith, reached, size, length-append fetched os)
 
 -- the item of a gap, which is none where it is empty
-pub gap_noted : (order : Order) (h : Home) (n a at : ℕ) (os : List ℕ) → gap at a ≡ length os → item_at (record { at = at; entry = record { home = h; node = n; kind = Align a } }) (item_in order (Align a) os) ≡ gap_items h at os
+pub gap_noted : (order : Order) (h : Home) (n a at : ℕ) (os : List ℕ) → gap at a ≡ length os
+    → item_at (record { at = at; entry = record { home = h; node = n; kind = Align a } }) (item_in order (Align a) os) ≡ gap_items h at os
 gap_noted order h n a at [] e = refl
 gap_noted order h n a at (o ∷ os) e = ap (λ l. item_here h at item.Gap l (pos 0) 0 ∷ []) e
 
 -- a count or tag of the node that is being read, which is number n
-module _ (order : Order) (fetched os : List ℕ) (h : Home) (at : ℕ) (k : Kind) (seen : List EntryAt) (names : Names) (cells : List ℕ) (numbers : List (ℕ × Known)) (max_at : Option ℕ) (n : ℕ) (half half' : List Place) where
+module _ (order : Order) (fetched os : List ℕ) (h : Home) (at : ℕ) (k : Kind) (seen : List EntryAt) (names : Names) (cells : List ℕ) (numbers : List (ℕ × Known)) (max_at : Option ℕ) (n : ℕ)
+    (half half' : List Place) where
   abbrev counted : EntryAt
   counted = record { at = at; entry = record { home = h; node = n; kind = k } }
 
-  ahead_counted : {noted : List Item} {direct : ℕ} → is_max k ≡ false → (a : Attr) → Change max_at half half' k at a → Told noted direct order fetched h seen names cells numbers max_at n half → (j : ℕ)
+  ahead_counted : {noted : List Item} {direct : ℕ} → is_max k ≡ false → (a : Attr) → Change max_at half half' k at a → Told noted direct order fetched h seen names cells numbers max_at n half
+      → (j : ℕ)
       → tested_at (seen ++ counted ∷ []) a h (n + j) ≡ place_of a max_at (place_at half' j)
   ahead_counted m a c t (suc j) =
       tested_passed seen counted a h (n + suc j) (earlier_node a h (n + suc j) counted m (omega arith)) ∙ t.ahead a (suc j)
@@ -361,7 +368,8 @@ module _ (order : Order) (fetched os : List ℕ) (h : Home) (at : ℕ) (k : Kind
   ahead_counted m a (inr c) t zero =
       tested_passed seen counted a h (n + 0) (ap (λ b. b && same_home h h && (is_max k || eqb n (n + 0))) c.0) ∙ t.ahead a 0 ∙ c.1
 
-  pub told_counted : {noted : List Item} {direct : ℕ} (own : List Item) → own_items order (fetched ++ os) counted ≡ own → is_max k ≡ false → NotFull k → named_cell k ≡ None → Lies (fetched ++ os) counted → ((a : Attr) → Change max_at half half' k at a)
+  pub told_counted : {noted : List Item} {direct : ℕ} (own : List Item) → own_items order (fetched ++ os) counted ≡ own → is_max k ≡ false → NotFull k → named_cell k ≡ None
+      → Lies (fetched ++ os) counted → ((a : Attr) → Change max_at half half' k at a)
       → Told noted direct order fetched h seen names cells numbers max_at n half → Told (noted ++ own) direct order (fetched ++ os) h (seen ++ counted ∷ []) names cells numbers max_at n half'
   told_counted {noted = noted} {direct = direct} own e m f none_there lies c t = record {
     noted_are = noted_joined order fetched os seen counted noted own t.lie_within e t.noted_are;

@@ -32,7 +32,8 @@ use Rattle.ndr_code.specs.Code.{place_at, whole_at, id, text_bound, arm_run, arm
 use Rattle.ndr_code.specs.Runs.{IsRunAt}
 use Rattle.ndr_code.proofs.Runs.{first_at, next_at}
 use Rattle.ndr_decoder_laws.specs.reader.Around.{Around, going, finish, tried, nodes_around, pointers_around, governed_pointers}
-use Rattle.ndr_decoder_laws.specs.reader.Points.{Point, TagForm, IsTagForm, hoisting, counting, called, due, opened, offset_read as at_offset, text_offset, text_counted, tagged, between, checking, has, read_at, held, nodes_at, pointers_at, NumberedAt, TiedAt}
+use Rattle.ndr_decoder_laws.specs.reader.Points.{Point, TagForm, IsTagForm, hoisting, counting, called, due, opened, offset_read as at_offset, text_offset, text_counted, tagged, between, checking}
+use Rattle.ndr_decoder_laws.specs.reader.Points.{has, read_at, held, nodes_at, pointers_at, NumberedAt, TiedAt}
 use Rattle.ndr_decoder_laws.proofs.reader.FromPoint.{members_read}
 use Rattle.ndr_decoder_laws.proofs.reader.HomePointers.{of_number, of_enumerated}
 use Rattle.ndr_decoder_laws.proofs.reader.FlatNodes.{count_joined}
@@ -55,7 +56,8 @@ use Rattle.ndr_decoder_laws.proofs.steps.MemberChecks.{governed_longer}
 use Rattle.ndr_decoder_laws.proofs.steps.CheckSteps.{AllRead, check_right}
 
 -- the facts of a state at this point
-pub record At (order : Order) (fetched : List ℕ) (code : List Instr) (table : Table) (h : Home) (own limit : ℕ) (noted : List Item) (direct : ℕ) (target : List ℕ → Read) (s : State) (seen : List EntryAt) (names : Names) (depth : ℕ) (fs : List Around) (point : Point) : Type 0 where
+pub record At (order : Order) (fetched : List ℕ) (code : List Instr) (table : Table) (h : Home) (own limit : ℕ) (noted : List Item) (direct : ℕ) (target : List ℕ → Read) (s : State)
+    (seen : List EntryAt) (names : Names) (depth : ℕ) (fs : List Around) (point : Point) : Type 0 where
   pub deep : depth + length fs ≡ limit
   pub spot : Spot code table h s.max depth s.pc point
   pub phase : s.phase ≡ phase_at point
@@ -93,7 +95,8 @@ no_agreement : (b : Bool) (h : Home) (n : ℕ) (t : Tree) → own_tests b h n t 
 no_agreement true h n t = refl
 no_agreement false h n t = refl
 
-module _ (order : Order) (fetched os : List ℕ) (code : List Instr) (values : List EnumList) (table : Table) (h : Home) (own limit : ℕ) (noted : List Item) (direct : ℕ) (target : List ℕ → Read) (planned : IsPlanned code values table)
+module _ (order : Order) (fetched os : List ℕ) (code : List Instr) (values : List EnumList) (table : Table) (h : Home) (own limit : ℕ) (noted : List Item) (direct : ℕ) (target : List ℕ → Read)
+    (planned : IsPlanned code values table)
     (s : State) (i : Instr) (at_pc : slice_get code s.pc ≡ Some i) (has_octets : HasOctets (wants values i s) os s.at) (seen : List EntryAt) (names : Names) where
   abbrev RightOf : Instr → Type 0
   RightOf j = IsRight order (fetched ++ os) code table h own limit (noted ++ step_items order h os j s) direct target s.at seen (step values order os j s)
@@ -148,7 +151,8 @@ module _ (order : Order) (fetched os : List ℕ) (code : List Instr) (values : L
       } in
       at_first op.Hoist (op.Call (place_at table t) ∷ op.Ret ∷ []) x.spot.1
       (subst (λ ph. HasOctets (hoist_want values ph s.at) os s.at → Right (hoist_items order h os ph s) (hoist_by values order os ph s)) (sym x.phase)
-      (λ size. hoist_gap_right order fetched os code values table h own limit noted direct target planned s seen names t x.spot.0 w (let r : length fetched ≡ s.at + 0 = x.reached in omega (arith, r)) x.spot.1 x.told x.registers size x.rest))
+      (λ size. hoist_gap_right order fetched os code values table h own limit noted direct target planned s seen names t x.spot.0 w
+      (let r : length fetched ≡ s.at + 0 = x.reached in omega (arith, r)) x.spot.1 x.told x.registers size x.rest))
 
   counting_right : (t : ℕ) → Here 32 [] (counting t) → RightOf i
   counting_right t x =
@@ -168,7 +172,8 @@ module _ (order : Order) (fetched os : List ℕ) (code : List Instr) (values : L
       } in
       at_first op.Hoist (op.Call (place_at table t) ∷ op.Ret ∷ []) x.spot.1
       (subst (λ ph. HasOctets (hoist_want values ph s.at) os s.at → Right (hoist_items order h os ph s) (hoist_by values order os ph s)) (sym x.phase)
-      (λ o. hoist_count_right order fetched os code values table h own limit noted direct target planned s seen names t x.spot.0 w (let r : length fetched ≡ s.at + 0 = x.reached in omega (arith, r)) x.spot.1 x.told x.registers o.0 o.1 x.rest))
+      (λ o. hoist_count_right order fetched os code values table h own limit noted direct target planned s seen names t x.spot.0 w
+      (let r : length fetched ≡ s.at + 0 = x.reached in omega (arith, r)) x.spot.1 x.told x.registers o.0 o.1 x.rest))
 
   called_right : (depth t : ℕ) → Here depth [] (called t) → RightOf i
   called_right depth t x =
@@ -188,7 +193,8 @@ module _ (order : Order) (fetched os : List ℕ) (code : List Instr) (values : L
       } in
       at_first (op.Call (place_at table t)) (op.Ret ∷ []) x.spot.1
       (λ e. no_octets_right (step values order os (op.Call (place_at table t)) s) e
-      (jump_right order fetched code values table h own limit noted direct target planned s depth seen names t x.spot.0 w (let r : length fetched ≡ s.at + 0 = x.reached in omega (arith, r)) x.told x.rest))
+      (jump_right order fetched code values table h own limit noted direct target planned s depth seen names t x.spot.0 w
+      (let r : length fetched ≡ s.at + 0 = x.reached in omega (arith, r)) x.told x.rest))
 
   -- ## Within a value: points of which the facts around are those of `Within`
 
@@ -198,24 +204,28 @@ module _ (order : Order) (fetched os : List ℕ) (code : List Instr) (values : L
         let a = x.spot.1.0 in
         let d = x.spot.1.1.0 in
         at_first (op.Align a) (body_run code table t d) x.spot.1.1.3
-        (λ size. gap_right order fetched os code values table h own limit noted direct target s k fs seen names t a d x.spot.0 x.spot.1.1.1 x.spot.1.1.2 x.spot.1.1.3 w x.told (let r : length fetched ≡ s.at + 0 = x.reached in omega (arith, r)) size x.rest)
+        (λ size. gap_right order fetched os code values table h own limit noted direct target s k fs seen names t a d x.spot.0 x.spot.1.1.1 x.spot.1.1.2 x.spot.1.1.3 w x.told
+        (let r : length fetched ≡ s.at + 0 = x.reached in omega (arith, r)) size x.rest)
 
     opened_right : (d : TypeDef) → type_at table t ≡ Some d → IsFormed table t d → AllByRecursion (IsFine table k) (parts (Some d)) → IsFine table (suc k) t → Here (suc k) fs (opened t d) → RightOf i
     opened_right (def.Prim p) et formed inner fine x =
         let c = planned.carried t p et in
         at_first (op.Num (id t)) (op.Ret ∷ []) x.spot.2
         (subst (λ q. HasOctets (item_of (width q)) os s.at → Right (number_items order h os q s) (number_step values order os q None s)) (sym (ap prim_of c.1 ∙ prim_back p))
-        (λ o. number_right order fetched os code values table h own limit noted direct target s (suc k) fs seen names t (op.Num (id t)) p None w x.told (let r : length fetched ≡ s.at + 0 = x.reached in omega (arith, r)) x.spot.2
+        (λ o. number_right order fetched os code values table h own limit noted direct target s (suc k) fs seen names t (op.Num (id t)) p None w x.told
+        (let r : length fetched ≡ s.at + 0 = x.reached in omega (arith, r)) x.spot.2
         (λ z. of_number table h t (length (nodes_around fs)) p z et) o.0 o.1 x.rest))
     opened_right (def.Enum zs) et formed inner fine x =
         at_first (op.Enum (id t)) (op.Ret ∷ []) x.spot.2
         (λ o. subst (λ vs. Right (number_items order h os Short s) (number_step values order os Short vs s)) (sym (planned.enumerated t zs et))
-        (number_right order fetched os code values table h own limit noted direct target s (suc k) fs seen names t (op.Enum (id t)) Short (Some zs) w x.told (let r : length fetched ≡ s.at + 0 = x.reached in omega (arith, r)) x.spot.2
+        (number_right order fetched os code values table h own limit noted direct target s (suc k) fs seen names t (op.Enum (id t)) Short (Some zs) w x.told
+        (let r : length fetched ≡ s.at + 0 = x.reached in omega (arith, r)) x.spot.2
         (λ z. of_enumerated table h t (length (nodes_around fs)) zs z et) o.0 o.1 x.rest))
     opened_right (def.Struct members) et formed inner fine x =
         at_first (op.Record (length members)) (rest_run code table members members) x.spot.2
         (λ e. no_octets_right (step values order os (op.Record (length members)) s) e
-        (struct_right order fetched code values table h own limit noted direct target planned s k fs seen names t members et inner w x.told (let r : length fetched ≡ s.at + 0 = x.reached in omega (arith, r)) x.spot.2 x.rest))
+        (struct_right order fetched code values table h own limit noted direct target planned s k fs seen names t members et inner w x.told
+        (let r : length fetched ≡ s.at + 0 = x.reached in omega (arith, r)) x.spot.2 x.rest))
     opened_right (def.Array elem (Some m) false) et formed inner fine x =
         at_first (op.Fixed m (place_at table elem.0)) (op.Ret ∷ []) x.spot.2
         (λ e. no_octets_right (step values order os (op.Fixed m (place_at table elem.0)) s) e
@@ -231,41 +241,52 @@ module _ (order : Order) (fetched os : List ℕ) (code : List Instr) (values : L
     opened_right (def.Array elem (Some m) true) et formed inner fine x =
         at_first (op.Vary m (place_at table elem.0)) (op.Ret ∷ []) x.spot.2
         (λ o. subst (λ ph. Right (vary_items order h os ph s) (vary_by values order os ph m (place_at table elem.0) s)) (sym x.phase)
-        (offset_right order fetched os code values table h own limit noted direct target planned s k fs seen names t fine w (let r : length fetched ≡ s.at + 0 = x.reached in omega (arith, r)) o.0 o.1 elem (Some m) et x.spot.2 x.told x.rest))
+        (offset_right order fetched os code values table h own limit noted direct target planned s k fs seen names t fine w
+        (let r : length fetched ≡ s.at + 0 = x.reached in omega (arith, r)) o.0 o.1 elem (Some m) et x.spot.2 x.told x.rest))
     opened_right (def.Array elem None true) et formed inner fine x =
         at_first (op.Confvary (place_at table elem.0)) (op.Ret ∷ []) x.spot.2
         (λ o. subst (λ ph. Right (vary_items order h os ph s) (vary_by values order os ph s.max (place_at table elem.0) s)) (sym x.phase)
-        (offset_right order fetched os code values table h own limit noted direct target planned s k fs seen names t fine w (let r : length fetched ≡ s.at + 0 = x.reached in omega (arith, r)) o.0 o.1 elem None et x.spot.2 x.told x.rest))
+        (offset_right order fetched os code values table h own limit noted direct target planned s k fs seen names t fine w
+        (let r : length fetched ≡ s.at + 0 = x.reached in omega (arith, r)) o.0 o.1 elem None et x.spot.2 x.told x.rest))
     opened_right (def.Text elem bound) et formed inner fine x =
         at_first (op.Text (text_bound bound)) (op.Ret ∷ []) x.spot.2
         (subst (λ ph. HasOctets (text_want values ph) os s.at → Right (text_items order h os ph s) (text_by values order os ph (limit_of (text_bound bound) s) s)) (sym x.phase)
-        (λ o. text_offset_right order fetched os code values table h own limit noted direct target planned s k fs seen names t fine w (let r : length fetched ≡ s.at + 0 = x.reached in omega (arith, r)) o.0 o.1 elem bound (limit_of (text_bound bound) s) et formed x.spot.2 x.told x.rest))
+        (λ o. text_offset_right order fetched os code values table h own limit noted direct target planned s k fs seen names t fine w
+        (let r : length fetched ≡ s.at + 0 = x.reached in omega (arith, r)) o.0 o.1 elem bound (limit_of (text_bound bound) s) et formed x.spot.2 x.told x.rest))
     opened_right (def.Union tag enc arms default) et formed inner fine x =
         at_first (op.Tag tag) (arms_code (place_at table) arms ++ default_code (place_at table) default) x.spot.2
         (subst (λ f. HasOctets (item_of (width f.prim)) os s.at → Right [] (tag_step values order os f s)) (sym (form_is code values table tag formed.0 planned (type_at table tag.0) refl formed.1))
-        (λ o. none_noted (tag_step values order os formed.0 s) (tag_right order fetched os code values table h own limit noted direct target planned s k fs seen names t tag enc arms default formed.0 et formed.1 fine w x.told (let r : length fetched ≡ s.at + 0 = x.reached in omega (arith, r)) x.phase x.spot.2 o.0 o.1 x.rest)))
+        (λ o. none_noted (tag_step values order os formed.0 s)
+        (tag_right order fetched os code values table h own limit noted direct target planned s k fs seen names t tag enc arms default formed.0 et formed.1 fine w x.told
+        (let r : length fetched ≡ s.at + 0 = x.reached in omega (arith, r)) x.phase x.spot.2 o.0 o.1 x.rest)))
     opened_right (def.Pointer Ref to) et formed inner fine x =
         at_first (op.Pointer Ref to (whole_at table to.0)) (op.Ret ∷ []) x.spot.2
-        (λ o. ref_right order fetched os code values table h own limit noted direct target s (suc k) fs seen names t to w x.told (let r : length fetched ≡ s.at + 0 = x.reached in omega (arith, r)) o.0 o.1 et x.spot.2 x.rest)
+        (λ o. ref_right order fetched os code values table h own limit noted direct target s (suc k) fs seen names t to w x.told
+        (let r : length fetched ≡ s.at + 0 = x.reached in omega (arith, r)) o.0 o.1 et x.spot.2 x.rest)
     opened_right (def.Pointer Unique to) et formed inner fine x =
         at_first (op.Pointer Unique to (whole_at table to.0)) (op.Ret ∷ []) x.spot.2
-        (λ o. unique_right order fetched os code values table h own limit noted direct target s (suc k) fs seen names t to w x.told (let r : length fetched ≡ s.at + 0 = x.reached in omega (arith, r)) o.0 o.1 et x.spot.2 x.rest)
+        (λ o. unique_right order fetched os code values table h own limit noted direct target s (suc k) fs seen names t to w x.told
+        (let r : length fetched ≡ s.at + 0 = x.reached in omega (arith, r)) o.0 o.1 et x.spot.2 x.rest)
     opened_right (def.Pointer Full to) et formed inner fine x =
         at_first (op.Pointer Full to (whole_at table to.0)) (op.Ret ∷ []) x.spot.2
-        (λ o. full_right order fetched os code values table h own limit noted direct target s (suc k) fs seen names t to w x.told (let r : length fetched ≡ s.at + 0 = x.reached in omega (arith, r)) o.0 o.1 et x.spot.2 x.rest)
+        (λ o. full_right order fetched os code values table h own limit noted direct target s (suc k) fs seen names t to w x.told
+        (let r : length fetched ≡ s.at + 0 = x.reached in omega (arith, r)) o.0 o.1 et x.spot.2 x.rest)
     opened_right def.Context et formed inner fine x =
         at_first op.Context (op.Ret ∷ []) x.spot.2
-        (λ o. context_right order fetched os code values table h own limit noted direct target s (suc k) fs seen names t et w x.told (let r : length fetched ≡ s.at + 0 = x.reached in omega (arith, r)) x.spot.2 o.0 o.1 x.rest)
+        (λ o. context_right order fetched os code values table h own limit noted direct target s (suc k) fs seen names t et w x.told
+        (let r : length fetched ≡ s.at + 0 = x.reached in omega (arith, r)) x.spot.2 o.0 o.1 x.rest)
     opened_right (def.Pipe elem) et formed inner fine x = absurd formed
 
-    offset_read_right : (d : TypeDef) (max elem o : ℕ) (e : TypeId) (bound : Option ℕ) → d ≡ def.Array e bound true → type_at table t ≡ Some d → elem ≡ e.0 → max ≡ bound_or bound s.max → IsRunAt code s.pc (body_run code table t d)
+    offset_read_right : (d : TypeDef) (max elem o : ℕ) (e : TypeId) (bound : Option ℕ) → d ≡ def.Array e bound true → type_at table t ≡ Some d → elem ≡ e.0 → max ≡ bound_or bound s.max
+        → IsRunAt code s.pc (body_run code table t d)
         → IsFine table (suc k) t → Here (suc k) fs (at_offset t d max elem o) → RightOf i
     offset_read_right d max elem o e bound ed et ee em run fine x = by_bound bound em
         (subst (λ y. type_at table t ≡ Some y) ed et) (subst (λ y. IsRunAt code s.pc (body_run code table t y)) ed run)
         (subst (λ y. Here (suc k) fs (at_offset t (def.Array e bound true) max y o)) ee (subst (λ y. Here (suc k) fs (at_offset t y max elem o)) ed x))
       where
         part_fine : (e : TypeId) (b : Option ℕ) → type_at table t ≡ Some (def.Array e b true) → IsFine table k e.0
-        part_fine e b et = let a : AllByRecursion (IsFine table k) (parts (Some (def.Array e b true))) = subst (λ y. AllByRecursion (IsFine table k) (parts (Some y))) (same_Some fine.of (def.Array e b true) (sym fine.is_there ∙ et)) fine.inner in a.0
+        part_fine e b et = let a : AllByRecursion (IsFine table k) (parts (Some (def.Array e b true))) =
+            subst (λ y. AllByRecursion (IsFine table k) (parts (Some y))) (same_Some fine.of (def.Array e b true) (sym fine.is_there ∙ et)) fine.inner in a.0
 
         by_bound : (b : Option ℕ) → max ≡ bound_or b s.max → type_at table t ≡ Some (def.Array e b true) → IsRunAt code s.pc (body_run code table t (def.Array e b true))
             → Here (suc k) fs (at_offset t (def.Array e b true) max e.0 o) → RightOf i
@@ -273,34 +294,41 @@ module _ (order : Order) (fetched os : List ℕ) (code : List Instr) (values : L
             at_first (op.Vary m (place_at table e.0)) (op.Ret ∷ []) run
             (λ u. subst (λ ph. Right (vary_items order h os ph s) (vary_by values order os ph m (place_at table e.0) s)) (sym x.phase)
             (subst (λ y. Right (vary_items order h os (offset_read o) s) (vary_by values order os (offset_read o) y (place_at table e.0) s)) em
-            (count_right order fetched os code values table h own limit noted direct target planned s k fs seen names t fine w (let r : length fetched ≡ s.at + 0 = x.reached in omega (arith, r)) u.0 u.1 e (Some m) max o et
+            (count_right order fetched os code values table h own limit noted direct target planned s k fs seen names t fine w
+            (let r : length fetched ≡ s.at + 0 = x.reached in omega (arith, r)) u.0 u.1 e (Some m) max o et
             (part_fine e (Some m) et) (next_at code s.pc (op.Vary m (place_at table e.0)) (op.Ret ∷ []) run) x.told x.rest)))
         by_bound None em et run x =
             at_first (op.Confvary (place_at table e.0)) (op.Ret ∷ []) run
             (λ u. subst (λ ph. Right (vary_items order h os ph s) (vary_by values order os ph s.max (place_at table e.0) s)) (sym x.phase)
             (subst (λ y. Right (vary_items order h os (offset_read o) s) (vary_by values order os (offset_read o) y (place_at table e.0) s)) em
-            (count_right order fetched os code values table h own limit noted direct target planned s k fs seen names t fine w (let r : length fetched ≡ s.at + 0 = x.reached in omega (arith, r)) u.0 u.1 e None max o et
+            (count_right order fetched os code values table h own limit noted direct target planned s k fs seen names t fine w
+            (let r : length fetched ≡ s.at + 0 = x.reached in omega (arith, r)) u.0 u.1 e None max o et
             (part_fine e None et) (next_at code s.pc (op.Confvary (place_at table e.0)) (op.Ret ∷ []) run) x.told x.rest)))
 
-    text_offset_read : (max : ℕ) (elem : TypeId) (bound : Option ℕ) → type_at table t ≡ Some (def.Text elem bound) → bound ≢ Some 0 → max ≡ bound_or bound s.max → IsRunAt code s.pc (body_run code table t (def.Text elem bound))
+    text_offset_read : (max : ℕ) (elem : TypeId) (bound : Option ℕ) → type_at table t ≡ Some (def.Text elem bound) → bound ≢ Some 0 → max ≡ bound_or bound s.max
+        → IsRunAt code s.pc (body_run code table t (def.Text elem bound))
         → IsFine table (suc k) t → Here (suc k) fs (text_offset t max) → RightOf i
     text_offset_read max elem bound et some_bound em run fine x =
         at_first (op.Text (text_bound bound)) (op.Ret ∷ []) run
         (subst (λ ph. HasOctets (text_want values ph) os s.at → Right (text_items order h os ph s) (text_by values order os ph (limit_of (text_bound bound) s) s)) (sym x.phase)
         (λ o. subst (λ y. Right (text_items order h os (offset_read 0) s) (text_by values order os (offset_read 0) y s)) (em ∙ sym (not_none bound s some_bound))
-        (text_count_right order fetched os code values table h own limit noted direct target planned s k fs seen names t fine w (let r : length fetched ≡ s.at + 0 = x.reached in omega (arith, r)) o.0 o.1 elem bound max et some_bound em run x.told x.rest)))
+        (text_count_right order fetched os code values table h own limit noted direct target planned s k fs seen names t fine w
+        (let r : length fetched ≡ s.at + 0 = x.reached in omega (arith, r)) o.0 o.1 elem bound max et some_bound em run x.told x.rest)))
 
-    text_count_read : (max c : ℕ) (elem : TypeId) (bound : Option ℕ) → type_at table t ≡ Some (def.Text elem bound) → bound ≢ Some 0 → max ≡ bound_or bound s.max → IsRunAt code s.pc (body_run code table t (def.Text elem bound))
+    text_count_read : (max c : ℕ) (elem : TypeId) (bound : Option ℕ) → type_at table t ≡ Some (def.Text elem bound) → bound ≢ Some 0 → max ≡ bound_or bound s.max
+        → IsRunAt code s.pc (body_run code table t (def.Text elem bound))
         → IsFine table (suc k) t → Here (suc k) fs (text_counted t max c) → RightOf i
     text_count_read max c elem bound et some_bound em run fine x =
         at_first (op.Text (text_bound bound)) (op.Ret ∷ []) run
         (subst (λ ph. HasOctets (text_want values ph) os s.at → Right (text_items order h os ph s) (text_by values order os ph (limit_of (text_bound bound) s) s)) (sym x.phase)
         (λ o. subst (λ y. Right (text_items order h os (count_read c) s) (text_by values order os (count_read c) y s)) (em ∙ sym (not_none bound s some_bound))
-        (text_right order fetched os code values table h own limit noted direct target planned s k fs seen names t fine w (let r : length fetched ≡ s.at + 0 = x.reached in omega (arith, r)) elem bound max c et
+        (text_right order fetched os code values table h own limit noted direct target planned s k fs seen names t fine w
+        (let r : length fetched ≡ s.at + 0 = x.reached in omega (arith, r)) elem bound max c et
         (next_at code s.pc (op.Text (text_bound bound)) (op.Ret ∷ []) run) o.0 o.1 x.told x.rest)))
 
     -- a union whose tag was read
-    tag_read : (form : TagForm) (arms : List Arm) (default : Option Arm) (z : ℤ) (tag : TypeId) (enc : Bool) → type_at table t ≡ Some (def.Union tag enc arms default) → IsTagForm (type_at table tag.0) form
+    tag_read : (form : TagForm) (arms : List Arm) (default : Option Arm) (z : ℤ) (tag : TypeId) (enc : Bool) → type_at table t ≡ Some (def.Union tag enc arms default)
+        → IsTagForm (type_at table tag.0) form
         → (passed left : List Arm) → arms ≡ passed ++ left → AllByRecursion (λ (a : Arm). int_eq a.label z ≡ false) passed
         → IsRunAt code s.pc (arms_code (place_at table) left ++ default_code (place_at table) default) → IsFine table (suc k) t
         → Here (suc k) fs (tagged t (def.Union tag enc arms default) form arms default z) → RightOf i
@@ -313,18 +341,21 @@ module _ (order : Order) (fetched os : List ℕ) (code : List Instr) (values : L
         by_default (Some a) ed all run =
             at_first (op.Other (arm_run (place_at table) a.of)) [] run
             (λ e. no_octets_with (tag_items h s) (step values order os (op.Other (arm_run (place_at table) a.of)) s) e
-            (other_right order fetched code values table h own limit noted direct target planned s k fs seen names t tag enc arms default form z et is_form fine inner w x.told x.reached x.phase x.holds x.registers.0 x.registers.1 x.rest passed a all ed others))
+            (other_right order fetched code values table h own limit noted direct target planned s k fs seen names t tag enc arms default form z et is_form fine inner w x.told x.reached x.phase
+            x.holds x.registers.0 x.registers.1 x.rest passed a all ed others))
         by_default None ed all run =
             at_first op.Noarm [] run
             (λ e. no_octets_with [] (step values order os op.Noarm s) e
-            (noarm_right order fetched code values table h own limit noted direct target planned s k fs seen names t tag enc arms default form z et is_form fine inner w x.told x.reached x.phase x.holds x.registers.0 x.registers.1 x.rest passed all ed others))
+            (noarm_right order fetched code values table h own limit noted direct target planned s k fs seen names t tag enc arms default form z et is_form fine inner w x.told x.reached x.phase
+            x.holds x.registers.0 x.registers.1 x.rest passed all ed others))
 
         by_left : (left : List Arm) → arms ≡ passed ++ left → IsRunAt code s.pc (arms_code (place_at table) left ++ default_code (place_at table) default) → RightOf i
         by_left [] all run = by_default default refl all run
         by_left (a ∷ left) all run =
             at_first (op.Arm a.label (arm_run (place_at table) a.of)) (arms_code (place_at table) left ++ default_code (place_at table) default) run
             (λ e. no_octets_with (arm_items h a.label s) (step values order os (op.Arm a.label (arm_run (place_at table) a.of)) s) e
-            (arm_right order fetched code values table h own limit noted direct target planned s k fs seen names t tag enc arms default form z et is_form fine inner w x.told x.reached x.phase x.holds x.registers.0 x.registers.1 x.rest passed left a all others run))
+            (arm_right order fetched code values table h own limit noted direct target planned s k fs seen names t tag enc arms default form z et is_form fine inner w x.told x.reached x.phase x.holds
+            x.registers.0 x.registers.1 x.rest passed left a all others run))
 
   -- ## The checks of a struct
 
@@ -337,11 +368,13 @@ module _ (order : Order) (fetched os : List ℕ) (code : List Instr) (values : L
     closes so_far es run owes rest =
         at_first op.Close (op.Ret ∷ []) run
         (λ e. no_octets_right (step values order os op.Close s) e
-        (close_right order fetched code values table h own limit noted direct target planned s k fs seen names f members so_far all.back all.start all.outer all.under all.deep all.is run es all.top_is all.stack_is all.inside all.begin all.fits all.tied
+        (close_right order fetched code values table h own limit noted direct target planned s k fs seen names f members so_far all.back all.start all.outer all.under all.deep all.is run es
+        all.top_is all.stack_is all.inside all.begin all.fits all.tied
         all.nodes all.here_it all.none_left all.numbered all.members_are owes all.many all.kept all.first all.told all.reached rest))
 
     -- some attributes of a member are left, and those of the members after it
-    checks_right : (later : List Field) (xs ys : Trees) (x : Tree) (done : List Field) (g : Field) (tried_ left : List AttrVar) → members ≡ done ++ g ∷ later → f.done ≡ joined xs (more x ys) → count xs ≡ length done
+    checks_right : (later : List Field) (xs ys : Trees) (x : Tree) (done : List Field) (g : Field) (tried_ left : List AttrVar) → members ≡ done ++ g ∷ later → f.done ≡ joined xs (more x ys)
+        → count xs ≡ length done
         → g.vars ≡ tried_ ++ left → IsRunAt code s.pc ((field_checks (length done) left ++ member_checks (length done + 1) later) ++ (op.Close ∷ op.Ret ∷ []))
         → s.fresh ≡ map (owed table) (pointers_around table h fs
         ++ governed_pointers table h f.before (map (λ p. member_agreements f.done p.vars) done ++ member_agreements f.done tried_ ∷ []) (f.node + 1) f.done)
@@ -390,7 +423,8 @@ module _ (order : Order) (fetched os : List ℕ) (code : List Instr) (values : L
         ∙ sym (governed_longer table h f.before (map (λ p. member_agreements f.done p.vars) (done ++ g ∷ [])) (f.node + 1) f.done)))
         (λ after.
         ap (λ ts. finish order (fetched ++ after) table h s.max (suc k) fs (tried order (fetched ++ after) table h f f.done ts (going s.at seen) names))
-        (sym (ap (λ ts. ts ++ child_tests h (map (λ p. member_agreements f.done p.vars) (g' ∷ later)) (f.node + 1 + node_count xs + tree_nodes x) (more x' ys)) (no_agreement (is_pointer l) h (f.node + 1 + node_count xs) x)
+        (sym (ap (λ ts. ts ++ child_tests h (map (λ p. member_agreements f.done p.vars) (g' ∷ later)) (f.node + 1 + node_count xs + tree_nodes x) (more x' ys))
+        (no_agreement (is_pointer l) h (f.node + 1 + node_count xs) x)
         ∙ ap₂ (λ m n. own_tests (is_pointer l') h m x' (member_agreements f.done g'.vars) ++ child_tests h (map (λ p. member_agreements f.done p.vars) later) n ys) at_next at_last))
         ∙ rest after)
 
@@ -439,8 +473,10 @@ module _ (order : Order) (fetched os : List ℕ) (code : List Instr) (values : L
     between_right members (y ∷ ys) is run x =
         at_first (op.Call (place_at table y.of.0)) (rest_run code table members ys) run
         (λ e. no_octets_right (step values order os (op.Call (place_at table y.of.0)) s) e
-        (call_right order fetched code values table h own limit noted direct target planned s k fs seen names f members y ys x.inside.0.0 x.inside.0.1 x.inside.1.0 x.inside.1.1.0 x.phase x.deep is run x.inside.0.2 x.inside.1.1.1 x.inside.1.1.2 x.begin
-        x.fits.0 x.fits.1 x.tied x.nodes x.numbered.0 x.numbered.1 x.numbered.2 x.members x.pending x.many x.kept x.first x.told (let r : length fetched ≡ s.at + 0 = x.reached in omega (arith, r)) x.rest))
+        (call_right order fetched code values table h own limit noted direct target planned s k fs seen names f members y ys x.inside.0.0 x.inside.0.1 x.inside.1.0 x.inside.1.1.0 x.phase x.deep is
+        run x.inside.0.2 x.inside.1.1.1 x.inside.1.1.2 x.begin
+        x.fits.0 x.fits.1 x.tied x.nodes x.numbered.0 x.numbered.1 x.numbered.2 x.members x.pending x.many x.kept x.first x.told
+        (let r : length fetched ≡ s.at + 0 = x.reached in omega (arith, r)) x.rest))
     between_right members [] is run x =
         let none_left : f.left ≡ [] = is.left in
         let all_read : IsStruct code table f [] members [] = record {
@@ -519,12 +555,15 @@ module _ (order : Order) (fetched os : List ℕ) (code : List Instr) (values : L
   ends_right depth [] t v run x =
       at_first op.Ret [] run
       (λ e. no_octets_right (step values order os op.Ret s) e
-      (end_right order fetched code values table h own limit noted direct target planned s seen names t v x.kept x.first x.many x.told (let r : length fetched ≡ s.at + 0 = x.reached in omega (arith, r)) x.inside.0 x.nodes x.tied x.pending x.rest))
+      (end_right order fetched code values table h own limit noted direct target planned s seen names t v x.kept x.first x.many x.told
+      (let r : length fetched ≡ s.at + 0 = x.reached in omega (arith, r)) x.inside.0 x.nodes x.tied x.pending x.rest))
   ends_right depth (f ∷ fs) t v run x =
       at_first op.Ret [] run
       (λ e. no_octets_right (step values order os op.Ret s) e
-      (back_right order fetched code values table h own limit noted direct target planned s seen names t v x.kept x.first x.many x.told (let r : length fetched ≡ s.at + 0 = x.reached in omega (arith, r))
-      depth fs f x.inside.1.0 x.inside.1.1.0 (shallower depth (length fs) limit x.deep) x.inside.1.1.1 x.inside.1.1.2 x.spot.1 x.begin x.fits.0 x.fits.1 x.tied x.nodes x.numbered x.members x.pending x.rest s.top x.inside.0 refl))
+      (back_right order fetched code values table h own limit noted direct target planned s seen names t v x.kept x.first x.many x.told
+      (let r : length fetched ≡ s.at + 0 = x.reached in omega (arith, r))
+      depth fs f x.inside.1.0 x.inside.1.1.0
+      (shallower depth (length fs) limit x.deep) x.inside.1.1.1 x.inside.1.1.2 x.spot.1 x.begin x.fits.0 x.fits.1 x.tied x.nodes x.numbered x.members x.pending x.rest s.top x.inside.0 refl))
 
   has_right : (depth : ℕ) (fs : List Around) (t : ℕ) (v : Tree) → Here depth fs (has t v) → RightOf i
   has_right depth fs t v x = by_end x.spot.0
@@ -569,25 +608,110 @@ module _ (order : Order) (fetched os : List ℕ) (code : List Instr) (values : L
   point_right depth [] (called t) x = called_right depth t x
   point_right depth (f ∷ fs) (called t) x = absurd (no_frames f fs x.fits)
   point_right zero fs (due t) x = absurd x.spot.0
-  point_right (suc k) fs (due t) x = due_right k fs t (record { deep = x.deep; inside = x.inside; begin = x.begin; fits = x.fits; tied = x.tied; nodes = x.nodes; numbered = x.numbered; members = x.members; pending = x.pending; many = x.many; kept = x.kept; first = x.first }) x
+  point_right (suc k) fs (due t) x =
+      due_right k fs t
+      (record {
+        deep = x.deep;
+        inside = x.inside;
+        begin = x.begin;
+        fits = x.fits;
+        tied = x.tied;
+        nodes = x.nodes;
+        numbered = x.numbered;
+        members = x.members;
+        pending = x.pending;
+        many = x.many;
+        kept = x.kept;
+        first = x.first;
+      }) x
   point_right zero fs (opened t d) x = absurd x.spot.0
   point_right (suc k) fs (opened t d) x =
       let fine : IsFine table (suc k) t = x.spot.0 in
       let same : fine.of ≡ d = same_Some fine.of d (sym fine.is_there ∙ x.spot.1) in
-      opened_right k fs t (record { deep = x.deep; inside = x.inside; begin = x.begin; fits = x.fits; tied = x.tied; nodes = x.nodes; numbered = x.numbered; members = x.members; pending = x.pending; many = x.many; kept = x.kept; first = x.first }) d x.spot.1 (subst (IsFormed table t) same fine.formed) (subst (λ y. AllByRecursion (IsFine table k) (parts (Some y))) same fine.inner) fine x
+      opened_right k fs t
+      (record {
+        deep = x.deep;
+        inside = x.inside;
+        begin = x.begin;
+        fits = x.fits;
+        tied = x.tied;
+        nodes = x.nodes;
+        numbered = x.numbered;
+        members = x.members;
+        pending = x.pending;
+        many = x.many;
+        kept = x.kept;
+        first = x.first;
+      }) d x.spot.1 (subst (IsFormed table t) same fine.formed) (subst (λ y. AllByRecursion (IsFine table k) (parts (Some y))) same fine.inner) fine x
   point_right zero fs (at_offset t d max elem o) x = absurd x.spot.0
   point_right (suc k) fs (at_offset t d max elem o) x =
-      offset_read_right k fs t (record { deep = x.deep; inside = x.inside; begin = x.begin; fits = x.fits; tied = x.tied; nodes = x.nodes; numbered = x.numbered; members = x.members; pending = x.pending; many = x.many; kept = x.kept; first = x.first }) d max elem o x.spot.1.0 x.spot.1.1 x.spot.1.2 x.spot.1.3 x.spot.1.4 x.spot.1.5 x.spot.1.6 x.spot.0 x
+      offset_read_right k fs t
+      (record {
+        deep = x.deep;
+        inside = x.inside;
+        begin = x.begin;
+        fits = x.fits;
+        tied = x.tied;
+        nodes = x.nodes;
+        numbered = x.numbered;
+        members = x.members;
+        pending = x.pending;
+        many = x.many;
+        kept = x.kept;
+        first = x.first;
+      }) d max elem o x.spot.1.0 x.spot.1.1 x.spot.1.2 x.spot.1.3 x.spot.1.4 x.spot.1.5 x.spot.1.6 x.spot.0 x
   point_right zero fs (text_offset t max) x = absurd x.spot.0
   point_right (suc k) fs (text_offset t max) x =
-      text_offset_read k fs t (record { deep = x.deep; inside = x.inside; begin = x.begin; fits = x.fits; tied = x.tied; nodes = x.nodes; numbered = x.numbered; members = x.members; pending = x.pending; many = x.many; kept = x.kept; first = x.first }) max x.spot.1.0 x.spot.1.1 x.spot.1.2 x.spot.1.3 x.spot.1.4 x.spot.1.5 x.spot.0 x
+      text_offset_read k fs t
+      (record {
+        deep = x.deep;
+        inside = x.inside;
+        begin = x.begin;
+        fits = x.fits;
+        tied = x.tied;
+        nodes = x.nodes;
+        numbered = x.numbered;
+        members = x.members;
+        pending = x.pending;
+        many = x.many;
+        kept = x.kept;
+        first = x.first;
+      }) max x.spot.1.0 x.spot.1.1 x.spot.1.2 x.spot.1.3 x.spot.1.4 x.spot.1.5 x.spot.0 x
   point_right zero fs (text_counted t max c) x = absurd x.spot.0
   point_right (suc k) fs (text_counted t max c) x =
-      text_count_read k fs t (record { deep = x.deep; inside = x.inside; begin = x.begin; fits = x.fits; tied = x.tied; nodes = x.nodes; numbered = x.numbered; members = x.members; pending = x.pending; many = x.many; kept = x.kept; first = x.first }) max c x.spot.1.0 x.spot.1.1 x.spot.1.2 x.spot.1.3 x.spot.1.4 x.spot.1.5 x.spot.0 x
+      text_count_read k fs t
+      (record {
+        deep = x.deep;
+        inside = x.inside;
+        begin = x.begin;
+        fits = x.fits;
+        tied = x.tied;
+        nodes = x.nodes;
+        numbered = x.numbered;
+        members = x.members;
+        pending = x.pending;
+        many = x.many;
+        kept = x.kept;
+        first = x.first;
+      }) max c x.spot.1.0 x.spot.1.1 x.spot.1.2 x.spot.1.3 x.spot.1.4 x.spot.1.5 x.spot.0 x
   point_right zero fs (tagged t d form arms default z) x = absurd x.spot.0
   point_right (suc k) fs (tagged t d form arms default z) x =
       let same : d ≡ def.Union x.spot.1.0 x.spot.1.1 arms default = x.spot.1.2 in
-      tag_read k fs t (record { deep = x.deep; inside = x.inside; begin = x.begin; fits = x.fits; tied = x.tied; nodes = x.nodes; numbered = x.numbered; members = x.members; pending = x.pending; many = x.many; kept = x.kept; first = x.first }) form arms default z x.spot.1.0 x.spot.1.1 (x.spot.1.3 ∙ ap Some same) x.spot.1.4 x.spot.1.5.0 x.spot.1.5.1 x.spot.1.5.2 x.spot.1.5.3 x.spot.1.5.4 x.spot.0
+      tag_read k fs t
+      (record {
+        deep = x.deep;
+        inside = x.inside;
+        begin = x.begin;
+        fits = x.fits;
+        tied = x.tied;
+        nodes = x.nodes;
+        numbered = x.numbered;
+        members = x.members;
+        pending = x.pending;
+        many = x.many;
+        kept = x.kept;
+        first = x.first;
+      }) form arms default z x.spot.1.0 x.spot.1.1 (x.spot.1.3 ∙ ap Some same) x.spot.1.4 x.spot.1.5.0 x.spot.1.5.1 x.spot.1.5.2 x.spot.1.5.3 x.spot.1.5.4 x.spot.0
       (subst (λ y. Here (suc k) fs (tagged t y form arms default z)) same x)
   point_right zero fs (between f) x = absurd x.fits
   point_right (suc k) fs (between f) x = between_right k fs f x.spot.0 x.spot.1 x.spot.2 x.spot.3 x
@@ -596,7 +720,8 @@ module _ (order : Order) (fetched os : List ℕ) (code : List Instr) (values : L
   point_right depth fs (has t v) x = has_right depth fs t v x
 
 -- One step, at the instruction where the decoder is and with the octets that it wants, is right.
-pub step_right : (order : Order) (fetched os : List ℕ) (code : List Instr) (values : List EnumList) (table : Table) (h : Home) (own limit : ℕ) (noted : List Item) (direct : ℕ) (target : List ℕ → Read) → IsPlanned code values table
+pub step_right : (order : Order) (fetched os : List ℕ) (code : List Instr) (values : List EnumList) (table : Table) (h : Home) (own limit : ℕ) (noted : List Item) (direct : ℕ)
+    (target : List ℕ → Read) → IsPlanned code values table
     → (s : State) (g : Good order fetched code table h own limit noted direct target s) (i : Instr) → slice_get code s.pc ≡ Some i → HasOctets (wants values i s) os s.at
     → IsRight order (fetched ++ os) code table h own limit (noted ++ step_items order h os i s) direct target s.at g.seen (step values order os i s)
 step_right order fetched os code values table h own limit noted direct target planned s g i at_pc has_octets =

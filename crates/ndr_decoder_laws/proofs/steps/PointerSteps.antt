@@ -120,7 +120,8 @@ module _ (order : Order) (octets : List ℕ) (table : Table) (h : Home) (k m : �
 
 module _ (order : Order) (fetched os : List ℕ) (code : List Instr) (values : List EnumList) (table : Table) (h : Home) (own limit : ℕ) (noted : List Item) (direct : ℕ) (target : List ℕ → Read)
     (s : State) (depth : ℕ) (fs : List Around) (seen : List EntryAt) (names : Names) (t : ℕ) (to : TypeId) (w : Within code table h own limit seen depth fs t (parts_of s))
-    (told : Told noted direct order fetched h seen names s.cells s.numbers s.max_at (length s.nodes) []) (reached : length fetched ≡ s.at) (size : length os ≡ 4) (short : s.at + 4 ≤ STREAM_LIMIT) where
+    (told : Told noted direct order fetched h seen names s.cells s.numbers s.max_at (length s.nodes) []) (reached : length fetched ≡ s.at) (size : length os ≡ 4)
+    (short : s.at + 4 ≤ STREAM_LIMIT) where
   abbrev n : ℕ
   n = length (nodes_around fs)
 
@@ -149,14 +150,18 @@ module _ (order : Order) (fetched os : List ℕ) (code : List Instr) (values : L
 
   -- a pointer whose number was read and names this cell, or none
   leaf : (class : Class) → type_at table t ≡ Some (def.Pointer class to) → IsRunAt code s.pc (op.Pointer class to (whole_at table to.0) ∷ op.Ret ∷ [])
-      → ((later : List ℕ) → finish order ((fetched ++ os) ++ later) table h s.max depth fs (pointer_after order ((fetched ++ os) ++ later) table h class to.0 n (going s.at seen) names) ≡ target ((fetched ++ os) ++ later))
+      → ((later : List ℕ)
+      → finish order ((fetched ++ os) ++ later) table h s.max depth fs (pointer_after order ((fetched ++ os) ++ later) table h class to.0 n (going s.at seen) names)
+      ≡ target ((fetched ++ os) ++ later))
       → (c : Option ℕ) (names' : Names) (cells : List ℕ) (numbers : List (ℕ × Known))
       → ((later : List ℕ) (d : Option ℕ) → refusal order ((fetched ++ os) ++ later) seen (at_it class d) ≡ None)
       → named class to.0 (Some os) v names ≡ record { cell = c; names = names' }
       → Told (noted ++ news) direct order (fetched ++ os) h (seen ++ at_it class c ∷ []) names' cells numbers s.max_at (length s.nodes) []
-      → Good order (fetched ++ os) code table h own limit (noted ++ news) direct target (after_leaf (parts_of s) (s.pc + 1) (s.at + 4) s.max s.tag s.carrier (owed_now class c) cells numbers (tree.Ptr c, 0) None)
+      → Good order (fetched ++ os) code table h own limit (noted ++ news) direct target
+      (after_leaf (parts_of s) (s.pc + 1) (s.at + 4) s.max s.tag s.carrier (owed_now class c) cells numbers (tree.Ptr c, 0) None)
   leaf class et run rest c names' cells numbers judge it told' =
-      leaf_good order (fetched ++ os) code table h own limit (noted ++ news) direct target (parts_of s) (s.pc + 1) (s.at + 4) s.max s.tag s.carrier (owed_now class c) cells numbers (tree.Ptr c) None [] (seen ++ at_it class c ∷ []) names' depth fs t
+      leaf_good order (fetched ++ os) code table h own limit (noted ++ news) direct target (parts_of s) (s.pc + 1) (s.at + 4) s.max s.tag s.carrier (owed_now class c) cells numbers
+      (tree.Ptr c) None [] (seen ++ at_it class c ∷ []) names' depth fs t
       (within_passed code table h own limit seen depth fs t (parts_of s) (at_it class c) (λ a j l. silent a h j (at_it class c) tt) w)
       (none_found order (fetched ++ os) h (seen ++ at_it class c ∷ []) names' cells numbers s.max_at (length s.nodes) [] told')
       told'
@@ -171,7 +176,8 @@ module _ (order : Order) (fetched os : List ℕ) (code : List Instr) (values : L
       let read : Named → Progress → Read = λ j q. record { tree = node (tree.Ptr j.cell) none; progress = q; names = j.names } in
       let it_of : Option (List ℕ) → Named = λ o. named class to.0 o (number_in order octets o) names in
       ap (finish order octets table h s.max depth fs)
-      (sym (ap (λ o. read (it_of o) (pass order octets (entry_of class (it_of o).cell) (going s.at seen))) (taken_it order fetched os later s.at reached (entry_of class None) seen (sym size) (judge later None))
+      (sym (ap (λ o. read (it_of o) (pass order octets (entry_of class (it_of o).cell) (going s.at seen)))
+      (taken_it order fetched os later s.at reached (entry_of class None) seen (sym size) (judge later None))
       ∙ ap (λ j. read j (pass order octets (entry_of class j.cell) (going s.at seen))) it
       ∙ ap (λ q. record { tree = node (tree.Ptr c) none; progress = q; names = names' }) (passed order octets (entry_of class c) s.at seen (judge later c))))
       ∙ rest later)
@@ -230,14 +236,18 @@ module _ (order : Order) (fetched os : List ℕ) (code : List Instr) (values : L
       judge : (later : List ℕ) (d : Option ℕ) → refusal order ((fetched ++ os) ++ later) seen (at_it Unique d) ≡ None
       judge later d = judged order fetched os later s.at reached (entry_of Unique d) seen (sym size) (no_less STREAM_LIMIT (s.at + 4) short)
 
-      on_it : (later : List ℕ) → finish order ((fetched ++ os) ++ later) table h s.max depth fs (pointer_after order ((fetched ++ os) ++ later) table h Unique to.0 n (going s.at seen) names) ≡ target ((fetched ++ os) ++ later)
+      on_it : (later : List ℕ)
+          → finish order ((fetched ++ os) ++ later) table h s.max depth fs (pointer_after order ((fetched ++ os) ++ later) table h Unique to.0 n (going s.at seen) names)
+          ≡ target ((fetched ++ os) ++ later)
       on_it = onward fetched os (λ o. finish order o table h s.max depth fs (pointer_after order o table h Unique to.0 n (going s.at seen) names) ≡ target o) rest
 
       it : (b : Bool) → eqb v 0 ≡ b → named Unique to.0 (Some os) v names ≡ cond b (record { cell = None; names = names }) (record { cell = Some (fresh to.0 names); names = with_cell to.0 names })
       it b e = ap (λ c. cond c (record { cell = None; names = names }) (record { cell = Some (fresh to.0 names); names = with_cell to.0 names })) e
 
       by_null : (b : Bool) → eqb v 0 ≡ b → Right (goes (done_after 4 (if b then owing Unique to (whole_at table to.0) None s else new_cell Unique to (whole_at table to.0) s)))
-      by_null true e = leaf Unique et run on_it None names s.cells s.numbers judge (it true e) (told_silent Unique None (λ u to' p. refl) names s.cells refl told.cells_are (none_named seen s.numbers (length s.cells) direct told.cells_named (at_it Unique None) refl))
+      by_null true e =
+          leaf Unique et run on_it None names s.cells s.numbers judge (it true e)
+          (told_silent Unique None (λ u to' p. refl) names s.cells refl told.cells_are (none_named seen s.numbers (length s.cells) direct told.cells_named (at_it Unique None) refl))
       by_null false e =
           leaf Unique et run on_it (Some (length s.cells + 1)) (with_cell to.0 names) (s.cells ++ to.0 ∷ []) s.numbers judge
           (it false e ∙ ap (λ j. record { cell = Some (j + 1); names = with_cell to.0 names }) (sym as_many))
@@ -248,7 +258,9 @@ module _ (order : Order) (fetched os : List ℕ) (code : List Instr) (values : L
       → Right (pointer_step Full to (whole_at table to.0) v s)
   full_right et run rest = by_null (eqb v 0) refl
     where
-      on_it : (later : List ℕ) → finish order ((fetched ++ os) ++ later) table h s.max depth fs (pointer_after order ((fetched ++ os) ++ later) table h Full to.0 n (going s.at seen) names) ≡ target ((fetched ++ os) ++ later)
+      on_it : (later : List ℕ)
+          → finish order ((fetched ++ os) ++ later) table h s.max depth fs (pointer_after order ((fetched ++ os) ++ later) table h Full to.0 n (going s.at seen) names)
+          ≡ target ((fetched ++ os) ++ later)
       on_it = onward fetched os (λ o. finish order o table h s.max depth fs (pointer_after order o table h Full to.0 n (going s.at seen) names) ≡ target o) rest
 
       -- whether the number is that of another type is settled by what was fetched before
@@ -350,11 +362,13 @@ module _ (order : Order) (fetched os : List ℕ) (code : List Instr) (values : L
           let was : IsKnownAs order fetched seen names v (Some k) = subst (IsKnownAs order fetched seen names v) ek (told.numbers_are v (not_null v e)) in
           let same_type : is_other order fetched seen v to.0 ≡ false = was.1 to.0 ∙ ap not f in
           leaf Full et run on_it (Some k.cell.0) names s.cells s.numbers (judge false false e same_type) (it false (Some k.cell.0) e was.0)
-          (told_with (Some k.cell.0) names s.cells s.numbers told.cells_are (known_named seen s.numbers (length s.cells) direct told.cells_named (at_it Full (Some k.cell.0)) v k ek refl) (λ u p. met k ek e f u p (eqb v u) refl))
+          (told_with (Some k.cell.0) names s.cells s.numbers told.cells_are (known_named seen s.numbers (length s.cells) direct told.cells_named (at_it Full (Some k.cell.0)) v k ek refl)
+          (λ u p. met k ek e f u p (eqb v u) refl))
       by_type k ek e false f = λ later.
           let was : IsKnownAs order fetched seen names v (Some k) = subst (IsKnownAs order fetched seen names v) ek (told.numbers_are v (not_null v e)) in
           let other_type : is_other order fetched seen v to.0 ≡ true = was.1 to.0 ∙ ap not f in
-          (pointer_next order ((fetched ++ os) ++ later) table h depth s.max fs n s.at seen names (target ((fetched ++ os) ++ later)) Full to.0 (on_it later)) (s.at, reason.OtherType) (judge false true e other_type later None)
+          (pointer_next order ((fetched ++ os) ++ later) table h depth s.max fs n s.at seen names (target ((fetched ++ os) ++ later)) Full to.0 (on_it later)) (s.at, reason.OtherType)
+          (judge false true e other_type later None)
 
       by_known : (o : Option Known) → known v s.numbers ≡ o → eqb v 0 ≡ false → Right (full_by o v to (whole_at table to.0) s)
       by_known (Some k) ek e = by_type k ek e (eqb k.of.0 to.0) refl
@@ -372,4 +386,5 @@ module _ (order : Order) (fetched os : List ℕ) (code : List Instr) (values : L
       by_null false e = by_known (known v s.numbers) refl e
       by_null true e =
           leaf Full et run on_it None names s.cells s.numbers (judge true (is_other order fetched seen v to.0) e refl) (it true (numbered names.numbers v) e refl)
-          (told_with None names s.cells s.numbers told.cells_are (none_named seen s.numbers (length s.cells) direct told.cells_named (at_it Full None) refl) (λ u p. other_number None u p (not_zero v u e p)))
+          (told_with None names s.cells s.numbers told.cells_are (none_named seen s.numbers (length s.cells) direct told.cells_named (at_it Full None) refl)
+          (λ u p. other_number None u p (not_zero v u e p)))

@@ -67,7 +67,8 @@ get_taken (y ∷ xs) zero i x e = cc
 get_taken (y ∷ xs) (suc n) zero x e = e
 get_taken (y ∷ xs) (suc n) (suc i) x e = get_taken xs n i x e
 
-module _ (order : Order) (fetched : List ℕ) (code : List Instr) (values : List EnumList) (table : Table) (h : Home) (own limit : ℕ) (noted : List Item) (direct : ℕ) (target : List ℕ → Read) (planned : IsPlanned code values table) where
+module _ (order : Order) (fetched : List ℕ) (code : List Instr) (values : List EnumList) (table : Table) (h : Home) (own limit : ℕ) (noted : List Item) (direct : ℕ) (target : List ℕ → Read)
+    (planned : IsPlanned code values table) where
   abbrev Right : ℕ → List EntryAt → Outcome → Type 0
   Right at seen o = IsRight order fetched code table h own limit noted direct target at seen o
 
@@ -77,14 +78,16 @@ module _ (order : Order) (fetched : List ℕ) (code : List Instr) (values : List
       → Within code table h own limit seen (suc k) fs t (parts_of s) → Told noted direct order fetched h seen names s.cells s.numbers s.max_at (length s.nodes) [] → length fetched ≡ s.at
       → IsRunAt code s.pc (body_run code table t (def.Struct members))
       → ((later : List ℕ) → finish order (fetched ++ later) table h s.max (suc k) fs
-      (read_children order (fetched ++ later) table h (read_in_place order (fetched ++ later) table h k s.max) (Some (def.Struct members)) (length (nodes_around fs)) tree.Rec (types_of members) (going s.at seen) names)
+      (read_children order (fetched ++ later) table h (read_in_place order (fetched ++ later) table h k s.max) (Some (def.Struct members)) (length (nodes_around fs)) tree.Rec (types_of members)
+      (going s.at seen) names)
       ≡ target (fetched ++ later))
       → Right s.at seen (goes (next (pushed (frame.Record 0 (length s.members)) (with_node (tree.Rec, length members) None s))))
   struct_right s k fs seen names t members et inner w told reached run rest =
       let n : ℕ = length (nodes_around fs) in
       let f : Around = record { node = n; of = Some (def.Struct members); label = tree.Rec; done = none; next = n + 1; left = types_of members; typed = t; child = 0; before = [] } in
       let many : length members ≡ 0 + length (types_of members) = let e : length (types_of members) ≡ length members = length-map members (λ f. f.of.0) in omega (arith, e) in
-      let new = added code table h own limit seen (suc k) fs t (parts_of s) (tree.Rec, length members) None w (none_found order fetched h seen names s.cells s.numbers s.max_at (length s.nodes) [] told) in
+      let new =
+      added code table h own limit seen (suc k) fs t (parts_of s) (tree.Rec, length members) None w (none_found order fetched h seen names s.cells s.numbers s.max_at (length s.nodes) [] told) in
       record {
         depth = suc k;
         fs = fs;
@@ -92,7 +95,12 @@ module _ (order : Order) (fetched : List ℕ) (code : List Instr) (values : List
         seen = seen;
         names = names;
         deep = w.deep;
-        spot = (members, members, record { typed = et; of = refl; label = refl; left = refl; all = refl; many = refl; shaped = tt }, next_at code s.pc (op.Record (length members)) (rest_run code table members members) run);
+        spot = (
+          members,
+          members,
+          record { typed = et; of = refl; label = refl; left = refl; all = refl; many = refl; shaped = tt },
+          next_at code s.pc (op.Record (length members)) (rest_run code table members members) run,
+        );
         phase = refl;
         registers = tt;
         holds = tt;
@@ -113,7 +121,8 @@ module _ (order : Order) (fetched : List ℕ) (code : List Instr) (values : List
       }
 
   -- `call`: the next member of a struct
-  pub call_right : (s : State) (k : ℕ) (fs : List Around) (seen : List EntryAt) (names : Names) (f : Around) (members : List Field) (y : Field) (ys : List Field) (back start : ℕ) (outer : Frame) (under : List Frame)
+  pub call_right : (s : State) (k : ℕ) (fs : List Around) (seen : List EntryAt) (names : Names) (f : Around) (members : List Field) (y : Field) (ys : List Field) (back start : ℕ) (outer : Frame)
+      (under : List Frame)
       → s.phase ≡ begun → suc k + length fs ≡ limit → IsStruct code table f f.left members (y ∷ ys) → IsRunAt code s.pc (rest_run code table members (y ∷ ys))
       → s.top ≡ frame.Record back start → s.stack ≡ outer ∷ under → Inside code table outer under fs → BeginStruct table h s.top s.stack fs
       → AllByRecursion (IsFine table k) f.left → Fits code table (suc k) fs → Tied own f.typed fs
@@ -167,13 +176,15 @@ module _ (order : Order) (fetched : List ℕ) (code : List Instr) (values : List
       ∙ sym (ap (λ l. finish order (fetched ++ later) table h s.max (suc k) fs (continue order (fetched ++ later) table h s.max k (with_left f l) (going s.at seen) names)) is.left)
       ∙ rest later))
     where
-      one : (i : ℕ) (v : Member) (x : First) → slice_get s.firsts i ≡ Some x → (slice_get s.members i ≡ Some v) ⊎ ((i ≡ length s.members) × (record { node = length s.nodes; pending = length s.fresh } ≡ v))
+      one : (i : ℕ) (v : Member) (x : First) → slice_get s.firsts i ≡ Some x
+          → (slice_get s.members i ≡ Some v) ⊎ ((i ≡ length s.members) × (record { node = length s.nodes; pending = length s.fresh } ≡ v))
           → Kept h seen s.max_at s.nodes v.node x
       one i v x b (inl a) = kept i v x a b
       one i v x b (inr a) = let l : i < length s.firsts = slice_get_within s.firsts i x b in absurd (omega (arith, l, many, a.0))
 
   -- `close`: the end of a struct
-  pub close_right : (s : State) (k : ℕ) (fs : List Around) (seen : List EntryAt) (names : Names) (f : Around) (members : List Field) (so_far : List (List Agreement)) (back start : ℕ) (outer : Frame) (under : List Frame)
+  pub close_right : (s : State) (k : ℕ) (fs : List Around) (seen : List EntryAt) (names : Names) (f : Around) (members : List Field) (so_far : List (List Agreement)) (back start : ℕ) (outer : Frame)
+      (under : List Frame)
       → suc k + length fs ≡ limit → IsStruct code table f [] members [] → IsRunAt code s.pc (op.Close ∷ op.Ret ∷ [])
       → so_far ≡ map (λ g. member_agreements f.done g.vars) members
       → s.top ≡ frame.Record back start → s.stack ≡ outer ∷ under → Inside code table outer under fs → BeginStruct table h s.top s.stack fs

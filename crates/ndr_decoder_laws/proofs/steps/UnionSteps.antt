@@ -1,5 +1,6 @@
 -- Unions: the tag, and the arm that it selects.
-use Rattle.std.proofs.Common.{◌≡◌, ◌≤◌, inl, inr, ℕ, ◌+◌, suc, Bool, true, false, List, [], ◌∷◌, ◌++◌, length, Option, Some, None, refl, ap, ap₂, sym, ◌∙◌, subst, arith, append_assoc, length-append, map}
+use Rattle.std.proofs.Common.{◌≡◌, ◌≤◌, inl, inr, ℕ, ◌+◌, suc, Bool, true, false, List, [], ◌∷◌, ◌++◌, length, Option, Some, None, refl, ap, ap₂, sym, ◌∙◌, subst, arith, append_assoc, length-append}
+use Rattle.std.proofs.Common.{map}
 use Rattle.std.specs.Prelude.{ℤ, pos, not, eqb, if◌then◌else◌}
 use Rattle.std.specs.List.{AllByRecursion}
 use Rattle.std.specs.Ordering.{int_eq}
@@ -53,7 +54,8 @@ use Rattle.ndr_decoder_laws.proofs.steps.StructSteps.{deeper}
 
 -- ## The form of a tag
 
-pub form_is : (code : List Instr) (values : List EnumList) (table : Table) (tag : TypeId) (form : TagForm) → IsPlanned code values table → (d : Option TypeDef) → type_at table tag.0 ≡ d → IsTagForm d form
+pub form_is : (code : List Instr) (values : List EnumList) (table : Table) (tag : TypeId) (form : TagForm) → IsPlanned code values table → (d : Option TypeDef) → type_at table tag.0 ≡ d
+    → IsTagForm d form
     → tag_form values tag ≡ form
 form_is code values table tag form planned (Some (def.Prim p)) e i =
     let c = planned.carried tag.0 p e in
@@ -122,7 +124,8 @@ no_tag arms default = by_selected (is_selected (selected arms default (pos 0)))
     by_selected true = refl
     by_selected false = refl
 
-after_tag : (max_at : Option ℕ) (p : Primitive) (zs : Option (List ℤ)) (arms : List Arm) (default : Option Arm) (z : ℤ) (at : ℕ) (a : Attr) → Change max_at [] (tag_at at ∷ []) (Tag p zs arms default z) at a
+after_tag : (max_at : Option ℕ) (p : Primitive) (zs : Option (List ℤ)) (arms : List Arm) (default : Option Arm) (z : ℤ) (at : ℕ) (a : Attr)
+    → Change max_at [] (tag_at at ∷ []) (Tag p zs arms default z) at a
 after_tag max_at p zs arms default z at attr.Size = inr (refl, refl)
 after_tag max_at p zs arms default z at attr.Max = inr (refl, refl)
 after_tag max_at p zs arms default z at attr.First = inr (refl, refl)
@@ -132,7 +135,8 @@ after_tag max_at p zs arms default z at attr.Switch = inl (refl, refl, refl)
 
 -- ## Refusals
 
-module _ (order : Order) (octets : List ℕ) (table : Table) (h : Home) (k m : ℕ) (fs : List Around) (n at : ℕ) (seen : List EntryAt) (names : Names) (target : Read) (t : ℕ) (tag : TypeId) (encapsulated : Bool) (arms : List Arm) (default : Option Arm) (form : TagForm) where
+module _ (order : Order) (octets : List ℕ) (table : Table) (h : Home) (k m : ℕ) (fs : List Around) (n at : ℕ) (seen : List EntryAt) (names : Names) (target : Read) (t : ℕ) (tag : TypeId)
+    (encapsulated : Bool) (arms : List Arm) (default : Option Arm) (form : TagForm) where
   abbrev union : TypeDef
   union = def.Union tag encapsulated arms default
 
@@ -143,8 +147,10 @@ module _ (order : Order) (octets : List ℕ) (table : Table) (h : Home) (k m : �
       → (read_at order octets table h m (suc k) (tagged t union form arms default z) n (going at seen) names).progress ≡ stopped at seen why
   tagged_stops z why r =
       let y : ℤ = tag_taken arms default z in
-      ap (λ p. (read_children order octets table h (read_in_place order octets table h k m) (Some union) n (tree.Union y) (child_types (Some union) (tree.Union y) none) p names).progress) (stops_at order octets (e y) at seen why r)
-      ∙ children_stay order octets table h at seen why (read_in_place order octets table h k m) (in_place_stays order octets table h at seen why k m) (Some union) n (tree.Union y) (child_types (Some union) (tree.Union y) none) names
+      ap (λ p. (read_children order octets table h (read_in_place order octets table h k m) (Some union) n (tree.Union y) (child_types (Some union) (tree.Union y) none) p names).progress)
+      (stops_at order octets (e y) at seen why r)
+      ∙ children_stay order octets table h at seen why (read_in_place order octets table h k m) (in_place_stays order octets table h at seen why k m) (Some union) n (tree.Union y)
+      (child_types (Some union) (tree.Union y) none) names
 
   -- a tag that is refused at once
   pub tag_next : IsTagForm (type_at table tag.0) form
@@ -153,7 +159,8 @@ module _ (order : Order) (octets : List ℕ) (table : Table) (h : Home) (k m : �
       let nothing : value_in order octets form.prim (taken order octets (e (pos 0)) (going at seen)) ≡ pos 0 =
       ap (λ o. value_in order octets form.prim (taken_by None o (piece octets at (e (pos 0)).kind))) r in
       stop_by order octets table h (suc k) m fs (read_at order octets table h m (suc k) (opened t union) n (going at seen) names) target at seen why
-      (ap (λ u. u.progress) (tag_known order octets table h m k t n tag encapsulated arms default form (pos 0) (going at seen) names i (no_tag arms default ∙ sym nothing)) ∙ tagged_stops (pos 0) why r) rest
+      (ap (λ u. u.progress) (tag_known order octets table h m k t n tag encapsulated arms default form (pos 0) (going at seen) names i (no_tag arms default ∙ sym nothing))
+      ∙ tagged_stops (pos 0) why r) rest
 
   -- and one that selects no arm
   pub tagged_next : (z : ℤ) → finish order octets table h m (suc k) fs (read_at order octets table h m (suc k) (tagged t union form arms default z) n (going at seen) names) ≡ target
@@ -163,10 +170,12 @@ module _ (order : Order) (octets : List ℕ) (table : Table) (h : Home) (k m : �
 
 -- ## The tag
 
-module _ (order : Order) (fetched os : List ℕ) (code : List Instr) (values : List EnumList) (table : Table) (h : Home) (own limit : ℕ) (noted : List Item) (direct : ℕ) (target : List ℕ → Read) (planned : IsPlanned code values table)
+module _ (order : Order) (fetched os : List ℕ) (code : List Instr) (values : List EnumList) (table : Table) (h : Home) (own limit : ℕ) (noted : List Item) (direct : ℕ) (target : List ℕ → Read)
+    (planned : IsPlanned code values table)
     (s : State) (k : ℕ) (fs : List Around) (seen : List EntryAt) (names : Names) (t : ℕ) (tag : TypeId) (encapsulated : Bool) (arms : List Arm) (default : Option Arm) (form : TagForm) where
   pub tag_right : type_at table t ≡ Some (def.Union tag encapsulated arms default) → IsTagForm (type_at table tag.0) form → IsFine table (suc k) t
-      → Within code table h own limit seen (suc k) fs t (parts_of s) → Told noted direct order fetched h seen names s.cells s.numbers s.max_at (length s.nodes) [] → length fetched ≡ s.at → s.phase ≡ begun
+      → Within code table h own limit seen (suc k) fs t (parts_of s) → Told noted direct order fetched h seen names s.cells s.numbers s.max_at (length s.nodes) [] → length fetched ≡ s.at
+      → s.phase ≡ begun
       → IsRunAt code s.pc (union_run (place_at table) tag arms default) → length os ≡ width form.prim → s.at + width form.prim ≤ STREAM_LIMIT
       → ((later : List ℕ) → finish order (fetched ++ later) table h s.max (suc k) fs
       (read_at order (fetched ++ later) table h s.max (suc k) (opened t (def.Union tag encapsulated arms default)) (length (nodes_around fs)) (going s.at seen) names) ≡ target (fetched ++ later))
@@ -205,7 +214,8 @@ module _ (order : Order) (fetched os : List ℕ) (code : List Instr) (values : L
       by_test : (b : Bool) → is_enumerator form.values z ≡ b
           → IsRight order (fetched ++ os) code table h own limit noted direct target s.at seen (if b then goes (next (with_tag z form.prim s)) else refused s.at reason.EnumValue)
       by_test false f = λ later.
-          (tag_next order ((fetched ++ os) ++ later) table h k s.max fs n s.at seen names (target ((fetched ++ os) ++ later)) t tag encapsulated arms default form i (on_it later)) (s.at, reason.EnumValue)
+          (tag_next order ((fetched ++ os) ++ later) table h k s.max fs n s.at seen names (target ((fetched ++ os) ++ later)) t tag encapsulated arms default form i (on_it later))
+          (s.at, reason.EnumValue)
           (judge false (is_selected (selected arms default z)) f refl later (pos 0))
       by_test true f =
           plain_good order (fetched ++ os) code table h own limit noted direct target (tagged t union form arms default z) tt (next (with_tag z form.prim s)) (suc k) fs seen names w
@@ -216,18 +226,23 @@ module _ (order : Order) (fetched os : List ℕ) (code : List Instr) (values : L
           (told_longer order fetched os h seen names s.cells s.numbers s.max_at (length s.nodes) [] told)
           (λ later.
           ap (finish order ((fetched ++ os) ++ later) table h s.max (suc k) fs)
-          (sym (tag_known order ((fetched ++ os) ++ later) table h s.max k t n tag encapsulated arms default form z (going s.at seen) names i (value f later (is_selected (selected arms default z)) refl)))
+          (sym (tag_known order ((fetched ++ os) ++ later) table h s.max k t n tag encapsulated arms default form z (going s.at seen) names i
+          (value f later (is_selected (selected arms default z)) refl)))
           ∙ on_it later)
 
 -- ## The arms
 
-module _ (order : Order) (fetched : List ℕ) (code : List Instr) (values : List EnumList) (table : Table) (h : Home) (own limit : ℕ) (noted : List Item) (direct : ℕ) (target : List ℕ → Read) (planned : IsPlanned code values table)
+module _ (order : Order) (fetched : List ℕ) (code : List Instr) (values : List EnumList) (table : Table) (h : Home) (own limit : ℕ) (noted : List Item) (direct : ℕ) (target : List ℕ → Read)
+    (planned : IsPlanned code values table)
     (s : State) (k : ℕ) (fs : List Around) (seen : List EntryAt) (names : Names) (t : ℕ) (tag : TypeId) (encapsulated : Bool) (arms : List Arm) (default : Option Arm) (form : TagForm) (z : ℤ)
-    (et : type_at table t ≡ Some (def.Union tag encapsulated arms default)) (i : IsTagForm (type_at table tag.0) form) (fine : IsFine table (suc k) t) (inner : AllByRecursion (IsFine table k) (arm_types arms ++ default_type default))
-    (w : Within code table h own limit seen (suc k) fs t (parts_of s)) (told : Told noted direct order fetched h seen names s.cells s.numbers s.max_at (length s.nodes) []) (reached : length fetched ≡ s.at + width form.prim) (phase : s.phase ≡ begun)
+    (et : type_at table t ≡ Some (def.Union tag encapsulated arms default)) (i : IsTagForm (type_at table tag.0) form) (fine : IsFine table (suc k) t)
+    (inner : AllByRecursion (IsFine table k) (arm_types arms ++ default_type default))
+    (w : Within code table h own limit seen (suc k) fs t (parts_of s)) (told : Told noted direct order fetched h seen names s.cells s.numbers s.max_at (length s.nodes) [])
+    (reached : length fetched ≡ s.at + width form.prim) (phase : s.phase ≡ begun)
     (held : HeldTag order fetched s.at form z) (tag_is : s.tag ≡ z) (carried : s.carrier ≡ form.prim)
     (rest : (later : List ℕ) → finish order (fetched ++ later) table h s.max (suc k) fs
-    (read_at order (fetched ++ later) table h s.max (suc k) (tagged t (def.Union tag encapsulated arms default) form arms default z) (length (nodes_around fs)) (going s.at seen) names) ≡ target (fetched ++ later)) where
+    (read_at order (fetched ++ later) table h s.max (suc k) (tagged t (def.Union tag encapsulated arms default) form arms default z) (length (nodes_around fs)) (going s.at seen) names)
+    ≡ target (fetched ++ later)) where
   abbrev n : ℕ
   n = length (nodes_around fs)
 
@@ -279,7 +294,8 @@ module _ (order : Order) (fetched : List ℕ) (code : List Instr) (values : List
   -- what is left to be read once the tag is passed
   passed_tag : (a : Arm) → selected arms default z ≡ Some a → (later : List ℕ)
       → finish order (fetched ++ later) table h s.max (suc k) fs
-      (read_children order (fetched ++ later) table h (read_in_place order (fetched ++ later) table h k s.max) (Some this) n (tree.Union s.tag) (type_list a.of) (going (s.at + width s.carrier) (seen ++ x ∷ [])) names)
+      (read_children order (fetched ++ later) table h (read_in_place order (fetched ++ later) table h k s.max) (Some this) n (tree.Union s.tag) (type_list a.of)
+      (going (s.at + width s.carrier) (seen ++ x ∷ [])) names)
       ≡ target (fetched ++ later)
   passed_tag a sel later =
       let octets : List ℕ = fetched ++ later in
@@ -293,15 +309,20 @@ module _ (order : Order) (fetched : List ℕ) (code : List Instr) (values : List
       ∙ ap₂ (λ ts p. read_children order octets table h rd (Some this) n (tree.Union s.tag) ts p names) types gone))
       ∙ rest later
 
-  arm_good : (a : Arm) → selected arms default z ≡ Some a → (o : Option TypeId) → a.of ≡ o → Good order fetched code table h own limit (noted ++ tag_items h s) direct target (arm_taken (eqb (arm_run (place_at table) o) 0) (arm_run (place_at table) o) s)
+  arm_good : (a : Arm) → selected arms default z ≡ Some a → (o : Option TypeId) → a.of ≡ o
+      → Good order fetched code table h own limit (noted ++ tag_items h s) direct target (arm_taken (eqb (arm_run (place_at table) o) 0) (arm_run (place_at table) o) s)
   arm_good a sel None ea =
-      leaf_good order fetched code table h own limit (noted ++ tag_items h s) direct target (parts_of s) 0 (s.at + width s.carrier) s.max s.tag s.carrier s.fresh s.cells s.numbers (tree.Union s.tag) (Some s.at) (tag_at s.at ∷ []) (seen ++ x ∷ []) names (suc k) fs t w'
+      leaf_good order fetched code table h own limit (noted ++ tag_items h s) direct target (parts_of s) 0 (s.at + width s.carrier) s.max s.tag s.carrier s.fresh s.cells s.numbers (tree.Union s.tag)
+      (Some s.at) (tag_at s.at ∷ []) (seen ++ x ∷ []) names (suc k) fs t w'
       (none_found order fetched h (seen ++ x ∷ []) names s.cells s.numbers s.max_at (length s.nodes) (tag_at s.at ∷ []) told')
       told' further (at_void planned.empty_arm) (no_pointer (type_at table t))
-      (w.pending ∙ ap (map (owed table)) (sym (append-nil (pointers_around table h fs)) ∙ ap (λ ps. pointers_around table h fs ++ ps) (sym (of_union table h t n s.tag tag encapsulated arms default none et))))
+      (w.pending
+      ∙ ap (map (owed table))
+      (sym (append-nil (pointers_around table h fs)) ∙ ap (λ ps. pointers_around table h fs ++ ps) (sym (of_union table h t n s.tag tag encapsulated arms default none et))))
       (λ later.
       ap (λ ts. finish order (fetched ++ later) table h s.max (suc k) fs
-      (read_children order (fetched ++ later) table h (read_in_place order (fetched ++ later) table h k s.max) (Some this) n (tree.Union s.tag) ts (going (s.at + width s.carrier) (seen ++ x ∷ [])) names))
+      (read_children order (fetched ++ later) table h (read_in_place order (fetched ++ later) table h k s.max) (Some this) n (tree.Union s.tag) ts
+      (going (s.at + width s.carrier) (seen ++ x ∷ [])) names))
       (ap type_list (sym ea)) ∙ passed_tag a sel later)
   arm_good a sel (Some u) ea =
       let f : Around = record { node = n; of = Some this; label = tree.Union s.tag; done = none; next = n + 1; left = []; typed = t; child = u.0; before = [] } in
@@ -312,7 +333,8 @@ module _ (order : Order) (fetched : List ℕ) (code : List Instr) (values : List
       let new = added code table h own limit (seen ++ x ∷ []) (suc k) fs t (parts_of s) y (Some s.at) w'
       (none_found order fetched h (seen ++ x ∷ []) names s.cells s.numbers s.max_at (length s.nodes) (tag_at s.at ∷ []) told') in
       subst (λ b. Good order fetched code table h own limit (noted ++ tag_items h s) direct target (arm_taken b run s)) (sym (not_zero table u.0))
-      (arrives order fetched code values table h own limit (noted ++ tag_items h s) direct target planned (arm_taken false run s) k (f ∷ fs) (seen ++ x ∷ []) names u.0 (part_of (IsFine table k) z a u ea arms default sel inner) refl refl
+      (arrives order fetched code values table h own limit (noted ++ tag_items h s) direct target planned (arm_taken false run s) k (f ∷ fs) (seen ++ x ∷ []) names u.0
+      (part_of (IsFine table k) z a u ea arms default sel inner) refl refl
       (record {
         deep = deeper k (length fs) limit w.deep;
         inside = (
@@ -346,9 +368,11 @@ module _ (order : Order) (fetched : List ℕ) (code : List Instr) (values : List
       (told_node order fetched h (seen ++ x ∷ []) names s.cells s.numbers s.max_at s.nodes y (tag_at s.at ∷ []) told')
       further
       (λ later.
-      ap (λ j. finish order (fetched ++ later) table h s.max k (f ∷ fs) (read_in_place order (fetched ++ later) table h k s.max u.0 j (going (s.at + width s.carrier) (seen ++ x ∷ [])) names)) (sym after)
+      ap (λ j. finish order (fetched ++ later) table h s.max k (f ∷ fs) (read_in_place order (fetched ++ later) table h k s.max u.0 j (going (s.at + width s.carrier) (seen ++ x ∷ [])) names))
+      (sym after)
       ∙ ap (λ ts. finish order (fetched ++ later) table h s.max (suc k) fs
-      (read_children order (fetched ++ later) table h (read_in_place order (fetched ++ later) table h k s.max) (Some this) n (tree.Union s.tag) ts (going (s.at + width s.carrier) (seen ++ x ∷ [])) names))
+      (read_children order (fetched ++ later) table h (read_in_place order (fetched ++ later) table h k s.max) (Some this) n (tree.Union s.tag) ts
+      (going (s.at + width s.carrier) (seen ++ x ∷ [])) names))
       (ap type_list (sym ea))
       ∙ passed_tag a sel later))
 
@@ -361,7 +385,8 @@ module _ (order : Order) (fetched : List ℕ) (code : List Instr) (values : List
       → Right (arm_items h a.label s) (goes (if int_eq a.label s.tag then arm_taken (eqb (arm_run (place_at table) a.of) 0) (arm_run (place_at table) a.of) s else next s))
   arm_right passed left a all others run = by_label (int_eq a.label s.tag) refl
     where
-      by_label : (b : Bool) → int_eq a.label s.tag ≡ b → Right (if b then tag_items h s else []) (goes (if b then arm_taken (eqb (arm_run (place_at table) a.of) 0) (arm_run (place_at table) a.of) s else next s))
+      by_label : (b : Bool) → int_eq a.label s.tag ≡ b
+          → Right (if b then tag_items h s else []) (goes (if b then arm_taken (eqb (arm_run (place_at table) a.of) 0) (arm_run (place_at table) a.of) s else next s))
       by_label true e =
           arm_good a (ap (λ l. or_else l default) (ap (λ xs. labelled xs z) all ∙ arm_found z passed a left others (ap (int_eq a.label) (sym tag_is) ∙ e))) a.of refl
       by_label false e =

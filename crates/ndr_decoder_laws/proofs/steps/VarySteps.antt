@@ -34,7 +34,8 @@ use Rattle.ndr_decoder_laws.specs.reader.Halves.{array_after_offset, text_after_
 use Rattle.ndr_decoder_laws.proofs.reader.FromPoint.{array_offset, array_count, text_begins, text_count, text_ends}
 use Rattle.ndr_decoder_laws.proofs.reader.HomePointers.{of_text}
 use Rattle.ndr_decoder_laws.specs.steps.Spots.{IsFine, IsPlanned, body_run, at_ret}
-use Rattle.ndr_decoder_laws.specs.steps.Steps.{State, Outcome, goes, refused, begun, offset_read, count_read, past, elements, with_node, vary_by, text_by, text_done, limit_of, offset_before, counts_at}
+use Rattle.ndr_decoder_laws.specs.steps.Steps.{State, Outcome, goes, refused, begun, offset_read, count_read, past, elements, with_node, vary_by, text_by, text_done, limit_of, offset_before}
+use Rattle.ndr_decoder_laws.specs.steps.Steps.{counts_at}
 use Rattle.ndr_decoder_laws.specs.steps.Good.{Told, IsRight, owed}
 use Rattle.ndr_decoder_laws.specs.steps.StepItems.{item_here, next_item, count_items}
 use Rattle.ndr_decoder_laws.proofs.steps.Passing.{items_it, onward, no_less, later_node, told_counted, told_passed, silent, judged, taken_it, lies_it, Change}
@@ -51,7 +52,8 @@ module _ (order : Order) (octets : List ℕ) (table : Table) (h : Home) (k m : �
       let o : ℕ = number_in order octets (taken order octets (record { home = h; node = n; kind = Offset false 0 }) (going at seen)) in
       let e : Entry = record { home = h; node = n; kind = Offset false o } in
       λ why r. stop_by order octets table h (suc k) m fs (read_at order octets table h m (suc k) (opened t (def.Array elem bound true)) n (going at seen) names) target at seen why
-      (ap (λ p. (array_after_offset order octets table h (read_in_place order octets table h k m) (Some (def.Array elem bound true)) (bound_or bound m) elem.0 n o p names).progress) (stops_at order octets e at seen why r)) rest
+      (ap (λ p. (array_after_offset order octets table h (read_in_place order octets table h k m) (Some (def.Array elem bound true)) (bound_or bound m) elem.0 n o p names).progress)
+      (stops_at order octets e at seen why r)) rest
 
   -- its actual count
   pub count_next : (t max elem o : ℕ) (d : TypeDef)
@@ -118,11 +120,13 @@ not_none None s e = refl
 not_none (Some zero) s e = absurd (e refl)
 not_none (Some (suc n)) s e = refl
 
-module _ (order : Order) (fetched os : List ℕ) (code : List Instr) (values : List EnumList) (table : Table) (h : Home) (own limit : ℕ) (noted : List Item) (direct : ℕ) (target : List ℕ → Read) (planned : IsPlanned code values table) where
+module _ (order : Order) (fetched os : List ℕ) (code : List Instr) (values : List EnumList) (table : Table) (h : Home) (own limit : ℕ) (noted : List Item) (direct : ℕ) (target : List ℕ → Read)
+    (planned : IsPlanned code values table) where
   abbrev Right : List Item → ℕ → List EntryAt → Outcome → Type 0
   Right news at seen o = IsRight order (fetched ++ os) code table h own limit (noted ++ news) direct target at seen o
 
-  module _ (s : State) (k : ℕ) (fs : List Around) (seen : List EntryAt) (names : Names) (t : ℕ) (fine : IsFine table (suc k) t) (w : Within code table h own limit seen (suc k) fs t (parts_of s)) (reached : length fetched ≡ s.at)
+  module _ (s : State) (k : ℕ) (fs : List Around) (seen : List EntryAt) (names : Names) (t : ℕ) (fine : IsFine table (suc k) t) (w : Within code table h own limit seen (suc k) fs t (parts_of s))
+      (reached : length fetched ≡ s.at)
     where
       abbrev n : ℕ
       n = length (nodes_around fs)
@@ -153,13 +157,16 @@ module _ (order : Order) (fetched os : List ℕ) (code : List Instr) (values : L
             → Right (count_items order h os item.Offset s) s.at seen (goes (past 4 (offset_read v) s))
         offset_right elem bound et run told rest =
             let x : EntryAt = entry_of (Offset false v) in
-            let told' : Told (noted ++ count_items order h os item.Offset s) direct order (fetched ++ os) h (seen ++ x ∷ []) names s.cells s.numbers s.max_at (length s.nodes) (offset_before (s.at + 4) ∷ []) =
-            subst (λ j. Told (noted ++ count_items order h os item.Offset s) direct order (fetched ++ os) h (seen ++ x ∷ []) names s.cells s.numbers s.max_at j (offset_before (s.at + 4) ∷ [])) (sym same_count)
+            let told' : Told (noted ++ count_items order h os item.Offset s) direct order (fetched ++ os) h (seen ++ x ∷ []) names s.cells s.numbers s.max_at (length s.nodes)
+            (offset_before (s.at + 4) ∷ []) =
+            subst (λ j. Told (noted ++ count_items order h os item.Offset s) direct order (fetched ++ os) h (seen ++ x ∷ []) names s.cells s.numbers s.max_at j (offset_before (s.at + 4) ∷ []))
+            (sym same_count)
             (told_counted order fetched os h s.at (Offset false v) seen names s.cells s.numbers s.max_at n [] (offset_before (s.at + 4) ∷ []) (count_items order h os item.Offset s)
             (items_it order fetched os [] s.at reached x.entry seen (sym size) ∙ ap (λ j. item_here h s.at item.Offset 4 (pos v) j ∷ []) (sym same_count)) refl tt refl
             (lies_it order fetched os [] s.at reached x.entry seen (sym size)) (after_offset s.max_at false v s.at)
             (subst (λ j. Told noted direct order fetched h seen names s.cells s.numbers s.max_at j []) same_count told)) in
-            plain_good order (fetched ++ os) code table h own limit (noted ++ count_items order h os item.Offset s) direct target (at_offset t (def.Array elem bound true) (bound_or bound s.max) elem.0 v) tt (past 4 (offset_read v) s) (suc k) fs (seen ++ x ∷ []) names
+            plain_good order (fetched ++ os) code table h own limit (noted ++ count_items order h os item.Offset s) direct target
+            (at_offset t (def.Array elem bound true) (bound_or bound s.max) elem.0 v) tt (past 4 (offset_read v) s) (suc k) fs (seen ++ x ∷ []) names
             (counted_within (Offset false v) refl) (fine, (elem, bound, refl, et, refl, refl, run)) refl tt (let r : length (fetched ++ os) ≡ s.at + 4 = further 4 size in omega (arith, r)) tt told'
             (λ later.
             let octets : List ℕ = (fetched ++ os) ++ later in
@@ -168,8 +175,10 @@ module _ (order : Order) (fetched os : List ℕ) (code : List Instr) (values : L
             ap (finish order octets table h s.max (suc k) fs)
             (sym (array_offset order octets table h s.max k t n v elem bound s.at seen names
             (sym (ap (number_in order octets) (taken_it order fetched os later s.at reached (entry_of (Offset false 0)).entry seen (sym size) (judge 0))))
-            ∙ ap (λ p. read_at order octets table h s.max (suc k) (at_offset t (def.Array elem bound true) (bound_or bound s.max) elem.0 v) n p names) (passed order octets x.entry s.at seen (judge v))))
-            ∙ onward fetched os (λ o. finish order o table h s.max (suc k) fs (read_at order o table h s.max (suc k) (opened t (def.Array elem bound true)) n (going s.at seen) names) ≡ target o) rest later)
+            ∙ ap (λ p. read_at order octets table h s.max (suc k) (at_offset t (def.Array elem bound true) (bound_or bound s.max) elem.0 v) n p names)
+            (passed order octets x.entry s.at seen (judge v))))
+            ∙ onward fetched os
+            (λ o. finish order o table h s.max (suc k) fs (read_at order o table h s.max (suc k) (opened t (def.Array elem bound true)) n (going s.at seen) names) ≡ target o) rest later)
 
         -- its actual count
         pub count_right : (elem : TypeId) (bound : Option ℕ) (max o : ℕ) → type_at table t ≡ Some (def.Array elem bound true) → IsFine table k elem.0 → IsRunAt code (s.pc + 1) (op.Ret ∷ [])
@@ -190,22 +199,28 @@ module _ (order : Order) (fetched os : List ℕ) (code : List Instr) (values : L
 
             on_it : (later : List ℕ) → finish order ((fetched ++ os) ++ later) table h s.max (suc k) fs
                 (read_at order ((fetched ++ os) ++ later) table h s.max (suc k) (at_offset t (def.Array elem bound true) max elem.0 o) n (going s.at seen) names) ≡ target ((fetched ++ os) ++ later)
-            on_it = onward fetched os (λ u. finish order u table h s.max (suc k) fs (read_at order u table h s.max (suc k) (at_offset t (def.Array elem bound true) max elem.0 o) n (going s.at seen) names) ≡ target u) rest
+            on_it = onward fetched os
+                (λ u. finish order u table h s.max (suc k) fs (read_at order u table h s.max (suc k) (at_offset t (def.Array elem bound true) max elem.0 o) n (going s.at seen) names) ≡ target u) rest
 
             told' : Told (noted ++ count_items order h os item.Actual s) direct order (fetched ++ os) h (seen ++ x ∷ []) names s.cells s.numbers s.max_at (length s.nodes) (counts_at s.at ∷ [])
             told' =
-                subst (λ j. Told (noted ++ count_items order h os item.Actual s) direct order (fetched ++ os) h (seen ++ x ∷ []) names s.cells s.numbers s.max_at j (counts_at s.at ∷ [])) (sym same_count)
-                (told_counted order fetched os h s.at (Actual false o max v) seen names s.cells s.numbers s.max_at n (offset_before s.at ∷ []) (counts_at s.at ∷ []) (count_items order h os item.Actual s)
+                subst (λ j. Told (noted ++ count_items order h os item.Actual s) direct order (fetched ++ os) h (seen ++ x ∷ []) names s.cells s.numbers s.max_at j (counts_at s.at ∷ []))
+                (sym same_count)
+                (told_counted order fetched os h s.at (Actual false o max v) seen names s.cells s.numbers s.max_at n (offset_before s.at ∷ []) (counts_at s.at ∷ [])
+                (count_items order h os item.Actual s)
                 (items_it order fetched os [] s.at reached x.entry seen (sym size) ∙ ap (λ j. item_here h s.at item.Actual 4 (pos v) j ∷ []) (sym same_count)) refl tt refl
                 (lies_it order fetched os [] s.at reached x.entry seen (sym size)) (after_count s.max_at false o max v s.at s.at refl)
                 (subst (λ j. Told noted direct order fetched h seen names s.cells s.numbers s.max_at j (offset_before s.at ∷ [])) same_count told))
 
             by_test : (b : Bool) → ltb max (o + v) ≡ b
-                → Right (count_items order h os item.Actual s) s.at seen (if b then refused s.at reason.PastBound else goes (elements v (place_at table elem.0) (with_node (tree.Arr max o, v) (Some s.at) (past 4 begun s))))
+                → Right (count_items order h os item.Actual s) s.at seen
+                (if b then refused s.at reason.PastBound else goes (elements v (place_at table elem.0) (with_node (tree.Arr max o, v) (Some s.at) (past 4 begun s))))
             by_test true e = λ later.
-                (count_next order ((fetched ++ os) ++ later) table h k s.max fs n s.at seen names (target ((fetched ++ os) ++ later)) t max elem.0 o (def.Array elem bound true) (on_it later)) (s.at, reason.PastBound) (judge true e later 0)
+                (count_next order ((fetched ++ os) ++ later) table h k s.max fs n s.at seen names (target ((fetched ++ os) ++ later)) t max elem.0 o (def.Array elem bound true) (on_it later))
+                (s.at, reason.PastBound) (judge true e later 0)
             by_test false e =
-                elements_right order (fetched ++ os) code values table h own limit (noted ++ count_items order h os item.Actual s) direct target planned (past 4 begun s) k fs (seen ++ x ∷ []) names t max o v elem bound true (Some s.at) (counts_at s.at ∷ []) et inner
+                elements_right order (fetched ++ os) code values table h own limit (noted ++ count_items order h os item.Actual s) direct target planned (past 4 begun s) k fs
+                (seen ++ x ∷ []) names t max o v elem bound true (Some s.at) (counts_at s.at ∷ []) et inner
                 (counted_within (Actual false o max v) refl)
                 (none_found order (fetched ++ os) h (seen ++ x ∷ []) names s.cells s.numbers s.max_at (length s.nodes) (counts_at s.at ∷ []) told')
                 told' (further 4 size) run
@@ -219,7 +234,8 @@ module _ (order : Order) (fetched os : List ℕ) (code : List Instr) (values : L
                 ∙ on_it later)
 
         -- the offset of a text
-        pub text_offset_right : (elem : TypeId) (bound : Option ℕ) (lim : ℕ) → type_at table t ≡ Some (def.Text elem bound) → bound ≢ Some 0 → IsRunAt code s.pc (body_run code table t (def.Text elem bound))
+        pub text_offset_right : (elem : TypeId) (bound : Option ℕ) (lim : ℕ) → type_at table t ≡ Some (def.Text elem bound) → bound ≢ Some 0
+            → IsRunAt code s.pc (body_run code table t (def.Text elem bound))
             → Told noted direct order fetched h seen names s.cells s.numbers s.max_at (length s.nodes) []
             → ((later : List ℕ) → finish order (fetched ++ later) table h s.max (suc k) fs
             (read_at order (fetched ++ later) table h s.max (suc k) (opened t (def.Text elem bound)) n (going s.at seen) names) ≡ target (fetched ++ later))
@@ -238,9 +254,11 @@ module _ (order : Order) (fetched os : List ℕ) (code : List Instr) (values : L
                 (read_at order ((fetched ++ os) ++ later) table h s.max (suc k) (opened t (def.Text elem bound)) n (going s.at seen) names) ≡ target ((fetched ++ os) ++ later)
             on_it = onward fetched os (λ u. finish order u table h s.max (suc k) fs (read_at order u table h s.max (suc k) (opened t (def.Text elem bound)) n (going s.at seen) names) ≡ target u) rest
 
-            told' : Told (noted ++ count_items order h os item.Offset s) direct order (fetched ++ os) h (seen ++ x ∷ []) names s.cells s.numbers s.max_at (length s.nodes) (offset_before (s.at + 4) ∷ [])
+            told' : Told (noted ++ count_items order h os item.Offset s) direct order (fetched ++ os) h (seen ++ x ∷ []) names s.cells s.numbers s.max_at (length s.nodes)
+                (offset_before (s.at + 4) ∷ [])
             told' =
-                subst (λ j. Told (noted ++ count_items order h os item.Offset s) direct order (fetched ++ os) h (seen ++ x ∷ []) names s.cells s.numbers s.max_at j (offset_before (s.at + 4) ∷ [])) (sym same_count)
+                subst (λ j. Told (noted ++ count_items order h os item.Offset s) direct order (fetched ++ os) h (seen ++ x ∷ []) names s.cells s.numbers s.max_at j (offset_before (s.at + 4) ∷ []))
+                (sym same_count)
                 (told_counted order fetched os h s.at (Offset true 0) seen names s.cells s.numbers s.max_at n [] (offset_before (s.at + 4) ∷ []) (count_items order h os item.Offset s)
                 (items_it order fetched os [] s.at reached x.entry seen (sym size) ∙ ap (λ j. item_here h s.at item.Offset 4 (pos v) j ∷ []) (sym same_count)) refl tt refl
                 (lies_it order fetched os [] s.at reached x.entry seen (sym size)) (after_offset s.max_at true 0 s.at)
@@ -248,9 +266,11 @@ module _ (order : Order) (fetched os : List ℕ) (code : List Instr) (values : L
 
             by_test : (b : Bool) → eqb v 0 ≡ b → Right (count_items order h os item.Offset s) s.at seen (if b then goes (past 4 (offset_read 0) s) else refused s.at reason.TextOffset)
             by_test false e = λ later.
-                (text_offset_next order ((fetched ++ os) ++ later) table h k s.max fs n s.at seen names (target ((fetched ++ os) ++ later)) t elem bound (on_it later)) (s.at, reason.TextOffset) (judge false e later)
+                (text_offset_next order ((fetched ++ os) ++ later) table h k s.max fs n s.at seen names (target ((fetched ++ os) ++ later)) t elem bound (on_it later)) (s.at, reason.TextOffset)
+                (judge false e later)
             by_test true e =
-                plain_good order (fetched ++ os) code table h own limit (noted ++ count_items order h os item.Offset s) direct target (text_offset t (bound_or bound s.max)) tt (past 4 (offset_read 0) s) (suc k) fs (seen ++ x ∷ []) names
+                plain_good order (fetched ++ os) code table h own limit (noted ++ count_items order h os item.Offset s) direct target (text_offset t (bound_or bound s.max)) tt
+                (past 4 (offset_read 0) s) (suc k) fs (seen ++ x ∷ []) names
                 (counted_within (Offset true 0) refl) (fine, (elem, bound, et, some_bound, refl, run)) refl tt (let r : length (fetched ++ os) ≡ s.at + 4 = further 4 size in omega (arith, r)) tt told'
                 (λ later.
                 let octets : List ℕ = (fetched ++ os) ++ later in
@@ -260,7 +280,8 @@ module _ (order : Order) (fetched os : List ℕ) (code : List Instr) (values : L
                 ∙ on_it later)
 
         -- its actual count
-        pub text_count_right : (elem : TypeId) (bound : Option ℕ) (max : ℕ) → type_at table t ≡ Some (def.Text elem bound) → bound ≢ Some 0 → max ≡ bound_or bound s.max → IsRunAt code s.pc (body_run code table t (def.Text elem bound))
+        pub text_count_right : (elem : TypeId) (bound : Option ℕ) (max : ℕ) → type_at table t ≡ Some (def.Text elem bound) → bound ≢ Some 0 → max ≡ bound_or bound s.max
+            → IsRunAt code s.pc (body_run code table t (def.Text elem bound))
             → Told noted direct order fetched h seen names s.cells s.numbers s.max_at (length s.nodes) (offset_before s.at ∷ [])
             → ((later : List ℕ) → finish order (fetched ++ later) table h s.max (suc k) fs
             (read_at order (fetched ++ later) table h s.max (suc k) (text_offset t max) n (going s.at seen) names) ≡ target (fetched ++ later))
@@ -283,22 +304,29 @@ module _ (order : Order) (fetched os : List ℕ) (code : List Instr) (values : L
                 (read_at order ((fetched ++ os) ++ later) table h s.max (suc k) (text_offset t max) n (going s.at seen) names) ≡ target ((fetched ++ os) ++ later)
             on_it = onward fetched os (λ u. finish order u table h s.max (suc k) fs (read_at order u table h s.max (suc k) (text_offset t max) n (going s.at seen) names) ≡ target u) rest
 
-            told' : Told (noted ++ count_items order h os item.Actual s) direct order (fetched ++ os) h (seen ++ x ∷ []) names s.cells s.numbers s.max_at (length s.nodes) (counts_at (s.at + 4 - 4) ∷ [])
+            told' : Told (noted ++ count_items order h os item.Actual s) direct order (fetched ++ os) h (seen ++ x ∷ []) names s.cells s.numbers s.max_at (length s.nodes)
+                (counts_at (s.at + 4 - 4) ∷ [])
             told' =
-                subst (λ j. Told (noted ++ count_items order h os item.Actual s) direct order (fetched ++ os) h (seen ++ x ∷ []) names s.cells s.numbers s.max_at j (counts_at (s.at + 4 - 4) ∷ [])) (sym same_count)
-                (told_counted order fetched os h s.at (Actual true 0 max (v - 1 + 1)) seen names s.cells s.numbers s.max_at n (offset_before s.at ∷ []) (counts_at (s.at + 4 - 4) ∷ []) (count_items order h os item.Actual s)
+                subst (λ j. Told (noted ++ count_items order h os item.Actual s) direct order (fetched ++ os) h (seen ++ x ∷ []) names s.cells s.numbers s.max_at j (counts_at (s.at + 4 - 4) ∷ []))
+                (sym same_count)
+                (told_counted order fetched os h s.at (Actual true 0 max (v - 1 + 1)) seen names s.cells s.numbers s.max_at n (offset_before s.at ∷ []) (counts_at (s.at + 4 - 4) ∷ [])
+                (count_items order h os item.Actual s)
                 (items_it order fetched os [] s.at reached x.entry seen (sym size) ∙ ap (λ j. item_here h s.at item.Actual 4 (pos v) j ∷ []) (sym same_count)) refl tt refl
                 (lies_it order fetched os [] s.at reached x.entry seen (sym size)) (after_count s.max_at true 0 max (v - 1 + 1) s.at (s.at + 4 - 4) (back_four s.at))
                 (subst (λ j. Told noted direct order fetched h seen names s.cells s.numbers s.max_at j (offset_before s.at ∷ [])) same_count told))
 
-            stops_it : (later : List ℕ) (why : ℕ × Reason) → refusal order ((fetched ++ os) ++ later) seen (entry_of (Actual true 0 max 0)) ≡ Some why → (target ((fetched ++ os) ++ later)).progress ≡ stopped s.at seen why
+            stops_it : (later : List ℕ) (why : ℕ × Reason) → refusal order ((fetched ++ os) ++ later) seen (entry_of (Actual true 0 max 0)) ≡ Some why
+                → (target ((fetched ++ os) ++ later)).progress ≡ stopped s.at seen why
             stops_it later = text_count_next order ((fetched ++ os) ++ later) table h k s.max fs n s.at seen names (target ((fetched ++ os) ++ later)) t max (on_it later)
 
-            by_bound : (b : Bool) → eqb v 0 ≡ false → ltb max v ≡ b → Right (count_items order h os item.Actual s) s.at seen (if b then refused s.at reason.PastBound else goes (past 4 (count_read (v - 1)) s))
+            by_bound : (b : Bool) → eqb v 0 ≡ false → ltb max v ≡ b
+                → Right (count_items order h os item.Actual s) s.at seen (if b then refused s.at reason.PastBound else goes (past 4 (count_read (v - 1)) s))
             by_bound true z e = λ later. stops_it later (s.at, reason.PastBound) (judge false true z e later 0)
             by_bound false z e =
-                plain_good order (fetched ++ os) code table h own limit (noted ++ count_items order h os item.Actual s) direct target (text_counted t max (v - 1)) tt (past 4 (count_read (v - 1)) s) (suc k) fs (seen ++ x ∷ []) names
-                (counted_within (Actual true 0 max (v - 1 + 1)) refl) (fine, (elem, bound, et, some_bound, em, run)) refl tt (let r : length (fetched ++ os) ≡ s.at + 4 = further 4 size in omega (arith, r)) tt told'
+                plain_good order (fetched ++ os) code table h own limit (noted ++ count_items order h os item.Actual s) direct target (text_counted t max (v - 1)) tt (past 4 (count_read (v - 1)) s)
+                (suc k) fs (seen ++ x ∷ []) names
+                (counted_within (Actual true 0 max (v - 1 + 1)) refl) (fine, (elem, bound, et, some_bound, em, run)) refl tt
+                (let r : length (fetched ++ os) ≡ s.at + 4 = further 4 size in omega (arith, r)) tt told'
                 (λ later.
                 let octets : List ℕ = (fetched ++ os) ++ later in
                 ap (finish order octets table h s.max (suc k) fs)
@@ -308,7 +336,8 @@ module _ (order : Order) (fetched os : List ℕ) (code : List Instr) (values : L
                 ∙ on_it later)
 
             by_zero : (b : Bool) → eqb v 0 ≡ b
-                → Right (count_items order h os item.Actual s) s.at seen (if b then refused s.at reason.TextEmpty else (if ltb max v then refused s.at reason.PastBound else goes (past 4 (count_read (v - 1)) s)))
+                → Right (count_items order h os item.Actual s) s.at seen
+                (if b then refused s.at reason.TextEmpty else (if ltb max v then refused s.at reason.PastBound else goes (past 4 (count_read (v - 1)) s)))
             by_zero true e = λ later. stops_it later (s.at, reason.TextEmpty) (judge true (ltb max v) e refl later 0)
             by_zero false e = by_bound (ltb max v) e refl
 
@@ -345,7 +374,8 @@ module _ (order : Order) (fetched os : List ℕ) (code : List Instr) (values : L
           x : EntryAt
           x = entry_of (Text text)
 
-          judge : (r : Option (ℕ × Reason)) → text_refusal s.at os ≡ r → (later : List ℕ) (y : List ℕ) → length y + 1 ≡ length os → refusal order ((fetched ++ os) ++ later) seen (entry_of (Text y)) ≡ r
+          judge : (r : Option (ℕ × Reason)) → text_refusal s.at os ≡ r → (later : List ℕ) (y : List ℕ) → length y + 1 ≡ length os
+              → refusal order ((fetched ++ os) ++ later) seen (entry_of (Text y)) ≡ r
           judge r e later y l = judged order fetched os later s.at reached (entry_of (Text y)).entry seen l (no_less STREAM_LIMIT (s.at + (length y + 1)) (omega (arith, l, size, short))) ∙ e
 
           on_it : (later : List ℕ) → finish order ((fetched ++ os) ++ later) table h s.max (suc k) fs
@@ -354,12 +384,16 @@ module _ (order : Order) (fetched os : List ℕ) (code : List Instr) (values : L
 
           by_refusal : (r : Option (ℕ × Reason)) → text_refusal s.at os ≡ r → Right (next_item h s item.Text (length os) (pos (length os)) ∷ []) s.at seen (text_done r max os s)
           by_refusal (Some why) e = λ later.
-              (text_next order ((fetched ++ os) ++ later) table h k s.max fs n s.at seen names (target ((fetched ++ os) ++ later)) t max c (on_it later)) why (judge (Some why) e later zeros zeros_size)
+              (text_next order ((fetched ++ os) ++ later) table h k s.max fs n s.at seen names (target ((fetched ++ os) ++ later)) t max c (on_it later)) why
+              (judge (Some why) e later zeros zeros_size)
           by_refusal None e =
-              let told' : Told (noted ++ next_item h s item.Text (length os) (pos (length os)) ∷ []) direct order (fetched ++ os) h (seen ++ x ∷ []) names s.cells s.numbers s.max_at (length s.nodes) (counts_at (s.at - 4) ∷ []) =
+              let told' : Told (noted ++ next_item h s item.Text (length os) (pos (length os)) ∷ []) direct order (fetched ++ os) h (seen ++ x ∷ []) names s.cells s.numbers s.max_at (length s.nodes)
+              (counts_at (s.at - 4) ∷ []) =
               told_passed (next_item h s item.Text (length os) (pos (length os)) ∷ []) order fetched os h seen names s.cells s.numbers s.max_at (length s.nodes) (counts_at (s.at - 4) ∷ []) x
-              (items_it order fetched os [] s.at reached x.entry seen text_size ∙ ap₂ (λ l j. item_here h s.at item.Text l (pos (length os)) j ∷ []) text_size (sym same_count)) tt tt refl (lies_it order fetched os [] s.at reached x.entry seen text_size) told in
-              leaf_good order (fetched ++ os) code table h own limit (noted ++ next_item h s item.Text (length os) (pos (length os)) ∷ []) direct target (parts_of s) (s.pc + 1) (s.at + length os) s.max s.tag s.carrier s.fresh s.cells s.numbers (tree.Text max text) (Some (s.at - 4)) (counts_at (s.at - 4) ∷ []) (seen ++ x ∷ []) names (suc k) fs t
+              (items_it order fetched os [] s.at reached x.entry seen text_size ∙ ap₂ (λ l j. item_here h s.at item.Text l (pos (length os)) j ∷ []) text_size (sym same_count)) tt tt refl
+              (lies_it order fetched os [] s.at reached x.entry seen text_size) told in
+              leaf_good order (fetched ++ os) code table h own limit (noted ++ next_item h s item.Text (length os) (pos (length os)) ∷ []) direct target (parts_of s) (s.pc + 1)
+              (s.at + length os) s.max s.tag s.carrier s.fresh s.cells s.numbers (tree.Text max text) (Some (s.at - 4)) (counts_at (s.at - 4) ∷ []) (seen ++ x ∷ []) names (suc k) fs t
               (within_passed code table h own limit seen (suc k) fs t (parts_of s) x (λ a j l. silent a h j x tt) w)
               (none_found order (fetched ++ os) h (seen ++ x ∷ []) names s.cells s.numbers s.max_at (length s.nodes) (counts_at (s.at - 4) ∷ []) told')
               told'

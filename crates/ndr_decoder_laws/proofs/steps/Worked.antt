@@ -116,7 +116,9 @@ module _ (h : Home) where
   good_first = begins_plain Little [] code values basic_types h 5 [] 0 plan at_first [] no_names fine begins not_hoisting refl
 
   good_after_gap : Good Little [] code basic_types h 5 32 [] 0 target after_gap
-  good_after_gap = step_right Little [] [] code values basic_types h 5 32 [] 0 target plan at_first good_first (op.Align 2) (first_at code (place_at basic_types 5) (op.Align 2) (op.Num (id 5) ∷ op.Ret ∷ []) run) refl
+  good_after_gap =
+      step_right Little [] [] code values basic_types h 5 32 [] 0 target plan at_first good_first (op.Align 2)
+      (first_at code (place_at basic_types 5) (op.Align 2) (op.Num (id 5) ∷ op.Ret ∷ []) run) refl
 
   pub run_short : IsRunAt code (place_at basic_types 5 + 1) (op.Num (id 5) ∷ op.Ret ∷ [])
   run_short = next_at code (place_at basic_types 5) (op.Align 2) (op.Num (id 5) ∷ op.Ret ∷ []) run

@@ -45,7 +45,8 @@ module _ (w : Setting) (order : Order) (fetched more : List ℕ) (noted noted' :
     told_after : (h : Home) → IsUnread after h → Told noted' direct' order (fetched ++ more) h is.seen (with_value c is.v is.names) x.cells x.numbers None 0 []
     told_after h u =
         let (v, f) = unread_before h u in
-        told_valued order (fetched ++ more) h is.seen is.names x.cells x.numbers None 0 [] c is.v (told_then w order fetched more noted noted' direct direct' b s seen ps kp (cell_home c) free t names x is h v f)
+        told_valued order (fetched ++ more) h is.seen is.names x.cells x.numbers None 0 [] c is.v
+        (told_then w order fetched more noted noted' direct direct' b s seen ps kp (cell_home c) free t names x is h v f)
 
     not_this : (d : ℕ) → IsPlaced s.done d → d ≡ c → ⊥
     not_this d q e = free (subst (IsPlaced s.done) e q)

@@ -54,7 +54,8 @@ value_other roots old c zero v s n = refl
 value_other roots old zero (suc j) v s n = refl
 value_other roots old (suc i) (suc j) v s n = nth_other i j v s.cells (λ e. n (ap suc e))
 
-pub told_valued : {noted : List Item} {direct : ℕ} (order : Order) (fetched : List ℕ) (h : Home) (seen : List EntryAt) (names : Names) (cells : List ℕ) (numbers : List (ℕ × Known)) (max_at : Option ℕ) (n : ℕ) (half : List Place)
+pub told_valued : {noted : List Item} {direct : ℕ} (order : Order) (fetched : List ℕ) (h : Home) (seen : List EntryAt) (names : Names) (cells : List ℕ) (numbers : List (ℕ × Known))
+    (max_at : Option ℕ) (n : ℕ) (half : List Place)
     (c : ℕ) (v : Tree) → Told noted direct order fetched h seen names cells numbers max_at n half → Told noted direct order fetched h seen (with_value c v names) cells numbers max_at n half
 told_valued order fetched h seen names cells numbers max_at n half c v t = record {
   cells_are = t.cells_are ∙ sym (same_types c v names.cells);
@@ -86,7 +87,8 @@ graph_filled g g' roots old c v types s f t same p l =
     each j = by_test j (eqb (suc j) c) refl
 
 -- a cell more, of a root that is a reference pointer
-pub told_reference : {noted : List Item} {direct : ℕ} (order : Order) (fetched : List ℕ) (h : Home) (seen : List EntryAt) (names : Names) (cells : List ℕ) (numbers : List (ℕ × Known)) (max_at : Option ℕ) (n : ℕ) (half : List Place)
+pub told_reference : {noted : List Item} {direct : ℕ} (order : Order) (fetched : List ℕ) (h : Home) (seen : List EntryAt) (names : Names) (cells : List ℕ) (numbers : List (ℕ × Known))
+    (max_at : Option ℕ) (n : ℕ) (half : List Place)
     (to : ℕ) → Told noted direct order fetched h seen names cells numbers max_at n half → Told noted (direct + 1) order fetched h seen (with_cell to names) (cells ++ to ∷ []) numbers max_at n half
 told_reference {direct = direct} order fetched h seen names cells numbers max_at n half to t = record {
   cells_are = ap (λ xs. xs ++ to ∷ []) t.cells_are ∙ sym (map-append (λ (c : Referent). c.of) names.cells (record { of = to; val = unread } ∷ []));

@@ -57,7 +57,8 @@ zero_plus : (i : ℕ) → i ≡ 0 + i
 zero_plus i = omega arith
 
 module _ (w : Setting) (side : IsLegalSide w) (order : Order) (fetched : List ℕ) (noted : List Item) (direct : ℕ) (b : Between) (s : Reading) (seen : List EntryAt) (n : ℕ)
-    (ag : Agrees w side order fetched noted direct b s seen [] (suc n)) (r : Root) (there : slice_get (root_list w) (length s.roots) ≡ Some r) (to : TypeId) (refers : type_at w.table r.of ≡ Some (def.Pointer Ref to)) where
+    (ag : Agrees w side order fetched noted direct b s seen [] (suc n)) (r : Root) (there : slice_get (root_list w) (length s.roots) ≡ Some r) (to : TypeId)
+    (refers : type_at w.table r.of ≡ Some (def.Pointer Ref to)) where
   abbrev i : ℕ
   i = length s.roots
 
@@ -128,7 +129,8 @@ module _ (w : Setting) (side : IsLegalSide w) (order : Order) (fetched : List �
       subst (λ (u : Reading). Goes u.progress (head_read w order (fetched ++ added))) (next_is (fetched ++ added))
       (next_then_head w side order fetched ag.octets s (due_root i) later_due due_is ag.reached added a)
 
-  module _ (more : List ℕ) (all_more : AreOctets more) (noted' : List Item) (x : State) (is : Whole order (fetched ++ more) w.table (cell_home (length s.names.cells + 1)) to.0 noted' (direct + 1) target x)
+  module _ (more : List ℕ) (all_more : AreOctets more) (noted' : List Item) (x : State)
+      (is : Whole order (fetched ++ more) w.table (cell_home (length s.names.cells + 1)) to.0 noted' (direct + 1) target x)
       (needs : AreNeeded target fetched more) where
     abbrev pub made : List Pending
     made = home_pointers w.table (cell_home (length s.names.cells + 1)) to.0 is.v
@@ -208,7 +210,8 @@ module _ (w : Setting) (side : IsLegalSide w) (order : Order) (fetched : List �
         → Agrees w side order (fetched ++ more) noted' (direct + 1) (cell_read b x (b.roots ++ root ∷ []) read g) after is.seen made n
     direct_ends root own its_cell k kept read is_read g filled =
         let keeps : Keeps w order (fetched ++ more) noted' (direct + 1) (cell_read b x (b.roots ++ root ∷ []) read g) after is.seen (made ++ []) =
-        keeps_cell w order fetched more noted noted' direct (direct + 1) b s seen [] ag.keeps c free to.0 names x is ext (omega arith) cell_there (s.roots ++ its_tree ∷ []) (b.roots ++ root ∷ []) (omega (arith, more_roots))
+        keeps_cell w order fetched more noted noted' direct (direct + 1) b s seen [] ag.keeps c free to.0 names x is ext (omega arith) cell_there (s.roots ++ its_tree ∷ []) (b.roots ++ root ∷ [])
+        (omega (arith, more_roots))
         (root_more is.seen 0 s.roots b.roots its_tree root (roots_then w order fetched more noted noted' direct (direct + 1) b s seen [] ag.keeps (cell_home c) free to.0 names x is)
         (subst (λ j. IsKeptOf is.seen (home.Root j) its_tree root.own) (zero_plus i) (own_root root own)) its_cell)
         Ref after.due (going x.at is.seen) k kept read is_read g filled in

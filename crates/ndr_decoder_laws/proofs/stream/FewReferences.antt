@@ -29,7 +29,8 @@ module _ (w : Setting) (side : IsLegalSide w) (order : Order) (fetched : List �
   pub few_next : (r : Root) → slice_get (root_list w) (length s.roots) ≡ Some r → is_direct (type_at w.table r.of) ≡ true → direct + 1 ≤ length (direct_roots w)
   few_next r there is =
       let e : direct ≡ so_many (length s.roots) = ag.direct_are in
-      let f : so_many (suc (length s.roots)) ≡ so_many (length s.roots) + one_if (is_direct (type_at w.table r.of)) = count_more (λ z. is_direct (type_at w.table z.of)) (root_list w) (length s.roots) r there in
+      let f : so_many (suc (length s.roots)) ≡ so_many (length s.roots) + one_if (is_direct (type_at w.table r.of)) =
+      count_more (λ z. is_direct (type_at w.table z.of)) (root_list w) (length s.roots) r there in
       let g : one_if (is_direct (type_at w.table r.of)) ≡ 1 = ap (λ t. one_if t) is in
       let l = few_of (suc (length s.roots)) in
       omega (arith, e, f, g, l)

@@ -21,9 +21,11 @@ use Rattle.nd_grammar.specs.declared.reason.Reason.{Reason}
 use Rattle.nd_grammar.specs.Entry.{Kind, Entry, Align, Max, Offset, Actual, Number, Num, Tag, Text, Context}
 use Rattle.nd_grammar.specs.InPlace.{tests, own_tests, child_tests}
 use Rattle.nd_grammar.specs.Refusal.{refusal}
-use Rattle.nd_grammar.specs.Reader.{Progress, Names, Read, ReadAll, is_stopped, here, advanced, pass, pass_all, taken, number_in, value_in, text_in, attributes_in, identifier_in, named, read_if, read_list, read_children, read_in_place, read_hoisted, read_whole, tree_nodes, bound_or}
+use Rattle.nd_grammar.specs.Reader.{Progress, Names, Read, ReadAll, is_stopped, here, advanced, pass, pass_all, taken, number_in, value_in, text_in, attributes_in, identifier_in, named, read_if}
+use Rattle.nd_grammar.specs.Reader.{read_list, read_children, read_in_place, read_hoisted, read_whole, tree_nodes, bound_or}
 use Rattle.ndr_decoder_laws.specs.reader.Around.{Around, tried, tests_of, continue, go_on, finish}
-use Rattle.ndr_decoder_laws.specs.reader.Halves.{Reader, gap_of, past_gap, after_gap, array_after_offset, array_after, text_after_count, text_after_offset, text_after, union_tagged, tagged_after, hoisted_after}
+use Rattle.ndr_decoder_laws.specs.reader.Halves.{Reader, gap_of, past_gap, after_gap, array_after_offset, array_after, text_after_count, text_after_offset, text_after, union_tagged, tagged_after}
+use Rattle.ndr_decoder_laws.specs.reader.Halves.{hoisted_after}
 use Rattle.ndr_decoder_laws.specs.reader.Points.{Point, hoisting, counting, called, due, opened, offset_read, text_offset, text_counted, tagged, between, checking, has, read_at, below, tag_taken}
 use Rattle.ndr_decoder_laws.proofs.reader.Continuing.{in_halves}
 use Rattle.ndr_decoder_laws.specs.stream.Added.{Added}
@@ -141,7 +143,8 @@ module _ (order : Order) (octets : List ℕ) where
         let q : Progress = past n (Offset true 0) p in
         added_twice h p q (text_after_offset order octets table h max n q s).progress (of_kind n (Offset true 0) p) (text_offset_adds max n q s)
 
-    tagged_union_adds : (read : Reader) → Adds read → (d : Option TypeDef) (n : ℕ) (prim : Primitive) (values : Option (List ℤ)) (arms : List Arm) (default : Option Arm) (z : ℤ) (p : Progress) (s : Names)
+    tagged_union_adds : (read : Reader) → Adds read
+        → (d : Option TypeDef) (n : ℕ) (prim : Primitive) (values : Option (List ℤ)) (arms : List Arm) (default : Option Arm) (z : ℤ) (p : Progress) (s : Names)
         → Added h p (union_tagged order octets table h read d n prim values arms default z p s).progress
     tagged_union_adds read k d n prim values arms default z p s =
         then_children read k n (Tag prim values arms default z) d (tree.Union z) (child_types d (tree.Union z) none) p s

@@ -16,7 +16,8 @@ use Rattle.ndr_decoder_laws.proofs.worklist.Turns.{over}
 use Rattle.ndr_decoder_laws.specs.stream.Between.{Between, Agrees}
 use Rattle.ndr_decoder_laws.specs.stream.Parameters.{head_read, parameter_tests, pipes_from}
 
-module _ (w : Setting) (side : IsLegalSide w) (order : Order) (fetched : List ℕ) (noted : List Item) (direct : ℕ) (b : Between) (s : Reading) (seen : List EntryAt) (ag : Agrees w side order fetched noted direct b s seen [] 0) where
+module _ (w : Setting) (side : IsLegalSide w) (order : Order) (fetched : List ℕ) (noted : List Item) (direct : ℕ) (b : Between) (s : Reading) (seen : List EntryAt)
+    (ag : Agrees w side order fetched noted direct b s seen [] 0) where
   over_now : (later : List ℕ) → AreOctets later → read_stream w order (fetched ++ later) ≡ stream_after w order (fetched ++ later) s
   over_now later a = over w order fetched s ag.reached ag.due later a
 

@@ -24,7 +24,8 @@ use Rattle.ndr_decoder_laws.proofs.steps.PlanRuns.{planned}
 use Rattle.ndr_decoder_laws.specs.stream.Between.{Between, Opens}
 use Rattle.ndr_decoder_laws.proofs.stream.FineTypes.{usable_fine}
 
-told_at : {noted : List Item} {direct : ℕ} (order : Order) (fetched : List ℕ) (h : Home) (seen : List EntryAt) (names : Names) (b : Between) (run : ℕ) (types : List ℕ) (x : State) → Opens run b types x
+told_at : {noted : List Item} {direct : ℕ} (order : Order) (fetched : List ℕ) (h : Home) (seen : List EntryAt) (names : Names) (b : Between) (run : ℕ) (types : List ℕ) (x : State)
+    → Opens run b types x
     → Told noted direct order fetched h seen names types b.numbers None 0 [] → Told noted direct order fetched h seen names x.cells x.numbers x.max_at (length x.nodes) []
 told_at {noted = noted} {direct = direct} order fetched h seen names b run types x o t =
     subst (λ u. Told noted direct order fetched h seen names u x.numbers x.max_at (length x.nodes) []) (sym o.cells)
@@ -32,7 +33,8 @@ told_at {noted = noted} {direct = direct} order fetched h seen names b run types
     (subst (λ u. Told noted direct order fetched h seen names types b.numbers u (length x.nodes) []) (sym o.max_at)
     (subst (λ u. Told noted direct order fetched h seen names types b.numbers None (length u) []) (sym o.nodes) t)))
 
-module _ (table : Table) (operations : List Operation) (legal : IsLegal table operations) (order : Order) (fetched : List ℕ) (noted : List Item) (direct : ℕ) (h : Home) (seen : List EntryAt) (names : Names)
+module _ (table : Table) (operations : List Operation) (legal : IsLegal table operations) (order : Order) (fetched : List ℕ) (noted : List Item) (direct : ℕ) (h : Home) (seen : List EntryAt)
+    (names : Names)
     (t : ℕ) (usable : Usable table t) (b : Between) (at : length fetched ≡ b.at) (types : List ℕ) (x : State) (o : Opens (whole_at table t) b types x)
     (told : Told noted direct order fetched h seen names types b.numbers None 0 []) where
   begun_it : IsBegun noted direct order fetched h seen names x

@@ -20,7 +20,8 @@ use Rattle.ndr_decoder_laws.specs.stream.Report.{AreCells, Extent, StreamRefused
 use Rattle.ndr_decoder_laws.proofs.stream.Heads.{over_stream}
 use Rattle.ndr_decoder_laws.proofs.stream.Needing.{NeededAfter, needed_more}
 
-module _ (x : Extent) (w : Setting) (order : Order) (fetched : List ℕ) (all : AreOctets fetched) (needed : IsNeeded w order fetched) (target : List ℕ → Read) (added : List ℕ) (all_added : AreOctets added) where
+module _ (x : Extent) (w : Setting) (order : Order) (fetched : List ℕ) (all : AreOctets fetched) (needed : IsNeeded w order fetched) (target : List ℕ → Read) (added : List ℕ)
+    (all_added : AreOctets added) where
   octets : AreOctets (fetched ++ added)
   octets = all_append (λ b. b < 256) fetched added all all_added
 
@@ -32,7 +33,8 @@ module _ (x : Extent) (w : Setting) (order : Order) (fetched : List ℕ) (all : 
       (over_stream w order (fetched ++ part) x at seen (length (fetched ++ part), reason.Truncated) (refuses part a at seen (length (fetched ++ part), reason.Truncated) stop))
 
   pub home_refused : RefusesWith x w order fetched target → AreNeeded target fetched added → (noted : List Item) (n place : ℕ) (why : Reason) (at : ℕ) (seen : List EntryAt)
-      → (target (fetched ++ added)).progress ≡ stopped at seen (place, why) → items order (fetched ++ added) seen ≡ noted → AreCells w seen n → StreamRefused x w order (fetched ++ added) noted n place why
+      → (target (fetched ++ added)).progress ≡ stopped at seen (place, why) → items order (fetched ++ added) seen ≡ noted → AreCells w seen n
+      → StreamRefused x w order (fetched ++ added) noted n place why
   home_refused refuses needs noted n place why at seen stop e cells = record {
     octets = octets;
     at = at;

@@ -42,7 +42,8 @@ is_among (d ∷ ds) c (inr q) = go (eqb c d.1) (is_among ds c q)
     go true e = refl
     go false e = e
 
-module _ (w : Setting) (side : IsLegalSide w) (order : Order) (fetched : List ℕ) (noted : List Item) (direct : ℕ) (b : Between) (s : Reading) (seen : List EntryAt) (p : Pending) (ps : List Pending) (n : ℕ)
+module _ (w : Setting) (side : IsLegalSide w) (order : Order) (fetched : List ℕ) (noted : List Item) (direct : ℕ) (b : Between) (s : Reading) (seen : List EntryAt) (p : Pending) (ps : List Pending)
+    (n : ℕ)
     (ag : Agrees w side order fetched noted direct b s seen (p ∷ ps) n) where
   abbrev later_due : List Due
   later_due = map due_referent ps ++ due_roots (length s.roots) n
@@ -115,7 +116,8 @@ module _ (w : Setting) (side : IsLegalSide w) (order : Order) (fetched : List �
 
     -- its agreements hold
     pub stood_ends : AllAgree k p.agreements
-        → Agrees w side order fetched noted direct (taken b) (passed_by (going b.at (seen ++ all_at b.at (tests (cell_home c) 0 its_tree p.agreements)))) (seen ++ all_at b.at (tests (cell_home c) 0 its_tree p.agreements)) ps n
+        → Agrees w side order fetched noted direct (taken b) (passed_by (going b.at (seen ++ all_at b.at (tests (cell_home c) 0 its_tree p.agreements))))
+        (seen ++ all_at b.at (tests (cell_home c) 0 its_tree p.agreements)) ps n
     stood_ends agree =
         turned (seen ++ all_at b.at (tests (cell_home c) 0 its_tree p.agreements))
         (λ later. first_is (fetched ++ later) ∙ ap passed_by (tests_pass order fetched w.table (cell_home c) b.at ag.keeps.at its_tree k p.agreements seen kept_it agree later))

@@ -82,7 +82,8 @@ root_more seen i (u ∷ vs) (y ∷ ks) v k (z, c, rest) x e =
     (z, c, root_more seen (suc i) vs ks v k rest (subst (λ j. IsKeptOf seen (home.Root j) v k.own) (one_later i (length vs)) x) e)
 
 -- What is told of a home of which nothing was read stays so, where what is told of another home goes on.
-pub told_other : {noted noted' : List Item} {direct direct' : ℕ} (order : Order) (fetched fetched' : List ℕ) (h k : Home) (seen xs : List EntryAt) (names names' : Names) (cells cells' : List ℕ) (numbers numbers' : List (ℕ × Known))
+pub told_other : {noted noted' : List Item} {direct direct' : ℕ} (order : Order) (fetched fetched' : List ℕ) (h k : Home) (seen xs : List EntryAt) (names names' : Names) (cells cells' : List ℕ)
+    (numbers numbers' : List (ℕ × Known))
     (max_at : Option ℕ) (n : ℕ) (half : List Place)
     → Told noted direct order fetched h seen names cells numbers None 0 [] → Told noted' direct' order fetched' k (seen ++ xs) names' cells' numbers' max_at n half → AreSilent h xs
     → Told noted' direct' order fetched' h (seen ++ xs) names' cells' numbers' None 0 []

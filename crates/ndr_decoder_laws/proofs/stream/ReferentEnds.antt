@@ -66,7 +66,8 @@ positive : (cells : List Referent) (c : ℕ) (y : Referent) → cell_in cells c 
 positive cells zero y e = cc
 positive cells (suc i) y e = omega arith
 
-module _ (w : Setting) (side : IsLegalSide w) (order : Order) (fetched : List ℕ) (noted : List Item) (direct : ℕ) (b : Between) (s : Reading) (seen : List EntryAt) (p : Pending) (ps : List Pending) (n : ℕ)
+module _ (w : Setting) (side : IsLegalSide w) (order : Order) (fetched : List ℕ) (noted : List Item) (direct : ℕ) (b : Between) (s : Reading) (seen : List EntryAt) (p : Pending) (ps : List Pending)
+    (n : ℕ)
     (ag : Agrees w side order fetched noted direct b s seen (p ∷ ps) n) (c : ℕ) (is_cell : p.cell ≡ Some c) where
   abbrev later_due : List Due
   later_due = map due_referent ps ++ due_roots (length s.roots) n
@@ -238,7 +239,8 @@ module _ (w : Setting) (side : IsLegalSide w) (order : Order) (fetched : List �
               → Agrees w side order (fetched ++ more) noted' direct (cell_read (taken b) x b.roots read g) (after (going x.at seen_then)) seen_then (made ++ ps) n
           referent_ends read is_read g filled = record {
             octets = octets;
-            reached = turns w side order fetched more ag.octets all_more s (after (going x.at seen_then)) (due_referent p) later_due ag.reached due_is (λ later a. next_then later ∙ ap after (passes later));
+            reached =
+                turns w side order fetched more ag.octets all_more s (after (going x.at seen_then)) (due_referent p) later_due ag.reached due_is (λ later a. next_then later ∙ ap after (passes later));
             progress = refl;
             due = due_then (going x.at seen_then);
             state = λ later all.
@@ -247,7 +249,8 @@ module _ (w : Setting) (side : IsLegalSide w) (order : Order) (fetched : List �
                 (first_then later ∙ ap after (passes later)) (due_then (going x.at seen_then));
             needed = needed_more w order fetched more ag.needed needed_then;
             direct_are = ag.direct_are;
-            keeps = keeps_tests order (fetched ++ more) w.table (cell_home c) x.at is.reached is.v k w noted' direct (cell_read (taken b) x b.roots read g) (after (going x.at seen_then)) is.seen (made ++ ps) p.agreements
+            keeps = keeps_tests order (fetched ++ more) w.table (cell_home c) x.at is.reached is.v k w noted' direct (cell_read (taken b) x b.roots read g) (after (going x.at seen_then)) is.seen
+                (made ++ ps) p.agreements
                 (keeps_cell w order fetched more noted noted' direct direct (taken b) s seen ps kept_now c free p.to s.names x is wholly.extends above there s.roots b.roots (omega arith)
                 (roots_then w order fetched more noted noted' direct direct (taken b) s seen ps kept_now (cell_home c) free p.to s.names x is)
                 p.class (after (going x.at seen_then)).due (going x.at seen_then) k own read is_read g filled);

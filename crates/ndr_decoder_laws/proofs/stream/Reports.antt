@@ -25,7 +25,8 @@ use Rattle.ndr_decoder_laws.proofs.verdict.Refused.{refused_there, stays_refused
 use Rattle.ndr_decoder_laws.specs.stream.Report.{AreCells, IsReported, StreamRefused, StreamCut, the_stream}
 
 module _ (w : Setting) (side : IsLegalSide w) (order : Order) (s : SourceSeen) (t : DecodingSeen) where
-  pub counted_so : (fetched : List ℕ) (seen : List EntryAt) (noted : List Item) (n : ℕ) → items order fetched seen ≡ noted → AreCells w seen n → IsReported noted n t → IsReadThrough w order fetched seen
+  pub counted_so : (fetched : List ℕ) (seen : List EntryAt) (noted : List Item) (n : ℕ) → items order fetched seen ≡ noted → AreCells w seen n → IsReported noted n t
+      → IsReadThrough w order fetched seen
       → IsCounted w order fetched seen t
   counted_so fetched seen noted n e c r through =
       let many = c.named.many in

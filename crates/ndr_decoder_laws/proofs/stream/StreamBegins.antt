@@ -65,7 +65,14 @@ module _ (w : Setting) (side : IsLegalSide w) (order : Order) where
   told_nothing : (h : Home) (numbers : List (ℕ × Known)) → numbers ≡ [] → Told [] 0 order [] h [] (record { cells = []; numbers = [] }) [] numbers None 0 []
   told_nothing h numbers e =
       subst (λ u. Told [] 0 order [] h [] (record { cells = []; numbers = [] }) [] u None 0 []) (sym e)
-      (record { noted_are = refl; cells_are = refl; cells_named = record { named = none_seen; there = tt }; numbers_are = λ v p. (refl, λ to. refl); ahead = λ a j. nothing_found a j; lie_within = tt })
+      (record {
+        noted_are = refl;
+        cells_are = refl;
+        cells_named = record { named = none_seen; there = tt };
+        numbers_are = λ v p. (refl, λ to. refl);
+        ahead = λ a j. nothing_found a j;
+        lie_within = tt;
+      })
 
   pub stream_begins : (b : Between) → Begins b → Agrees w side order [] [] 0 b (read_start w order []) [] [] n
   stream_begins b g = record {

@@ -109,7 +109,8 @@ module _ (w : Setting) (order : Order) (octets : List ℕ) where
       let q : Progress = pass order octets (record { home = h; node = 0; kind = Chunk k }) gap in
       let kids : ReadAll = read_list w.table (read_in_place order octets w.table h 32 0) (replicate k elem) n q s in
       let others : ReadPipe = read_chunks w order octets more h elem (n + node_count kids.trees) kids.progress kids.names in
-      let first : Goes p q = goes_twice p gap q (pass_goes order octets (record { home = h; node = 0; kind = Align 4 }) p) (pass_goes order octets (record { home = h; node = 0; kind = Chunk k }) gap) in
+      let first : Goes p q =
+      goes_twice p gap q (pass_goes order octets (record { home = h; node = 0; kind = Align 4 }) p) (pass_goes order octets (record { home = h; node = 0; kind = Chunk k }) gap) in
       let elements : Goes q kids.progress =
       goes_by h q kids.progress (list_adds order octets w.table h (read_in_place order octets w.table h 32 0) (in_place_adds order octets w.table h 32 0) (replicate k elem) n q s) in
       let rest : Goes kids.progress others.progress = chunks_go more h elem (n + node_count kids.trees) kids.progress kids.names in

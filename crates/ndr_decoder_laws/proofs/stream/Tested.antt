@@ -119,9 +119,11 @@ module _ (order : Order) (fetched : List ℕ) (table : Table) (h : Home) (at : �
       ∙ tests_stop ws w others why (seen ++ t ∷ []) (kept_later h v k seen (t ∷ []) (test_silent h x) kept) a.1 e after
       ∙ ap (λ u. stopped at u why) (append_assoc seen (t ∷ []) (all_at at (tests h 0 v ws)))
 
-  pub told_tests : {noted : List Item} {direct : ℕ} (ws : List Agreement) (g : Home) (seen : List EntryAt) (names : Names) (cells : List ℕ) (numbers : List (ℕ × Known)) (max_at : Option ℕ) (n : ℕ) (half : List Place)
+  pub told_tests : {noted : List Item} {direct : ℕ} (ws : List Agreement) (g : Home) (seen : List EntryAt) (names : Names) (cells : List ℕ) (numbers : List (ℕ × Known)) (max_at : Option ℕ) (n : ℕ)
+      (half : List Place)
       → Told noted direct order fetched g seen names cells numbers max_at n half → Told noted direct order fetched g (seen ++ all_at at (tests h 0 v ws)) names cells numbers max_at n half
-  told_tests {noted = noted} {direct = direct} [] g seen names cells numbers max_at n half t = subst (λ u. Told noted direct order fetched g u names cells numbers max_at n half) (sym (append-nil seen)) t
+  told_tests {noted = noted} {direct = direct} [] g seen names cells numbers max_at n half t =
+      subst (λ u. Told noted direct order fetched g u names cells numbers max_at n half) (sym (append-nil seen)) t
   told_tests {noted = noted} {direct = direct} (w ∷ ws) g seen names cells numbers max_at n half t =
       let x : EntryAt = test_at w in
       let lies : Lies (fetched ++ []) x = let i : length (fetched ++ []) ≡ length fetched + 0 = length-append fetched [] in omega (arith, i, reached) in

@@ -39,7 +39,8 @@ few_named : (at : ℕ) (ms : List Entry) → length (cells_in (end_to_end at ms)
 few_named at [] = omega arith
 few_named at (m ∷ ms) = go m.kind (few_named (at + size_at at m.kind) ms)
   where
-    go : (k : Kind) → length (cells_in (end_to_end (at + size_at at m.kind) ms)) ≤ numbers ms → length (target (named_cell k) ++ cells_in (end_to_end (at + size_at at m.kind) ms)) ≤ numbers (record { home = m.home; node = m.node; kind = k } ∷ ms)
+    go : (k : Kind) → length (cells_in (end_to_end (at + size_at at m.kind) ms)) ≤ numbers ms
+        → length (target (named_cell k) ++ cells_in (end_to_end (at + size_at at m.kind) ms)) ≤ numbers (record { home = m.home; node = m.node; kind = k } ∷ ms)
     go (Number class to (Some c)) h = omega arith
     go (Number class to None) h = omega arith
     go (Align n) h = omega arith

@@ -1,5 +1,6 @@
 -- The cells that the pointers of a value name, where the reader reads it: each for the first time as the next cell.
-use Rattle.std.proofs.Common.{◌≡◌, ℕ, ◌+◌, ◌-◌, ◌<◌, ◌≤◌, inl, inr, zero, suc, ℤ, Bool, true, false, List, [], ◌∷◌, ◌++◌, length, Option, Some, None, refl, ap, sym, ◌∙◌, subst, replicate, arith, length-append}
+use Rattle.std.proofs.Common.{◌≡◌, ℕ, ◌+◌, ◌-◌, ◌<◌, ◌≤◌, inl, inr, zero, suc, ℤ, Bool, true, false, List, [], ◌∷◌, ◌++◌, length, Option, Some, None, refl, ap, sym, ◌∙◌, subst, replicate, arith}
+use Rattle.std.proofs.Common.{length-append}
 use Rattle.std.specs.Prelude.{pos, map, flat_map, not, ◌&&◌, cond, eqb}
 use Rattle.std.specs.List.{AllByRecursion}
 use Rattle.std.proofs.lemmas.List.{length-replicate}
@@ -25,7 +26,8 @@ use Rattle.nd_value.specs.Nodes.{nodes_of, child_types, child_agreements, first_
 use Rattle.nd_value.specs.Deferral.{Pending, pointer, pointer_by, home_pointers}
 use Rattle.nd_value.proofs.Apart.{all_weaker}
 use Rattle.nd_grammar.specs.Entry.{Kind, Entry, Align, Max, Offset, Actual, Number, Tag, Text, Context}
-use Rattle.nd_grammar.specs.Reader.{Progress, Names, Named, Read, ReadAll, is_stopped, pass, taken, number_in, value_in, fresh, with_cell, numbered, new_cell, full_by, named, read_if, read_list, tree_nodes, read_children, read_array, read_tagged, read_by, read_in_place, read_hoisted, read_whole, bound_or}
+use Rattle.nd_grammar.specs.Reader.{Progress, Names, Named, Read, ReadAll, is_stopped, pass, taken, number_in, value_in, fresh, with_cell, numbered, new_cell, full_by, named, read_if, read_list}
+use Rattle.nd_grammar.specs.Reader.{tree_nodes, read_children, read_array, read_tagged, read_by, read_in_place, read_hoisted, read_whole, bound_or}
 use Rattle.nd_grammar.proofs.next.Mapped.{in_parts}
 use Rattle.nd_grammar.proofs.reader.ReaderInPlace.{Readable, list_read, Reads, in_place_read}
 use Rattle.nd_grammar.proofs.reader.ReaderLeaves.{value_pointers, after_value, first_value, no_pointer_unread}
@@ -143,7 +145,8 @@ module _ (order : Order) (octets : List ℕ) (table : Table) (h : Home) where
       → Names_value d s (read_children order octets table h read d n l types p s).tree (read_children order octets table h read d n l types p s).names
   children_name read d n l types p s laws same none_own a k ags =
       let kids : ReadAll = read_list table read types (n + 1) p s in
-      subst (λ u. NamesSo s kids.names (cells_of (u ++ flat_map (pointer table h) (nodes_of table (child_types d l kids.trees) (child_agreements d kids.trees) (k + 1) kids.trees)))) (sym (none_own k ags))
+      subst (λ u. NamesSo s kids.names (cells_of (u ++ flat_map (pointer table h) (nodes_of table (child_types d l kids.trees) (child_agreements d kids.trees) (k + 1) kids.trees))))
+      (sym (none_own k ags))
       (subst (λ u. NamesSo s kids.names (cells_of (flat_map (pointer table h) (nodes_of table u (child_agreements d kids.trees) (k + 1) kids.trees)))) (sym same)
       (list_names read types laws (n + 1) p s a (k + 1) (child_agreements d kids.trees)))
 
@@ -210,7 +213,8 @@ module _ (order : Order) (octets : List ℕ) (table : Table) (h : Home) where
   in_place_names : (depth m t : ℕ) → Readable table depth t → Name (read_in_place order octets table h depth m) t
   in_place_names zero m t r n p s = absurd r
   in_place_names (suc depth) m t (d, e, f, a) n p s =
-      subst (λ u. Names_value u s (read_by order octets table h (read_in_place order octets table h depth m) m t u n p s).tree (read_by order octets table h (read_in_place order octets table h depth m) m t u n p s).names) (sym e)
+      subst (λ u. Names_value u s (read_by order octets table h (read_in_place order octets table h depth m) m t u n p s).tree
+      (read_by order octets table h (read_in_place order octets table h depth m) m t u n p s).names) (sym e)
       (by_names (read_in_place order octets table h depth m) m t d n p s (all_names (parts (Some d)) a (in_place_names depth m)) (all_counts (parts (Some d)) a))
     where
       all_names : (ts : List ℕ) → AllByRecursion (Readable table depth) ts → ((t : ℕ) → Readable table depth t → Name (read_in_place order octets table h depth m) t)

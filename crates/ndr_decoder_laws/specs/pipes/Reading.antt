@@ -1,6 +1,7 @@
 -- What the plain reader has still to read of a pipe: the chunks that are left; the count of a chunk after its gap; its elements after its count.
--- `more` is how many chunks may come after this one, `h` the home, `elem` the elements' type, `n` the number of the first node that is still to be read, `k` the
--- count of the chunk, `done` are the elements so far, `i` is the root's number, `rs` are the roots after it, `roots` the values of those before.
+-- `more` is how many chunks may come after this one, `h` the home, `elem` the elements' type, `n` the number of the first node that is still to be
+-- read, `k` the count of the chunk, `done` are the elements so far, `i` is the root's number, `rs` are the roots after it, `roots` the values of
+-- those before.
 use Rattle.std.specs.Prelude.{◌≡◌, ℕ, ◌+◌, Bool, true, false, eqb, List, [], ◌∷◌, ◌++◌, replicate}
 use Rattle.nd_base.specs.declared.octets.Order.{Order}
 use Rattle.nd_types.specs.Roots.{Root}
@@ -35,7 +36,9 @@ module _ (w : Setting) (order : Order) (octets : List ℕ) (more : ℕ) (h : Hom
       chosen (eqb k 0) (record { trees = none; cut = []; progress = q; names = s }) (elements_then k q s)
 
 -- The reader of the stream comes to what these roots give, after a pipe of which this is left.
-pub record Reads (w : Setting) (order : Order) (octets : List ℕ) (i : ℕ) (rs : List Root) (roots : List Tree) (done : Trees) (rest : ReadPipe) : Type 0 where
+pub record Reads (w : Setting) (order : Order) (octets : List ℕ) (i : ℕ) (rs : List Root) (roots : List Tree) (done : Trees)
+    (rest : ReadPipe) : Type 0 where
   pub progress : (read_stream w order octets).progress ≡ (read_pipes w order octets (i + 1) rs rest.progress rest.names).progress
   pub graph : (read_stream w order octets).graph
-      ≡ graph_of (roots ++ node tree.Pipe (joined done rest.trees) ∷ (read_pipes w order octets (i + 1) rs rest.progress rest.names).roots) (read_pipes w order octets (i + 1) rs rest.progress rest.names).names
+      ≡ graph_of (roots ++ node tree.Pipe (joined done rest.trees) ∷ (read_pipes w order octets (i + 1) rs rest.progress rest.names).roots)
+      (read_pipes w order octets (i + 1) rs rest.progress rest.names).names

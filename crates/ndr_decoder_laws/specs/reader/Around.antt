@@ -50,7 +50,17 @@ moved f v t types = record {
 
 abbrev pub with_left : Around → List ℕ → Around
 with_left f types =
-    record { node = f.node; of = f.of; label = f.label; done = f.done; next = f.next; left = types; typed = f.typed; child = f.child; before = f.before }
+    record {
+      node = f.node;
+      of = f.of;
+      label = f.label;
+      done = f.done;
+      next = f.next;
+      left = types;
+      typed = f.typed;
+      child = f.child;
+      before = f.before;
+    }
 
 abbrev pub with_child : Around → ℕ → List ℕ → Around
 with_child f t types =

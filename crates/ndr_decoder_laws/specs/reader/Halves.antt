@@ -18,7 +18,8 @@ use Rattle.nd_value.specs.Tree.{node, none}
 use Rattle.nd_value.specs.Setting.{unread}
 use Rattle.nd_value.specs.Nodes.{child_types}
 use Rattle.nd_grammar.specs.Entry.{Kind, Align, Max, Offset, Actual, Number, Num, Tag, Text, Context}
-use Rattle.nd_grammar.specs.Reader.{Progress, Names, Named, Read, pass, taken, number_in, value_in, text_in, attributes_in, identifier_in, named, bound_or, entry, read_children, read_in_place}
+use Rattle.nd_grammar.specs.Reader.{Progress, Names, Named, Read, pass, taken, number_in, value_in, text_in, attributes_in, identifier_in, named}
+use Rattle.nd_grammar.specs.Reader.{bound_or, entry, read_children, read_in_place}
 
 -- The reader of a child: its type, its node's number, the progress and the names.
 abbrev pub Reader : Type 0

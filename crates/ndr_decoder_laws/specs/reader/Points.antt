@@ -16,7 +16,8 @@ use Rattle.nd_grammar.specs.Entry.{Entry}
 use Rattle.nd_grammar.specs.Reader.{Progress, Names, Read, read_in_place, read_hoisted}
 use Rattle.nd_grammar.specs.Refusal.{is_selected}
 use Rattle.ndr_decoder_laws.specs.reader.Halves.{after_gap, array_after_offset, text_after_offset, text_after_count, union_tagged, hoisted_after}
-use Rattle.ndr_decoder_laws.specs.reader.Around.{Around, continue, tried, nodes_around, nodes_between, pointers, governed_pointers, pointers_around, Numbered, Tied}
+use Rattle.ndr_decoder_laws.specs.reader.Around.{Around, continue, tried, nodes_around, nodes_between, pointers, governed_pointers, pointers_around}
+use Rattle.ndr_decoder_laws.specs.reader.Around.{Numbered, Tied}
 
 -- a union's tag: the primitive that carries it, and its enumerators if it is enumerated
 pub record TagForm : Type 0 where
@@ -73,7 +74,8 @@ module _ (order : Order) (octets : List ℕ) (table : Table) (h : Home) (m : ℕ
   read_at depth (text_offset t max) n p s = text_after_offset order octets table h max n p s
   read_at depth (text_counted t max c) n p s = text_after_count order octets table h max c n p s
   read_at depth (tagged t d form arms default z) n p s =
-      union_tagged order octets table h (read_in_place order octets table h (below depth) m) (Some d) n form.prim form.values arms default (tag_taken arms default z) p s
+      union_tagged order octets table h (read_in_place order octets table h (below depth) m) (Some d) n form.prim form.values arms default
+      (tag_taken arms default z) p s
   read_at depth (between f) n p s = continue order octets table h m (below depth) f p s
   read_at depth (checking f so_far tests) n p s = tried order octets table h f f.done tests p s
   read_at depth (has t v) n p s = record { tree = v; progress = p; names = s }

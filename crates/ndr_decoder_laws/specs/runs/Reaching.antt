@@ -1,6 +1,6 @@
 -- What is reached by steps.
--- `s0` is the state at the beginning, `s` one that was reached, `fetched` are the octets of the steps so far and `noted` their items, `os` the octets of
--- one step, `i` is an instruction.
+-- `s0` is the state at the beginning, `s` one that was reached, `fetched` are the octets of the steps so far and `noted` their items, `os` the octets
+-- of one step, `i` is an instruction.
 use Rattle.std.specs.Prelude.{◌≡◌, ◌≤◌, ◌<◌, ◌^◌, ℕ, ◌+◌, List, [], ◌++◌, length, slice_get, Some}
 use Rattle.nd_base.specs.declared.octets.Order.{Order}
 use Rattle.nd_base.specs.declared.TheConstants.{STREAM_LIMIT}
@@ -18,7 +18,8 @@ module _ (values : List EnumList) (order : Order) (code : List Instr) (h : Home)
   pub data Reaches : List ℕ → List Item → State → Type 0 where
     begins : Reaches [] [] s0
     steps_to : (fetched os : List ℕ) (noted : List Item) (s next : State) (i : Instr) → Reaches fetched noted s → slice_get code s.pc ≡ Some i
-        → HasOctets (wants values i s) os s.at → AreOctets os → step values order os i s ≡ goes next → Reaches (fetched ++ os) (noted ++ step_items order h os i s) next
+        → HasOctets (wants values i s) os s.at → AreOctets os → step values order os i s ≡ goes next
+        → Reaches (fetched ++ os) (noted ++ step_items order h os i s) next
 
 -- A state at which the code can go on: it is at an instruction of a home's value, and its counts fit in 32 bits.
 pub record IsSafe (code : List Instr) (s : State) : Type 0 where

@@ -106,7 +106,8 @@ records_len at to fs (suc n) = slots_len at fs + (gap (at + slots_len at fs) to 
 abbrev pub record_flats : Order → ℕ → ℕ → List Slot → ℕ → List ℕ → List Flat
 record_flats order at to fs zero os = (tree.Rec, length fs) ∷ slot_flats order at fs os
 record_flats order at to fs (suc n) os =
-    ((tree.Rec, length fs) ∷ slot_flats order at fs (take (slots_len at fs) os)) ++ record_flats order (next_place at to fs) to fs n (after_record at to fs os)
+    ((tree.Rec, length fs) ∷ slot_flats order at fs (take (slots_len at fs) os))
+    ++ record_flats order (next_place at to fs) to fs n (after_record at to fs os)
 
 -- their items
 abbrev pub record_items : Order → Home → ℕ → ℕ → ℕ → List Slot → ℕ → List ℕ → List Item
@@ -169,9 +170,10 @@ records_came order h at node to fs (suc n) os =
     else gap_items h (at + slots_len at fs) (take (gap (at + slots_len at fs) to) (drop (slots_len at fs) os))
     ++ records_came order h (next_place at to fs) (node + 1 + length fs) to fs n (after_record at to fs os))
 
--- Octets from a place on that end within a step: those before it are taken by steps, with these items and no new cell, and those that are left are fewer than
--- it wants.
-pub record EndsWithin (values : List EnumList) (order : Order) (code : List Instr) (h : Home) (s0 : State) (at : ℕ) (cells : List ℕ) (fetched os : List ℕ) (noted items : List Item) : Type 0 where
+-- Octets from a place on that end within a step: those before it are taken by steps, with these items and no new cell, and those that are left are
+-- fewer than it wants.
+pub record EndsWithin (values : List EnumList) (order : Order) (code : List Instr) (h : Home) (s0 : State) (at : ℕ) (cells : List ℕ)
+    (fetched os : List ℕ) (noted items : List Item) : Type 0 where
   pub taken : List ℕ
   pub rest : List ℕ
   pub last : State

@@ -11,9 +11,11 @@ use Rattle.nd_grammar.specs.Reader.{Read}
 use Rattle.ndr_decoder_laws.specs.verdict.CellsSeen.{CellsSeen}
 use Rattle.ndr_decoder_laws.specs.reader.Around.{stopped}
 
--- The plain reader refuses all octets that begin with those fetched, at this place and for this reason, after the entries whose items were noted. Where they
--- are cut short, that is said of those fetched alone. So many cells are there: those that these entries named, and the referents of `direct` roots.
-pub record IsRefusedHere (order : Order) (fetched : List ℕ) (noted : List Item) (cells direct : ℕ) (target : List ℕ → Read) (place : ℕ) (why : Reason) : Type 0 where
+-- The plain reader refuses all octets that begin with those fetched, at this place and for this reason, after the entries whose items were noted.
+-- Where they are cut short, that is said of those fetched alone. So many cells are there: those that these entries named, and the referents of
+-- `direct` roots.
+pub record IsRefusedHere (order : Order) (fetched : List ℕ) (noted : List Item) (cells direct : ℕ) (target : List ℕ → Read) (place : ℕ)
+    (why : Reason) : Type 0 where
   pub at : ℕ
   pub seen : List EntryAt
   pub stops : (later : List ℕ) → (why ≡ reason.Truncated → later ≡ []) → (target (fetched ++ later)).progress ≡ stopped at seen (place, why)

@@ -60,10 +60,11 @@ row_passed order p n os s = jumped s.pc (past (length os) begun (with_row (num_f
 abbrev pub row_items : Order → Primitive → Home → ℕ → ℕ → ℕ → List ℕ → List Item
 row_items order p h at node zero os = []
 row_items order p h at node (suc n) os =
-    item_here h at item.Num (width p) (value_of_octets order p (take (width p) os)) node ∷ row_items order p h (at + width p) (node + 1) n (drop (width p) os)
+    item_here h at item.Num (width p) (value_of_octets order p (take (width p) os)) node
+    ∷ row_items order p h (at + width p) (node + 1) n (drop (width p) os)
 
--- The elements of an array are numbers of this primitive, of which none but the first has a gap: `pc` is the address of their `num`. The run begins there,
--- or with a gap that is empty after a number.
+-- The elements of an array are numbers of this primitive, of which none but the first has a gap: `pc` is the address of their `num`. The run begins
+-- there, or with a gap that is empty after a number.
 abbrev pub IsNumberRun : List Instr → ℕ → ℕ → Primitive → Type 0
 IsNumberRun code run pc p =
     (slice_get code (pc + 1) ≡ Some op.Ret) × (((run ≡ pc) × (width p ≡ 1)) ⊎ ((run + 1 ≡ pc) × (slice_get code run ≡ Some (op.Align (width p)))))

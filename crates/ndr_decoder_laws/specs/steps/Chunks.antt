@@ -1,5 +1,6 @@
 -- The elements of a pipe, chunk by chunk: where the decoder is at the beginning of a chunk that has elements, and what the plain reader reads of it.
--- `pipe` is the pipe's type, `elem` that of its elements, `done` are the elements of the chunks before, `n` is how many elements come after the first.
+-- `pipe` is the pipe's type, `elem` that of its elements, `done` are the elements of the chunks before, `n` is how many elements come after the
+-- first.
 use Rattle.std.specs.Prelude.{◌≡◌, ℕ, ◌+◌, suc, List, [], ◌∷◌, length, map, replicate, Some}
 use Rattle.nd_base.specs.declared.octets.Order.{Order}
 use Rattle.nd_types.specs.declared.types.Attr.{Attr}
@@ -41,7 +42,8 @@ chunk_read order table h elem done k p names octets =
     record { tree = node tree.Pipe (joined done kids.trees); progress = kids.progress; names = kids.names }
 
 -- the state at the beginning of a chunk's elements: address 1, to which the last of them returns, is a `ret`
-pub record IsChunkBegun (noted : List Item) (direct : ℕ) (order : Order) (fetched : List ℕ) (table : Table) (h : Home) (elem : TypeId) (done : Trees) (n : ℕ) (seen : List EntryAt) (names : Names) (s : State) : Type 0 where
+pub record IsChunkBegun (noted : List Item) (direct : ℕ) (order : Order) (fetched : List ℕ) (table : Table) (h : Home) (elem : TypeId) (done : Trees)
+    (n : ℕ) (seen : List EntryAt) (names : Names) (s : State) : Type 0 where
   pub phase : s.phase ≡ begun
   pub max : s.max ≡ 0
   pub top : s.top ≡ frame.Elements n (place_at table elem.0) 1

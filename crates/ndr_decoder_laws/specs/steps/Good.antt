@@ -1,8 +1,8 @@
--- What a state of the decoder means to the plain reader: from this state on, whatever octets follow those that were fetched, it comes to the same as from
--- the beginning of the home.
--- `fetched` are the octets so far, `own` the type of the home `h`, `target` what the plain reader gives for the home, by all octets, `limit` how many values
--- nest in place: 32, and one more within a pipe. `noted` are the items of the entries so far, `direct` is how many roots that are reference pointers have
--- their referents so far.
+-- What a state of the decoder means to the plain reader: from this state on, whatever octets follow those that were fetched, it comes to the same as
+-- from the beginning of the home.
+-- `fetched` are the octets so far, `own` the type of the home `h`, `target` what the plain reader gives for the home, by all octets, `limit` how many
+-- values nest in place: 32, and one more within a pipe. `noted` are the items of the entries so far, `direct` is how many roots that are reference
+-- pointers have their referents so far.
 use Rattle.std.specs.Prelude.{◌≡◌, ◌≤◌, ◌<◌, ℕ, ◌+◌, ◌-◌, zero, suc, ℤ, true, false, not, eqb, List, [], ◌∷◌, ◌++◌, length, map, Option, Some, None}
 use Rattle.std.specs.List.{AllByRecursion, slice_get}
 use Rattle.nd_base.specs.declared.octets.Order.{Order}
@@ -25,13 +25,15 @@ use Rattle.ndr_code.specs.Code.{whole_at}
 use Rattle.ndr_refs.specs.declared.referents.Known.{Known}
 use Rattle.ndr_refs.specs.Known.{known}
 use Rattle.ndr_decoder_laws.specs.reader.Around.{Around, going, stopped, finish, nodes_around, pointers, pointers_around}
-use Rattle.ndr_decoder_laws.specs.reader.Points.{Point, TagForm, hoisting, counting, offset_read as at_offset, text_offset, text_counted, tagged, between, checking, has, read_at, held, nodes_at, pointers_at, NumberedAt, TiedAt}
+use Rattle.ndr_decoder_laws.specs.reader.Points.{Point, TagForm, hoisting, counting, offset_read as at_offset, text_offset, text_counted, tagged}
+use Rattle.ndr_decoder_laws.specs.reader.Points.{between, checking, has, read_at, held, nodes_at, pointers_at, NumberedAt, TiedAt}
 use Rattle.ndr_decoder_laws.specs.declared.frame.Frame.{Frame}
 use Rattle.ndr_decoder_laws.specs.declared.frame.Frame.TheVariants as frame
 use Rattle.ndr_decoder_laws.specs.steps.Spots.{Spot, InsideAt, FitsAt}
 use Rattle.ndr_decoder_laws.specs.declared.first.First.{First}
 use Rattle.ndr_decoder_laws.specs.declared.first.Member.{Member}
-use Rattle.ndr_decoder_laws.specs.steps.Steps.{State, Outcome, goes, refused, whole, Owed, Phase, Place, Want, no_octets, gap_of, item_of, begun, gap_read, offset_read, count_read, no_place, offset_before, counts_at, place_of, place_in, first_of}
+use Rattle.ndr_decoder_laws.specs.steps.Steps.{State, Outcome, goes, refused, whole, Owed, Phase, Place, Want, no_octets, gap_of, item_of, begun}
+use Rattle.ndr_decoder_laws.specs.steps.Steps.{gap_read, offset_read, count_read, no_place, offset_before, counts_at, place_of, place_in, first_of}
 
 -- a pending referent as the decoder keeps it
 abbrev pub owed : Table → Pending → Owed
@@ -44,7 +46,8 @@ abbrev pub members_of : Table → Home → ℕ → List ℕ → ℕ → Trees �
 members_of table h pending types n none = []
 members_of table h pending [] n (more t ts) = []
 members_of table h pending (u ∷ us) n (more t ts) =
-    record { node = n; pending = pending } ∷ members_of table h (pending + length (pointers table h (u ∷ []) n (more t none))) us (n + tree_nodes t) ts
+    record { node = n; pending = pending }
+    ∷ members_of table h (pending + length (pointers table h (u ∷ []) n (more t none))) us (n + tree_nodes t) ts
 
 abbrev pub read_members : Table → Home → Label → Around → List Around → List Member
 read_members table h tree.Rec f fs = members_of table h (length (pointers_around table h fs)) f.before (f.node + 1) f.done
@@ -99,7 +102,8 @@ HasRegisters (counting t) s = s.max_at ≡ None
 HasRegisters (tagged t d form arms default z) s = (s.tag ≡ z) × (s.carrier ≡ form.prim)
 HasRegisters _ s = Unit {0}
 
--- The octets that were fetched last are those of a tag of this value, which is an enumerator if its type is enumerated, and ends within the limit of a stream.
+-- The octets that were fetched last are those of a tag of this value, which is an enumerator if its type is enumerated, and ends within the limit of
+-- a stream.
 pub record HeldTag (order : Order) (fetched : List ℕ) (at : ℕ) (form : TagForm) (z : ℤ) : Type 0 where
   pub before : List ℕ
   pub os : List ℕ
@@ -159,21 +163,23 @@ OwnAt _ fs kept = OwnIn fs kept
 -- Numbers of full pointers: the table has for each what the plain reader's names and its search through earlier entries say.
 abbrev pub IsKnownAs : Order → List ℕ → List EntryAt → Names → ℕ → Option Known → Type 0
 IsKnownAs order octets seen names v None = (numbered names.numbers v ≡ None) × ((to : ℕ) → is_other order octets seen v to ≡ false)
-IsKnownAs order octets seen names v (Some k) = (numbered names.numbers v ≡ Some k.cell.0) × ((to : ℕ) → is_other order octets seen v to ≡ not (eqb k.of.0 to))
+IsKnownAs order octets seen names v (Some k) =
+    (numbered names.numbers v ≡ Some k.cell.0) × ((to : ℕ) → is_other order octets seen v to ≡ not (eqb k.of.0 to))
 
 -- ## Cells
 
--- The cells, of which there are `n`: those that the entries seen named, and the referents of `direct` roots that are reference pointers. The numbers that are
--- known are of cells among them.
+-- The cells, of which there are `n`: those that the entries seen named, and the referents of `direct` roots that are reference pointers. The numbers
+-- that are known are of cells among them.
 pub record HasCells (seen : List EntryAt) (numbers : List (ℕ × Known)) (n direct : ℕ) : Type 0 where
   pub named : CellsSeen seen n direct
   pub there : AllByRecursion (λ (x : ℕ × Known). x.1.cell.0 ≤ n) numbers
 
 -- ## The state
 
--- What the state keeps of the entries seen: the types of the cells and the numbers of full pointers. All of them lie within the octets fetched, and their
--- items are those noted. Of nodes from number `n` on they have no count or tag but these.
-pub record Told (noted : List Item) (direct : ℕ) (order : Order) (fetched : List ℕ) (h : Home) (seen : List EntryAt) (names : Names) (cells : List ℕ) (numbers : List (ℕ × Known)) (max_at : Option ℕ) (n : ℕ) (half : List Place) : Type 0 where
+-- What the state keeps of the entries seen: the types of the cells and the numbers of full pointers. All of them lie within the octets fetched, and
+-- their items are those noted. Of nodes from number `n` on they have no count or tag but these.
+pub record Told (noted : List Item) (direct : ℕ) (order : Order) (fetched : List ℕ) (h : Home) (seen : List EntryAt) (names : Names) (cells : List ℕ)
+    (numbers : List (ℕ × Known)) (max_at : Option ℕ) (n : ℕ) (half : List Place) : Type 0 where
   pub cells_are : cells ≡ map (λ c. c.of) names.cells
   pub cells_named : HasCells seen numbers (length cells) direct
   pub numbers_are : (v : ℕ) → 0 < v → IsKnownAs order fetched seen names v (known v numbers)
@@ -181,7 +187,8 @@ pub record Told (noted : List Item) (direct : ℕ) (order : Order) (fetched : Li
   pub noted_are : items order fetched seen ≡ noted
   pub lie_within : AllByRecursion (λ (x : EntryAt). x.at + size_at x.at x.entry.kind ≤ length fetched) seen
 
-pub record Good (order : Order) (fetched : List ℕ) (code : List Instr) (table : Table) (h : Home) (own limit : ℕ) (noted : List Item) (direct : ℕ) (target : List ℕ → Read) (s : State) : Type 0 where
+pub record Good (order : Order) (fetched : List ℕ) (code : List Instr) (table : Table) (h : Home) (own limit : ℕ) (noted : List Item) (direct : ℕ)
+    (target : List ℕ → Read) (s : State) : Type 0 where
   pub depth : ℕ
   pub fs : List Around
   pub point : Point
@@ -211,11 +218,13 @@ pub record Good (order : Order) (fetched : List ℕ) (code : List Instr) (table 
   pub told : Told noted direct order fetched h seen names s.cells s.numbers s.max_at (length s.nodes) (half_at point s.at)
   -- whatever follows, the plain reader comes from here to what it comes to from the beginning
   pub rest : (later : List ℕ)
-      → finish order (fetched ++ later) table h s.max depth fs (read_at order (fetched ++ later) table h s.max depth point (length (nodes_around fs)) (going s.at seen) names)
+      → finish order (fetched ++ later) table h s.max depth fs
+      (read_at order (fetched ++ later) table h s.max depth point (length (nodes_around fs)) (going s.at seen) names)
       ≡ target (fetched ++ later)
 
 -- The home's value is whole: this is what the plain reader gives, whatever follows.
-pub record Whole (order : Order) (fetched : List ℕ) (table : Table) (h : Home) (own : ℕ) (noted : List Item) (direct : ℕ) (target : List ℕ → Read) (s : State) : Type 0 where
+pub record Whole (order : Order) (fetched : List ℕ) (table : Table) (h : Home) (own : ℕ) (noted : List Item) (direct : ℕ) (target : List ℕ → Read)
+    (s : State) : Type 0 where
   pub v : Tree
   pub seen : List EntryAt
   pub names : Names
@@ -226,11 +235,12 @@ pub record Whole (order : Order) (fetched : List ℕ) (table : Table) (h : Home)
   pub told : Told noted direct order fetched h seen names s.cells s.numbers s.max_at (length s.nodes) []
   pub is : (later : List ℕ) → record { tree = v; progress = going s.at seen; names = names } ≡ target (fetched ++ later)
 
--- What a step comes to, at this place and after these entries, is right, with these items noted after it: a refusal is that of the plain reader, whatever
--- follows.
+-- What a step comes to, at this place and after these entries, is right, with these items noted after it: a refusal is that of the plain reader,
+-- whatever follows.
 abbrev pub IsRight : Order → List ℕ → List Instr → Table → Home → ℕ → ℕ → List Item → ℕ → (List ℕ → Read) → ℕ → List EntryAt → Outcome → Type 0
 IsRight order fetched code table h own limit noted direct target at seen (goes s) = Good order fetched code table h own limit noted direct target s
-IsRight order fetched code table h own limit noted direct target at seen (refused place why) = (later : List ℕ) → (target (fetched ++ later)).progress ≡ stopped at seen (place, why)
+IsRight order fetched code table h own limit noted direct target at seen (refused place why) =
+    (later : List ℕ) → (target (fetched ++ later)).progress ≡ stopped at seen (place, why)
 IsRight order fetched code table h own limit noted direct target at seen (whole s) = Whole order fetched table h own noted direct target s
 
 -- The octets that a step wants, where they are all there: so many, and of an item not past the limit of a stream.
@@ -252,7 +262,8 @@ IsTooLong (gap_of n) at = ⊥
 IsTooLong (item_of n) at = STREAM_LIMIT < at + n
 
 -- The state at the beginning of a home's value: nothing of it was read, and no entry so far is of it.
-pub record IsBegun (noted : List Item) (direct : ℕ) (order : Order) (fetched : List ℕ) (h : Home) (seen : List EntryAt) (names : Names) (s : State) : Type 0 where
+pub record IsBegun (noted : List Item) (direct : ℕ) (order : Order) (fetched : List ℕ) (h : Home) (seen : List EntryAt) (names : Names)
+    (s : State) : Type 0 where
   pub phase : s.phase ≡ begun
   pub max : s.max ≡ 0
   pub max_at : s.max_at ≡ None

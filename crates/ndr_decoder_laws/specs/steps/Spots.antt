@@ -23,19 +23,22 @@ use Rattle.nd_grammar.specs.InPlace.{child_tests, own_tests}
 use Rattle.nd_grammar.specs.Reader.{bound_or, tree_nodes}
 use Rattle.ndr_code.specs.declared.instr.Instr.{Instr}
 use Rattle.ndr_code.specs.declared.instr.Instr.TheVariants as op
-use Rattle.ndr_code.specs.Code.{place_at, whole_at, id, array_run, text_bound, struct_run, union_run, arms_code, default_code, member_calls, member_checks, field_checks, place_run}
+use Rattle.ndr_code.specs.Code.{place_at, whole_at, id, array_run, text_bound, struct_run, union_run, arms_code, default_code, member_calls}
+use Rattle.ndr_code.specs.Code.{member_checks, field_checks, place_run}
 use Rattle.ndr_code.specs.Lines.{enumerators}
 use Rattle.ndr_code.specs.Runs.{IsRunAt}
 use Rattle.ndr_code.specs.declared.lists.EnumList.{EnumList}
 use Rattle.ndr_decoder_laws.specs.reader.Halves.{gap_of}
 use Rattle.ndr_decoder_laws.specs.reader.Around.{Around}
-use Rattle.ndr_decoder_laws.specs.reader.Points.{Point, TagForm, IsTagForm, hoisting, counting, called, due, opened, offset_read, text_offset, text_counted, tagged, between, checking, has}
+use Rattle.ndr_decoder_laws.specs.reader.Points.{Point, TagForm, IsTagForm, hoisting, counting, called, due, opened, offset_read, text_offset}
+use Rattle.ndr_decoder_laws.specs.reader.Points.{text_counted, tagged, between, checking, has}
 use Rattle.ndr_decoder_laws.specs.declared.frame.Frame.{Frame}
 use Rattle.ndr_decoder_laws.specs.declared.frame.Frame.TheVariants as frame
 
 -- ## Types that may be read in place
 
--- what a legal table says of a type that is read in place: a string's bound is not 0, the tag of a union is carried by a primitive; a pipe is never in place
+-- what a legal table says of a type that is read in place: a string's bound is not 0, the tag of a union is carried by a primitive; a pipe is never
+-- in place
 abbrev pub IsFormed : Table → ℕ → TypeDef → Type 0
 IsFormed table t (def.Text elem bound) = bound ≢ Some 0
 IsFormed table t (def.Union tag encapsulated arms default) = (form : TagForm) × IsTagForm (type_at table tag.0) form
@@ -55,10 +58,11 @@ IsFine table (suc n) t = IsDue (IsFine table n) table t
 
 -- ## The code
 
--- The code and the lists of enumerators are those of a plan of this table: the place run of each type is at its address, an empty arm and a `ret` are at
--- address 0, each enumerated type has its list and a primitive none, and a primitive has its own number.
+-- The code and the lists of enumerators are those of a plan of this table: the place run of each type is at its address, an empty arm and a `ret` are
+-- at address 0, each enumerated type has its list and a primitive none, and a primitive has its own number.
 pub record IsPlanned (code : List Instr) (values : List EnumList) (table : Table) : Type 0 where
-  pub place : (t : ℕ) (d : TypeDef) → type_at table t ≡ Some d → IsRunAt code (place_at table t) (place_run (place_at table) (whole_at table) table t d)
+  pub place : (t : ℕ) (d : TypeDef) → type_at table t ≡ Some d
+      → IsRunAt code (place_at table t) (place_run (place_at table) (whole_at table) table t d)
   pub empty_arm : IsRunAt code 0 (op.Void ∷ op.Ret ∷ [])
   pub enumerated : (t : ℕ) (zs : List ℤ) → type_at table t ≡ Some (def.Enum zs) → enumerators values t ≡ Some zs
   pub carried : (t : ℕ) (p : Primitive) → type_at table t ≡ Some (def.Prim p) → (enumerators values t ≡ None) × (t ≡ prim_number p)
@@ -157,7 +161,8 @@ module _ (code : List Instr) (table : Table) where
 
   -- A frame stands for a node whose children are being read. Address 1 is a `ret`.
   pub data IsFrame (f : Around) : Frame → Type 0 where
-    in_struct : {back first : ℕ} (members fields : List Field) → IsStruct f (f.child ∷ f.left) members fields → IsRunAt code back (rest_run members fields)
+    in_struct : {back first : ℕ} (members fields : List Field) → IsStruct f (f.child ∷ f.left) members fields
+        → IsRunAt code back (rest_run members fields)
         → IsFrame f (frame.Record back first)
     in_array : {left run back : ℕ} (elem : TypeId) (bound : Option ℕ) (varying : Bool) → IsArray f elem bound varying → f.left ≡ replicate left elem.0
         → run ≡ place_at table elem.0 → IsRunAt code back (op.Ret ∷ []) → IsFrame f (frame.Elements left run back)
@@ -173,7 +178,8 @@ module _ (code : List Instr) (table : Table) where
   -- between two members and at the checks the struct's own frame is the innermost, and where it would go on does not count
   abbrev pub InsideStruct : Frame → List Frame → List Around → Type 0
   InsideStruct top stack fs =
-      ((back : ℕ) × (first : ℕ) × (top ≡ frame.Record back first)) × ((outer : Frame) × ((under : List Frame) × (stack ≡ outer ∷ under) × Inside outer under fs))
+      ((back : ℕ) × (first : ℕ) × (top ≡ frame.Record back first))
+      × ((outer : Frame) × ((under : List Frame) × (stack ≡ outer ∷ under) × Inside outer under fs))
 
   abbrev pub InsideAt : Point → Frame → List Frame → List Around → Type 0
   InsideAt (between f) top stack fs = InsideStruct top stack fs
@@ -186,8 +192,8 @@ module _ (code : List Instr) (table : Table) where
   abbrev pub own_tests_of : Tree → Home → ℕ → List Agreement → List Entry
   own_tests_of (node l ks) h n agreements = own_tests (is_pointer l) h n (node l ks) agreements
 
-  -- What is left of a struct's checks: nothing, or some attributes of a member and those of the members after it. The agreements of a member that is a
-  -- pointer join its pending entry (they are in `so_far`), those of any other are tests.
+  -- What is left of a struct's checks: nothing, or some attributes of a member and those of the members after it. The agreements of a member that is
+  -- a pointer join its pending entry (they are in `so_far`), those of any other are tests.
   pub data ChecksLeft (h : Home) (f : Around) (members : List Field) : List (List Agreement) → List Entry → List Instr → Type 0 where
     no_check : ChecksLeft h f members (map (λ g. member_agreements f.done g.vars) members) [] []
     at_member : (xs ys : Trees) (x : Tree) (passed later : List Field) (g : Field) (tried left : List AttrVar)
@@ -216,22 +222,31 @@ module _ (code : List Instr) (table : Table) where
   Spot h m depth pc (counting t) = IsFine table 32 t × IsRunAt code pc (op.Hoist ∷ op.Call (place_at table t) ∷ op.Ret ∷ [])
   Spot h m depth pc (called t) = IsFine table depth t × IsRunAt code pc (op.Call (place_at table t) ∷ op.Ret ∷ [])
   Spot h m depth pc (due t) =
-      IsFine table depth t × ((a : ℕ) × ((d : TypeDef) × (type_at table t ≡ Some d) × (gap_of table t (Some d) ≡ Some a) × IsRunAt code pc (op.Align a ∷ body_run t d)))
+      IsFine table depth t
+      × ((a : ℕ)
+      × ((d : TypeDef) × (type_at table t ≡ Some d) × (gap_of table t (Some d) ≡ Some a) × IsRunAt code pc (op.Align a ∷ body_run t d)))
   Spot h m depth pc (opened t d) = IsFine table depth t × (type_at table t ≡ Some d) × IsRunAt code pc (body_run t d)
   Spot h m depth pc (offset_read t d max elem o) =
-      IsFine table depth t × ((e : TypeId) × (bound : Option ℕ) × (d ≡ def.Array e bound true) × (type_at table t ≡ Some d) × (elem ≡ e.0) × (max ≡ bound_or bound m) × IsRunAt code pc (body_run t d))
+      IsFine table depth t
+      × ((e : TypeId) × (bound : Option ℕ) × (d ≡ def.Array e bound true) × (type_at table t ≡ Some d) × (elem ≡ e.0) × (max ≡ bound_or bound m)
+      × IsRunAt code pc (body_run t d))
   Spot h m depth pc (text_offset t max) =
       IsFine table depth t
-      × ((elem : TypeId) × (bound : Option ℕ) × (type_at table t ≡ Some (def.Text elem bound)) × (bound ≢ Some 0) × (max ≡ bound_or bound m) × IsRunAt code pc (body_run t (def.Text elem bound)))
+      × ((elem : TypeId) × (bound : Option ℕ) × (type_at table t ≡ Some (def.Text elem bound)) × (bound ≢ Some 0) × (max ≡ bound_or bound m)
+      × IsRunAt code pc (body_run t (def.Text elem bound)))
   Spot h m depth pc (text_counted t max c) =
       IsFine table depth t
-      × ((elem : TypeId) × (bound : Option ℕ) × (type_at table t ≡ Some (def.Text elem bound)) × (bound ≢ Some 0) × (max ≡ bound_or bound m) × IsRunAt code pc (body_run t (def.Text elem bound)))
+      × ((elem : TypeId) × (bound : Option ℕ) × (type_at table t ≡ Some (def.Text elem bound)) × (bound ≢ Some 0) × (max ≡ bound_or bound m)
+      × IsRunAt code pc (body_run t (def.Text elem bound)))
   Spot h m depth pc (tagged t d form arms default z) =
       IsFine table depth t
-      × ((tag : TypeId) × (encapsulated : Bool) × (d ≡ def.Union tag encapsulated arms default) × (type_at table t ≡ Some d) × IsTagForm (type_at table tag.0) form × ArmsLeft arms default z pc)
-  Spot h m depth pc (between f) = (members : List Field) × (fields : List Field) × IsStruct f f.left members fields × IsRunAt code pc (rest_run members fields)
+      × ((tag : TypeId) × (encapsulated : Bool) × (d ≡ def.Union tag encapsulated arms default) × (type_at table t ≡ Some d)
+      × IsTagForm (type_at table tag.0) form × ArmsLeft arms default z pc)
+  Spot h m depth pc (between f) =
+      (members : List Field) × (fields : List Field) × IsStruct f f.left members fields × IsRunAt code pc (rest_run members fields)
   Spot h m depth pc (checking f so_far tests) =
-      (members : List Field) × (checks : List Instr) × IsStruct f [] members [] × ChecksLeft h f members so_far tests checks × IsRunAt code pc (checks ++ (op.Close ∷ op.Ret ∷ []))
+      (members : List Field) × (checks : List Instr) × IsStruct f [] members [] × ChecksLeft h f members so_far tests checks
+      × IsRunAt code pc (checks ++ (op.Close ∷ op.Ret ∷ []))
   Spot h m depth pc (has t v) = AtEnd pc × IsShaped table t v
 
   -- ## Depth

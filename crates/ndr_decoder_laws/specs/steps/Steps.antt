@@ -1,7 +1,9 @@
--- What each instruction of a plan does to the state of the decoder, as functions on lists. A step handles one gap, one item or none: `wants` says which, and
+-- What each instruction of a plan does to the state of the decoder, as functions on lists. A step handles one gap, one item or none: `wants` says
+-- which, and
 -- `step` gets the octets of it, all fetched. Where they are not all there, or would end past the limit of a stream, no step is taken.
 -- `s` is a state, `i` an instruction, `os` the octets of the step, `z` a value, `o` an offset, `c` a count, `v` a pointer's number.
-use Rattle.std.specs.Prelude.{◌≡◌, ◌⊎◌, ℕ, ◌+◌, ◌-◌, ◌-ℤ◌, zero, suc, ℤ, pos, Bool, true, false, eqb, ltb, if◌then◌else◌, List, [], ◌∷◌, ◌++◌, length, take, drop, Option, Some, None}
+use Rattle.std.specs.Prelude.{◌≡◌, ◌⊎◌, ℕ, ◌+◌, ◌-◌, ◌-ℤ◌, zero, suc, ℤ, pos, Bool, true, false, eqb, ltb, if◌then◌else◌, List, [], ◌∷◌, ◌++◌, length}
+use Rattle.std.specs.Prelude.{take, drop, Option, Some, None}
 use Rattle.std.specs.List.{slice_get}
 use Rattle.std.specs.Ordering.{int_eq}
 use Rattle.nd_base.specs.declared.octets.Order.{Order}
@@ -38,16 +40,16 @@ use Rattle.ndr_decoder_laws.specs.declared.first.Member.{Member}
 
 -- ## The state
 
--- which item of an instruction comes next: its first one; the maximum count, after its gap; the actual count, after this offset; the octets of a text, of
--- this length without the terminator
+-- which item of an instruction comes next: its first one; the maximum count, after its gap; the actual count, after this offset; the octets of a
+-- text, of this length without the terminator
 pub data Phase : Type 0 where
   begun : Phase
   gap_read : Phase
   offset_read : (o : ℕ) → Phase
   count_read : (c : ℕ) → Phase
 
--- Where the counts or the tag of a node are in the stream: nowhere; the place of the actual count, which comes right after the offset, where the offset
--- alone was read, and where both were; the place of a union's tag.
+-- Where the counts or the tag of a node are in the stream: nowhere; the place of the actual count, which comes right after the offset, where the
+-- offset alone was read, and where both were; the place of a union's tag.
 pub data Place : Type 0 where
   no_place : Place
   offset_before : (place : ℕ) → Place
@@ -367,7 +369,9 @@ arm_taken false run s = jumped run (pushed (frame.Elements 0 run 1) (with_node (
 -- in a struct a call is of the next member, and comes back; else what is called ends as its caller does
 abbrev pub call_from : Frame → ℕ → State → State
 call_from (frame.Record back first) run s =
-    jumped run (with_frames (frame.Record (s.pc + 1) first) s.stack (with_members (s.members ++ record { node = length s.nodes; pending = length s.fresh } ∷ []) s.firsts s))
+    jumped run
+    (with_frames (frame.Record (s.pc + 1) first) s.stack
+    (with_members (s.members ++ record { node = length s.nodes; pending = length s.fresh } ∷ []) s.firsts s))
 call_from _ run s = jumped run s
 
 abbrev pub back_to : Frame → State → Outcome
@@ -516,7 +520,8 @@ module _ (values : List EnumList) (order : Order) (os : List ℕ) where
   abbrev pub vary_by : Phase → ℕ → ℕ → State → Outcome
   vary_by (offset_read o) limit run s =
       let c : ℕ = unsigned order os in
-      if ltb limit (o + c) then refused s.at reason.PastBound else goes (elements c run (with_node (tree.Arr limit o, c) (Some s.at) (past 4 begun s)))
+      if ltb limit (o + c) then refused s.at reason.PastBound else goes
+      (elements c run (with_node (tree.Arr limit o, c) (Some s.at) (past 4 begun s)))
   vary_by _ limit run s = goes (past 4 (offset_read (unsigned order os)) s)
 
   abbrev pub text_by : Phase → ℕ → State → Outcome

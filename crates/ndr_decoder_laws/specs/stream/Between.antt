@@ -1,8 +1,7 @@
 -- What a decoder keeps of a stream between the values of its homes, and what it means to the plain reader.
--- `w` is a setting, `fetched` are the octets that were fetched, `noted` the items that were noted, `direct` is how many roots that are reference pointers were
--- read, `b` is what is kept, `s` the state of the reader, `seen` are
--- the entries that it passed, `ps` the pointers whose referents are pending, `n` is how many roots that are no pipes are still to be read, `h` is a home, `c` a
--- cell's number.
+-- `w` is a setting, `fetched` are the octets that were fetched, `noted` the items that were noted, `direct` is how many roots that are reference
+-- pointers were read, `b` is what is kept, `s` the state of the reader, `seen` are the entries that it passed, `ps` the pointers whose referents are
+-- pending, `n` is how many roots that are no pipes are still to be read, `h` is a home, `c` a cell's number.
 use Rattle.std.specs.Prelude.{◌≡◌, ◌≤◌, ℕ, suc, zero, List, [], ◌∷◌, ◌++◌, length, map, filter, take, Option, Some, None}
 use Rattle.std.specs.List.{slice_get}
 use Rattle.nd_base.specs.declared.octets.Order.{Order}
@@ -159,7 +158,8 @@ cell_read b x roots read g =
 -- Each of these octets that a home took is needed: without the last one, and those after it, the reader finds the octets cut short where they end.
 abbrev pub AreNeeded : (List ℕ → Read) → List ℕ → List ℕ → Type 0
 AreNeeded target fetched added =
-    (part : List ℕ) (last : ℕ) → added ≡ part ++ last ∷ [] → (at : ℕ) × (seen : List EntryAt) × ((target (fetched ++ part)).progress ≡ stopped at seen (length (fetched ++ part), reason.Truncated))
+    (part : List ℕ) (last : ℕ) → added ≡ part ++ last ∷ []
+    → (at : ℕ) × (seen : List EntryAt) × ((target (fetched ++ part)).progress ≡ stopped at seen (length (fetched ++ part), reason.Truncated))
 
 -- what the reader gives of a home, by all octets, after these entries
 abbrev pub home_target : Setting → Order → Between → List EntryAt → Home → ℕ → Names → List ℕ → Read
@@ -173,22 +173,26 @@ IsUnread s (home.Root i) = length s.roots ≤ i
 IsUnread s (home.Cell c) = ¬ IsPlaced s.done c.0
 
 -- What is kept is right: of these roots, cells and names of the reader, of the entries that it passed, and of the pointers that are due.
-pub record Keeps (w : Setting) (order : Order) (fetched : List ℕ) (noted : List Item) (direct : ℕ) (b : Between) (s : Reading) (seen : List EntryAt) (ps : List Pending) : Type 0 where
+pub record Keeps (w : Setting) (order : Order) (fetched : List ℕ) (noted : List Item) (direct : ℕ) (b : Between) (s : Reading) (seen : List EntryAt)
+    (ps : List Pending) : Type 0 where
   pub at : length fetched ≡ b.at
   pub pending : b.pending ≡ map (owed w.table) ps
   pub told : (h : Home) → IsUnread s h → Told noted direct order fetched h seen s.names b.cells b.numbers None 0 []
   pub roots : AreKept seen 0 s.roots b.roots
-  pub read : (c : ℕ) → IsPlaced s.done c → (k : Kept) × (kept_at b.read c ≡ Some k) × IsKeptOf seen (cell_home c) (cell_at (graph_of s.roots s.names) c) k
+  pub read : (c : ℕ) → IsPlaced s.done c
+      → (k : Kept) × (kept_at b.read c ≡ Some k) × IsKeptOf seen (cell_home c) (cell_at (graph_of s.roots s.names) c) k
   pub not_read : (c : ℕ) → ¬ IsPlaced s.done c → kept_at b.read c ≡ None
   pub graph : b.graph ≡ graph_of s.roots s.names
 
 -- And whatever octets follow, the plain reader comes to this state, in which these referents and so many roots are due.
-pub record Agrees (w : Setting) (side : IsLegalSide w) (order : Order) (fetched : List ℕ) (noted : List Item) (direct : ℕ) (b : Between) (s : Reading) (seen : List EntryAt) (ps : List Pending) (n : ℕ) : Type 0 where
+pub record Agrees (w : Setting) (side : IsLegalSide w) (order : Order) (fetched : List ℕ) (noted : List Item) (direct : ℕ) (b : Between)
+    (s : Reading) (seen : List EntryAt) (ps : List Pending) (n : ℕ) : Type 0 where
   pub octets : AreOctets fetched
   pub reached : Reached w order fetched s
   pub progress : s.progress ≡ going b.at seen
   pub due : s.due ≡ map due_referent ps ++ due_roots (length s.roots) n
-  pub state : (later : List ℕ) (all : AreOctets (fetched ++ later)) → (taken : List Pending) × IsReading w side order (fetched ++ later) all s taken ps n
+  pub state : (later : List ℕ) (all : AreOctets (fetched ++ later))
+      → (taken : List Pending) × IsReading w side order (fetched ++ later) all s taken ps n
   pub keeps : Keeps w order fetched noted direct b s seen ps
   -- so many of the roots that were read are reference pointers
   pub direct_are : direct ≡ length (filter (λ r. is_direct (type_at w.table r.of)) (take (length s.roots) (root_list w)))

@@ -1,6 +1,6 @@
 -- What a call of a decoder comes to, over its source and its log.
--- `x` is what is read of a stream, `source` and `t` are what was seen of the source, and of the log and the steps, over the call; `fetched`, `noted` and `n`
--- are the octets, the items and the cells before it.
+-- `x` is what is read of a stream, `source` and `t` are what was seen of the source, and of the log and the steps, over the call; `fetched`, `noted`
+-- and `n` are the octets, the items and the cells before it.
 use Rattle.std.specs.Prelude.{◌≡◌, ◌≤◌, ℕ, ◌+◌, true, List, ◌++◌, length}
 use Rattle.std.specs.Io.KnownBytes.{Consumes, IsAtEnd}
 use Rattle.nd_base.specs.declared.octets.Order.{Order}
@@ -18,8 +18,8 @@ use Rattle.nd_grammar.specs.decoded.Verdict.{DecodingSeen, HasNoted}
 use Rattle.ndr_decoder_laws.specs.stream.Added.{Goes}
 use Rattle.ndr_decoder_laws.specs.stream.Report.{Extent, StreamRefused, StreamCut, read_over}
 
--- So many octets were taken from the source, and these items were noted. Each of them but the gaps was counted, and each cell that got its number: `n'` are
--- there then.
+-- So many octets were taken from the source, and these items were noted. Each of them but the gaps was counted, and each cell that got its number:
+-- `n'` are there then.
 pub record Took (source : SourceSeen) (t : DecodingSeen) (n : ℕ) (octets : List ℕ) (items : List Item) (n' : ℕ) : Type 0 where
   pub left : Consumes source.left source.left_now octets
   pub logged : HasNoted items t
@@ -45,7 +45,8 @@ pub record Follows (a b c : SourceSeen) (s t u : DecodingSeen) : Type 0 where
   pub steps_now : u.steps_now ≡ t.steps_now
 
 -- It is refused at a place and for a reason; where its octets are cut short, the source has ended.
-pub record Refused (x : Extent) (w : Setting) (order : Order) (fetched : List ℕ) (noted : List Item) (n : ℕ) (source : SourceSeen) (t : DecodingSeen) (place : ℕ) (why : Reason) : Type 0 where
+pub record Refused (x : Extent) (w : Setting) (order : Order) (fetched : List ℕ) (noted : List Item) (n : ℕ) (source : SourceSeen) (t : DecodingSeen)
+    (place : ℕ) (why : Reason) : Type 0 where
   pub octets : List ℕ
   pub items : List Item
   pub n' : ℕ
@@ -55,7 +56,8 @@ pub record Refused (x : Extent) (w : Setting) (order : Order) (fetched : List �
   pub none_left : why ≡ reason.Truncated → IsAtEnd source.left_now
 
 -- The source failed before the octets of the next entry had come: those fetched are cut short where they end.
-pub record Unread (x : Extent) (w : Setting) (order : Order) (fetched : List ℕ) (noted : List Item) (n : ℕ) (source : SourceSeen) (t : DecodingSeen) : Type 0 where
+pub record Unread (x : Extent) (w : Setting) (order : Order) (fetched : List ℕ) (noted : List Item) (n : ℕ) (source : SourceSeen)
+    (t : DecodingSeen) : Type 0 where
   pub octets : List ℕ
   pub items : List Item
   pub n' : ℕ
@@ -63,7 +65,8 @@ pub record Unread (x : Extent) (w : Setting) (order : Order) (fetched : List ℕ
   pub took : TookPart source t n octets items n'
 
 -- Reading was cut off.
-pub record CutOff (x : Extent) (w : Setting) (order : Order) (fetched : List ℕ) (noted : List Item) (n : ℕ) (source : SourceSeen) (t : DecodingSeen) : Type 0 where
+pub record CutOff (x : Extent) (w : Setting) (order : Order) (fetched : List ℕ) (noted : List Item) (n : ℕ) (source : SourceSeen)
+    (t : DecodingSeen) : Type 0 where
   pub octets : List ℕ
   pub items : List Item
   pub n' : ℕ
@@ -80,4 +83,5 @@ RefusesWith x w order fetched target =
 
 -- What it passes of a home it passes of the stream, or of its head.
 abbrev pub GoesWith : Extent → Setting → Order → List ℕ → (List ℕ → Read) → Type 0
-GoesWith x w order fetched target = (part : List ℕ) → AreOctets part → Goes (target (fetched ++ part)).progress (read_over x w order (fetched ++ part))
+GoesWith x w order fetched target =
+    (part : List ℕ) → AreOctets part → Goes (target (fetched ++ part)).progress (read_over x w order (fetched ++ part))

@@ -45,13 +45,15 @@ root_subject read None = None
 root_subject read (Some k) = if is_owing k.own.first then kept_named read (cell_number k.cell) else Some k.own
 
 -- The reader passes these agreements, whatever octets follow, and what is kept stays right.
-pub record TestsPass (w : Setting) (order : Order) (fetched : List ℕ) (noted : List Item) (direct : ℕ) (b : Between) (s : Reading) (seen : List EntryAt) (ms : List Entry) : Type 0 where
+pub record TestsPass (w : Setting) (order : Order) (fetched : List ℕ) (noted : List Item) (direct : ℕ) (b : Between) (s : Reading)
+    (seen : List EntryAt) (ms : List Entry) : Type 0 where
   pub after : List EntryAt
   pub goes : (later : List ℕ) → pass_all order (fetched ++ later) ms (going b.at seen) ≡ going b.at after
   pub keeps : Keeps w order fetched noted direct b s after []
 
 -- It refuses one of them.
-pub record TestsStop (w : Setting) (order : Order) (fetched : List ℕ) (noted : List Item) (direct : ℕ) (b : Between) (s : Reading) (seen : List EntryAt) (ms : List Entry) (why : ℕ × Reason) : Type 0 where
+pub record TestsStop (w : Setting) (order : Order) (fetched : List ℕ) (noted : List Item) (direct : ℕ) (b : Between) (s : Reading)
+    (seen : List EntryAt) (ms : List Entry) (why : ℕ × Reason) : Type 0 where
   pub after : List EntryAt
   pub stops : (later : List ℕ) → pass_all order (fetched ++ later) ms (going b.at seen) ≡ stopped b.at after why
   pub keeps : Keeps w order fetched noted direct b s after []

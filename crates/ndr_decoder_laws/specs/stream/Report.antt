@@ -1,6 +1,7 @@
 -- What the plain reader says of the octets that were fetched, where a stream was refused or cut off.
--- `x` is what is read of a stream, `w` is a setting, `s` a source and `t` the log and the steps over a call, `fetched` are the octets, `noted` the items that were noted, `seen` are the entries that were passed, `n` is how many cells there are, `d`
--- how many of them are referents of roots that are reference pointers.
+-- `x` is what is read of a stream, `w` is a setting, `s` a source and `t` the log and the steps over a call, `fetched` are the octets, `noted` the
+-- items that were noted, `seen` are the entries that were passed, `n` is how many cells there are, `d` how many of them are referents of roots that
+-- are reference pointers.
 use Rattle.std.specs.Prelude.{◌≡◌, ◌≤◌, ℕ, ◌+◌, List, ◌++◌, length}
 use Rattle.nd_base.specs.declared.octets.Order.{Order}
 use Rattle.nd_types.specs.Number.{AreOctets}

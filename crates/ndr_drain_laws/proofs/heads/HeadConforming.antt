@@ -1,5 +1,6 @@
 -- A partial graph whose pipes have no elements, and whose head is accepted whole, conforms: each node fits, each agreement holds, and its nodes are few.
-use Rattle.std.proofs.Common.{◌≡◌, ℕ, ◌+◌, ◌-◌, ◌^◌, ◌<◌, ◌≤◌, zero, suc, Bool, true, false, List, [], ◌∷◌, ◌++◌, length, Option, Some, None, refl, ap, ap₂, sym, ◌∙◌, inl, inr, ◌⊎◌, arith, subst, replicate, drop}
+use Rattle.std.proofs.Common.{◌≡◌, ℕ, ◌+◌, ◌-◌, ◌^◌, ◌<◌, ◌≤◌, zero, suc, Bool, true, false, List, [], ◌∷◌, ◌++◌, length, Option, Some, None, refl, ap, ap₂, sym, ◌∙◌, inl, inr, ◌⊎◌, arith, subst}
+use Rattle.std.proofs.Common.{replicate, drop}
 use Rattle.std.specs.Prelude.{map, flat_map}
 use Rattle.std.specs.List.{AllByRecursion, slice_get}
 use Rattle.std.proofs.lemmas.List.{append-nil}
@@ -122,7 +123,8 @@ module _ (w : Setting) (side : IsLegalSide w) (g : Graph) (typed : AllByRecursio
   root_met : (j : ℕ) (r : Root) (v : Tree) → slice_get rl j ≡ Some r → slice_get g.roots j ≡ Some v → j < n → Standing_met (standing_by g j r.of v (direct (type_at w.table r.of) v))
   root_met j r v er ev h =
       let z : 0 + j ≡ j = omega arith in
-      let a : DueMet w g typed made as_many [] steps (due_root j) = subst (λ k. DueMet w g typed made as_many [] steps (due_root k)) z (due_at (DueMet w g typed made as_many [] steps) 0 n all_met.0 j h) in
+      let a : DueMet w g typed made as_many [] steps (due_root j) =
+      subst (λ k. DueMet w g typed made as_many [] steps (due_root k)) z (due_at (DueMet w g typed made as_many [] steps) 0 n all_met.0 j h) in
       let e : standing_root w g j ≡ standing_by g j r.of v (direct (type_at w.table r.of) v) =
       ap₂ (λ t u. standing_by g j t u (direct (type_at w.table t) u)) (ap root_type er) (ap or_unread ev) in
       subst Standing_met e a
@@ -145,7 +147,8 @@ module _ (w : Setting) (side : IsLegalSide w) (g : Graph) (typed : AllByRecursio
   root_to j r v p e m = go (root_kind j r e)
     where
       go : (j < n) ⊎ IsPipeRoot w.table r → Usable w.table p.to
-      go (inl h) = all_among (UsablePointer w.table) (home_pointers w.table (home.Root j) r.of v) p m (pointers_usable w.table side.operations side.legal (home.Root j) r.of v (root_usable w side j r e h))
+      go (inl h) =
+          all_among (UsablePointer w.table) (home_pointers w.table (home.Root j) r.of v) p m (pointers_usable w.table side.operations side.legal (home.Root j) r.of v (root_usable w side j r e h))
       go (inr q) = absurd (no_among (home_pointers w.table (home.Root j) r.of v) p (pipe_pointers w.table (home.Root j) r.of q.elem v q.type_is (laid.elements r.of q.elem q.type_is)) m)
 
   its_type : (p : Pending) (c : ℕ) (x : Referent) → CellFits g.cells p → p.cell ≡ Some c → cell_of_number g c ≡ Some x → p.to ≡ x.of
@@ -219,7 +222,8 @@ module _ (w : Setting) (side : IsLegalSide w) (g : Graph) (typed : AllByRecursio
       let e : in_place w.table h (t ∷ []) 0 (more v none) ≡ A = value_then_others w.table h t [] 0 v none ∙ append-nil A in
       let q : PassedAll A = subst PassedAll e p in
       let b : Bound 32 (least A + one (hoists w.table t)) (node_count (more v none)) =
-      value_few w.table h hoisting (some_members w.table side.operations side.legal) (some_bound w.table side.operations side.legal) 32 t (usable_readable w.table side.operations side.legal t u) 0 v (m.0, m.1) q.passed in
+      value_few w.table h hoisting (some_members w.table side.operations side.legal) (some_bound w.table side.operations side.legal) 32 t (usable_readable w.table side.operations side.legal t u) 0 v
+      (m.0, m.1) q.passed in
       omega (arith, b.below, q.light, one_few (hoists w.table t))
 
   pub record HomeGood (xs : List TypedNode) (v : Tree) : Type 0 where
@@ -241,7 +245,8 @@ module _ (w : Setting) (side : IsLegalSide w) (g : Graph) (typed : AllByRecursio
       record {
         nodes = both_good (home_nodes w.table x.of x.val)
             (in_place_fits w.table g (cell_home (suc i)) (x.of ∷ []) [] [] 0 (more x.val none) k (cell_pointers_fit w g typed made as_many (suc i) x e) p.passed)
-            (in_place_agrees w.table g (cell_home (suc i)) (x.of ∷ []) [] 0 (more x.val none) k (met_agrees (cell_home (suc i)) x.of x.val m) p.passed (no_child_tests (cell_home (suc i)) 0 (more x.val none)));
+            (in_place_agrees w.table g (cell_home (suc i)) (x.of ∷ []) [] 0 (more x.val none) k (met_agrees (cell_home (suc i)) x.of x.val m) p.passed
+            (no_child_tests (cell_home (suc i)) 0 (more x.val none)));
         few = home_few (cell_home (suc i)) x.of x.val (reached_usable (suc i) r x e) k p;
       }
 
@@ -396,9 +401,11 @@ module _ (w : Setting) (side : IsLegalSide w) (g : Graph) (typed : AllByRecursio
           let m' : MadeTrees w.table (replicate (count ks) x.0) ks = subst (λ u. MadeTrees w.table (child_types u tree.Pipe ks) ks) q.type_is m in
           let s : HomeGood (nodes_of w.table (replicate (count ks) x.0) [] 1 ks) (node tree.Pipe ks) = elements_good (home.Root j) r.of x ks cut q.type_is c m' p in
           let rest : Rest w.table d tree.Pipe ks = subst (λ u. Rest w.table u tree.Pipe ks) (sym q.type_is) (pipe_rest x ks) in
-          let no_own : AllByRecursion (CellFits g.cells) (pointer_by d false None (home.Root j) 0 []) = subst (λ u. AllByRecursion (CellFits g.cells) (pointer_by u false None (home.Root j) 0 [])) (sym q.type_is) tt in
+          let no_own : AllByRecursion (CellFits g.cells) (pointer_by d false None (home.Root j) 0 []) =
+          subst (λ u. AllByRecursion (CellFits g.cells) (pointer_by u false None (home.Root j) 0 [])) (sym q.type_is) tt in
           let its : List Agreement → TypedNode = λ ags. record { node = 0; of = r.of; agreements = ags; label = tree.Pipe; kids = ks } in
-          let fit0 : misfit_of w.table g (its (root_agreements w g r.vars)) ≡ None = misfit_none w.table g 0 r.of (root_agreements w g r.vars) tree.Pipe ks f (label_known g d tree.Pipe ks (home.Root j) 0 [] f.shape no_own) rest in
+          let fit0 : misfit_of w.table g (its (root_agreements w g r.vars)) ≡ None =
+          misfit_none w.table g 0 r.of (root_agreements w g r.vars) tree.Pipe ks f (label_known g d tree.Pipe ks (home.Root j) 0 [] f.shape no_own) rest in
           let agrees0 : AgreesAt g (its (root_agreements w g r.vars)) = subst (λ u. AgreesAt g (its (root_agreements w g u))) (sym q.no_vars) (tt, tt) in
           record {
             nodes =
@@ -460,7 +467,8 @@ module _ (w : Setting) (side : IsLegalSide w) (g : Graph) (typed : AllByRecursio
       all_append Good (map (in_home (home.Root i)) (governed_nodes w.table r.of (root_agreements w g r.vars) v)) (root_nodes w g (i + 1) rs vs)
       (in_homes (home.Root i) (governed_nodes w.table r.of (root_agreements w g r.vars) v) (f 0 r v refl refl)) (over_roots (i + 1) rs vs (λ j q u a b. f (suc j) q u a b))
 
-  over_cells : (i : ℕ) (xs : List Referent) → ((j : ℕ) (x : Referent) → slice_get xs j ≡ Some x → AllByRecursion NodeGood (home_nodes w.table x.of x.val)) → AllByRecursion Good (cell_nodes w.table i xs)
+  over_cells : (i : ℕ) (xs : List Referent) → ((j : ℕ) (x : Referent) → slice_get xs j ≡ Some x → AllByRecursion NodeGood (home_nodes w.table x.of x.val))
+      → AllByRecursion Good (cell_nodes w.table i xs)
   over_cells i [] f = tt
   over_cells i (x ∷ xs) f =
       all_append Good (map (in_home (cell_home i)) (home_nodes w.table x.of x.val)) (cell_nodes w.table (i + 1) xs) (in_homes (cell_home i) (home_nodes w.table x.of x.val) (f 0 x refl))

@@ -1,6 +1,7 @@
 -- The head that the reader reads: its graph with pipes that have no elements conforms, is its own canonical form, and the octets are its head.
 -- `w` is a setting, `octets` are those of the head, which the reader reads to their end.
-use Rattle.std.proofs.Common.{◌≡◌, ℕ, ◌+◌, ◌<◌, ◌≤◌, zero, suc, true, List, [], ◌∷◌, ◌++◌, length, Option, Some, None, refl, ap, ap₂, sym, ◌∙◌, inl, inr, arith, subst, replicate, drop, append_assoc, length-append}
+use Rattle.std.proofs.Common.{◌≡◌, ℕ, ◌+◌, ◌<◌, ◌≤◌, zero, suc, true, List, [], ◌∷◌, ◌++◌, length, Option, Some, None, refl, ap, ap₂, sym, ◌∙◌, inl, inr, arith, subst, replicate, drop, append_assoc}
+use Rattle.std.proofs.Common.{length-append}
 use Rattle.std.specs.Prelude.{map, flat_map}
 use Rattle.std.specs.List.{AllByRecursion, slice_get, list_all}
 use Rattle.std.proofs.lemmas.List.{append-nil, length-replicate}
@@ -257,7 +258,8 @@ module _ (w : Setting) (side : IsLegalSide w) (order : Order) (octets : List ℕ
   tests_are : T ≡ root_tests w K 0 rl K.roots
   tests_are =
       tests_same w (graph_of (H.roots ++ U) H.names) K same_cells
-      (λ i. same_tops H.roots U E (length-replicate (length (drop n rl)) unread ∙ sym (length-replicate (length (drop n rl)) empty_pipe)) (all_unread (length (drop n rl))) (all_empty (length (drop n rl))) i)
+      (λ i. same_tops H.roots U E (length-replicate (length (drop n rl)) unread ∙ sym (length-replicate (length (drop n rl)) empty_pipe)) (all_unread (length (drop n rl)))
+      (all_empty (length (drop n rl))) i)
       0 rl H.roots U E (subst (λ k. AllByRecursion (λ r. r.vars ≡ []) (drop k rl)) (sym as_many) no_vars)
 
   ms_are : ms ≡ F ++ T
@@ -506,7 +508,9 @@ module _ (w : Setting) (side : IsLegalSide w) (order : Order) (octets : List ℕ
         let g : Graph = stream.G w side order octets all in
         let c : IsCanon w g g = subst (λ u. IsCanon w u u) (stream.graph_is w side order octets all) own_canon in
         let e : with_pipes w g E ≡ K = ap (λ (us : List Tree). graph_of (us ++ E) H.names) (take_first H.roots P n as_many) in
-        subst (λ u. IsCanon w u u) e (canonical_pipes w g E (empty_still (length (drop n rl))) (let h = stream.few_roots w side order octets all in let m = as_many in let l : length (H.roots ++ P) ≡ length H.roots + length P = length-append H.roots P in omega (arith, l, m)) c)
+        subst (λ u. IsCanon w u u) e
+        (canonical_pipes w g E (empty_still (length (drop n rl)))
+        (let h = stream.few_roots w side order octets all in let m = as_many in let l : length (H.roots ++ P) ≡ length H.roots + length P = length-append H.roots P in omega (arith, l, m)) c)
 
     pub head_is : HeadRead w order octets K tested.seen
     head_is = record { is_head = is_head; empty = empty; conforms = conforms; canonical = canonical; entries = sym taken_all.seen }

@@ -13,7 +13,8 @@ use Rattle.nd_value.specs.declared.item.Home.TheVariants as home
 use Rattle.nd_value.specs.declared.value.Graph.{Graph}
 use Rattle.nd_value.specs.Tree as tree
 use Rattle.nd_value.specs.Tree.{Tree, Trees, node, none, more, node_count, trees, Label, is_pointer}
-use Rattle.nd_value.specs.Deferral.{Deferral, none_due, at_root, at_null, at_standing, at_referent, Due, due_referent, Step, Pending, Placed_cells, standing_root, standing_cell, standing_by, direct, root_type, home_pointers}
+use Rattle.nd_value.specs.Deferral.{Deferral, none_due, at_root, at_null, at_standing, at_referent, Due, due_referent, Step, Pending, Placed_cells, standing_root, standing_cell, standing_by, direct}
+use Rattle.nd_value.specs.Deferral.{root_type, home_pointers}
 use Rattle.nd_value.specs.Nodes.{child_agreements, child_types, first_agreements, rest_agreements}
 use Rattle.nd_value.specs.Setting.{Setting, root_list, root_at, cell_at, cell_home}
 use Rattle.nd_value.specs.Variables.{root_agreements}

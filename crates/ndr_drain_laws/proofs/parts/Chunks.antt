@@ -1,5 +1,6 @@
 -- The entries of chunks, one after the other, are those of the pipes that they make.
-use Rattle.std.proofs.Common.{◌≡◌, ◌<◌, ◌≤◌, ◌∙◌, ◌⊎◌, inl, inr, ap, ap₂, sym, subst, refl, ℕ, ◌+◌, zero, suc, List, [], ◌∷◌, ◌++◌, length, length-append, drop, append_assoc, Some, None, false, ◌-◌, arith}
+use Rattle.std.proofs.Common.{◌≡◌, ◌<◌, ◌≤◌, ◌∙◌, ◌⊎◌, inl, inr, ap, ap₂, sym, subst, refl, ℕ, ◌+◌, zero, suc, List, [], ◌∷◌, ◌++◌, length, length-append, drop, append_assoc, Some, None, false, ◌-◌}
+use Rattle.std.proofs.Common.{arith}
 use Rattle.std.specs.Prelude.{sum}
 use Rattle.std.specs.List.{slice_get}
 use Rattle.std.proofs.lemmas.List.{append-nil}
@@ -162,7 +163,8 @@ module _ (w : Setting) (side : IsLegalSide w) (order : Order) where
           }
       last (p ∷ qs) q h = let b : AreParts w order (spot_after s n []) (p ∷ qs) = subst (AreParts w order (spot_after s n [])) (sym q) a in absurd (omega (arith, h, b.0.pipe_left))
 
-      go : (s.root + 1 < length (root_list w)) ⊎ (length (root_list w) ≤ s.root + 1) → Joins s vs (node tree.Pipe (trees vs) ∷ pipes_of [] ps) (part_entries w s 0 [] ++ parts_entries w (spot_after s n []) ps)
+      go : (s.root + 1 < length (root_list w)) ⊎ (length (root_list w) ≤ s.root + 1)
+          → Joins s vs (node tree.Pipe (trees vs) ∷ pipes_of [] ps) (part_entries w s 0 [] ++ parts_entries w (spot_after s n []) ps)
       go (inl h) = next h
       go (inr h) = last ps refl h
 
@@ -170,7 +172,8 @@ module _ (w : Setting) (side : IsLegalSide w) (order : Order) where
       → length (root_list w) ≤ (after_all (spot_after s n els) ps).root → before_pipes (root_list w) ≤ s.root → s.root < length (root_list w)
       → Joins s vs (pipes_by (λ us. pipes_of us ps) vs els) (part_entries w s (length els) els ++ parts_entries w (spot_after s n els) ps)
   by_elements s vs n [] ps rest a e low high = at_end s vs n ps rest a e low high
-  by_elements s vs n (u ∷ us) ps rest a e low high = on s vs n u us (pipes_of (vs ++ u ∷ us) ps) (parts_entries w (spot_after s n (u ∷ us)) ps) (rest (spot_after s n (u ∷ us)) (vs ++ u ∷ us) a e low high)
+  by_elements s vs n (u ∷ us) ps rest a e low high =
+      on s vs n u us (pipes_of (vs ++ u ∷ us) ps) (parts_entries w (spot_after s n (u ∷ us)) ps) (rest (spot_after s n (u ∷ us)) (vs ++ u ∷ us) a e low high)
 
   -- chunks up to the end of every pipe make the pipes that are left
   pub joins : (ps : List Part) → Rest ps

@@ -1,5 +1,6 @@
 -- The graph that a head and chunks make conforms.
-use Rattle.std.proofs.Common.{◌≡◌, ◌<◌, ◌≤◌, ◌∙◌, ap, ap₂, sym, subst, refl, ℕ, ◌+◌, ◌^◌, zero, suc, true, List, [], ◌∷◌, ◌++◌, length, length-append, take, drop, map, append_assoc, replicate, Option, Some, None, arith}
+use Rattle.std.proofs.Common.{◌≡◌, ◌<◌, ◌≤◌, ◌∙◌, ap, ap₂, sym, subst, refl, ℕ, ◌+◌, ◌^◌, zero, suc, true, List, [], ◌∷◌, ◌++◌, length, length-append, take, drop, map, append_assoc, replicate, Option}
+use Rattle.std.proofs.Common.{Some, None, arith}
 use Rattle.std.specs.List.{AllByRecursion, list_all, slice_get}
 use Rattle.std.proofs.lemmas.Bool.{and_from, and_parts}
 use Rattle.std.proofs.lemmas.List.{append-nil}

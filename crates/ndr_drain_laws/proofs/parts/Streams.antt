@@ -1,5 +1,6 @@
 -- A head and chunks up to the end of every pipe are a stream of the graph with their elements.
-use Rattle.std.proofs.Common.{◌≡◌, ◌<◌, ◌≤◌, ◌-◌, ◌∙◌, ◌⊎◌, inl, inr, ap, ap₂, sym, subst, refl, ℕ, ◌+◌, zero, suc, ℤ, true, false, Bool, List, [], ◌∷◌, ◌++◌, length, length-append, take, drop, Option, Some, None, arith}
+use Rattle.std.proofs.Common.{◌≡◌, ◌<◌, ◌≤◌, ◌-◌, ◌∙◌, ◌⊎◌, inl, inr, ap, ap₂, sym, subst, refl, ℕ, ◌+◌, zero, suc, ℤ, true, false, Bool, List, [], ◌∷◌, ◌++◌, length, length-append, take, drop}
+use Rattle.std.proofs.Common.{Option, Some, None, arith}
 use Rattle.std.specs.List.{AllByRecursion, slice_get}
 use Rattle.std.proofs.lemmas.List.{append-nil}
 use Rattle.nd_base.specs.declared.octets.Order.{Order}
@@ -122,7 +123,8 @@ none_left w order head [] a h = record {
 none_left w order head (p ∷ ps) a h = absurd (omega (arith, h, a.0.pipe_left))
 
 some_left : (w : Setting) (side : IsLegalSide w) (order : Order) (head : List ℕ) (parts : List Part) → AreParts w order (first_spot w head) parts
-    → length (root_list w) ≤ (after_all (first_spot w head) parts).root → before_pipes (root_list w) < length (root_list w) → AreJoined w (pipes_of [] parts) (parts_entries w (first_spot w head) parts)
+    → length (root_list w) ≤ (after_all (first_spot w head) parts).root → before_pipes (root_list w) < length (root_list w)
+    → AreJoined w (pipes_of [] parts) (parts_entries w (first_spot w head) parts)
 some_left w side order head parts a e h =
     all_of_first w side order (first_spot w head) (pipes_of [] parts) (parts_entries w (first_spot w head) parts) refl refl h
     (joins w side order parts (first_spot w head) [] a e (omega arith) h)

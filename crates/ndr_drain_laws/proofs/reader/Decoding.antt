@@ -203,7 +203,8 @@ module _ (w : Setting) (side : IsLegalSide w) (order : Order) (s : Spot) (at_pip
       subst (λ z. Told n0 0 order z h (header_seen s (suc c)) no_names [] [] None 1 []) (append_assoc Z g os)
       (subst (λ k. Told n0 0 order ((Z ++ g) ++ os) h (header_seen s k) no_names [] [] None 1 []) some (told_count w order s Z (zeros_long w side order s at_pipe) g size os four short))
 
-  module _ (values : List EnumList) (code : List Instr) (planned : IsPlanned code values w.table) (fine : IsFine w.table 32 elem.0) (x : State) (o : OpensPart (place_at w.table elem.0) c (after_count s) x) where
+  module _ (values : List EnumList) (code : List Instr) (planned : IsPlanned code values w.table) (fine : IsFine w.table 32 elem.0) (x : State)
+      (o : OpensPart (place_at w.table elem.0) c (after_count s) x) where
     told_at : Told n0 0 order f0 h (header_seen s (suc c)) no_names x.cells x.numbers x.max_at (length x.nodes) []
     told_at =
         subst (λ a. Told n0 0 order f0 h (header_seen s (suc c)) no_names a x.numbers x.max_at (length x.nodes) []) (sym o.cells)
@@ -251,7 +252,8 @@ module _ (w : Setting) (side : IsLegalSide w) (order : Order) (s : Spot) (at_pip
     items_same : (seen : List EntryAt) (xs : List Item) → items order (f0 ++ more) seen ≡ xs → items order A seen ≡ xs
     items_same seen xs e = ap (λ z. items order z seen) (sym (same_octets more)) ∙ e
 
-    module _ (x : State) (it : Whole order (to_elements s g os ++ more) w.table (home.Root s.root) (type_of_root w s.root) (header_items order s g os ++ noted) 0 (part_target w order s elem c) x) where
+    module _ (x : State)
+        (it : Whole order (to_elements s g os ++ more) w.table (home.Root s.root) (type_of_root w s.root) (header_items order s g os ++ noted) 0 (part_target w order s elem c) x) where
       whole_is : record { tree = it.v; progress = going x.at it.seen; names = it.names } ≡ its_target (f0 ++ more)
       whole_is = subst (λ z. record { tree = it.v; progress = going x.at it.seen; names = it.names } ≡ its_target z) (append-nil (f0 ++ more)) (it.is [])
 

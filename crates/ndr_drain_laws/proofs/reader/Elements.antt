@@ -1,5 +1,6 @@
 -- Elements that are read by themselves: their trees are made, reading goes over their entries, and none of these names a cell.
-use Rattle.std.proofs.Common.{◌≡◌, ◌≤◌, ◌<◌, ℕ, ◌+◌, ◌-◌, zero, suc, Bool, true, false, List, [], ◌∷◌, ◌++◌, length, length-append, Option, Some, None, refl, ap, ap₂, sym, ◌∙◌, inl, inr, subst, arith, replicate}
+use Rattle.std.proofs.Common.{◌≡◌, ◌≤◌, ◌<◌, ℕ, ◌+◌, ◌-◌, zero, suc, Bool, true, false, List, [], ◌∷◌, ◌++◌, length, length-append, Option, Some, None, refl, ap, ap₂, sym, ◌∙◌, inl, inr, subst, arith}
+use Rattle.std.proofs.Common.{replicate}
 use Rattle.std.specs.Prelude.{flat_map, drop}
 use Rattle.std.specs.List.{AllByRecursion, slice_get}
 use Rattle.std.proofs.lemmas.Bool.{and_parts}
@@ -209,7 +210,8 @@ module _ (w : Setting) (side : IsLegalSide w) (order : Order) (s : Spot) (at_pip
       let a : AreRead order octets w.table h (replicate k e) n p names r =
       list_read order octets w.table h reader (replicate k e) (many (Reads order octets w.table h reader) e k (in_place_read order octets w.table h 32 0 e (readable w side s at_pipe))) n p names in
       let b : AllLeave order octets w.table h (replicate k e) p names r =
-      list_leaves order octets w.table h reader (replicate k e) (many (Leave order octets w.table h reader) e k (in_place_leaves order octets w.table h 32 0 e (readable w side s at_pipe))) n p names in
+      list_leaves order octets w.table h reader (replicate k e)
+      (many (Leave order octets w.table h reader) e k (in_place_leaves order octets w.table h 32 0 e (readable w side s at_pipe))) n p names in
       let c : AllMake order octets all w.table h bounds hoisting (replicate k e) p names r =
       list_makes order octets all w.table h bounds hoisting reader (replicate k e)
       (many (Make order octets all w.table h bounds hoisting reader) e k (in_place_makes order octets all w.table h bounds hoisting 32 0 e (omega arith) (readable w side s at_pipe))) n p names in

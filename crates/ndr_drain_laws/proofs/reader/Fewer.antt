@@ -85,7 +85,8 @@ module _ (w : Setting) (order : Order) (s : Spot) (octets : List ℕ) (first oth
           machine_values = t.machine_values;
           later = begun.ys ++ t.later;
           split = t.split ∙ ap (λ u. u ++ t.later) e ∙ append_assoc begun.xs begun.ys t.later;
-          rendered = λ before nums l. all_left (IsRendered order nums (before ++ octets)) begun.xs begun.ys (subst (AllByRecursion (IsRendered order nums (before ++ octets))) e (t.rendered before nums l));
+          rendered =
+              λ before nums l. all_left (IsRendered order nums (before ++ octets)) begun.xs begun.ys (subst (AllByRecursion (IsRendered order nums (before ++ octets))) e (t.rendered before nums l));
           accepted = λ before l. accepts_first order (before ++ octets) [] begun.xs begun.ys (subst (Accepts order (before ++ octets) []) e (t.accepted before l));
         };
         items_are = λ before l. items_elsewhere order s.place octets before Z l zeros_long begun.xs from_place ∙ begun.items_are;

@@ -1,5 +1,6 @@
 -- A chunk whose gap or count is refused or cut off, and one that ends its pipe.
-use Rattle.std.proofs.Common.{◌≡◌, ◌≤◌, ◌<◌, ◌⊎◌, inl, inr, ℕ, ◌+◌, zero, suc, List, [], ◌∷◌, ◌++◌, length, length-append, append_assoc, length-take, take, drop, Some, refl, ap, sym, ◌∙◌, subst, arith, replicate}
+use Rattle.std.proofs.Common.{◌≡◌, ◌≤◌, ◌<◌, ◌⊎◌, inl, inr, ℕ, ◌+◌, zero, suc, List, [], ◌∷◌, ◌++◌, length, length-append, append_assoc, length-take, take, drop, Some, refl, ap, sym, ◌∙◌, subst}
+use Rattle.std.proofs.Common.{arith, replicate}
 use Rattle.std.proofs.lemmas.Bool.{cases_lt}
 use Rattle.std.proofs.lemmas.List.{append-nil, length-replicate, take-append-drop}
 use Rattle.nd_base.specs.declared.octets.Order.{Order}
@@ -157,5 +158,6 @@ module _ (w : Setting) (side : IsLegalSide w) (order : Order) (s : Spot) (at_pip
         let i : items order z (header_seen s (unsigned order os)) ≡ header_items order s g os =
         subst (λ u. items order u (header_seen s (unsigned order os)) ≡ header_items order s g os) (append_assoc Z g os) (header_items_are w order s Z zeros_long g size os four short) in
         subst (λ els. PartWhole w order s both els (header_items order s g os)) (ap (λ (x : ReadAll). tree.items x.trees) r)
-        (whole_part w side order s at_pipe Z both zeros_long (after_zeros both both_octets) (ap (λ (x : ReadAll). x.progress.stop) r) (ap (λ (x : ReadAll). x.progress.at) r ∙ omega (arith, n, size, four))
+        (whole_part w side order s at_pipe Z both zeros_long (after_zeros both both_octets) (ap (λ (x : ReadAll). x.progress.stop) r)
+        (ap (λ (x : ReadAll). x.progress.at) r ∙ omega (arith, n, size, four))
         (header_items order s g os) (ap (λ (x : ReadAll). items order z x.progress.seen) r ∙ i))

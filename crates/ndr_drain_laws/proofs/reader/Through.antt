@@ -99,7 +99,8 @@ module _ (table : Table) (e : ℕ) (fits_pipes : FitsPipes table e) where
 
 -- ## A chunk
 
-module _ (w : Setting) (side : IsLegalSide w) (order : Order) (s : Spot) (at_pipe : IsAtPipe w s) (before octets : List ℕ) (of_place : length before ≡ s.place) (all : AreOctets (before ++ octets)) where
+module _ (w : Setting) (side : IsLegalSide w) (order : Order) (s : Spot) (at_pipe : IsAtPipe w s) (before octets : List ℕ) (of_place : length before ≡ s.place)
+    (all : AreOctets (before ++ octets)) where
   abbrev A : List ℕ
   A = before ++ octets
 

@@ -66,7 +66,8 @@ module _ (table : Table) (R : ℕ → List Agreement → Label → Trees → Typ
             (renumbered types (rest_agreements ags) (n + 1 + node_count ks) (m + 1 + node_count ks) ts (all_right Holds (K n) (L n) a.1)),
       )
 
-  pub each_element : (t k n : ℕ) (ts : Trees) → AllByRecursion Holds (nodes_of table (replicate k t) [] n ts) → count ts ≡ k → AllByRecursion (λ v. AllByRecursion Holds (home_nodes table t v)) (tree.items ts)
+  pub each_element : (t k n : ℕ) (ts : Trees) → AllByRecursion Holds (nodes_of table (replicate k t) [] n ts) → count ts ≡ k
+      → AllByRecursion (λ v. AllByRecursion Holds (home_nodes table t v)) (tree.items ts)
   each_element t k n none a c = tt
   each_element t zero n (more v ts) a c = absurd (omega (arith, c))
   each_element t (suc k) n (more (node l ks) ts) a c =

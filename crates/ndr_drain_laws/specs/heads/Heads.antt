@@ -32,7 +32,8 @@ head_graph w order octets =
     let h : Reading = roots_read w order octets in
     graph_of (h.roots ++ replicate (length (drop (before_pipes (root_list w)) (root_list w))) empty_pipe) h.names
 
--- The octets are the head of a stream of the graph, which conforms, has no elements in its pipes and is its own canonical form; and these are the entries of the head.
+-- The octets are the head of a stream of the graph, which conforms, has no elements in its pipes and is its own canonical form; and these are the
+-- entries of the head.
 pub record HeadRead (w : Setting) (order : Order) (octets : List ℕ) (g : Graph) (seen : List EntryAt) : Type 0 where
   pub is_head : IsHead w order octets g
   pub empty : HasEmptyPipes w g

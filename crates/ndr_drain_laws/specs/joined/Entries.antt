@@ -22,4 +22,5 @@ entries_to w g steps head parts = end_to_end 0 (head_entries w g steps) ++ parts
 -- the items of chunks, one after the other from a spot on
 abbrev pub parts_items : Setting → Order → List ℕ → Spot → List Part → List Item
 parts_items w order before s [] = []
-parts_items w order before s (p ∷ ps) = part_items w order (before ++ p.octets) s p.elements ++ parts_items w order (before ++ p.octets) (after s p) ps
+parts_items w order before s (p ∷ ps) =
+    part_items w order (before ++ p.octets) s p.elements ++ parts_items w order (before ++ p.octets) (after s p) ps

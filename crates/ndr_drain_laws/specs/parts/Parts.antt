@@ -27,8 +27,8 @@ use Rattle.nd_grammar.specs.Stream.{head_entries, chunk_entries}
 
 -- ## The head
 
--- The octets are the head of a stream of the graph: the roots that are no pipes with their referents, and the agreements of the parameters, end to end over
--- exactly these octets.
+-- The octets are the head of a stream of the graph: the roots that are no pipes with their referents, and the agreements of the parameters, end to
+-- end over exactly these octets.
 pub record IsHead (w : Setting) (order : Order) (octets : List ℕ) (g : Graph) : Type 0 where
   pub steps : List Step
   pub deferral : Deferral w g [] (due_roots 0 (before_pipes (root_list w))) steps
@@ -89,8 +89,8 @@ elem_at w r = elem_by (type_at w.table (root_type (slice_get (root_list w) r)))
 abbrev pub part_entries : Setting → Spot → ℕ → List Tree → List Entry
 part_entries w s k vs = chunk_entries w.table (home.Root s.root) (elem_at w s.root) s.node k (trees vs)
 
--- Octets spell entries from a place on, end to end over exactly these octets. Whatever octets come before the place, and however full pointers are numbered:
--- there are none among the entries.
+-- Octets spell entries from a place on, end to end over exactly these octets. Whatever octets come before the place, and however full pointers are
+-- numbered: there are none among the entries.
 pub record AreSpelt (order : Order) (place : ℕ) (octets : List ℕ) (entries : List Entry) : Type 0 where
   pub rendered : (before : List ℕ) (numbering : ℕ → ℕ) → length before ≡ place
       → AllByRecursion (IsRendered order numbering (before ++ octets)) (end_to_end place entries)
@@ -132,7 +132,8 @@ octets_of ps = flat_map (λ p. p.octets) ps
 abbrev pub part_items : Setting → Order → List ℕ → Spot → List Tree → List Item
 part_items w order octets s vs = items order octets (end_to_end s.place (part_entries w s (length vs) vs))
 
--- Octets are read through the first entries of a chunk, which begins at a spot: they spell each of them and refuse none. Each of its elements may be unread in part.
+-- Octets are read through the first entries of a chunk, which begins at a spot: they spell each of them and refuse none. Each of its elements may be
+-- unread in part.
 pub record IsPartThrough (w : Setting) (order : Order) (s : Spot) (octets : List ℕ) (earlier : List EntryAt) : Type 0 where
   pub pipe_left : s.root < length (root_list w)
   pub elements : List Tree
@@ -140,7 +141,8 @@ pub record IsPartThrough (w : Setting) (order : Order) (s : Spot) (octets : List
   pub machine_values : AllByRecursion (λ v. list_all (λ x. has_machine_values x.label) (home_nodes w.table (elem_at w s.root) v) ≡ true) elements
   pub later : List EntryAt
   pub split : end_to_end s.place (part_entries w s (length elements) elements) ≡ earlier ++ later
-  pub rendered : (before : List ℕ) (numbering : ℕ → ℕ) → length before ≡ s.place → AllByRecursion (IsRendered order numbering (before ++ octets)) earlier
+  pub rendered : (before : List ℕ) (numbering : ℕ → ℕ) → length before ≡ s.place
+      → AllByRecursion (IsRendered order numbering (before ++ octets)) earlier
   pub accepted : (before : List ℕ) → length before ≡ s.place → Accepts order (before ++ octets) [] earlier
 
 -- Octets are refused in a chunk: they are read through its first entries, and refuse the next.

@@ -1,6 +1,6 @@
 -- What reading one chunk of a pipe by itself comes to.
--- `w` is a setting, `s` the spot at which the chunk begins, `octets` are those that were fetched for it, `noted` the items that were noted, with the nodes of the
--- elements numbered from 1, `before` any octets that come before the place.
+-- `w` is a setting, `s` the spot at which the chunk begins, `octets` are those that were fetched for it, `noted` the items that were noted, with the
+-- nodes of the elements numbered from 1, `before` any octets that come before the place.
 use Rattle.std.specs.Prelude.{◌≡◌, ◌≤◌, ℕ, ◌+◌, ◌*◌, suc, List, [], ◌∷◌, ◌++◌, length, Some, None}
 use Rattle.nd_base.specs.declared.octets.Order.{Order}
 use Rattle.nd_value.specs.declared.item.Item.{Item}
@@ -29,10 +29,12 @@ pub record PartCut (w : Setting) (order : Order) (s : Spot) (octets : List ℕ) 
 pub record PartWhole (w : Setting) (order : Order) (s : Spot) (octets : List ℕ) (elements : List Tree) (noted : List Item) : Type 0 where
   pub read : IsPart w order s (record { octets = octets; elements = elements })
   pub items_are : (before : List ℕ) → length before ≡ s.place → part_items w order (before ++ octets) s elements ≡ moved_items s noted
-  pub few_then : (after s (record { octets = octets; elements = elements })).node ≤ 32 * (after s (record { octets = octets; elements = elements })).place + 1
+  pub few_then : (after s (record { octets = octets; elements = elements })).node ≤ 32 *
+      (after s (record { octets = octets; elements = elements })).place + 1
   pub cut : PartCut w order s octets noted
 
--- The octets are refused at a place and for a reason, whatever follows, and end with the refused entry. The items of the entries before it were noted.
+-- The octets are refused at a place and for a reason, whatever follows, and end with the refused entry. The items of the entries before it were
+-- noted.
 pub record PartRefused (w : Setting) (order : Order) (s : Spot) (octets : List ℕ) (noted : List Item) (place : ℕ) (why : Reason) : Type 0 where
   pub bad : BadPart w order s octets place why
   pub ends : s.place + length octets ≡ fetched_to why (s.place + length octets) bad.here

@@ -1,6 +1,6 @@
 -- Reading one chunk of a pipe by itself: the plain reader of its gap, its count and its elements.
--- `w` is a setting, `s` the spot at which the chunk begins, `octets` are those of the stream, up to any place after the chunk, `g` those of the gap, `os` those
--- of the count, `k` is the count, `c` how many elements come after the first.
+-- `w` is a setting, `s` the spot at which the chunk begins, `octets` are those of the stream, up to any place after the chunk, `g` those of the gap,
+-- `os` those of the count, `k` is the count, `c` how many elements come after the first.
 use Rattle.std.specs.Prelude.{◌≤◌, ◌<◌, ℕ, ◌+◌, ◌-◌, ◌*◌, zero, suc, pos, List, [], ◌∷◌, ◌++◌, length, map, replicate}
 use Rattle.std.specs.List.{slice_get}
 use Rattle.nd_base.specs.declared.octets.Order.{Order}
@@ -59,7 +59,8 @@ module _ (w : Setting) (order : Order) (octets : List ℕ) (s : Spot) where
 
   -- the chunk: so many elements, whose nodes are numbered from 1
   abbrev pub read_part : ReadAll
-  read_part = read_list w.table (read_in_place order octets w.table (home.Root s.root) 32 0) (replicate count_of (elem_at w s.root)) 1 past_count no_names
+  read_part =
+      read_list w.table (read_in_place order octets w.table (home.Root s.root) 32 0) (replicate count_of (elem_at w s.root)) 1 past_count no_names
 
 -- ## Numbers of nodes
 

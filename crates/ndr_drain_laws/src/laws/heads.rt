@@ -13,17 +13,20 @@ use ndr_decoder_laws::laws::verdict::canonical_graph;
 
 /// Octets that the plain reader reads to their end before the pipes, without a stop, are the head of a stream of the graph that it finds.
 pub fn heads_are_read()
-    ensures { (w : Setting) → IsLegalSide w → (order : Order) (octets : List ℕ) → AreOctets octets → (head_tested w order octets).stop ≡ None → (head_tested w order octets).at ≡ length octets
+    ensures { (w : Setting) → IsLegalSide w → (order : Order) (octets : List ℕ) → AreOctets octets → (head_tested w order octets).stop ≡ None
+        → (head_tested w order octets).at ≡ length octets
         → HeadRead w order octets (head_graph w order octets) (head_tested w order octets).seen }
 {
     canonical_graph();
 }
 
-/// Octets that the plain reader refuses before the pipes are refused in the head of a stream, after the entries that it passes. The first of those that it passes
-/// before the pipes are the first of a head.
+/// Octets that the plain reader refuses before the pipes are refused in the head of a stream, after the entries that it passes. The first of those
+/// that it passes before the pipes are the first of a head.
 pub fn heads_are_refused()
-    ensures refused { (w : Setting) → IsLegalSide w → (order : Order) (octets : List ℕ) → AreOctets octets → (place : ℕ) (why : Reason) → (head_tested w order octets).stop ≡ Some (place, why)
+    ensures refused { (w : Setting) → IsLegalSide w → (order : Order) (octets : List ℕ) → AreOctets octets → (place : ℕ) (why : Reason)
+        → (head_tested w order octets).stop ≡ Some (place, why)
         → (b : BadHead w order octets place why) × (b.bad.earlier ≡ (head_tested w order octets).seen) }
-    ensures passed { (w : Setting) → IsLegalSide w → (order : Order) (octets : List ℕ) → AreOctets octets → (earlier later : List EntryAt) → (head_tested w order octets).seen ≡ earlier ++ later
+    ensures passed { (w : Setting) → IsLegalSide w → (order : Order) (octets : List ℕ) → AreOctets octets → (earlier later : List EntryAt)
+        → (head_tested w order octets).seen ≡ earlier ++ later
         → HeadThrough w order octets earlier }
 {}

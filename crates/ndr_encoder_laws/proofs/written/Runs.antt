@@ -1,5 +1,6 @@
 -- A run of a plan over the nodes of values of its types writes the pieces of these values.
-use Rattle.std.proofs.Common.{◌≡◌, ℕ, ◌+◌, ◌-◌, ◌<◌, ◌≤◌, zero, suc, ℤ, Bool, true, false, List, [], ◌∷◌, ◌++◌, length, Option, Some, None, refl, ap, ap₂, sym, ◌∙◌, subst, drop, map, arith, append_assoc, append-nil, lt-ltb, ◌*◌}
+use Rattle.std.proofs.Common.{◌≡◌, ℕ, ◌+◌, ◌-◌, ◌<◌, ◌≤◌, zero, suc, ℤ, Bool, true, false, List, [], ◌∷◌, ◌++◌, length, Option, Some, None, refl, ap, ap₂, sym, ◌∙◌, subst, drop, map, arith}
+use Rattle.std.proofs.Common.{append_assoc, append-nil, lt-ltb, ◌*◌}
 use Rattle.std.specs.Prelude.{eqb, replicate}
 use Rattle.std.specs.List.{slice_get}
 use Rattle.nd_types.specs.declared.types.Field.{Field}
@@ -181,7 +182,8 @@ module _ (code : List Instr) (m K : ℕ) (table : Table) where
         j + cost + 1,
         omega (arith, few, low),
         reach_as code m K (j + cost + 1) pc frames ((l, count ks) ∷ ((flat ks ++ flat us) ++ fs)) _ _ (λ n. values_split table f.of.0 l ks T us (X n))
-            (by_step code m K (op.Call (place_at table f.of.0)) [] (j + cost) pc (place_at table f.of.0) frames up ((l, count ks) ∷ ((flat ks ++ flat us) ++ fs)) ((l, count ks) ∷ (flat ks ++ (flat us ++ fs))) _
+            (by_step code m K (op.Call (place_at table f.of.0)) [] (j + cost) pc (place_at table f.of.0) frames up ((l, count ks) ∷ ((flat ks ++ flat us) ++ fs))
+            ((l, count ks) ∷ (flat ks ++ (flat us ++ fs))) _
             (first_at code pc (op.Call (place_at table f.of.0)) (C ++ rest) s)
             (λ n. ap (λ q. run code m K n (place_at table f.of.0) q ((l, count ks) ∷ ((flat ks ++ flat us) ++ fs))) stack ∙ ap (run code m K n (place_at table f.of.0) up) nodes) both),
       )

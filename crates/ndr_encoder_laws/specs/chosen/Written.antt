@@ -1,5 +1,6 @@
 -- What is written home by home: the value of each home by its run.
--- `code` is a plan's code, `g` a graph, `u` a home with the address of its run, `k` the greatest count of a chunk, `w` a setting, `n` the number of its operation.
+-- `code` is a plan's code, `g` a graph, `u` a home with the address of its run, `k` the greatest count of a chunk, `w` a setting, `n` the number of
+-- its operation.
 use Rattle.std.specs.Prelude.{ℕ, ◌+◌, suc, zero, List, [], ◌∷◌, ◌++◌, drop, length}
 use Rattle.std.specs.List.{flat_map}
 use Rattle.nd_types.specs.declared.types.Operation.{Operation}

@@ -10,7 +10,8 @@ own_count (tree.Arr max offset) = Some max
 own_count (tree.Text max octets) = Some max
 own_count _ = None
 
--- Where one value alone is still to come, the next node is the last part of all that is around it. The first such node with a maximum count has that of the value.
+-- Where one value alone is still to come, the next node is the last part of all that is around it. The first such node with a maximum count has that
+-- of the value.
 abbrev pub last_max : ℕ → List Flat → ℕ
 last_max p [] = 0
 last_max p (f ∷ fs) =

@@ -1,5 +1,6 @@
 -- The pieces of the entries of a stream, and of values. A gap of 1 is none, and agreements have no octets.
--- `x` is a kind, `m` an entry, `t` a type's number, `l` a label, `ks` are its children, `e` is the type of a pipe's elements, `k` the count of a chunk.
+-- `x` is a kind, `m` an entry, `t` a type's number, `l` a label, `ks` are its children, `e` is the type of a pipe's elements, `k` the count of a
+-- chunk.
 use Rattle.std.specs.Prelude.{ℕ, List, [], ◌∷◌, ◌++◌, replicate, Option, Some}
 use Rattle.nd_types.specs.declared.types.TypeDef.{TypeDef}
 use Rattle.nd_types.specs.declared.types.TypeDef.TheVariants as def

@@ -1,6 +1,6 @@
 -- The homes of a graph in the order of the stream, by what a plan's code says of their nodes: what a search for them follows.
--- `code` is a plan's code, `g` a graph, `v` a value, `i` a root's index, `c` a cell's number, `a` the address of a run, `stands` are the cells that have their turn, `due` is what is
--- pending, the next first, `ts` are the turns from there on, `ns` the cells that are named.
+-- `code` is a plan's code, `g` a graph, `v` a value, `i` a root's index, `c` a cell's number, `a` the address of a run, `stands` are the cells that
+-- have their turn, `due` is what is pending, the next first, `ts` are the turns from there on, `ns` the cells that are named.
 use Rattle.std.specs.Prelude.{◌≡◌, ℕ, ◌-◌, ◌^◌, List, [], ◌∷◌, ◌++◌, map, Some}
 use Rattle.nd_value.specs.declared.value.Graph.{Graph}
 use Rattle.nd_value.specs.declared.item.Home.{Home}
@@ -32,7 +32,8 @@ cells_due names = map (λ n. cell_due n.0 n.1) names
 abbrev pub cells_of : List (ℕ × ℕ) → List ℕ
 cells_of names = map (λ n. n.0) names
 
--- A root, or a referent that has no turn yet, has its turn once it is the first that is pending: then what its pointers name is pending before the others.
+-- A root, or a referent that has no turn yet, has its turn once it is the first that is pending: then what its pointers name is pending before the
+-- others.
 pub data Turned (code : List Instr) (g : Graph) : List ℕ → List Item → List (Home × ℕ) → List ℕ → Type 0 where
   none_left : {stands : List ℕ} → Turned code g stands [] [] []
   root_turn : {stands ns : List ℕ} {due : List Item} {ts : List (Home × ℕ)} (i a : ℕ)

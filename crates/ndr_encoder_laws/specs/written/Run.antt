@@ -1,12 +1,14 @@
--- What a run of a plan writes over nodes: a total function of the address, of what is open around the run, and of the nodes to come. Nothing in it is stuck: a node that
--- is not there is the number 0, and a run ends at what it does not know.
--- `n` is how many steps may be taken, `pc` an address, `m` the maximum count before the home, `k` the greatest count of a chunk, `fs` are the nodes to come, `t` is a type's
--- number, `z` a number, `p` a primitive, `G` is what is written from there on.
-use Rattle.std.specs.Prelude.{ℕ, ◌+◌, ◌-◌, suc, zero, ℤ, pos, Bool, true, false, ◌&&◌, ltb, ◌==◌, List, [], ◌∷◌, ◌++◌, length, drop, Option, Some, None}
+-- What a run of a plan writes over nodes: a total function of the address, of what is open around the run, and of the nodes to come. Nothing in it is
+-- stuck: a node that is not there is the number 0, and a run ends at what it does not know.
+-- `n` is how many steps may be taken, `pc` an address, `m` the maximum count before the home, `k` the greatest count of a chunk, `fs` are the nodes
+-- to come, `t` is a type's number, `z` a number, `p` a primitive, `G` is what is written from there on.
+use Rattle.std.specs.Prelude.{ℕ, ◌+◌, ◌-◌, suc, zero, ℤ, pos, Bool, true, false, ◌&&◌, ltb, ◌==◌, List, [], ◌∷◌, ◌++◌, length, drop, Option, Some}
+use Rattle.std.specs.Prelude.{None}
 use Rattle.std.specs.List.{slice_get}
 use Rattle.std.specs.Ordering.{int_eq}
 use Rattle.nd_types.specs.declared.types.Primitive.{Primitive}
-use Rattle.nd_types.specs.declared.types.Primitive.TheVariants.{Boolean, Char, Byte, Small, UnsignedSmall, Short, UnsignedShort, Long, UnsignedLong, Hyper, UnsignedHyper}
+use Rattle.nd_types.specs.declared.types.Primitive.TheVariants.{Boolean, Char, Byte, Small, UnsignedSmall, Short, UnsignedShort, Long, UnsignedLong}
+use Rattle.nd_types.specs.declared.types.Primitive.TheVariants.{Hyper, UnsignedHyper}
 use Rattle.nd_types.specs.Table.{width}
 use Rattle.nd_value.specs.Tree as tree
 use Rattle.nd_value.specs.Tree.{Label, Flat, cell_in}
@@ -60,7 +62,8 @@ after (suc n) fs = after n (later fs)
 
 -- ## Code
 
--- The primitive in whose octets a number of a type is: the primitives have the numbers 0 to 10, and all other numbers are shorts, as enumerated values are.
+-- The primitive in whose octets a number of a type is: the primitives have the numbers 0 to 10, and all other numbers are shorts, as enumerated
+-- values are.
 abbrev carrier_from : List Primitive → ℕ → Primitive
 carrier_from [] t = Short
 carrier_from (p ∷ ps) zero = p
@@ -121,7 +124,8 @@ chunk_count k left = elim (ltb left k) [ true ↦ left | false ↦ k ]
 -- the elements of a chunk
 abbrev pub chunk_elements : Rest → Option Primitive → ℕ → ℕ → ℕ → ℕ → List Frame → List Flat → List Piece
 chunk_elements G None count rest run to frames fs = G 1 (pushed (frame.Pipe count rest run to) frames) fs
-chunk_elements G (Some p) count rest run to frames fs = row_pieces p (numbers count fs) ++ G 1 (pushed (frame.Pipe 0 rest run to) frames) (after count fs)
+chunk_elements G (Some p) count rest run to frames fs =
+    row_pieces p (numbers count fs) ++ G 1 (pushed (frame.Pipe 0 rest run to) frames) (after count fs)
 
 -- the next chunk of a pipe, or its last count, 0
 abbrev pub chunk : Rest → Option Primitive → ℕ → ℕ → ℕ → ℕ → List Frame → List Flat → List Piece

@@ -29,7 +29,8 @@ pub data Form (table : Table) : ℕ → Label → Trees → Type 0 where
   form_text : {t : ℕ} {elem : TypeId} {bound : Option ℕ} {max : ℕ} {os : List ℕ} → type_at table t ≡ Some (def.Text elem bound)
       → Form table t (tree.Text max os) none
   form_union : {t : ℕ} {tag : TypeId} {own : Bool} {arms : List Arm} {default : Option Arm} {v : ℤ} {ks : Trees} (a : Arm)
-      → type_at table t ≡ Some (def.Union tag own arms default) → TagType table tag.0 → selected arms default v ≡ Some a → Form table t (tree.Union v) ks
+      → type_at table t ≡ Some (def.Union tag own arms default) → TagType table tag.0 → selected arms default v ≡ Some a
+      → Form table t (tree.Union v) ks
   form_pointer : {t : ℕ} {class : Class} {to : TypeId} {c : Option ℕ} → type_at table t ≡ Some (def.Pointer class to) → Form table t (tree.Ptr c) none
   form_context : {t : ℕ} {attributes : ℕ} {id : List ℕ} → type_at table t ≡ Some def.Context → Form table t (tree.Context attributes id) none
 

@@ -22,7 +22,8 @@ use ndr_code::laws::sides::roots_and_pipes;
 pub fn turns_are_written()
     ensures { (w : Setting) → (side : IsLegalSide w) → (g : Graph) → Conforms w g → (k n : ℕ) → slice_get side.operations n ≡ Some w.op
         → (steps : List Step) → Deferral w g [] (due_roots 0 (before_pipes (root_list w))) steps → 1 ≤ k
-        → turns_pieces (code_of w.table side.operations) k g (all_turns w side.operations n g steps) ≡ stream_pieces w g steps (pipe_cuts k (drop (before_pipes (root_list w)) g.roots)) }
+        → turns_pieces (code_of w.table side.operations) k g (all_turns w side.operations n g steps)
+        ≡ stream_pieces w g steps (pipe_cuts k (drop (before_pipes (root_list w)) g.roots)) }
 {
     roots_and_pipes();
 }
@@ -32,7 +33,9 @@ pub fn turns_are_chosen()
     ensures octets { (w : Setting) → (side : IsLegalSide w) → (g : Graph) → Conforms w g → (k n : ℕ) → slice_get side.operations n ≡ Some w.op
         → (steps : List Step) → Deferral w g [] (due_roots 0 (before_pipes (root_list w))) steps → 1 ≤ k
         → (order : Order) (numbers : List ℕ) → ((c : ℕ) → get_or numbers c 0 ≡ canonical_number (named_cells w g steps) c)
-        → Chosen w order k g (pieces_octets order (λ c. get_or numbers c 0) 0 (turns_pieces (code_of w.table side.operations) k g (all_turns w side.operations n g steps))) }
+        → Chosen w order k g
+        (pieces_octets order (λ c. get_or numbers c 0) 0
+        (turns_pieces (code_of w.table side.operations) k g (all_turns w side.operations n g steps))) }
     ensures ends { (w : Setting) → (side : IsLegalSide w) → (g : Graph) → Conforms w g → (k n : ℕ) → slice_get side.operations n ≡ Some w.op
         → (steps : List Step) → Deferral w g [] (due_roots 0 (before_pipes (root_list w))) steps → 1 ≤ k
         → pieces_end 0 (turns_pieces (code_of w.table side.operations) k g (all_turns w side.operations n g steps))

@@ -12,10 +12,13 @@ ghost use Rattle.ndr_encoder_laws.specs.pieces.Heads.{standings};
 ghost use Rattle.ndr_encoder_laws.specs.written.Shaped.{Shaped};
 ghost use Rattle.ndr_encoder_laws.specs.shaped.ShapedPipes.{IsShapedPipe};
 
-/// Each home of a graph that conforms has the form of its type, in the order of deferral, and so has each element of its pipes. Values nest at most 32 deep.
+/// Each home of a graph that conforms has the form of its type, in the order of deferral, and so has each element of its pipes. Values nest at most
+/// 32 deep.
 pub fn values_are_shaped()
-    ensures homes { (w : Setting) → IsLegalSide w → (g : Graph) → Conforms w g → (steps : List Step) → Deferral w g [] (due_roots 0 (before_pipes (root_list w))) steps
+    ensures homes { (w : Setting) → IsLegalSide w → (g : Graph) → Conforms w g → (steps : List Step)
+        → Deferral w g [] (due_roots 0 (before_pipes (root_list w))) steps
         → AllByRecursion (λ x. Shaped 32 w.table (x.of ∷ []) (more x.val none)) (standings w g steps) }
-    ensures pipes { (w : Setting) → IsLegalSide w → (g : Graph) → Conforms w g → (j : ℕ) (r : Root) → slice_get (drop (before_pipes (root_list w)) (root_list w)) j ≡ Some r
+    ensures pipes { (w : Setting) → IsLegalSide w → (g : Graph) → Conforms w g → (j : ℕ) (r : Root)
+        → slice_get (drop (before_pipes (root_list w)) (root_list w)) j ≡ Some r
         → IsShapedPipe w.table r.of (root_at g (before_pipes (root_list w) + j)) }
 {}

@@ -11,9 +11,11 @@ ghost use Rattle.ndr_encoder_laws.specs.pieces.Heads.{standings};
 ghost use Rattle.ndr_encoder_laws.specs.turns.Turned.{Turned};
 ghost use Rattle.ndr_encoder_laws.specs.turns.Roots.{root_items, home_turns};
 
-/// In a graph that conforms the homes have their turns, each by the whole run of its type, in the order of deferral (C706 14.3.12), and their pointers name cells in the order of the
-/// stream.
+/// In a graph that conforms the homes have their turns, each by the whole run of its type, in the order of deferral (C706 14.3.12), and their
+/// pointers name cells in the order of the stream.
 pub fn turns_are_deferral()
-    ensures { (w : Setting) → (side : IsLegalSide w) → (g : Graph) → Conforms w g → (steps : List Step) → Deferral w g [] (due_roots 0 (before_pipes (root_list w))) steps
-        → Turned (code_of w.table side.operations) g [] (root_items w 0 (before_pipes (root_list w))) (home_turns w.table (standings w g steps)) (named_cells w g steps) }
+    ensures { (w : Setting) → (side : IsLegalSide w) → (g : Graph) → Conforms w g → (steps : List Step)
+        → Deferral w g [] (due_roots 0 (before_pipes (root_list w))) steps
+        → Turned (code_of w.table side.operations) g [] (root_items w 0 (before_pipes (root_list w))) (home_turns w.table (standings w g steps))
+        (named_cells w g steps) }
 {}

@@ -13,6 +13,8 @@ pub returns-clause-done : goal.returns-clause-done
 returns-clause-done c o there = record {
   octets = c.in_ok-octets.octets;
   encoding =
-      subst (λ k. IsEncoding (setting_beside c.args.ready.now.interface o c.args.ready.now.side (option_map (λ f. f.now.graph) c.args.given)) k c.args.chunk c.args.text.now c.in_ok-octets.octets) c.order.ensures (c.in_ok-octets.ensures.done o there);
+      subst (λ k. IsEncoding
+      (setting_beside c.args.ready.now.interface o c.args.ready.now.side (option_map (λ f. f.now.graph) c.args.given)) k c.args.chunk c.args.text.now c.in_ok-octets.octets) c.order.ensures
+      (c.in_ok-octets.ensures.done o there);
   made_is = c.in_ok-labelled.ensures;
 }

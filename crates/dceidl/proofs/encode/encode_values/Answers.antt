@@ -13,7 +13,8 @@ returns-clause-done c o there =
     let i = c.args.ready.now.interface in
     let q = option_map (λ f. f.now.graph) c.args.given in
     let f = c.in_ok-fit.fit in
-    let of : IsOfSide f i c.args.ready.now.number c.args.ready.now.side q = record { tied = c.in_ok-fit.ensures.tied; number = c.in_ok-fit.ensures.number; side = c.in_ok-fit.ensures.side; beside = c.in_ok-fit.ensures.beside } in
+    let of : IsOfSide f i c.args.ready.now.number c.args.ready.now.side q =
+    record { tied = c.in_ok-fit.ensures.tied; number = c.in_ok-fit.ensures.number; side = c.in_ok-fit.ensures.side; beside = c.in_ok-fit.ensures.beside } in
     encoding_is f i c.args.ready.now.number c.args.ready.now.side q of o there c.args.order c.args.chunk c.args.text.now c.in_ok-octets.octets
     (c.in_ok-fit.ensures.read o there) c.flat-conforming.ensures.conforms (c.in_ok-octets.ensures.written o (its_operation f i c.args.ready.now.number c.args.ready.now.side q of o there))
 
@@ -23,7 +24,8 @@ returns-in_err-octets-clause-refused c o there =
     let i = c.args.ready.now.interface in
     let q = option_map (λ f. f.now.graph) c.args.given in
     let f = c.in_ok-fit.fit in
-    let of : IsOfSide f i c.args.ready.now.number c.args.ready.now.side q = record { tied = c.in_ok-fit.ensures.tied; number = c.in_ok-fit.ensures.number; side = c.in_ok-fit.ensures.side; beside = c.in_ok-fit.ensures.beside } in
+    let of : IsOfSide f i c.args.ready.now.number c.args.ready.now.side q =
+    record { tied = c.in_ok-fit.ensures.tied; number = c.in_ok-fit.ensures.number; side = c.in_ok-fit.ensures.side; beside = c.in_ok-fit.ensures.beside } in
     rw (p.1, p.2)
     (encoding_cause f i c.args.ready.now.number c.args.ready.now.side q of o there c.args.chunk c.args.text.now (c.in_ok-fit.ensures.read o there) c.flat-conforming.ensures.conforms _
     (c.in_err-octets.ensures.refused o (its_operation f i c.args.ready.now.number c.args.ready.now.side q of o there)))

@@ -8,7 +8,8 @@ returns-clause-done c o there =
     let i = c.args.ready.now.interface in
     let q = option_map (λ f. f.now.graph) c.args.given in
     let f = c.in_ok-fit.fit in
-    let of : IsOfSide f i c.args.ready.now.number c.args.ready.now.side q = record { tied = c.in_ok-fit.ensures.tied; number = c.in_ok-fit.ensures.number; side = c.in_ok-fit.ensures.side; beside = c.in_ok-fit.ensures.beside } in
+    let of : IsOfSide f i c.args.ready.now.number c.args.ready.now.side q =
+    record { tied = c.in_ok-fit.ensures.tied; number = c.in_ok-fit.ensures.number; side = c.in_ok-fit.ensures.side; beside = c.in_ok-fit.ensures.beside } in
     migration_is f i c.args.ready.now.number c.args.ready.now.side q of o there c.args.text.now c.in_ok-printed.printed
     (c.in_ok-fit.ensures.read o there) c.flat-conforming.ensures.conforms (c.in_ok-printed.ensures o (its_operation f i c.args.ready.now.number c.args.ready.now.side q of o there))
 

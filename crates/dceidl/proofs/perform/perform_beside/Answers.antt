@@ -23,7 +23,8 @@ returns-clause-asked g c =
     let (o, found) = c.in_ok-ready.ensures.ready in
     let f1 = files_seen g.F.Files.held g.F.Files.absences g.F.Files.faults g.F.Files.asked c.args.files.now c.make_ready.new.files in
     let f2 = files_seen g.F.Files.held g.F.Files.absences g.F.Files.faults g.F.Files.asked c.make_ready.new.files c.perform_after.new.files in
-    let follows : Follows f1 f2 = record { held = c.in_ok-ready.ensures.same; asked = refl; absences = refl; faults = refl; later = c.in_ok-ready.ensures.later; absences_later = c.in_ok-ready.ensures.absences_later } in
+    let follows : Follows f1 f2 =
+    record { held = c.in_ok-ready.ensures.same; asked = refl; absences = refl; faults = refl; later = c.in_ok-ready.ensures.later; absences_later = c.in_ok-ready.ensures.absences_later } in
     let r = c.in_ok-ready.ready in
     record {
       files = inr (asks_request f1 f2 follows c.args.name.now (subject_of c.args.of) c.perform_after.ensures.asked r.interface r.number o found c.in_ok-ready.ensures.asked);
@@ -36,7 +37,8 @@ returns-clause-done g c =
     let (o, found) = c.in_ok-ready.ensures.ready in
     let f1 = files_seen g.F.Files.held g.F.Files.absences g.F.Files.faults g.F.Files.asked c.args.files.now c.make_ready.new.files in
     let f2 = files_seen g.F.Files.held g.F.Files.absences g.F.Files.faults g.F.Files.asked c.make_ready.new.files c.perform_after.new.files in
-    let follows : Follows f1 f2 = record { held = c.in_ok-ready.ensures.same; asked = refl; absences = refl; faults = refl; later = c.in_ok-ready.ensures.later; absences_later = c.in_ok-ready.ensures.absences_later } in
+    let follows : Follows f1 f2 =
+    record { held = c.in_ok-ready.ensures.same; asked = refl; absences = refl; faults = refl; later = c.in_ok-ready.ensures.later; absences_later = c.in_ok-ready.ensures.absences_later } in
     let r = c.in_ok-ready.ready in
     let s = source_seen g.S.Source.left g.S.Source.ended g.S.Source.faults c.args.input.now c.perform_after.new.input in
     let e = ends_over g.E.PipeEnd.seen c.args.ends.now c.perform_after.new.ends in
@@ -49,7 +51,8 @@ returns-clause-refused g c =
     let (o, found) = c.in_ok-ready.ensures.ready in
     let f1 = files_seen g.F.Files.held g.F.Files.absences g.F.Files.faults g.F.Files.asked c.args.files.now c.make_ready.new.files in
     let f2 = files_seen g.F.Files.held g.F.Files.absences g.F.Files.faults g.F.Files.asked c.make_ready.new.files c.perform_after.new.files in
-    let follows : Follows f1 f2 = record { held = c.in_ok-ready.ensures.same; asked = refl; absences = refl; faults = refl; later = c.in_ok-ready.ensures.later; absences_later = c.in_ok-ready.ensures.absences_later } in
+    let follows : Follows f1 f2 =
+    record { held = c.in_ok-ready.ensures.same; asked = refl; absences = refl; faults = refl; later = c.in_ok-ready.ensures.later; absences_later = c.in_ok-ready.ensures.absences_later } in
     let r = c.in_ok-ready.ready in
     let s = source_seen g.S.Source.left g.S.Source.ended g.S.Source.faults c.args.input.now c.perform_after.new.input in
     let e = ends_over g.E.PipeEnd.seen c.args.ends.now c.perform_after.new.ends in

@@ -21,7 +21,8 @@ add_value-overflow_cast-len t c =
 
 pub add_value-overflow_cast-len-in-Arr : goal.add_value-overflow_cast-len-in-Arr
 add_value-overflow_cast-len-in-Arr t c =
-    let few : node_count (more (tree_of (val.Arr c.in-Arr.max c.in-Arr.offset c.in-Arr.items)) none) < 2 ^ 32 = subst (λ (v : Val). node_count (more (tree_of v) none) < 2 ^ 32) c.in-Arr.is c.requires.few in
+    let few : node_count (more (tree_of (val.Arr c.in-Arr.max c.in-Arr.offset c.in-Arr.items)) none) < 2 ^ 32 =
+    subst (λ (v : Val). node_count (more (tree_of v) none) < 2 ^ 32) c.in-Arr.is c.requires.few in
     omega (arith, few, few_values c.in-Arr.items, c.len-in-Arr.ensures)
 
 pub add_value-overflow_cast-len-in-Pipe : goal.add_value-overflow_cast-len-in-Pipe
@@ -42,7 +43,8 @@ add_value-returns-in_ok-add-in-Arr t c =
     let e : c.len-in-Arr.result ≡ count (trees c.in-Arr.items) = c.len-in-Arr.ensures ∙ sym (count_of c.in-Arr.items) in
     on_ok_weaker c.add_elements.result
     (λ a. subst (λ (v : Val). Adds (more (tree_of v) none) c.args.builder.now c.add_elements.new.builder) (sym c.in-Arr.is)
-    (then_kids (tree.Arr c.in-Arr.max c.in-Arr.offset) c.len-in-Arr.result (trees c.in-Arr.items) c.args.builder.now c.add-in-Arr.new.self c.add_elements.new.builder e c.in_ok-add-in-Arr.ensures.ok a))
+    (then_kids (tree.Arr c.in-Arr.max c.in-Arr.offset) c.len-in-Arr.result
+    (trees c.in-Arr.items) c.args.builder.now c.add-in-Arr.new.self c.add_elements.new.builder e c.in_ok-add-in-Arr.ensures.ok a))
     c.add_elements.ensures
 
 pub add_value-returns-in_ok-add-in-Pipe : goal.add_value-returns-in_ok-add-in-Pipe

@@ -42,7 +42,9 @@ elements-returns-in_err-next t c =
     let typed = get_replicate (count (trees vs)) c.loop-at.at c.args.elem.0 (omega (arith, count_trees vs, c.loop-at-test.true, c.len-at-end.ensures)) in
     let p = err_from_is_err_and c.from_residual.result c.from_residual.ensures.1 in
     let own = ap (disagreement_of (subject_in c.args.graph.now v)) (governs_none c.loop-at.at) ∙ none_stated (subject_in c.args.graph.now v) in
-    rw (p.1, p.2) (compare_stop c.args.types.now c.args.graph.now types [] vs c.args.node c.loop-at.at c.loop-at.next c.args.elem.0 v typed c.in-Some.ensures.some c.loop-at.invariant own _ c.in_err-next.ensures)
+    rw (p.1, p.2)
+    (compare_stop c.args.types.now c.args.graph.now types [] vs c.args.node c.loop-at.at c.loop-at.next c.args.elem.0 v typed c.in-Some.ensures.some c.loop-at.invariant own _
+    c.in_err-next.ensures)
 
 pub elements-loop-at-preserved : goal.elements-loop-at-preserved
 elements-loop-at-preserved t c =
@@ -65,7 +67,9 @@ members-returns-in-Some-member t c =
     let v = tree_of c.in-Some-get.val.now in
     let f = c.in-Some.field.now in
     let typed = get_field fs c.loop-at.at f c.in-Some.ensures.some in
-    let own = ap (disagreement_of (subject_in c.args.graph.now v)) (governs_found ags c.loop-at.at (member_agreements (trees vs) f.vars) (get_agreements (trees vs) fs c.loop-at.at f c.in-Some.ensures.some)) in
+    let own =
+    ap (disagreement_of (subject_in c.args.graph.now v))
+    (governs_found ags c.loop-at.at (member_agreements (trees vs) f.vars) (get_agreements (trees vs) fs c.loop-at.at f c.in-Some.ensures.some)) in
     compare_here c.args.types.now c.args.graph.now types ags vs c.args.node c.loop-at.at c.loop-at.next f.of.0 v typed c.in-Some-get.ensures.some c.loop-at.invariant _
     (own ∙ sym c.in-Some-member.ensures)
 
@@ -92,7 +96,9 @@ members-returns-in_err-next t c =
     let v = tree_of c.in-Some-get.val.now in
     let f = c.in-Some.field.now in
     let typed = get_field fs c.loop-at.at f c.in-Some.ensures.some in
-    let own = ap (disagreement_of (subject_in c.args.graph.now v)) (governs_found ags c.loop-at.at (member_agreements (trees vs) f.vars) (get_agreements (trees vs) fs c.loop-at.at f c.in-Some.ensures.some)) in
+    let own =
+    ap (disagreement_of (subject_in c.args.graph.now v))
+    (governs_found ags c.loop-at.at (member_agreements (trees vs) f.vars) (get_agreements (trees vs) fs c.loop-at.at f c.in-Some.ensures.some)) in
     let p = err_from_is_err_and c.from_residual.result c.from_residual.ensures.1 in
     rw (p.1, p.2) (compare_stop c.args.types.now c.args.graph.now types ags vs c.args.node c.loop-at.at c.loop-at.next f.of.0 v typed c.in-Some-get.ensures.some c.loop-at.invariant
     (own ∙ sym c.in_default-member.ensures) _ c.in_err-next.ensures)
@@ -106,7 +112,9 @@ members-loop-at-preserved t c =
     let v = tree_of c.in-Some-get.val.now in
     let f = c.in-Some.field.now in
     let typed = get_field fs c.loop-at.at f c.in-Some.ensures.some in
-    let own = ap (disagreement_of (subject_in c.args.graph.now v)) (governs_found ags c.loop-at.at (member_agreements (trees vs) f.vars) (get_agreements (trees vs) fs c.loop-at.at f c.in-Some.ensures.some)) in
+    let own =
+    ap (disagreement_of (subject_in c.args.graph.now v))
+    (governs_found ags c.loop-at.at (member_agreements (trees vs) f.vars) (get_agreements (trees vs) fs c.loop-at.at f c.in-Some.ensures.some)) in
     compare_on c.args.types.now c.args.graph.now types ags vs c.args.node c.loop-at.at c.loop-at.next f.of.0 v typed c.in-Some-get.ensures.some c.loop-at.invariant
     (own ∙ sym c.in_default-member.ensures) _ c.in_ok-next.ensures
 

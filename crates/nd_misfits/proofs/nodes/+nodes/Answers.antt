@@ -14,8 +14,10 @@ elements-value-requires t c =
     let vs = c.args.vals.now in
     let types = replicate (count (trees vs)) c.args.elem.0 in
     let v = tree_of c.in-Some.val.now in
-    let typed = get_replicate (count (trees vs)) c.loop-at.at c.args.elem.0 (omega (arith, count_trees vs, c.loop-at-test.true, c.len-at-end.ensures)) in
-    (omega (arith, walk_smaller c.args.types.now c.args.graph.now types vs c.args.node c.loop-at.at c.loop-at.next c.args.elem.0 v typed c.in-Some.ensures.some c.loop-at.invariant, c.decreases), omega (arith, walk_few c.args.types.now c.args.graph.now types vs c.args.node c.loop-at.at c.loop-at.next c.args.elem.0 v typed c.in-Some.ensures.some c.loop-at.invariant, c.requires.few))
+    let typed = get_replicate (count (trees vs)) c.loop-at.at c.args.elem.0 (omega (arith, count_trees vs, c.loop-at-test.true, c.len-at-end.ensures)) in (
+      omega (arith, walk_smaller c.args.types.now c.args.graph.now types vs c.args.node c.loop-at.at c.loop-at.next c.args.elem.0 v typed c.in-Some.ensures.some c.loop-at.invariant, c.decreases),
+      omega (arith, walk_few c.args.types.now c.args.graph.now types vs c.args.node c.loop-at.at c.loop-at.next c.args.elem.0 v typed c.in-Some.ensures.some c.loop-at.invariant, c.requires.few),
+    )
 
 pub elements-returns-in_err-next : goal.elements-returns-in_err-next
 elements-returns-in_err-next t c =
@@ -24,7 +26,8 @@ elements-returns-in_err-next t c =
     let v = tree_of c.in-Some.val.now in
     let typed = get_replicate (count (trees vs)) c.loop-at.at c.args.elem.0 (omega (arith, count_trees vs, c.loop-at-test.true, c.len-at-end.ensures)) in
     let p = err_from_is_err_and c.from_residual.result c.from_residual.ensures.1 in
-    rw (p.1, p.2) (walk_stop c.args.types.now c.args.graph.now types vs c.args.node c.loop-at.at c.loop-at.next c.args.elem.0 v typed c.in-Some.ensures.some c.loop-at.invariant _ c.in_err-next.ensures)
+    rw (p.1, p.2)
+    (walk_stop c.args.types.now c.args.graph.now types vs c.args.node c.loop-at.at c.loop-at.next c.args.elem.0 v typed c.in-Some.ensures.some c.loop-at.invariant _ c.in_err-next.ensures)
 
 pub elements-loop-at-preserved : goal.elements-loop-at-preserved
 elements-loop-at-preserved t c =
@@ -39,8 +42,18 @@ members-value-requires t c =
     let vs = c.args.vals.now in
     let types = map (λ (f : Field). f.of.0) c.args.fields.now in
     let v = tree_of c.in-Some-get.val.now in
-    let typed = get_field c.args.fields.now c.loop-at.at c.in-Some.field.now c.in-Some.ensures.some in
-    (omega (arith, walk_smaller c.args.types.now c.args.graph.now types vs c.args.node c.loop-at.at c.loop-at.next c.in-Some.field.now.of.0 v typed c.in-Some-get.ensures.some c.loop-at.invariant, c.decreases), omega (arith, walk_few c.args.types.now c.args.graph.now types vs c.args.node c.loop-at.at c.loop-at.next c.in-Some.field.now.of.0 v typed c.in-Some-get.ensures.some c.loop-at.invariant, c.requires.few))
+    let typed = get_field c.args.fields.now c.loop-at.at c.in-Some.field.now c.in-Some.ensures.some in (
+      omega (
+        arith,
+        walk_smaller c.args.types.now c.args.graph.now types vs c.args.node c.loop-at.at c.loop-at.next c.in-Some.field.now.of.0 v typed c.in-Some-get.ensures.some c.loop-at.invariant,
+        c.decreases,
+      ),
+      omega (
+        arith,
+        walk_few c.args.types.now c.args.graph.now types vs c.args.node c.loop-at.at c.loop-at.next c.in-Some.field.now.of.0 v typed c.in-Some-get.ensures.some c.loop-at.invariant,
+        c.requires.few,
+      ),
+    )
 
 pub members-returns-in_err-next : goal.members-returns-in_err-next
 members-returns-in_err-next t c =
@@ -49,7 +62,9 @@ members-returns-in_err-next t c =
     let v = tree_of c.in-Some-get.val.now in
     let typed = get_field c.args.fields.now c.loop-at.at c.in-Some.field.now c.in-Some.ensures.some in
     let p = err_from_is_err_and c.from_residual.result c.from_residual.ensures.1 in
-    rw (p.1, p.2) (walk_stop c.args.types.now c.args.graph.now types vs c.args.node c.loop-at.at c.loop-at.next c.in-Some.field.now.of.0 v typed c.in-Some-get.ensures.some c.loop-at.invariant _ c.in_err-next.ensures)
+    rw (p.1, p.2)
+    (walk_stop c.args.types.now c.args.graph.now types vs c.args.node c.loop-at.at c.loop-at.next c.in-Some.field.now.of.0 v typed c.in-Some-get.ensures.some c.loop-at.invariant _
+    c.in_err-next.ensures)
 
 pub members-loop-at-preserved : goal.members-loop-at-preserved
 members-loop-at-preserved t c =

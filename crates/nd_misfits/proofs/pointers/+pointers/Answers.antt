@@ -57,7 +57,8 @@ members-loop-at-preserved t c =
     let types = map (λ (f : Field). f.of.0) c.args.fields.now in
     let v = tree_of c.in-Some-get.val.now in
     let typed = get_field c.args.fields.now c.loop-at.at c.in-Some.field.now c.in-Some.ensures.some in
-    collect_on c.args.types.now c.args.home types vs c.args.node _ c.loop-at.at c.loop-at.next _ c.in-Some.field.now.of.0 v typed c.in-Some-get.ensures.some c.loop-at.invariant _ _ c.in_ok-next.ensures
+    collect_on c.args.types.now c.args.home types vs c.args.node _ c.loop-at.at c.loop-at.next _ c.in-Some.field.now.of.0 v typed c.in-Some-get.ensures.some c.loop-at.invariant _ _
+    c.in_ok-next.ensures
 
 pub members-unreachable-requires : goal.members-unreachable-requires
 members-unreachable-requires t c =

@@ -47,4 +47,5 @@ loop-at-preserved c = record {
 
 pub returns-clause-none : goal.returns-clause-none
 returns-clause-none c =
-    c.loop-at.invariant.left ∙ ap (λ xs. first_clash c.loop-at.names.items (pointers_of_homes c.args.types.now (map home_tree xs))) (drop_all c.loop-at.at c.args.homes.now (omega (arith, c.loop-at-test.false)))
+    c.loop-at.invariant.left
+    ∙ ap (λ xs. first_clash c.loop-at.names.items (pointers_of_homes c.args.types.now (map home_tree xs))) (drop_all c.loop-at.at c.args.homes.now (omega (arith, c.loop-at-test.false)))

@@ -16,7 +16,8 @@ among-requires c =
     let w = setting_beside i o c.args.side None in
     record {
       walkable =
-          homes_walkable w g (length g.cells + 1) _ _ (c.in_ok-names.ensures ∙ ap (λ n. replicate (n + 1) NotYet) c.len.ensures) (ap (map home_tree) c.as_slice.ensures.value ∙ c.in_ok-homes.ensures o there)
+          homes_walkable w g (length g.cells + 1) _ _ (c.in_ok-names.ensures ∙ ap (λ n. replicate (n + 1) NotYet) c.len.ensures)
+          (ap (map home_tree) c.as_slice.ensures.value ∙ c.in_ok-homes.ensures o there)
           (walkable w g i.legal.enumerators c.requires.few_nodes (c.requires.local o None there));
     }
 
@@ -37,7 +38,8 @@ returns-clause-none c =
     on_ok_weaker c.among.result
     (λ none o q there.
     let w = setting_beside i o c.args.side q in
-    sym (clash_is_shared w g (length g.cells + 1) _ _ (c.in_ok-names.ensures ∙ ap (λ n. replicate (n + 1) NotYet) c.len.ensures) (ap (map home_tree) c.as_slice.ensures.value ∙ c.in_ok-homes.ensures o there)
+    sym (clash_is_shared w g (length g.cells + 1) _ _ (c.in_ok-names.ensures ∙ ap (λ n. replicate (n + 1) NotYet) c.len.ensures)
+    (ap (map home_tree) c.as_slice.ensures.value ∙ c.in_ok-homes.ensures o there)
     (walkable w g i.legal.enumerators c.requires.few_nodes (c.requires.local o q there)))
     ∙ none)
     c.among.ensures.none
@@ -50,7 +52,8 @@ returns-clause-first c =
     (λ e told o q there.
     let w = setting_beside i o c.args.side q in
     tells_same _ _ e
-    (sym (clash_is_shared w g (length g.cells + 1) _ _ (c.in_ok-names.ensures ∙ ap (λ n. replicate (n + 1) NotYet) c.len.ensures) (ap (map home_tree) c.as_slice.ensures.value ∙ c.in_ok-homes.ensures o there)
+    (sym (clash_is_shared w g (length g.cells + 1) _ _ (c.in_ok-names.ensures ∙ ap (λ n. replicate (n + 1) NotYet) c.len.ensures)
+    (ap (map home_tree) c.as_slice.ensures.value ∙ c.in_ok-homes.ensures o there)
     (walkable w g i.legal.enumerators c.requires.few_nodes (c.requires.local o q there))))
     told)
     c.among.ensures.first

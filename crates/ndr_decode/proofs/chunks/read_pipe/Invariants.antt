@@ -10,4 +10,4 @@ invariant-loop-chunk g l =
     PipeGoesOn l.plan l.order l.number l.elem l.so_far l.fn.machine
     (source_seen g.S.Source.left g.S.Source.ended g.S.Source.faults l.initial.source l.source)
     (decoding_seen l.initial.items l.items (g.L.Ledger.number l.initial.steps) (g.L.Ledger.number l.steps)) l.machine
-    × ((l.so_far + 1 < 2 ^ 32) × ((purpose_in l.machine ≡ purpose_in l.fn.machine) × (g.S.Source.faults l.initial.source ≤ g.S.Source.faults l.source)))
+    × (((l._chunk ≤ l.so_far) × (l.so_far + 1 < 2 ^ 32)) × ((purpose_in l.machine ≡ purpose_in l.fn.machine) × (g.S.Source.faults l.initial.source ≤ g.S.Source.faults l.source)))

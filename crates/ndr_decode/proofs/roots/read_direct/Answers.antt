@@ -1,8 +1,10 @@
-use Rattle.std.proofs.Common.{[], suc, arith}
+use Rattle.std.proofs.Common.{List, [], Option, suc, ap, ◌∙◌, arith}
 use Rattle.nd_base.specs.Over.{count, source_seen}
 use Rattle.ndr_decoder_state.specs.Notes.{notes_seen}
 use Rattle.ndr_decoder_state.specs.Seen.{state_of}
-use Rattle.ndr_decode.proofs.DirectRoots.{few_cells, direct_last, direct_states, direct_stops, direct_unopened, reference_purpose}
+use Rattle.ndr_decoder_laws.specs.declared.kept.Kept.{Kept}
+use Rattle.ndr_decoder_laws.specs.stream.Between.{kept_at}
+use Rattle.ndr_decode.proofs.DirectRoots.{few_cells, direct_last, direct_states, direct_stops, direct_unopened, direct_unread, reference_purpose}
 use Rattle.ndr_decode.proofs.roots.read_direct.Goals as goal
 
 pub open_reference-requires-clause-few_cells : goal.open_reference-requires-clause-few_cells
@@ -51,4 +53,12 @@ returns-clause-same g c =
     c.end_reference.result c.end_reference.ensures.ends
 
 pub end_reference-requires : goal.end_reference-requires
-end_reference-requires g c = let e = c.in_ok-cell.ensures.cell in record { there = omega (arith, e) }
+end_reference-requires g c =
+    let k = c.requires.next in
+    let e = c.in_ok-cell.ensures.cell in
+    record {
+      there = omega (arith, e);
+      unread = ap (λ (ks : List (Option Kept)). kept_at ks c.in_ok-cell.cell.0) c.open_reference.ensures.kept.cells
+          ∙ direct_unread c.args.plan.now c.args.order c.args.to c.args.run c.args.stream.now k.w k.side k.fetched k.noted k.direct k.s k.seen k.n k.table k.stands k.r k.there k.instr
+          c.in_ok-cell.cell.0 e;
+    }

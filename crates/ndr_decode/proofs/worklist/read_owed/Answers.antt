@@ -1,4 +1,4 @@
-use Rattle.std.proofs.Common.{Ok, Err, sym, subst, ◌∙◌}
+use Rattle.std.proofs.Common.{Ok, Err, sym, subst, ◌∙◌, le_refl}
 use Rattle.ndr_decoder_state.specs.Seen.{owed_of}
 use Rattle.ndr_decode.specs.Streaming.{cells_of}
 use Rattle.ndr_decode.specs.Tried.{AreTried}
@@ -29,3 +29,9 @@ returns-in-Some-kept_cell-clause-reads g c w side fetched noted direct s seen p 
     (record { before = g.S.Source.faults c.args.source.now; now = g.S.Source.faults c.args.source.now }) c.args.items.now (g.L.Ledger.number c.args.steps.now) c.in-Some.cell c.in-Some.is
     c.in-Full.is c.in-Some-kept_cell.kept (sym c.kept_cell.ensures ∙ c.in-Some-kept_cell.is) (Ok c.in_ok-try_all.field-0)
     (subst (λ ws. AreTried (owed_of ws c.args.owed).agreements c.in-Some-kept_cell.kept (Ok c.in_ok-try_all.field-0)) c.as_slice.ensures.value c.in_ok-try_all.ensures)
+
+pub returns-in_default-clause-paid : goal.returns-in_default-clause-paid
+returns-in_default-clause-paid g c = le_refl _
+
+pub returns-in-Some-kept_cell-clause-paid : goal.returns-in-Some-kept_cell-clause-paid
+returns-in-Some-kept_cell-clause-paid g c = le_refl _

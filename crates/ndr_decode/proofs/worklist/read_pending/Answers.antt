@@ -3,14 +3,14 @@ use Rattle.nd_base.specs.Over.{source_seen}
 use Rattle.nd_flat.specs.Building.{Building}
 use Rattle.ndr_decoder_state.specs.declared.machine.Machine.{Machine}
 use Rattle.nd_grammar.specs.decoded.Verdict.{decoding_seen}
-use Rattle.ndr_decode.proofs.PendingSoFar.{fault_then, given_up, pending_fault, next_due, none_left, so_far_more, so_far_none}
+use Rattle.ndr_decode.proofs.PendingSoFar.{fault_then, few_turns, pending_fault, next_due, none_left, one_turn, so_far_more, so_far_none}
 use Rattle.ndr_decode.proofs.worklist.read_pending.Goals as goal
 
 pub loop-turn-init : goal.loop-turn-init
 loop-turn-init g c = (
   so_far_none c.args.plan.now c.args.order c.args.stream.now (g.S.Source.left c.args.source.now) (g.S.Source.ended c.args.source.now) (g.S.Source.faults c.args.source.now)
       c.args.items.now (g.L.Ledger.number c.args.steps.now),
-  (tt, (refl, le_refl _)),
+  (tt, (refl, (le_refl _, omega arith))),
 )
 
 pub read_owed-requires-clause-next : goal.read_owed-requires-clause-next
@@ -24,7 +24,7 @@ pub loop-turn-preserved : goal.loop-turn-preserved
 loop-turn-preserved g c = (
   so_far_more c.args.plan.now c.args.order c.args.stream.now c.loop-turn.next c.loop-turn.stream (g.S.Source.left c.args.source.now) (g.S.Source.left c.loop-turn.source)
       (g.S.Source.ended c.loop-turn.source) (g.S.Source.faults c.args.source.now) (g.S.Source.faults c.loop-turn.source) c.args.items.now c.loop-turn.items
-      (g.L.Ledger.number c.args.steps.now) (g.L.Ledger.number c.loop-turn.steps) c.loop-turn.invariant.0 c.loop-turn.invariant.1.1.1 (g.S.Source.left c.read_owed.new.source)
+      (g.L.Ledger.number c.args.steps.now) (g.L.Ledger.number c.loop-turn.steps) c.loop-turn.invariant.0 c.loop-turn.invariant.1.1.1.0 (g.S.Source.left c.read_owed.new.source)
       (g.S.Source.ended c.read_owed.new.source) (g.S.Source.faults c.read_owed.new.source) c.read_owed.new.items (g.L.Ledger.number c.read_owed.new.steps) c.read_owed.new.stream
       c.in-Some.owed _ c.in_ok-next.ensures.reads c.in-Some.ensures.machine c.in-Some.ensures.same,
   (
@@ -32,7 +32,11 @@ loop-turn-preserved g c = (
     (
       c.in_ok-next.ensures.same ∙ ap (λ (m : Machine). let b : Building = m.builder in record { op = b.op; side = b.side; interface = b.interface; given = b.given }) c.in-Some.ensures.machine
           ∙ c.loop-turn.invariant.1.1.0,
-      le_trans c.loop-turn.invariant.1.1.1 c.in_ok-next.ensures.later,
+      (
+        le_trans c.loop-turn.invariant.1.1.1.0 c.in_ok-next.ensures.later,
+        one_turn c.loop-turn._turn c.args.stream.now c.loop-turn.next c.loop-turn.stream c.take_next.new.stream c.in-Some.owed _ c.read_owed.new.stream c.loop-turn.invariant.1.1.1.1
+            c.in-Some.ensures.machine c.in-Some.ensures.same c.in_ok-next.ensures.paid,
+      ),
     ),
   ),
 )
@@ -52,12 +56,13 @@ returns-in_err-next-clause-reads g c =
     (decoding_seen c.args.items.now c.read_owed.new.items (g.L.Ledger.number c.args.steps.now) (g.L.Ledger.number c.read_owed.new.steps)) _ c.from_residual.result e c.from_residual.ensures.1
     (fault_then c.args.plan.now c.args.order c.args.stream.now c.loop-turn.next c.loop-turn.stream (g.S.Source.left c.args.source.now) (g.S.Source.left c.loop-turn.source)
     (g.S.Source.ended c.loop-turn.source) (g.S.Source.faults c.args.source.now) (g.S.Source.faults c.loop-turn.source) c.args.items.now c.loop-turn.items
-    (g.L.Ledger.number c.args.steps.now) (g.L.Ledger.number c.loop-turn.steps) c.loop-turn.invariant.0 c.loop-turn.invariant.1.1.1 (g.S.Source.left c.read_owed.new.source)
+    (g.L.Ledger.number c.args.steps.now) (g.L.Ledger.number c.loop-turn.steps) c.loop-turn.invariant.0 c.loop-turn.invariant.1.1.1.0 (g.S.Source.left c.read_owed.new.source)
     (g.S.Source.ended c.read_owed.new.source) (g.S.Source.faults c.read_owed.new.source) c.read_owed.new.items (g.L.Ledger.number c.read_owed.new.steps) c.read_owed.new.stream
     c.in-Some.owed e c.in_err-next.ensures.reads c.in-Some.ensures.machine c.in-Some.ensures.same)
 
-pub returns-clause-reads : goal.returns-clause-reads
-returns-clause-reads g c =
-    given_up c.args.plan.now c.args.order c.args.stream.now c.loop-turn.next c.loop-turn.stream (g.S.Source.left c.args.source.now) (g.S.Source.left c.loop-turn.source)
+pub unreachable-requires : goal.unreachable-requires
+unreachable-requires g c =
+    few_turns c.args.plan.now c.args.order c.args.stream.now c.loop-turn.next c.loop-turn.stream (g.S.Source.left c.args.source.now) (g.S.Source.left c.loop-turn.source)
     (g.S.Source.ended c.loop-turn.source) (g.S.Source.faults c.args.source.now) (g.S.Source.faults c.loop-turn.source) c.args.items.now c.loop-turn.items
-    (g.L.Ledger.number c.args.steps.now) (g.L.Ledger.number c.loop-turn.steps) c.loop-turn.invariant.0 c.loop-turn.invariant.1.1.1 c.loop-turn.stream
+    (g.L.Ledger.number c.args.steps.now) (g.L.Ledger.number c.loop-turn.steps) c.loop-turn.invariant.0 c.loop-turn._turn c.loop-turn.invariant.1.1.1.1 c.requires.streaming
+    c.loop-turn-test.false

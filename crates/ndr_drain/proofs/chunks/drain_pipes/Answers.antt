@@ -62,7 +62,8 @@ drain_chunk-requires-clause-which g c =
     at_end w first (intake_seen c.pipes.intake) (g.S.Source.left c.args.source.now) (g.S.Source.left c.pipes.source) (g.S.Source.left c.pipes.source) (g.S.Source.ended c.pipes.source)
     (g.S.Source.ended c.pipes.source) (g.S.Source.faults c.args.source.now) (g.S.Source.faults c.pipes.source) (g.S.Source.faults c.pipes.source)
     (ends_seen g.E.PipeEnd.seen c.args.ends.now) (ends_seen g.E.PipeEnd.seen c.pipes.ends) c.args.items.now c.pipes.items c.pipes.items (g.L.Ledger.number c.args.steps.now)
-    (g.L.Ledger.number c.pipes.steps) (g.L.Ledger.number c.pipes.steps) (c.pipes.invariant.way o there) (length c.args.types.now) c.pipes_left-left.result (sym (as_many c.args.types.now) ∙ are.all) c.pipes_left-left.ensures)
+    (g.L.Ledger.number c.pipes.steps) (g.L.Ledger.number c.pipes.steps) (c.pipes.invariant.way o there) (length c.args.types.now) c.pipes_left-left.result
+    (sym (as_many c.args.types.now) ∙ are.all) c.pipes_left-left.ensures)
 
 pub drain_chunk-requires-clause-open : goal.drain_chunk-requires-clause-open
 drain_chunk-requires-clause-open g c =

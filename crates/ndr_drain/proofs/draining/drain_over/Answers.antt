@@ -33,7 +33,8 @@ head-requires-clause-begun g c =
 
 pub head-requires-clause-request : goal.head-requires-clause-request
 head-requires-clause-request g c =
-    b_request c.args.interface.now c.args.plan.now.tie c.args.op c.args.side c.args.order c.requires.tied (intake_seen c.in-Ok.intake) c.in-Ok.ensures.begun c.requires.known (option_map (λ f. f.now) c.args.given) c.requires.request
+    b_request c.args.interface.now c.args.plan.now.tie c.args.op c.args.side c.args.order c.requires.tied (intake_seen c.in-Ok.intake) c.in-Ok.ensures.begun c.requires.known
+    (option_map (λ f. f.now) c.args.given) c.requires.request
 
 pub drain_rest-requires-clause-tied : goal.drain_rest-requires-clause-tied
 drain_rest-requires-clause-tied g c =
@@ -65,7 +66,8 @@ drain_rest-requires-clause-types g c =
     subst P (sym c.as_slice.ensures.value)
     (rest_types c.args.interface.now c.args.plan.now.tie c.args.op c.args.side c.args.order c.requires.tied (intake_seen c.in-Ok.intake) c.in-Ok.ensures.begun c.requires.known
     (option_map (λ f. f.now.graph) c.args.given) (intake_seen c.head.new.self) (source_seen g.S.Source.left g.S.Source.ended g.S.Source.faults c.args.source.now c.head.new.source)
-    (decoding_seen c.args.items.now c.head.new.items (g.L.Ledger.number c.args.steps.now) (g.L.Ledger.number c.head.new.steps)) c.in-Ok-head.ensures.read c.in-Ok-head.ensures.beside c.in-Ok-element_types.types.items c.in-Ok-element_types.ensures)
+    (decoding_seen c.args.items.now c.head.new.items (g.L.Ledger.number c.args.steps.now)
+    (g.L.Ledger.number c.head.new.steps)) c.in-Ok-head.ensures.read c.in-Ok-head.ensures.beside c.in-Ok-element_types.types.items c.in-Ok-element_types.ensures)
 
 pub drain_rest-requires-clause-open : goal.drain_rest-requires-clause-open
 drain_rest-requires-clause-open g c =
@@ -75,14 +77,16 @@ pub drain_rest-requires-clause-enough : goal.drain_rest-requires-clause-enough
 drain_rest-requires-clause-enough g c =
     let many = rest_many c.args.interface.now c.args.plan.now.tie c.args.op c.args.side c.args.order c.requires.tied (intake_seen c.in-Ok.intake) c.in-Ok.ensures.begun c.requires.known
     (option_map (λ f. f.now.graph) c.args.given) (intake_seen c.head.new.self) (source_seen g.S.Source.left g.S.Source.ended g.S.Source.faults c.args.source.now c.head.new.source)
-    (decoding_seen c.args.items.now c.head.new.items (g.L.Ledger.number c.args.steps.now) (g.L.Ledger.number c.head.new.steps)) c.in-Ok-head.ensures.read c.in-Ok-head.ensures.beside c.in-Ok-element_types.types.items c.in-Ok-element_types.ensures in
+    (decoding_seen c.args.items.now c.head.new.items (g.L.Ledger.number c.args.steps.now)
+    (g.L.Ledger.number c.head.new.steps)) c.in-Ok-head.ensures.read c.in-Ok-head.ensures.beside c.in-Ok-element_types.types.items c.in-Ok-element_types.ensures in
     omega (arith, many, c.pipes_left-wanted.ensures, c.len-found.ensures, c.if-found-wanted.false)
 
 pub drain_rest-requires-clause-few : goal.drain_rest-requires-clause-few
 drain_rest-requires-clause-few g c =
     let many = rest_many c.args.interface.now c.args.plan.now.tie c.args.op c.args.side c.args.order c.requires.tied (intake_seen c.in-Ok.intake) c.in-Ok.ensures.begun c.requires.known
     (option_map (λ f. f.now.graph) c.args.given) (intake_seen c.head.new.self) (source_seen g.S.Source.left g.S.Source.ended g.S.Source.faults c.args.source.now c.head.new.source)
-    (decoding_seen c.args.items.now c.head.new.items (g.L.Ledger.number c.args.steps.now) (g.L.Ledger.number c.head.new.steps)) c.in-Ok-head.ensures.read c.in-Ok-head.ensures.beside c.in-Ok-element_types.types.items c.in-Ok-element_types.ensures in
+    (decoding_seen c.args.items.now c.head.new.items (g.L.Ledger.number c.args.steps.now)
+    (g.L.Ledger.number c.head.new.steps)) c.in-Ok-head.ensures.read c.in-Ok-head.ensures.beside c.in-Ok-element_types.types.items c.in-Ok-element_types.ensures in
     omega (arith, many, c.pipes_left-wanted.ensures, c.pipes_left-wanted.type_inv)
 
 pub returns-in-Ok-head-clause-drained : goal.returns-in-Ok-head-clause-drained
@@ -100,7 +104,8 @@ returns-in-Ok-head-clause-drained g c =
     (intake_seen c.head.new.self) (g.S.Source.left c.args.source.now) (g.S.Source.left c.head.new.source) (g.S.Source.left c.drain_rest.new.source)
     (g.S.Source.ended c.head.new.source) (g.S.Source.ended c.drain_rest.new.source) (g.S.Source.faults c.args.source.now) (g.S.Source.faults c.head.new.source)
     (g.S.Source.faults c.drain_rest.new.source) (ends_seen g.E.PipeEnd.seen c.args.ends.now) (ends_seen g.E.PipeEnd.seen c.drain_rest.new.ends) c.args.items.now c.head.new.items
-    c.drain_rest.new.items (g.L.Ledger.number c.args.steps.now) (g.L.Ledger.number c.head.new.steps) (g.L.Ledger.number c.drain_rest.new.steps) c.in-Ok.ensures.begun c.in-Ok-head.ensures.read c.in-Ok-head.ensures.beside
+    c.drain_rest.new.items (g.L.Ledger.number c.args.steps.now) (g.L.Ledger.number c.head.new.steps)
+    (g.L.Ledger.number c.drain_rest.new.steps) c.in-Ok.ensures.begun c.in-Ok-head.ensures.read c.in-Ok-head.ensures.beside
     c.pipes_left-wanted.result c.len-found.result c.pipes_left-wanted.ensures c.len-found.ensures (omega (arith, c.if-found-wanted.false)) d.fit.graph d.taken k)
     c.drain_rest.ensures.read
 
@@ -134,7 +139,8 @@ returns-in-Ok-head-clause-cause g c =
     (intake_seen c.head.new.self) (g.S.Source.left c.args.source.now) (g.S.Source.left c.head.new.source) (g.S.Source.left c.drain_rest.new.source)
     (g.S.Source.ended c.head.new.source) (g.S.Source.ended c.drain_rest.new.source) (g.S.Source.faults c.args.source.now) (g.S.Source.faults c.head.new.source)
     (g.S.Source.faults c.drain_rest.new.source) (ends_seen g.E.PipeEnd.seen c.args.ends.now) (ends_seen g.E.PipeEnd.seen c.drain_rest.new.ends) c.args.items.now c.head.new.items
-    c.drain_rest.new.items (g.L.Ledger.number c.args.steps.now) (g.L.Ledger.number c.head.new.steps) (g.L.Ledger.number c.drain_rest.new.steps) c.in-Ok.ensures.begun c.in-Ok-head.ensures.read c.in-Ok-head.ensures.beside f c.in-Ok-head.ensures.later k)
+    c.drain_rest.new.items (g.L.Ledger.number c.args.steps.now) (g.L.Ledger.number c.head.new.steps)
+    (g.L.Ledger.number c.drain_rest.new.steps) c.in-Ok.ensures.begun c.in-Ok-head.ensures.read c.in-Ok-head.ensures.beside f c.in-Ok-head.ensures.later k)
     c.drain_rest.ensures.cause
 
 pub returns-in-Err-clause-cause : goal.returns-in-Err-clause-cause
@@ -143,5 +149,6 @@ returns-in-Err-clause-cause g c =
     (intake_seen c.in-Ok.intake) (g.S.Source.left c.args.source.now) (g.S.Source.left c.head.new.source) (g.S.Source.left c.head.new.source)
     (g.S.Source.ended c.head.new.source) (g.S.Source.ended c.head.new.source) (g.S.Source.faults c.args.source.now) (g.S.Source.faults c.head.new.source)
     (g.S.Source.faults c.head.new.source) (ends_seen g.E.PipeEnd.seen c.args.ends.now) (ends_seen g.E.PipeEnd.seen c.args.ends.now) c.args.items.now c.head.new.items
-    c.head.new.items (g.L.Ledger.number c.args.steps.now) (g.L.Ledger.number c.head.new.steps) (g.L.Ledger.number c.head.new.steps) c.in-Ok.ensures.begun c.in-Err.fault c.drain_fault.result c.drain_fault.ensures
+    c.head.new.items (g.L.Ledger.number c.args.steps.now) (g.L.Ledger.number c.head.new.steps)
+    (g.L.Ledger.number c.head.new.steps) c.in-Ok.ensures.begun c.in-Err.fault c.drain_fault.result c.drain_fault.ensures
     c.in-Err.ensures.cause

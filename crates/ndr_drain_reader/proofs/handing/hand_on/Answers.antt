@@ -12,5 +12,6 @@ returns-in_err-note c =
 
 pub loop-at-preserved : goal.loop-at-preserved
 loop-at-preserved c =
-    noted_more c.args.before c.loop-at.at c.args.own.now.items c.args.items.now c.loop-at.items c.loop-at.invariant c.in-Some.item.now c.in-Some-after_nodes.moved c.in-Some.ensures.some c.in-Some-after_nodes.ensures c.note.new.self
+    noted_more c.args.before c.loop-at.at c.args.own.now.items c.args.items.now c.loop-at.items c.loop-at.invariant c.in-Some.item.now c.in-Some-after_nodes.moved c.in-Some.ensures.some
+    c.in-Some-after_nodes.ensures c.note.new.self
     c.in_ok-note.ensures.ok

@@ -30,8 +30,11 @@ returns-in_err-read_values-clause-cause g c =
     let y = c.read_values.new.stream in
     let a = source_seen g.S.Source.left g.S.Source.ended g.S.Source.faults c.args.source.now c.read_values.new.source in
     let t = decoding_seen c.args.items.now c.read_values.new.items (g.L.Ledger.number c.args.steps.now) (g.L.Ledger.number c.read_values.new.steps) in
-    call.handed_on (λ e. (o : Operation) → slice_get p.tie.operations n ≡ Some o → IsHeadCause (setting_beside p.tie o s q) k a t e) c.from_residual.result c.in_err-read_values.field-0.0 c.from_residual.ensures.1
-    (λ o there. caused (c.heads_are_refused.ensures.refused, c.heads_are_refused.ensures.passed) (setting_beside p.tie o s q) (call.legal p n s q o there k) k a t (cells_of x) (no_cells x c.begin-stream.ensures.begins) c.in_err-read_values.field-0.0
+    call.handed_on
+    (λ e. (o : Operation) → slice_get p.tie.operations n ≡ Some o
+    → IsHeadCause (setting_beside p.tie o s q) k a t e) c.from_residual.result c.in_err-read_values.field-0.0 c.from_residual.ensures.1
+    (λ o there. caused (c.heads_are_refused.ensures.refused, c.heads_are_refused.ensures.passed) (setting_beside p.tie o s q) (call.legal p n s q o there k) k a t (cells_of x)
+    (no_cells x c.begin-stream.ensures.begins) c.in_err-read_values.field-0.0
     (c.in_err-read_values.ensures.reads (setting_beside p.tie o s q) (call.legal p n s q o there k) (call.setting p n s q o there k) refl))
 
 pub with_pipes-requires : goal.with_pipes-requires
@@ -62,8 +65,11 @@ returns-in_err-kept-clause-cause g c =
     let y = c.read_values.new.stream in
     let a = source_seen g.S.Source.left g.S.Source.ended g.S.Source.faults c.args.source.now c.read_values.new.source in
     let t = decoding_seen c.args.items.now c.read_values.new.items (g.L.Ledger.number c.args.steps.now) (g.L.Ledger.number c.read_values.new.steps) in
-    call.handed_on (λ e. (o : Operation) → slice_get p.tie.operations n ≡ Some o → IsHeadCause (setting_beside p.tie o s q) k a t e) c.from_residual-in_err-kept.result fault.Memory c.from_residual-in_err-kept.ensures.1
-    (λ o there. caused (c.heads_are_refused.ensures.refused, c.heads_are_refused.ensures.passed) (setting_beside p.tie o s q) (call.legal p n s q o there k) k a t (cells_of x) (no_cells x c.begin-stream.ensures.begins) fault.Memory
+    call.handed_on
+    (λ e. (o : Operation) → slice_get p.tie.operations n ≡ Some o
+    → IsHeadCause (setting_beside p.tie o s q) k a t e) c.from_residual-in_err-kept.result fault.Memory c.from_residual-in_err-kept.ensures.1
+    (λ o there. caused (c.heads_are_refused.ensures.refused, c.heads_are_refused.ensures.passed) (setting_beside p.tie o s q) (call.legal p n s q o there k) k a t (cells_of x)
+    (no_cells x c.begin-stream.ensures.begins) fault.Memory
     (cut_after (setting_beside p.tie o s q) (call.legal p n s q o there k) k (cells_of x) a t y
     (c.in_ok-read_values.ensures.reads (setting_beside p.tie o s q) (call.legal p n s q o there k) (call.setting p n s q o there k) refl)))
 

@@ -21,7 +21,8 @@ number-requires c =
     let old = c.args.search.now in
     let g = c.args.fit.now.graph in
     let r = c.requires in
-    let e = cell_found c.direct_cell.result c.in-Some.cell _ _ c.in-Some.is c.direct_cell.ensures (direct_named c.args.code.now c.args.chunk g r.stream r.searchable c.args.root c.args.run r.due old r.searched r.pending) in
+    let e = cell_found c.direct_cell.result c.in-Some.cell _ _ c.in-Some.is c.direct_cell.ensures
+    (direct_named c.args.code.now c.args.chunk g r.stream r.searchable c.args.root c.args.run r.due old r.searched r.pending) in
     let (low, high) = direct_within c.args.code.now c.args.chunk g r.stream r.searchable c.args.root c.args.run r.due old r.searched r.pending in
     (length g.cells, r.searched.names, r.searchable.few_cells, subst (λ n. 0 < n) (sym e) low, subst (λ n. n ≤ length g.cells) (sym e) high, r.searched.numbers)
 
@@ -30,7 +31,8 @@ mark-requires c =
     let old = c.args.search.now in
     let g = c.args.fit.now.graph in
     let r = c.requires in
-    let e = cell_found c.direct_cell.result c.in-Some.cell _ _ c.in-Some.is c.direct_cell.ensures (direct_named c.args.code.now c.args.chunk g r.stream r.searchable c.args.root c.args.run r.due old r.searched r.pending) in
+    let e = cell_found c.direct_cell.result c.in-Some.cell _ _ c.in-Some.is c.direct_cell.ensures
+    (direct_named c.args.code.now c.args.chunk g r.stream r.searchable c.args.root c.args.run r.due old r.searched r.pending) in
     let (low, high) = direct_within c.args.code.now c.args.chunk g r.stream r.searchable c.args.root c.args.run r.due old r.searched r.pending in
     let room : length old.placed.items ≡ length g.cells + 1 = r.searched.counted.room in omega (arith, e, high, room)
 
@@ -39,7 +41,8 @@ take_turn-requires c =
     let old = c.args.search.now in
     let g = c.args.fit.now.graph in
     let r = c.requires in
-    let e = cell_found c.direct_cell.result c.in-Some.cell _ _ c.in-Some.is c.direct_cell.ensures (direct_named c.args.code.now c.args.chunk g r.stream r.searchable c.args.root c.args.run r.due old r.searched r.pending) in
+    let e = cell_found c.direct_cell.result c.in-Some.cell _ _ c.in-Some.is c.direct_cell.ensures
+    (direct_named c.args.code.now c.args.chunk g r.stream r.searchable c.args.root c.args.run r.due old r.searched r.pending) in
     let (low, high) = direct_within c.args.code.now c.args.chunk g r.stream r.searchable c.args.root c.args.run r.due old r.searched r.pending in
     ready_can c.args.code.now c.args.chunk g r.stream r.searchable r.due _ _
     (direct_ready c.args.code.now c.args.chunk g r.stream r.searchable c.args.root c.args.run r.due old r.searched r.pending _ c.in-Some.cell e c.mark.ensures refl refl refl r.searched.counted.known

@@ -33,8 +33,14 @@ settle-requires-clause-cells c =
     let old = c.args.search.now.count in
     let new = c.write_home.new.out in
     let here : names_of (drop c.len-before.result new.names.items) ≡ pieces_names ps =
-    named_added c.len-before.result old.names.items new.names.items (pieces_names ps) many (counted_names old.at new.at old.names.items new.names.items ps (c.in_ok-write_home.ensures.written.same [])) in
-    (length g.cells, c.requires.names, c.requires.few_cells, subst (λ l. AreWithin (length g.cells) (cells_of l)) (sym here) (cells_within g (pieces_names ps) c.requires.counted.cells), c.requires.numbers)
+    named_added c.len-before.result old.names.items new.names.items (pieces_names ps) many
+    (counted_names old.at new.at old.names.items new.names.items ps (c.in_ok-write_home.ensures.written.same [])) in (
+      length g.cells,
+      c.requires.names,
+      c.requires.few_cells,
+      subst (λ l. AreWithin (length g.cells) (cells_of l)) (sym here) (cells_within g (pieces_names ps) c.requires.counted.cells),
+      c.requires.numbers,
+    )
 
 pub returns : goal.returns
 returns c =

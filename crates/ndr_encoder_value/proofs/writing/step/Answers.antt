@@ -11,7 +11,9 @@ one-requires-clause-able g c =
       run c.args.run.now.code.now c.args.run.now.max c.args.run.now.chunk n,
       c.args.pc.now,
       refl,
-      able_from g.O.Output.can g.O.Output.whole _ _ _ (run_step c.args.run.now.code.now c.args.run.now.max c.args.run.now.chunk n c.args.pc.now c.args.frames.now (flat c.args.walk.now) c.in-Some.instr (sym c.instr_at.ensures.value ∙ c.in-Some.is)) c.requires.1,
+      able_from g.O.Output.can g.O.Output.whole _ _ _
+          (run_step c.args.run.now.code.now c.args.run.now.max c.args.run.now.chunk n c.args.pc.now c.args.frames.now (flat c.args.walk.now) c.in-Some.instr
+          (sym c.instr_at.ensures.value ∙ c.in-Some.is)) c.requires.1,
     )
 
 pub returns-in-None-clause-moved : goal.returns-in-None-clause-moved
@@ -19,5 +21,7 @@ returns-in-None-clause-moved g c = λ n. nothing g.O.Output.can g.O.Output.whole
 
 pub returns-in_ok-on-in-Some-clause-moved : goal.returns-in_ok-on-in-Some-clause-moved
 returns-in_ok-on-in-Some-clause-moved g c = λ n.
-    moves_from g.O.Output.can g.O.Output.whole _ _ _ _ _ (run_step c.args.run.now.code.now c.args.run.now.max c.args.run.now.chunk n c.args.pc.now c.args.frames.now (flat c.args.walk.now) c.in-Some.instr (sym c.instr_at.ensures.value ∙ c.in-Some.is))
+    moves_from g.O.Output.can g.O.Output.whole _ _ _ _ _
+    (run_step c.args.run.now.code.now c.args.run.now.max c.args.run.now.chunk n c.args.pc.now c.args.frames.now (flat c.args.walk.now) c.in-Some.instr
+    (sym c.instr_at.ensures.value ∙ c.in-Some.is))
     (c.in_ok-on-in-Some.ensures.moved (run c.args.run.now.code.now c.args.run.now.max c.args.run.now.chunk n) c.args.pc.now refl)

@@ -11,7 +11,8 @@ pub loop-at-preserved : goal.loop-at-preserved
 loop-at-preserved c =
     let l = c.loop-at in
     let fits : SFits w128 c.in-Some.value.now = search rules in
-    ap (λ t. t ++ behind (map signed_decimal (drop (l.at + 1) c.args.values.now))) (c.in_ok-signed.ensures ∙ ap (λ z. l.text ++ behind (signed_decimal z ∷ [])) (to_z-of_z w128 _ fits)) ∙ word_more signed_decimal c.args.values.now l.at c.in-Some.value.now l.text c.in-Some.ensures.some ∙ l.invariant
+    ap (λ t. t ++ behind (map signed_decimal (drop (l.at + 1) c.args.values.now))) (c.in_ok-signed.ensures ∙ ap (λ z. l.text ++ behind (signed_decimal z ∷ [])) (to_z-of_z w128 _ fits))
+    ∙ word_more signed_decimal c.args.values.now l.at c.in-Some.value.now l.text c.in-Some.ensures.some ∙ l.invariant
 
 pub returns : goal.returns
 returns c =

@@ -14,7 +14,8 @@ loop-at-preserved c =
     let l = c.loop-at in
     let xs = c.args.arms.now in
     let fits : SFits w128 c.in-Some.arm.now.label = search rules in
-    ap (λ t. t ++ map (λ (a : Arm). op.Arm a.label (arm_run (place_in c.args.addresses.now) a.of)) (drop (l.at + 1) xs)) (c.in_ok-append.ensures.ok ∙ ap (λ z. l.code ++ op.Arm z c.arm_run.result ∷ []) (to_z-of_z w128 _ fits)
+    ap (λ t. t ++ map (λ (a : Arm). op.Arm a.label (arm_run (place_in c.args.addresses.now) a.of)) (drop (l.at + 1) xs))
+    (c.in_ok-append.ensures.ok ∙ ap (λ z. l.code ++ op.Arm z c.arm_run.result ∷ []) (to_z-of_z w128 _ fits)
     ∙ ap (λ r. l.code ++ op.Arm c.in-Some.arm.now.label r ∷ []) c.arm_run.ensures)
     ∙ map_more (λ (a : Arm). op.Arm a.label (arm_run (place_in c.args.addresses.now) a.of)) xs l.at c.in-Some.arm.now l.code c.in-Some.ensures.some ∙ l.invariant
 

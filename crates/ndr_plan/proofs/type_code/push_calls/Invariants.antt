@@ -6,4 +6,5 @@ use Rattle.ndr_plan.proofs.type_code.push_calls.Given as goal
 
 -- what is written, with what is left
 abbrev pub invariant-loop-at : goal.invariant-loop-at
-invariant-loop-at l = l.code ++ map (λ (f : Field). op.Call (place_in l.addresses f.of.0)) (drop l.at l.members) ≡ l.initial.code ++ map (λ (f : Field). op.Call (place_in l.addresses f.of.0)) l.members
+invariant-loop-at l =
+    l.code ++ map (λ (f : Field). op.Call (place_in l.addresses f.of.0)) (drop l.at l.members) ≡ l.initial.code ++ map (λ (f : Field). op.Call (place_in l.addresses f.of.0)) l.members

@@ -10,7 +10,12 @@ use Rattle.text_lexer.proofs.OneStep.{a_word, misses, no_name}
 use Rattle.text_lexer.proofs.steps.name.Goals as goal
 
 pub returns-then-is_word-clause-less : goal.returns-then-is_word-clause-less
-returns-then-is_word-clause-less c = cut_less (plain c.args.version) c.args.text.now (Word c.args.due.now) c.scan-next.result.rest.now (a_word c.args.version c.args.text.now c.scan-next.result.rest.now c.args.due.now c.scan-next.result.lexeme c.scan-next.ensures.comes (sym c.is_word.ensures ∙ c.if-is_word.true))
+returns-then-is_word-clause-less c =
+    cut_less (plain c.args.version) c.args.text.now (Word c.args.due.now) c.scan-next.result.rest.now
+    (a_word c.args.version c.args.text.now c.scan-next.result.rest.now c.args.due.now c.scan-next.result.lexeme c.scan-next.ensures.comes (sym c.is_word.ensures ∙ c.if-is_word.true))
 
 pub returns-clause-err : goal.returns-clause-err
-returns-clause-err c = subst (Misses c.args.version (This (Name c.args.due.now)) c.args.text.now) (sym (c.refused.ensures ∙ ap (λ r. stop.At (length c.scan-next.result.here.now) r) c.why_no_name.ensures)) (misses c.args.version (This (Name c.args.due.now)) c.args.text.now c.scan-next.result.here.now c.scan-next.result.rest.now c.scan-next.result.lexeme (name_reason c.scan-next.result.lexeme) c.scan-next.ensures.here c.scan-next.ensures.comes (no_name c.args.due.now c.scan-next.result.lexeme (sym c.is_word.ensures ∙ c.if-is_word.false)))
+returns-clause-err c =
+    subst (Misses c.args.version (This (Name c.args.due.now)) c.args.text.now) (sym (c.refused.ensures ∙ ap (λ r. stop.At (length c.scan-next.result.here.now) r) c.why_no_name.ensures))
+    (misses c.args.version (This (Name c.args.due.now)) c.args.text.now c.scan-next.result.here.now c.scan-next.result.rest.now c.scan-next.result.lexeme
+    (name_reason c.scan-next.result.lexeme) c.scan-next.ensures.here c.scan-next.ensures.comes (no_name c.args.due.now c.scan-next.result.lexeme (sym c.is_word.ensures ∙ c.if-is_word.false)))

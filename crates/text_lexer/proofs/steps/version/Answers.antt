@@ -10,7 +10,12 @@ use Rattle.text_lexer.proofs.OneStep.{a_version, misses, no_version}
 use Rattle.text_lexer.proofs.steps.version.Goals as goal
 
 pub returns-in-Some-clause-less : goal.returns-in-Some-clause-less
-returns-in-Some-clause-less c = cut_less (plain versions.One) c.args.text.now (Number (pos (version_number c.in-Some.version))) c.scan-next.result.rest.now (a_version versions.One c.args.text.now c.scan-next.result.rest.now c.in-Some.version c.scan-next.result.lexeme c.scan-next.ensures.comes (sym c.in-Some.ensures))
+returns-in-Some-clause-less c =
+    cut_less (plain versions.One) c.args.text.now (Number (pos (version_number c.in-Some.version))) c.scan-next.result.rest.now
+    (a_version versions.One c.args.text.now c.scan-next.result.rest.now c.in-Some.version c.scan-next.result.lexeme c.scan-next.ensures.comes (sym c.in-Some.ensures))
 
 pub returns-in-None-clause-err : goal.returns-in-None-clause-err
-returns-in-None-clause-err c = subst (Misses versions.One (AVersion) c.args.text.now) (sym c.unexpected.ensures) (misses versions.One (AVersion) c.args.text.now c.scan-next.result.here.now c.scan-next.result.rest.now c.scan-next.result.lexeme (other_reason c.scan-next.result.lexeme) c.scan-next.ensures.here c.scan-next.ensures.comes (no_version c.scan-next.result.lexeme (sym c.in-None.ensures)))
+returns-in-None-clause-err c =
+    subst (Misses versions.One (AVersion) c.args.text.now) (sym c.unexpected.ensures)
+    (misses versions.One (AVersion) c.args.text.now c.scan-next.result.here.now c.scan-next.result.rest.now c.scan-next.result.lexeme
+    (other_reason c.scan-next.result.lexeme) c.scan-next.ensures.here c.scan-next.ensures.comes (no_version c.scan-next.result.lexeme (sym c.in-None.ensures)))

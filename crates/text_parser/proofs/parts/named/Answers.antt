@@ -17,4 +17,5 @@ returns-in_err-rest-clause-err c =
 pub returns-in_err-end-clause-err : goal.returns-in_err-end-clause-err
 returns-in_err-end-clause-err c =
     let p = err_from_is_err_and c.from_residual-in_err-end.result c.from_residual-in_err-end.ensures.1 in
-    rw (p.1, p.2) (λ table ns. named_halts c.args.version table ns c.args.text.now c.in_ok-rest.rest.now c.args.text.now c.args.due.now c.in_err-end.field-0.0 c.in_ok-rest.ensures.ok c.in_err-end.ensures.err)
+    rw (p.1, p.2)
+    (λ table ns. named_halts c.args.version table ns c.args.text.now c.in_ok-rest.rest.now c.args.text.now c.args.due.now c.in_err-end.field-0.0 c.in_ok-rest.ensures.ok c.in_err-end.ensures.err)

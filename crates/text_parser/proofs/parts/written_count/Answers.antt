@@ -6,7 +6,8 @@ pub returns-then-not-written-clause-ok : goal.returns-then-not-written-clause-ok
 returns-then-not-written-clause-ok c = λ table ns. none_written c.args.version table ns c.args.text.now 0 c.args.written c.if-not-written.true
 
 pub returns-clause-ok : goal.returns-clause-ok
-returns-clause-ok c = λ table ns. some_written c.args.version table ns c.args.text.now c.in_ok-value.rest.now c.in_ok-value.value c.args.written c.if-not-written.false (c.in_ok-value.ensures.ok table ns)
+returns-clause-ok c =
+    λ table ns. some_written c.args.version table ns c.args.text.now c.in_ok-value.rest.now c.in_ok-value.value c.args.written c.if-not-written.false (c.in_ok-value.ensures.ok table ns)
 
 pub returns-in_err-value-clause-err : goal.returns-in_err-value-clause-err
 returns-in_err-value-clause-err c =

@@ -15,12 +15,16 @@ returns-in_err-of-clause-err c =
 pub returns-in_err-start-clause-err : goal.returns-in_err-start-clause-err
 returns-in_err-start-clause-err c =
     let p = err_from_is_err_and c.from_residual-in_err-start.result c.from_residual-in_err-start.ensures.1 in
-    rw (p.1, p.2) (equals_halts c.args.under.version c.args.under.types.now c.args.count c.args.names.now c.args.text.now c.in_ok-of.of.0 c.in_ok-of.middle.now c.in_ok-of.ensures.ok c.in_err-start.field-0.0 c.in_err-start.ensures.err)
+    rw (p.1, p.2)
+    (equals_halts c.args.under.version c.args.under.types.now c.args.count c.args.names.now c.args.text.now c.in_ok-of.of.0 c.in_ok-of.middle.now c.in_ok-of.ensures.ok c.in_err-start.field-0.0
+    c.in_err-start.ensures.err)
 
 pub returns-in_err-val-clause-err : goal.returns-in_err-val-clause-err
 returns-in_err-val-clause-err c =
     let p = err_from_is_err_and c.from_residual-in_err-val.result c.from_residual-in_err-val.ensures.1 in
-    rw (p.1, p.2) (cell_halts c.args.under.version c.args.under.types.now c.args.count c.args.names.now c.args.text.now c.in_ok-of.of.0 c.in_ok-of.middle.now c.in_ok-of.ensures.ok c.in_ok-start.start.now c.in_ok-start.ensures.ok c.in_err-val.field-0.0 c.in_err-val.ensures.err)
+    rw (p.1, p.2)
+    (cell_halts c.args.under.version c.args.under.types.now c.args.count c.args.names.now c.args.text.now c.in_ok-of.of.0 c.in_ok-of.middle.now c.in_ok-of.ensures.ok c.in_ok-start.start.now
+    c.in_ok-start.ensures.ok c.in_err-val.field-0.0 c.in_err-val.ensures.err)
 
 pub value-requires : goal.value-requires
 value-requires c = record {
@@ -35,4 +39,5 @@ value-requires c = record {
 
 pub returns-clause-ok : goal.returns-clause-ok
 returns-clause-ok c =
-    cell_read c.args.under.version c.args.under.types.now c.args.count c.args.names.now c.args.text.now c.in_ok-of.of.0 c.in_ok-of.middle.now c.in_ok-of.ensures.ok c.in_ok-start.start.now c.in_ok-start.ensures.ok _ c.value.new.names c.in_ok-val.after.now refl c.in_ok-val.ensures.ok
+    cell_read c.args.under.version c.args.under.types.now c.args.count c.args.names.now c.args.text.now c.in_ok-of.of.0 c.in_ok-of.middle.now c.in_ok-of.ensures.ok c.in_ok-start.start.now
+    c.in_ok-start.ensures.ok _ c.value.new.names c.in_ok-val.after.now refl c.in_ok-val.ensures.ok

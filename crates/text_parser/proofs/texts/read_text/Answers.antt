@@ -14,7 +14,8 @@ fault_of-requires-clause-within c =
 pub returns-in-Err-clause-refused : goal.returns-in-Err-clause-refused
 returns-in-Err-clause-refused c o there =
     let short : length c.args.text.now ≤ TEXT_LIMIT = omega (arith, c.if-text.false) in
-    subst (IsFault (setting_of c.args.interface.now o c.args.side) c.args.text.now) (sym c.fault_of.ensures) (is_refused (setting_of c.args.interface.now o c.args.side) (legal_side c.args.interface.now c.args.op o c.args.side there) c.args.text.now short c.in-Err.stop (c.in-Err.ensures.err o there))
+    subst (IsFault (setting_of c.args.interface.now o c.args.side) c.args.text.now) (sym c.fault_of.ensures)
+    (is_refused (setting_of c.args.interface.now o c.args.side) (legal_side c.args.interface.now c.args.op o c.args.side there) c.args.text.now short c.in-Err.stop (c.in-Err.ensures.err o there))
 
 pub returns-in-Ok-clause-only : goal.returns-in-Ok-clause-only
 returns-in-Ok-clause-only c o g there reads =

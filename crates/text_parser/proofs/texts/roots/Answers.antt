@@ -25,7 +25,9 @@ returns-in_err-val-clause-err c =
     let walk = YieldsList-from_first root_value (λ w. w) all (c.into_iter-root-iterator.ensures.into_iter_gives ∙ c.params-root-items.ensures o there) in
     let turn = YieldsList-turn walk c.loop-root.yielded _ c.loop-root.yielded_by _ _ c.in-Some.root c.in-Some.is c.next.ensures.steps in
     let root = given_root all _ _ (root_value c.in-Some.root) refl turn in
-    roots_stop c.args.under.version c.args.under.types.now all (length c.loop-root.yielded) (root_value c.in-Some.root) c.args.names.now c.loop-root.names c.args.text.now c.loop-root.rest.now c.loop-root.vals c.in_err-val.field-0.0 root (c.loop-root.invariant o there) c.in_err-val.ensures.err)
+    roots_stop c.args.under.version c.args.under.types.now all (length c.loop-root.yielded)
+    (root_value c.in-Some.root) c.args.names.now c.loop-root.names c.args.text.now c.loop-root.rest.now c.loop-root.vals c.in_err-val.field-0.0 root
+    (c.loop-root.invariant o there) c.in_err-val.ensures.err)
 
 pub loop-root-preserved : goal.loop-root-preserved
 loop-root-preserved c =
@@ -35,8 +37,11 @@ loop-root-preserved c =
     let walk = YieldsList-from_first root_value (λ w. w) all (c.into_iter-root-iterator.ensures.into_iter_gives ∙ c.params-root-items.ensures o there) in
     let turn = YieldsList-turn walk c.loop-root.yielded _ c.loop-root.yielded_by _ _ c.in-Some.root c.in-Some.is c.next.ensures.steps in
     let root = given_root all _ _ (root_value c.in-Some.root) refl turn in
-    subst (λ n. AreRoots c.args.under.version c.args.under.types.now (take n all) c.args.names.now c.args.text.now c.push.new.self c.root_line.new.names c.in_ok-val.after.now) (sym (length_push c.loop-root.yielded c.in-Some.root))
-    (root_next c.args.under.version c.args.under.types.now all (length c.loop-root.yielded) (root_value c.in-Some.root) c.args.names.now c.loop-root.names c.root_line.new.names c.args.text.now c.loop-root.rest.now c.in_ok-val.after.now c.loop-root.vals c.push.new.self (tree_of c.in_ok-val.val) root (c.loop-root.invariant o there) c.in_ok-val.ensures.ok c.in-Ok.ensures.ok)
+    subst (λ n. AreRoots c.args.under.version c.args.under.types.now (take n all) c.args.names.now c.args.text.now c.push.new.self c.root_line.new.names c.in_ok-val.after.now)
+    (sym (length_push c.loop-root.yielded c.in-Some.root))
+    (root_next c.args.under.version c.args.under.types.now all (length c.loop-root.yielded)
+    (root_value c.in-Some.root) c.args.names.now c.loop-root.names c.root_line.new.names c.args.text.now c.loop-root.rest.now c.in_ok-val.after.now c.loop-root.vals c.push.new.self
+    (tree_of c.in_ok-val.val) root (c.loop-root.invariant o there) c.in_ok-val.ensures.ok c.in-Ok.ensures.ok)
 
 pub returns-clause-ok : goal.returns-clause-ok
 returns-clause-ok c =
@@ -45,7 +50,8 @@ returns-clause-ok c =
     let all = named_roots i.types c.args.side o in
     let walk = YieldsList-from_first root_value (λ w. w) all (c.into_iter-root-iterator.ensures.into_iter_gives ∙ c.params-root-items.ensures o there) in
     let end = YieldsList-end walk c.loop-root.yielded _ c.loop-root.yielded_by _ _ c.in-None.is c.next.ensures.steps in
-    subst (λ (l : List NamedRoot). AreRoots c.args.under.version c.args.under.types.now l c.args.names.now c.args.text.now c.loop-root.vals c.loop-root.names c.loop-root.rest.now) (take_all (length c.loop-root.yielded) all (omega (arith, end.1))) (c.loop-root.invariant o there)
+    subst (λ (l : List NamedRoot). AreRoots c.args.under.version c.args.under.types.now l c.args.names.now c.args.text.now c.loop-root.vals c.loop-root.names c.loop-root.rest.now)
+    (take_all (length c.loop-root.yielded) all (omega (arith, end.1))) (c.loop-root.invariant o there)
 
 pub root_line-requires-clause-known : goal.root_line-requires-clause-known
 root_line-requires-clause-known c =
@@ -55,7 +61,8 @@ root_line-requires-clause-known c =
     let walk = YieldsList-from_first root_value (λ w. w) all (c.into_iter-root-iterator.ensures.into_iter_gives ∙ c.params-root-items.ensures o there) in
     let turn = YieldsList-turn walk c.loop-root.yielded _ c.loop-root.yielded_by _ _ c.in-Some.root c.in-Some.is c.next.ensures.steps in
     let root = given_root all _ _ (root_value c.in-Some.root) refl turn in
-    let below : c.in-Some.root.of.0 < length i.types = root_known (setting_of i o c.args.side) (legal_side i c.args.op o c.args.side there) (length c.loop-root.yielded) (root_value c.in-Some.root) root in
+    let below : c.in-Some.root.of.0 < length i.types =
+    root_known (setting_of i o c.args.side) (legal_side i c.args.op o c.args.side there) (length c.loop-root.yielded) (root_value c.in-Some.root) root in
     subst (λ (t : Table). c.in-Some.root.of.0 < length t) (sym c.requires.types) below
 
 pub root_line-requires-clause-short : goal.root_line-requires-clause-short

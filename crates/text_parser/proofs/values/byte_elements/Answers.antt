@@ -18,4 +18,5 @@ returns-in_err-vals-clause-err c =
 pub returns-clause-ok : goal.returns-clause-ok
 returns-clause-ok c = λ ns.
     let s = c.in_ok-body.ensures.ok in
-    bytes_read c.args.under.version c.args.under.types.now c.args.elem.0 c.requires.octets ns c.args.text.now c.in_ok-body.rest.now s.0 c.in_ok-vals.vals (c.in_ok-vals.ensures.ok s.0 c.in_ok-body.rest.now s.1) s.2
+    bytes_read c.args.under.version c.args.under.types.now c.args.elem.0 c.requires.octets ns c.args.text.now c.in_ok-body.rest.now s.0 c.in_ok-vals.vals
+    (c.in_ok-vals.ensures.ok s.0 c.in_ok-body.rest.now s.1) s.2

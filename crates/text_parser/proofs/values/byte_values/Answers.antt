@@ -19,7 +19,8 @@ loop-octet-preserved c =
     let i = c.loop-octet.invariant in
     let fits : SFits w128 c.from.result = search rules in (
       i.0 ++ c.in-Some.octet ∷ [],
-      byte_more c.loop-octet.vals i.0 c.in-Some.octet c.push.new.self i.1 (c.in-Ok.ensures.ok ∙ ap (λ (y : ℤ). c.loop-octet.vals ++ node (tree.Num y) none ∷ []) (to_z-of_z w128 c.from.result fits ∙ c.from.ensures)),
+      byte_more c.loop-octet.vals i.0 c.in-Some.octet c.push.new.self i.1
+          (c.in-Ok.ensures.ok ∙ ap (λ (y : ℤ). c.loop-octet.vals ++ node (tree.Num y) none ∷ []) (to_z-of_z w128 c.from.result fits ∙ c.from.ensures)),
       one_more hex_pair pair_quote c.args.body.now i.0 c.loop-octet.rest.now c.in-Some.after.now c.in-Some.octet i.2 (sym c.in-Some.ensures.is),
     )
 

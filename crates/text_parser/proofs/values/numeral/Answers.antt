@@ -11,7 +11,8 @@ use Rattle.text_parser.proofs.values.numeral.Goals as goal
 pub returns-clause-ok : goal.returns-clause-ok
 returns-clause-ok c =
     let fits : SFits w128 c.in_ok-value.value = search rules in
-    λ t ns n. numeral_value c.args.under.version c.args.under.types.now t ns c.args.text.now c.in_ok-value.rest.now c.in_ok-value.value _ n c.in_ok-value.ensures.ok (ap (λ (y : ℤ). node (tree.Num y) none) (to_z-of_z w128 c.in_ok-value.value fits))
+    λ t ns n. numeral_value c.args.under.version c.args.under.types.now t ns c.args.text.now c.in_ok-value.rest.now c.in_ok-value.value _ n c.in_ok-value.ensures.ok
+    (ap (λ (y : ℤ). node (tree.Num y) none) (to_z-of_z w128 c.in_ok-value.value fits))
 
 pub returns-in_err-value-clause-err : goal.returns-in_err-value-clause-err
 returns-in_err-value-clause-err c =

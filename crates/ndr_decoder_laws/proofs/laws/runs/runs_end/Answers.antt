@@ -7,7 +7,8 @@ returns c = record {
   refused = refused_end;
   cut = cut_end;
   long = long_end;
-  needed = λ values order code table h own limit direct target planned before earlier s0 g0 fetched noted s r. needed_along values order code table h own limit direct target planned before earlier s0 g0 r;
+  needed =
+      λ values order code table h own limit direct target planned before earlier s0 g0 fetched noted s r. needed_along values order code table h own limit direct target planned before earlier s0 g0 r;
   needed_then = λ values order code table h own limit direct target planned before earlier s0 g0 fetched noted s r i there os came.
       needed_then values order code table h own limit direct target planned before earlier s0 g0 fetched noted s r i there os came
       (needed_along values order code table h own limit direct target planned before earlier s0 g0 r);

@@ -1,7 +1,7 @@
 #!/usr/bin/env python3
 """Measures the speed and the memory of the real program, as ratios that mean the same on every machine.
 
-    bench/run.py [--program PATH] [--megabytes N] [--runs N]
+    bench/program.py [--program PATH] [--megabytes N] [--runs N]
 
 `--program` measures another program than bin/dceidl, which is built first where it has to be. `--megabytes` is the size of
 the large text, 1 to 256 (100 if not said), and `--runs` how often a small run is repeated (400 if not said; runs over large
