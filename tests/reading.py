@@ -30,13 +30,13 @@ Place = Tuple[str, str]  # a module of `specs/`, and a name in it
 
 
 def words(text: str) -> Set[str]:
-    """The names in a text; a name in a path of fields counts by each part."""
-    lines = [re.sub(r"(^|\s)(--|//)(\s|/|$).*", "", line) for line in text.split("\n")]
+    """The names in a text, but those of fields."""
     found: Set[str] = set()
-    for line in lines:
+    for line in text.split("\n"):
+        line = re.sub(r"(^|\s)(--|//)(\s|/|$).*", "", line)
+        line = re.sub(r"(?<=[^\s(])\.[^\s(){}\[\],;.]+", " ", line)
         for part in re.split(r"[\s(){}\[\],;.]+", line):
-            found.add(part)
-            found.add(part.lstrip("¬λ"))
+            found |= {part, part.lstrip("¬λ")}
     return found
 
 

@@ -1,14 +1,14 @@
 #!/usr/bin/env python3
 """Checks of the definitions and lemmas in `crates/`, which no proof makes.
 
-    tests/sources.py          prints what is wrong, a line each; the status is 1 where something is
-    tests/sources.py unused   the same of one check: imports, unused, repeated or long
+    tests/sources.py [CHECK ..]     prints what is wrong, a line each; the status is 1 where something is
 
-imports   no file of `specs/` imports a file of another crate's `proofs/`
-unused    each public name of `specs/` and `proofs/` is used: in its own file outside its own definition, or in a file that
-          imports it. Examples are for readers, and their names are not looked at
-repeated  no statement of a lemma is in three files
-long      no line of `src/` or `specs/` is over 150 characters, none of `proofs/` over 200
+    imports     each import of this repository's definitions and lemmas finds its file and a public name in it
+    unused      each public name of `specs/` and `proofs/` is used: by a file that imports it, or in its own file
+                outside its own definition. Examples are for readers, and their names are not looked at
+    repeated    no statement of a lemma is in three files. `tests/cases/sources.py` does not ask for this one
+
+What the toolchain makes from Rust (`declared`, `contracts`, `Goals`) is not looked at.
 """
 
 from __future__ import annotations
@@ -23,14 +23,23 @@ sys.dont_write_bytecode = True
 
 ROOT = Path(__file__).resolve().parent.parent
 USE = re.compile(
-    r"^\s*(?P<how>pub use|ghost use|pub ghost use|use|open) (?P<path>[^\s{;]+?)(?:\.\{(?P<names>[^}]*)\})?(?: as (?P<as>[^\s;]+))?;?\s*$"
+    r"^\s*(?P<how>(?:pub )?(?:ghost )?use|open) (?P<path>[^\s{;]+?)(?:\.\{(?P<names>[^}]*)\})?(?: as (?P<as>[^\s;]+))?;?\s*$"
 )
 DEFINITION = re.compile(r"^(?P<words>(?:(?:pub|abbrev|unfoldable) )*)(?P<kind>data |record )?(?P<name>[^\s(){}\[\],;:]+)")
 MEMBER = re.compile(r"^\s+(?:pub )?(?P<name>[^\s(){}\[\],;:.]+) :")
-FIXED = ("Answers.antt", "Invariants.antt", "Lib.antt")  # their names are fixed by the toolchain
+LISTED = re.compile(r"^\s*(?P<pub>pub )?mod (?P<name>\S+)\s*$")
+BREAKS = re.compile(r"[\s(){}\[\],;.]+")
+MADE = re.compile(r"\.(?:declared|contracts|Goals|Given|TheConstants|Key|Code|Statement)\b")  # modules that the toolchain makes
+FIXED = ("Answers.antt", "Invariants.antt", "Lib.antt")  # files whose names the toolchain fixes
+EXAMPLE = re.compile(r"/crates/example_|/(?:Worked\w*|\w*Examples|Proof)\.antt$")
+# Crates whose names are not all used: none of these is looked at by `unused`.
+NOT_LOOKED_AT = """
+command_compile ctx_store idl_check idl_constructs idl_cycles idl_declared_types idl_expressions idl_grammar idl_lexer idl_listing idl_names
+idl_rule_definitions idl_rules idl_scope idl_type_numbers idl_typing nd_base nd_types nd_value rpc_pdu
+""".split()
 
 # ----------------------------------------------------------------------------------------------------------------------
-# Reading a file of definitions
+# Reading a file
 
 
 @dataclass
@@ -40,21 +49,40 @@ class Definition:
     type: bool  # a `data` or `record`
     start: int  # its lines, with the comment above it
     end: int
-    members: List[str] = field(default_factory=list)  # constructors of a `data`
+    members: List[str] = field(default_factory=list)  # of a `data` its constructors, of a `record` its fields
+
+
+@dataclass
+class Imported:
+    line: int
+    module: str
+    name: Optional[str]  # none where the module itself is imported
+    short: str  # what it is called here
+    passed_on: bool
 
 
 @dataclass
 class Source:
     path: Path
+    crate: str
+    module: str
     lines: List[str]
+    imports: List[Imported] = field(default_factory=list)
     definitions: List[Definition] = field(default_factory=list)
-    items: List[Tuple[str, str, str, bool]] = field(default_factory=list)  # module, name, short name, passed on
-    modules: List[Tuple[str, str]] = field(default_factory=list)  # module, short name
 
-    @property
-    def module(self) -> str:
-        parts = self.path.relative_to(ROOT / "crates").with_suffix("").parts
-        return "Rattle." + ".".join(parts[:-1] if parts[-1] == "Lib" else parts)
+    def text(self, without: Optional[Definition] = None) -> str:
+        """Its lines but imports, comments, and one definition."""
+        lines = self.lines if without is None else self.lines[: without.start] + self.lines[without.end + 1 :]
+        return "\n".join(code(line) for line in lines if not USE.match(line))
+
+    def public(self) -> Set[str]:
+        """The names that others can import."""
+        names = {imported.short for imported in self.imports if imported.passed_on}
+        names |= {found["name"] for found in map(LISTED.match, self.lines) if found}
+        for definition in self.definitions:
+            if definition.public:
+                names |= {definition.name, *definition.members}
+        return names
 
 
 def code(line: str) -> str:
@@ -62,227 +90,182 @@ def code(line: str) -> str:
     return re.sub(r"(^|\s)--(\s.*)?$", "", line)
 
 
-def names_in(text: str) -> Set[str]:
-    found = set()
-    for word in re.split(r"[\s(){}\[\],;.]+", text):
-        found.add(word)
-        found.add(word.lstrip("¬λ"))
-    return found
+def words(text: str) -> Set[str]:
+    found = set(BREAKS.split(text))
+    return found | {word.lstrip("¬λ") for word in found}
 
 
 def indent(line: str) -> int:
     return len(line) - len(line.lstrip(" "))
 
 
-def read(path: Path) -> Source:
-    source = Source(path, path.read_text(encoding="utf-8").split("\n"))
-    for line in source.lines:
+def read(path: Path, root: Path) -> Source:
+    parts = path.relative_to(root / "crates").with_suffix("").parts
+    module = "Rattle." + ".".join(parts[:-1] if parts[-1] == "Lib" else parts)
+    source = Source(path, parts[0], module, path.read_text(encoding="utf-8").split("\n"))
+    for number, line in enumerate(source.lines):
         found = USE.match(line)
-        if not found:
-            continue
-        if found["names"] is None:
-            source.modules.append((found["path"], found["as"] or found["path"].split(".")[-1]))
-            continue
-        for item in filter(None, (name.strip() for name in found["names"].split(","))):
-            name, _, short = item.partition(" as ")
-            source.items.append((found["path"], name.strip(), (short or name).strip(), "pub" in found["how"]))
+        if found and found["names"] is None:
+            short = found["as"] or found["path"].split(".")[-1]
+            source.imports.append(Imported(number, found["path"], None, short, "pub" in found["how"]))
+        elif found:
+            for item in filter(None, (name.strip() for name in found["names"].split(","))):
+                name, _, short = (part.strip() for part in item.partition(" as "))
+                source.imports.append(Imported(number, found["path"], name, short or name, "pub" in found["how"]))
     if path.suffix == ".antt":
-        cut(source)
+        source.definitions = list(definitions(source.lines))
     return source
 
 
-def cut(source: Source) -> None:
-    """Finds the definitions of a file: at the level of the file, or of a `module _ (..) where` in it."""
-    levels = [0]
-    last: Optional[Definition] = None
-    at = 0
-    while at < len(source.lines):
-        line = source.lines[at]
-        depth, body = indent(line), line.strip()
-        if not body or (depth > levels[-1]):
-            if body and last:
-                last.end = at
-            at += 1
-            continue
-        while depth < levels[-1]:
+def definitions(lines: List[str]) -> Iterator[Definition]:
+    """The definitions of a file: at the level of the file, of a `module _ (..) where`, or of a `mutual`."""
+    levels, last, at = [0], None, 0
+    while at < len(lines):
+        depth, body = indent(lines[at]), lines[at].strip()
+        while body and depth < levels[-1]:
             levels.pop()
-            last = None
-        if body.startswith("--"):
-            at += 1
-            continue
-        if body[0] in "})]" or body.startswith("unfolding "):
+        if body and (depth > levels[-1] or body[0] in "})]" or body.startswith("unfolding ")):
             if last:
                 last.end = at
-            at += 1
-            continue
-        if USE.match(line) or re.match(r"(pub )?mod |infix[lr]? ", body):
+        elif not body or body.startswith("--"):
+            pass
+        elif USE.match(lines[at]) or LISTED.match(lines[at]) or re.match(r"infix[lr]? ", body):
             last = None
-            at += 1
-            continue
-        if re.match(r"(pub )?module |(abbrev )?mutual\b", body):
-            while not re.match(r"(abbrev )?mutual\b", body) and not code(source.lines[at]).rstrip().endswith("where"):
+        elif re.match(r"(pub )?module |(abbrev )?mutual\b", body):
+            while "mutual" not in body and not code(lines[at]).rstrip().endswith("where"):
                 at += 1
-            at += 1
-            inner = next((indent(other) for other in source.lines[at:] if other.strip()), 0)
-            if inner > levels[-1]:
-                levels.append(inner)
+            inner = next((indent(line) for line in lines[at + 1 :] if line.strip()), 0)
+            levels += [inner] if inner > levels[-1] else []
             last = None
-            continue
-        found = DEFINITION.match(body)
-        if not found or (last and not found["words"] and not found["kind"] and found["name"] == last.name):
-            if last:
+        else:
+            found = DEFINITION.match(body)
+            again = found and last and not found["words"] and not found["kind"] and found["name"] == last.name
+            if not found or again:
                 last.end = at
-            at += 1
-            continue
-        start = at
-        while start and source.lines[start - 1].strip().startswith("--") and indent(source.lines[start - 1]) == depth:
-            start -= 1
-        last = Definition(found["name"], "pub " in found["words"], bool(found["kind"]), start, at)
-        source.definitions.append(last)
+            else:
+                last = begun(lines, at, found)
+                yield last
         at += 1
-    for definition in source.definitions:
-        if definition.type:
-            text = source.lines[definition.start : definition.end + 1]
-            definition.members = [found["name"] for found in map(MEMBER.match, text) if found]
 
 
-def files(*folders: str, suffixes: Tuple[str, ...] = (".antt",)) -> Iterator[Path]:
-    for folder in folders:
-        for path in sorted((ROOT / "crates").glob(f"*/{folder}/**/*")):
-            if path.suffix in suffixes and path.is_file():
-                yield path
+def begun(lines: List[str], at: int, found: "re.Match[str]") -> Definition:
+    """The definition that begins at a line, with the comment above it."""
+    depth, start = indent(lines[at]), at
+    while start and lines[start - 1].strip().startswith("--") and indent(lines[start - 1]) == depth:
+        start -= 1
+    definition = Definition(found["name"], "pub " in found["words"], bool(found["kind"]), start, at)
+    if definition.type:
+        for line in lines[at + 1 :]:
+            if line.strip() and indent(line) <= depth:
+                break
+            member = MEMBER.match(line)
+            definition.members += [member["name"]] if member else []
+    return definition
 
 
-def place(path: Path) -> str:
-    return str(path.relative_to(ROOT))
+def sources(root: Path) -> List[Source]:
+    paths = sorted((root / "crates").glob("*/*/**/*"))
+    folders = ("src", "specs", "proofs")
+    found = [path for path in paths if path.suffix in (".antt", ".rt") and path.relative_to(root / "crates").parts[1] in folders]
+    return [read(path, root) for path in found]
 
 
 # ----------------------------------------------------------------------------------------------------------------------
 # The checks
 
 
-def imports() -> List[str]:
-    """Imports of other crates' proofs in `specs/`; the toolchain's crates are not looked at."""
-    crates = {path.name for path in (ROOT / "crates").iterdir()}
+def imports(root: Path = ROOT) -> List[str]:
+    """Imports that find nothing."""
+    all_sources = sources(root)
+    public = {source.module: source.public() for source in all_sources if source.path.suffix == ".antt"}
+    crates = {source.crate for source in all_sources}
     wrong = []
-    for path in files("specs"):
-        own = path.relative_to(ROOT / "crates").parts[0]
-        for number, line in enumerate(path.read_text(encoding="utf-8").split("\n"), 1):
-            found = re.search(r"\bRattle\.(\w+)\.proofs\.", code(line))
-            if found and found[1] in crates and found[1] != own:
-                wrong.append(f"{place(path)}:{number}: a definition over proofs of {found[1]}")
+    for source in all_sources:
+        for imported in source.imports:
+            parts = imported.module.split(".")
+            own = len(parts) > 2 and parts[0] == "Rattle" and parts[1] in crates and parts[2] in ("specs", "proofs")
+            if not own or MADE.search(imported.module):
+                continue
+            place = f"{source.path.relative_to(root)}:{imported.line + 1}"
+            above, _, last = imported.module.rpartition(".")
+            if imported.module not in public and not (imported.name is None and last in public.get(above, set())):
+                wrong.append(f"{place}: there is no {imported.module}")
+            elif imported.name and imported.name not in public[imported.module]:
+                wrong.append(f"{place}: {imported.module} has no public {imported.name}")
     return wrong
 
 
-def is_named(name: str, words: Set[str], text: str) -> bool:
+def is_named(name: str, found: Set[str], text: str) -> bool:
     if "◌" not in name:
-        return name in words
+        return name in found
     return all(part in text for part in name.split("◌") if part)
 
 
-def used_names(sources: List[Source]) -> Set[Tuple[str, str]]:
-    """The names that some file uses of another."""
+def used_names(source: Source) -> Set[Tuple[str, str]]:
+    """The names of other files that a file uses."""
+    text = source.text()
+    found = words(text)
     used: Set[Tuple[str, str]] = set()
-    for source in sources:
-        body = "\n".join(code(line) for line in source.lines if not USE.match(line))
-        words = names_in(body)
-        for module, name, short, passed_on in source.items:
-            if passed_on or source.path.suffix == ".rt" or is_named(short, words, body):
-                used.add((module, name))
-        for module, short in source.modules:
-            for name in re.findall(r"(?<![\w.])" + re.escape(short) + r"\.([^\s(){}\[\],;.]+)", body):
-                used.add((module, name))
-        for path in re.findall(r"\bRattle\.[\w.'\-]+", body):
-            module, _, name = path.rpartition(".")
-            used.add((module, name))
-        if source.path.suffix == ".rt":
-            own = source.path.relative_to(ROOT / "crates").parts[0]
-            for path in re.findall(r"\b\w+::(?:specs|proofs)::[\w:'\-◌]+", body):
-                module, _, name = path.replace("::", ".").rpartition(".")
-                used.add(("Rattle." + re.sub(r"^crate\b", own, module), name))
+    for imported in source.imports:
+        if imported.name is None:
+            names = re.findall(r"(?<![\w.])" + re.escape(imported.short) + r"\.([^\s(){}\[\],;.]+)", text)
+            used |= {(imported.module, name) for name in names}
+        elif imported.passed_on or source.path.suffix == ".rt" or is_named(imported.short, found, text):
+            used.add((imported.module, imported.name))
+    for path in re.findall(r"\bRattle\.[\w.'\-]+", text):
+        used.add((path.rpartition(".")[0], path.rpartition(".")[2]))
+    for path in re.findall(r"\b\w+::(?:specs|proofs)::[\w:'\-◌]+", text):
+        module, _, name = re.sub(r"^crate\b", source.crate, path).replace("::", ".").rpartition(".")
+        used.add(("Rattle." + module, name))
     return used
 
 
-def unused(private: bool = False) -> List[str]:
-    return [f"{place(path)}:{definition.start + 1}: nothing uses {definition.name}" for path, definition in unused_definitions(private)]
-
-
-def unused_definitions(private: bool = False) -> List[Tuple[Path, Definition]]:
-    paths = list(files("src", "specs", "proofs", suffixes=(".antt", ".rt")))
-    sources = [read(path) for path in paths]
-    used = used_names(sources)
-    found = []
-    for source in sources:
-        if source.path.suffix != ".antt" or source.path.name in FIXED or is_example(source.path):
-            continue
-        for definition in source.definitions:
-            if not (definition.public or private):
-                continue
-            names = [definition.name] + definition.members
-            if any((source.module, name) in used for name in names):
-                continue
-            around = source.lines[: definition.start] + source.lines[definition.end + 1 :]
-            body = "\n".join(code(line) for line in around if not USE.match(line))
-            words = names_in(body)
-            if not any(is_named(name, words, body) for name in names):
-                found.append((source.path, definition))
-    return found
-
-
-def is_example(path: Path) -> bool:
-    """Whether a file is of worked examples, or of a proof that the toolchain names."""
-    crate = path.relative_to(ROOT / "crates").parts[0]
-    return bool(re.match(r"example_|(graph|ndr)_worked$|example_idl$", crate) or re.search(r"Examples$|^Worked|^Proof$", path.stem))
-
-
-def repeated() -> List[str]:
-    """Statements of lemmas that are in three files or more."""
-    seen: Dict[str, Set[str]] = {}
-    for path in files("proofs"):
-        if path.name in FIXED:
-            continue
-        source = read(path)
-        for definition in source.definitions:
-            if definition.type:
-                continue
-            statement = stated(source, definition)
-            if statement:
-                seen.setdefault(statement, set()).add(place(path))
+def unused(root: Path = ROOT) -> List[str]:
+    """Public names that nothing uses."""
+    all_sources = sources(root)
+    used: Set[Tuple[str, str]] = set().union(*map(used_names, all_sources))
     wrong = []
-    for statement, places in sorted(seen.items()):
-        if len(places) >= 3:
-            wrong.append(f"{', '.join(sorted(places))}: {statement[:120]}")
+    for source in all_sources:
+        if source.crate in NOT_LOOKED_AT or source.path.name in FIXED or EXAMPLE.search(str(source.path)):
+            continue
+        for definition in source.definitions:
+            names = [definition.name, *definition.members]
+            if not definition.public or any((source.module, name) in used for name in names):
+                continue
+            text = source.text(without=definition)
+            found = words(text)
+            if not any(is_named(name, found, text) for name in names):
+                wrong.append(f"{source.path.relative_to(root)}:{definition.start + 1}: nothing uses {definition.name}")
     return wrong
 
 
+def repeated(root: Path = ROOT) -> List[str]:
+    """Statements of lemmas that are in three files or more."""
+    places: Dict[str, Set[str]] = {}
+    for source in sources(root):
+        if "/proofs/" in str(source.path) and source.path.name not in FIXED:
+            for statement in filter(None, (stated(source, definition) for definition in source.definitions)):
+                places.setdefault(statement, set()).add(str(source.path.relative_to(root)))
+    return [f"{', '.join(sorted(found))}: {statement[:120]}" for statement, found in sorted(places.items()) if len(found) > 2]
+
+
 def stated(source: Source, definition: Definition) -> Optional[str]:
-    """What a lemma says, without its name; None of what is no lemma."""
+    """What a lemma says, without its name; none of what is no lemma."""
     lines = [line for line in source.lines[definition.start : definition.end + 1] if not line.strip().startswith("--")]
-    first = lines[0].strip()
-    head = DEFINITION.match(first)
-    if "abbrev" in head["words"] or not first[head.end() :].startswith(" : "):
+    found = DEFINITION.match(lines[0].strip())
+    rest = lines[0].strip()[found.end() :]
+    if definition.type or "abbrev" in found["words"] or not rest.startswith(" : "):
         return None
-    text = [first[head.end() + 3 :]]
-    depth = indent(lines[0])
+    text = [rest[3:]]
     for line in lines[1:]:
-        if indent(line) <= depth:
+        if indent(line) <= indent(lines[0]):
             break
         text.append(line.strip())
     statement = " ".join(text)
     return statement if re.search(r"[≡≤<⊥]", statement) and "→" in statement else None
 
 
-def long() -> List[str]:
-    wrong = []
-    for folder, most in (("src", 150), ("specs", 150), ("proofs", 200)):
-        for path in files(folder, suffixes=(".antt", ".rt")):
-            for number, line in enumerate(path.read_text(encoding="utf-8").split("\n"), 1):
-                if len(line) > most:
-                    wrong.append(f"{place(path)}:{number}: {len(line)} characters, at most {most}")
-    return wrong
-
-
-CHECKS: Dict[str, Callable[[], List[str]]] = {"imports": imports, "unused": unused, "repeated": repeated, "long": long}
+CHECKS: Dict[str, Callable[..., List[str]]] = {"imports": imports, "unused": unused, "repeated": repeated}
 
 
 def main(args: List[str]) -> int:

@@ -31,12 +31,12 @@ use Rattle.nd_grammar.specs.decoded.Verdict.{DecodingSeen, IsDecoded}
 use Rattle.ndr_decoder_pending.specs.declared.stream.Stream.{Stream}
 use Rattle.ndr_decoder_pending.specs.Seen.{between_of}
 use Rattle.ndr_decoder_laws.specs.stream.Report.{the_stream}
-use Rattle.ndr_decode.specs.Decoding.{IsFault}
+use Rattle.ndr_decode.specs.Decoding.{IsFault, IsInOrder}
 use Rattle.ndr_decode.specs.Piping.{EndComes}
 use Rattle.ndr_decode.specs.Streaming.{FaultOf, IsSettingOf, Purpose, WasRead, cells_of, purpose_of}
 use Rattle.ndr_decode.proofs.Handed.{stream_fault}
 use Rattle.ndr_decode.proofs.EndsWell.{decoded_reported}
-use Rattle.ndr_decode.proofs.Reported.{fault_reported}
+use Rattle.ndr_decode.proofs.Reported.{fault_reported, in_order_reported}
 use Rattle.ndr_decode.proofs.Standing.{cut_off_here, idle_log, idle_source}
 
 -- what a graph is built for, by a plan
@@ -56,7 +56,12 @@ built_for plan number way q i x z b same e f g =
 
 -- what a fit is of
 pub fit_of : (f : Fitting) (z : Stream) (p : Purpose) → f ≡ fitting z.machine.builder → purpose_of z ≡ p → (f.op ≡ p.op) × (f.side ≡ p.side) × (f.interface ≡ p.interface)
-fit_of f z p e h = (ap (λ (k : Fitting). k.op) e ∙ ap (λ (k : Purpose). k.op) h, ap (λ (k : Fitting). k.side) e ∙ ap (λ (k : Purpose). k.side) h, ap (λ (k : Fitting). k.interface) e ∙ ap (λ (k : Purpose). k.interface) h)
+fit_of f z p e h = (
+  ap (λ (k : Fitting). k.op) e ∙ ap (λ (k : Purpose). k.op) h,
+  ap (λ (k : Fitting). k.side) e ∙ ap (λ (k : Purpose). k.side) h,
+  ap (λ (k : Fitting). k.interface) e
+      ∙ ap (λ (k : Purpose). k.interface) h,
+)
 
 pub fit_beside : (f : Fitting) (z : Stream) (p : Purpose) → f ≡ fitting z.machine.builder → purpose_of z ≡ p → f.given ≡ p.given
 fit_beside f z p e h = ap (λ (k : Fitting). k.given) e ∙ ap (λ (k : Purpose). k.given) h
@@ -131,6 +136,9 @@ module _ (plan : Plan) (number : ℕ) (way : Side) (q : Option Graph) (o : Opera
 
     pub side_fails : (c : SourceSeen) (u : DecodingSeen) (z : Stream) (e : DecodeFault) → EndComes w order [] [] (cells_of x) c u z (Err e) → IsFault w order c e u
     side_fails c u z e r = fault_reported w legal order c u e (subst (λ n. FaultOf the_stream w order [] [] n c u e) no_cells r)
+
+    pub side_in_order : (c : SourceSeen) (u : DecodingSeen) (z : Stream) (e : DecodeFault) → EndComes w order [] [] (cells_of x) c u z (Err e) → IsInOrder w order c e u
+    side_in_order c u z e r = in_order_reported w legal order c u e (subst (λ n. FaultOf the_stream w order [] [] n c u e) no_cells r)
 
     pub side_ends : (c : SourceSeen) (u : DecodingSeen) (z : Stream) → WasRead w order [] [] (cells_of x) c u z → IsDecoded w order c z.machine.at (closed z.machine.builder) u
     side_ends c u z r = decoded_reported w legal order c u z (subst (λ n. WasRead w order [] [] n c u z) no_cells r)

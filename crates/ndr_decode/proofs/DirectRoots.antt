@@ -1,7 +1,8 @@
 -- The next root, which is a reference pointer: what a call for its referent comes to, which is read in its place.
 -- `x` is what is kept of the stream before it, `to` the type of the referent and `run` the run of its code, `c` its cell, `s1` the stream when its home is open,
 -- `s2` after its value, `s3` after it was kept; `k` is how many steps were counted before.
-use Rattle.std.proofs.Common.{◌≡◌, ◌≤◌, ◌<◌, ℕ, ◌+◌, ◌-◌, ◌*◌, ◌^◌, zero, suc, Bool, List, [], ◌∷◌, ◌++◌, length, map, Option, Some, None, Result, Ok, Err, IsErrAnd, OnOk, IfErr, refl, ap, sym, ◌∙◌, subst, arith, length-append}
+use Rattle.std.proofs.Common.{◌≡◌, ◌≤◌, ◌<◌, ℕ, ◌+◌, ◌-◌, ◌*◌, ◌^◌, zero, suc, Bool, List, [], ◌∷◌, ◌++◌, length, map, Option, Some, None, Result, Ok, Err, IsErrAnd, OnOk, IfErr, refl, ap, sym, ◌∙◌}
+use Rattle.std.proofs.Common.{subst, arith, length-append}
 use Rattle.std.specs.Prelude.{slice_get}
 use Rattle.std.proofs.lemmas.List.{append-nil, length-map}
 use Rattle.nd_base.specs.declared.octets.Order.{Order}
@@ -106,7 +107,8 @@ same_cell b c m roots roots' kept g p r =
     ap (λ (u : List steps.Owed). record { at = m.at; pending = m.fresh ++ u; cells = m.cells; numbers = m.numbers; roots = roots; read = kept; graph = g }) p
     ∙ ap (λ (u : List KeptRoot). record { at = m.at; pending = m.fresh ++ c.pending; cells = m.cells; numbers = m.numbers; roots = u; read = kept; graph = g }) r
 
-module _ (plan : Plan) (order : Order) (to : TypeId) (run : ℕ) (x : Stream) (w : Setting) (side : IsLegalSide w) (fetched : List ℕ) (noted : List Item) (direct : ℕ) (s : Reading) (seen : List EntryAt) (n : ℕ)
+module _ (plan : Plan) (order : Order) (to : TypeId) (run : ℕ) (x : Stream) (w : Setting) (side : IsLegalSide w) (fetched : List ℕ) (noted : List Item) (direct : ℕ) (s : Reading)
+    (seen : List EntryAt) (n : ℕ)
     (table : w.table ≡ plan.tie.types) (st : Stands w side order fetched noted direct x s seen [] (suc n)) (r : Root) (there : slice_get (root_list w) (length s.roots) ≡ Some r)
     (instr : op.Direct to run ≡ root_by w.table r.of (type_at w.table r.of)) where
   refers : type_at w.table r.of ≡ Some (def.Pointer Ref to)

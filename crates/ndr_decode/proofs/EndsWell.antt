@@ -18,15 +18,18 @@ use Rattle.ndr_decoder_pending.specs.declared.stream.Stream.{Stream}
 use Rattle.ndr_decoder_pending.proofs.Opened.{closed_length}
 use Rattle.ndr_decode.specs.Streaming.{WasRead, WentOn, cells_of}
 
-pub decoded_reported : (w : Setting) → IsLegalSide w → (order : Order) (source : SourceSeen) (t : DecodingSeen) (x : Stream) → WasRead w order [] [] 0 source t x → IsDecoded w order source x.machine.at (closed x.machine.builder) t
+pub decoded_reported : (w : Setting) → IsLegalSide w → (order : Order) (source : SourceSeen) (t : DecodingSeen) (x : Stream) → WasRead w order [] [] 0 source t x
+    → IsDecoded w order source x.machine.at (closed x.machine.builder) t
 decoded_reported w legal order source t x r =
     let steps = r.took.steps in
     let many = closed_length x.machine.builder in
-    law.decoded_report w legal order source t r.octets r.all r.seen r.items (closed x.machine.builder) x.machine.at (r.progress ∙ ap (λ k. going k r.seen) (sym r.at)) r.graph r.noted_are r.took.left r.at r.took.logged
+    law.decoded_report w legal order source t r.octets r.all r.seen r.items (closed x.machine.builder) x.machine.at
+    (r.progress ∙ ap (λ k. going k r.seen) (sym r.at)) r.graph r.noted_are r.took.left r.at r.took.logged
     (omega (arith, steps, many))
 
 -- after a call that went on
-pub read_after : (w : Setting) (side : IsLegalSide w) (order : Order) (fetched : List ℕ) (noted : List Item) (cells : ℕ) (a b c : SourceSeen) (s t u : DecodingSeen) → Follows a b c s t u → (x : Stream) (n : ℕ)
+pub read_after : (w : Setting) (side : IsLegalSide w) (order : Order) (fetched : List ℕ) (noted : List Item) (cells : ℕ) (a b c : SourceSeen) (s t u : DecodingSeen) → Follows a b c s t u
+    → (x : Stream) (n : ℕ)
     → (g : WentOn w side order fetched noted cells a s x n) → (y : Stream) → WasRead w order (fetched ++ g.octets) (noted ++ g.items) (cells_of x) b t y → WasRead w order fetched noted cells c u y
 read_after w side order fetched noted cells a b c s t u follows x n g y r =
     let e : (fetched ++ g.octets) ++ r.octets ≡ fetched ++ (g.octets ++ r.octets) = append_assoc fetched g.octets r.octets in

@@ -1,6 +1,6 @@
 -- What the run of a home's code comes to, in the stream that the home is a part of.
--- `reach` is what is read of the stream, `f0` and `n0` are the octets that were fetched and the items that were noted before the home, `s0` is the state at its beginning, `target` what the plain reader
--- gives for it; `source` and `notes` are what was seen of the source, the log and the steps over the run.
+-- `reach` is what is read of the stream, `f0` and `n0` are the octets that were fetched and the items that were noted before the home, `s0` is the state at its beginning, `target` what the plain
+-- reader gives for it; `source` and `notes` are what was seen of the source, the log and the steps over the run.
 use Rattle.std.proofs.Common.{◌≡◌, ◌≤◌, ◌<◌, ◌⊎◌, inl, inr, ℕ, ◌+◌, Bool, true, false, List, [], ◌∷◌, ◌++◌, length, refl, ap, sym, ◌∙◌, subst, append_assoc, arith}
 use Rattle.std.specs.Prelude.{if◌then◌else◌, not}
 use Rattle.std.specs.Io.KnownBytes.{Consumes, IsAtEnd}
@@ -154,7 +154,8 @@ module _ (values : List EnumList) (order : Order) (code : List Instr) (table : T
 
   -- ## Faults
 
-  module _ (reach : Extent) (w : Setting) (all : AreOctets f0) (needed : IsNeeded w order f0) (refuses : RefusesWith reach w order f0 target) (goes : GoesWith reach w order f0 target) (few : direct ≤ length (direct_roots w)) where
+  module _ (reach : Extent) (w : Setting) (all : AreOctets f0) (needed : IsNeeded w order f0) (refuses : RefusesWith reach w order f0 target) (goes : GoesWith reach w order f0 target)
+      (few : direct ≤ length (direct_roots w)) where
     abbrev IsRefusedIn : ℕ → Reason → Type 0
     IsRefusedIn place why = Refused reach w order f0 n0 (length s0.cells) source (decoding_of notes) place why
 

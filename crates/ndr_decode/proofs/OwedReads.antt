@@ -37,7 +37,8 @@ next_is table o os p ps e = first_of o os (owed table p) (map (owed table) ps) e
     first_of : (o : steps.Owed) (os : List steps.Owed) (q : steps.Owed) (qs : List steps.Owed) → o ∷ os ≡ q ∷ qs → o ≡ q
     first_of o os q qs e = cc
 
-module _ (w : Setting) (side : IsLegalSide w) (order : Order) (fetched : List ℕ) (noted : List Item) (direct : ℕ) (o : Owed) (x : Stream) (s : Reading) (seen : List EntryAt) (p : Pending) (ps : List Pending) (n : ℕ)
+module _ (w : Setting) (side : IsLegalSide w) (order : Order) (fetched : List ℕ) (noted : List Item) (direct : ℕ) (o : Owed) (x : Stream) (s : Reading) (seen : List EntryAt) (p : Pending)
+    (ps : List Pending) (n : ℕ)
     (st : StandsWith w side order fetched noted direct o x s seen p ps n) where
   pub due_is : owed_of x.wanted.items o ≡ owed w.table p
   due_is = next_is w.table (owed_of x.wanted.items o) _ p ps st.agrees.keeps.pending

@@ -50,7 +50,8 @@ one_checks s asked i a None = given_checks s i a (root_index asked a.var 0)
 vars_are : (s : Side) (here asked : List Root) (i : ℕ) (vars : List AttrVar) → AreChecks (vars_checks s here asked i vars)
 vars_are s here asked i [] = tt
 vars_are s here asked i (a ∷ vars) =
-    all_append (λ (j : Instr). is_check j ≡ true) (root_check s asked i a (root_index here a.var 0)) (vars_checks s here asked i vars) (one_checks s asked i a (root_index here a.var 0)) (vars_are s here asked i vars)
+    all_append (λ (j : Instr). is_check j ≡ true) (root_check s asked i a (root_index here a.var 0)) (vars_checks s here asked i vars) (one_checks s asked i a (root_index here a.var 0))
+    (vars_are s here asked i vars)
 
 all_are : (s : Side) (here asked : List Root) (i : ℕ) (rs : List Root) → AreChecks (root_checks s here asked i rs)
 all_are s here asked i [] = tt

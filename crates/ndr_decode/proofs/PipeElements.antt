@@ -74,7 +74,8 @@ elements_fine plan w table pipe elem there =
     subst (λ d. AllByRecursion (Usable w.table) (child_types d tree.Pipe (more unread none))) there kids in
     usable_fine w.table plan.tie.operations (legal_is plan w table) elem.0 of_pipe.0
 
-module _ (plan : Plan) (w : Setting) (legal : IsLegalSide w) (order : Order) (fetched : List ℕ) (noted : List Item) (direct : ℕ) (first : Names) (i : ℕ) (pipe : ℕ) (rs : List Root) (roots : List Tree) (elem : TypeId) (run : ℕ)
+module _ (plan : Plan) (w : Setting) (legal : IsLegalSide w) (order : Order) (fetched : List ℕ) (noted : List Item) (direct : ℕ) (first : Names) (i : ℕ) (pipe : ℕ) (rs : List Root)
+    (roots : List Tree) (elem : TypeId) (run : ℕ)
     (of_plan : IsPipeBy plan w pipe elem run) (done : Trees) (k0 : Position) (m n : Machine) (p : IsInPipe w order fetched noted direct first i rs roots elem done k0 m) (moved : HasMoved m n)
     (octets : List ℕ) (items : List Item) (k : Position) (c r all : ℕ) (parts : suc c + r ≡ all)
     (after : InPipe w order (fetched ++ octets) (noted ++ items) direct first i rs roots elem done m.max_at 0 (at_elements all w order i elem done k) k) (here : IsAt i k n) where
@@ -163,7 +164,8 @@ module _ (plan : Plan) (w : Setting) (legal : IsLegalSide w) (order : Order) (fe
     -- each state that is reached is safe
     pub elements_safe : (later : List ℕ) (xs : List Item) (y : State) → Reaches plan.values order plan.code o.home (state_of o) later xs y → IsSafe plan.code y
     elements_safe later xs y reached =
-        safe_in_chunk w legal plan.values order plan.code h pipe elem direct planned of_plan.there fine done after.made (suc c) (going k.at k.seen) k.names f0 after.stands.octets short n0 (state_of o) elements_good
+        safe_in_chunk w legal plan.values order plan.code h pipe elem direct planned of_plan.there fine done after.made (suc c) (going k.at k.seen) k.names f0 after.stands.octets short n0
+        (state_of o) elements_good
         pays later xs y (subst (λ u. Reaches plan.values order plan.code u (state_of o) later xs y) at_root reached)
 
     -- a fault within them is one of the stream
@@ -186,7 +188,8 @@ module _ (plan : Plan) (w : Setting) (legal : IsLegalSide w) (order : Order) (fe
 
       pub read : HomeWhole order w.table h pipe direct target f0 n0 (length (state_of o).cells) source (decoding_of notes) (state_of z)
       read =
-          whole_comes plan.values order plan.code w.table h pipe 33 direct target planned f0 n0 (state_of o) elements_good source notes (state_of z) (λ later xs y reached. (safe_here later xs y reached).within) ends
+          whole_comes plan.values order plan.code w.table h pipe 33 direct target planned f0 n0 (state_of o) elements_good source notes (state_of z)
+          (λ later xs y reached. (safe_here later xs y reached).within) ends
 
       abbrev kids : Trees
       kids = (read_list w.table (read_in_place order ((f0 ++ read.octets) ++ []) w.table h 32 0) (replicate (suc c) elem.0) (1 + node_count done) (going k.at k.seen) k.names).trees

@@ -27,7 +27,8 @@ faulty (Err y) e h = ap Err (sym h)
 -- ## Cut off
 
 -- memory fails where reading goes on after these entries
-pub cut_at : (w : Setting) (order : Order) (fetched : List ℕ) (noted : List Item) (direct : ℕ) (h : Home) (seen : List EntryAt) (names : Names) (cells : List ℕ) (numbers : List (ℕ × Known)) (max_at : Option ℕ) (n : ℕ) (half : List Place) (at : ℕ)
+pub cut_at : (w : Setting) (order : Order) (fetched : List ℕ) (noted : List Item) (direct : ℕ) (h : Home) (seen : List EntryAt) (names : Names) (cells : List ℕ) (numbers : List (ℕ × Known))
+    (max_at : Option ℕ) (n : ℕ) (half : List Place) (at : ℕ)
     → AreOctets fetched → direct ≤ length (direct_roots w) → Told noted direct order fetched h seen names cells numbers max_at n half
     → ((later : List ℕ) → AreOctets later → Goes (going at seen) (read_stream w order (fetched ++ later)).progress) → StreamCut the_stream w order fetched noted (length cells)
 cut_at w order fetched noted direct h seen names cells numbers max_at n half at octets few told goes =
@@ -42,7 +43,8 @@ cut_at w order fetched noted direct h seen names cells numbers max_at n half at 
     }
 
 -- after so many octets
-pub cut_after : (w : Setting) (order : Order) (fetched : List ℕ) (noted : List Item) (n n' : ℕ) (source : SourceSeen) (t : DecodingSeen) (octets : List ℕ) (items : List Item) → Took source t n octets items n'
+pub cut_after : (w : Setting) (order : Order) (fetched : List ℕ) (noted : List Item) (n n' : ℕ) (source : SourceSeen) (t : DecodingSeen) (octets : List ℕ) (items : List Item)
+    → Took source t n octets items n'
     → StreamCut the_stream w order (fetched ++ octets) (noted ++ items) n' → CutOff the_stream w order fetched noted n source t
 cut_after w order fetched noted n n' source t octets items took cut =
     let steps = took.steps in

@@ -168,7 +168,8 @@ module _ (table : Table) (operations : List Operation) where
 
   -- the line after those of the pipes is of another side
   pub pipes_are_all : (n : ℕ) (o : Operation) → slice_get operations n ≡ Some o → (s : Side) (name : List ℕ) (at : ℕ)
-      → slice_get (entries_of table operations) (line_at table operations n o s + length (value_roots (roots_of table s o)) + 1 + length (pipe_roots (roots_of table s o))) ≡ Some (line.Entry n s name at) → ⊥
+      → slice_get (entries_of table operations) (line_at table operations n o s + length (value_roots (roots_of table s o)) + 1 + length (pipe_roots (roots_of table s o)))
+      ≡ Some (line.Entry n s name at) → ⊥
   pipes_are_all n o is s name at e =
       let (rest, (f, others)) = after_side n o is s in
       let own : List PlanLine = side_lines table operations n o s in
@@ -241,7 +242,8 @@ same_side way.Out way.In e = cc
 same_side way.Out way.Out e = refl
 
 -- a line that was read
-pub entry_read : (plan : Plan) (ls : List PlanLine) (number : ℕ) (l : PlanLine) (n of : ℕ) (s on : Side) (name : List ℕ) (at : ℕ) → ls ≡ plan.entries → number < length plan.entries → l ≡ slice_index_or ls number l
+pub entry_read : (plan : Plan) (ls : List PlanLine) (number : ℕ) (l : PlanLine) (n of : ℕ) (s on : Side) (name : List ℕ) (at : ℕ) → ls ≡ plan.entries → number < length plan.entries
+    → l ≡ slice_index_or ls number l
     → l ≡ line.Entry of on name at → of ≡ n → on ≡ s → slice_get plan.entries number ≡ Some (line.Entry n s name at)
 entry_read plan ls number l n of s on name at same below is e f g =
     ap (λ (xs : List PlanLine). slice_get xs number) (sym same) ∙ slice_get_read ls (length plan.entries) number l (ap length (sym same)) below is

@@ -40,7 +40,8 @@ PipeGoesOn plan order i run so_far m source t n =
     → ElementsRead w order fetched noted direct first i rs roots elem m.cells source t n so_far
 
 -- so the next chunk is due
-pub chunk_due : (plan : Plan) (order : Order) (i run so_far : ℕ) (m n : Machine) (source : SourceSeen) (t : DecodingSeen) → IsAtPipe plan order i run m → PipeGoesOn plan order i run so_far m source t n → IsAtChunk plan order i run so_far n
+pub chunk_due : (plan : Plan) (order : Order) (i run so_far : ℕ) (m n : Machine) (source : SourceSeen) (t : DecodingSeen) → IsAtPipe plan order i run m
+    → PipeGoesOn plan order i run so_far m source t n → IsAtChunk plan order i run so_far n
 chunk_due plan order i run so_far m n source t x goes =
     let e = goes x.w x.legal x.fetched x.noted x.direct x.first x.r x.rs x.roots x.k x.elem x.by_plan x.before in
     record {
@@ -61,12 +62,14 @@ chunk_due plan order i run so_far m n source t x goes =
       in_pipe = e.in_pipe;
     }
 
-module _ (plan : Plan) (w : Setting) (legal : IsLegalSide w) (order : Order) (fetched : List ℕ) (noted : List Item) (direct : ℕ) (first : Names) (i : ℕ) (r : Root) (rs : List Root) (roots : List Tree) (k : Position) (elem : TypeId) (run : ℕ)
+module _ (plan : Plan) (w : Setting) (legal : IsLegalSide w) (order : Order) (fetched : List ℕ) (noted : List Item) (direct : ℕ) (first : Names) (i : ℕ) (r : Root) (rs : List Root)
+    (roots : List Tree) (k : Position) (elem : TypeId) (run : ℕ)
     (of_plan : IsPipeBy plan w r.of elem run) (m : Machine) (p : IsBefore w order fetched noted direct first i (r ∷ rs) roots k m) where
   -- ## The beginning
 
   -- memory fails before it
-  pub pipe_memory : (o : Option (List ℕ)) (ended : Bool) (faults : Count) (g : Logged) (steps : ℕ) → FaultOf the_stream w order fetched noted m.cells (idle_source o ended faults) (idle_log g steps) fault.Memory
+  pub pipe_memory : (o : Option (List ℕ)) (ended : Bool) (faults : Count) (g : Logged) (steps : ℕ)
+      → FaultOf the_stream w order fetched noted m.cells (idle_source o ended faults) (idle_log g steps) fault.Memory
   pipe_memory o ended faults g steps =
       let many : length k.cells ≡ m.cells = ap length (sym p.cells) ∙ sym (cells_many m) in
       let told = p.in_pipes.stands.told i (omega arith) in
@@ -135,6 +138,7 @@ module _ (plan : Plan) (w : Setting) (legal : IsLegalSide w) (order : Order) (fe
       }
 
   -- a fault comes
-  pub pipe_faulty : (source : SourceSeen) (t : DecodingSeen) (z : Machine) (d : DecodeFault) → FaultOf the_stream w order fetched noted m.cells source t d → (result : Result (Unit {0}) DecodeFault) → IsErrAnd result (λ y. y ≡ d)
+  pub pipe_faulty : (source : SourceSeen) (t : DecodingSeen) (z : Machine) (d : DecodeFault) → FaultOf the_stream w order fetched noted m.cells source t d → (result : Result (Unit {0}) DecodeFault)
+      → IsErrAnd result (λ y. y ≡ d)
       → PipeComes w order fetched noted direct first i rs roots m.cells source t z result
   pipe_faulty source t z d f result is = subst (PipeComes w order fetched noted direct first i rs roots m.cells source t z) (faulty result d is) f

@@ -118,7 +118,8 @@ module _ (w : Setting) (order : Order) (fetched : List ℕ) (noted : List Item) 
     added : RootAdded value (map (λ c. c.of) n.builder.graph.cells) (closed p.b) (closed n.builder)
     added = root_ends p.b n.builder value moved_ran all_nodes
 
-    module _ (octets : List ℕ) (items : List Item) (k' : Position) (after : InPipes w order (fetched ++ octets) (noted ++ items) direct first (i + 1) rs (roots ++ value ∷ []) k') (here : IsAt i k' n) where
+    module _ (octets : List ℕ) (items : List Item) (k' : Position) (after : InPipes w order (fetched ++ octets) (noted ++ items) direct first (i + 1) rs (roots ++ value ∷ []) k')
+        (here : IsAt i k' n) where
       pub later_cells : 4 * length k'.cells ≤ k'.at + 4096
       later_cells =
           let many : length (map (λ (c : Referent). c.of) m.builder.graph.cells) ≡ length k'.cells = ap length (sym moved_types ∙ here.cells) in

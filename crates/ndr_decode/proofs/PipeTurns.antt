@@ -45,15 +45,19 @@ use Rattle.ndr_decode.proofs.Standing.{then_fault}
 
 -- ## Faults of the count
 
-pub count_fault : (w : Setting) (order : Order) (fetched : List ℕ) (noted : List Item) (n : ℕ) (source : SourceSeen) (t : DecodingSeen) (e : DecodeFault) → chunks.FaultOf w order fetched noted n source t e → FaultOf the_stream w order fetched noted n source t e
+pub count_fault : (w : Setting) (order : Order) (fetched : List ℕ) (noted : List Item) (n : ℕ) (source : SourceSeen) (t : DecodingSeen) (e : DecodeFault)
+    → chunks.FaultOf w order fetched noted n source t e → FaultOf the_stream w order fetched noted n source t e
 count_fault w order fetched noted n source t (fault.Bad place why) x = x
 count_fault w order fetched noted n source t fault.ReadFault x = x
 count_fault w order fetched noted n source t fault.Memory x = x
 
-module _ (plan : Plan) (w : Setting) (legal : IsLegalSide w) (order : Order) (fetched : List ℕ) (noted : List Item) (direct : ℕ) (first : Names) (i : ℕ) (r : Root) (rs : List Root) (roots : List Tree) (elem : TypeId) (run : ℕ)
-    (of_plan : IsPipeBy plan w r.of elem run) (done : Trees) (k0 : Position) (so_far : ℕ) (as_many : count done ≡ so_far) (m : Machine) (p : IsInPipe w order fetched noted direct first i rs roots elem done k0 m) where
+module _ (plan : Plan) (w : Setting) (legal : IsLegalSide w) (order : Order) (fetched : List ℕ) (noted : List Item) (direct : ℕ) (first : Names) (i : ℕ) (r : Root) (rs : List Root)
+    (roots : List Tree) (elem : TypeId) (run : ℕ)
+    (of_plan : IsPipeBy plan w r.of elem run) (done : Trees) (k0 : Position) (so_far : ℕ) (as_many : count done ≡ so_far) (m : Machine)
+    (p : IsInPipe w order fetched noted direct first i rs roots elem done k0 m) where
   -- a fault comes
-  pub chunk_faulty : (source : SourceSeen) (t : DecodingSeen) (x : Machine) (e : DecodeFault) → FaultOf the_stream w order fetched noted m.cells source t e → (result : Result ℕ DecodeFault) → IsErrAnd result (λ y. y ≡ e)
+  pub chunk_faulty : (source : SourceSeen) (t : DecodingSeen) (x : Machine) (e : DecodeFault) → FaultOf the_stream w order fetched noted m.cells source t e → (result : Result ℕ DecodeFault)
+      → IsErrAnd result (λ y. y ≡ e)
       → ChunkComes w order fetched noted direct first i rs roots elem so_far m.cells source t x result
   chunk_faulty source t x e f result is = subst (ChunkComes w order fetched noted direct first i rs roots elem so_far m.cells source t x) (faulty result e is) f
 
@@ -89,12 +93,15 @@ module _ (plan : Plan) (w : Setting) (legal : IsLegalSide w) (order : Order) (fe
           cut_after w order fetched noted m.cells m.cells a s x.octets x.items x.took
           (subst (StreamCut the_stream w order (fetched ++ x.octets) (noted ++ x.items)) cells_here
           (cut_at w order (fetched ++ x.octets) (noted ++ x.items) direct _ x.k.seen x.k.names x.k.cells x.k.numbers _ _ _ x.k.at after.stands.octets p.few after.told
-          (λ later all. elements_come w legal order (fetched ++ x.octets) (noted ++ x.items) direct first i rs roots r.of elem done m.max_at (begun - 1) (many - begun) (suc (many - 1)) x.k parts of_plan.there after later all)))
+          (λ later all. elements_come w legal order (fetched ++ x.octets) (noted ++ x.items) direct first i rs roots r.of elem done m.max_at (begun - 1) (many - begun)
+          (suc (many - 1)) x.k parts of_plan.there after later all)))
 
-      module _ (o : Machine) (begins : BeginsElements run (begun - 1) (raised begun n.builder.nodes) (state_of n) (state_of o)) (built : o.builder ≡ with_nodes (raised begun n.builder.nodes) n.builder) (at_home : o.home ≡ n.home) where
+      module _ (o : Machine) (begins : BeginsElements run (begun - 1) (raised begun n.builder.nodes) (state_of n) (state_of o))
+          (built : o.builder ≡ with_nodes (raised begun n.builder.nodes) n.builder) (at_home : o.home ≡ n.home) where
         pub chunk_safe : (more : List ℕ) (xs : List Item) (y : State) → Reaches plan.values order plan.code o.home (state_of o) more xs y → IsSafe plan.code y
         chunk_safe more xs y reached =
-            elements.elements_safe plan w legal order fetched noted direct first i r.of rs roots elem run of_plan done k0 m n p moved x.octets x.items x.k (begun - 1) (many - begun) (suc (many - 1)) parts after x.is_at
+            elements.elements_safe plan w legal order fetched noted direct first i r.of rs roots elem run of_plan done k0 m n p moved x.octets x.items x.k (begun - 1) (many - begun)
+            (suc (many - 1)) parts after x.is_at
             o (begun - 1) begun refl one_more begins built at_home more xs y reached
 
         o_cells : length (state_of o).cells ≡ m.cells
@@ -108,7 +115,8 @@ module _ (plan : Plan) (w : Setting) (legal : IsLegalSide w) (order : Order) (fe
           chunk_fault low same s1 d ends =
               then_fault w legal order fetched noted m.cells a b e s (decoding_of notes) u f x.octets x.items m.cells x.took the_stream low same d
               (subst (λ j. FaultOf the_stream w order (fetched ++ x.octets) (noted ++ x.items) j b (decoding_of notes) d) o_cells
-              (elements.elements_fault plan w legal order fetched noted direct first i r.of rs roots elem run of_plan done k0 m n p moved x.octets x.items x.k (begun - 1) (many - begun) (suc (many - 1)) parts after x.is_at
+              (elements.elements_fault plan w legal order fetched noted direct first i r.of rs roots elem run of_plan done k0 m n p moved x.octets x.items x.k (begun - 1) (many - begun)
+              (suc (many - 1)) parts after x.is_at
               o (begun - 1) begun refl one_more begins built at_home b notes s1 d ends))
 
           -- all of them were read
@@ -121,13 +129,15 @@ module _ (plan : Plan) (w : Setting) (legal : IsLegalSide w) (order : Order) (fe
 
             abbrev read : HomeWhole order w.table here r.of direct target (fetched ++ x.octets) (noted ++ x.items) (length (state_of o).cells) b (decoding_of notes) (state_of z)
             read =
-                elements.read plan w legal order fetched noted direct first i r.of rs roots elem run of_plan done k0 m n p moved x.octets x.items x.k (begun - 1) (many - begun) (suc (many - 1)) parts after x.is_at
+                elements.read plan w legal order fetched noted direct first i r.of rs roots elem run of_plan done k0 m n p moved x.octets x.items x.k (begun - 1) (many - begun)
+                (suc (many - 1)) parts after x.is_at
                 o (begun - 1) begun refl one_more begins built at_home z out b notes ends
 
             pub chunk_room : so_far + begun + 1 < 2 ^ 32
             chunk_room =
                 let short : count done + suc (begun - 1) + 1 < 2 ^ 32 =
-                elements.is_short plan w legal order fetched noted direct first i r.of rs roots elem run of_plan done k0 m n p moved x.octets x.items x.k (begun - 1) (many - begun) (suc (many - 1)) parts after x.is_at
+                elements.is_short plan w legal order fetched noted direct first i r.of rs roots elem run of_plan done k0 m n p moved x.octets x.items x.k (begun - 1) (many - begun)
+                (suc (many - 1)) parts after x.is_at
                 o (begun - 1) begun refl one_more begins built at_home z out b notes ends in
                 omega (arith, short, as_many, begun_some)
 
@@ -138,21 +148,27 @@ module _ (plan : Plan) (w : Setting) (legal : IsLegalSide w) (order : Order) (fe
             z_cells : length (state_of z).cells ≡ z.cells
             z_cells = sym (cells_many z)
 
-            in_pipe_then : IsInPipe w order (fetched ++ (x.octets ++ read.octets)) (noted ++ (x.items ++ read.items)) direct first i rs roots elem (kids_of read.is.v) (read_to (state_of z) read.is.seen read.is.names) z
+            in_pipe_then : IsInPipe w order (fetched ++ (x.octets ++ read.octets)) (noted ++ (x.items ++ read.items)) direct first i rs roots elem (kids_of read.is.v)
+                (read_to (state_of z) read.is.seen read.is.names) z
             in_pipe_then =
-                subst (λ (y : List ℕ). IsInPipe w order y (noted ++ (x.items ++ read.items)) direct first i rs roots elem (kids_of read.is.v) (read_to (state_of z) read.is.seen read.is.names) z) (append_assoc fetched x.octets read.octets)
-                (subst (λ (y : List Item). IsInPipe w order ((fetched ++ x.octets) ++ read.octets) y direct first i rs roots elem (kids_of read.is.v) (read_to (state_of z) read.is.seen read.is.names) z) (append_assoc noted x.items read.items)
-                (elements.elements_done plan w legal order fetched noted direct first i r.of rs roots elem run of_plan done k0 m n p moved x.octets x.items x.k (begun - 1) (many - begun) (suc (many - 1)) parts after x.is_at
+                subst (λ (y : List ℕ). IsInPipe w order y (noted ++ (x.items ++ read.items)) direct first i rs roots elem (kids_of read.is.v) (read_to (state_of z) read.is.seen read.is.names) z)
+                (append_assoc fetched x.octets read.octets)
+                (subst (λ (y : List Item). IsInPipe w order ((fetched ++ x.octets) ++ read.octets) y direct first i rs roots elem (kids_of read.is.v)
+                (read_to (state_of z) read.is.seen read.is.names) z) (append_assoc noted x.items read.items)
+                (elements.elements_done plan w legal order fetched noted direct first i r.of rs roots elem run of_plan done k0 m n p moved x.octets x.items x.k (begun - 1) (many - begun)
+                (suc (many - 1)) parts after x.is_at
                 o (begun - 1) begun refl one_more begins built at_home z out b notes ends none_left))
 
             as_many_then : count (kids_of read.is.v) ≡ so_far + begun
             as_many_then =
                 let more : count (kids_of read.is.v) ≡ count done + suc (begun - 1) =
-                elements.its_count plan w legal order fetched noted direct first i r.of rs roots elem run of_plan done k0 m n p moved x.octets x.items x.k (begun - 1) (many - begun) (suc (many - 1)) parts after x.is_at
+                elements.its_count plan w legal order fetched noted direct first i r.of rs roots elem run of_plan done k0 m n p moved x.octets x.items x.k (begun - 1) (many - begun)
+                (suc (many - 1)) parts after x.is_at
                 o (begun - 1) begun refl one_more begins built at_home z out b notes ends in
                 omega (arith, more, as_many, begun_some)
 
-            some_comes : (j : ℕ) → 0 < j → ElementsRead w order fetched noted direct first i rs roots elem m.cells e u z (so_far + j) → ChunkComes w order fetched noted direct first i rs roots elem so_far m.cells e u z (Ok j)
+            some_comes : (j : ℕ) → 0 < j → ElementsRead w order fetched noted direct first i rs roots elem m.cells e u z (so_far + j)
+                → ChunkComes w order fetched noted direct first i rs roots elem so_far m.cells e u z (Ok j)
             some_comes zero l y = absurd (omega (arith, l))
             some_comes (suc j) l y = y
 

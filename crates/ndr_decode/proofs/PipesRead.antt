@@ -1,7 +1,8 @@
 -- The pipes of a stream, one after the other: from the agreements of the parameters to the end of the stream.
 -- `x` is the stream before its pipes, `m` the machine so far, `z` the one after the next pipe; `a` and `s` are what was seen so far, `b` and `t` over the next pipe,
 -- `e` and `u` over both; `passed` is how many pipes were read.
-use Rattle.std.proofs.Common.{◌≡◌, ◌≤◌, ◌<◌, ℕ, ◌+◌, ◌*◌, zero, suc, Bool, List, [], ◌∷◌, ◌++◌, length, map, drop, Option, Some, None, Result, Ok, Err, IsErrAnd, refl, ap, sym, ◌∙◌, subst, arith, append_assoc}
+use Rattle.std.proofs.Common.{◌≡◌, ◌≤◌, ◌<◌, ℕ, ◌+◌, ◌*◌, zero, suc, Bool, List, [], ◌∷◌, ◌++◌, length, map, drop, Option, Some, None, Result, Ok, Err, IsErrAnd, refl, ap, sym, ◌∙◌, subst, arith}
+use Rattle.std.proofs.Common.{append_assoc}
 use Rattle.std.specs.Prelude.{slice_get}
 use Rattle.std.specs.List.{AllByRecursion}
 use Rattle.std.proofs.lemmas.List.{append-nil}
@@ -87,7 +88,8 @@ within (y ∷ ys) zero x e = omega arith
 within (y ∷ ys) (suc i) x e = let l : i < length ys = within ys i x e in omega (arith, l)
 
 -- So many pipes of the side were read.
-pub record PipesRead (w : Setting) (order : Order) (fetched : List ℕ) (noted : List Item) (direct : ℕ) (first : Names) (cells : ℕ) (source : SourceSeen) (t : DecodingSeen) (m : Machine) (passed : ℕ) : Type 0 where
+pub record PipesRead (w : Setting) (order : Order) (fetched : List ℕ) (noted : List Item) (direct : ℕ) (first : Names) (cells : ℕ) (source : SourceSeen) (t : DecodingSeen) (m : Machine)
+    (passed : ℕ) : Type 0 where
   pub octets : List ℕ
   pub items : List Item
   pub i : ℕ
@@ -107,7 +109,8 @@ PipesGoOn plan n side order begin x source t y next number =
     → Stands w legal order fetched noted direct x s seen [] 0 → TestsPass w order fetched noted direct (between_of x) s seen (parameter_tests w s)
     → (passed : ℕ) × (PipesRead w order fetched noted direct s.names (cells_of x) source t y.machine passed × ((next ≡ begin + passed) × (number ≡ length y.machine.builder.graph.roots)))
 
-module _ (plan : Plan) (n : ℕ) (side : Side) (order : Order) (w : Setting) (legal : IsLegalSide w) (setting : IsSettingOf plan n side w) (fetched : List ℕ) (noted : List Item) (direct : ℕ) (x : Stream) (s : Reading) (seen : List EntryAt)
+module _ (plan : Plan) (n : ℕ) (side : Side) (order : Order) (w : Setting) (legal : IsLegalSide w) (setting : IsSettingOf plan n side w) (fetched : List ℕ) (noted : List Item) (direct : ℕ)
+    (x : Stream) (s : Reading) (seen : List EntryAt)
     (st : Stands w legal order fetched noted direct x s seen [] 0) (hold : TestsPass w order fetched noted direct (between_of x) s seen (parameter_tests w s)) where
   abbrev b0 : Between
   b0 = between_of x
@@ -167,7 +170,8 @@ module _ (plan : Plan) (n : ℕ) (side : Side) (order : Order) (w : Setting) (le
         values = λ c. ap (λ (g : Graph). cell_at g c) graph_now;
       }
 
-  pub none_read : (o : Option (List ℕ)) (ended : Bool) (faults : Count) (g : Logged) (steps : ℕ) → PipesRead w order fetched noted direct s.names (cells_of x) (idle_source o ended faults) (idle_log g steps) x.machine 0
+  pub none_read : (o : Option (List ℕ)) (ended : Bool) (faults : Count) (g : Logged) (steps : ℕ)
+      → PipesRead w order fetched noted direct s.names (cells_of x) (idle_source o ended faults) (idle_log g steps) x.machine 0
   none_read o ended faults g steps = record {
     octets = [];
     items = [];
@@ -213,7 +217,8 @@ module _ (plan : Plan) (n : ℕ) (side : Side) (order : Order) (w : Setting) (le
         absurd (no_pipe_line plan n side w setting l.name l.at (ap (λ j. slice_get plan.entries (first_line plan n side w setting + j)) (sym z) ∙ l.entry))
     by_line (r ∷ rest) e elem l =
         let (there, left) = first_left passed side_pipes r rest (p.left ∙ e) in
-        let each : AllByRecursion (IsPipeRoot w.table) (r ∷ rest) = subst (AllByRecursion (IsPipeRoot w.table)) (p.left ∙ e) (each_left (IsPipeRoot w.table) passed side_pipes (laid_out w legal).pipes) in
+        let each : AllByRecursion (IsPipeRoot w.table) (r ∷ rest) =
+        subst (AllByRecursion (IsPipeRoot w.table)) (p.left ∙ e) (each_left (IsPipeRoot w.table) passed side_pipes (laid_out w legal).pipes) in
         let is : IsPipeRoot w.table r = each.0 in
         let h : HasLine plan n side w setting passed is.elem = pipe_line plan n side w setting passed r is.elem there is.type_is in
         let at : l.at ≡ h.at = same_place l.name h.name l.at h.at (same_Some _ _ (sym l.entry ∙ h.entry)) in
@@ -224,7 +229,8 @@ module _ (plan : Plan) (n : ℕ) (side : Side) (order : Order) (w : Setting) (le
           split = e;
           there = there;
           left = left;
-          by_plan = record { table = setting.table; there = is.type_is; run_is = one_run plan.code h.at elem (place_at w.table is.elem.0) (subst (λ j. CallsPipe plan.code j elem) at l.calls) h.calls };
+          by_plan =
+              record { table = setting.table; there = is.type_is; run_is = one_run plan.code h.at elem (place_at w.table is.elem.0) (subst (λ j. CallsPipe plan.code j elem) at l.calls) h.calls };
         }
       where
         same_place : (u v : List ℕ) (y z : ℕ) → line.Entry n side u y ≡ line.Entry n side v z → y ≡ z
@@ -251,7 +257,8 @@ module _ (plan : Plan) (n : ℕ) (side : Side) (order : Order) (w : Setting) (le
             absurd (no_pipe_line plan n side w setting name at (ap (λ j. slice_get plan.entries (first_line plan n side w setting + j)) (sym z) ∙ there))
         go (r ∷ rest) e =
             let (here, left) = first_left passed side_pipes r rest (p.left ∙ e) in
-            let each : AllByRecursion (IsPipeRoot w.table) (r ∷ rest) = subst (AllByRecursion (IsPipeRoot w.table)) (p.left ∙ e) (each_left (IsPipeRoot w.table) passed side_pipes (laid_out w legal).pipes) in
+            let each : AllByRecursion (IsPipeRoot w.table) (r ∷ rest) =
+            subst (AllByRecursion (IsPipeRoot w.table)) (p.left ∙ e) (each_left (IsPipeRoot w.table) passed side_pipes (laid_out w legal).pipes) in
             let is : IsPipeRoot w.table r = each.0 in
             let h : HasLine plan n side w setting passed is.elem = pipe_line plan n side w setting passed r is.elem here is.type_is in
             let at_is : h.at ≡ at = same_place h.name name h.at at (same_Some _ _ (sym h.entry ∙ there)) in
@@ -264,7 +271,8 @@ module _ (plan : Plan) (n : ℕ) (side : Side) (order : Order) (w : Setting) (le
     none_by [] e none = e
     none_by (r ∷ rest) e none =
         let (there, left) = first_left passed side_pipes r rest (p.left ∙ e) in
-        let each : AllByRecursion (IsPipeRoot w.table) (r ∷ rest) = subst (AllByRecursion (IsPipeRoot w.table)) (p.left ∙ e) (each_left (IsPipeRoot w.table) passed side_pipes (laid_out w legal).pipes) in
+        let each : AllByRecursion (IsPipeRoot w.table) (r ∷ rest) =
+        subst (AllByRecursion (IsPipeRoot w.table)) (p.left ∙ e) (each_left (IsPipeRoot w.table) passed side_pipes (laid_out w legal).pipes) in
         let is : IsPipeRoot w.table r = each.0 in
         let h : HasLine plan n side w setting passed is.elem = pipe_line plan n side w setting passed r is.elem there is.type_is in
         absurd (none h.name h.at h.entry)
@@ -365,6 +373,7 @@ module _ (plan : Plan) (n : ℕ) (side : Side) (order : Order) (w : Setting) (le
         )
 
   -- a fault comes
-  pub ends_faulty : (source : SourceSeen) (t : DecodingSeen) (y : Stream) (v : DecodeFault) → FaultOf the_stream w order fetched noted (cells_of x) source t v → (result : Result (Unit {0}) DecodeFault) → IsErrAnd result (λ e. e ≡ v)
+  pub ends_faulty : (source : SourceSeen) (t : DecodingSeen) (y : Stream) (v : DecodeFault) → FaultOf the_stream w order fetched noted (cells_of x) source t v
+      → (result : Result (Unit {0}) DecodeFault) → IsErrAnd result (λ e. e ≡ v)
       → EndComes w order fetched noted (cells_of x) source t y result
   ends_faulty source t y v f result is = subst (EndComes w order fetched noted (cells_of x) source t y) (faulty result v is) f

@@ -71,7 +71,8 @@ pub placed_ends : (w : Setting) (side : IsLegalSide w) (order : Order) (fetched 
     → Stands w side order fetched noted direct x s seen [] (suc n) → (r : Root) → slice_get (root_list w) (length s.roots) ≡ Some r → is_direct (type_at w.table r.of) ≡ false
     → s1.machine.builder ≡ opened (home.Root (length x.machine.builder.graph.roots)) (with_root (closed x.machine.builder)) x.machine.builder → (state_of s1.machine).cells ≡ (between_of x).cells
     → KeepsAll x s2 → outside s2.machine ≡ outside s1.machine → (source : SourceSeen) (t : DecodingSeen)
-    → HomeWhole order w.table (home.Root (length s.roots)) r.of direct (home_target w order (between_of x) seen (home.Root (length s.roots)) r.of s.names) fetched noted (length (state_of s1.machine).cells) source t (state_of s2.machine)
+    → HomeWhole order w.table (home.Root (length s.roots)) r.of direct (home_target w order (between_of x) seen (home.Root (length s.roots)) r.of s.names) fetched noted
+    (length (state_of s1.machine).cells) source t (state_of s2.machine)
     → RootEnds s2 s3 → WentOn w side order fetched noted (cells_of x) source t s3 n
 placed_ends w side order fetched noted direct x s1 s2 s3 s seen n st r there plain opens cells keeps out source t hw re =
     let b : Building = x.machine.builder in
@@ -86,7 +87,8 @@ placed_ends w side order fetched noted direct x s1 s2 s3 s seen n st r there pla
     let after = law.after w side order fetched noted direct (between_of x) s seen n st.agrees r there plain hw.octets hw.all (noted ++ hw.items) (state_of m) hw.is hw.needed in
     let new = law.new w side order fetched noted direct (between_of x) s seen n st.agrees r there plain hw.octets hw.all (noted ++ hw.items) (state_of m) hw.is hw.needed in
     let agrees : Agrees w side order (fetched ++ hw.octets) (noted ++ hw.items) direct (root_read (between_of x) (state_of m) re.k (closed m.builder)) after hw.is.seen new n =
-    law.root_ends w side order fetched noted direct (between_of x) s seen n st.agrees r there plain hw.octets hw.all (noted ++ hw.items) (state_of m) hw.is hw.needed (closed m.builder) added re.k (record { own = own; cell = re.cell }) in
+    law.root_ends w side order fetched noted direct (between_of x) s seen n st.agrees r there plain hw.octets hw.all (noted ++ hw.items) (state_of m) hw.is hw.needed (closed m.builder) added re.k
+    (record { own = own; cell = re.cell }) in
     record {
       octets = hw.octets;
       items = hw.items;

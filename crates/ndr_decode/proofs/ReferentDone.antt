@@ -19,7 +19,7 @@ use Rattle.nd_flat.specs.Building.{Building, CanClose, closed, opened}
 use Rattle.nd_grammar.specs.Entry.{EntryAt}
 use Rattle.nd_grammar.specs.LegalSide.{IsLegalSide}
 use Rattle.nd_grammar.specs.StreamReader.{Reading}
-use Rattle.nd_grammar.proofs.reader.ReaderMoves.{paid}
+use Rattle.nd_grammar.specs.ReaderState.{paid}
 use Rattle.nd_grammar.proofs.reader.ReaderNames.{longer}
 use Rattle.nd_grammar.proofs.reader.ReaderStates.{WholeRead, read_wholly}
 use Rattle.ndr_decoder_laws.specs.reader.Around.{going}
@@ -47,11 +47,13 @@ use Rattle.ndr_decode.proofs.ReferentReads.{cell_there, its_usable}
 abbrev kept_by : ℕ → List steps.Owed → Building → List (ℕ × Known) → List KeptRoot → List (Option Kept) → Between
 kept_by at os u ns roots read = record { at = at; pending = os; cells = map (λ c. c.of) u.graph.cells; numbers = ns; roots = roots; read = read; graph = closed u }
 
-module _ (w : Setting) (side : IsLegalSide w) (order : Order) (fetched : List ℕ) (noted : List Item) (direct : ℕ) (o : Owed) (x : Stream) (s : Reading) (seen : List EntryAt) (p : Pending) (ps : List Pending) (n : ℕ)
+module _ (w : Setting) (side : IsLegalSide w) (order : Order) (fetched : List ℕ) (noted : List Item) (direct : ℕ) (o : Owed) (x : Stream) (s : Reading) (seen : List EntryAt) (p : Pending)
+    (ps : List Pending) (n : ℕ)
     (st : StandsWith w side order fetched noted direct o x s seen p ps n) (c : CellId) (some : o.cell ≡ Some c) (unread : o.class ≡ Full → kept_at x.cells.items c.0 ≡ None)
     (source : SourceSeen) (t : DecodingSeen) (s1 s2 : Stream) (opens : s1.machine.builder ≡ opened (cell_home c.0) (closed x.machine.builder) x.machine.builder)
     (cells : (state_of s1.machine).cells ≡ (between_of x).cells) (keeps : KeepsAll x s2) (out : outside s2.machine ≡ outside s1.machine)
-    (hw : HomeWhole order w.table (cell_home c.0) p.to direct (home_target w order (between_of x) seen (cell_home c.0) p.to s.names) fetched noted (length (state_of s1.machine).cells) source t (state_of s2.machine)) where
+    (hw : HomeWhole order w.table (cell_home c.0) p.to direct (home_target w order (between_of x) seen (cell_home c.0) p.to s.names) fetched noted (length (state_of s1.machine).cells) source t
+    (state_of s2.machine)) where
   ag : Agrees w side order fetched noted direct (with_next o x) s seen (p ∷ ps) n
   ag = st.agrees
 
@@ -74,10 +76,12 @@ module _ (w : Setting) (side : IsLegalSide w) (order : Order) (fetched : List �
   all_there : AreOctets ((fetched ++ hw.octets) ++ [])
   all_there = all_append (λ b. b < 256) (fetched ++ hw.octets) [] (all_append (λ b. b < 256) fetched hw.octets ag.octets hw.all) tt
 
-  wholly : WholeRead w side order ((fetched ++ hw.octets) ++ []) all_there (cell_home c.0) p.to (going x.machine.at seen) s.names (record { tree = hw.is.v; progress = going m.at hw.is.seen; names = hw.is.names })
+  wholly : WholeRead w side order ((fetched ++ hw.octets) ++ []) all_there (cell_home c.0) p.to (going x.machine.at seen) s.names
+      (record { tree = hw.is.v; progress = going m.at hw.is.seen; names = hw.is.names })
   wholly =
       subst (WholeRead w side order ((fetched ++ hw.octets) ++ []) all_there (cell_home c.0) p.to (going x.machine.at seen) s.names) (sym (hw.is.is []))
-      (read_wholly w side order ((fetched ++ hw.octets) ++ []) all_there (cell_home c.0) p.to (its_usable w side order fetched noted direct o x s seen p ps n st c some unread) (going x.machine.at seen) s.names)
+      (read_wholly w side order ((fetched ++ hw.octets) ++ []) all_there (cell_home c.0) p.to (its_usable w side order fetched noted direct o x s seen p ps n st c some unread)
+      (going x.machine.at seen) s.names)
 
   still_there : c.0 ≤ length m.builder.graph.cells
   still_there =

@@ -54,7 +54,8 @@ positive : (cells : List Referent) (c : ℕ) (y : Referent) → cell_in cells c 
 positive cells zero y e = cc
 positive cells (suc i) y e = omega arith
 
-module _ (w : Setting) (side : IsLegalSide w) (order : Order) (fetched : List ℕ) (noted : List Item) (direct : ℕ) (o : Owed) (x : Stream) (s : Reading) (seen : List EntryAt) (p : Pending) (ps : List Pending) (n : ℕ)
+module _ (w : Setting) (side : IsLegalSide w) (order : Order) (fetched : List ℕ) (noted : List Item) (direct : ℕ) (o : Owed) (x : Stream) (s : Reading) (seen : List EntryAt) (p : Pending)
+    (ps : List Pending) (n : ℕ)
     (st : StandsWith w side order fetched noted direct o x s seen p ps n) (c : CellId) (some : o.cell ≡ Some c) (unread : o.class ≡ Full → kept_at x.cells.items c.0 ≡ None) where
   ag : Agrees w side order fetched noted direct (with_next o x) s seen (p ∷ ps) n
   ag = st.agrees

@@ -71,6 +71,7 @@ module _ (w : Setting) (side : IsLegalSide w) (order : Order) (fetched : List �
       (few_now w side order fetched noted direct b s seen [] (suc n) agrees) x1 e ends
 
   -- what the value is
-  pub root_whole : (source : SourceSeen) (notes : NotesSeen) (x1 : State) → ((more : List ℕ) (items : List Item) (y : State) → Reaches values order code here x more items y → y.at ≤ STREAM_LIMIT) → EndsWhole values order code here x source notes x1
+  pub root_whole : (source : SourceSeen) (notes : NotesSeen) (x1 : State) → ((more : List ℕ) (items : List Item) (y : State) → Reaches values order code here x more items y → y.at ≤ STREAM_LIMIT)
+      → EndsWhole values order code here x source notes x1
       → HomeWhole order w.table here r.of direct target fetched noted (length x.cells) source (decoding_of notes) x1
   root_whole source notes x1 within ends = whole_comes values order code w.table here r.of 32 direct target planned fetched noted x root_good source notes x1 within ends

@@ -110,7 +110,8 @@ follows left ended faults x y z f g h k l m = record {
 }
 
 -- a fault that is handed on
-pub handed_on : (plan : Plan) (op : ℕ) (side : Side) (order : Order) (x : Stream) (source : SourceSeen) (t : DecodingSeen) (y : Stream) (r : Result Found DecodeFault) (e : DecodeFault) → IsErrAnd r (λ d. d ≡ e)
+pub handed_on : (plan : Plan) (op : ℕ) (side : Side) (order : Order) (x : Stream) (source : SourceSeen) (t : DecodingSeen) (y : Stream) (r : Result Found DecodeFault) (e : DecodeFault)
+    → IsErrAnd r (λ d. d ≡ e)
     → ((w : Setting) → IsLegalSide w → IsSettingOf plan op side w → FaultOf the_head w order [] [] (cells_of x) source t e) → RootsRead plan order op side x source t y r
 handed_on plan op side order x source t y (Ok f) e is h = absurd is
 handed_on plan op side order x source t y (Err d) e is h = λ w legal set. subst (λ (k : DecodeFault). FaultOf the_head w order [] [] (cells_of x) source t k) (sym is) (h w legal set)
@@ -254,7 +255,8 @@ module _ (plan : Plan) (op : ℕ) (side : Side) (order : Order) where
           let h = root_here cells a s y number w legal set r m sd name at is in
           let g = r.to.went in
           let that : WentOn w legal order g.octets g.items (cells_of y) b t z h.others =
-          reads (root_by w.table h.r.of (type_at w.table h.r.of)) h.instr w legal g.octets g.items g.direct g.s g.seen h.others set.table (root_stands cells a s y number w legal set r at h) h.r h.there refl in
+          reads (root_by w.table h.r.of (type_at w.table h.r.of)) h.instr w legal g.octets g.items g.direct g.s g.seen h.others set.table
+          (root_stands cells a s y number w legal set r at h) h.r h.there refl in
           let here = r.to.here in
           let left = h.left in
           record {
@@ -271,7 +273,8 @@ module _ (plan : Plan) (op : ℕ) (side : Side) (order : Order) where
           let h = root_here cells a s y number w legal set r m sd name at is in
           let g = r.to.went in
           then_fault w legal order [] [] cells a b c s t u f g.octets g.items (cells_of y) g.took the_head low same e
-          (reads (root_by w.table h.r.of (type_at w.table h.r.of)) h.instr w legal g.octets g.items g.direct g.s g.seen h.others set.table (root_stands cells a s y number w legal set r at h) h.r h.there refl)
+          (reads (root_by w.table h.r.of (type_at w.table h.r.of)) h.instr w legal g.octets g.items g.direct g.s g.seen h.others set.table
+          (root_stands cells a s y number w legal set r at h) h.r h.there refl)
 
     module _ (goes : AllWent plan op side order cells a s y number) where
       pub pending_went : (v : Unit {0}) → PendingReads plan order y b t z (Ok v) → AllRest plan op side order cells c u z number

@@ -43,7 +43,8 @@ use Rattle.ndr_decode.proofs.Standing.{idle_log, idle_source, not_cut, refused_h
 
 -- ## A fault that is handed on
 
-pub end_fault : (w : Setting) (order : Order) (fetched : List ℕ) (noted : List Item) (cells : ℕ) (source : SourceSeen) (t : DecodingSeen) (z : Stream) (r : Result (Unit {0}) DecodeFault) (e : DecodeFault)
+pub end_fault : (w : Setting) (order : Order) (fetched : List ℕ) (noted : List Item) (cells : ℕ) (source : SourceSeen) (t : DecodingSeen) (z : Stream) (r : Result (Unit {0}) DecodeFault)
+    (e : DecodeFault)
     → IsErrAnd r (λ k. k ≡ e) → FaultOf the_stream w order fetched noted cells source t e → EndComes w order fetched noted cells source t z r
 end_fault w order fetched noted cells source t z (Ok u) e is x = absurd is
 end_fault w order fetched noted cells source t z (Err k) e is x = subst (FaultOf the_stream w order fetched noted cells source t) (sym is) x
@@ -129,7 +130,8 @@ module _ (plan : Plan) (number : ℕ) (way : Side) (order : Order) (w : Setting)
           let none : a.faults.before ≤ a.faults.before = omega arith in
           then_fault w legal order [] [] (cells_of x) a (idle_source a.left_now a.ended a.faults) a s (idle_log s.log_now s.steps_now) s follows went.0.octets went.0.items (cells_of y) went.0.took
           the_head none refl (fault.Bad place why)
-          (refused_here a.left_now a.ended a.faults s.log_now s.steps_now w legal order went.0.octets went.0.items went.0.direct (between_of y) went.0.s went.0.seen [] 0 (cells_of y) y.machine.at place why
+          (refused_here a.left_now a.ended a.faults s.log_now s.steps_now w legal order went.0.octets went.0.items went.0.direct (between_of y) went.0.s went.0.seen [] 0
+          (cells_of y) y.machine.at place why
           (cells_are y) ag (never_cut y.cells.items y.roots.items w.given place why (drop at plan.code) e)
           (parameter_fails w legal order went.0.octets went.0.items went.0.direct (between_of y) went.0.s went.0.seen ag plan.code at (checks_here at here) (place, why) e))
         where

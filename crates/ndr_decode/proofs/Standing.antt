@@ -116,7 +116,8 @@ module _ (o : Option (List ℕ)) (ended : Bool) (faults : Count) (g : Logged) (k
 
     -- ## An agreement is refused
 
-    pub refused_here : (b : Between) (s : Reading) (seen : List EntryAt) (ps : List Pending) (n m at place : ℕ) (why : Reason) → m ≡ length b.cells → Agrees w side order fetched noted direct b s seen ps n
+    pub refused_here : (b : Between) (s : Reading) (seen : List EntryAt) (ps : List Pending) (n m at place : ℕ) (why : Reason) → m ≡ length b.cells
+        → Agrees w side order fetched noted direct b s seen ps n
         → (why ≡ reason.Truncated → ⊥) → IsRefusedAfter w order fetched noted (length b.cells) direct at (place, why)
         → Refused the_head w order fetched noted m (idle_source o ended faults) (idle_log g k) place why
     refused_here b s seen ps n m at place why e ag other r =
@@ -178,7 +179,8 @@ module _ (w : Setting) (side : IsLegalSide w) (order : Order) (fetched : List �
   then_went x n g = then_went_taking None x n g
 
   -- a fault, where the source's count of faults had not fallen before
-  pub then_fault : (reach : Extent) → c.faults.before ≤ b.faults.before → c.faults.now ≡ b.faults.now → (e : DecodeFault) → FaultOf reach w order (fetched ++ octets) (noted ++ xs) n1 b t e → FaultOf reach w order fetched noted n0 c u e
+  pub then_fault : (reach : Extent) → c.faults.before ≤ b.faults.before → c.faults.now ≡ b.faults.now → (e : DecodeFault) → FaultOf reach w order (fetched ++ octets) (noted ++ xs) n1 b t e
+      → FaultOf reach w order fetched noted n0 c u e
   then_fault reach l m (fault.Bad place why) x = took_then_refused a b c s t u f reach w order fetched noted n0 n1 octets xs took place why x
   then_fault reach l m fault.ReadFault x = (took_then_unread a b c s t u f reach w order fetched noted n0 n1 octets xs took x.0, rose c.faults.before b.faults.before b.faults.now c.faults.now l m x.1)
     where

@@ -1,7 +1,8 @@
 -- What reading pipes comes to.
--- `plan` is a plan, `w` a setting of its interface, `fetched` are the octets that were fetched and `noted` the items that were noted before the call, `i` is the
--- number of the pipe's root, `rs` are the roots after it, `roots` the values of those before it, `elem` is the type of its elements and `run` their run, `k` the
--- position, `m` the machine, `n` the machine after the call, `source` and `t` are what was seen of the source, the log and the steps over it.
+-- `plan` is a plan, `w` a setting of its interface, `fetched` are the octets that were fetched and `noted` the items that were noted before the call,
+-- `i` is the number of the pipe's root, `rs` are the roots after it, `roots` the values of those before it, `elem` is the type of its elements and
+-- `run` their run, `k` the position, `m` the machine, `n` the machine after the call, `source` and `t` are what was seen of the source, the log and
+-- the steps over it.
 use Rattle.std.specs.Prelude.{◌≡◌, ◌≤◌, ℕ, ◌+◌, ◌*◌, zero, suc, List, [], ◌∷◌, ◌++◌, length, map, Option, Some, None, Result, Ok, Err}
 use Rattle.std.specs.List.{slice_get}
 use Rattle.nd_base.specs.declared.octets.Order.{Order}
@@ -75,7 +76,8 @@ pub record IsPipeBy (plan : Plan) (w : Setting) (pipe : ℕ) (elem : TypeId) (ru
 -- ## Between two pipes
 
 -- The machine is before these pipes: the graph has the roots before them, and the home that is open is whole.
-pub record IsBefore (w : Setting) (order : Order) (fetched : List ℕ) (noted : List Item) (direct : ℕ) (first : Names) (i : ℕ) (rs : List Root) (roots : List Tree) (k : Position) (m : Machine) : Type 0 where
+pub record IsBefore (w : Setting) (order : Order) (fetched : List ℕ) (noted : List Item) (direct : ℕ) (first : Names) (i : ℕ) (rs : List Root)
+    (roots : List Tree) (k : Position) (m : Machine) : Type 0 where
   pub in_pipes : InPipes w order fetched noted direct first i rs roots k
   pub few : direct ≤ length (direct_roots w)
   pub at : m.at ≡ k.at
@@ -89,7 +91,8 @@ pub record IsBefore (w : Setting) (order : Order) (fetched : List ℕ) (noted : 
   pub values : (c : ℕ) → cell_at (closed m.builder) c ≡ cell_at (graph_of [] first) c
 
 -- a pipe more was read
-pub record PipeRead (w : Setting) (order : Order) (fetched : List ℕ) (noted : List Item) (direct : ℕ) (first : Names) (i : ℕ) (rs : List Root) (roots : List Tree) (cells : ℕ) (source : SourceSeen) (t : DecodingSeen) (m : Machine) : Type 0 where
+pub record PipeRead (w : Setting) (order : Order) (fetched : List ℕ) (noted : List Item) (direct : ℕ) (first : Names) (i : ℕ) (rs : List Root)
+    (roots : List Tree) (cells : ℕ) (source : SourceSeen) (t : DecodingSeen) (m : Machine) : Type 0 where
   pub octets : List ℕ
   pub items : List Item
   pub v : Tree
@@ -97,15 +100,20 @@ pub record PipeRead (w : Setting) (order : Order) (fetched : List ℕ) (noted : 
   pub before : IsBefore w order (fetched ++ octets) (noted ++ items) direct first (i + 1) rs (roots ++ v ∷ []) k m
   pub took : Took source t cells octets items m.cells
 
-abbrev pub PipeComes : Setting → Order → List ℕ → List Item → ℕ → Names → ℕ → List Root → List Tree → ℕ → SourceSeen → DecodingSeen → Machine → Result (Unit {0}) DecodeFault → Type 0
-PipeComes w order fetched noted direct first i rs roots cells source t m (Ok u) = PipeRead w order fetched noted direct first i rs roots cells source t m
+abbrev pub PipeComes : Setting → Order → List ℕ → List Item → ℕ → Names → ℕ → List Root → List Tree → ℕ → SourceSeen → DecodingSeen → Machine
+    → Result (Unit {0}) DecodeFault → Type 0
+PipeComes w order fetched noted direct first i rs roots cells source t m (Ok u) =
+    PipeRead w order fetched noted direct first i rs roots cells source t m
 PipeComes w order fetched noted direct first i rs roots cells source t m (Err e) = FaultOf the_stream w order fetched noted cells source t e
 
 -- the next pipe, whose elements have the run at an address
 abbrev pub PipeReads : Plan → Order → ℕ → ℕ → Machine → SourceSeen → DecodingSeen → Machine → Result (Unit {0}) DecodeFault → Type 0
 PipeReads plan order i run m source t n result =
-    (w : Setting) → IsLegalSide w → (fetched : List ℕ) (noted : List Item) (direct : ℕ) (first : Names) (r : Root) (rs : List Root) (roots : List Tree) (k : Position) (elem : TypeId)
-    → IsPipeBy plan w r.of elem run → IsBefore w order fetched noted direct first i (r ∷ rs) roots k m → PipeComes w order fetched noted direct first i rs roots m.cells source t n result
+    (w : Setting) → IsLegalSide w
+    → (fetched : List ℕ) (noted : List Item) (direct : ℕ) (first : Names) (r : Root) (rs : List Root) (roots : List Tree) (k : Position)
+    (elem : TypeId)
+    → IsPipeBy plan w r.of elem run → IsBefore w order fetched noted direct first i (r ∷ rs) roots k m
+    → PipeComes w order fetched noted direct first i rs roots m.cells source t n result
 
 -- The next pipe, whose elements have this run, is due.
 pub record IsAtPipe (plan : Plan) (order : Order) (i run : ℕ) (m : Machine) : Type 0 where
@@ -126,7 +134,8 @@ pub record IsAtPipe (plan : Plan) (order : Order) (i run : ℕ) (m : Machine) : 
 -- ## Within a pipe
 
 -- The machine is before a chunk of the pipe that is open, of which these elements were read. Before the pipe, whose root is the next, this was built.
-pub record IsInPipe (w : Setting) (order : Order) (fetched : List ℕ) (noted : List Item) (direct : ℕ) (first : Names) (i : ℕ) (rs : List Root) (roots : List Tree) (elem : TypeId) (done : Trees) (k : Position) (m : Machine) : Type 0 where
+pub record IsInPipe (w : Setting) (order : Order) (fetched : List ℕ) (noted : List Item) (direct : ℕ) (first : Names) (i : ℕ) (rs : List Root)
+    (roots : List Tree) (elem : TypeId) (done : Trees) (k : Position) (m : Machine) : Type 0 where
   pub in_pipe : InPipe w order fetched noted direct first i rs roots elem done m.max_at 4 (at_chunk w order i elem done k) k
   pub few : direct ≤ length (direct_roots w)
   pub is_at : IsAt i k m
@@ -139,7 +148,8 @@ pub record IsInPipe (w : Setting) (order : Order) (fetched : List ℕ) (noted : 
   pub ran : HomeRan (opened (home.Root (length b.graph.roots)) (with_root (closed b)) b) m.builder
 
 -- so many elements of the pipe were read
-pub record ElementsRead (w : Setting) (order : Order) (fetched : List ℕ) (noted : List Item) (direct : ℕ) (first : Names) (i : ℕ) (rs : List Root) (roots : List Tree) (elem : TypeId) (cells : ℕ) (source : SourceSeen) (t : DecodingSeen) (m : Machine) (many : ℕ) : Type 0 where
+pub record ElementsRead (w : Setting) (order : Order) (fetched : List ℕ) (noted : List Item) (direct : ℕ) (first : Names) (i : ℕ) (rs : List Root)
+    (roots : List Tree) (elem : TypeId) (cells : ℕ) (source : SourceSeen) (t : DecodingSeen) (m : Machine) (many : ℕ) : Type 0 where
   pub octets : List ℕ
   pub items : List Item
   pub done : Trees
@@ -149,15 +159,21 @@ pub record ElementsRead (w : Setting) (order : Order) (fetched : List ℕ) (note
   pub took : Took source t cells octets items m.cells
 
 -- after a chunk of no elements the pipe was read, after another one the pipe has so many more
-abbrev pub ChunkComes : Setting → Order → List ℕ → List Item → ℕ → Names → ℕ → List Root → List Tree → TypeId → ℕ → ℕ → SourceSeen → DecodingSeen → Machine → Result ℕ DecodeFault → Type 0
-ChunkComes w order fetched noted direct first i rs roots elem so_far cells source t m (Ok zero) = PipeRead w order fetched noted direct first i rs roots cells source t m
-ChunkComes w order fetched noted direct first i rs roots elem so_far cells source t m (Ok (suc c)) = ElementsRead w order fetched noted direct first i rs roots elem cells source t m (so_far + suc c)
-ChunkComes w order fetched noted direct first i rs roots elem so_far cells source t m (Err e) = FaultOf the_stream w order fetched noted cells source t e
+abbrev pub ChunkComes : Setting → Order → List ℕ → List Item → ℕ → Names → ℕ → List Root → List Tree → TypeId → ℕ → ℕ → SourceSeen → DecodingSeen
+    → Machine → Result ℕ DecodeFault → Type 0
+ChunkComes w order fetched noted direct first i rs roots elem so_far cells source t m (Ok zero) =
+    PipeRead w order fetched noted direct first i rs roots cells source t m
+ChunkComes w order fetched noted direct first i rs roots elem so_far cells source t m (Ok (suc c)) =
+    ElementsRead w order fetched noted direct first i rs roots elem cells source t m (so_far + suc c)
+ChunkComes w order fetched noted direct first i rs roots elem so_far cells source t m (Err e) =
+    FaultOf the_stream w order fetched noted cells source t e
 
 -- the next chunk
 abbrev pub ChunkReads : Plan → Order → ℕ → ℕ → ℕ → Machine → SourceSeen → DecodingSeen → Machine → Result ℕ DecodeFault → Type 0
 ChunkReads plan order i run so_far m source t n result =
-    (w : Setting) → IsLegalSide w → (fetched : List ℕ) (noted : List Item) (direct : ℕ) (first : Names) (r : Root) (rs : List Root) (roots : List Tree) (elem : TypeId) (done : Trees) (k : Position)
+    (w : Setting) → IsLegalSide w
+    → (fetched : List ℕ) (noted : List Item) (direct : ℕ) (first : Names) (r : Root) (rs : List Root) (roots : List Tree) (elem : TypeId)
+    (done : Trees) (k : Position)
     → IsPipeBy plan w r.of elem run → count done ≡ so_far → IsInPipe w order fetched noted direct first i rs roots elem done k m
     → ChunkComes w order fetched noted direct first i rs roots elem so_far m.cells source t n result
 
@@ -202,6 +218,7 @@ EndComes w order fetched noted cells source t y (Err e) = FaultOf the_stream w o
 -- all pipes of a side
 abbrev pub StreamEnds : Plan → ℕ → Side → Order → Stream → SourceSeen → DecodingSeen → Stream → Result (Unit {0}) DecodeFault → Type 0
 StreamEnds plan o side order x source t y result =
-    (w : Setting) (legal : IsLegalSide w) (fetched : List ℕ) (noted : List Item) (direct : ℕ) (s : Reading) (seen : List EntryAt) → IsSettingOf plan o side w
+    (w : Setting) (legal : IsLegalSide w) (fetched : List ℕ) (noted : List Item) (direct : ℕ) (s : Reading) (seen : List EntryAt)
+    → IsSettingOf plan o side w
     → Stands w legal order fetched noted direct x s seen [] 0 → TestsPass w order fetched noted direct (between_of x) s seen (parameter_tests w s)
     → EndComes w order fetched noted (cells_of x) source t y result

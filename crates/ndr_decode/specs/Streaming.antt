@@ -1,6 +1,7 @@
 -- What a call of the decoder comes to, over the roots and referents of a stream.
--- `reach` is what is read of a stream, `plan` is a plan, `w` a setting of its interface, `fetched` are the octets that were fetched and `noted` the items that were noted before the call, `x` is what
--- is kept of the stream after it, `source` and `t` are what was seen of the source, the log and the steps over it, `n` is how many cells there were.
+-- `reach` is what is read of a stream, `plan` is a plan, `w` a setting of its interface, `fetched` are the octets that were fetched and `noted` the
+-- items that were noted before the call, `x` is what is kept of the stream after it, `source` and `t` are what was seen of the source, the log and
+-- the steps over it, `n` is how many cells there were.
 use Rattle.std.specs.Prelude.{◌≡◌, ◌≤◌, ℕ, ◌+◌, ◌*◌, suc, List, [], ◌∷◌, ◌++◌, length, Option, Some, None, Result, Ok, Err}
 use Rattle.std.specs.List.{slice_get}
 use Rattle.nd_base.specs.declared.octets.Order.{Order}
@@ -57,7 +58,15 @@ purpose_of x = let b : Building = x.machine.builder in record { op = b.op; side 
 abbrev pub with_taken : Option code.Owed → Stream → Between
 with_taken q x =
     let b : Between = between_of x in
-    record { at = b.at; pending = pending_with q x.wanted.items x.todo.items; cells = b.cells; numbers = b.numbers; roots = b.roots; read = b.read; graph = b.graph }
+    record {
+      at = b.at;
+      pending = pending_with q x.wanted.items x.todo.items;
+      cells = b.cells;
+      numbers = b.numbers;
+      roots = b.roots;
+      read = b.read;
+      graph = b.graph;
+    }
 
 abbrev pub with_next : code.Owed → Stream → Between
 with_next o x = with_taken (Some o) x
@@ -67,7 +76,8 @@ abbrev pub ArePaid : Stream → Option code.Owed → Stream → Type 0
 ArePaid x q y = 4 * length (with_taken q y).pending + x.machine.at ≤ 4 * length (with_taken None x).pending + y.machine.at
 
 -- What is kept of the stream is right, with the referent that was taken: so many roots that are no pipes are left, and these pointers are due.
-pub record StandsTaking (w : Setting) (side : IsLegalSide w) (order : Order) (fetched : List ℕ) (noted : List Item) (direct : ℕ) (q : Option code.Owed) (x : Stream) (s : Reading) (seen : List EntryAt) (ps : List Pending) (n : ℕ) : Type 0 where
+pub record StandsTaking (w : Setting) (side : IsLegalSide w) (order : Order) (fetched : List ℕ) (noted : List Item) (direct : ℕ)
+    (q : Option code.Owed) (x : Stream) (s : Reading) (seen : List EntryAt) (ps : List Pending) (n : ℕ) : Type 0 where
   pub agrees : Agrees w side order fetched noted direct (with_taken q x) s seen ps n
   pub within : x.machine.at ≤ STREAM_LIMIT
   pub whole : CanClose x.machine.builder
@@ -77,7 +87,8 @@ abbrev pub Stands : (w : Setting) → IsLegalSide w → Order → List ℕ → L
 Stands w side order fetched noted direct x s seen ps n = StandsTaking w side order fetched noted direct None x s seen ps n
 
 -- this one was taken
-abbrev pub StandsWith : (w : Setting) → IsLegalSide w → Order → List ℕ → List Item → ℕ → code.Owed → Stream → Reading → List EntryAt → Pending → List Pending → ℕ → Type 0
+abbrev pub StandsWith : (w : Setting) → IsLegalSide w → Order → List ℕ → List Item → ℕ → code.Owed → Stream → Reading → List EntryAt → Pending
+    → List Pending → ℕ → Type 0
 StandsWith w side order fetched noted direct o x s seen p ps n = StandsTaking w side order fetched noted direct (Some o) x s seen (p ∷ ps) n
 
 -- No referent is due, and the next root begins with this instruction.
@@ -128,7 +139,8 @@ pub record IsStreaming (plan : Plan) (order : Order) (x : Stream) : Type 0 where
 -- ## What a call comes to
 
 -- The value of a home is whole, at this state.
-pub record HomeWhole (order : Order) (table : Table) (h : Home) (own direct : ℕ) (target : List ℕ → Read) (fetched : List ℕ) (noted : List Item) (cells : ℕ) (source : SourceSeen) (t : DecodingSeen) (s : State) : Type 0 where
+pub record HomeWhole (order : Order) (table : Table) (h : Home) (own direct : ℕ) (target : List ℕ → Read) (fetched : List ℕ) (noted : List Item)
+    (cells : ℕ) (source : SourceSeen) (t : DecodingSeen) (s : State) : Type 0 where
   pub octets : List ℕ
   pub items : List Item
   pub all : AreOctets octets
@@ -138,7 +150,8 @@ pub record HomeWhole (order : Order) (table : Table) (h : Home) (own direct : �
   pub within : s.at ≤ STREAM_LIMIT
 
 -- It went on over so many octets more, and what is kept is right after them, with the referent that was taken, and so many roots left.
-pub record WentOnTaking (w : Setting) (side : IsLegalSide w) (order : Order) (fetched : List ℕ) (noted : List Item) (cells : ℕ) (source : SourceSeen) (t : DecodingSeen) (q : Option code.Owed) (x : Stream) (n : ℕ) : Type 0 where
+pub record WentOnTaking (w : Setting) (side : IsLegalSide w) (order : Order) (fetched : List ℕ) (noted : List Item) (cells : ℕ) (source : SourceSeen)
+    (t : DecodingSeen) (q : Option code.Owed) (x : Stream) (n : ℕ) : Type 0 where
   pub octets : List ℕ
   pub items : List Item
   pub direct : ℕ
@@ -152,7 +165,8 @@ abbrev pub WentOn : (w : Setting) → IsLegalSide w → Order → List ℕ → L
 WentOn w side order fetched noted cells source t x n = WentOnTaking w side order fetched noted cells source t None x n
 
 -- It read the stream to its end, whose graph is built.
-pub record WasRead (w : Setting) (order : Order) (fetched : List ℕ) (noted : List Item) (cells : ℕ) (source : SourceSeen) (t : DecodingSeen) (x : Stream) : Type 0 where
+pub record WasRead (w : Setting) (order : Order) (fetched : List ℕ) (noted : List Item) (cells : ℕ) (source : SourceSeen) (t : DecodingSeen)
+    (x : Stream) : Type 0 where
   pub octets : List ℕ
   pub items : List Item
   pub all : AreOctets (fetched ++ octets)
@@ -164,19 +178,22 @@ pub record WasRead (w : Setting) (order : Order) (fetched : List ℕ) (noted : L
   pub whole : CanClose x.machine.builder
   pub took : Took source t cells octets items (cells_of x)
 
--- a refusal is that of the stream, or of its head; where the source failed, the octets are cut short where they end; where memory failed, reading was cut off
+-- a refusal is that of the stream, or of its head; where the source failed, the octets are cut short where they end; where memory failed, reading was
+-- cut off
 abbrev pub FaultOf : Extent → Setting → Order → List ℕ → List Item → ℕ → SourceSeen → DecodingSeen → DecodeFault → Type 0
 FaultOf reach w order fetched noted cells source t (fault.Bad place why) = Refused reach w order fetched noted cells source t place why
 FaultOf reach w order fetched noted cells source t fault.ReadFault = Unread reach w order fetched noted cells source t × HasRisen source.faults
 FaultOf reach w order fetched noted cells source t fault.Memory = CutOff reach w order fetched noted cells source t
 
 -- a root, and its agreements
-abbrev pub Reads : (w : Setting) → IsLegalSide w → Order → List ℕ → List Item → ℕ → ℕ → SourceSeen → DecodingSeen → Stream → Result (Unit {0}) DecodeFault → Type 0
+abbrev pub Reads : (w : Setting) → IsLegalSide w → Order → List ℕ → List Item → ℕ → ℕ → SourceSeen → DecodingSeen → Stream
+    → Result (Unit {0}) DecodeFault → Type 0
 Reads w side order fetched noted cells n source t x (Ok u) = WentOn w side order fetched noted cells source t x n
 Reads w side order fetched noted cells n source t x (Err e) = FaultOf the_head w order fetched noted cells source t e
 
 -- a referent, and the agreements of its pointer, which may give the next of those that are pending
-abbrev pub ReadsTaking : (w : Setting) → IsLegalSide w → Order → List ℕ → List Item → ℕ → ℕ → SourceSeen → DecodingSeen → Stream → Result (Option code.Owed) DecodeFault → Type 0
+abbrev pub ReadsTaking : (w : Setting) → IsLegalSide w → Order → List ℕ → List Item → ℕ → ℕ → SourceSeen → DecodingSeen → Stream
+    → Result (Option code.Owed) DecodeFault → Type 0
 ReadsTaking w side order fetched noted cells n source t x (Ok q) = WentOnTaking w side order fetched noted cells source t q x n
 ReadsTaking w side order fetched noted cells n source t x (Err e) = FaultOf the_head w order fetched noted cells source t e
 
@@ -185,7 +202,8 @@ abbrev pub WentThrough : (w : Setting) → IsLegalSide w → Order → List ℕ 
 WentThrough w side order fetched noted cells source t x n = (g : WentOn w side order fetched noted cells source t x n) × (g.ps ≡ [])
 
 -- all that is pending
-abbrev pub ReadsAll : (w : Setting) → IsLegalSide w → Order → List ℕ → List Item → ℕ → ℕ → SourceSeen → DecodingSeen → Stream → Result (Unit {0}) DecodeFault → Type 0
+abbrev pub ReadsAll : (w : Setting) → IsLegalSide w → Order → List ℕ → List Item → ℕ → ℕ → SourceSeen → DecodingSeen → Stream
+    → Result (Unit {0}) DecodeFault → Type 0
 ReadsAll w side order fetched noted cells n source t x (Ok u) = WentThrough w side order fetched noted cells source t x n
 ReadsAll w side order fetched noted cells n source t x (Err e) = FaultOf the_head w order fetched noted cells source t e
 
@@ -195,20 +213,24 @@ ReadsAll w side order fetched noted cells n source t x (Err e) = FaultOf the_hea
 -- the root that begins with an instruction
 abbrev pub RootReads : Plan → Order → Instr → Stream → SourceSeen → DecodingSeen → Stream → Result (Unit {0}) DecodeFault → Type 0
 RootReads plan order i x source t y result =
-    (w : Setting) (side : IsLegalSide w) (fetched : List ℕ) (noted : List Item) (direct : ℕ) (s : Reading) (seen : List EntryAt) (n : ℕ) → w.table ≡ plan.tie.types
-    → Stands w side order fetched noted direct x s seen [] (suc n) → (r : Root) → slice_get (root_list w) (length s.roots) ≡ Some r → i ≡ root_by w.table r.of (type_at w.table r.of)
+    (w : Setting) (side : IsLegalSide w) (fetched : List ℕ) (noted : List Item) (direct : ℕ) (s : Reading) (seen : List EntryAt) (n : ℕ)
+    → w.table ≡ plan.tie.types
+    → Stands w side order fetched noted direct x s seen [] (suc n) → (r : Root) → slice_get (root_list w) (length s.roots) ≡ Some r
+    → i ≡ root_by w.table r.of (type_at w.table r.of)
     → Reads w side order fetched noted (cells_of x) n source t y result
 
 -- the next of the pending referents
 abbrev pub ReferentReads : Plan → Order → code.Owed → Stream → SourceSeen → DecodingSeen → Stream → Result (Option code.Owed) DecodeFault → Type 0
 ReferentReads plan order o x source t y result =
-    (w : Setting) (side : IsLegalSide w) (fetched : List ℕ) (noted : List Item) (direct : ℕ) (s : Reading) (seen : List EntryAt) (p : Pending) (ps : List Pending) (n : ℕ) → w.table ≡ plan.tie.types
+    (w : Setting) (side : IsLegalSide w) (fetched : List ℕ) (noted : List Item) (direct : ℕ) (s : Reading) (seen : List EntryAt) (p : Pending)
+    (ps : List Pending) (n : ℕ) → w.table ≡ plan.tie.types
     → StandsWith w side order fetched noted direct o x s seen p ps n → ReadsTaking w side order fetched noted (cells_of x) n source t y result
 
 -- all that is pending
 abbrev pub PendingReads : Plan → Order → Stream → SourceSeen → DecodingSeen → Stream → Result (Unit {0}) DecodeFault → Type 0
 PendingReads plan order x source t y result =
-    (w : Setting) (side : IsLegalSide w) (fetched : List ℕ) (noted : List Item) (direct : ℕ) (s : Reading) (seen : List EntryAt) (ps : List Pending) (n : ℕ) → w.table ≡ plan.tie.types
+    (w : Setting) (side : IsLegalSide w) (fetched : List ℕ) (noted : List Item) (direct : ℕ) (s : Reading) (seen : List EntryAt) (ps : List Pending)
+    (n : ℕ) → w.table ≡ plan.tie.types
     → Stands w side order fetched noted direct x s seen ps n → ReadsAll w side order fetched noted (cells_of x) n source t y result
 
 -- what the setting of a call is: a side of an operation of the plan's interface
@@ -219,5 +241,7 @@ pub record IsSettingOf (plan : Plan) (op : ℕ) (side : Side) (w : Setting) : Ty
 
 -- all roots that are no pipes
 abbrev pub RootsRead : Plan → Order → ℕ → Side → Stream → SourceSeen → DecodingSeen → Stream → Result Found DecodeFault → Type 0
-RootsRead plan order op side x source t y (Ok f) = (w : Setting) (legal : IsLegalSide w) → IsSettingOf plan op side w → WentThrough w legal order [] [] (cells_of x) source t y 0
-RootsRead plan order op side x source t y (Err e) = (w : Setting) → IsLegalSide w → IsSettingOf plan op side w → FaultOf the_head w order [] [] (cells_of x) source t e
+RootsRead plan order op side x source t y (Ok f) =
+    (w : Setting) (legal : IsLegalSide w) → IsSettingOf plan op side w → WentThrough w legal order [] [] (cells_of x) source t y 0
+RootsRead plan order op side x source t y (Err e) =
+    (w : Setting) → IsLegalSide w → IsSettingOf plan op side w → FaultOf the_head w order [] [] (cells_of x) source t e

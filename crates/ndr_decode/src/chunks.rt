@@ -66,7 +66,8 @@ pub(crate) fn read_pipes<S: Source, L: Ledger>(
 // The run of the elements of the pipe that a line is of; nothing where it is of no pipe of the side.
 pub fn elements_run(plan: &Plan, op: u32, side: Side, line: usize) -> Option<u32>
     requires there { line < length plan.now.entries }
-    requires pipe { (name : List ℕ) (at : ℕ) → slice_get plan.now.entries line ≡ Some (plan_line.Entry op side name at) → (elem : ℕ) × CallsPipe plan.now.code at elem }
+    requires pipe { (name : List ℕ) (at : ℕ) → slice_get plan.now.entries line ≡ Some (plan_line.Entry op side name at)
+        → (elem : ℕ) × CallsPipe plan.now.code at elem }
     ensures { ElementsRun plan.now op side line result }
 {
     let PlanLine::Entry {
@@ -117,8 +118,8 @@ fn read_pipe<S: Source, L: Ledger>(
     unreachable!()
 }
 
-// Reads the next chunk of a pipe that has so many elements so far: how many it has, 0 where the pipe has ended. Of more elements than a pipe may have a part is
-// begun, and one of these is refused.
+// Reads the next chunk of a pipe that has so many elements so far: how many it has, 0 where the pipe has ended. Of more elements than a pipe may have
+// a part is begun, and one of these is refused.
 fn read_chunk<S: Source, L: Ledger>(
     plan: &Plan,
     order: Order,
@@ -133,7 +134,8 @@ fn read_chunk<S: Source, L: Ledger>(
 ) -> Result<u32, DecodeFault>
     requires at { IsAtChunk plan.now order number elem so_far machine.old }
     requires room { so_far + 1 < 2 ^ 32 }
-    ensures reads { ChunkReads plan.now order number elem so_far machine.old (source_seen S.Source.left S.Source.ended S.Source.faults source.old source.new)
+    ensures reads { ChunkReads plan.now order number elem so_far machine.old
+        (source_seen S.Source.left S.Source.ended S.Source.faults source.old source.new)
         (decoding_seen items.old items.new (L.number steps.old) (L.number steps.new)) machine.new result }
     ensures room { IfOk result (λ count. so_far + count + 1 < 2 ^ 32) }
     ensures same { OnOk result (purpose_in machine.new ≡ purpose_in machine.old) }

@@ -12,7 +12,7 @@ ghost use Rattle.ndr_decoder_state.specs.declared.fault.DecodeFault.TheVariants.
 ghost use Rattle.nd_grammar.specs.decoded.Verdict.{IsDecoded, decoding_seen};
 ghost use Rattle.ndr_decoder_laws.specs.stream.Between.{Begins};
 ghost use Rattle.ndr_decoder_pending.specs.Seen.{between_of};
-ghost use Rattle.ndr_decode.specs.Decoding.{IsFault};
+ghost use Rattle.ndr_decode.specs.Decoding.{IsFault, IsInOrder};
 ghost use Rattle.ndr_decode.specs.Piping.{EndComes};
 ghost use Rattle.ndr_decode.specs.Streaming.{IsSettingOf, cells_of, purpose_of};
 
@@ -48,9 +48,10 @@ pub struct Decoded {
 /// up to the numbers of cells, and no shorter part of them represents one. The source has the octets after them left.
 ///
 /// At `Bad` the octets are refused at the first faulty place, for the one reason that applies there; no octets that begin with those fetched
-/// represent a conforming graph, except at `Truncated`, where the source has ended. The octets fetched end with the item that is refused; at `TooLong`
-/// where that item would begin, at a failed agreement with the last item before it. `ReadFault` is answered only if the source's count of faults
-/// rose, or is at the greatest value of a `u64`; then the octets fetched are cut short where they end, as the next item lacks some of its own.
+/// represent a conforming graph, except at `Truncated`, where the source has ended. The octets fetched end with the item that is refused; at
+/// `TooLong` where that item would begin, at a failed agreement with the last item before it. The item is one of a partial graph whose cells are
+/// numbered in the order in which its stream comes to them. `ReadFault` is answered only if the source's count of faults rose, or is at the greatest
+/// value of a `u64`; then the octets fetched are cut short where they end, as the next item lacks some of its own.
 ///
 /// A log that keeps items gets each item as soon as it is whole and not refused. At `Ok` `steps` has risen by one for each of these except the gaps,
 /// and for each cell; at a fault by no more than that, and never by more than the octets fetched and the roots, whatever counts the octets state.
@@ -79,6 +80,10 @@ pub fn decode<S: Source, L: Ledger>(
     ensures beside { IfOk result (λ d. d.fit.given ≡ option_map (λ f. f.now.graph) given.entry) }
     ensures fault { IfErr result (λ e. (o : Operation) → slice_get plan.now.tie.operations op ≡ Some o
         → IsFault (setting_beside plan.now.tie o side (option_map (λ f. f.now.graph) given.entry)) order
+        (source_seen S.Source.left S.Source.ended S.Source.faults source.old source.new) e
+        (decoding_seen items.old items.new (L.number steps.old) (L.number steps.new))) }
+    ensures in_order { IfErr result (λ e. (o : Operation) → slice_get plan.now.tie.operations op ≡ Some o
+        → IsInOrder (setting_beside plan.now.tie o side (option_map (λ f. f.now.graph) given.entry)) order
         (source_seen S.Source.left S.Source.ended S.Source.faults source.old source.new) e
         (decoding_seen items.old items.new (L.number steps.old) (L.number steps.new))) }
     ensures read_fault { IsErrOf result ReadFault → HasRisen (count S.Source.faults source.old source.new) }

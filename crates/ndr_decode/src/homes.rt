@@ -26,8 +26,10 @@ pub fn read_home<S: Source, L: Ledger>(
     items: &mut ItemLog,
     steps: &mut Steps<L>,
 ) -> Result<(), DecodeFault>
-    requires safe { (fetched : List ℕ) (noted : List Item) (s : State) → Reaches plan.now.values order plan.now.code machine.old.home (state_of machine.old) fetched noted s → IsSafe plan.now.code s }
-    ensures ends { Ends plan.now.values order plan.now.code machine.old.home (state_of machine.old) (source_seen S.Source.left S.Source.ended S.Source.faults source.old source.new)
+    requires safe { (fetched : List ℕ) (noted : List Item) (s : State)
+        → Reaches plan.now.values order plan.now.code machine.old.home (state_of machine.old) fetched noted s → IsSafe plan.now.code s }
+    ensures ends { Ends plan.now.values order plan.now.code machine.old.home (state_of machine.old)
+        (source_seen S.Source.left S.Source.ended S.Source.faults source.old source.new)
         (notes_seen items.old items.new (L.number steps.old) (L.number steps.new) machine.old.cells machine.new.cells) (state_of machine.new) result }
     ensures outside { OnOk result (outside machine.new ≡ outside machine.old) }
     ensures later { S.Source.faults source.old ≤ S.Source.faults source.new }

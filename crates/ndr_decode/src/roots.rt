@@ -48,7 +48,9 @@ pub fn read_roots<S: Source, L: Ledger>(
     requires whole { CanClose stream.old.machine.builder }
     ensures reads { RootsRead plan.now order op side stream.old (source_seen S.Source.left S.Source.ended S.Source.faults source.old source.new)
         (decoding_seen items.old items.new (L.number steps.old) (L.number steps.new)) stream.new result }
-    ensures found { IfOk result (λ f. (o : Operation) → slice_get plan.now.tie.operations op ≡ Some o → (f.checks ≡ checks_at plan.now.tie.types plan.now.tie.operations op o side)
+    ensures found { IfOk result
+        (λ f. (o : Operation) → slice_get plan.now.tie.operations op ≡ Some o
+        → (f.checks ≡ checks_at plan.now.tie.types plan.now.tie.operations op o side)
         × (f.line ≡ line_at plan.now.tie.types plan.now.tie.operations op o side + length (value_roots (roots_of plan.now.tie.types side o)) + 1)) }
     ensures same { OnOk result (purpose_of stream.new ≡ purpose_of stream.old) }
     ensures later { S.Source.faults source.old ≤ S.Source.faults source.new }
@@ -79,7 +81,8 @@ pub fn read_roots<S: Source, L: Ledger>(
 // The number of the first line of a side.
 pub fn first_line(plan: &Plan, op: u32, side: Side) -> usize
     requires known { op < length plan.now.tie.operations }
-    ensures { (o : Operation) → slice_get plan.now.tie.operations op ≡ Some o → result ≡ line_at plan.now.tie.types plan.now.tie.operations op o side }
+    ensures { (o : Operation) → slice_get plan.now.tie.operations op ≡ Some o
+        → result ≡ line_at plan.now.tie.types plan.now.tie.operations op o side }
 {
     plan.sides.as_slice()[op as usize * 2 + number_of(side)] as usize
 }
@@ -106,7 +109,8 @@ fn read_root<S: Source, L: Ledger>(
     steps: &mut Steps<L>,
 ) -> Result<(), DecodeFault>
     requires next { (i : Instr) × ((slice_get plan.now.code at ≡ Some i) × IsAtRoot plan.now order stream.old i) }
-    ensures reads { (i : Instr) → slice_get plan.now.code at ≡ Some i → RootReads plan.now order i stream.old (source_seen S.Source.left S.Source.ended S.Source.faults source.old source.new)
+    ensures reads { (i : Instr) → slice_get plan.now.code at ≡ Some i
+        → RootReads plan.now order i stream.old (source_seen S.Source.left S.Source.ended S.Source.faults source.old source.new)
         (decoding_seen items.old items.new (L.number steps.old) (L.number steps.new)) stream.new result }
     ensures same { OnOk result (purpose_of stream.new ≡ purpose_of stream.old) }
     ensures later { S.Source.faults source.old ≤ S.Source.faults source.new }
@@ -132,7 +136,8 @@ fn read_direct<S: Source, L: Ledger>(
     steps: &mut Steps<L>,
 ) -> Result<(), DecodeFault>
     requires next { IsAtRoot plan.now order stream.old (op.Direct to run) }
-    ensures reads { RootReads plan.now order (op.Direct to run) stream.old (source_seen S.Source.left S.Source.ended S.Source.faults source.old source.new)
+    ensures reads { RootReads plan.now order (op.Direct to run) stream.old
+        (source_seen S.Source.left S.Source.ended S.Source.faults source.old source.new)
         (decoding_seen items.old items.new (L.number steps.old) (L.number steps.new)) stream.new result }
     ensures same { OnOk result (purpose_of stream.new ≡ purpose_of stream.old) }
     ensures later { S.Source.faults source.old ≤ S.Source.faults source.new }

@@ -61,8 +61,8 @@ fn take_next(given: Option<Owed>, stream: &mut Stream) -> Option<Owed>
     }
 }
 
-// The referent of a pointer that was taken from those that are pending, if it was not read yet, and the pointer's agreements. A null pointer has none. It may give
-// the next of those that are pending.
+// The referent of a pointer that was taken from those that are pending, if it was not read yet, and the pointer's agreements. A null pointer has
+// none. It may give the next of those that are pending.
 #[inline(always)]
 fn read_owed<S: Source, L: Ledger>(
     plan: &Plan,

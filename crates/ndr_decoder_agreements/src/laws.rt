@@ -15,22 +15,28 @@ ghost use Rattle.ndr_decoder_laws.specs.stream.Between.{Between, Agrees, Keeps};
 ghost use Rattle.ndr_decoder_laws.specs.stream.Parameters.{TestsPass, TestsStop, root_number, with_pipes};
 ghost use Rattle.ndr_decoder_agreements.specs.Trials.{is_check, checks_fail, EndsChecks};
 
-/// Where nothing is due any more, what the checks of a side come to, tried with what is kept, is what the plain reader comes to: it passes what they try, or is
-/// refused there for the reason of the first that does not hold.
+/// Where nothing is due any more, what the checks of a side come to, tried with what is kept, is what the plain reader comes to: it passes what they
+/// try, or is refused there for the reason of the first that does not hold.
 pub fn trials_are_tests()
-    ensures pass { (w : Setting) (side : IsLegalSide w) (order : Order) (fetched : List ℕ) (noted : List Item) (direct : ℕ) (b : Between) (s : Reading) (before : List EntryAt) (pipes : ℕ)
-        → Agrees w side order fetched noted direct b s before [] 0 → (is rest : List Instr) → AllByRecursion (λ (i : Instr). is_check i ≡ true) is → (seen : List EntryAt)
+    ensures pass { (w : Setting) (side : IsLegalSide w) (order : Order) (fetched : List ℕ) (noted : List Item) (direct : ℕ) (b : Between)
+        (s : Reading) (before : List EntryAt) (pipes : ℕ)
+        → Agrees w side order fetched noted direct b s before [] 0 → (is rest : List Instr) → AllByRecursion (λ (i : Instr). is_check i ≡ true) is
+        → (seen : List EntryAt)
         → Keeps w order fetched noted direct b s seen [] → checks_fail b.read b.roots w.given (is ++ rest) ≡ None
         → TestsPass w order fetched noted direct b s seen (flat_map (tried w (with_pipes s pipes)) is) }
-    ensures stop { (w : Setting) (side : IsLegalSide w) (order : Order) (fetched : List ℕ) (noted : List Item) (direct : ℕ) (b : Between) (s : Reading) (before : List EntryAt) (pipes : ℕ)
-        → Agrees w side order fetched noted direct b s before [] 0 → (is rest : List Instr) → AllByRecursion (λ (i : Instr). is_check i ≡ true) is → EndsChecks rest → (seen : List EntryAt)
+    ensures stop { (w : Setting) (side : IsLegalSide w) (order : Order) (fetched : List ℕ) (noted : List Item) (direct : ℕ) (b : Between)
+        (s : Reading) (before : List EntryAt) (pipes : ℕ)
+        → Agrees w side order fetched noted direct b s before [] 0 → (is rest : List Instr) → AllByRecursion (λ (i : Instr). is_check i ≡ true) is
+        → EndsChecks rest → (seen : List EntryAt)
         → Keeps w order fetched noted direct b s seen [] → (why : ℕ × Reason) → checks_fail b.read b.roots w.given (is ++ rest) ≡ Some why
         → TestsStop w order fetched noted direct b s seen (flat_map (tried w (with_pipes s pipes)) is) why }
 {}
 
 /// The numbers that roots are, or that are in the cells that they name, can be kept, where these were read.
 pub fn numbers_are_keepable()
-    ensures { (w : Setting) (side : IsLegalSide w) (order : Order) (fetched : List ℕ) (noted : List Item) (direct : ℕ) (b : Between) (s : Reading) (before : List EntryAt)
-        → Agrees w side order fetched noted direct b s before [] 0 → (seen : List EntryAt) → Keeps w order fetched noted direct b s seen [] → (v : ℕ) (star : Bool) (z : ℤ)
+    ensures { (w : Setting) (side : IsLegalSide w) (order : Order) (fetched : List ℕ) (noted : List Item) (direct : ℕ) (b : Between) (s : Reading)
+        (before : List EntryAt)
+        → Agrees w side order fetched noted direct b s before [] 0 → (seen : List EntryAt) → Keeps w order fetched noted direct b s seen []
+        → (v : ℕ) (star : Bool) (z : ℤ)
         → root_number b.read star (slice_get b.roots v) ≡ Some z → IsKeepableNumber z }
 {}

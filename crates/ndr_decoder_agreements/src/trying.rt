@@ -14,8 +14,8 @@ use ndr_decoder_pending::Stream;
 use ndr_decoder_state::{DecodeFault, Wanted};
 use ndr_decoder_value::{try_in, wanted_of};
 
-/// Tries the agreements of the parameters, by the run of checks at an address, with what is kept of a stream, and with a request if one is given. The first
-/// that does not hold is the refusal, and the only one. Takes no memory.
+/// Tries the agreements of the parameters, by the run of checks at an address, with what is kept of a stream, and with a request if one is given. The
+/// first that does not hold is the refusal, and the only one. Takes no memory.
 pub fn try_parameters(
     code: &[Instr],
     at: usize,
@@ -23,7 +23,8 @@ pub fn try_parameters(
     given: Option<&Fit>,
 ) -> Result<(), DecodeFault>
     requires numbers { AreKeepable stream.now.cells.items stream.now.roots.items }
-    ensures { IsTried (checks_fail stream.now.cells.items stream.now.roots.items (option_map (λ f. f.now.graph) given.entry) (drop at code.now)) result }
+    ensures { IsTried
+        (checks_fail stream.now.cells.items stream.now.roots.items (option_map (λ f. f.now.graph) given.entry) (drop at code.now)) result }
 {
     for pc in at..code.len() {
         let instr = code[pc];

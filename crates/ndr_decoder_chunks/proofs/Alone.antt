@@ -25,7 +25,8 @@ use Rattle.ndr_decoder_laws.specs.steps.StepItems.{gap_items, item_here}
 use Rattle.ndr_decoder_laws.specs.stream.Calls.{Follows, Took}
 use Rattle.ndr_decoder_laws.proofs.stream.Joined.{took_twice}
 use Rattle.nd_grammar.specs.decoded.Verdict.{DecodingSeen, HasNoted}
-use Rattle.ndr_decoder_chunks.specs.Counted.{ChunkCounted, ChunkStopped, ChunkTold, CountPassed, CountStopped, CountTold, GapPassed, GapStopped, GapTold, UncountedChunk, count_item_at, in_the_count, in_the_gap}
+use Rattle.ndr_decoder_chunks.specs.Counted.{ChunkCounted, ChunkStopped, ChunkTold, CountPassed, CountStopped, CountTold, GapPassed, GapStopped, GapTold, UncountedChunk, count_item_at, in_the_count}
+use Rattle.ndr_decoder_chunks.specs.Counted.{in_the_gap}
 use Rattle.ndr_decoder_chunks.specs.Fetched.{CountBad, CountCame, GapCame}
 use Rattle.ndr_decoder_chunks.proofs.Counting.{faulty, gap_counts, gap_noted, none_noted, one_noted}
 
@@ -42,7 +43,8 @@ module _ (m n : Machine) (source : SourceSeen) (t : DecodingSeen) (os : List ℕ
   gap_pass size log steps at = record { octets = os; all = all; left = left; size = size; logged = log ∙ gap_noted m.home m.at os t.log; steps = steps; at = at }
 
   module _ (order : Order) where
-    pub count_stop : t.log_now ≡ t.log → t.steps_now ≡ t.steps → (e : DecodeFault) → CountCame m.at source os (Err e) → (r : Result ℕ DecodeFault) → IsErrAnd r (λ y. y ≡ e) → CountTold order m n source t r
+    pub count_stop : t.log_now ≡ t.log → t.steps_now ≡ t.steps → (e : DecodeFault) → CountCame m.at source os (Err e) → (r : Result ℕ DecodeFault) → IsErrAnd r (λ y. y ≡ e)
+        → CountTold order m n source t r
     count_stop log steps e x r is =
         let g : CountStopped m source t e = record { octets = os; all = all; left = left; came = x; log = log; steps = steps } in
         subst (λ z. CountTold order m n source t z) (faulty r e is) g
@@ -50,7 +52,8 @@ module _ (m n : Machine) (source : SourceSeen) (t : DecodingSeen) (os : List ℕ
     pub count_memory_stop : t.log_now ≡ t.log → t.steps_now ≡ t.steps → (r : Result ℕ DecodeFault) → IsErrAnd r (λ y. y ≡ fault.Memory) → CountTold order m n source t r
     count_memory_stop log steps r is = count_stop log steps fault.Memory tt r is
 
-    pub count_pass : length os ≡ 4 → m.at + 4 ≤ STREAM_LIMIT → (c : ℕ) → unsigned order os ≡ c → (v : ℤ) → v ≡ pos c → t.log_now ≡ noted_in (item_here m.home m.at item.Chunk 4 v 0) t.log → t.steps_now ≡ t.steps + 1
+    pub count_pass : length os ≡ 4 → m.at + 4 ≤ STREAM_LIMIT → (c : ℕ) → unsigned order os ≡ c → (v : ℤ) → v ≡ pos c → t.log_now ≡ noted_in (item_here m.home m.at item.Chunk 4 v 0) t.log
+        → t.steps_now ≡ t.steps + 1
         → n.at ≡ m.at + 4 → CountPassed order m n source t c
     count_pass size within c is v value log steps at = record {
       octets = os;
@@ -66,7 +69,8 @@ module _ (m n : Machine) (source : SourceSeen) (t : DecodingSeen) (os : List ℕ
 
 -- ## One after the other
 
-pub gap_stopped_alone : (order : Order) (c : SourceSeen) (u : DecodingSeen) (m o : Machine) (e : DecodeFault) → GapStopped m c u e → (r : Result ℕ DecodeFault) → IsErrAnd r (λ y. y ≡ e) → ChunkTold order m o c u r
+pub gap_stopped_alone : (order : Order) (c : SourceSeen) (u : DecodingSeen) (m o : Machine) (e : DecodeFault) → GapStopped m c u e → (r : Result ℕ DecodeFault) → IsErrAnd r (λ y. y ≡ e)
+    → ChunkTold order m o c u r
 gap_stopped_alone order c u m o e x r is =
     let g : ChunkStopped m c u e = in_the_gap x in
     subst (λ z. ChunkTold order m o c u z) (faulty r e is) g

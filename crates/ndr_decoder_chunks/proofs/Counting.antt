@@ -1,6 +1,7 @@
 -- The gap and the count of a chunk, as the plain reader reads them.
 -- `m` is the machine before, `n` the one after, `os` are the octets that came.
-use Rattle.std.proofs.Common.{◌≡◌, ◌≤◌, ◌<◌, ℕ, ◌+◌, zero, suc, Bool, true, false, List, [], ◌∷◌, ◌++◌, length, map, pos, Option, Result, Ok, Err, IsErrAnd, ℤ, refl, ap, sym, ◌∙◌, subst, length-append, arith}
+use Rattle.std.proofs.Common.{◌≡◌, ◌≤◌, ◌<◌, ℕ, ◌+◌, zero, suc, Bool, true, false, List, [], ◌∷◌, ◌++◌, length, map, pos, Option, Result, Ok, Err, IsErrAnd, ℤ, refl, ap, sym, ◌∙◌, subst}
+use Rattle.std.proofs.Common.{length-append, arith}
 use Rattle.std.specs.Prelude.{if◌then◌else◌}
 use Rattle.std.specs.Io.KnownBytes.{Consumes, IsAtEnd}
 use Rattle.std.proofs.lemmas.List.{append-nil, length-map}
@@ -83,7 +84,8 @@ abbrev IsNotCut : Reason → Type 0
 IsNotCut reason.Truncated = ⊥
 IsNotCut why = Unit {0}
 
-module _ (w : Setting) (order : Order) (fetched : List ℕ) (noted : List Item) (direct : ℕ) (first : Names) (i : ℕ) (rs : List Root) (roots : List Tree) (elem : TypeId) (done : Trees) (max_at : Option ℕ) (k : Position)
+module _ (w : Setting) (order : Order) (fetched : List ℕ) (noted : List Item) (direct : ℕ) (first : Names) (i : ℕ) (rs : List Root) (roots : List Tree) (elem : TypeId) (done : Trees)
+    (max_at : Option ℕ) (k : Position)
     (few : direct ≤ length (direct_roots w)) (m : Machine) (here : IsAt i k m) (source : SourceSeen) (t : DecodingSeen) where
   abbrev h : Home
   h = home.Root i
@@ -168,7 +170,8 @@ module _ (w : Setting) (order : Order) (fetched : List ℕ) (noted : List Item) 
 
   -- ## The gap
 
-  module _ (p : InPipe w order fetched noted direct first i rs roots elem done max_at 4 (at_chunk w order i elem done k) k) (os : List ℕ) (all : AreOctets os) (left : Consumes source.left source.left_now os) where
+  module _ (p : InPipe w order fetched noted direct first i rs roots elem done max_at 4 (at_chunk w order i elem done k) k) (os : List ℕ) (all : AreOctets os)
+      (left : Consumes source.left source.left_now os) where
     abbrev rest_of_chunk : Rest
     rest_of_chunk = at_chunk w order i elem done k
 
@@ -233,7 +236,8 @@ module _ (w : Setting) (order : Order) (fetched : List ℕ) (noted : List Item) 
 
   -- ## The count
 
-  module _ (p : InPipe w order fetched noted direct first i rs roots elem done max_at 4 (at_count w order i elem done k) k) (os : List ℕ) (all : AreOctets os) (left : Consumes source.left source.left_now os) where
+  module _ (p : InPipe w order fetched noted direct first i rs roots elem done max_at 4 (at_count w order i elem done k) k) (os : List ℕ) (all : AreOctets os)
+      (left : Consumes source.left source.left_now os) where
     abbrev rest_of_count : Rest
     rest_of_count = at_count w order i elem done k
 
@@ -290,7 +294,8 @@ module _ (w : Setting) (order : Order) (fetched : List ℕ) (noted : List Item) 
       after_count zero e = count_ends w order fetched noted direct first i rs roots elem done max_at k p os all size near_is e
       after_count (suc c) e = count_goes_on w order fetched noted direct first i rs roots elem done max_at k p os all size near_is c e
 
-      pub count_read : (c : ℕ) → unsigned order os ≡ c → (v : ℤ) → v ≡ pos c → t.log_now ≡ noted_in (item_here m.home m.at item.Chunk 4 v 0) t.log → t.steps_now ≡ t.steps + 1 → (n : Machine) → HasMoved m n → n.at ≡ m.at + 4
+      pub count_read : (c : ℕ) → unsigned order os ≡ c → (v : ℤ) → v ≡ pos c → t.log_now ≡ noted_in (item_here m.home m.at item.Chunk 4 v 0) t.log → t.steps_now ≡ t.steps + 1 → (n : Machine)
+          → HasMoved m n → n.at ≡ m.at + 4
           → CountRead w order fetched noted direct first i rs roots elem done max_at m.cells source t n c
       count_read c is z value log steps n v at =
           let before : m.at ≡ k.at = here.at in

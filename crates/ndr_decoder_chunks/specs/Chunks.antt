@@ -1,7 +1,8 @@
 -- What the beginning of a chunk comes to, over a pipe that is being read.
--- `w` is a setting, `fetched` are the octets that were fetched and `noted` the items that were noted before the call, `cells` is how many cells there are,
--- `source` and `t` are what was seen of the source, the log and the steps over the call, `m` is the machine after it, `i` the number of the pipe's root, `k` the
--- position in its pipes.
+-- `w` is a setting, `fetched` are the octets that were fetched and `noted` the items that were noted before the call, `cells` is how many cells there
+-- are,
+-- `source` and `t` are what was seen of the source, the log and the steps over the call, `m` is the machine after it, `i` the number of the pipe's
+-- root, `k` the position in its pipes.
 use Rattle.std.specs.Prelude.{◌≡◌, ◌≤◌, ℕ, zero, suc, ◌+◌, List, [], ◌∷◌, ◌++◌, map, Option, Result, Ok, Err}
 use Rattle.nd_base.specs.declared.octets.Order.{Order}
 use Rattle.nd_base.specs.declared.TheConstants.{STREAM_LIMIT}
@@ -45,7 +46,9 @@ pub record HasMoved (m n : Machine) : Type 0 where
   pub wanted : n.wanted ≡ m.wanted
 
 -- the gap was passed
-pub record GapRead (w : Setting) (order : Order) (fetched : List ℕ) (noted : List Item) (direct : ℕ) (first : Names) (i : ℕ) (rs : List Root) (roots : List Tree) (elem : TypeId) (done : Trees) (max_at : Option ℕ) (cells : ℕ) (source : SourceSeen) (t : DecodingSeen) (m : Machine) : Type 0 where
+pub record GapRead (w : Setting) (order : Order) (fetched : List ℕ) (noted : List Item) (direct : ℕ) (first : Names) (i : ℕ) (rs : List Root)
+    (roots : List Tree) (elem : TypeId) (done : Trees) (max_at : Option ℕ) (cells : ℕ) (source : SourceSeen) (t : DecodingSeen)
+    (m : Machine) : Type 0 where
   pub octets : List ℕ
   pub items : List Item
   pub k : Position
@@ -53,17 +56,24 @@ pub record GapRead (w : Setting) (order : Order) (fetched : List ℕ) (noted : L
   pub is_at : IsAt i k m
   pub took : Took source t cells octets items cells
 
-abbrev pub Gaps : Setting → Order → List ℕ → List Item → ℕ → Names → ℕ → List Root → List Tree → TypeId → Trees → Option ℕ → ℕ → SourceSeen → DecodingSeen → Machine → Result (Unit {0}) DecodeFault → Type 0
-Gaps w order fetched noted direct first i rs roots elem kids max_at cells source t m (Ok u) = GapRead w order fetched noted direct first i rs roots elem kids max_at cells source t m
+abbrev pub Gaps : Setting → Order → List ℕ → List Item → ℕ → Names → ℕ → List Root → List Tree → TypeId → Trees → Option ℕ → ℕ → SourceSeen
+    → DecodingSeen → Machine → Result (Unit {0}) DecodeFault → Type 0
+Gaps w order fetched noted direct first i rs roots elem kids max_at cells source t m (Ok u) =
+    GapRead w order fetched noted direct first i rs roots elem kids max_at cells source t m
 Gaps w order fetched noted direct first i rs roots elem kids max_at cells source t m (Err e) = FaultOf w order fetched noted cells source t e
 
 -- After a count of 0 the pipe is whole; else so many elements come.
-abbrev pub AfterCount : Setting → Order → List ℕ → List Item → ℕ → Names → ℕ → List Root → List Tree → TypeId → Trees → Option ℕ → Position → ℕ → Type 0
-AfterCount w order fetched noted direct first i rs roots elem kids max_at k zero = InPipes w order fetched noted direct first (i + 1) rs (roots ++ node tree.Pipe kids ∷ []) k
-AfterCount w order fetched noted direct first i rs roots elem kids max_at k (suc c) = InPipe w order fetched noted direct first i rs roots elem kids max_at 0 (at_elements (suc c) w order i elem kids k) k
+abbrev pub AfterCount : Setting → Order → List ℕ → List Item → ℕ → Names → ℕ → List Root → List Tree → TypeId → Trees → Option ℕ → Position → ℕ
+    → Type 0
+AfterCount w order fetched noted direct first i rs roots elem kids max_at k zero =
+    InPipes w order fetched noted direct first (i + 1) rs (roots ++ node tree.Pipe kids ∷ []) k
+AfterCount w order fetched noted direct first i rs roots elem kids max_at k (suc c) =
+    InPipe w order fetched noted direct first i rs roots elem kids max_at 0 (at_elements (suc c) w order i elem kids k) k
 
 -- the count was read
-pub record CountRead (w : Setting) (order : Order) (fetched : List ℕ) (noted : List Item) (direct : ℕ) (first : Names) (i : ℕ) (rs : List Root) (roots : List Tree) (elem : TypeId) (done : Trees) (max_at : Option ℕ) (cells : ℕ) (source : SourceSeen) (t : DecodingSeen) (m : Machine) (count : ℕ) : Type 0 where
+pub record CountRead (w : Setting) (order : Order) (fetched : List ℕ) (noted : List Item) (direct : ℕ) (first : Names) (i : ℕ) (rs : List Root)
+    (roots : List Tree) (elem : TypeId) (done : Trees) (max_at : Option ℕ) (cells : ℕ) (source : SourceSeen) (t : DecodingSeen) (m : Machine)
+    (count : ℕ) : Type 0 where
   pub octets : List ℕ
   pub items : List Item
   pub k : Position
@@ -71,6 +81,8 @@ pub record CountRead (w : Setting) (order : Order) (fetched : List ℕ) (noted :
   pub is_at : IsAt i k m
   pub took : Took source t cells octets items cells
 
-abbrev pub Counts : Setting → Order → List ℕ → List Item → ℕ → Names → ℕ → List Root → List Tree → TypeId → Trees → Option ℕ → ℕ → SourceSeen → DecodingSeen → Machine → Result ℕ DecodeFault → Type 0
-Counts w order fetched noted direct first i rs roots elem kids max_at cells source t m (Ok n) = CountRead w order fetched noted direct first i rs roots elem kids max_at cells source t m n
+abbrev pub Counts : Setting → Order → List ℕ → List Item → ℕ → Names → ℕ → List Root → List Tree → TypeId → Trees → Option ℕ → ℕ → SourceSeen
+    → DecodingSeen → Machine → Result ℕ DecodeFault → Type 0
+Counts w order fetched noted direct first i rs roots elem kids max_at cells source t m (Ok n) =
+    CountRead w order fetched noted direct first i rs roots elem kids max_at cells source t m n
 Counts w order fetched noted direct first i rs roots elem kids max_at cells source t m (Err e) = FaultOf w order fetched noted cells source t e

@@ -19,8 +19,8 @@ use nd_value::{Item, ItemKind, ItemLog};
 use ndr_decoder_input::Intake;
 use ndr_decoder_state::{DecodeFault, Machine, read_count};
 
-/// Reads the count of the next chunk of a pipe, after its gap. The octets of these, and no others, are taken from the source, and both are noted. Where the octets
-/// are refused the stream is. It takes memory only for the octets and items.
+/// Reads the count of the next chunk of a pipe, after its gap. The octets of these, and no others, are taken from the source, and both are noted.
+/// Where the octets are refused the stream is. It takes memory only for the octets and items.
 pub fn chunk_count<S: Source, L: Ledger>(
     order: Order,
     machine: &mut Machine,
@@ -30,11 +30,15 @@ pub fn chunk_count<S: Source, L: Ledger>(
     steps: &mut Steps<L>,
 ) -> Result<u32, DecodeFault>
     requires near { machine.old.at ≤ STREAM_LIMIT }
-    ensures reads { (w : Setting) (fetched : List ℕ) (noted : List Noted) (direct : ℕ) (first : Names) (i : ℕ) (rs : List Root) (roots : List Tree) (elem : TypeId) (done : Trees) (max_at : Option ℕ) (k : Position)
-        → direct ≤ length (direct_roots w) → InPipe w order fetched noted direct first i rs roots elem done max_at 4 (at_chunk w order i elem done k) k → IsAt i k machine.old
-        → Counts w order fetched noted direct first i rs roots elem done max_at machine.old.cells (source_seen S.Source.left S.Source.ended S.Source.faults source.old source.new)
+    ensures reads { (w : Setting) (fetched : List ℕ) (noted : List Noted) (direct : ℕ) (first : Names) (i : ℕ) (rs : List Root) (roots : List Tree)
+        (elem : TypeId) (done : Trees) (max_at : Option ℕ) (k : Position)
+        → direct ≤ length (direct_roots w)
+        → InPipe w order fetched noted direct first i rs roots elem done max_at 4 (at_chunk w order i elem done k) k → IsAt i k machine.old
+        → Counts w order fetched noted direct first i rs roots elem done max_at machine.old.cells
+        (source_seen S.Source.left S.Source.ended S.Source.faults source.old source.new)
         (decoding_seen items.old items.new (L.number steps.old) (L.number steps.new)) machine.new result }
-    ensures alone { ChunkTold order machine.old machine.new (source_seen S.Source.left S.Source.ended S.Source.faults source.old source.new) (decoding_seen items.old items.new (L.number steps.old) (L.number steps.new)) result }
+    ensures alone { ChunkTold order machine.old machine.new (source_seen S.Source.left S.Source.ended S.Source.faults source.old source.new)
+        (decoding_seen items.old items.new (L.number steps.old) (L.number steps.new)) result }
     ensures moved { OnOk result (HasMoved machine.old machine.new) }
     ensures later { S.Source.faults source.old ≤ S.Source.faults source.new }
 {
@@ -52,11 +56,15 @@ fn pass_gap<S: Source, L: Ledger>(
     steps: &mut Steps<L>,
 ) -> Result<(), DecodeFault>
     requires near { machine.old.at ≤ STREAM_LIMIT }
-    ensures reads { (w : Setting) (fetched : List ℕ) (noted : List Noted) (direct : ℕ) (first : Names) (i : ℕ) (rs : List Root) (roots : List Tree) (elem : TypeId) (done : Trees) (max_at : Option ℕ) (k : Position)
-        → direct ≤ length (direct_roots w) → InPipe w order fetched noted direct first i rs roots elem done max_at 4 (at_chunk w order i elem done k) k → IsAt i k machine.old
-        → Gaps w order fetched noted direct first i rs roots elem done max_at machine.old.cells (source_seen S.Source.left S.Source.ended S.Source.faults source.old source.new)
+    ensures reads { (w : Setting) (fetched : List ℕ) (noted : List Noted) (direct : ℕ) (first : Names) (i : ℕ) (rs : List Root) (roots : List Tree)
+        (elem : TypeId) (done : Trees) (max_at : Option ℕ) (k : Position)
+        → direct ≤ length (direct_roots w)
+        → InPipe w order fetched noted direct first i rs roots elem done max_at 4 (at_chunk w order i elem done k) k → IsAt i k machine.old
+        → Gaps w order fetched noted direct first i rs roots elem done max_at machine.old.cells
+        (source_seen S.Source.left S.Source.ended S.Source.faults source.old source.new)
         (decoding_seen items.old items.new (L.number steps.old) (L.number steps.new)) machine.new result }
-    ensures alone { GapTold machine.old machine.new (source_seen S.Source.left S.Source.ended S.Source.faults source.old source.new) (decoding_seen items.old items.new (L.number steps.old) (L.number steps.new)) result }
+    ensures alone { GapTold machine.old machine.new (source_seen S.Source.left S.Source.ended S.Source.faults source.old source.new)
+        (decoding_seen items.old items.new (L.number steps.old) (L.number steps.new)) result }
     ensures moved { OnOk result (HasMoved machine.old machine.new) }
     ensures within { OnOk result (machine.new.at ≤ STREAM_LIMIT) }
     ensures later { S.Source.faults source.old ≤ S.Source.faults source.new }
@@ -77,11 +85,15 @@ fn pass_count<S: Source, L: Ledger>(
     steps: &mut Steps<L>,
 ) -> Result<u32, DecodeFault>
     requires near { machine.old.at ≤ STREAM_LIMIT }
-    ensures reads { (w : Setting) (fetched : List ℕ) (noted : List Noted) (direct : ℕ) (first : Names) (i : ℕ) (rs : List Root) (roots : List Tree) (elem : TypeId) (done : Trees) (max_at : Option ℕ) (k : Position)
-        → direct ≤ length (direct_roots w) → InPipe w order fetched noted direct first i rs roots elem done max_at 4 (at_count w order i elem done k) k → IsAt i k machine.old
-        → Counts w order fetched noted direct first i rs roots elem done max_at machine.old.cells (source_seen S.Source.left S.Source.ended S.Source.faults source.old source.new)
+    ensures reads { (w : Setting) (fetched : List ℕ) (noted : List Noted) (direct : ℕ) (first : Names) (i : ℕ) (rs : List Root) (roots : List Tree)
+        (elem : TypeId) (done : Trees) (max_at : Option ℕ) (k : Position)
+        → direct ≤ length (direct_roots w)
+        → InPipe w order fetched noted direct first i rs roots elem done max_at 4 (at_count w order i elem done k) k → IsAt i k machine.old
+        → Counts w order fetched noted direct first i rs roots elem done max_at machine.old.cells
+        (source_seen S.Source.left S.Source.ended S.Source.faults source.old source.new)
         (decoding_seen items.old items.new (L.number steps.old) (L.number steps.new)) machine.new result }
-    ensures alone { CountTold order machine.old machine.new (source_seen S.Source.left S.Source.ended S.Source.faults source.old source.new) (decoding_seen items.old items.new (L.number steps.old) (L.number steps.new)) result }
+    ensures alone { CountTold order machine.old machine.new (source_seen S.Source.left S.Source.ended S.Source.faults source.old source.new)
+        (decoding_seen items.old items.new (L.number steps.old) (L.number steps.new)) result }
     ensures moved { OnOk result (HasMoved machine.old machine.new) }
     ensures later { S.Source.faults source.old ≤ S.Source.faults source.new }
 {

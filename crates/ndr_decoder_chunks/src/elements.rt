@@ -16,7 +16,9 @@ use ndr_decoder_state::{DecodeFault, Machine, Phase};
 pub fn open_pipe(machine: &mut Machine, number: u32, elem: u32) -> Result<(), DecodeFault>
     requires whole { CanClose machine.old.builder }
     requires here { number ≡ length machine.old.builder.graph.roots }
-    ensures builder { OnOk result (machine.new.builder ≡ with_nodes ((tree.Pipe, 0) ∷ []) (opened (home.Root number) (with_root (closed machine.old.builder)) machine.old.builder)) }
+    ensures builder { OnOk result
+        (machine.new.builder
+        ≡ with_nodes ((tree.Pipe, 0) ∷ []) (opened (home.Root number) (with_root (closed machine.old.builder)) machine.old.builder)) }
     ensures home { OnOk result (machine.new.home ≡ home.Root number) }
     ensures at { OnOk result (machine.new.at ≡ machine.old.at) }
     ensures max_at { OnOk result (machine.new.max_at ≡ None) }
@@ -31,11 +33,13 @@ pub fn open_pipe(machine: &mut Machine, number: u32, elem: u32) -> Result<(), De
     Ok(())
 }
 
-/// So many elements of the pipe come next, each by the run at an address. Address 1 is a `ret`. It takes memory, and out of memory is the only refusal.
+/// So many elements of the pipe come next, each by the run at an address. Address 1 is a `ret`. It takes memory, and out of memory is the only
+/// refusal.
 pub fn begin_elements(machine: &mut Machine, count: u32, elem: u32) -> Result<(), DecodeFault>
     requires some { 0 < count }
     requires pipe { IsPipe count machine.old.builder.nodes }
-    ensures begins { OnOk result (BeginsElements elem (count - 1) (raised count machine.old.builder.nodes) (state_of machine.old) (state_of machine.new)) }
+    ensures begins { OnOk result
+        (BeginsElements elem (count - 1) (raised count machine.old.builder.nodes) (state_of machine.old) (state_of machine.new)) }
     ensures builder { OnOk result (machine.new.builder ≡ with_nodes (raised count machine.old.builder.nodes) machine.old.builder) }
     ensures home { OnOk result (machine.new.home ≡ machine.old.home) }
     ensures memory { IfErr result (λ e. e ≡ fault.Memory) }

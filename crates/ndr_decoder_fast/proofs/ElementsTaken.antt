@@ -1,6 +1,7 @@
 -- Elements that are structs of numbers, taken in one go: from what the calls answered to what the steps come to.
 -- `s` is the state before, `s1` the one after, `ps` are the members by their primitives, `os` the octets of `count` elements, `n` is how many members there are.
-use Rattle.std.proofs.Common.{◌≡◌, ◌≤◌, ◌<◌, ℕ, ◌+◌, ◌-◌, ◌*◌, ◌^◌, zero, suc, List, [], ◌∷◌, ◌++◌, length, drop, Bool, Some, Result, Ok, Err, IsErrAnd, refl, ap, sym, ◌∙◌, subst, arith, length-append}
+use Rattle.std.proofs.Common.{◌≡◌, ◌≤◌, ◌<◌, ℕ, ◌+◌, ◌-◌, ◌*◌, ◌^◌, zero, suc, List, [], ◌∷◌, ◌++◌, length, drop, Bool, Some, Result, Ok, Err, IsErrAnd, refl, ap, sym, ◌∙◌, subst, arith}
+use Rattle.std.proofs.Common.{length-append}
 use Rattle.std.specs.Prelude.{slice_get}
 use Rattle.std.proofs.lemmas.Option.{slice_get_within}
 use Rattle.std.specs.Io.KnownBytes.{Consumes}

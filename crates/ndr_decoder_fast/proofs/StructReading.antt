@@ -129,7 +129,8 @@ module _ (values : List EnumList) (order : Order) (code : List Instr) (h : Home)
       let size : length here ≡ k = part_length from k os (omega (arith, len_is, sum)) in
       let counted : steps2 + length s.cells ≡ steps1 + 1 + length t.cells = subst (λ q. steps2 + length s.cells ≡ steps1 + 1 + length q.cells) is more in
       let came : IsInside values order code h s0 steps (take from os ++ here) steps2 t =
-      field_came values order code h s0 steps steps1 steps2 (take from os) here s f r.inside e (take_octets k (drop from os) (drop_octets from os octets)) size (omega (arith, size, len_is, short)) counted in
+      field_came values order code h s0 steps steps1 steps2 (take from os) here s f r.inside e (take_octets k (drop from os) (drop_octets from os octets)) size
+      (omega (arith, size, len_is, short)) counted in
       let less : suc n - 1 ≡ n = omega arith in
       subst (λ q. IsReading (from + k) (suc n - 1) steps2 q) (sym is)
       (record {

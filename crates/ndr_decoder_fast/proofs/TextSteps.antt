@@ -134,7 +134,8 @@ module _ (order : Order) (bound : ℕ) (l0 l1 : Option (List ℕ)) (e : Bool) (f
 
     -- no cell is named
     same_cells : (r : Option (ℕ × Reason)) (s1 : State) → text_done r (limit_of bound s0) os s0 ≡ goes s1 → s1.cells ≡ s0.cells
-    same_cells None s1 does = let same : done_after (length os) (with_node (tree.Text (limit_of bound s0) (take (length os - 1) os), 0) (Some (s0.at - 4)) s0) ≡ s1 = cc in ap (λ (s : State). s.cells) (sym same)
+    same_cells None s1 does = let same : done_after (length os) (with_node (tree.Text (limit_of bound s0) (take (length os - 1) os), 0) (Some (s0.at - 4)) s0) ≡ s1 =
+        cc in ap (λ (s : State). s.cells) (sym same)
     same_cells (Some x) s1 does = absurd (let no : refused x.0 x.1 ≡ goes s1 = does in cc)
 
     pub octets_read : (k0 k1 : ℕ) (s1 : State) (u v : Unit {0}) → k1 ≡ k0 + 1 → TextDoes done (Ok v) s1 → ReadsText order bound s0 Src k0 k1 s1 (Ok u)

@@ -26,8 +26,8 @@ abbrev pub IsElementRun : List Instr → ℕ → List Primitive → Frame → Ty
 IsElementRun code pc ps (frame.Elements left run back) = IsRecordRun code run pc (widest_from 1 ps) (slots_of ps)
 IsElementRun code pc ps f = ⊥
 
--- so many elements, two at least, have so many octets, which fit into a piece and within the limit of a stream; the first begins at a multiple of the width
--- of the widest member
+-- so many elements, two at least, have so many octets, which fit into a piece and within the limit of a stream; the first begins at a multiple of the
+-- width of the widest member
 pub record HaveRoom (at : ℕ) (ps : List Primitive) (count len : ℕ) : Type 0 where
   pub members : 0 < length ps
   pub aligned : at % widest_from 1 ps ≡ 0

@@ -19,7 +19,8 @@ use Rattle.ndr_decoder_fast.specs.declared.fault.LeapFault.TheVariants as leap
 use Rattle.ndr_decoder_fast.specs.Faults.{reason_of}
 use Rattle.ndr_decoder_state.specs.Notes.{ticks}
 
-module _ (values : List EnumList) (order : Order) (code : List Instr) (h : Home) (s0 : State) (source : SourceSeen) (steps steps_now : ℕ) (s1 : State) where
+module _ (values : List EnumList) (order : Order) (code : List Instr) (h : Home) (s0 : State) (source : SourceSeen) (steps steps_now : ℕ)
+    (s1 : State) where
   -- so many octets were taken from the source by steps; each of their items but the gaps is counted, and each cell that got its number
   pub record Leapt : Type 0 where
     pub fetched : List ℕ

@@ -45,8 +45,8 @@ first_zero (b ∷ bs) = if eqb b 0 then 0 else first_zero bs + 1
 
 -- ## The code
 
--- The state is at the `hoist` of a string that is a home of its own: the run of the string is its gap and its `text` with this bound. So many octets more are
--- within the limit of a stream.
+-- The state is at the `hoist` of a string that is a home of its own: the run of the string is its gap and its `text` with this bound. So many octets
+-- more are within the limit of a stream.
 pub record IsAtString (code : List Instr) (room run bound : ℕ) (s : State) : Type 0 where
   pub first : s.phase ≡ begun
   pub home : s.top ≡ frame.Home
@@ -64,13 +64,15 @@ max_read gap max run s = jumped (run + 1) (past 4 begun (with_max max (past gap 
 -- some of its steps were taken, or none; memory failed; or its octets are refused
 abbrev pub GoesFar : List EnumList → Order → List Instr → Home → State → SourceSeen → ℕ → ℕ → State → Result (Unit {0}) LeapFault → Type 0
 GoesFar values order code h s0 source steps steps_now s1 (Ok u) = Leapt values order code h s0 source steps steps_now s1
-GoesFar values order code h s0 source steps steps_now s1 (Err (leap.Bad place why)) = Refuses values order code h s0 source steps steps_now s1 place (reason_of why)
+GoesFar values order code h s0 source steps steps_now s1 (Err (leap.Bad place why)) =
+    Refuses values order code h s0 source steps steps_now s1 place (reason_of why)
 GoesFar values order code h s0 source steps steps_now s1 (Err leap.Memory) = GivesUp values order code h s0 source steps steps_now s1
 
 -- the same, whatever the code, where it has this `text`
 abbrev pub ReadsText : Order → ℕ → State → SourceSeen → ℕ → ℕ → State → Result (Unit {0}) LeapFault → Type 0
 ReadsText order bound s0 source steps steps_now s1 r =
-    (values : List EnumList) (code : List Instr) (h : Home) → slice_get code s0.pc ≡ Some (op.Text bound) → GoesFar values order code h s0 source steps steps_now s1 r
+    (values : List EnumList) (code : List Instr) (h : Home) → slice_get code s0.pc ≡ Some (op.Text bound)
+    → GoesFar values order code h s0 source steps steps_now s1 r
 
 -- the octets of a string were read, or are refused; out of memory says nothing
 abbrev pub TextDoes : Outcome → Result (Unit {0}) LeapFault → State → Type 0

@@ -21,8 +21,8 @@ pub struct Elements {
     pub len: u32,
 }
 
-/// The elements that may be taken in one go at a `record` of so many members, two at least: as many as are left of an array whose elements are all structs
-/// of the same numbers, and as a piece and the limit of a stream have room for. None anywhere else. Takes no memory.
+/// The elements that may be taken in one go at a `record` of so many members, two at least: as many as are left of an array whose elements are all
+/// structs of the same numbers, and as a piece and the limit of a stream have room for. None anywhere else. Takes no memory.
 pub fn elements_here(machine: &Machine, code: &Code, members: u32) -> Option<Elements>
     requires here { slice_get code.now machine.now.pc ≡ Some (op.Record members) }
     requires code { machine.now.pc < 2 ^ 32 }

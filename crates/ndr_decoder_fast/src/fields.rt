@@ -4,7 +4,8 @@ ghost use Rattle.nd_grammar.specs.Entry.{gap};
 
 use ndr_decoder_state::gap_before;
 
-/// How many octets a gap to a multiple of a number has, as `gap_before` says: the numbers of the standard (C706, 14.2.2) need no division. Takes no memory.
+/// How many octets a gap to a multiple of a number has, as `gap_before` says: the numbers of the standard (C706, 14.2.2) need no division. Takes no
+/// memory.
 #[inline(always)]
 pub fn gap_to(at: u32, to: u8) -> u32
     ensures is { result ≡ gap at to }

@@ -28,8 +28,11 @@ pub fn take_form<L: Ledger>(
     requires few { machine.old.count + 1 < 2 ^ 32 }
     requires cells { machine.old.cells + 1 < 2 ^ 32 }
     ensures ok { OnOk result (state_of machine.new ≡ form_read order form octets.now (state_of machine.old)) }
-    ensures counted { OnOk result (L.number steps.new + length (state_of machine.old).cells ≡ L.number steps.old + length (state_of machine.new).cells) }
-    ensures idle { OnErr result (L.number steps.new + length (state_of machine.old).cells ≤ L.number steps.old + length (form_read order form octets.now (state_of machine.old)).cells) }
+    ensures counted { OnOk result
+        (L.number steps.new + length (state_of machine.old).cells ≡ L.number steps.old + length (state_of machine.new).cells) }
+    ensures idle { OnErr result
+        (L.number steps.new + length (state_of machine.old).cells ≤ L.number steps.old + length
+        (form_read order form octets.now (state_of machine.old)).cells) }
     ensures at { OnOk result (machine.new.at ≡ machine.old.at) }
     ensures pc { OnOk result (machine.new.pc ≡ machine.old.pc) }
     ensures outside { OnOk result (outside machine.new ≡ outside machine.old) }
@@ -60,8 +63,11 @@ fn take_pointer<L: Ledger>(
     requires few { machine.old.count + 1 < 2 ^ 32 }
     requires cells { machine.old.cells + 1 < 2 ^ 32 }
     ensures ok { OnOk result (state_of machine.new ≡ pointer_read class to run (is_null class number) (state_of machine.old)) }
-    ensures counted { OnOk result (L.number steps.new + length (state_of machine.old).cells ≡ L.number steps.old + length (state_of machine.new).cells) }
-    ensures idle { OnErr result (L.number steps.new + length (state_of machine.old).cells ≤ L.number steps.old + length (pointer_read class to run (is_null class number) (state_of machine.old)).cells) }
+    ensures counted { OnOk result
+        (L.number steps.new + length (state_of machine.old).cells ≡ L.number steps.old + length (state_of machine.new).cells) }
+    ensures idle { OnErr result
+        (L.number steps.new + length (state_of machine.old).cells ≤ L.number steps.old + length
+        (pointer_read class to run (is_null class number) (state_of machine.old)).cells) }
     ensures at { OnOk result (machine.new.at ≡ machine.old.at) }
     ensures pc { OnOk result (machine.new.pc ≡ machine.old.pc) }
     ensures outside { OnOk result (outside machine.new ≡ outside machine.old) }
@@ -95,8 +101,11 @@ fn name_new<L: Ledger>(
     requires few { machine.old.count + 1 < 2 ^ 32 }
     requires cells { machine.old.cells + 1 < 2 ^ 32 }
     ensures ok { OnOk result (state_of machine.new ≡ pointer_read class to run false (state_of machine.old)) }
-    ensures counted { OnOk result (L.number steps.new + length (state_of machine.old).cells ≡ L.number steps.old + length (state_of machine.new).cells) }
-    ensures idle { OnErr result (L.number steps.new + length (state_of machine.old).cells ≤ L.number steps.old + length (pointer_read class to run false (state_of machine.old)).cells) }
+    ensures counted { OnOk result
+        (L.number steps.new + length (state_of machine.old).cells ≡ L.number steps.old + length (state_of machine.new).cells) }
+    ensures idle { OnErr result
+        (L.number steps.new + length (state_of machine.old).cells ≤ L.number steps.old + length
+        (pointer_read class to run false (state_of machine.old)).cells) }
     ensures at { OnOk result (machine.new.at ≡ machine.old.at) }
     ensures pc { OnOk result (machine.new.pc ≡ machine.old.pc) }
     ensures outside { OnOk result (outside machine.new ≡ outside machine.old) }
@@ -119,7 +128,10 @@ fn owe(
     cell: Option<CellId>,
 ) -> Result<(), Memory>
     requires few { machine.old.count + 1 < 2 ^ 32 }
-    ensures ok { OnOk result (state_of machine.new ≡ with_part (tree.Ptr (cell_number cell), 0) (owed_with class to run (cell_number cell) (state_of machine.old).fresh) (state_of machine.old).cells (state_of machine.old)) }
+    ensures ok { OnOk result
+        (state_of machine.new
+        ≡ with_part (tree.Ptr (cell_number cell), 0) (owed_with class to run (cell_number cell) (state_of machine.old).fresh)
+        (state_of machine.old).cells (state_of machine.old)) }
     ensures at { OnOk result (machine.new.at ≡ machine.old.at) }
     ensures pc { OnOk result (machine.new.pc ≡ machine.old.pc) }
     ensures outside { OnOk result (outside machine.new ≡ outside machine.old) }
@@ -144,7 +156,8 @@ fn owe(
 fn add_node(machine: &mut Machine, node: &Seen<'_>) -> Result<(), Memory>
     requires keepable { IsKeepable (flat_seen node.now).0 }
     requires few { machine.old.count + 1 < 2 ^ 32 }
-    ensures ok { OnOk result (state_of machine.new ≡ with_part (flat_seen node.now) (state_of machine.old).fresh (state_of machine.old).cells (state_of machine.old)) }
+    ensures ok { OnOk result
+        (state_of machine.new ≡ with_part (flat_seen node.now) (state_of machine.old).fresh (state_of machine.old).cells (state_of machine.old)) }
     ensures at { OnOk result (machine.new.at ≡ machine.old.at) }
     ensures pc { OnOk result (machine.new.pc ≡ machine.old.pc) }
     ensures outside { OnOk result (outside machine.new ≡ outside machine.old) }

@@ -19,10 +19,10 @@ use ndr_decoder_input::Intake;
 use ndr_decoder_laws::Frame;
 use ndr_decoder_state::Machine;
 
-/// Takes the steps of a struct of numbers and pointers, of such structs that are elements of an array, or of a string in one go, if the source has their
-/// octets at hand, and says whether it did. A struct with pointers has 64 octets at most and no full pointer among its members, a string 256 octets with its
-/// terminator. Else nothing is done. It notes nothing, so it is for a log that keeps nothing; each item but a gap, and each cell
-/// that gets its number, is counted. At `Bad` steps were taken, and the octets of the next are refused; they were taken too. It takes memory for what is
+/// Takes the steps of a struct of numbers and pointers, of such structs that are elements of an array, or of a string in one go, if the source has
+/// their octets at hand, and says whether it did. A struct with pointers has 64 octets at most and no full pointer among its members, a string 256
+/// octets with its terminator. Else nothing is done. It notes nothing, so it is for a log that keeps nothing; each item but a gap, and each cell that
+/// gets its number, is counted. At `Bad` steps were taken, and the octets of the next are refused; they were taken too. It takes memory for what is
 /// read; after a fault nothing is known of the machine.
 #[inline(always)]
 pub fn leap<S: Source, L: Ledger>(
@@ -37,8 +37,11 @@ pub fn leap<S: Source, L: Ledger>(
 ) -> Result<bool, LeapFault>
     requires short { length code.now < 2 ^ 32 }
     requires here { slice_get code.now machine.old.pc ≡ Some instr }
-    requires safe { (fetched : List ℕ) (noted : List Item) (s : State) → Reaches values.now order code.now machine.old.home (state_of machine.old) fetched noted s → IsSafe code.now s }
-    ensures leaps { Leaps values.now order code.now machine.old.home (state_of machine.old) (source_seen S.Source.left S.Source.ended S.Source.faults source.old source.new) (L.number steps.old) (L.number steps.new) (state_of machine.new) result }
+    requires safe { (fetched : List ℕ) (noted : List Item) (s : State)
+        → Reaches values.now order code.now machine.old.home (state_of machine.old) fetched noted s → IsSafe code.now s }
+    ensures leaps { Leaps values.now order code.now machine.old.home (state_of machine.old)
+        (source_seen S.Source.left S.Source.ended S.Source.faults source.old source.new) (L.number steps.old) (L.number steps.new)
+        (state_of machine.new) result }
     ensures outside { OnOk result (outside machine.new ≡ outside machine.old) }
     ensures later { S.Source.faults source.old ≤ S.Source.faults source.new }
 {
@@ -65,8 +68,11 @@ fn leap_record<S: Source, L: Ledger>(
 ) -> Result<bool, LeapFault>
     requires short { length code.now < 2 ^ 32 }
     requires here { slice_get code.now machine.old.pc ≡ Some (op.Record members) }
-    requires safe { (fetched : List ℕ) (noted : List Item) (s : State) → Reaches values.now order code.now machine.old.home (state_of machine.old) fetched noted s → IsSafe code.now s }
-    ensures leaps { Leaps values.now order code.now machine.old.home (state_of machine.old) (source_seen S.Source.left S.Source.ended S.Source.faults source.old source.new) (L.number steps.old) (L.number steps.new) (state_of machine.new) result }
+    requires safe { (fetched : List ℕ) (noted : List Item) (s : State)
+        → Reaches values.now order code.now machine.old.home (state_of machine.old) fetched noted s → IsSafe code.now s }
+    ensures leaps { Leaps values.now order code.now machine.old.home (state_of machine.old)
+        (source_seen S.Source.left S.Source.ended S.Source.faults source.old source.new) (L.number steps.old) (L.number steps.new)
+        (state_of machine.new) result }
     ensures outside { OnOk result (outside machine.new ≡ outside machine.old) }
     ensures later { S.Source.faults source.old ≤ S.Source.faults source.new }
 {
@@ -90,8 +96,11 @@ fn leap_elements<S: Source, L: Ledger>(
 ) -> Result<bool, LeapFault>
     requires short { length code.now < 2 ^ 32 }
     requires here { slice_get code.now machine.old.pc ≡ Some (op.Record members) }
-    requires safe { (fetched : List ℕ) (noted : List Item) (s : State) → Reaches values.now order code.now machine.old.home (state_of machine.old) fetched noted s → IsSafe code.now s }
-    ensures leaps { Leaps values.now order code.now machine.old.home (state_of machine.old) (source_seen S.Source.left S.Source.ended S.Source.faults source.old source.new) (L.number steps.old) (L.number steps.new) (state_of machine.new) result }
+    requires safe { (fetched : List ℕ) (noted : List Item) (s : State)
+        → Reaches values.now order code.now machine.old.home (state_of machine.old) fetched noted s → IsSafe code.now s }
+    ensures leaps { Leaps values.now order code.now machine.old.home (state_of machine.old)
+        (source_seen S.Source.left S.Source.ended S.Source.faults source.old source.new) (L.number steps.old) (L.number steps.new)
+        (state_of machine.new) result }
     ensures outside { OnOk result (outside machine.new ≡ outside machine.old) }
     ensures later { S.Source.faults source.old ≤ S.Source.faults source.new }
 {

@@ -11,8 +11,8 @@ use nd_types::Prim;
 use ndr_code::{Code, Instr, prim_of};
 use ndr_prim::width_of;
 
-/// The members of a struct of so many numbers whose calls begin at an address, if each number comes after a gap to a multiple of its width and the struct
-/// ends its run. None for any other struct, and for more members than `nd_flat` keeps side by side. Takes no memory.
+/// The members of a struct of so many numbers whose calls begin at an address, if each number comes after a gap to a multiple of its width and the
+/// struct ends its run. None for any other struct, and for more members than `nd_flat` keeps side by side. Takes no memory.
 pub fn members_at(code: &Code, at: usize, count: u32) -> Option<Members>
     requires code { at < 2 ^ 32 + 1 }
     ensures whole { IfSome result (λ m. IsMembers m) }

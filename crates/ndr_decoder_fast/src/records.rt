@@ -37,8 +37,11 @@ pub fn leap_records<S: Source, L: Ledger>(
 ) -> Result<bool, LeapFault>
     requires short { length code.now < 2 ^ 32 }
     requires here { slice_get code.now machine.old.pc ≡ Some (op.Record members) }
-    requires safe { (fetched : List ℕ) (noted : List Item) (s : State) → Reaches values.now order code.now machine.old.home (state_of machine.old) fetched noted s → IsSafe code.now s }
-    ensures leaps { Leaps values.now order code.now machine.old.home (state_of machine.old) (source_seen S.Source.left S.Source.ended S.Source.faults source.old source.new) (L.number steps.old) (L.number steps.new) (state_of machine.new) result }
+    requires safe { (fetched : List ℕ) (noted : List Item) (s : State)
+        → Reaches values.now order code.now machine.old.home (state_of machine.old) fetched noted s → IsSafe code.now s }
+    ensures leaps { Leaps values.now order code.now machine.old.home (state_of machine.old)
+        (source_seen S.Source.left S.Source.ended S.Source.faults source.old source.new) (L.number steps.old) (L.number steps.new)
+        (state_of machine.new) result }
     ensures outside { OnOk result (outside machine.new ≡ outside machine.old) }
     ensures later { S.Source.faults source.old ≤ S.Source.faults source.new }
 {
@@ -54,8 +57,8 @@ pub fn leap_records<S: Source, L: Ledger>(
     Ok(true)
 }
 
-// Elements whose octets have all come. Each of their numbers is counted as one; nothing is noted. It takes memory; after `Memory` nothing was counted, and
-// nothing is known of the machine.
+// Elements whose octets have all come. Each of their numbers is counted as one; nothing is noted. It takes memory; after `Memory` nothing was
+// counted, and nothing is known of the machine.
 fn read_elements<L: Ledger>(
     machine: &mut Machine,
     order: Order,
@@ -97,8 +100,8 @@ fn read_elements<L: Ledger>(
     Ok(())
 }
 
-// How many octets of the elements after these, which have so many, may be given room: those that are at hand, unless the place in the stream shows that as
-// many octets were kept already. So the list grows by half at least where it is moved, and the time stays linear.
+// How many octets of the elements after these, which have so many, may be given room: those that are at hand, unless the place in the stream shows
+// that as many octets were kept already. So the list grows by half at least where it is moved, and the time stays linear.
 fn room_for(machine: &Machine, elements: &Elements, len: usize, ahead: usize) -> usize
     requires { 0 < elements.now.count }
     ensures at_hand { result ≤ ahead }

@@ -4,9 +4,9 @@ ghost use Rattle.ndr_decoder_state.specs.Seen.{outside, state_of};
 
 use ndr_decoder_state::Machine;
 
-// Makes room for what an element that begins with a pointer and so many after it will give: two nodes, a cell and a pending referent, and a node of what the
-// pointer names. There is room for no more than the octets at hand have pointers, so no count that the octets claim takes room. Where the list of the referents
-// that are pending would be less than twice as long it makes none: as lists grow they double.
+// Makes room for what an element that begins with a pointer and so many after it will give: two nodes, a cell and a pending referent, and a node of
+// what the pointer names. There is room for no more than the octets at hand have pointers, so no count that the octets claim takes room. Where the
+// list of the referents that are pending would be less than twice as long it makes none: as lists grow they double.
 #[cold]
 #[inline(never)]
 pub(crate) fn make_room(machine: &mut Machine, left: u32, ahead: usize)

@@ -32,8 +32,11 @@ pub fn leap_string<S: Source, L: Ledger>(
 ) -> Result<bool, LeapFault>
     requires short { length code.now < 2 ^ 32 }
     requires here { slice_get code.now machine.old.pc ≡ Some op.Hoist }
-    requires safe { (fetched : List ℕ) (noted : List Item) (s : State) → Reaches values.now order code.now machine.old.home (state_of machine.old) fetched noted s → IsSafe code.now s }
-    ensures leaps { Leaps values.now order code.now machine.old.home (state_of machine.old) (source_seen S.Source.left S.Source.ended S.Source.faults source.old source.new) (L.number steps.old) (L.number steps.new) (state_of machine.new) result }
+    requires safe { (fetched : List ℕ) (noted : List Item) (s : State)
+        → Reaches values.now order code.now machine.old.home (state_of machine.old) fetched noted s → IsSafe code.now s }
+    ensures leaps { Leaps values.now order code.now machine.old.home (state_of machine.old)
+        (source_seen S.Source.left S.Source.ended S.Source.faults source.old source.new) (L.number steps.old) (L.number steps.new)
+        (state_of machine.new) result }
     ensures outside { OnOk result (outside machine.new ≡ outside machine.old) }
     ensures later { S.Source.faults source.old ≤ S.Source.faults source.new }
 {
@@ -180,7 +183,8 @@ fn leap_offset<S: Source, L: Ledger>(
     requires code { machine.old.pc < 2 ^ 32 }
     requires within { machine.old.at + 400 ≤ STREAM_LIMIT }
     requires few { machine.old.count + 1 < 2 ^ 32 }
-    ensures reads { ReadsText order bound (state_of machine.old) (source_seen S.Source.left S.Source.ended S.Source.faults source.old source.new) (L.number steps.old) (L.number steps.new) (state_of machine.new) result }
+    ensures reads { ReadsText order bound (state_of machine.old) (source_seen S.Source.left S.Source.ended S.Source.faults source.old source.new)
+        (L.number steps.old) (L.number steps.new) (state_of machine.new) result }
     ensures outside { OnOk result (outside machine.new ≡ outside machine.old) }
     ensures faults { S.Source.faults source.new ≡ S.Source.faults source.old }
 {
@@ -211,7 +215,8 @@ fn leap_actual<S: Source, L: Ledger>(
     requires code { machine.old.pc < 2 ^ 32 }
     requires within { machine.old.at + 300 ≤ STREAM_LIMIT }
     requires few { machine.old.count + 1 < 2 ^ 32 }
-    ensures reads { ReadsText order bound (state_of machine.old) (source_seen S.Source.left S.Source.ended S.Source.faults source.old source.new) (L.number steps.old) (L.number steps.new) (state_of machine.new) result }
+    ensures reads { ReadsText order bound (state_of machine.old) (source_seen S.Source.left S.Source.ended S.Source.faults source.old source.new)
+        (L.number steps.old) (L.number steps.new) (state_of machine.new) result }
     ensures outside { OnOk result (outside machine.new ≡ outside machine.old) }
     ensures faults { S.Source.faults source.new ≡ S.Source.faults source.old }
 {
@@ -251,7 +256,8 @@ fn leap_octets<S: Source, L: Ledger>(
     requires code { machine.old.pc < 2 ^ 32 }
     requires within { machine.old.at + 256 ≤ STREAM_LIMIT }
     requires few { machine.old.count + 1 < 2 ^ 32 }
-    ensures reads { ReadsText order bound (state_of machine.old) (source_seen S.Source.left S.Source.ended S.Source.faults source.old source.new) (L.number steps.old) (L.number steps.new) (state_of machine.new) result }
+    ensures reads { ReadsText order bound (state_of machine.old) (source_seen S.Source.left S.Source.ended S.Source.faults source.old source.new)
+        (L.number steps.old) (L.number steps.new) (state_of machine.new) result }
     ensures outside { OnOk result (outside machine.new ≡ outside machine.old) }
     ensures faults { S.Source.faults source.new ≡ S.Source.faults source.old }
 {
@@ -288,7 +294,8 @@ fn leap_short<S: Source, L: Ledger>(
     requires code { machine.old.pc < 2 ^ 32 }
     requires within { machine.old.at + 256 ≤ STREAM_LIMIT }
     requires few { machine.old.count + 1 < 2 ^ 32 }
-    ensures reads { ReadsText order bound (state_of machine.old) (source_seen S.Source.left S.Source.ended S.Source.faults source.old source.new) (L.number steps.old) (L.number steps.new) (state_of machine.new) result }
+    ensures reads { ReadsText order bound (state_of machine.old) (source_seen S.Source.left S.Source.ended S.Source.faults source.old source.new)
+        (L.number steps.old) (L.number steps.new) (state_of machine.new) result }
     ensures outside { OnOk result (outside machine.new ≡ outside machine.old) }
     ensures faults { S.Source.faults source.new ≡ S.Source.faults source.old }
 {
@@ -318,7 +325,8 @@ fn leap_text<S: Source, L: Ledger>(
     requires code { machine.old.pc < 2 ^ 32 }
     requires within { machine.old.at + length text.old ≤ STREAM_LIMIT }
     requires few { machine.old.count + 1 < 2 ^ 32 }
-    ensures reads { ReadsText order bound (state_of machine.old) (source_seen S.Source.left S.Source.ended S.Source.faults source.old source.new) (L.number steps.old) (L.number steps.new) (state_of machine.new) result }
+    ensures reads { ReadsText order bound (state_of machine.old) (source_seen S.Source.left S.Source.ended S.Source.faults source.old source.new)
+        (L.number steps.old) (L.number steps.new) (state_of machine.new) result }
     ensures outside { OnOk result (outside machine.new ≡ outside machine.old) }
     ensures faults { S.Source.faults source.new ≡ S.Source.faults source.old }
 {
@@ -337,7 +345,9 @@ fn add_text(machine: &mut Machine, bound: u32, octets: &[u8]) -> Result<(), Leap
     requires code { machine.old.pc < 2 ^ 32 }
     requires within { machine.old.at + length octets.now < 2 ^ 32 }
     requires few { machine.old.count + 1 < 2 ^ 32 }
-    ensures does { TextDoes (text_done (text_refusal machine.old.at octets.now) (limit_of bound (state_of machine.old)) octets.now (state_of machine.old)) result (state_of machine.new) }
+    ensures does { TextDoes
+        (text_done (text_refusal machine.old.at octets.now) (limit_of bound (state_of machine.old)) octets.now (state_of machine.old)) result
+        (state_of machine.new) }
     ensures outside { OnOk result (outside machine.new ≡ outside machine.old) }
 {
     if let Some((place, why)) = refused_at(machine.at, octets) {

@@ -37,8 +37,11 @@ pub fn leap_struct<S: Source, L: Ledger>(
 ) -> Result<bool, LeapFault>
     requires short { length code.now < 2 ^ 32 }
     requires here { slice_get code.now machine.old.pc ≡ Some (op.Record members) }
-    requires safe { (fetched : List ℕ) (noted : List Item) (s : State) → Reaches values.now order code.now machine.old.home (state_of machine.old) fetched noted s → IsSafe code.now s }
-    ensures leaps { Leaps values.now order code.now machine.old.home (state_of machine.old) (source_seen S.Source.left S.Source.ended S.Source.faults source.old source.new) (L.number steps.old) (L.number steps.new) (state_of machine.new) result }
+    requires safe { (fetched : List ℕ) (noted : List Item) (s : State)
+        → Reaches values.now order code.now machine.old.home (state_of machine.old) fetched noted s → IsSafe code.now s }
+    ensures leaps { Leaps values.now order code.now machine.old.home (state_of machine.old)
+        (source_seen S.Source.left S.Source.ended S.Source.faults source.old source.new) (L.number steps.old) (L.number steps.new)
+        (state_of machine.new) result }
     ensures outside { OnOk result (outside machine.new ≡ outside machine.old) }
     ensures later { S.Source.faults source.old ≤ S.Source.faults source.new }
 {
@@ -59,8 +62,11 @@ fn try_struct<S: Source, L: Ledger>(
 ) -> Result<bool, Memory>
     requires short { length code.now < 2 ^ 32 }
     requires here { slice_get code.now machine.old.pc ≡ Some (op.Record members) }
-    requires safe { (fetched : List ℕ) (noted : List Item) (s : State) → Reaches values.now order code.now machine.old.home (state_of machine.old) fetched noted s → IsSafe code.now s }
-    ensures leaps { LeapsOrGivesUp values.now order code.now machine.old.home (state_of machine.old) (source_seen S.Source.left S.Source.ended S.Source.faults source.old source.new) (L.number steps.old) (L.number steps.new) (state_of machine.new) result }
+    requires safe { (fetched : List ℕ) (noted : List Item) (s : State)
+        → Reaches values.now order code.now machine.old.home (state_of machine.old) fetched noted s → IsSafe code.now s }
+    ensures leaps { LeapsOrGivesUp values.now order code.now machine.old.home (state_of machine.old)
+        (source_seen S.Source.left S.Source.ended S.Source.faults source.old source.new) (L.number steps.old) (L.number steps.new)
+        (state_of machine.new) result }
     ensures outside { OnOk result (outside machine.new ≡ outside machine.old) }
     ensures later { S.Source.faults source.old ≤ S.Source.faults source.new }
 {
@@ -117,8 +123,10 @@ fn read_struct<L: Ledger>(
     requires fields { HasFields code.now (machine.old.pc + 1) machine.old.at members (length octets.now) }
     requires within { machine.old.at + length octets.now ≤ STREAM_LIMIT }
     requires octets { AreOctets octets.now }
-    requires safe { (fetched : List ℕ) (noted : List Item) (s : State) → Reaches values.now order code.now machine.old.home (state_of machine.old) fetched noted s → IsSafe code.now s }
-    ensures read { StructRead values.now order code.now machine.old.home (state_of machine.old) (L.number steps.old) octets.now (L.number steps.new) (state_of machine.new) result }
+    requires safe { (fetched : List ℕ) (noted : List Item) (s : State)
+        → Reaches values.now order code.now machine.old.home (state_of machine.old) fetched noted s → IsSafe code.now s }
+    ensures read { StructRead values.now order code.now machine.old.home (state_of machine.old) (L.number steps.old) octets.now (L.number steps.new)
+        (state_of machine.new) result }
     ensures outside { OnOk result (outside machine.new ≡ outside machine.old) }
 {
     machine.add_node(&Seen::Rec(members), None)?;
@@ -139,7 +147,8 @@ fn read_struct<L: Ledger>(
     Ok(())
 }
 
-// A member by the octets of its gap, which has so many, and of what it is. It is counted. Out of memory is the only refusal; then nothing is known of the machine.
+// A member by the octets of its gap, which has so many, and of what it is. It is counted. Out of memory is the only refusal; then nothing is known of
+// the machine.
 #[inline(always)]
 fn take_field<L: Ledger>(
     machine: &mut Machine,
@@ -156,8 +165,11 @@ fn take_field<L: Ledger>(
     requires few { machine.old.count + 1 < 2 ^ 32 }
     requires cells { machine.old.cells + 1 < 2 ^ 32 }
     ensures ok { OnOk result (state_of machine.new ≡ field_read order field octets.now (state_of machine.old)) }
-    ensures counted { OnOk result (L.number steps.new + length (state_of machine.old).cells ≡ L.number steps.old + 1 + length (state_of machine.new).cells) }
-    ensures idle { OnErr result (L.number steps.new + length (state_of machine.old).cells ≤ L.number steps.old + length (field_read order field octets.now (state_of machine.old)).cells) }
+    ensures counted { OnOk result
+        (L.number steps.new + length (state_of machine.old).cells ≡ L.number steps.old + 1 + length (state_of machine.new).cells) }
+    ensures idle { OnErr result
+        (L.number steps.new + length (state_of machine.old).cells ≤ L.number steps.old + length
+        (field_read order field octets.now (state_of machine.old)).cells) }
     ensures outside { OnOk result (outside machine.new ≡ outside machine.old) }
 {
     take_form(machine, order, field.form, &octets[gap as usize..], steps)?;

@@ -8,8 +8,8 @@ use crate::TextReason;
 use crate::fault::reason_of;
 use nd_grammar::Reason;
 
-/// Where the octets of a string with the terminator, which begin at a place, are refused, and why: at the first zero before the last octet, or at a last
-/// octet that is not zero (C706, 14.3.4). Takes no memory.
+/// Where the octets of a string with the terminator, which begin at a place, are refused, and why: at the first zero before the last octet, or at a
+/// last octet that is not zero (C706, 14.3.4). Takes no memory.
 pub fn refused_text(at: u32, octets: &[u8]) -> Option<(u32, Reason)>
     requires some { 0 < length octets.now }
     requires fits { at + length octets.now < 2 ^ 32 }

@@ -9,4 +9,4 @@ pub mod Within
 pub mod Safe
 pub mod EndRuns
 pub mod ChunkSafe
-mod Worked
+pub mod Worked

@@ -18,5 +18,5 @@ pub mod PlanRuns
 pub mod Begins
 pub mod Worked
 pub mod Bounds
-mod Alignments
+pub mod Alignments
 pub mod ChunkBegins

@@ -1,1 +1,2 @@
 pub mod CellsSeen
+pub mod InOrder

@@ -84,7 +84,8 @@ next_pending ws ws' us os os' o next n a l e f m g =
     ap (λ u. pending_in u os') (joined ws ws' us o e) ∙ ap (pending_in (ws ++ take o.len (drop o.from us))) f ∙ next_first ws us os o next a l (g ∙ ap (λ k. kept_from k o) m)
 
 -- the same fact of longer lists
-pub still_within : (ws more : List Wanted) (os : List code.Owed) → AllByRecursion (λ (p : code.Owed). p.from + p.len ≤ length ws) os → AllByRecursion (λ (p : code.Owed). p.from + p.len ≤ length (ws ++ more)) os
+pub still_within : (ws more : List Wanted) (os : List code.Owed) → AllByRecursion (λ (p : code.Owed). p.from + p.len ≤ length ws) os
+    → AllByRecursion (λ (p : code.Owed). p.from + p.len ≤ length (ws ++ more)) os
 still_within ws more [] a = tt
 still_within ws more (o ∷ os) a =
     let l : o.from + o.len ≤ length ws = a.0 in
@@ -131,10 +132,12 @@ deferred_turn us fresh p q r at o l there e f =
     let n : length fresh - (at + 1) ≡ length fresh - 1 - at = omega (arith, l) in
     let m : suc (length fresh - 1 - at) ≡ length fresh - at = omega (arith, l) in
     f ∙ ap (λ u. owed_of us o ∷ u) e
-    ∙ sym (ap (λ k. map (owed_of us) (drop k fresh) ++ r) n ∙ ap (λ xs. map (owed_of us) xs ++ r) (one_before fresh (length fresh - 1 - at) o there) ∙ ap (λ k. owed_of us o ∷ (map (owed_of us) (drop k fresh) ++ r)) m)
+    ∙ sym (ap (λ k. map (owed_of us) (drop k fresh) ++ r) n ∙ ap (λ xs. map (owed_of us) xs ++ r) (one_before fresh (length fresh - 1 - at) o there)
+    ∙ ap (λ k. owed_of us o ∷ (map (owed_of us) (drop k fresh) ++ r)) m)
 
 -- all are
-pub deferred_end : (us : List Wanted) (fresh : List code.Owed) (p r : List Owed) (at : ℕ) → length fresh ≤ at → p ≡ map (owed_of us) (drop (length fresh - at) fresh) ++ r → p ≡ map (owed_of us) fresh ++ r
+pub deferred_end : (us : List Wanted) (fresh : List code.Owed) (p r : List Owed) (at : ℕ) → length fresh ≤ at → p ≡ map (owed_of us) (drop (length fresh - at) fresh) ++ r
+    → p ≡ map (owed_of us) fresh ++ r
 deferred_end us fresh p r at l e = let z : length fresh - at ≡ 0 = omega (arith, l) in e ∙ ap (λ n. map (owed_of us) (drop n fresh) ++ r) z
 
 -- ## A home of one pointer at most, which has no agreements

@@ -35,8 +35,8 @@ read_count [] = 0
 read_count (entry.Unread ∷ es) = read_count es
 read_count (_ ∷ es) = suc (read_count es)
 
--- What is kept is right: each entry that is in one of the lists has one of its numbers, and neither list is longer than there are cells that were read, whose
--- numbers have 32 bits.
+-- What is kept is right: each entry that is in one of the lists has one of its numbers, and neither list is longer than there are cells that were
+-- read, whose numbers have 32 bits.
 pub record IsSound (l : Lists) (es : List CellEntry) : Type 0 where
   pub listed : AllByRecursion (IsListed l) es
   pub counted_few : length l.counted.items ≤ read_count es

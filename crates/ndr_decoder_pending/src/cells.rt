@@ -24,8 +24,8 @@ pub enum CellEntry {
     Listed(u32),
 }
 
-/// What is kept of a string, or of an array, whose counts are side by side: they, and the place of its actual count. The maximum count is before its value, eight octets before
-/// that place.
+/// What is kept of a string, or of an array, whose counts are side by side: they, and the place of its actual count. The maximum count is before its
+/// value, eight octets before that place.
 #[derive(Clone, Copy, Drop)]
 pub struct Counts {
     pub max: u32,
@@ -41,8 +41,8 @@ pub struct Lists {
     pub listed: Vec<Kept>,
 }
 
-/// What is kept of the cells that were read. Contracts see a list of it, by their numbers less one. A cell takes eight octets, one that an agreement may speak of
-/// an item of a list more, of which counts side by side take sixteen octets.
+/// What is kept of the cells that were read. Contracts see a list of it, by their numbers less one. A cell takes eight octets, one that an agreement
+/// may speak of an item of a list more, of which counts side by side take sixteen octets.
 #[derive(Drop)]
 pub struct KeptCells {
     entries: Vec<CellEntry>,

@@ -28,8 +28,8 @@ impl Stream {
         Ok(())
     }
 
-    /// Keeps the cell whose value was read now, and gives what is kept of it. Its pointers are not pending yet. It takes memory, and out of memory is the only
-    /// refusal.
+    /// Keeps the cell whose value was read now, and gives what is kept of it. Its pointers are not pending yet. It takes memory, and out of memory is
+    /// the only refusal.
     pub fn end_cell(&mut self, cell: CellId) -> Result<Kept, DecodeFault>
         requires there { 0 < cell.0 }
         requires unread { kept_at self.old.cells.items cell.0 ≡ None }
@@ -93,8 +93,8 @@ impl Stream {
         Ok(())
     }
 
-    /// Keeps the root that is a reference pointer, and its referent, whose value was read; its pointers become pending. It takes memory, and out of memory is
-    /// the only refusal.
+    /// Keeps the root that is a reference pointer, and its referent, whose value was read; its pointers become pending. It takes memory, and out of
+    /// memory is the only refusal.
     pub fn end_reference(&mut self, cell: CellId) -> Result<(), DecodeFault>
         requires there { 0 < cell.0 }
         requires unread { kept_at self.old.cells.items cell.0 ≡ None }

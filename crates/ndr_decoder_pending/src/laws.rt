@@ -9,8 +9,10 @@ ghost use Rattle.ndr_decoder_pending.specs.Ends.{HomeRan};
 
 /// Where the nodes of an open home are those of a value, and what was read before it is as it was, the graph is that before with the value.
 pub fn graphs_end()
-    ensures root { (b n : Building) (v : Tree) → HomeRan (opened (home.Root (length b.graph.roots)) (with_root (closed b)) b) n → n.nodes ≡ flat (more v none)
+    ensures root { (b n : Building) (v : Tree) → HomeRan (opened (home.Root (length b.graph.roots)) (with_root (closed b)) b) n
+        → n.nodes ≡ flat (more v none)
         → RootAdded v (map (λ c. c.of) n.graph.cells) (closed b) (closed n) }
-    ensures cell { (b n : Building) (c : ℕ) (v : Tree) → HomeRan (opened (cell_home c) (closed b) b) n → n.nodes ≡ flat (more v none) → 0 < c → c ≤ length n.graph.cells
+    ensures cell { (b n : Building) (c : ℕ) (v : Tree) → HomeRan (opened (cell_home c) (closed b) b) n → n.nodes ≡ flat (more v none) → 0 < c
+        → c ≤ length n.graph.cells
         → CellFilled (closed b).roots c v (map (λ x. x.of) n.graph.cells) (closed b) (closed n) }
 {}

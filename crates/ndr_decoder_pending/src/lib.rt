@@ -1,5 +1,5 @@
-//! What a decoder keeps of a stream between the values of its homes: where each home begins and ends, the referents that are pending, and what agreements
-//! need of the roots and cells that were read.
+//! What a decoder keeps of a stream between the values of its homes: where each home begins and ends, the referents that are pending, and what
+//! agreements need of the roots and cells that were read.
 #![tactic(auto)]
 
 mod cells;

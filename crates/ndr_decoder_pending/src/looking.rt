@@ -1,5 +1,5 @@
 // What is kept of homes.
-ghost use Rattle.std.specs.Prelude.{◌≡◌, ◌<◌, List, map, OnOk, IfSome, true};
+ghost use Rattle.std.specs.Prelude.{◌≡◌, ◌<◌, List, None, map, OnOk, IfSome, true};
 ghost use Rattle.nd_value.specs.Seen.{cell_number};
 ghost use Rattle.ndr_decoder_state.specs.Seen.{owed_of};
 ghost use Rattle.ndr_decoder_state.specs.declared.machine.Wanted.{Wanted};

@@ -42,7 +42,10 @@ impl Stream {
         requires whole { CanClose self.old.machine.builder }
         requires few { length self.old.roots.items < 2 ^ 32 }
         ensures opens { OnOk result (Opens run (between_of self.old) (between_of self.old).cells (state_of self.new.machine)) }
-        ensures builder { OnOk result (self.new.machine.builder ≡ opened (home.Root (length self.old.machine.builder.graph.roots)) (with_root (closed self.old.machine.builder)) self.old.machine.builder) }
+        ensures builder { OnOk result
+            (self.new.machine.builder
+            ≡ opened (home.Root (length self.old.machine.builder.graph.roots))
+            (with_root (closed self.old.machine.builder)) self.old.machine.builder) }
         ensures home { OnOk result (self.new.machine.home ≡ home.Root (length self.old.roots.items)) }
         ensures kept { KeepsAll self.old self.new }
         ensures memory { IfErr result (λ e. e ≡ fault.Memory) }
@@ -67,8 +70,8 @@ impl Stream {
         self.machine.start(Home::Cell(cell), run);
     }
 
-    /// Opens the next root, which is a reference pointer, and a cell of its own for the referent, whose value begins at a run: the cell gets its number, which
-    /// counts one step. It takes memory, and out of memory is the only refusal; then at most one step was counted.
+    /// Opens the next root, which is a reference pointer, and a cell of its own for the referent, whose value begins at a run: the cell gets its
+    /// number, which counts one step. It takes memory, and out of memory is the only refusal; then at most one step was counted.
     pub fn open_reference<L: Ledger>(
         &mut self,
         to: TypeId,
@@ -79,7 +82,9 @@ impl Stream {
         requires few_cells { length self.old.machine.builder.graph.cells < 2 ^ 32 - 1 }
         ensures cell { IfOk result (λ c. c.0 ≡ length self.old.machine.builder.graph.cells + 1) }
         ensures opens { OnOk result (Opens run (between_of self.old) ((between_of self.old).cells ++ to.0 ∷ []) (state_of self.new.machine)) }
-        ensures builder { IfOk result (λ c. self.new.machine.builder ≡ opened (cell_home c.0) (with_reference c.0 to.0 (closed self.old.machine.builder)) self.old.machine.builder) }
+        ensures builder { IfOk result
+            (λ c. self.new.machine.builder
+            ≡ opened (cell_home c.0) (with_reference c.0 to.0 (closed self.old.machine.builder)) self.old.machine.builder) }
         ensures home { IfOk result (λ c. self.new.machine.home ≡ cell_home c.0) }
         ensures kept { KeepsAll self.old self.new }
         ensures tick { OnOk result (L.number steps.new ≡ L.number steps.old + 1) }
@@ -95,7 +100,9 @@ impl Stream {
 // Opens the next root.
 fn add_root(machine: &mut Machine) -> Result<(), DecodeFault>
     requires whole { CanClose machine.old.builder }
-    ensures builder { OnOk result (machine.new.builder ≡ opened (home.Root (length machine.old.builder.graph.roots)) (with_root (closed machine.old.builder)) machine.old.builder) }
+    ensures builder { OnOk result
+        (machine.new.builder
+        ≡ opened (home.Root (length machine.old.builder.graph.roots)) (with_root (closed machine.old.builder)) machine.old.builder) }
     ensures at { machine.new.at ≡ machine.old.at }
     ensures referents { machine.new.referents ≡ machine.old.referents }
     ensures memory { IfErr result (λ e. e ≡ fault.Memory) }
@@ -127,7 +134,8 @@ fn add_reference<L: Ledger>(
     requires whole { CanClose machine.old.builder }
     requires few_cells { length machine.old.builder.graph.cells < 2 ^ 32 - 1 }
     ensures cell { IfOk result (λ c. c.0 ≡ length machine.old.builder.graph.cells + 1) }
-    ensures builder { IfOk result (λ c. machine.new.builder ≡ opened (cell_home c.0) (with_reference c.0 to.0 (closed machine.old.builder)) machine.old.builder) }
+    ensures builder { IfOk result
+        (λ c. machine.new.builder ≡ opened (cell_home c.0) (with_reference c.0 to.0 (closed machine.old.builder)) machine.old.builder) }
     ensures at { machine.new.at ≡ machine.old.at }
     ensures referents { machine.new.referents ≡ machine.old.referents }
     ensures tick { OnOk result (L.number steps.new ≡ L.number steps.old + 1) }

@@ -13,11 +13,13 @@ use ndr_decoder_state::{Machine, Owed, Wanted};
 use std::mem;
 
 impl Stream {
-    /// The pointers of the home that was read become pending, before the others: the first of them is the next. It takes memory, and out of memory is the
-    /// only refusal.
+    /// The pointers of the home that was read become pending, before the others: the first of them is the next. It takes memory, and out of memory is
+    /// the only refusal.
     #[inline(always)]
     pub fn settle(&mut self) -> Result<(), Memory>
-        ensures pending { OnOk result (pending_in self.new.wanted.items self.new.todo.items ≡ (state_of self.old.machine).fresh ++ pending_in self.old.wanted.items self.old.todo.items) }
+        ensures pending { OnOk result
+            (pending_in self.new.wanted.items self.new.todo.items ≡ (state_of self.old.machine).fresh
+            ++ pending_in self.old.wanted.items self.old.todo.items) }
         ensures cleared { OnOk result (IsCleared self.old.machine self.new.machine) }
         ensures homes { KeepsHomes self.old self.new }
     {
@@ -27,11 +29,14 @@ impl Stream {
         self.settle_all()
     }
 
-    /// Does what `settle` does, but the pointer of a home that has one at most, and no agreements, does not become pending: it is given, and it is the next one.
-    /// Where the list of what is kept of cells is full, it first makes room for what so many octets at hand will give, if memory has it.
+    /// Does what `settle` does, but the pointer of a home that has one at most, and no agreements, does not become pending: it is given, and it is
+    /// the next one. Where the list of what is kept of cells is full, it first makes room for what so many octets at hand will give, if memory has
+    /// it.
     #[inline(always)]
     pub fn settle_ahead(&mut self, ahead: usize) -> Result<Option<Owed>, Memory>
-        ensures pending { IfOk result (λ q. pending_with q self.new.wanted.items self.new.todo.items ≡ (state_of self.old.machine).fresh ++ pending_in self.old.wanted.items self.old.todo.items) }
+        ensures pending { IfOk result
+            (λ q. pending_with q self.new.wanted.items self.new.todo.items ≡ (state_of self.old.machine).fresh
+            ++ pending_in self.old.wanted.items self.old.todo.items) }
         ensures within { IfOk result (λ q. IfSome q (λ o. o.from + o.len ≤ length self.new.wanted.items)) }
         ensures cleared { OnOk result (IsCleared self.old.machine self.new.machine) }
         ensures homes { KeepsHomes self.old self.new }
@@ -45,7 +50,9 @@ impl Stream {
     // The same without room.
     #[inline(always)]
     fn settle_or_give(&mut self) -> Result<Option<Owed>, Memory>
-        ensures pending { IfOk result (λ q. pending_with q self.new.wanted.items self.new.todo.items ≡ (state_of self.old.machine).fresh ++ pending_in self.old.wanted.items self.old.todo.items) }
+        ensures pending { IfOk result
+            (λ q. pending_with q self.new.wanted.items self.new.todo.items ≡ (state_of self.old.machine).fresh
+            ++ pending_in self.old.wanted.items self.old.todo.items) }
         ensures within { IfOk result (λ q. IfSome q (λ o. o.from + o.len ≤ length self.new.wanted.items)) }
         ensures cleared { OnOk result (IsCleared self.old.machine self.new.machine) }
         ensures homes { KeepsHomes self.old self.new }
@@ -62,7 +69,8 @@ impl Stream {
     fn give_one(&mut self) -> Option<Owed>
         requires few { length self.old.machine.fresh.items < 2 }
         requires none { self.old.machine.wanted.items ≡ [] }
-        ensures pending { pending_with result self.new.wanted.items self.new.todo.items ≡ (state_of self.old.machine).fresh ++ pending_in self.old.wanted.items self.old.todo.items }
+        ensures pending { pending_with result self.new.wanted.items self.new.todo.items ≡ (state_of self.old.machine).fresh
+            ++ pending_in self.old.wanted.items self.old.todo.items }
         ensures within { IfSome result (λ o. o.from + o.len ≤ length self.new.wanted.items) }
         ensures cleared { IsCleared self.old.machine self.new.machine }
         ensures homes { KeepsHomes self.old self.new }
@@ -77,7 +85,9 @@ impl Stream {
     fn settle_one(&mut self) -> Result<(), Memory>
         requires few { length self.old.machine.fresh.items < 2 }
         requires none { self.old.machine.wanted.items ≡ [] }
-        ensures pending { OnOk result (pending_in self.new.wanted.items self.new.todo.items ≡ (state_of self.old.machine).fresh ++ pending_in self.old.wanted.items self.old.todo.items) }
+        ensures pending { OnOk result
+            (pending_in self.new.wanted.items self.new.todo.items ≡ (state_of self.old.machine).fresh
+            ++ pending_in self.old.wanted.items self.old.todo.items) }
         ensures cleared { OnOk result (IsCleared self.old.machine self.new.machine) }
         ensures homes { KeepsHomes self.old self.new }
     {
@@ -91,7 +101,9 @@ impl Stream {
     // The pointers of any home become pending.
     #[inline(never)]
     fn settle_all(&mut self) -> Result<(), Memory>
-        ensures pending { OnOk result (pending_in self.new.wanted.items self.new.todo.items ≡ (state_of self.old.machine).fresh ++ pending_in self.old.wanted.items self.old.todo.items) }
+        ensures pending { OnOk result
+            (pending_in self.new.wanted.items self.new.todo.items ≡ (state_of self.old.machine).fresh
+            ++ pending_in self.old.wanted.items self.old.todo.items) }
         ensures cleared { OnOk result (IsCleared self.old.machine self.new.machine) }
         ensures homes { KeepsHomes self.old self.new }
     {
@@ -187,7 +199,8 @@ fn defer_all(
     machine: &Machine,
 ) -> Result<(), Memory>
     requires spans { AreSpans wanted.old.items todo.old.items }
-    ensures pending { OnOk result (pending_in wanted.new.items todo.new.items ≡ (state_of machine.now).fresh ++ pending_in wanted.old.items todo.old.items) }
+    ensures pending { OnOk result
+        (pending_in wanted.new.items todo.new.items ≡ (state_of machine.now).fresh ++ pending_in wanted.old.items todo.old.items) }
     ensures still { AreSpans wanted.new.items todo.new.items }
 {
     let count = machine.fresh.as_slice().len();

@@ -1,15 +1,16 @@
 // Room for what is read.
-ghost use Rattle.std.specs.Prelude.{◌≡◌, ◌≤◌};
+ghost use Rattle.std.specs.Prelude.{◌≡◌, ◌<◌, ◌≤◌};
 ghost use Rattle.ndr_decoder_pending.specs.Seen.{IsSame};
 
 use crate::KeptCells;
 use ndr_decoder_laws::First;
 use ndr_decoder_state::Machine;
 
-// Makes room for the cells that so many octets at hand will give, if they go on as those that were read, but for at most eight times as many as were read; and for
-// those that have their numbers and were not read. Of nodes there is room for as many in each as the home has that was read last, but for at most sixteen, and for
-// at most one for each octet; of octets of texts for as many in each as that home's count says, and for at most those at hand. So the lists are moved less often as
-// they grow, and no count that the octets claim takes room. Where the cells would be less than twice as many it makes none: as lists grow they double.
+// Makes room for the cells that so many octets at hand will give, if they go on as those that were read, but for at most eight times as many as were
+// read; and for those that have their numbers and were not read. Of nodes there is room for as many in each as the home has that was read last, but
+// for at most sixteen, and for at most one for each octet; of octets of texts for as many in each as that home's count says, and for at most those at
+// hand. So the lists are moved less often as they grow, and no count that the octets claim takes room. Where the cells would be less than twice as
+// many it makes none: as lists grow they double.
 #[cold]
 #[inline(never)]
 pub(crate) fn make_room(machine: &mut Machine, cells: &mut KeptCells, ahead: usize)

@@ -35,7 +35,8 @@ notes_seen log log_now steps steps_now cells cells_now =
 -- Where memory failed nothing of a step was noted or counted. Or all its items were, with a cell at most: then it was not refused.
 pub data IsNotedPart (o : Outcome) (xs : List Item) (n : NotesSeen) : Type 0 where
   nothing_noted : n.log_now ≡ n.log → n.steps_now ≤ n.steps → IsNotedPart o xs n
-  all_are_noted : (s : State) → o ≡ goes s → n.log_now ≡ all_noted xs n.log → n.steps_now + n.cells ≤ n.steps + ticks xs + length s.cells → IsNotedPart o xs n
+  all_are_noted : (s : State) → o ≡ goes s → n.log_now ≡ all_noted xs n.log → n.steps_now + n.cells ≤ n.steps + ticks xs + length s.cells
+      → IsNotedPart o xs n
 
 -- all items of a step that comes to this outcome were noted and counted, with the cells; nothing, where the octets are refused
 abbrev pub Noted : {T : Type 0} → Outcome → List Item → NotesSeen → Result T DecodeFault → Type 0

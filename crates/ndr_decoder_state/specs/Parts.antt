@@ -63,7 +63,9 @@ record_closed first s = next (popped (with_members (take first s.members) (take 
 
 abbrev pub member_called : ℕ → ℕ → State → State
 member_called first run s =
-    jumped run (with_frames (frame.Record (s.pc + 1) first) s.stack (with_members (s.members ++ record { node = length s.nodes; pending = length s.fresh } ∷ []) s.firsts s))
+    jumped run
+    (with_frames (frame.Record (s.pc + 1) first) s.stack
+    (with_members (s.members ++ record { node = length s.nodes; pending = length s.fresh } ∷ []) s.firsts s))
 
 abbrev pub elements_frame : ℕ → ℕ → ℕ → Frame
 elements_frame left run back = frame.Elements left run back

@@ -91,8 +91,8 @@ impl Machine {
         Ok(())
     }
 
-    /// The instruction `call`: in a struct a run is that of the next member, else it takes the place of the one that is followed. It takes memory for a
-    /// member, and out of memory is the only refusal; then nothing is known of the machine.
+    /// The instruction `call`: in a struct a run is that of the next member, else it takes the place of the one that is followed. It takes memory for
+    /// a member, and out of memory is the only refusal; then nothing is known of the machine.
     #[inline(always)]
     pub fn call(&mut self, run: u32) -> Result<(), DecodeFault>
         requires code { self.old.pc < 2 ^ 32 }

@@ -23,8 +23,8 @@ pub enum Phase {
     CountRead(u32),
 }
 
-/// A referent that is pending: its type, its whole run, and the cell that the pointer names. The agreements of the pointer are `len` of those that were
-/// kept, from `from` on.
+/// A referent that is pending: its type, its whole run, and the cell that the pointer names. The agreements of the pointer are `len` of those that
+/// were kept, from `from` on.
 #[derive(Clone, Copy, Debug, PartialEq, Eq)]
 pub struct Owed {
     pub class: Class,
@@ -72,7 +72,8 @@ pub struct Machine {
     /// The referents that are pending since the home's beginning, and the agreements of all pointers.
     pub fresh: Vec<Owed>,
     pub wanted: Vec<Wanted>,
-    pub ghost spans: { AllByRecursion (λ o. o.from + o.len ≤ length wanted.items) fresh.items } by { AreWithin-prop (length wanted.items) fresh.items },
+    pub ghost spans: { AllByRecursion (λ o. o.from + o.len ≤ length wanted.items) fresh.items } by { AreWithin-prop
+        (length wanted.items) fresh.items },
     /// The graph so far, and the numbers of full pointers.
     pub builder: Builder,
     pub ghost counted: { count ≡ length builder.nodes },

@@ -11,8 +11,9 @@ use nd_flat::Seen;
 use ndr_decoder_laws::{First, Frame};
 
 impl Machine {
-    /// Adds a node. `place` is where its actual count or its tag is in the stream, if it has one. A number or tag must be from -2^64 to 2^64 - 1, and a
-    /// text have fewer than 2^32 octets with its terminator. It takes memory, and out of memory is the only refusal; then nothing is known of the machine.
+    /// Adds a node. `place` is where its actual count or its tag is in the stream, if it has one. A number or tag must be from -2^64 to 2^64 - 1, and
+    /// a text have fewer than 2^32 octets with its terminator. It takes memory, and out of memory is the only refusal; then nothing is known of the
+    /// machine.
     #[inline(always)]
     pub fn add(&mut self, node: &Seen<'_>, place: Option<u32>) -> Result<(), DecodeFault>
         requires keepable { IsKeepable (flat_seen node.now).0 }
@@ -69,7 +70,8 @@ impl Machine {
     #[inline(always)]
     fn push_first(&mut self, first: First) -> Result<(), Memory>
         requires small { IsSmall first }
-        ensures ok { OnOk result (state_of self.new ≡ with_members (state_of self.old).members ((state_of self.old).firsts ++ first ∷ []) (state_of self.old)) }
+        ensures ok { OnOk result
+            (state_of self.new ≡ with_members (state_of self.old).members ((state_of self.old).firsts ++ first ∷ []) (state_of self.old)) }
         ensures count { self.new.count ≡ self.old.count }
         ensures top { self.new.top ≡ self.old.top }
         ensures outside { OnOk result (outside self.new ≡ outside self.old) }

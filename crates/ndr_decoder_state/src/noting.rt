@@ -11,8 +11,8 @@ use nd_base::{Ledger, Steps};
 use nd_value::{Item, ItemKind, ItemLog};
 
 impl Machine {
-    /// Notes an item of the node that comes next, at the place where the machine is. It takes memory, if the log keeps items; then neither the log nor
-    /// the count has changed. Out of memory is the only refusal.
+    /// Notes an item of the node that comes next, at the place where the machine is. It takes memory, if the log keeps items; then neither the log
+    /// nor the count has changed. Out of memory is the only refusal.
     #[inline(always)]
     pub fn note<L: Ledger>(
         &self,

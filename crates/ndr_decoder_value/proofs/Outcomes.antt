@@ -24,7 +24,8 @@ use Rattle.ndr_decoder_laws.specs.declared.frame.Frame.{Frame}
 use Rattle.ndr_decoder_laws.specs.declared.frame.Frame.TheVariants as frame
 use Rattle.ndr_decoder_laws.specs.declared.first.First.{First}
 use Rattle.ndr_decoder_laws.specs.declared.first.Member.{Member}
-use Rattle.ndr_decoder_laws.specs.steps.Steps.{State, Outcome, goes, refused, Phase, begun, gap_read, offset_read, count_read, past, done_after, back_to, owing, full_by, pointer_step, is_owing, disagreed, try_all, checked, check_in, text_done, limit_of, vary_by, text_by, hoist_by, tag_form, step, place_of, place_in, first_found, first_number}
+use Rattle.ndr_decoder_laws.specs.steps.Steps.{State, Outcome, goes, refused, Phase, begun, gap_read, offset_read, count_read, past, done_after, back_to, owing, full_by, pointer_step, is_owing}
+use Rattle.ndr_decoder_laws.specs.steps.Steps.{disagreed, try_all, checked, check_in, text_done, limit_of, vary_by, text_by, hoist_by, tag_form, step, place_of, place_in, first_found, first_number}
 
 abbrev pub IsOwnRefusal : Outcome → Type 0
 IsOwnRefusal (refused place reason.TooLong) = ⊥

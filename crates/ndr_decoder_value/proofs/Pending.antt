@@ -47,7 +47,8 @@ joined_at ws more x [] n o new h there e at = absurd (omega (arith, there))
 joined_at ws more x (p ∷ ps) zero o new h there e at =
     let same : p ≡ o = cc in
     ap₂ (λ (y : steps.Owed) (ys : List steps.Owed). y ∷ ys)
-    (e ∙ ap (λ (q : Owed). record { class = (owed_of ws q).class; to = (owed_of ws q).to; run = (owed_of ws q).run; cell = (owed_of ws q).cell; agreements = (owed_of ws q).agreements ++ x ∷ [] }) (sym same))
+    (e ∙ ap (λ (q : Owed). record { class = (owed_of ws q).class; to = (owed_of ws q).to; run = (owed_of ws q).run; cell = (owed_of ws q).cell; agreements = (owed_of ws q).agreements ++ x ∷ [] })
+    (sym same))
     (fresh_kept ws more ps h.1)
 joined_at ws more x (p ∷ ps) (suc n) o new h there e at =
     ap₂ (λ (y : steps.Owed) (ys : List steps.Owed). y ∷ ys) (owed_kept ws more p h.0) (joined_at ws more x ps n o new h.1 (omega (arith, there)) e at)

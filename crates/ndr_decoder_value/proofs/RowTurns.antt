@@ -1,6 +1,7 @@
 -- A row of numbers that is read in one go: what a turn comes to, where its octets came, and where they did not all come.
 -- `p` is the primitive, `count` how many numbers were wanted, `m` how many came whole, `os` are the octets that came, `s0` is the state before.
-use Rattle.std.proofs.Common.{◌≡◌, ◌<◌, ◌≤◌, ℕ, ◌+◌, ◌-◌, ◌*◌, ◌/◌, ◌%◌, zero, suc, List, [], ◌∷◌, ◌++◌, length, take, drop, Some, Err, refl, sym, ap, ap₂, ◌∙◌, subst, arith, take-take, take-append-drop, length-take-le, length-drop}
+use Rattle.std.proofs.Common.{◌≡◌, ◌<◌, ◌≤◌, ℕ, ◌+◌, ◌-◌, ◌*◌, ◌/◌, ◌%◌, zero, suc, List, [], ◌∷◌, ◌++◌, length, take, drop, Some, Err, refl, sym, ap, ap₂, ◌∙◌, subst, arith, take-take}
+use Rattle.std.proofs.Common.{take-append-drop, length-take-le, length-drop}
 use Rattle.std.proofs.lemmas.List.{drop-take, nil_from_length}
 use Rattle.std.specs.Prelude.{slice_get}
 use Rattle.std.specs.Io.KnownBytes.{Consumes}

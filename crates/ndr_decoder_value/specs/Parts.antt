@@ -1,6 +1,7 @@
 -- Parts of steps, as the code has functions for them.
 -- `s` is a state, `x` what is kept of a node, `n` an offset or a pointer's number, `c` a count.
-use Rattle.std.specs.Prelude.{◌≡◌, ℕ, ◌+◌, ◌-◌, ℤ, Bool, true, false, eqb, ltb, if◌then◌else◌, List, [], ◌∷◌, ◌++◌, length, take, drop, slice_get, Option, Some, None, Result, Ok, Err, option_map}
+use Rattle.std.specs.Prelude.{◌≡◌, ℕ, ◌+◌, ◌-◌, ℤ, Bool, true, false, eqb, ltb, if◌then◌else◌, List, [], ◌∷◌, ◌++◌, length, take, drop, slice_get}
+use Rattle.std.specs.Prelude.{Option, Some, None, Result, Ok, Err, option_map}
 use Rattle.std.specs.Ordering.{int_eq}
 use Rattle.nd_base.specs.declared.octets.Order.{Order}
 use Rattle.nd_types.specs.declared.types.Attr.{Attr}
@@ -28,7 +29,9 @@ use Rattle.ndr_decoder_laws.specs.declared.first.First.TheVariants as first
 use Rattle.ndr_decoder_state.specs.declared.fault.DecodeFault.{DecodeFault}
 use Rattle.ndr_decoder_state.specs.declared.fault.DecodeFault.TheVariants as fault
 use Rattle.ndr_decoder_laws.specs.declared.frame.Frame.TheVariants as frame
-use Rattle.ndr_decoder_laws.specs.steps.Steps.{State, Outcome, Owed, goes, refused, next, jumped, past, pushed, with_node, checked, first_number, first_found, place_of, place_in, done_after, elements, arm_taken, Want, no_octets, gap_of, item_of, owing, new_cell, full_by, Phase, begun, gap_read, offset_read, count_read, step}
+use Rattle.ndr_decoder_laws.specs.steps.Steps.{State, Outcome, Owed, goes, refused, next, jumped, past, pushed, with_node, checked, first_number}
+use Rattle.ndr_decoder_laws.specs.steps.Steps.{first_found, place_of, place_in, done_after, elements, arm_taken, Want, no_octets, gap_of, item_of}
+use Rattle.ndr_decoder_laws.specs.steps.Steps.{owing, new_cell, full_by, Phase, begun, gap_read, offset_read, count_read, step}
 
 -- ## Octets and instructions
 

@@ -1,6 +1,6 @@
 -- What a run of the code over octets comes to, from a state on, by its steps (`ndr_decoder_laws: specs/Reaching`).
--- `s0` is the state at the beginning, `s` one that was reached, `fetched` are the octets of the steps so far and `noted` their items, `os` the octets of
--- one step, `i` is an instruction.
+-- `s0` is the state at the beginning, `s` one that was reached, `fetched` are the octets of the steps so far and `noted` their items, `os` the octets
+-- of one step, `i` is an instruction.
 use Rattle.std.specs.Prelude.{◌≡◌, ◌≤◌, ℕ, ◌+◌, true, List, [], ◌++◌, length, slice_get, Some, Result, Ok, Err}
 use Rattle.std.specs.Io.KnownBytes.{Consumes, IsAtEnd}
 use Rattle.nd_base.specs.declared.octets.Order.{Order}
@@ -36,7 +36,8 @@ abbrev pub IsLoggedPart : List Item → State → State → NotesSeen → Type 0
 IsLoggedPart noted s0 s n = (n.log_now ≡ all_noted noted n.log) × (n.steps_now + length s0.cells ≤ n.steps + ticks noted + length s.cells)
 
 -- so many octets were taken from the source by steps, and their items were noted
-pub record Moves (values : List EnumList) (order : Order) (code : List Instr) (h : Home) (s0 : State) (source : SourceSeen) (notes : NotesSeen) (s1 : State) : Type 0 where
+pub record Moves (values : List EnumList) (order : Order) (code : List Instr) (h : Home) (s0 : State) (source : SourceSeen) (notes : NotesSeen)
+    (s1 : State) : Type 0 where
   pub fetched : List ℕ
   pub noted : List Item
   pub reached : Reaches values order code h s0 fetched noted s1
@@ -55,20 +56,24 @@ pub record End (values : List EnumList) (order : Order) (code : List Instr) (h :
   pub octets : AreOctets os
   pub left : Consumes source.left source.left_now (fetched ++ os)
 
-module _ (values : List EnumList) (order : Order) (code : List Instr) (h : Home) (s0 : State) (source : SourceSeen) (notes : NotesSeen) (s1 : State) where
+module _ (values : List EnumList) (order : Order) (code : List Instr) (h : Home) (s0 : State) (source : SourceSeen) (notes : NotesSeen)
+    (s1 : State) where
   -- the value is whole: the last step, which is noted too, has come to it
   abbrev pub EndsWhole : Type 0
   EndsWhole =
       (e : End values order code h s0 source)
-      × (HasOctets (wants values e.i e.s) e.os e.s.at × ((step values order e.os e.i e.s ≡ whole s1) × IsLogged (e.noted ++ step_items order h e.os e.i e.s) s0 s1 notes))
+      × (HasOctets (wants values e.i e.s) e.os e.s.at
+      × ((step values order e.os e.i e.s ≡ whole s1) × IsLogged (e.noted ++ step_items order h e.os e.i e.s) s0 s1 notes))
 
   -- the octets are refused: the last step is, or there is no step because its octets do not come, or would end past the limit of a stream
   abbrev pub EndsBad : ℕ → Reason → Type 0
   EndsBad place reason.TooLong =
-      (e : End values order code h s0 source) × (IsTooLong (wants values e.i e.s) e.s.at × ((e.os ≡ []) × ((place ≡ STREAM_LIMIT) × IsLogged e.noted s0 e.s notes)))
+      (e : End values order code h s0 source)
+      × (IsTooLong (wants values e.i e.s) e.s.at × ((e.os ≡ []) × ((place ≡ STREAM_LIMIT) × IsLogged e.noted s0 e.s notes)))
   EndsBad place reason.Truncated =
       (e : End values order code h s0 source)
-      × (IsCut (wants values e.i e.s) e.os e.s.at × ((place ≡ e.s.at + length e.os) × ((source.ended ≡ true) × (IsAtEnd source.left_now × IsLogged e.noted s0 e.s notes))))
+      × (IsCut (wants values e.i e.s) e.os e.s.at
+      × ((place ≡ e.s.at + length e.os) × ((source.ended ≡ true) × (IsAtEnd source.left_now × IsLogged e.noted s0 e.s notes))))
   EndsBad place why =
       (e : End values order code h s0 source)
       × (HasOctets (wants values e.i e.s) e.os e.s.at × ((step values order e.os e.i e.s ≡ refused place why) × IsLogged e.noted s0 e.s notes))
@@ -107,8 +112,8 @@ stream_answer (Err (intake.Truncated place)) = Err (fault.Bad place reason.Trunc
 
 -- ## Octets of one step
 
--- What fetching the octets that a step wants at a place comes to, where `os` are those that came: they would end past the limit of a stream, or the source
--- has ended, or failed, before the last of them.
+-- What fetching the octets that a step wants at a place comes to, where `os` are those that came: they would end past the limit of a stream, or the
+-- source has ended, or failed, before the last of them.
 abbrev pub FetchesBad : Want → ℕ → SourceSeen → List ℕ → ℕ → Reason → Type 0
 FetchesBad w at source os place reason.TooLong = IsTooLong w at × ((os ≡ []) × (place ≡ STREAM_LIMIT))
 FetchesBad w at source os place reason.Truncated = IsCut w os at × ((place ≡ at + length os) × ((source.ended ≡ true) × IsAtEnd source.left_now))

@@ -66,7 +66,9 @@ pub(crate) fn varying<L: Ledger>(
     requires fits { machine.old.at + 4 < 2 ^ 32 }
     requires few { machine.old.count + 1 < 2 ^ 32 }
     ensures does { Does (vary_by [] order octets.now (phase_of machine.old.phase) limit run (state_of machine.old)) result (state_of machine.new) }
-    ensures noted { Noted (vary_by [] order octets.now (phase_of machine.old.phase) limit run (state_of machine.old)) (vary_items order machine.old.home octets.now (phase_of machine.old.phase) (state_of machine.old)) (notes_seen items.old items.new (L.number steps.old) (L.number steps.new) machine.old.cells machine.new.cells) result }
+    ensures noted { Noted (vary_by [] order octets.now (phase_of machine.old.phase) limit run (state_of machine.old))
+        (vary_items order machine.old.home octets.now (phase_of machine.old.phase) (state_of machine.old))
+        (notes_seen items.old items.new (L.number steps.old) (L.number steps.new) machine.old.cells machine.new.cells) result }
     ensures outside { OnOk result (outside machine.new ≡ outside machine.old) }
 {
     let number = read_count(order, octets);
@@ -96,7 +98,9 @@ pub(crate) fn count_read<L: Ledger>(
 ) -> Result<(), DecodeFault>
     requires fits { machine.old.at + 4 < 2 ^ 32 }
     ensures does { Does (goes (past 4 (phase_of phase) (state_of machine.old))) result (state_of machine.new) }
-    ensures noted { Noted (goes (past 4 (phase_of phase) (state_of machine.old))) (next_item machine.old.home (state_of machine.old) kind 4 (pos number) ∷ []) (notes_seen items.old items.new (L.number steps.old) (L.number steps.new) machine.old.cells machine.new.cells) result }
+    ensures noted { Noted (goes (past 4 (phase_of phase) (state_of machine.old)))
+        (next_item machine.old.home (state_of machine.old) kind 4 (pos number) ∷ [])
+        (notes_seen items.old items.new (L.number steps.old) (L.number steps.new) machine.old.cells machine.new.cells) result }
     ensures outside { OnOk result (outside machine.new ≡ outside machine.old) }
     ensures count { machine.new.count ≡ machine.old.count }
     ensures pc { machine.new.pc ≡ machine.old.pc }
@@ -124,7 +128,9 @@ fn actual<L: Ledger>(
     requires fits { machine.old.at + 4 < 2 ^ 32 }
     requires few { machine.old.count + 1 < 2 ^ 32 }
     ensures does { Does (actual_read offset count limit run (state_of machine.old)) result (state_of machine.new) }
-    ensures noted { Noted (actual_read offset count limit run (state_of machine.old)) (next_item machine.old.home (state_of machine.old) item.Actual 4 (pos count) ∷ []) (notes_seen items.old items.new (L.number steps.old) (L.number steps.new) machine.old.cells machine.new.cells) result }
+    ensures noted { Noted (actual_read offset count limit run (state_of machine.old))
+        (next_item machine.old.home (state_of machine.old) item.Actual 4 (pos count) ∷ [])
+        (notes_seen items.old items.new (L.number steps.old) (L.number steps.new) machine.old.cells machine.new.cells) result }
     ensures outside { OnOk result (outside machine.new ≡ outside machine.old) }
 {
     if u64::from(limit) < u64::from(offset) + u64::from(count) {
@@ -156,7 +162,9 @@ pub(crate) fn hoist<L: Ledger>(
     requires code { machine.old.pc < 2 ^ 32 }
     requires fits { machine.old.at + length octets.now < 2 ^ 32 }
     ensures does { Does (hoist_by [] order octets.now (phase_of machine.old.phase) (state_of machine.old)) result (state_of machine.new) }
-    ensures noted { Noted (hoist_by [] order octets.now (phase_of machine.old.phase) (state_of machine.old)) (hoist_items order machine.old.home octets.now (phase_of machine.old.phase) (state_of machine.old)) (notes_seen items.old items.new (L.number steps.old) (L.number steps.new) machine.old.cells machine.new.cells) result }
+    ensures noted { Noted (hoist_by [] order octets.now (phase_of machine.old.phase) (state_of machine.old))
+        (hoist_items order machine.old.home octets.now (phase_of machine.old.phase) (state_of machine.old))
+        (notes_seen items.old items.new (L.number steps.old) (L.number steps.new) machine.old.cells machine.new.cells) result }
     ensures outside { OnOk result (outside machine.new ≡ outside machine.old) }
 {
     match machine.phase {
@@ -176,7 +184,9 @@ fn hoist_gap<L: Ledger>(
 ) -> Result<(), DecodeFault>
     requires fits { machine.old.at + length octets.now < 2 ^ 32 }
     ensures does { Does (goes (past (length octets.now) phase.gap_read (state_of machine.old))) result (state_of machine.new) }
-    ensures noted { Noted (goes (past (length octets.now) phase.gap_read (state_of machine.old))) (gap_items machine.old.home machine.old.at octets.now) (notes_seen items.old items.new (L.number steps.old) (L.number steps.new) machine.old.cells machine.new.cells) result }
+    ensures noted { Noted (goes (past (length octets.now) phase.gap_read (state_of machine.old)))
+        (gap_items machine.old.home machine.old.at octets.now)
+        (notes_seen items.old items.new (L.number steps.old) (L.number steps.new) machine.old.cells machine.new.cells) result }
     ensures outside { OnOk result (outside machine.new ≡ outside machine.old) }
 {
     machine.note_gap(octets, items, steps)?;
@@ -195,7 +205,9 @@ fn maximum<L: Ledger>(
     requires code { machine.old.pc < 2 ^ 32 }
     requires fits { machine.old.at + 4 < 2 ^ 32 }
     ensures does { Does (goes (done_after 4 (with_max max (state_of machine.old)))) result (state_of machine.new) }
-    ensures noted { Noted (goes (done_after 4 (with_max max (state_of machine.old)))) (next_item machine.old.home (state_of machine.old) item.Max 4 (pos max) ∷ []) (notes_seen items.old items.new (L.number steps.old) (L.number steps.new) machine.old.cells machine.new.cells) result }
+    ensures noted { Noted (goes (done_after 4 (with_max max (state_of machine.old))))
+        (next_item machine.old.home (state_of machine.old) item.Max 4 (pos max) ∷ [])
+        (notes_seen items.old items.new (L.number steps.old) (L.number steps.new) machine.old.cells machine.new.cells) result }
     ensures outside { OnOk result (outside machine.new ≡ outside machine.old) }
 {
     machine.note(ItemKind::Max, 4, i128::from(max), items, steps)?;
@@ -216,7 +228,8 @@ pub(crate) fn align<L: Ledger>(
     requires code { machine.old.pc < 2 ^ 32 }
     requires fits { machine.old.at + length octets.now < 2 ^ 32 }
     ensures does { Does (goes (done_after (length octets.now) (state_of machine.old))) result (state_of machine.new) }
-    ensures noted { Noted (goes (done_after (length octets.now) (state_of machine.old))) (gap_items machine.old.home machine.old.at octets.now) (notes_seen items.old items.new (L.number steps.old) (L.number steps.new) machine.old.cells machine.new.cells) result }
+    ensures noted { Noted (goes (done_after (length octets.now) (state_of machine.old))) (gap_items machine.old.home machine.old.at octets.now)
+        (notes_seen items.old items.new (L.number steps.old) (L.number steps.new) machine.old.cells machine.new.cells) result }
     ensures outside { OnOk result (outside machine.new ≡ outside machine.old) }
 {
     machine.note_gap(octets, items, steps)?;

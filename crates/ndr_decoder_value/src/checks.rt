@@ -2,7 +2,8 @@
 ghost use Rattle.std.specs.Prelude.{◌≡◌, ◌<◌, ◌≤◌, ◌+◌, ◌-◌, ◌^◌, ◌∷◌, [], length, take, drop, slice_get, option_map, IfSome, IfOk, IfErr, OnOk};
 ghost use Rattle.nd_value.specs.Agreement.{wanted_by};
 ghost use Rattle.nd_flat.specs.FlatForm.{IsKeepableNumber};
-ghost use Rattle.ndr_decoder_laws.specs.steps.Steps.{goes, next, check_in, checked, first_found, first_number, with_fresh, joined_by, is_owing, max_in, offset_in, actual_in, tag_in, place_of, place_in};
+ghost use Rattle.ndr_decoder_laws.specs.steps.Steps.{goes, next, check_in, checked, first_found, first_number, with_fresh, joined_by, is_owing};
+ghost use Rattle.ndr_decoder_laws.specs.steps.Steps.{max_in, offset_in, actual_in, tag_in, place_of, place_in};
 ghost use Rattle.ndr_decoder_state.specs.Seen.{state_of, Does, agreement_of, owed_of, HasGrown, outside};
 ghost use Rattle.ndr_decoder_state.specs.declared.fault.DecodeFault.TheVariants as fault;
 ghost use Rattle.ndr_decoder_value.specs.Parts.{IsTried, disagreement, member_checked, count_place, tag_place, with_agreement};
@@ -136,7 +137,9 @@ fn check_wanted(
 // Joins an agreement to the pending referent of this number, and goes to the next instruction.
 fn join(machine: &mut Machine, pending: usize, wanted: Wanted) -> Result<(), DecodeFault>
     requires code { machine.old.pc < 2 ^ 32 }
-    ensures does { Does (goes (next (with_fresh (joined_by (agreement_of wanted ∷ []) (state_of machine.old).fresh pending) (state_of machine.old)))) result (state_of machine.new) }
+    ensures does { Does
+        (goes (next (with_fresh (joined_by (agreement_of wanted ∷ []) (state_of machine.old).fresh pending) (state_of machine.old)))) result
+        (state_of machine.new) }
     ensures outside { OnOk result (outside machine.new ≡ outside machine.old) }
 {
     if pending >= machine.fresh.as_slice().len() {

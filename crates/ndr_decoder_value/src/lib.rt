@@ -1,5 +1,5 @@
-//! The machine of the decoder: it follows the code of a plan over the octets of a source, with an explicit stack, and builds the value of one home at a
-//! time.
+//! The machine of the decoder: it follows the code of a plan over the octets of a source, with an explicit stack, and builds the value of one home at
+//! a time.
 #![tactic(auto)]
 
 mod arrays;

@@ -34,7 +34,9 @@ pub(crate) fn number<L: Ledger>(
     requires fits { machine.old.at + length octets.now < 2 ^ 32 }
     requires few { machine.old.count + 1 < 2 ^ 32 }
     ensures does { Does (number_step [] order octets.now prim None (state_of machine.old)) result (state_of machine.new) }
-    ensures noted { Noted (number_step [] order octets.now prim None (state_of machine.old)) (number_items order machine.old.home octets.now prim (state_of machine.old)) (notes_seen items.old items.new (L.number steps.old) (L.number steps.new) machine.old.cells machine.new.cells) result }
+    ensures noted { Noted (number_step [] order octets.now prim None (state_of machine.old))
+        (number_items order machine.old.home octets.now prim (state_of machine.old))
+        (notes_seen items.old items.new (L.number steps.old) (L.number steps.new) machine.old.cells machine.new.cells) result }
     ensures outside { OnOk result (outside machine.new ≡ outside machine.old) }
 {
     let value = read_value(order, prim, octets);
@@ -55,8 +57,11 @@ pub(crate) fn enumerated<L: Ledger>(
     requires code { machine.old.pc < 2 ^ 32 }
     requires fits { machine.old.at + length octets.now < 2 ^ 32 }
     requires few { machine.old.count + 1 < 2 ^ 32 }
-    ensures does { Does (number_step values.now order octets.now Short (enumerators values.now of.0) (state_of machine.old)) result (state_of machine.new) }
-    ensures noted { Noted (number_step values.now order octets.now Short (enumerators values.now of.0) (state_of machine.old)) (number_items order machine.old.home octets.now Short (state_of machine.old)) (notes_seen items.old items.new (L.number steps.old) (L.number steps.new) machine.old.cells machine.new.cells) result }
+    ensures does { Does (number_step values.now order octets.now Short (enumerators values.now of.0) (state_of machine.old)) result
+        (state_of machine.new) }
+    ensures noted { Noted (number_step values.now order octets.now Short (enumerators values.now of.0) (state_of machine.old))
+        (number_items order machine.old.home octets.now Short (state_of machine.old))
+        (notes_seen items.old items.new (L.number steps.old) (L.number steps.new) machine.old.cells machine.new.cells) result }
     ensures outside { OnOk result (outside machine.new ≡ outside machine.old) }
 {
     let value = read_value(order, Prim::Short, octets);
@@ -83,7 +88,9 @@ fn leaf<L: Ledger>(
     requires fits { machine.old.at + len < 2 ^ 32 }
     requires few { machine.old.count + 1 < 2 ^ 32 }
     ensures does { Does (goes (done_after len (with_node (tree.Num value, 0) None (state_of machine.old)))) result (state_of machine.new) }
-    ensures noted { Noted (goes (done_after len (with_node (tree.Num value, 0) None (state_of machine.old)))) (next_item machine.old.home (state_of machine.old) item.Num len value ∷ []) (notes_seen items.old items.new (L.number steps.old) (L.number steps.new) machine.old.cells machine.new.cells) result }
+    ensures noted { Noted (goes (done_after len (with_node (tree.Num value, 0) None (state_of machine.old))))
+        (next_item machine.old.home (state_of machine.old) item.Num len value ∷ [])
+        (notes_seen items.old items.new (L.number steps.old) (L.number steps.new) machine.old.cells machine.new.cells) result }
     ensures outside { OnOk result (outside machine.new ≡ outside machine.old) }
 {
     machine.note(ItemKind::Num, len, value, items, steps)?;
@@ -105,7 +112,9 @@ pub(crate) fn context<L: Ledger>(
     requires fits { machine.old.at + 20 < 2 ^ 32 }
     requires few { machine.old.count + 1 < 2 ^ 32 }
     ensures does { Does (context_read order octets.now (state_of machine.old)) result (state_of machine.new) }
-    ensures noted { Noted (context_read order octets.now (state_of machine.old)) (next_item machine.old.home (state_of machine.old) item.Context 20 (pos 0) ∷ []) (notes_seen items.old items.new (L.number steps.old) (L.number steps.new) machine.old.cells machine.new.cells) result }
+    ensures noted { Noted (context_read order octets.now (state_of machine.old))
+        (next_item machine.old.home (state_of machine.old) item.Context 20 (pos 0) ∷ [])
+        (notes_seen items.old items.new (L.number steps.old) (L.number steps.new) machine.old.cells machine.new.cells) result }
     ensures outside { OnOk result (outside machine.new ≡ outside machine.old) }
 {
     machine.note(ItemKind::Context, 20, 0, items, steps)?;

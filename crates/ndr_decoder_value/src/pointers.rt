@@ -38,7 +38,9 @@ pub(crate) fn pointer<L: Ledger>(
     requires few { machine.old.count + 1 < 2 ^ 32 }
     requires cells { machine.old.cells + 1 < 2 ^ 32 }
     ensures does { Does (pointer_step to.class to.to to.run (unsigned order octets.now) (state_of machine.old)) result (state_of machine.new) }
-    ensures noted { Noted (pointer_step to.class to.to to.run (unsigned order octets.now) (state_of machine.old)) (pointer_items (unsigned order octets.now) machine.old.home (state_of machine.old)) (notes_seen items.old items.new (L.number steps.old) (L.number steps.new) machine.old.cells machine.new.cells) result }
+    ensures noted { Noted (pointer_step to.class to.to to.run (unsigned order octets.now) (state_of machine.old))
+        (pointer_items (unsigned order octets.now) machine.old.home (state_of machine.old))
+        (notes_seen items.old items.new (L.number steps.old) (L.number steps.new) machine.old.cells machine.new.cells) result }
     ensures outside { OnOk result (outside machine.new ≡ outside machine.old) }
 {
     let number = read_count(order, octets);
@@ -62,7 +64,9 @@ fn unique<L: Ledger>(
     requires few { machine.old.count + 1 < 2 ^ 32 }
     requires cells { machine.old.cells + 1 < 2 ^ 32 }
     ensures does { Does (unique_read to.class to.to to.run number (state_of machine.old)) result (state_of machine.new) }
-    ensures noted { Noted (unique_read to.class to.to to.run number (state_of machine.old)) (pointer_items number machine.old.home (state_of machine.old)) (notes_seen items.old items.new (L.number steps.old) (L.number steps.new) machine.old.cells machine.new.cells) result }
+    ensures noted { Noted (unique_read to.class to.to to.run number (state_of machine.old))
+        (pointer_items number machine.old.home (state_of machine.old))
+        (notes_seen items.old items.new (L.number steps.old) (L.number steps.new) machine.old.cells machine.new.cells) result }
     ensures outside { OnOk result (outside machine.new ≡ outside machine.old) }
 {
     if number == 0 {
@@ -85,7 +89,8 @@ fn full<L: Ledger>(
     requires few { machine.old.count + 1 < 2 ^ 32 }
     requires cells { machine.old.cells + 1 < 2 ^ 32 }
     ensures does { Does (full_read to.to to.run number (state_of machine.old)) result (state_of machine.new) }
-    ensures noted { Noted (full_read to.to to.run number (state_of machine.old)) (pointer_items number machine.old.home (state_of machine.old)) (notes_seen items.old items.new (L.number steps.old) (L.number steps.new) machine.old.cells machine.new.cells) result }
+    ensures noted { Noted (full_read to.to to.run number (state_of machine.old)) (pointer_items number machine.old.home (state_of machine.old))
+        (notes_seen items.old items.new (L.number steps.old) (L.number steps.new) machine.old.cells machine.new.cells) result }
     ensures outside { OnOk result (outside machine.new ≡ outside machine.old) }
 {
     if number == 0 {
@@ -126,7 +131,9 @@ fn name_new<L: Ledger>(
     requires few { machine.old.count + 1 < 2 ^ 32 }
     requires cells { machine.old.cells + 1 < 2 ^ 32 }
     ensures does { Does (goes (done_after 4 (new_cell to.class to.to to.run (state_of machine.old)))) result (state_of machine.new) }
-    ensures noted { Noted (goes (done_after 4 (new_cell to.class to.to to.run (state_of machine.old)))) (pointer_items number machine.old.home (state_of machine.old)) (notes_seen items.old items.new (L.number steps.old) (L.number steps.new) machine.old.cells machine.new.cells) result }
+    ensures noted { Noted (goes (done_after 4 (new_cell to.class to.to to.run (state_of machine.old))))
+        (pointer_items number machine.old.home (state_of machine.old))
+        (notes_seen items.old items.new (L.number steps.old) (L.number steps.new) machine.old.cells machine.new.cells) result }
     ensures outside { OnOk result (outside machine.new ≡ outside machine.old) }
 {
     machine.note(ItemKind::Number, 4, i128::from(number), items, steps)?;
@@ -150,7 +157,9 @@ fn name<L: Ledger>(
     requires fits { machine.old.at + 4 < 2 ^ 32 }
     requires few { machine.old.count + 1 < 2 ^ 32 }
     ensures does { Does (goes (done_after 4 (owing to.class to.to to.run (cell_number cell) (state_of machine.old)))) result (state_of machine.new) }
-    ensures noted { Noted (goes (done_after 4 (owing to.class to.to to.run (cell_number cell) (state_of machine.old)))) (pointer_items number machine.old.home (state_of machine.old)) (notes_seen items.old items.new (L.number steps.old) (L.number steps.new) machine.old.cells machine.new.cells) result }
+    ensures noted { Noted (goes (done_after 4 (owing to.class to.to to.run (cell_number cell) (state_of machine.old))))
+        (pointer_items number machine.old.home (state_of machine.old))
+        (notes_seen items.old items.new (L.number steps.old) (L.number steps.new) machine.old.cells machine.new.cells) result }
     ensures outside { OnOk result (outside machine.new ≡ outside machine.old) }
 {
     machine.note(ItemKind::Number, 4, i128::from(number), items, steps)?;

@@ -63,7 +63,8 @@ pub fn read_row<L: Ledger>(
     requires fits { machine.old.at + length octets.now < 2 ^ 32 }
     requires few { machine.old.count + count < 2 ^ 32 }
     ensures does { Does (goes (row_read order prim count octets.now (state_of machine.old))) result (state_of machine.new) }
-    ensures noted { RowNoted order prim machine.old.home machine.old.at machine.old.count count octets.now (notes_seen items.old items.new (L.number steps.old) (L.number steps.new) machine.old.cells machine.new.cells) result }
+    ensures noted { RowNoted order prim machine.old.home machine.old.at machine.old.count count octets.now
+        (notes_seen items.old items.new (L.number steps.old) (L.number steps.new) machine.old.cells machine.new.cells) result }
     ensures outside { OnOk result (outside machine.new ≡ outside machine.old) }
 {
     note_row(machine, order, octets, prim, count, items, steps)?;
@@ -81,8 +82,8 @@ pub fn read_row<L: Ledger>(
     Ok(())
 }
 
-// How many octets of the elements after so many may be given room: those that are at hand, unless the place in the stream shows that as many octets were kept
-// already. So the list grows by half at least where it is moved, and the time stays linear.
+// How many octets of the elements after so many may be given room: those that are at hand, unless the place in the stream shows that as many octets
+// were kept already. So the list grows by half at least where it is moved, and the time stays linear.
 fn room_for(machine: &Machine, count: u32, prim: Prim, ahead: usize) -> usize
     requires { 0 < count }
     ensures at_hand { result ≤ ahead }
@@ -130,7 +131,8 @@ pub fn note_row<L: Ledger>(
     requires wide { length octets.now ≡ count * width prim }
     requires fits { machine.now.at + length octets.now < 2 ^ 32 }
     requires few { machine.now.count + count < 2 ^ 32 }
-    ensures noted { RowNoted order prim machine.now.home machine.now.at machine.now.count count octets.now (notes_seen items.old items.new (L.number steps.old) (L.number steps.new) machine.now.cells machine.now.cells) result }
+    ensures noted { RowNoted order prim machine.now.home machine.now.at machine.now.count count octets.now
+        (notes_seen items.old items.new (L.number steps.old) (L.number steps.new) machine.now.cells machine.now.cells) result }
     ensures memory { IfErr result (λ e. e ≡ fault.Memory) }
 {
     let wide = width_of(prim);

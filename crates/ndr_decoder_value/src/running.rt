@@ -1,5 +1,6 @@
 // The value of a home, from its first octet to its last.
-ghost use Rattle.std.specs.Prelude.{◌≡◌, ◌<◌, ◌≤◌, ◌^◌, ◌%◌, ◌*◌, ◌/◌, ◌+◌, ◌-◌, ℕ, true, false, List, Some, length, take, slice_get, OnOk, OnErr, IfOk, IfErr, Ok};
+ghost use Rattle.std.specs.Prelude.{◌≡◌, ◌<◌, ◌≤◌, ◌^◌, ◌%◌, ◌*◌, ◌/◌, ◌+◌, ◌-◌, ℕ, true, false, List, Some, length, take, slice_get, OnOk, OnErr};
+ghost use Rattle.std.specs.Prelude.{IfOk, IfErr, Ok};
 ghost use Rattle.std.specs.Io.KnownBytes.{Consumes};
 ghost use Rattle.nd_base.specs.Over.{source_seen};
 ghost use Rattle.nd_base.specs.declared.TheConstants.{STREAM_LIMIT};
@@ -36,10 +37,10 @@ use ndr_prim::width_of;
 
 /// Reads the value of a home from the instruction at which the machine is. Each state that the code can reach from here must be safe.
 ///
-/// At `Ok` the steps of the code have come to the end of the value. At `Bad` the last of them is refused by its octets, or its octets end past the limit
-/// of a stream, or the source has ended before the last of them. `ReadFault` is answered only if the source's count of faults rose, and before the last
-/// octet of a step came. In each case the octets of the steps, and of those alone, were taken from the source. A row of numbers is fetched and built in
-/// one go. It takes memory for what was read; the time is linear in the steps.
+/// At `Ok` the steps of the code have come to the end of the value. At `Bad` the last of them is refused by its octets, or its octets end past the
+/// limit of a stream, or the source has ended before the last of them. `ReadFault` is answered only if the source's count of faults rose, and before
+/// the last octet of a step came. In each case the octets of the steps, and of those alone, were taken from the source. A row of numbers is fetched
+/// and built in one go. It takes memory for what was read; the time is linear in the steps.
 #[inline(always)]
 pub fn run<S: Source, L: Ledger>(
     order: Order,
@@ -52,8 +53,11 @@ pub fn run<S: Source, L: Ledger>(
     steps: &mut Steps<L>,
 ) -> Result<(), DecodeFault>
     requires short { length code.now < 2 ^ 32 }
-    requires safe { (fetched : List ℕ) (noted : List Item) (s : State) → Reaches values.now order code.now machine.old.home (state_of machine.old) fetched noted s → IsSafe code.now s }
-    ensures ends { Ends values.now order code.now machine.old.home (state_of machine.old) (source_seen S.Source.left S.Source.ended S.Source.faults source.old source.new) (notes_seen items.old items.new (L.number steps.old) (L.number steps.new) machine.old.cells machine.new.cells) (state_of machine.new) result }
+    requires safe { (fetched : List ℕ) (noted : List Item) (s : State)
+        → Reaches values.now order code.now machine.old.home (state_of machine.old) fetched noted s → IsSafe code.now s }
+    ensures ends { Ends values.now order code.now machine.old.home (state_of machine.old)
+        (source_seen S.Source.left S.Source.ended S.Source.faults source.old source.new)
+        (notes_seen items.old items.new (L.number steps.old) (L.number steps.new) machine.old.cells machine.new.cells) (state_of machine.new) result }
     ensures outside { OnOk result (outside machine.new ≡ outside machine.old) }
     ensures later { S.Source.faults source.old ≤ S.Source.faults source.new }
 {
@@ -82,8 +86,11 @@ fn take_lead<S: Source, L: Ledger>(
 ) -> Result<Progress, DecodeFault>
     requires short { length code.now < 2 ^ 32 }
     requires here { slice_get code.now machine.old.pc ≡ Some instr }
-    requires safe { (fetched : List ℕ) (noted : List Item) (s : State) → Reaches values.now order code.now machine.old.home (state_of machine.old) fetched noted s → IsSafe code.now s }
-    ensures turns { Turns values.now order code.now machine.old.home (state_of machine.old) (source_seen S.Source.left S.Source.ended S.Source.faults source.old source.new) (notes_seen items.old items.new (L.number steps.old) (L.number steps.new) machine.old.cells machine.new.cells) (state_of machine.new) result }
+    requires safe { (fetched : List ℕ) (noted : List Item) (s : State)
+        → Reaches values.now order code.now machine.old.home (state_of machine.old) fetched noted s → IsSafe code.now s }
+    ensures turns { Turns values.now order code.now machine.old.home (state_of machine.old)
+        (source_seen S.Source.left S.Source.ended S.Source.faults source.old source.new)
+        (notes_seen items.old items.new (L.number steps.old) (L.number steps.new) machine.old.cells machine.new.cells) (state_of machine.new) result }
     ensures outside { OnOk result (outside machine.new ≡ outside machine.old) }
     ensures later { S.Source.faults source.old ≤ S.Source.faults source.new }
 {
@@ -120,8 +127,11 @@ fn run_first<S: Source, L: Ledger>(
     steps: &mut Steps<L>,
 ) -> Result<(), DecodeFault>
     requires short { length code.now < 2 ^ 32 }
-    requires safe { (fetched : List ℕ) (noted : List Item) (s : State) → Reaches values.now order code.now machine.old.home (state_of machine.old) fetched noted s → IsSafe code.now s }
-    ensures ends { Ends values.now order code.now machine.old.home (state_of machine.old) (source_seen S.Source.left S.Source.ended S.Source.faults source.old source.new) (notes_seen items.old items.new (L.number steps.old) (L.number steps.new) machine.old.cells machine.new.cells) (state_of machine.new) result }
+    requires safe { (fetched : List ℕ) (noted : List Item) (s : State)
+        → Reaches values.now order code.now machine.old.home (state_of machine.old) fetched noted s → IsSafe code.now s }
+    ensures ends { Ends values.now order code.now machine.old.home (state_of machine.old)
+        (source_seen S.Source.left S.Source.ended S.Source.faults source.old source.new)
+        (notes_seen items.old items.new (L.number steps.old) (L.number steps.new) machine.old.cells machine.new.cells) (state_of machine.new) result }
     ensures outside { OnOk result (outside machine.new ≡ outside machine.old) }
     ensures later { S.Source.faults source.old ≤ S.Source.faults source.new }
 {
@@ -150,8 +160,11 @@ fn take_first<S: Source, L: Ledger>(
 ) -> Result<Progress, DecodeFault>
     requires short { length code.now < 2 ^ 32 }
     requires here { slice_get code.now machine.old.pc ≡ Some instr }
-    requires safe { (fetched : List ℕ) (noted : List Item) (s : State) → Reaches values.now order code.now machine.old.home (state_of machine.old) fetched noted s → IsSafe code.now s }
-    ensures turns { Turns values.now order code.now machine.old.home (state_of machine.old) (source_seen S.Source.left S.Source.ended S.Source.faults source.old source.new) (notes_seen items.old items.new (L.number steps.old) (L.number steps.new) machine.old.cells machine.new.cells) (state_of machine.new) result }
+    requires safe { (fetched : List ℕ) (noted : List Item) (s : State)
+        → Reaches values.now order code.now machine.old.home (state_of machine.old) fetched noted s → IsSafe code.now s }
+    ensures turns { Turns values.now order code.now machine.old.home (state_of machine.old)
+        (source_seen S.Source.left S.Source.ended S.Source.faults source.old source.new)
+        (notes_seen items.old items.new (L.number steps.old) (L.number steps.new) machine.old.cells machine.new.cells) (state_of machine.new) result }
     ensures outside { OnOk result (outside machine.new ≡ outside machine.old) }
     ensures later { S.Source.faults source.old ≤ S.Source.faults source.new }
 {
@@ -197,8 +210,11 @@ fn run_on<S: Source, L: Ledger>(
     steps: &mut Steps<L>,
 ) -> Result<(), DecodeFault>
     requires short { length code.now < 2 ^ 32 }
-    requires safe { (fetched : List ℕ) (noted : List Item) (s : State) → Reaches values.now order code.now machine.old.home (state_of machine.old) fetched noted s → IsSafe code.now s }
-    ensures ends { Ends values.now order code.now machine.old.home (state_of machine.old) (source_seen S.Source.left S.Source.ended S.Source.faults source.old source.new) (notes_seen items.old items.new (L.number steps.old) (L.number steps.new) machine.old.cells machine.new.cells) (state_of machine.new) result }
+    requires safe { (fetched : List ℕ) (noted : List Item) (s : State)
+        → Reaches values.now order code.now machine.old.home (state_of machine.old) fetched noted s → IsSafe code.now s }
+    ensures ends { Ends values.now order code.now machine.old.home (state_of machine.old)
+        (source_seen S.Source.left S.Source.ended S.Source.faults source.old source.new)
+        (notes_seen items.old items.new (L.number steps.old) (L.number steps.new) machine.old.cells machine.new.cells) (state_of machine.new) result }
     ensures outside { OnOk result (outside machine.new ≡ outside machine.old) }
     ensures later { S.Source.faults source.old ≤ S.Source.faults source.new }
 {
@@ -239,9 +255,13 @@ fn take_quick<S: Source, L: Ledger>(
 ) -> Progress
     requires short { length code.now < 2 ^ 32 }
     requires here { slice_get code.now machine.old.pc ≡ Some instr }
-    requires safe { (fetched : List ℕ) (noted : List Item) (s : State) → Reaches values.now order code.now machine.old.home (state_of machine.old) fetched noted s → IsSafe code.now s }
+    requires safe { (fetched : List ℕ) (noted : List Item) (s : State)
+        → Reaches values.now order code.now machine.old.home (state_of machine.old) fetched noted s → IsSafe code.now s }
     requires quick { quick instr machine.old.at ≡ true }
-    ensures turns { Turns values.now order code.now machine.old.home (state_of machine.old) (source_seen S.Source.left S.Source.ended S.Source.faults source.old source.new) (notes_seen items.old items.new (L.number steps.old) (L.number steps.new) machine.old.cells machine.new.cells) (state_of machine.new) (Ok result) }
+    ensures turns { Turns values.now order code.now machine.old.home (state_of machine.old)
+        (source_seen S.Source.left S.Source.ended S.Source.faults source.old source.new)
+        (notes_seen items.old items.new (L.number steps.old) (L.number steps.new) machine.old.cells machine.new.cells) (state_of machine.new)
+        (Ok result) }
     ensures outside { outside machine.new ≡ outside machine.old }
     ensures later { S.Source.faults source.old ≤ S.Source.faults source.new }
 {
@@ -263,8 +283,11 @@ fn take_some<S: Source, L: Ledger>(
 ) -> Result<Progress, DecodeFault>
     requires short { length code.now < 2 ^ 32 }
     requires here { slice_get code.now machine.old.pc ≡ Some instr }
-    requires safe { (fetched : List ℕ) (noted : List Item) (s : State) → Reaches values.now order code.now machine.old.home (state_of machine.old) fetched noted s → IsSafe code.now s }
-    ensures turns { Turns values.now order code.now machine.old.home (state_of machine.old) (source_seen S.Source.left S.Source.ended S.Source.faults source.old source.new) (notes_seen items.old items.new (L.number steps.old) (L.number steps.new) machine.old.cells machine.new.cells) (state_of machine.new) result }
+    requires safe { (fetched : List ℕ) (noted : List Item) (s : State)
+        → Reaches values.now order code.now machine.old.home (state_of machine.old) fetched noted s → IsSafe code.now s }
+    ensures turns { Turns values.now order code.now machine.old.home (state_of machine.old)
+        (source_seen S.Source.left S.Source.ended S.Source.faults source.old source.new)
+        (notes_seen items.old items.new (L.number steps.old) (L.number steps.new) machine.old.cells machine.new.cells) (state_of machine.new) result }
     ensures outside { OnOk result (outside machine.new ≡ outside machine.old) }
     ensures later { S.Source.faults source.old ≤ S.Source.faults source.new }
 {
@@ -292,8 +315,11 @@ fn try_leap<S: Source, L: Ledger>(
 ) -> Result<bool, LeapFault>
     requires short { length code.now < 2 ^ 32 }
     requires here { slice_get code.now machine.old.pc ≡ Some instr }
-    requires safe { (fetched : List ℕ) (noted : List Item) (s : State) → Reaches values.now order code.now machine.old.home (state_of machine.old) fetched noted s → IsSafe code.now s }
-    ensures leaps { Leaps values.now order code.now machine.old.home (state_of machine.old) (source_seen S.Source.left S.Source.ended S.Source.faults source.old source.new) (L.number steps.old) (L.number steps.new) (state_of machine.new) result }
+    requires safe { (fetched : List ℕ) (noted : List Item) (s : State)
+        → Reaches values.now order code.now machine.old.home (state_of machine.old) fetched noted s → IsSafe code.now s }
+    ensures leaps { Leaps values.now order code.now machine.old.home (state_of machine.old)
+        (source_seen S.Source.left S.Source.ended S.Source.faults source.old source.new) (L.number steps.old) (L.number steps.new)
+        (state_of machine.new) result }
     ensures quiet { IfOk result (λ leapt. leapt ≡ true → items.now.keeps ≡ false) }
     ensures fault { OnErr result (items.now.keeps ≡ false) }
     ensures outside { OnOk result (outside machine.new ≡ outside machine.old) }
@@ -318,8 +344,11 @@ fn take_next<S: Source, L: Ledger>(
     steps: &mut Steps<L>,
 ) -> Result<Progress, DecodeFault>
     requires short { length code.now < 2 ^ 32 }
-    requires safe { (fetched : List ℕ) (noted : List Item) (s : State) → Reaches values.now order code.now machine.old.home (state_of machine.old) fetched noted s → IsSafe code.now s }
-    ensures turns { Turns values.now order code.now machine.old.home (state_of machine.old) (source_seen S.Source.left S.Source.ended S.Source.faults source.old source.new) (notes_seen items.old items.new (L.number steps.old) (L.number steps.new) machine.old.cells machine.new.cells) (state_of machine.new) result }
+    requires safe { (fetched : List ℕ) (noted : List Item) (s : State)
+        → Reaches values.now order code.now machine.old.home (state_of machine.old) fetched noted s → IsSafe code.now s }
+    ensures turns { Turns values.now order code.now machine.old.home (state_of machine.old)
+        (source_seen S.Source.left S.Source.ended S.Source.faults source.old source.new)
+        (notes_seen items.old items.new (L.number steps.old) (L.number steps.new) machine.old.cells machine.new.cells) (state_of machine.new) result }
     ensures outside { OnOk result (outside machine.new ≡ outside machine.old) }
     ensures later { S.Source.faults source.old ≤ S.Source.faults source.new }
 {
@@ -359,8 +388,11 @@ fn take_one<S: Source, L: Ledger>(
 ) -> Result<Progress, DecodeFault>
     requires short { length code.now < 2 ^ 32 }
     requires here { slice_get code.now machine.old.pc ≡ Some instr }
-    requires safe { (fetched : List ℕ) (noted : List Item) (s : State) → Reaches values.now order code.now machine.old.home (state_of machine.old) fetched noted s → IsSafe code.now s }
-    ensures turns { Turns values.now order code.now machine.old.home (state_of machine.old) (source_seen S.Source.left S.Source.ended S.Source.faults source.old source.new) (notes_seen items.old items.new (L.number steps.old) (L.number steps.new) machine.old.cells machine.new.cells) (state_of machine.new) result }
+    requires safe { (fetched : List ℕ) (noted : List Item) (s : State)
+        → Reaches values.now order code.now machine.old.home (state_of machine.old) fetched noted s → IsSafe code.now s }
+    ensures turns { Turns values.now order code.now machine.old.home (state_of machine.old)
+        (source_seen S.Source.left S.Source.ended S.Source.faults source.old source.new)
+        (notes_seen items.old items.new (L.number steps.old) (L.number steps.new) machine.old.cells machine.new.cells) (state_of machine.new) result }
     ensures outside { OnOk result (outside machine.new ≡ outside machine.old) }
     ensures later { S.Source.faults source.old ≤ S.Source.faults source.new }
 {
@@ -381,7 +413,8 @@ fn fetch<S: Source>(
 ) -> Result<(), DecodeFault>
     requires inner { IsInner instr }
     requires within { machine.now.at ≤ STREAM_LIMIT }
-    ensures fetched { Fetches (wants values.now instr (state_of machine.now)) machine.now.at (source_seen S.Source.left S.Source.ended S.Source.faults source.old source.new) intake.new result }
+    ensures fetched { Fetches (wants values.now instr (state_of machine.now)) machine.now.at
+        (source_seen S.Source.left S.Source.ended S.Source.faults source.old source.new) intake.new result }
     ensures fits { IfOk result (λ _. machine.now.at + length intake.new + 8 < 2 ^ 32) }
     ensures left { Consumes (S.Source.left source.old) (S.Source.left source.new) intake.new }
     ensures later { S.Source.faults source.old ≤ S.Source.faults source.new }
@@ -418,8 +451,11 @@ fn take_row<S: Source, L: Ledger>(
     requires row { IsInRow code.now (count - 1) machine.old.pc (prim_of of.0) machine.old.top }
     requires short { length code.now < 2 ^ 32 }
     requires here { slice_get code.now machine.old.pc ≡ Some (op.Num of) }
-    requires safe { (fetched : List ℕ) (noted : List Item) (s : State) → Reaches values.now order code.now machine.old.home (state_of machine.old) fetched noted s → IsSafe code.now s }
-    ensures turns { Turns values.now order code.now machine.old.home (state_of machine.old) (source_seen S.Source.left S.Source.ended S.Source.faults source.old source.new) (notes_seen items.old items.new (L.number steps.old) (L.number steps.new) machine.old.cells machine.new.cells) (state_of machine.new) result }
+    requires safe { (fetched : List ℕ) (noted : List Item) (s : State)
+        → Reaches values.now order code.now machine.old.home (state_of machine.old) fetched noted s → IsSafe code.now s }
+    ensures turns { Turns values.now order code.now machine.old.home (state_of machine.old)
+        (source_seen S.Source.left S.Source.ended S.Source.faults source.old source.new)
+        (notes_seen items.old items.new (L.number steps.old) (L.number steps.new) machine.old.cells machine.new.cells) (state_of machine.new) result }
     ensures outside { OnOk result (outside machine.new ≡ outside machine.old) }
     ensures later { S.Source.faults source.old ≤ S.Source.faults source.new }
 {
@@ -455,7 +491,9 @@ fn note_whole<L: Ledger>(
 ) -> Result<(), DecodeFault>
     requires fits { machine.now.at + length octets.now < 2 ^ 32 }
     requires few { machine.now.count + length octets.now < 2 ^ 32 }
-    ensures noted { RowNoted order prim machine.now.home machine.now.at machine.now.count (length octets.now / width prim) (take (length octets.now / width prim * width prim) octets.now) (notes_seen items.old items.new (L.number steps.old) (L.number steps.new) machine.now.cells machine.now.cells) result }
+    ensures noted { RowNoted order prim machine.now.home machine.now.at machine.now.count (length octets.now / width prim)
+        (take (length octets.now / width prim * width prim) octets.now)
+        (notes_seen items.old items.new (L.number steps.old) (L.number steps.new) machine.now.cells machine.now.cells) result }
     ensures memory { IfErr result (λ e. e ≡ fault.Memory) }
 {
     let wide = width_of(prim);

@@ -147,8 +147,8 @@ pub fn pass_quick(machine: &mut Machine, instr: Instr) -> Progress
     }
 }
 
-/// What a step does that reads and notes nothing. It takes memory at the beginning of a struct and of a member, and out of memory is the only refusal; then nothing is known of the
-/// machine.
+/// What a step does that reads and notes nothing. It takes memory at the beginning of a struct and of a member, and out of memory is the only
+/// refusal; then nothing is known of the machine.
 #[inline(always)]
 pub fn take_flow(machine: &mut Machine, instr: Instr) -> Result<Progress, Memory>
     requires flow { flows instr machine.old.at ≡ true }
@@ -204,7 +204,9 @@ pub fn take_step<L: Ledger>(
     requires few { machine.old.count + 1 < 2 ^ 32 }
     requires cells { machine.old.cells + 1 < 2 ^ 32 }
     ensures does { Comes (step values.now order octets.now instr (state_of machine.old)) result (state_of machine.new) }
-    ensures noted { Noted (step values.now order octets.now instr (state_of machine.old)) (step_items order machine.old.home octets.now instr (state_of machine.old)) (notes_seen items.old items.new (L.number steps.old) (L.number steps.new) machine.old.cells machine.new.cells) result }
+    ensures noted { Noted (step values.now order octets.now instr (state_of machine.old))
+        (step_items order machine.old.home octets.now instr (state_of machine.old))
+        (notes_seen items.old items.new (L.number steps.old) (L.number steps.new) machine.old.cells machine.new.cells) result }
     ensures outside { OnOk result (outside machine.new ≡ outside machine.old) }
 {
     if let Instr::Ret = instr {
@@ -233,7 +235,9 @@ fn go_on<L: Ledger>(
     requires few { machine.old.count + 1 < 2 ^ 32 }
     requires cells { machine.old.cells + 1 < 2 ^ 32 }
     ensures does { Does (step values.now order octets.now instr (state_of machine.old)) result (state_of machine.new) }
-    ensures noted { Noted (step values.now order octets.now instr (state_of machine.old)) (step_items order machine.old.home octets.now instr (state_of machine.old)) (notes_seen items.old items.new (L.number steps.old) (L.number steps.new) machine.old.cells machine.new.cells) result }
+    ensures noted { Noted (step values.now order octets.now instr (state_of machine.old))
+        (step_items order machine.old.home octets.now instr (state_of machine.old))
+        (notes_seen items.old items.new (L.number steps.old) (L.number steps.new) machine.old.cells machine.new.cells) result }
     ensures outside { OnOk result (outside machine.new ≡ outside machine.old) }
 {
     if reads_octets(instr) {
@@ -285,7 +289,9 @@ fn read_item<L: Ledger>(
     requires few { machine.old.count + 1 < 2 ^ 32 }
     requires cells { machine.old.cells + 1 < 2 ^ 32 }
     ensures does { Does (step values.now order octets.now instr (state_of machine.old)) result (state_of machine.new) }
-    ensures noted { Noted (step values.now order octets.now instr (state_of machine.old)) (step_items order machine.old.home octets.now instr (state_of machine.old)) (notes_seen items.old items.new (L.number steps.old) (L.number steps.new) machine.old.cells machine.new.cells) result }
+    ensures noted { Noted (step values.now order octets.now instr (state_of machine.old))
+        (step_items order machine.old.home octets.now instr (state_of machine.old))
+        (notes_seen items.old items.new (L.number steps.old) (L.number steps.new) machine.old.cells machine.new.cells) result }
     ensures outside { OnOk result (outside machine.new ≡ outside machine.old) }
 {
     match instr {
@@ -326,7 +332,8 @@ fn act<L: Ledger>(
     requires fits { machine.old.at + 8 < 2 ^ 32 }
     requires few { machine.old.count + 1 < 2 ^ 32 }
     ensures does { Acts instr (state_of machine.old) result (state_of machine.new) }
-    ensures noted { ActNoted machine.old.home instr (state_of machine.old) (notes_seen items.old items.new (L.number steps.old) (L.number steps.new) machine.old.cells machine.new.cells) result }
+    ensures noted { ActNoted machine.old.home instr (state_of machine.old)
+        (notes_seen items.old items.new (L.number steps.old) (L.number steps.new) machine.old.cells machine.new.cells) result }
     ensures outside { OnOk result (outside machine.new ≡ outside machine.old) }
 {
     match instr {
@@ -373,7 +380,8 @@ fn try_arm<L: Ledger>(
     requires fits { machine.old.at + 8 < 2 ^ 32 }
     requires few { machine.old.count + 1 < 2 ^ 32 }
     ensures does { Does (arm_tried label run (state_of machine.old)) result (state_of machine.new) }
-    ensures noted { Noted (arm_tried label run (state_of machine.old)) (arm_items machine.old.home label (state_of machine.old)) (notes_seen items.old items.new (L.number steps.old) (L.number steps.new) machine.old.cells machine.new.cells) result }
+    ensures noted { Noted (arm_tried label run (state_of machine.old)) (arm_items machine.old.home label (state_of machine.old))
+        (notes_seen items.old items.new (L.number steps.old) (L.number steps.new) machine.old.cells machine.new.cells) result }
     ensures outside { OnOk result (outside machine.new ≡ outside machine.old) }
 {
     if label != machine.tag {

@@ -29,7 +29,9 @@ pub(crate) fn text<L: Ledger>(
     requires fits { machine.old.at + length octets.now < 2 ^ 32 }
     requires few { machine.old.count + 1 < 2 ^ 32 }
     ensures does { Does (text_by [] order octets.now (phase_of machine.old.phase) limit (state_of machine.old)) result (state_of machine.new) }
-    ensures noted { Noted (text_by [] order octets.now (phase_of machine.old.phase) limit (state_of machine.old)) (text_items order machine.old.home octets.now (phase_of machine.old.phase) (state_of machine.old)) (notes_seen items.old items.new (L.number steps.old) (L.number steps.new) machine.old.cells machine.new.cells) result }
+    ensures noted { Noted (text_by [] order octets.now (phase_of machine.old.phase) limit (state_of machine.old))
+        (text_items order machine.old.home octets.now (phase_of machine.old.phase) (state_of machine.old))
+        (notes_seen items.old items.new (L.number steps.old) (L.number steps.new) machine.old.cells machine.new.cells) result }
     ensures outside { OnOk result (outside machine.new ≡ outside machine.old) }
 {
     match machine.phase {
@@ -53,7 +55,9 @@ fn text_offset<L: Ledger>(
 ) -> Result<(), DecodeFault>
     requires fits { machine.old.at + 4 < 2 ^ 32 }
     ensures does { Does (text_offset_read offset (state_of machine.old)) result (state_of machine.new) }
-    ensures noted { Noted (text_offset_read offset (state_of machine.old)) (next_item machine.old.home (state_of machine.old) item.Offset 4 (pos offset) ∷ []) (notes_seen items.old items.new (L.number steps.old) (L.number steps.new) machine.old.cells machine.new.cells) result }
+    ensures noted { Noted (text_offset_read offset (state_of machine.old))
+        (next_item machine.old.home (state_of machine.old) item.Offset 4 (pos offset) ∷ [])
+        (notes_seen items.old items.new (L.number steps.old) (L.number steps.new) machine.old.cells machine.new.cells) result }
     ensures outside { OnOk result (outside machine.new ≡ outside machine.old) }
 {
     if offset != 0 {
@@ -82,7 +86,9 @@ fn text_count<L: Ledger>(
 ) -> Result<(), DecodeFault>
     requires fits { machine.old.at + 4 < 2 ^ 32 }
     ensures does { Does (text_count_read count limit (state_of machine.old)) result (state_of machine.new) }
-    ensures noted { Noted (text_count_read count limit (state_of machine.old)) (next_item machine.old.home (state_of machine.old) item.Actual 4 (pos count) ∷ []) (notes_seen items.old items.new (L.number steps.old) (L.number steps.new) machine.old.cells machine.new.cells) result }
+    ensures noted { Noted (text_count_read count limit (state_of machine.old))
+        (next_item machine.old.home (state_of machine.old) item.Actual 4 (pos count) ∷ [])
+        (notes_seen items.old items.new (L.number steps.old) (L.number steps.new) machine.old.cells machine.new.cells) result }
     ensures outside { OnOk result (outside machine.new ≡ outside machine.old) }
 {
     if count == 0 {
@@ -120,7 +126,9 @@ fn text_octets<L: Ledger>(
     requires fits { machine.old.at + length octets.now < 2 ^ 32 }
     requires few { machine.old.count + 1 < 2 ^ 32 }
     ensures does { Does (text_done (text_refusal machine.old.at octets.now) limit octets.now (state_of machine.old)) result (state_of machine.new) }
-    ensures noted { Noted (text_done (text_refusal machine.old.at octets.now) limit octets.now (state_of machine.old)) (next_item machine.old.home (state_of machine.old) item.Text (length octets.now) (pos (length octets.now)) ∷ []) (notes_seen items.old items.new (L.number steps.old) (L.number steps.new) machine.old.cells machine.new.cells) result }
+    ensures noted { Noted (text_done (text_refusal machine.old.at octets.now) limit octets.now (state_of machine.old))
+        (next_item machine.old.home (state_of machine.old) item.Text (length octets.now) (pos (length octets.now)) ∷ [])
+        (notes_seen items.old items.new (L.number steps.old) (L.number steps.new) machine.old.cells machine.new.cells) result }
     ensures outside { OnOk result (outside machine.new ≡ outside machine.old) }
 {
     if let Some((place, reason)) = refused_text(machine.at, octets) {

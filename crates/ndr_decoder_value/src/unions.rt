@@ -28,7 +28,8 @@ pub(crate) fn tag(
 ) -> Result<(), DecodeFault>
     requires wide { length octets.now ≡ width (form_by of.0 (enumerators values.now of.0)).prim }
     requires code { machine.old.pc < 2 ^ 32 }
-    ensures does { Does (tag_step values.now order octets.now (form_by of.0 (enumerators values.now of.0)) (state_of machine.old)) result (state_of machine.new) }
+    ensures does { Does (tag_step values.now order octets.now (form_by of.0 (enumerators values.now of.0)) (state_of machine.old)) result
+        (state_of machine.new) }
     ensures outside { OnOk result (outside machine.new ≡ outside machine.old) }
 {
     let carrier = carrier_of(values, of);
@@ -55,7 +56,8 @@ pub(crate) fn arm<L: Ledger>(
     requires fits { machine.old.at + 8 < 2 ^ 32 }
     requires few { machine.old.count + 1 < 2 ^ 32 }
     ensures does { Does (goes (arm_taken (eqb run 0) run (state_of machine.old))) result (state_of machine.new) }
-    ensures noted { Noted (goes (arm_taken (eqb run 0) run (state_of machine.old))) (tag_items machine.old.home (state_of machine.old)) (notes_seen items.old items.new (L.number steps.old) (L.number steps.new) machine.old.cells machine.new.cells) result }
+    ensures noted { Noted (goes (arm_taken (eqb run 0) run (state_of machine.old))) (tag_items machine.old.home (state_of machine.old))
+        (notes_seen items.old items.new (L.number steps.old) (L.number steps.new) machine.old.cells machine.new.cells) result }
     ensures outside { OnOk result (outside machine.new ≡ outside machine.old) }
 {
     let len = width_of(machine.carrier) as u32;

@@ -184,7 +184,7 @@ pub(crate) const EXPLAIN: Command = Command {
     ..DECODE
 };
 
-// The octets of the same values without the last one.
+// The first nine octets of the same values: they end within the offset of a string.
 pub(crate) const DECODE_CUT: Command = Command {
     name: "decode of octets that are cut",
     input: b"\x01\0\0\0\x04\0\x04\0\0",

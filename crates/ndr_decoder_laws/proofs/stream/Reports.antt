@@ -18,10 +18,11 @@ use Rattle.nd_grammar.specs.Reader.{Progress}
 use Rattle.nd_grammar.specs.StreamReader.{read_stream}
 use Rattle.ndr_decoder_laws.specs.reader.Around.{going}
 use Rattle.nd_grammar.specs.decoded.Verdict.{DecodingSeen, HasNoted, IsDecoded, IsReadThrough, IsCounted, IsCutOff, IsRefused, IsUnread}
+use Rattle.ndr_decoder_laws.specs.verdict.InOrder.{HasOwnNumbers, IsRefusedInOrder}
 use Rattle.ndr_decoder_laws.proofs.verdict.Alone.{represents_alone}
 use Rattle.ndr_decoder_laws.proofs.verdict.Counted.{is_counted}
 use Rattle.ndr_decoder_laws.proofs.verdict.ReadThrough.{read_in_part}
-use Rattle.ndr_decoder_laws.proofs.verdict.Refused.{refused_there, stays_refused, no_graph}
+use Rattle.ndr_decoder_laws.proofs.verdict.Refused.{refused_numbered, refused_there, stays_refused, no_graph}
 use Rattle.ndr_decoder_laws.specs.stream.Report.{AreCells, IsReported, StreamRefused, StreamCut, the_stream}
 
 module _ (w : Setting) (side : IsLegalSide w) (order : Order) (s : SourceSeen) (t : DecodingSeen) where
@@ -38,13 +39,13 @@ module _ (w : Setting) (side : IsLegalSide w) (order : Order) (s : SourceSeen) (
   logged_so fetched seen noted n e r = subst (λ u. HasNoted u t) (sym e) r.logged
 
   -- the octets are refused, after the entries that the reader passes
-  pub refused_so : (fetched : List ℕ) (noted : List Item) (n place : ℕ) (why : Reason) → (r : StreamRefused the_stream w order fetched noted n place why) → IsReported noted n t
+  refused_with : (fetched : List ℕ) (noted : List Item) (n place : ℕ) (why : Reason) → (r : StreamRefused the_stream w order fetched noted n place why) → IsReported noted n t
       → Consumes s.left s.left_now fetched → (why ≡ reason.Truncated → s.ended ≡ true) → (why ≡ reason.Truncated → IsAtEnd s.left_now)
-      → (it : IsRefused w order s place why t) × ((it.fetched ≡ fetched) × (it.bad.earlier ≡ r.seen))
-  refused_so fetched noted n place why r reported left ended none_left =
+      → (it : IsRefused w order s place why t) × ((it.fetched ≡ fetched) × (it.bad.earlier ≡ r.seen) × HasOwnNumbers it.bad.partial it.bad.entries)
+  refused_with fetched noted n place why r reported left ended none_left =
       let stop : (read_stream w order fetched).progress.stop ≡ Some (place, why) = ap (λ (p : Progress). p.stop) r.stops in
       let seen_is : (read_stream w order fetched).progress.seen ≡ r.seen = ap (λ (p : Progress). p.seen) r.stops in
-      let (bad, earlier, ends) = refused_there w side order fetched r.octets place why stop r.needed in
+      let (bad, earlier, ends, numbers) = refused_numbered w side order fetched r.octets place why stop r.needed in
       let e : r.seen ≡ bad.earlier = sym seen_is ∙ sym earlier in
       let through : IsReadThrough w order fetched r.seen = read_in_part w side order fetched r.octets r.seen [] (seen_is ∙ sym (append-nil r.seen)) in (
         record {
@@ -59,8 +60,22 @@ module _ (w : Setting) (side : IsLegalSide w) (order : Order) (s : SourceSeen) (
           stays = stays_refused w side order fetched r.octets place why stop;
           no_graph = no_graph w side order fetched r.octets place why stop;
         },
-        (refl, sym e),
+        (refl, sym e, numbers),
       )
+
+  pub refused_so : (fetched : List ℕ) (noted : List Item) (n place : ℕ) (why : Reason) → (r : StreamRefused the_stream w order fetched noted n place why) → IsReported noted n t
+      → Consumes s.left s.left_now fetched → (why ≡ reason.Truncated → s.ended ≡ true) → (why ≡ reason.Truncated → IsAtEnd s.left_now)
+      → (it : IsRefused w order s place why t) × ((it.fetched ≡ fetched) × (it.bad.earlier ≡ r.seen))
+  refused_so fetched noted n place why r reported left ended none_left =
+      let (it, (of_it, as_it, numbers)) = refused_with fetched noted n place why r reported left ended none_left in
+      (it, (of_it, as_it))
+
+  -- at an entry of a graph whose cells have their own numbers
+  pub refused_in_order : (fetched : List ℕ) (noted : List Item) (n place : ℕ) (why : Reason) → StreamRefused the_stream w order fetched noted n place why → IsReported noted n t
+      → Consumes s.left s.left_now fetched → (why ≡ reason.Truncated → s.ended ≡ true) → (why ≡ reason.Truncated → IsAtEnd s.left_now) → IsRefusedInOrder w order s place why t
+  refused_in_order fetched noted n place why r reported left ended none_left =
+      let (it, (of_it, as_it, numbers)) = refused_with fetched noted n place why r reported left ended none_left in
+      record { refused = it; numbers = numbers }
 
   pub refused_report : (fetched : List ℕ) (noted : List Item) (n place : ℕ) (why : Reason) → StreamRefused the_stream w order fetched noted n place why → IsReported noted n t
       → Consumes s.left s.left_now fetched → (why ≡ reason.Truncated → s.ended ≡ true) → (why ≡ reason.Truncated → IsAtEnd s.left_now) → IsRefused w order s place why t

@@ -23,6 +23,7 @@ use Rattle.nd_value.specs.Deferral.{Pending, Due, due_root, due_referent, due_ro
 use Rattle.nd_value.specs.Deferral.{Deferral, none_due, at_root, at_null, at_standing, at_referent, Standing, standing_root, standing_by, standing_cell, direct, root_type, root_cell}
 use Rattle.nd_value.specs.Canon.{IsCanon, named, own_cell, named_cells}
 use Rattle.nd_value.proofs.DeferralLaws.{full_stands}
+use Rattle.nd_value.proofs.NodeFacts.{sound_partial}
 use Rattle.nd_value.specs.Same.{Same, renumbered, renumbered_label}
 use Rattle.nd_grammar.specs.LegalSide.{IsLegalSide}
 use Rattle.nd_grammar.specs.Reader.{Names, Read, is_stopped, fresh, with_cell, read_if, read_hoisted, read_whole}
@@ -34,8 +35,10 @@ use Rattle.nd_grammar.proofs.reader.ReaderCells.{no_roots, set_same, value_lengt
 use Rattle.nd_grammar.proofs.reader.ReaderStates.{WholeRead, read_wholly}
 use Rattle.nd_grammar.proofs.reader.ReaderTurns.{Settled, Turn, at_end, pending_turn, value_settled}
 use Rattle.nd_grammar.proofs.reader.ReaderRoots.{Done, due_done, due_root_turn, few_before}
-use Rattle.nd_grammar.proofs.reader.ReaderStream.{G, graph_is, settled, is_stream}
+use Rattle.nd_grammar.proofs.reader.ReaderStream.{G, graph_is, is_partial, is_stream, ms, settled}
+use Rattle.nd_grammar.proofs.NamedOrder.{named_in_order}
 use Rattle.nd_grammar.proofs.legal.LegalUsable.{usable_readable, root_usable, pointee_usable}
+use Rattle.ndr_decoder_laws.specs.verdict.InOrder.{HasOwnNumbers}
 use Rattle.ndr_decoder_laws.proofs.verdict.CellNumbers.{Counts, counts_both, own_number}
 use Rattle.ndr_decoder_laws.proofs.verdict.NamedCells.{AreThere, NamesSo, cells_of, cell_more, whole_names}
 
@@ -345,3 +348,16 @@ reader_canonical w side order octets all =
       same = unmoved g;
       numbered = λ k lo hi. sym (own_number (named_cells w g st.steps) (length g.cells) c k lo hi);
     })
+
+-- Whether it is read to its end or not, its cells have their own numbers.
+pub reader_numbered : (w : Setting) (side : IsLegalSide w) (order : Order) (octets : List ℕ) (all : AreOctets octets)
+    → HasOwnNumbers (G w side order octets all) (ms w side order octets all)
+reader_numbered w side order octets all k lo hi =
+    let g : Graph = G w side order octets all in
+    let st = is_stream w side order octets all in
+    let n : ℕ = before_pipes (root_list w) in
+    let c : Counts 0 (named_cells w g st.steps) (length g.cells) =
+    all_counts w side order octets all g (length octets + n + 1) (read_start w order octets) [] [] n (start_there w side order octets all) refl (omega arith) tt
+    (settled w side order octets all) st.steps st.deferral in
+    sym (named_in_order w side g (sound_partial w g (is_partial w side order octets all)) (ms w side order octets all) st k)
+    ∙ own_number (named_cells w g st.steps) (length g.cells) c k lo hi

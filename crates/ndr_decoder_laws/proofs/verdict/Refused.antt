@@ -31,6 +31,8 @@ use Rattle.nd_grammar.proofs.next.Spelt.{piece_left}
 use Rattle.nd_grammar.proofs.reader.ReaderStream.{G, ms, numbering, is_partial, is_stream, numbered, ends_in_octets}
 use Rattle.nd_grammar.specs.decoded.Needed.{IsNeeded}
 use Rattle.nd_grammar.specs.decoded.Verdict.{MayFollow, fetched_to}
+use Rattle.ndr_decoder_laws.specs.verdict.InOrder.{HasOwnNumbers}
+use Rattle.ndr_decoder_laws.proofs.verdict.NamedInTurn.{reader_numbered}
 use Rattle.ndr_decoder_laws.proofs.verdict.ReadThrough.{stream_gone}
 
 -- ## An entry is judged alike by octets that end later
@@ -167,6 +169,7 @@ module _ (w : Setting) (side : IsLegalSide w) (order : Order) (octets : List ℕ
     pub bad : Bad w order octets place why
     pub earlier : bad.earlier ≡ (read_stream w order octets).progress.seen
     pub at : bad.here.at ≡ (read_stream w order octets).progress.at
+    pub numbers : HasOwnNumbers bad.partial bad.entries
 
   bad_there : BadThere
   bad_there =
@@ -190,6 +193,7 @@ module _ (w : Setting) (side : IsLegalSide w) (order : Order) (octets : List ℕ
         };
         earlier = sym k.seen;
         at = sym y;
+        numbers = reader_numbered w side order octets all;
       }
 
   -- The octets end at a place before which the refused entry is judged: without their last they would be refused alike.
@@ -261,7 +265,11 @@ module _ (w : Setting) (side : IsLegalSide w) (order : Order) (octets : List ℕ
             sym (judged_alike order part more b.earlier a b.here l) ∙ ap (λ u. refusal order u b.earlier b.here) (sym q) ∙ b.refused) in
             exactly (length octets) size (ltb-false (length octets) size g) h ∙ sym (ends_of_kind why (length octets) b.here x y)
 
-    -- The refused entry ends the octets.
+    -- The refused entry ends the octets. The cells of the graph so far have their own numbers.
+    pub refused_numbered : (bad : Bad w order octets place why) × (bad.earlier ≡ (read_stream w order octets).progress.seen)
+        × (length octets ≡ fetched_to why (length octets) bad.here) × HasOwnNumbers bad.partial bad.entries
+    refused_numbered = (bad_there.bad, bad_there.earlier, ends, bad_there.numbers)
+
     pub refused_there : (bad : Bad w order octets place why) × (bad.earlier ≡ (read_stream w order octets).progress.seen) × (length octets ≡ fetched_to why (length octets) bad.here)
     refused_there = (bad_there.bad, bad_there.earlier, ends)
 

@@ -18,6 +18,7 @@ ghost use Rattle.nd_grammar.specs.StreamReader.{read_stream};
 ghost use Rattle.nd_grammar.specs.decoded.Needed.{IsNeeded};
 ghost use Rattle.nd_grammar.specs.decoded.Verdict.{RepresentsAlone, IsReadThrough, IsCounted, IsRefused, DecodingSeen, MayFollow, fetched_to};
 ghost use Rattle.nd_grammar.specs.decoded.Verdict.{cells_named, direct_roots};
+ghost use Rattle.ndr_decoder_laws.specs.verdict.InOrder.{HasOwnNumbers};
 
 /// The graph that the reader finds is its own canonical form: it numbers cells as the stream comes to name them.
 pub fn canonical_graph()
@@ -34,12 +35,13 @@ pub fn graph_alone()
 {}
 
 /// Octets at which the reader stops are refused there, after the entries that it passed, and stay refused whatever follows them; no first part of
-/// them represents a graph that conforms. If each of them is needed, they end with the refused entry.
+/// them represents a graph that conforms. If each of them is needed, they end with the refused entry; and the cells of the graph so far are numbered
+/// in the order in which its stream comes to them.
 pub fn refused_octets()
     ensures there { (w : Setting) → IsLegalSide w → (order : Order) (octets : List ℕ) → AreOctets octets → (place : ℕ) (why : Reason)
         → (read_stream w order octets).progress.stop ≡ Some (place, why) → IsNeeded w order octets
         → (bad : Bad w order octets place why) × (bad.earlier ≡ (read_stream w order octets).progress.seen)
-        × (length octets ≡ fetched_to why (length octets) bad.here) }
+        × (length octets ≡ fetched_to why (length octets) bad.here) × HasOwnNumbers bad.partial bad.entries }
     ensures stay { (w : Setting) → IsLegalSide w → (order : Order) (octets : List ℕ) → AreOctets octets → (place : ℕ) (why : Reason)
         → (read_stream w order octets).progress.stop ≡ Some (place, why) → (more : List ℕ) → MayFollow why more
         → Bad w order (octets ++ more) place why }

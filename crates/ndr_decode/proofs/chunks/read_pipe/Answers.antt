@@ -14,9 +14,11 @@ pub returns-in_err-open_pipe-clause-reads : goal.returns-in_err-open_pipe-clause
 returns-in_err-open_pipe-clause-reads g c w legal fetched noted direct first r rs roots k elem of_plan p =
     let a = source_seen g.S.Source.left g.S.Source.ended g.S.Source.faults c.args.source.now c.args.source.now in
     let s = decoding_seen c.args.items.now c.args.items.now (g.L.Ledger.number c.args.steps.now) (g.L.Ledger.number c.args.steps.now) in
-    pipe_faulty c.args.plan.now w legal c.args.order fetched noted direct first c.args.number r rs roots k elem c.args.elem of_plan c.args.machine.now p a s c.open_pipe.new.machine c.in_err-open_pipe.field-0.0
+    pipe_faulty c.args.plan.now w legal c.args.order fetched noted direct first c.args.number r rs roots k elem c.args.elem of_plan c.args.machine.now p a s c.open_pipe.new.machine
+    c.in_err-open_pipe.field-0.0
     (subst (FaultOf the_stream w c.args.order fetched noted c.args.machine.now.cells a s) (sym c.in_err-open_pipe.ensures.memory)
-    (pipe_memory c.args.plan.now w legal c.args.order fetched noted direct first c.args.number r rs roots k elem c.args.elem of_plan c.args.machine.now p (g.S.Source.left c.args.source.now) (g.S.Source.ended c.args.source.now) (count g.S.Source.faults c.args.source.now c.args.source.now) c.args.items.now (g.L.Ledger.number c.args.steps.now)))
+    (pipe_memory c.args.plan.now w legal c.args.order fetched noted direct first c.args.number r rs roots k elem c.args.elem of_plan c.args.machine.now p (g.S.Source.left c.args.source.now)
+    (g.S.Source.ended c.args.source.now) (count g.S.Source.faults c.args.source.now c.args.source.now) c.args.items.now (g.L.Ledger.number c.args.steps.now)))
     c.from_residual.result c.from_residual.ensures.1
 
 pub loop-chunk-init : goal.loop-chunk-init
@@ -46,8 +48,23 @@ returns-in_err-count-clause-reads g c w legal fetched noted direct first r rs ro
     let e = source_seen g.S.Source.left g.S.Source.ended g.S.Source.faults c.args.source.now c.read_chunk.new.source in
     let u = decoding_seen c.args.items.now c.read_chunk.new.items (g.L.Ledger.number c.args.steps.now) (g.L.Ledger.number c.read_chunk.new.steps) in
     let x = c.loop-chunk.invariant.0 w legal fetched noted direct first r rs roots k elem of_plan p in
-    pipe_faulty c.args.plan.now w legal c.args.order fetched noted direct first c.args.number r rs roots k elem c.args.elem of_plan c.args.machine.now p e u c.read_chunk.new.machine c.in_err-count.field-0.0
-    (turn_fault c.args.plan.now w legal c.args.order fetched noted direct first c.args.number r rs roots k elem c.args.elem of_plan c.args.machine.now p c.loop-chunk.machine a s c.loop-chunk.so_far x c.read_chunk.new.machine b e t u (record { before = refl; middle = refl; after = refl; ended = refl; log = refl; log_middle = refl; log_now = refl; steps = refl; steps_middle = refl; steps_now = refl }) c.loop-chunk.invariant.1.1.1 refl c.in_err-count.field-0.0 (c.in_err-count.ensures.reads w legal (fetched ++ x.octets) (noted ++ x.items) direct first r rs roots elem x.done x.k of_plan x.as_many x.in_pipe))
+    pipe_faulty c.args.plan.now w legal c.args.order fetched noted direct first c.args.number r rs roots k elem c.args.elem of_plan c.args.machine.now p e u c.read_chunk.new.machine
+    c.in_err-count.field-0.0
+    (turn_fault c.args.plan.now w legal c.args.order fetched noted direct first c.args.number r rs roots k elem c.args.elem of_plan c.args.machine.now p c.loop-chunk.machine a s c.loop-chunk.so_far x
+    c.read_chunk.new.machine b e t u
+    (record {
+      before = refl;
+      middle = refl;
+      after = refl;
+      ended = refl;
+      log = refl;
+      log_middle = refl;
+      log_now = refl;
+      steps = refl;
+      steps_middle = refl;
+      steps_now = refl;
+    }) c.loop-chunk.invariant.1.1.1 refl c.in_err-count.field-0.0
+    (c.in_err-count.ensures.reads w legal (fetched ++ x.octets) (noted ++ x.items) direct first r rs roots elem x.done x.k of_plan x.as_many x.in_pipe))
     c.from_residual-in_err-count.result c.from_residual-in_err-count.ensures.1
 
 pub returns-in_err-count-clause-later : goal.returns-in_err-count-clause-later
@@ -62,7 +79,21 @@ returns-then-count-eq0-clause-reads g c w legal fetched noted direct first r rs 
     let e = source_seen g.S.Source.left g.S.Source.ended g.S.Source.faults c.args.source.now c.read_chunk.new.source in
     let u = decoding_seen c.args.items.now c.read_chunk.new.items (g.L.Ledger.number c.args.steps.now) (g.L.Ledger.number c.read_chunk.new.steps) in
     let x = c.loop-chunk.invariant.0 w legal fetched noted direct first r rs roots k elem of_plan p in
-    turn_ends c.args.plan.now w legal c.args.order fetched noted direct first c.args.number r rs roots k elem c.args.elem of_plan c.args.machine.now p c.loop-chunk.machine a s c.loop-chunk.so_far x c.read_chunk.new.machine b e t u (record { before = refl; middle = refl; after = refl; ended = refl; log = refl; log_middle = refl; log_now = refl; steps = refl; steps_middle = refl; steps_now = refl }) c.in_ok-count.count c.if-count-eq0.true (c.in_ok-count.ensures.reads w legal (fetched ++ x.octets) (noted ++ x.items) direct first r rs roots elem x.done x.k of_plan x.as_many x.in_pipe)
+    turn_ends c.args.plan.now w legal c.args.order fetched noted direct first c.args.number r rs roots k elem c.args.elem of_plan c.args.machine.now p c.loop-chunk.machine a s c.loop-chunk.so_far x
+    c.read_chunk.new.machine b e t u
+    (record {
+      before = refl;
+      middle = refl;
+      after = refl;
+      ended = refl;
+      log = refl;
+      log_middle = refl;
+      log_now = refl;
+      steps = refl;
+      steps_middle = refl;
+      steps_now = refl;
+    }) c.in_ok-count.count c.if-count-eq0.true
+    (c.in_ok-count.ensures.reads w legal (fetched ++ x.octets) (noted ++ x.items) direct first r rs roots elem x.done x.k of_plan x.as_many x.in_pipe)
 
 pub returns-then-count-eq0-clause-same : goal.returns-then-count-eq0-clause-same
 returns-then-count-eq0-clause-same g c = c.in_ok-count.ensures.same ∙ c.loop-chunk.invariant.1.1.0
@@ -80,8 +111,15 @@ loop-chunk-preserved g c = (
       let e = source_seen g.S.Source.left g.S.Source.ended g.S.Source.faults c.args.source.now c.read_chunk.new.source in
       let u = decoding_seen c.args.items.now c.read_chunk.new.items (g.L.Ledger.number c.args.steps.now) (g.L.Ledger.number c.read_chunk.new.steps) in
       let x = c.loop-chunk.invariant.0 w legal fetched noted direct first r rs roots k elem of_plan p in
-      turn_goes_on c.args.plan.now w legal c.args.order fetched noted direct first c.args.number r rs roots k elem c.args.elem of_plan c.args.machine.now p c.loop-chunk.machine a s c.loop-chunk.so_far x c.read_chunk.new.machine b e t u (record { before = refl; middle = refl; after = refl; ended = refl; log = refl; log_middle = refl; log_now = refl; steps = refl; steps_middle = refl; steps_now = refl }) c.in_ok-count.count (λ z. omega (arith, z, c.if-count-eq0.false)) (c.in_ok-count.ensures.reads w legal (fetched ++ x.octets) (noted ++ x.items) direct first r rs roots elem x.done x.k of_plan x.as_many x.in_pipe),
-  ((let there : c.loop-chunk._chunk ≤ c.loop-chunk.so_far = c.loop-chunk.invariant.1.0.0 in omega (arith, there, c.if-count-eq0.false), c.in_ok-count.ensures.room), (c.in_ok-count.ensures.same ∙ c.loop-chunk.invariant.1.1.0, le_trans c.loop-chunk.invariant.1.1.1 c.read_chunk.ensures.later)),
+      turn_goes_on c.args.plan.now w legal c.args.order fetched noted direct first c.args.number r rs roots k elem c.args.elem of_plan c.args.machine.now p c.loop-chunk.machine a s
+      c.loop-chunk.so_far x c.read_chunk.new.machine b e t u
+      (record { before = refl; middle = refl; after = refl; ended = refl; log = refl; log_middle = refl; log_now = refl; steps = refl; steps_middle = refl; steps_now = refl }) c.in_ok-count.count
+      (λ z. omega (arith, z, c.if-count-eq0.false))
+      (c.in_ok-count.ensures.reads w legal (fetched ++ x.octets) (noted ++ x.items) direct first r rs roots elem x.done x.k of_plan x.as_many x.in_pipe),
+  (
+    (let there : c.loop-chunk._chunk ≤ c.loop-chunk.so_far = c.loop-chunk.invariant.1.0.0 in omega (arith, there, c.if-count-eq0.false), c.in_ok-count.ensures.room),
+    (c.in_ok-count.ensures.same ∙ c.loop-chunk.invariant.1.1.0, le_trans c.loop-chunk.invariant.1.1.1 c.read_chunk.ensures.later),
+  ),
 )
 
 pub unreachable-requires : goal.unreachable-requires

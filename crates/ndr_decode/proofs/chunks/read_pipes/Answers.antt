@@ -1,7 +1,8 @@
 use Rattle.std.proofs.Common.{◌≡◌, ◌≤◌, ◌+◌, ◌++◌, refl, ap, ◌∙◌, arith, le_refl, le_trans, length}
 use Rattle.nd_base.specs.Over.{count, source_seen}
 use Rattle.nd_grammar.specs.decoded.Verdict.{decoding_seen}
-use Rattle.ndr_decode.proofs.PipesRead.{ends_faulty, few_numbers, first_number, line_calls, lines_done, next_before, next_fault, next_is, next_read, none_read, number_few, pipe_due, side_done, stream_ends}
+use Rattle.ndr_decode.proofs.PipesRead.{ends_faulty, few_numbers, first_number, line_calls, lines_done, next_before, next_fault, next_is, next_read, none_read, number_few, pipe_due, side_done}
+use Rattle.ndr_decode.proofs.PipesRead.{stream_ends}
 use Rattle.ndr_decode.proofs.chunks.read_pipes.Goals as goal
 
 pub overflow_cast-number : goal.overflow_cast-number
@@ -18,7 +19,8 @@ loop-next-init g c = (
       let is : length c.as_slice.result.now ≡ length c.args.stream.now.roots.items = ap length c.as_slice.ensures.value in (
         0,
         (
-          none_read c.args.plan.now c.args.op c.args.side c.args.order w legal setting fetched noted direct c.args.stream.now s seen st hold (g.S.Source.left c.args.source.now) (g.S.Source.ended c.args.source.now) (count g.S.Source.faults c.args.source.now c.args.source.now) c.args.items.now (g.L.Ledger.number c.args.steps.now),
+          none_read c.args.plan.now c.args.op c.args.side c.args.order w legal setting fetched noted direct c.args.stream.now s seen st hold (g.S.Source.left c.args.source.now)
+              (g.S.Source.ended c.args.source.now) (count g.S.Source.faults c.args.source.now c.args.source.now) c.args.items.now (g.L.Ledger.number c.args.steps.now),
           (omega arith, is ∙ first_number c.args.plan.now c.args.op c.args.side c.args.order w legal setting fetched noted direct c.args.stream.now s seen st hold),
         ),
       ),
@@ -42,7 +44,8 @@ elements_run-requires-clause-pipe g c name at l =
     let d = decoding_seen c.args.items.now c.loop-next.items (g.L.Ledger.number c.args.steps.now) (g.L.Ledger.number c.loop-next.steps) in
     let (passed, (p, (there, number_is))) = c.loop-next.invariant.0 w legal fetched noted direct s seen setting st hold in
     let at_line = there ∙ ap (λ j. j + passed) (c.requires.line w.op setting.there) in
-    line_calls c.args.plan.now c.args.op c.args.side c.args.order w legal setting fetched noted direct c.args.stream.now s seen st hold c.loop-next.stream a d passed p c.loop-next.next at_line name at l
+    line_calls c.args.plan.now c.args.op c.args.side c.args.order w legal setting fetched noted direct c.args.stream.now s seen st hold c.loop-next.stream a d passed p c.loop-next.next at_line name
+    at l
 
 pub returns-in_default-clause-reads : goal.returns-in_default-clause-reads
 returns-in_default-clause-reads g c w legal fetched noted direct s seen setting st hold =
@@ -50,7 +53,9 @@ returns-in_default-clause-reads g c w legal fetched noted direct s seen setting 
     let d = decoding_seen c.args.items.now c.loop-next.items (g.L.Ledger.number c.args.steps.now) (g.L.Ledger.number c.loop-next.steps) in
     let (passed, (p, (there, number_is))) = c.loop-next.invariant.0 w legal fetched noted direct s seen setting st hold in
     let at_line = there ∙ ap (λ j. j + passed) (c.requires.line w.op setting.there) in
-    stream_ends c.args.plan.now c.args.op c.args.side c.args.order w legal setting fetched noted direct c.args.stream.now s seen st hold c.loop-next.stream a d passed p (side_done c.args.plan.now c.args.op c.args.side c.args.order w legal setting fetched noted direct c.args.stream.now s seen st hold c.loop-next.stream a d passed p c.loop-next.next at_line c.in_default.ensures)
+    stream_ends c.args.plan.now c.args.op c.args.side c.args.order w legal setting fetched noted direct c.args.stream.now s seen st hold c.loop-next.stream a d passed p
+    (side_done c.args.plan.now c.args.op c.args.side c.args.order w legal setting fetched noted direct c.args.stream.now s seen st hold c.loop-next.stream a d passed p c.loop-next.next at_line
+    c.in_default.ensures)
 
 pub read_pipe-requires : goal.read_pipe-requires
 read_pipe-requires g c =
@@ -69,8 +74,13 @@ read_pipe-requires g c =
     let d = decoding_seen c.args.items.now c.loop-next.items (g.L.Ledger.number c.args.steps.now) (g.L.Ledger.number c.loop-next.steps) in
     let (passed, (p, (there, number_is))) = c.loop-next.invariant.0 w legal fetched noted direct s seen setting st hold in
     let at_line = there ∙ ap (λ j. j + passed) (c.requires.line w.op setting.there) in
-    let v = next_is c.args.plan.now c.args.op c.args.side c.args.order w legal setting fetched noted direct c.args.stream.now s seen st hold c.loop-next.stream a d passed p c.loop-next.next c.in-Some.elem at_line c.in-Some.ensures in
-    record { at = pipe_due c.args.plan.now c.args.op c.args.side c.args.order w legal setting fetched noted direct c.args.stream.now s seen st hold c.loop-next.stream a d passed p c.in-Some.elem v c.loop-next.number number_is }
+    let v = next_is c.args.plan.now c.args.op c.args.side c.args.order w legal setting fetched noted direct c.args.stream.now s seen st hold c.loop-next.stream a d passed p c.loop-next.next
+    c.in-Some.elem at_line c.in-Some.ensures in
+    record {
+      at =
+          pipe_due c.args.plan.now c.args.op c.args.side c.args.order w legal setting fetched noted direct c.args.stream.now s seen st hold c.loop-next.stream a d passed p c.in-Some.elem v
+          c.loop-next.number number_is;
+    }
 
 pub returns-in_err-read_pipe-clause-reads : goal.returns-in_err-read_pipe-clause-reads
 returns-in_err-read_pipe-clause-reads g c w legal fetched noted direct s seen setting st hold =
@@ -82,9 +92,26 @@ returns-in_err-read_pipe-clause-reads g c w legal fetched noted direct s seen se
     let u = decoding_seen c.args.items.now c.read_pipe.new.items (g.L.Ledger.number c.args.steps.now) (g.L.Ledger.number c.read_pipe.new.steps) in
     let (passed, (p, (there, number_is))) = c.loop-next.invariant.0 w legal fetched noted direct s seen setting st hold in
     let at_line = there ∙ ap (λ j. j + passed) (c.requires.line w.op setting.there) in
-    let v = next_is c.args.plan.now c.args.op c.args.side c.args.order w legal setting fetched noted direct c.args.stream.now s seen st hold c.loop-next.stream a d passed p c.loop-next.next c.in-Some.elem at_line c.in-Some.ensures in
+    let v = next_is c.args.plan.now c.args.op c.args.side c.args.order w legal setting fetched noted direct c.args.stream.now s seen st hold c.loop-next.stream a d passed p c.loop-next.next
+    c.in-Some.elem at_line c.in-Some.ensures in
     ends_faulty c.args.plan.now c.args.op c.args.side c.args.order w legal setting fetched noted direct c.args.stream.now s seen st hold e u _ c.in_err-read_pipe.field-0.0
-    (next_fault c.args.plan.now c.args.op c.args.side c.args.order w legal setting fetched noted direct c.args.stream.now s seen st hold c.loop-next.stream a d passed p c.in-Some.elem v c.loop-next.number number_is c.read_pipe.new.machine b e t u (record { before = refl; middle = refl; after = refl; ended = refl; log = refl; log_middle = refl; log_now = refl; steps = refl; steps_middle = refl; steps_now = refl }) c.loop-next.invariant.1.1 refl c.in_err-read_pipe.field-0.0 (c.in_err-read_pipe.ensures.reads w legal (fetched ++ p.octets) (noted ++ p.items) direct s.names v.r v.rest p.roots p.k v.of v.by_plan (next_before c.args.plan.now c.args.op c.args.side c.args.order w legal setting fetched noted direct c.args.stream.now s seen st hold c.loop-next.stream a d passed p c.in-Some.elem v c.loop-next.number number_is)))
+    (next_fault c.args.plan.now c.args.op c.args.side c.args.order w legal setting fetched noted direct c.args.stream.now s seen st hold c.loop-next.stream a d passed p c.in-Some.elem v
+    c.loop-next.number number_is c.read_pipe.new.machine b e t u
+    (record {
+      before = refl;
+      middle = refl;
+      after = refl;
+      ended = refl;
+      log = refl;
+      log_middle = refl;
+      log_now = refl;
+      steps = refl;
+      steps_middle = refl;
+      steps_now = refl;
+    }) c.loop-next.invariant.1.1 refl c.in_err-read_pipe.field-0.0
+    (c.in_err-read_pipe.ensures.reads w legal (fetched ++ p.octets) (noted ++ p.items) direct s.names v.r v.rest p.roots p.k v.of v.by_plan
+    (next_before c.args.plan.now c.args.op c.args.side c.args.order w legal setting fetched noted direct c.args.stream.now s seen st hold c.loop-next.stream a d passed p c.in-Some.elem v
+    c.loop-next.number number_is)))
     c.from_residual.result c.from_residual.ensures.1
 
 pub returns-in_err-read_pipe-clause-later : goal.returns-in_err-read_pipe-clause-later
@@ -107,8 +134,11 @@ overflow_add-number g c =
     let d = decoding_seen c.args.items.now c.loop-next.items (g.L.Ledger.number c.args.steps.now) (g.L.Ledger.number c.loop-next.steps) in
     let (passed, (p, (there, number_is))) = c.loop-next.invariant.0 w legal fetched noted direct s seen setting st hold in
     let at_line = there ∙ ap (λ j. j + passed) (c.requires.line w.op setting.there) in
-    let v = next_is c.args.plan.now c.args.op c.args.side c.args.order w legal setting fetched noted direct c.args.stream.now s seen st hold c.loop-next.stream a d passed p c.loop-next.next c.in-Some.elem at_line c.in-Some.ensures in
-    let few = number_few c.args.plan.now c.args.op c.args.side c.args.order w legal setting fetched noted direct c.args.stream.now s seen st hold c.loop-next.stream a d passed p c.in-Some.elem v c.loop-next.number number_is in
+    let v = next_is c.args.plan.now c.args.op c.args.side c.args.order w legal setting fetched noted direct c.args.stream.now s seen st hold c.loop-next.stream a d passed p c.loop-next.next
+    c.in-Some.elem at_line c.in-Some.ensures in
+    let few =
+    number_few c.args.plan.now c.args.op c.args.side c.args.order w legal setting fetched noted direct c.args.stream.now s seen st hold c.loop-next.stream a d passed p c.in-Some.elem v
+    c.loop-next.number number_is in
     omega (arith, few)
 
 pub loop-next-preserved : goal.loop-next-preserved
@@ -122,8 +152,14 @@ loop-next-preserved g c = (
       let u = decoding_seen c.args.items.now c.read_pipe.new.items (g.L.Ledger.number c.args.steps.now) (g.L.Ledger.number c.read_pipe.new.steps) in
       let (passed, (p, (there, number_is))) = c.loop-next.invariant.0 w legal fetched noted direct s seen setting st hold in
       let at_line = there ∙ ap (λ j. j + passed) (c.requires.line w.op setting.there) in
-      let v = next_is c.args.plan.now c.args.op c.args.side c.args.order w legal setting fetched noted direct c.args.stream.now s seen st hold c.loop-next.stream a d passed p c.loop-next.next c.in-Some.elem at_line c.in-Some.ensures in
-      let y = next_read c.args.plan.now c.args.op c.args.side c.args.order w legal setting fetched noted direct c.args.stream.now s seen st hold c.loop-next.stream a d passed p c.in-Some.elem v c.loop-next.number number_is c.read_pipe.new.machine b e t u (record { before = refl; middle = refl; after = refl; ended = refl; log = refl; log_middle = refl; log_now = refl; steps = refl; steps_middle = refl; steps_now = refl }) tt (c.in_ok-read_pipe.ensures.reads w legal (fetched ++ p.octets) (noted ++ p.items) direct s.names v.r v.rest p.roots p.k v.of v.by_plan (next_before c.args.plan.now c.args.op c.args.side c.args.order w legal setting fetched noted direct c.args.stream.now s seen st hold c.loop-next.stream a d passed p c.in-Some.elem v c.loop-next.number number_is)) in
+      let v = next_is c.args.plan.now c.args.op c.args.side c.args.order w legal setting fetched noted direct c.args.stream.now s seen st hold c.loop-next.stream a d passed p c.loop-next.next
+      c.in-Some.elem at_line c.in-Some.ensures in
+      let y = next_read c.args.plan.now c.args.op c.args.side c.args.order w legal setting fetched noted direct c.args.stream.now s seen st hold c.loop-next.stream a d passed p c.in-Some.elem v
+      c.loop-next.number number_is c.read_pipe.new.machine b e t u
+      (record { before = refl; middle = refl; after = refl; ended = refl; log = refl; log_middle = refl; log_now = refl; steps = refl; steps_middle = refl; steps_now = refl }) tt
+      (c.in_ok-read_pipe.ensures.reads w legal (fetched ++ p.octets) (noted ++ p.items) direct s.names v.r v.rest p.roots p.k v.of v.by_plan
+      (next_before c.args.plan.now c.args.op c.args.side c.args.order w legal setting fetched noted direct c.args.stream.now s seen st hold c.loop-next.stream a d passed p c.in-Some.elem v
+      c.loop-next.number number_is)) in
       let one_more : c.loop-next.next + 1 ≡ c.args.line + (passed + 1) = omega (arith, there) in
       (passed + 1, (y.0, (one_more, y.1))),
   (c.in_ok-read_pipe.ensures.same ∙ c.loop-next.invariant.1.0, le_trans c.loop-next.invariant.1.1 c.read_pipe.ensures.later),
@@ -136,4 +172,6 @@ returns-clause-reads g c w legal fetched noted direct s seen setting st hold =
     let (passed, (p, (there, number_is))) = c.loop-next.invariant.0 w legal fetched noted direct s seen setting st hold in
     let at_line = there ∙ ap (λ j. j + passed) (c.requires.line w.op setting.there) in
     let past : length c.args.plan.now.entries ≤ c.loop-next.next = omega (arith, c.loop-next-test.false, c.len-next-end.ensures) in
-    stream_ends c.args.plan.now c.args.op c.args.side c.args.order w legal setting fetched noted direct c.args.stream.now s seen st hold c.loop-next.stream a d passed p (lines_done c.args.plan.now c.args.op c.args.side c.args.order w legal setting fetched noted direct c.args.stream.now s seen st hold c.loop-next.stream a d passed p c.loop-next.next at_line past)
+    stream_ends c.args.plan.now c.args.op c.args.side c.args.order w legal setting fetched noted direct c.args.stream.now s seen st hold c.loop-next.stream a d passed p
+    (lines_done c.args.plan.now c.args.op c.args.side c.args.order w legal setting fetched noted direct c.args.stream.now s seen st hold c.loop-next.stream a d passed p c.loop-next.next at_line
+    past)

@@ -32,7 +32,8 @@ returns-in_err-read_home-clause-reads g c w side fetched noted direct s seen n t
     direct_stops c.args.plan.now c.args.order c.args.to c.args.run c.args.stream.now w side fetched noted direct s seen n table st r there instr
     c.open_reference.new.self c.in_ok-cell.ensures.opens c.in_ok-cell.cell c.in_ok-cell.ensures.cell c.in_ok-cell.ensures.home
     (source_seen g.S.Source.left g.S.Source.ended g.S.Source.faults c.args.source.now c.read_home.new.source)
-    (notes_seen c.args.items.now c.read_home.new.items (g.L.Ledger.number c.open_reference.new.steps) (g.L.Ledger.number c.read_home.new.steps) c.open_reference.new.self.machine.cells c.read_home.new.machine.cells)
+    (notes_seen c.args.items.now c.read_home.new.items (g.L.Ledger.number c.open_reference.new.steps)
+    (g.L.Ledger.number c.read_home.new.steps) c.open_reference.new.self.machine.cells c.read_home.new.machine.cells)
     (g.L.Ledger.number c.args.steps.now) (state_of c.read_home.new.machine) _ c.in_err-read_home.field-0.0 c.from_residual-in_err-read_home.result c.in_ok-cell.ensures.tick
     c.in_err-read_home.ensures.ends c.from_residual-in_err-read_home.ensures.1
 
@@ -42,7 +43,8 @@ returns-clause-reads g c w side fetched noted direct s seen n table st r there i
     direct_last c.args.plan.now c.args.order c.args.to c.args.run c.args.stream.now w side fetched noted direct s seen n table st r there instr
     c.open_reference.new.self c.in_ok-cell.ensures.opens c.in_ok-cell.cell c.in_ok-cell.ensures.cell c.in_ok-cell.ensures.home
     (source_seen g.S.Source.left g.S.Source.ended g.S.Source.faults c.args.source.now c.read_home.new.source)
-    (notes_seen c.args.items.now c.read_home.new.items (g.L.Ledger.number c.open_reference.new.steps) (g.L.Ledger.number c.read_home.new.steps) c.open_reference.new.self.machine.cells c.read_home.new.machine.cells)
+    (notes_seen c.args.items.now c.read_home.new.items (g.L.Ledger.number c.open_reference.new.steps)
+    (g.L.Ledger.number c.read_home.new.steps) c.open_reference.new.self.machine.cells c.read_home.new.machine.cells)
     (g.L.Ledger.number c.args.steps.now) c.in_ok-cell.ensures.tick _ c.end_reference.new.self c.in_ok-cell.ensures.builder
     (record { wanted = keeps.wanted; todo = keeps.todo; roots = keeps.roots; cells = keeps.cells })
     c.in_ok-read_home.ensures.outside c.in_ok-read_home.ensures.ends c.end_reference.result c.end_reference.ensures.ends c.end_reference.ensures.memory

@@ -14,13 +14,15 @@ loop-number-init g c = (
 pub returns-in-Checks-clause-reads : goal.returns-in-Checks-clause-reads
 returns-in-Checks-clause-reads g c =
     roots_end c.args.plan.now c.args.op c.args.side c.args.order _ _ _ c.loop-number.stream c.loop-number.number c.loop-number.invariant.0 c.in-Checks.op c.in-Checks.side c.in-Checks.at
-    (line_read c.args.plan.now c.as_slice-lines.result.now c.loop-number.number c.index-lines-number.result (line.Checks c.in-Checks.op c.in-Checks.side c.in-Checks.at) c.as_slice-lines.ensures c.loop-number-test.true
+    (line_read c.args.plan.now c.as_slice-lines.result.now c.loop-number.number c.index-lines-number.result
+    (line.Checks c.in-Checks.op c.in-Checks.side c.in-Checks.at) c.as_slice-lines.ensures c.loop-number-test.true
     c.index-lines-number.is c.in-Checks.is)
 
 pub returns-in-Checks-clause-found : goal.returns-in-Checks-clause-found
 returns-in-Checks-clause-found g c =
     roots_found c.args.plan.now c.args.op c.args.side c.args.order _ _ _ c.loop-number.stream c.loop-number.number c.loop-number.invariant.0 c.in-Checks.op c.in-Checks.side c.in-Checks.at
-    (line_read c.args.plan.now c.as_slice-lines.result.now c.loop-number.number c.index-lines-number.result (line.Checks c.in-Checks.op c.in-Checks.side c.in-Checks.at) c.as_slice-lines.ensures c.loop-number-test.true
+    (line_read c.args.plan.now c.as_slice-lines.result.now c.loop-number.number c.index-lines-number.result
+    (line.Checks c.in-Checks.op c.in-Checks.side c.in-Checks.at) c.as_slice-lines.ensures c.loop-number-test.true
     c.index-lines-number.is c.in-Checks.is)
 
 pub returns-in-Checks-clause-same : goal.returns-in-Checks-clause-same
@@ -31,9 +33,11 @@ returns-in-Checks-clause-later g c = c.loop-number.invariant.1.1
 
 pub read_root-requires : goal.read_root-requires
 read_root-requires g c = record {
-  next = root_next c.args.plan.now c.args.op c.args.side c.args.order _ _ _ c.loop-number.stream c.loop-number.number c.requires.known c.loop-number.invariant.0 c.in-Entry.op c.in-Entry.side c.in-Entry.name
+  next = root_next c.args.plan.now c.args.op c.args.side c.args.order _ _ _ c.loop-number.stream c.loop-number.number c.requires.known c.loop-number.invariant.0 c.in-Entry.op c.in-Entry.side
+      c.in-Entry.name
       c.in-Entry.at
-      (line_read c.args.plan.now c.as_slice-lines.result.now c.loop-number.number c.index-lines-number.result (line.Entry c.in-Entry.op c.in-Entry.side c.in-Entry.name c.in-Entry.at) c.as_slice-lines.ensures
+      (line_read c.args.plan.now c.as_slice-lines.result.now c.loop-number.number c.index-lines-number.result
+      (line.Entry c.in-Entry.op c.in-Entry.side c.in-Entry.name c.in-Entry.at) c.as_slice-lines.ensures
       c.loop-number-test.true c.index-lines-number.is c.in-Entry.is);
 }
 
@@ -44,7 +48,8 @@ returns-in_err-read_root-in-Entry-clause-reads g c =
     (follows g.S.Source.left g.S.Source.ended g.S.Source.faults c.args.source.now c.loop-number.source c.read_root.new.source c.args.items.now c.loop-number.items c.read_root.new.items
     (g.L.Ledger.number c.args.steps.now) (g.L.Ledger.number c.loop-number.steps) (g.L.Ledger.number c.read_root.new.steps)) c.loop-number.stream c.read_root.new.stream c.loop-number.number
     c.loop-number.invariant.0 c.in-Entry.op c.in-Entry.side c.in-Entry.name c.in-Entry.at
-    (line_read c.args.plan.now c.as_slice-lines.result.now c.loop-number.number c.index-lines-number.result (line.Entry c.in-Entry.op c.in-Entry.side c.in-Entry.name c.in-Entry.at) c.as_slice-lines.ensures
+    (line_read c.args.plan.now c.as_slice-lines.result.now c.loop-number.number c.index-lines-number.result
+    (line.Entry c.in-Entry.op c.in-Entry.side c.in-Entry.name c.in-Entry.at) c.as_slice-lines.ensures
     c.loop-number-test.true c.index-lines-number.is c.in-Entry.is)
     c.loop-number.invariant.1.1 refl c.in_err-read_root-in-Entry.field-0.0 c.in_err-read_root-in-Entry.ensures.reads)
 
@@ -58,23 +63,27 @@ read_pending-requires g c = record {
       (follows g.S.Source.left g.S.Source.ended g.S.Source.faults c.args.source.now c.loop-number.source c.read_root.new.source c.args.items.now c.loop-number.items c.read_root.new.items
       (g.L.Ledger.number c.args.steps.now) (g.L.Ledger.number c.loop-number.steps) (g.L.Ledger.number c.read_root.new.steps)) c.loop-number.stream c.read_root.new.stream c.loop-number.number
       c.loop-number.invariant.0 c.in-Entry.op c.in-Entry.side c.in-Entry.name c.in-Entry.at
-      (line_read c.args.plan.now c.as_slice-lines.result.now c.loop-number.number c.index-lines-number.result (line.Entry c.in-Entry.op c.in-Entry.side c.in-Entry.name c.in-Entry.at) c.as_slice-lines.ensures
+      (line_read c.args.plan.now c.as_slice-lines.result.now c.loop-number.number c.index-lines-number.result
+      (line.Entry c.in-Entry.op c.in-Entry.side c.in-Entry.name c.in-Entry.at) c.as_slice-lines.ensures
       c.loop-number-test.true c.index-lines-number.is c.in-Entry.is)
       c.in_ok-read_root-in-Entry.field-0 c.in_ok-read_root-in-Entry.ensures.reads);
 }
 
 pub returns-in_err-read_pending-in-Entry-clause-reads : goal.returns-in_err-read_pending-in-Entry-clause-reads
 returns-in_err-read_pending-in-Entry-clause-reads g c =
-    handed_on c.args.plan.now c.args.op c.args.side c.args.order c.args.stream.now _ _ c.read_pending.new.stream c.from_residual-in_err-read_pending-in-Entry.result c.in_err-read_pending-in-Entry.field-0.0
+    handed_on c.args.plan.now c.args.op c.args.side c.args.order c.args.stream.now _ _ c.read_pending.new.stream c.from_residual-in_err-read_pending-in-Entry.result
+    c.in_err-read_pending-in-Entry.field-0.0
     c.from_residual-in_err-read_pending-in-Entry.ensures.1
     (pending_faulty c.args.plan.now c.args.op c.args.side c.args.order _ _ _ _ _ _ _
     (follows g.S.Source.left g.S.Source.ended g.S.Source.faults c.args.source.now c.read_root.new.source c.read_pending.new.source c.args.items.now c.read_root.new.items c.read_pending.new.items
-    (g.L.Ledger.number c.args.steps.now) (g.L.Ledger.number c.read_root.new.steps) (g.L.Ledger.number c.read_pending.new.steps)) c.read_root.new.stream c.read_pending.new.stream (c.loop-number.number + 1)
+    (g.L.Ledger.number c.args.steps.now) (g.L.Ledger.number c.read_root.new.steps) (g.L.Ledger.number c.read_pending.new.steps)) c.read_root.new.stream c.read_pending.new.stream
+    (c.loop-number.number + 1)
     (root_went c.args.plan.now c.args.op c.args.side c.args.order _ _ _ _ _ _ _
     (follows g.S.Source.left g.S.Source.ended g.S.Source.faults c.args.source.now c.loop-number.source c.read_root.new.source c.args.items.now c.loop-number.items c.read_root.new.items
     (g.L.Ledger.number c.args.steps.now) (g.L.Ledger.number c.loop-number.steps) (g.L.Ledger.number c.read_root.new.steps)) c.loop-number.stream c.read_root.new.stream c.loop-number.number
     c.loop-number.invariant.0 c.in-Entry.op c.in-Entry.side c.in-Entry.name c.in-Entry.at
-    (line_read c.args.plan.now c.as_slice-lines.result.now c.loop-number.number c.index-lines-number.result (line.Entry c.in-Entry.op c.in-Entry.side c.in-Entry.name c.in-Entry.at) c.as_slice-lines.ensures
+    (line_read c.args.plan.now c.as_slice-lines.result.now c.loop-number.number c.index-lines-number.result
+    (line.Entry c.in-Entry.op c.in-Entry.side c.in-Entry.name c.in-Entry.at) c.as_slice-lines.ensures
     c.loop-number-test.true c.index-lines-number.is c.in-Entry.is)
     c.in_ok-read_root-in-Entry.field-0 c.in_ok-read_root-in-Entry.ensures.reads)
     (le_trans c.loop-number.invariant.1.1 c.read_root.ensures.later) refl c.in_err-read_pending-in-Entry.field-0.0 c.in_err-read_pending-in-Entry.ensures.reads)
@@ -92,7 +101,8 @@ loop-number-preserved g c = (
       (follows g.S.Source.left g.S.Source.ended g.S.Source.faults c.args.source.now c.loop-number.source c.read_root.new.source c.args.items.now c.loop-number.items c.read_root.new.items
       (g.L.Ledger.number c.args.steps.now) (g.L.Ledger.number c.loop-number.steps) (g.L.Ledger.number c.read_root.new.steps)) c.loop-number.stream c.read_root.new.stream c.loop-number.number
       c.loop-number.invariant.0 c.in-Entry.op c.in-Entry.side c.in-Entry.name c.in-Entry.at
-      (line_read c.args.plan.now c.as_slice-lines.result.now c.loop-number.number c.index-lines-number.result (line.Entry c.in-Entry.op c.in-Entry.side c.in-Entry.name c.in-Entry.at) c.as_slice-lines.ensures
+      (line_read c.args.plan.now c.as_slice-lines.result.now c.loop-number.number c.index-lines-number.result
+      (line.Entry c.in-Entry.op c.in-Entry.side c.in-Entry.name c.in-Entry.at) c.as_slice-lines.ensures
       c.loop-number-test.true c.index-lines-number.is c.in-Entry.is)
       c.in_ok-read_root-in-Entry.field-0 c.in_ok-read_root-in-Entry.ensures.reads)
       c.in_ok-read_pending-in-Entry.field-0 c.in_ok-read_pending-in-Entry.ensures.reads,

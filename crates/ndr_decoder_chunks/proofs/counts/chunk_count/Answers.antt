@@ -49,4 +49,5 @@ returns-clause-alone g c =
     let u = decoding_seen c.args.items.now c.pass_count.new.items (g.L.Ledger.number c.args.steps.now) (g.L.Ledger.number c.pass_count.new.steps) in
     told_both c.args.order a b z s t u
     (record { before = refl; middle = refl; after = refl; ended = refl; log = refl; log_middle = refl; log_now = refl; steps = refl; steps_middle = refl; steps_now = refl })
-    c.args.machine.now c.pass_gap.new.machine c.pass_count.new.machine refl c.pass_gap.ensures.later c.in_ok-pass_gap.ensures.alone c.in_ok-pass_gap.ensures.moved.home c.pass_count.result c.pass_count.ensures.alone
+    c.args.machine.now c.pass_gap.new.machine c.pass_count.new.machine refl c.pass_gap.ensures.later c.in_ok-pass_gap.ensures.alone c.in_ok-pass_gap.ensures.moved.home c.pass_count.result
+    c.pass_count.ensures.alone

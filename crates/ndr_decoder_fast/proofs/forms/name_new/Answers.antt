@@ -37,4 +37,5 @@ returns-in_err-cell-clause-idle g c =
 pub returns-in_err-owe-clause-idle : goal.returns-in_err-owe-clause-idle
 returns-in_err-owe-clause-idle g c =
     let more : g.L.Ledger.number c.reserve.new.steps ≡ g.L.Ledger.number c.args.steps.now + 1 = c.in_ok-cell.ensures.tick in
-    cells_idle (state_of c.args.machine.now) c.args.class c.args.to c.args.run (g.L.Ledger.number c.args.steps.now) (g.L.Ledger.number c.reserve.new.steps) (omega (arith, more)) c.from_residual-in_err-owe.result
+    cells_idle (state_of c.args.machine.now) c.args.class c.args.to c.args.run (g.L.Ledger.number c.args.steps.now) (g.L.Ledger.number c.reserve.new.steps)
+    (omega (arith, more)) c.from_residual-in_err-owe.result

@@ -13,6 +13,7 @@ invariant_of-machine-2 g c =
       keepable = m.keepable;
       small = m.small;
       spans = m.spans;
-      counted = read_nodes m c.add_records.new.builder c.args.order ps e.count c.args.octets.now c.in_ok-add_records.ensures.ok c.from.result (c.from.ensures ∙ members_count e.members c.requires.whole);
+      counted =
+          read_nodes m c.add_records.new.builder c.args.order ps e.count c.args.octets.now c.in_ok-add_records.ensures.ok c.from.result (c.from.ensures ∙ members_count e.members c.requires.whole);
       numbered = read_cells m c.add_records.new.builder c.args.order ps e.count c.args.octets.now c.in_ok-add_records.ensures.ok;
     }

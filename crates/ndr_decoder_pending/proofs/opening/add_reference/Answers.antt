@@ -14,4 +14,5 @@ returns-clause-cell g c =
 
 pub returns-clause-builder : goal.returns-clause-builder
 returns-clause-builder g c =
-    reference_built c.args.machine.now.builder c.add_root.new.machine.builder _ _ _ c.in_ok-cell.cell.0 c.args.to.0 c.in_ok-add_root.ensures.builder c.in_ok-cell.ensures.ok c.in_ok-add.ensures.ok c.fill.ensures
+    reference_built c.args.machine.now.builder c.add_root.new.machine.builder _ _ _ c.in_ok-cell.cell.0 c.args.to.0 c.in_ok-add_root.ensures.builder c.in_ok-cell.ensures.ok c.in_ok-add.ensures.ok
+    c.fill.ensures

@@ -35,5 +35,6 @@ returns-clause-noted g c =
     let noted = c.in_ok-count_read.ensures.noted in
     let node = λ (s : State). with_node (tree.Arr c.args.limit c.args.offset, c.args.count) (Some m.at) s in
     actual_ended m c.args.offset c.args.count c.args.limit c.args.run (omega arith) c.begin_elements.new.machine (state_of c.add.new.self)
-    c.args.items.now c.count_read.new.items (g.L.Ledger.number c.args.steps.now) (g.L.Ledger.number c.count_read.new.steps) c.begin_elements.result (c.in_ok-add.ensures.ok ∙ ap node read) c.begin_elements.ensures.does
+    c.args.items.now c.count_read.new.items (g.L.Ledger.number c.args.steps.now) (g.L.Ledger.number c.count_read.new.steps) c.begin_elements.result
+    (c.in_ok-add.ensures.ok ∙ ap node read) c.begin_elements.ensures.does
     noted.0 (omega (arith, noted.1, same))

@@ -4,7 +4,8 @@ use Rattle.ndr_decoder_value.proofs.Searches.{list_next, carrier_found, carrier_
 use Rattle.ndr_decoder_value.proofs.enumerators.carrier_of.Goals as goal
 
 pub returns-then-list-of : goal.returns-then-list-of
-returns-then-list-of c = carrier_found c.args.values.now c.args.of.0 c.loop-at.at c.in-Some.list.now c.loop-at.invariant c.in-Some.ensures.some (eq-eqb c.in-Some.list.now.of.0 c.args.of.0 c.if-list-of.true)
+returns-then-list-of c =
+    carrier_found c.args.values.now c.args.of.0 c.loop-at.at c.in-Some.list.now c.loop-at.invariant c.in-Some.ensures.some (eq-eqb c.in-Some.list.now.of.0 c.args.of.0 c.if-list-of.true)
 
 pub loop-at-preserved : goal.loop-at-preserved
 loop-at-preserved c = c.loop-at.invariant ∙ list_next c.args.values.now c.args.of.0 c.loop-at.at c.in-Some.list.now c.in-Some.ensures.some

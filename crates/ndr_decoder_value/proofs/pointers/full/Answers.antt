@@ -11,7 +11,8 @@ pub returns-then-known-len-clause-does : goal.returns-then-known-len-clause-does
 returns-then-known-len-clause-does g c =
     let m = c.args.machine.now in
     let t = c.args.to in
-    let grown : length m.referents < length c.meet.new.self = subst (λ (n : ℕ). n < length c.meet.new.self) c.len-known.ensures (subst (λ (n : ℕ). c.len-known.result < n) c.len.ensures c.if-known-len.true) in
+    let grown : length m.referents < length c.meet.new.self =
+    subst (λ (n : ℕ). n < length c.meet.new.self) c.len-known.ensures (subst (λ (n : ℕ). c.len-known.result < n) c.len.ensures c.if-known-len.true) in
     subst (λ (o : Outcome). Does o c.name_new.result (state_of c.name_new.new.machine))
     (sym
     (full_new t.class t.to t.run c.args.number (record { 0 = m.cells + 1 }) c.meet.new.self (state_of m) c.requires.class c.if-number-eq0.false
@@ -22,7 +23,8 @@ pub returns-then-known-len-clause-noted : goal.returns-then-known-len-clause-not
 returns-then-known-len-clause-noted g c =
     let m = c.args.machine.now in
     let t = c.args.to in
-    let grown : length m.referents < length c.meet.new.self = subst (λ (n : ℕ). n < length c.meet.new.self) c.len-known.ensures (subst (λ (n : ℕ). c.len-known.result < n) c.len.ensures c.if-known-len.true) in
+    let grown : length m.referents < length c.meet.new.self =
+    subst (λ (n : ℕ). n < length c.meet.new.self) c.len-known.ensures (subst (λ (n : ℕ). c.len-known.result < n) c.len.ensures c.if-known-len.true) in
     subst (λ (o : Outcome). Noted o (pointer_items c.args.number m.home (state_of m))
     (notes_seen c.args.items.now c.name_new.new.items (g.L.Ledger.number c.args.steps.now) (g.L.Ledger.number c.name_new.new.steps) m.cells c.name_new.new.machine.cells) c.name_new.result)
     (sym
@@ -34,7 +36,8 @@ pub returns-else-known-len-clause-does : goal.returns-else-known-len-clause-does
 returns-else-known-len-clause-does g c =
     let m = c.args.machine.now in
     let t = c.args.to in
-    let kept : length c.meet.new.self ≤ length m.referents = subst (λ (n : ℕ). length c.meet.new.self ≤ n) c.len-known.ensures (subst (λ (n : ℕ). n ≤ c.len-known.result) c.len.ensures c.if-known-len.false) in
+    let kept : length c.meet.new.self ≤ length m.referents =
+    subst (λ (n : ℕ). length c.meet.new.self ≤ n) c.len-known.ensures (subst (λ (n : ℕ). n ≤ c.len-known.result) c.len.ensures c.if-known-len.false) in
     subst (λ (o : Outcome). Does o c.name-in-Ok.result (state_of c.name-in-Ok.new.machine))
     (sym
     (full_known t.class t.to t.run c.args.number c.in-Ok.cell c.meet.new.self (state_of m) c.requires.class c.if-number-eq0.false
@@ -45,7 +48,8 @@ pub returns-else-known-len-clause-noted : goal.returns-else-known-len-clause-not
 returns-else-known-len-clause-noted g c =
     let m = c.args.machine.now in
     let t = c.args.to in
-    let kept : length c.meet.new.self ≤ length m.referents = subst (λ (n : ℕ). length c.meet.new.self ≤ n) c.len-known.ensures (subst (λ (n : ℕ). n ≤ c.len-known.result) c.len.ensures c.if-known-len.false) in
+    let kept : length c.meet.new.self ≤ length m.referents =
+    subst (λ (n : ℕ). length c.meet.new.self ≤ n) c.len-known.ensures (subst (λ (n : ℕ). n ≤ c.len-known.result) c.len.ensures c.if-known-len.false) in
     subst (λ (o : Outcome). Noted o (pointer_items c.args.number m.home (state_of m))
     (notes_seen c.args.items.now c.name-in-Ok.new.items (g.L.Ledger.number c.args.steps.now) (g.L.Ledger.number c.name-in-Ok.new.steps) m.cells c.name-in-Ok.new.machine.cells) c.name-in-Ok.result)
     (sym

@@ -48,8 +48,11 @@ returns-in-Fixed-clause-noted g c =
     let s : State = state_of m in
     let n = g.L.Ledger.number c.args.steps.now in
     subst
-    (λ (i : Instr). Noted {T = Unit {0}} (step values order os i s) (step_items order m.home os i s) (notes_seen c.args.items.now c.args.items.now n n m.cells c.array.new.machine.cells) c.array.result)
-    (sym c.in-Fixed.is) (quiet (step values order os (op.Fixed c.in-Fixed.count c.in-Fixed.run') s) c.args.items.now n m c.array.new.machine c.array.result (elements_leave c.in-Fixed.count c.in-Fixed.run' (with_node (tree.Arr c.in-Fixed.count 0, c.in-Fixed.count) None s)) c.array.ensures.does)
+    (λ (i : Instr). Noted {T = Unit {0}} (step values order os i s) (step_items order m.home os i s)
+    (notes_seen c.args.items.now c.args.items.now n n m.cells c.array.new.machine.cells) c.array.result)
+    (sym c.in-Fixed.is)
+    (quiet (step values order os (op.Fixed c.in-Fixed.count c.in-Fixed.run') s) c.args.items.now n m c.array.new.machine c.array.result
+    (elements_leave c.in-Fixed.count c.in-Fixed.run' (with_node (tree.Arr c.in-Fixed.count 0, c.in-Fixed.count) None s)) c.array.ensures.does)
 
 pub returns-in-Conf-clause-noted : goal.returns-in-Conf-clause-noted
 returns-in-Conf-clause-noted g c =
@@ -58,8 +61,11 @@ returns-in-Conf-clause-noted g c =
     let s : State = state_of m in
     let n = g.L.Ledger.number c.args.steps.now in
     subst
-    (λ (i : Instr). Noted {T = Unit {0}} (step values order os i s) (step_items order m.home os i s) (notes_seen c.args.items.now c.args.items.now n n m.cells c.array-in-Conf.new.machine.cells) c.array-in-Conf.result)
-    (sym c.in-Conf.is) (quiet (step values order os (op.Conf c.in-Conf.run') s) c.args.items.now n m c.array-in-Conf.new.machine c.array-in-Conf.result (elements_leave m.max c.in-Conf.run' (with_node (tree.Arr m.max 0, m.max) None s)) c.array-in-Conf.ensures.does)
+    (λ (i : Instr). Noted {T = Unit {0}} (step values order os i s) (step_items order m.home os i s)
+    (notes_seen c.args.items.now c.args.items.now n n m.cells c.array-in-Conf.new.machine.cells) c.array-in-Conf.result)
+    (sym c.in-Conf.is)
+    (quiet (step values order os (op.Conf c.in-Conf.run') s) c.args.items.now n m c.array-in-Conf.new.machine c.array-in-Conf.result
+    (elements_leave m.max c.in-Conf.run' (with_node (tree.Arr m.max 0, m.max) None s)) c.array-in-Conf.ensures.does)
 
 pub returns-in-Check-clause-noted : goal.returns-in-Check-clause-noted
 returns-in-Check-clause-noted g c =
@@ -68,8 +74,11 @@ returns-in-Check-clause-noted g c =
     let s : State = state_of m in
     let n = g.L.Ledger.number c.args.steps.now in
     subst
-    (λ (i : Instr). Noted {T = Unit {0}} (step values order os i s) (step_items order m.home os i s) (notes_seen c.args.items.now c.args.items.now n n m.cells c.check.new.machine.cells) c.check.result)
-    (sym c.in-Check.is) (quiet (check_in m.top c.in-Check.attr c.in-Check.field c.in-Check.var s) c.args.items.now n m c.check.new.machine c.check.result (check_leaves m.top c.in-Check.attr c.in-Check.field c.in-Check.var s) c.check.ensures.does)
+    (λ (i : Instr). Noted {T = Unit {0}} (step values order os i s) (step_items order m.home os i s)
+    (notes_seen c.args.items.now c.args.items.now n n m.cells c.check.new.machine.cells) c.check.result)
+    (sym c.in-Check.is)
+    (quiet (check_in m.top c.in-Check.attr c.in-Check.field c.in-Check.var s) c.args.items.now n m c.check.new.machine c.check.result
+    (check_leaves m.top c.in-Check.attr c.in-Check.field c.in-Check.var s) c.check.ensures.does)
 
 pub returns-in-Call-clause-noted : goal.returns-in-Call-clause-noted
 returns-in-Call-clause-noted g c =

@@ -27,8 +27,11 @@ invariant_of-self-2 c =
 pub returns : goal.returns
 returns c =
     record {
-      kept = subst (λ (s : CellsSeen). CellKept c.args.cell.0 (counts_kept c.args.counts) s.items (map (entry_seen c.count.new.lists) (slice_set c.reach.new.entries.items (c.args.cell.0 - 1) c.in_ok-entry.entry))) c.self.view_is
-          (entry_put c.self.inside.lists c.count.new.lists c.self.inside.entries.items (slice_set c.reach.new.entries.items (c.args.cell.0 - 1) c.in_ok-entry.entry) c.args.cell.0 c.in_ok-entry.entry (counts_kept c.args.counts) c.requires.there
+      kept = subst
+          (λ (s : CellsSeen). CellKept c.args.cell.0 (counts_kept c.args.counts) s.items
+          (map (entry_seen c.count.new.lists) (slice_set c.reach.new.entries.items (c.args.cell.0 - 1) c.in_ok-entry.entry))) c.self.view_is
+          (entry_put c.self.inside.lists c.count.new.lists c.self.inside.entries.items (slice_set c.reach.new.entries.items (c.args.cell.0 - 1) c.in_ok-entry.entry) c.args.cell.0 c.in_ok-entry.entry
+          (counts_kept c.args.counts) c.requires.there
           c.in_ok-entry.ensures.grown c.self.invariant.listed
           (put_set c.self.inside.entries.items c.reach.new.entries.items _ (c.args.cell.0 - 1) c.in_ok-entry.entry c.in_ok-reach.ensures.long c.in_ok-reach.ensures.same refl)
           c.in_ok-entry.ensures.seen);

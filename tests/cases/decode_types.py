@@ -96,6 +96,7 @@ TEXTS = [
     refused("a string with an offset", SAY, "say", octets("03000000 01000000"), 4, "TextOffset"),
     refused("a string with a zero in it", SAY, "say", octets("03000000 00000000 03000000 680000"), 13, "TextZero"),
     refused("a string past the stream limit", SAY, "say", octets("FFFFFFFF 00000000 FFFFFFFF 6869"), 67108864, "TooLong"),
+    refused("a string one octet past the stream limit, with all its octets", SAY, "say", octets("F5FFFF03 00000000 F5FFFF03") + b"a" * 67_108_852 + b"\0", 67108864, "TooLong"),
     refused("a string past its maximum count", SAY, "say", octets("01000000 00000000 FFFFFFFF"), 8, "PastBound"),
 ]
 

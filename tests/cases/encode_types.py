@@ -2,7 +2,7 @@
 The octets and the texts were made from C706 and the pages of docs/."""
 
 from case import Case, interface, lines, octets
-from decode_values import (
+from decode_types import (
     ADD, ANSWER, ANSWER_OCTETS, BLOB, CHOICE, FEED, FEED_OCTETS, GRID, HOISTED, ID, KINDS, OWN, PART, PICK, PICK_ONE, RING, RING_OCTETS, SAY, SUM, SUM_OCTETS,
     TURNS, TURNS_OCTETS, TWO, USE, VARYING, files, request,
 )
