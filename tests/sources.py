@@ -3,7 +3,8 @@
 
     tests/sources.py [CHECK ..]     prints what is wrong, a line each; the status is 1 where something is
 
-    imports     each import of this repository's definitions and lemmas finds its file and a public name in it
+    imports     each import of this repository's definitions and lemmas finds its file, which it may see, and a public
+                name in it
     unused      each public name of `specs/` and `proofs/` is used: by a file that imports it, or in its own file
                 outside its own definition. Examples are for readers, and their names are not looked at
     repeated    no statement of a lemma is in three files. `tests/cases/sources.py` does not ask for this one
@@ -83,6 +84,11 @@ class Source:
             if definition.public:
                 names |= {definition.name, *definition.members}
         return names
+
+    def private(self) -> Set[str]:
+        """The modules that it lists for itself and those in it."""
+        found = (LISTED.match(line) for line in self.lines)
+        return {f"{self.module}.{listed['name']}" for listed in found if listed and not listed["pub"]}
 
 
 def code(line: str) -> str:
@@ -178,6 +184,7 @@ def imports(root: Path = ROOT) -> List[str]:
     """Imports that find nothing."""
     all_sources = sources(root)
     public = {source.module: source.public() for source in all_sources if source.path.suffix == ".antt"}
+    private = {module for source in all_sources for module in source.private()}
     crates = {source.crate for source in all_sources}
     wrong = []
     for source in all_sources:
@@ -192,7 +199,20 @@ def imports(root: Path = ROOT) -> List[str]:
                 wrong.append(f"{place}: there is no {imported.module}")
             elif imported.name and imported.name not in public[imported.module]:
                 wrong.append(f"{place}: {imported.module} has no public {imported.name}")
+            elif any(not is_below(source.module, module) for module in above_and(imported.module) & private):
+                wrong.append(f"{place}: {imported.module} is private")
     return wrong
+
+
+def above_and(module: str) -> Set[str]:
+    """A module, and those that it is in."""
+    parts = module.split(".")
+    return {".".join(parts[:count]) for count in range(1, len(parts) + 1)}
+
+
+def is_below(module: str, private: str) -> bool:
+    """Whether a module may see a private one: it is the one that lists it, or in that."""
+    return private.rpartition(".")[0] in above_and(module)
 
 
 def is_named(name: str, found: Set[str], text: str) -> bool:

@@ -23,6 +23,8 @@ LAWS = FILES["crates/low/proofs/Laws.antt"]
 WRONG = [
     ({"crates/top/proofs/Top.antt": "use Rattle.low.specs.Sums.{sums}\n"}, "Rattle.low.specs.Sums has no public sums"),
     ({"crates/top/proofs/Top.antt": "use Rattle.low.proofs.Sums.{sum}\n"}, "there is no Rattle.low.proofs.Sums"),
+    ({"crates/low/specs/Lib.antt": "mod Sums\n"}, "Rattle.low.specs.Sums is private"),
+    ({"crates/low/proofs/Lib.antt": "mod Laws\n"}, "is private", False),
     ({"crates/low/proofs/Laws.antt": LAWS.replace("pub one", "one")}, "nothing uses", False),
     ({"crates/low/proofs/Laws.antt": LAWS + "\npub two : ℕ\ntwo = one 2\n"}, "nothing uses two"),
     ({"crates/low/proofs/Laws.antt": LAWS + "\n-- two\npub two : ℕ → ℕ\ntwo zero = two zero\n"}, "nothing uses two"),
