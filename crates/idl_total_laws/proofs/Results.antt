@@ -131,7 +131,7 @@ each_held (Some k) name = by (k name) refl
 
 -- ## The interface
 
-interface_of : (m : Meant) → is_identifier m.name ≡ true → IsLegal m.types m.operations → Interface
+abbrev interface_of : (m : Meant) → is_identifier m.name ≡ true → IsLegal m.types m.operations → Interface
 interface_of m named legal = record {
   name = m.name;
   uuid = m.uuid;

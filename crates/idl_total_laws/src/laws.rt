@@ -74,7 +74,6 @@ pub fn files_are_judged()
 
 /// Each main file, with all that it imports and the attribute configuration file that may be named, means an interface; or one of the files is
 /// refused, at a line and column; or one that is due is missing. Where the contents of files are known it is one of these alone, and in one way.
-#[tactic(auto, using(crate::proofs::Results::each_result, crate::proofs::Results::one_result))]
 pub fn files_have_one_result()
     ensures some { (held : Option (List ℕ → Option (List ℕ))) (idl text : List ℕ) (acf : Option (List ℕ)) → HasResult held idl text acf }
     ensures one { (k : List ℕ → Option (List ℕ)) (idl text : List ℕ) (acf : Option (List ℕ)) (a b : HasResult (Some k) idl text acf)
