@@ -5,5 +5,6 @@ pub mod Judged
 pub mod AcfWithin
 pub mod OneFile
 pub mod OneAcf
+pub mod OneWalk
 pub mod OneMeaning
 pub mod OneInterface

@@ -1,9 +1,8 @@
 -- Files mean one interface or are refused for one fault, never both, and neither where a file that is due is missing.
-use Rattle.std.proofs.Common.{◌≡◌, ◌∙◌, ℕ, true, List, [], ◌∷◌, length, Option, Some, None, refl, sym, ap, subst, inl, inr}
+use Rattle.std.proofs.Common.{◌≡◌, ◌∙◌, ℕ, List, [], ◌∷◌, length, Option, Some, None, refl, sym, ap, subst, inl, inr}
 use Rattle.std.proofs.lemmas.Option.{same_Some}
-use Rattle.std.specs.Prelude.{option_map}
 use Rattle.nd_base.specs.declared.octets.Place.{Place}
-use Rattle.nd_base.specs.Outside.{IsContent, IsMissing, loaded}
+use Rattle.nd_base.specs.Outside.{IsContent, IsMissing}
 use Rattle.nd_types.specs.declared.interface.Interface.{Interface}
 use Rattle.idl_lexer.specs.declared.tokens.LexKind.{LexKind}
 use Rattle.idl_lexer.specs.declared.tokens.LexFault.TheVariants as lexical
@@ -12,7 +11,6 @@ use Rattle.idl_grammar.specs.Tree.{Tree}
 use Rattle.idl_grammar.specs.declared.fault.SyntaxFault.{SyntaxFault}
 use Rattle.idl_scope.specs.declared.name_fault.NameFault.{NameFault}
 use Rattle.idl_scope.specs.declared.name_fault.NameFault.TheVariants as names
-use Rattle.idl_names.specs.Decided.{is_decided}
 use Rattle.idl_names.specs.Files.{IsFile, IsNoFile}
 use Rattle.idl_scope.specs.Known.{first_undefined}
 use Rattle.idl_names.specs.Sources.{Source, and_source}
@@ -26,11 +24,10 @@ use Rattle.command_refusals.specs.declared.refusal.IdlReason.{IdlReason}
 use Rattle.command_refusals.specs.declared.refusal.Refusal.{Refusal}
 use Rattle.command_refusals.specs.declared.refusal.Refusal.TheVariants.{BadIdl}
 use Rattle.command_compile.specs.AcfFile.{AcfFile, IsAcf, IsLoadedAcf, IsBeside, tree_beside}
-use Rattle.command_compile.specs.Idl.{main_file, name_in, resolved_world, AreResolved, Means, IsMainFault, IsNameFault, IsAcfFault, IsBadAcf, IsIdlFault, by_names, by_acf, by_rules, reported_by}
-use Rattle.command_compile.specs.Idl.{reported_fault, reported_beside, IsDueImport, IsDueAcf, IsDueAfter}
-use Rattle.idl_names.proofs.Once.{one_ending}
+use Rattle.command_compile.specs.Idl.{main_file, resolved_world, AreResolved, Means, IsMainFault, IsNameFault, IsAcfFault, IsBadAcf, IsIdlFault, by_names, by_acf, by_rules, reported_by, reported_fault, reported_beside, IsDueImport, IsDueAcf, IsDueAfter}
 use Rattle.command_compile.proofs.OneFile.{one_tree, one_no_file, one_cut, never_cut, never_file, never_uncut}
 use Rattle.command_compile.proofs.OneAcf.{one_acf, one_acf_fault, never_acf}
+use Rattle.command_compile.proofs.OneWalk.{IsKept, one_end, one_content, not_missing}
 use Rattle.command_compile.proofs.Compiled.{last_name}
 use Rattle.command_compile.proofs.Walks.{passed_fault}
 
@@ -46,18 +43,18 @@ abbrev pub IsSure : Ending → Type 0
 IsSure (Done s) = Unit {0}
 IsSure (Stopped sources f) = IsSureFault f
 
-sure_decided : (e : Ending) → IsSure e → is_decided e ≡ true
-sure_decided (Done s) p = refl
-sure_decided (Stopped s names.Memory) p = absurd p
-sure_decided (Stopped s (names.Failed n)) p = absurd p
-sure_decided (Stopped s (names.Unknown a)) p = refl
-sure_decided (Stopped s (names.Twice a b)) p = refl
-sure_decided (Stopped s (names.Const a x)) p = refl
-sure_decided (Stopped s (names.ImportCycle a)) p = refl
-sure_decided (Stopped s (names.TooMany a)) p = refl
-sure_decided (Stopped s (names.Absent n)) p = refl
-sure_decided (Stopped s (names.Lex n x)) p = refl
-sure_decided (Stopped s (names.Syntax n at x)) p = refl
+sure_kept : (e : Ending) → IsSure e → IsKept e
+sure_kept (Done s) p = tt
+sure_kept (Stopped s names.Memory) p = absurd p
+sure_kept (Stopped s (names.Failed n)) p = absurd p
+sure_kept (Stopped s (names.Unknown a)) p = tt
+sure_kept (Stopped s (names.Twice a b)) p = tt
+sure_kept (Stopped s (names.Const a x)) p = tt
+sure_kept (Stopped s (names.ImportCycle a)) p = tt
+sure_kept (Stopped s (names.TooMany a)) p = tt
+sure_kept (Stopped s (names.Absent n)) p = tt
+sure_kept (Stopped s (names.Lex n x)) p = tt
+sure_kept (Stopped s (names.Syntax n at x)) p = tt
 
 -- a refusal at a line and column
 abbrev pub IsBad : Refusal → Type 0
@@ -79,15 +76,6 @@ sure_told s (names.Syntax n at x) b = tt
 
 none_some : {X : Type 0} {B : Type 0} (o : Option X) (x : X) → o ≡ None → o ≡ Some x → B
 none_some o x e f = let never : None ≡ Some x = sym e ∙ f in absurd (cc)
-
--- ## Contents
-
-module _ (k : List ℕ → Option (List ℕ)) where
-  one_content : (name a b : List ℕ) → IsContent (Some k) name a → IsContent (Some k) name b → a ≡ b
-  one_content name a b e f = same_Some _ _ (sym e ∙ f)
-
-  not_missing : {B : Type 0} (name a : List ℕ) → IsMissing (Some k) name → IsContent (Some k) name a → B
-  not_missing name a e f = none_some (option_map loaded (k name)) a (ap (option_map loaded) e) f
 
 -- ## The main file
 
@@ -141,8 +129,9 @@ module _ (k : List ℕ → Option (List ℕ)) (idl text : List ℕ) where
   one_coming e e' (at_main f x) (by_walk t _ file w) p q = main_or_file text f t (main_view text f x p) file
   one_coming e e' (by_walk t _ file w) (at_main f x) p q = main_or_file text f t (main_view text f x q) file
   one_coming e e' (by_walk t _ file w) (by_walk u _ other v) p q =
-      one_ending k (sure_decided e p) (sure_decided e' q) w
+      one_end k (start (main_file idl text)) (all_of 0 t) e e' w
       (subst (λ z. Walk (Some k) (start (main_file idl text)) (all_of 0 z) e') (sym (one_tree text t u file other)) v)
+      (sure_kept e p) (sure_kept e' q)
 
   -- what an ending says of a fault
   abbrev Says : Ending → List Source → NameFault → Type 0
@@ -362,35 +351,3 @@ module _ (k : List ℕ → Option (List ℕ)) (idl text : List ℕ) where
         → IsIdlFault (Some k) idl text acf r → B
     absent_or_bad file r bad (inl due) missing x = absent_import_or_bad file r bad due missing x
     absent_or_bad file r bad (inr due) missing x = absent_acf_or_bad file r bad due missing x
-
-    -- the import is one
-    one_import : (file other : List ℕ) → IsDueImport (Some k) idl text file → IsMissing (Some k) file → IsDueImport (Some k) idl text other → IsMissing (Some k) other
-        → file ≡ other
-    one_import file other due missing due' missing' =
-        let s = and_source due.sources file [] in
-        let s' = and_source due'.sources other [] in
-        let n = length due.sources in
-        let n' = length due'.sources in
-        let w = due_absent (start (main_file idl text)) (all_of 0 due.tree) s n due.sources file refl refl missing due.comes in
-        let w' = due_absent (start (main_file idl text)) (all_of 0 due'.tree) s' n' due'.sources other refl refl missing' due'.comes in
-        let one = one_fault s s' (names.Absent n) (names.Absent n') (inr (due.tree, due.parsed, inl w)) (inr (due'.tree, due'.parsed, inl w')) tt tt in
-        sym (last_name s due.sources file n refl refl) ∙ named s s' n n' one.0 one.1 ∙ last_name s' due'.sources other n' refl refl
-      where
-        number : NameFault → ℕ
-        number (names.Absent m) = m
-        number f = 0
-
-        named : (a b : List Source) (m m' : ℕ) → a ≡ b → names.Absent m ≡ names.Absent m' → name_in a m ≡ name_in b m'
-        named a b m m' e f = λ i. name_in (e i) (number (f i))
-
-    -- one file alone is due and missing
-    pub one_missing : (file other : List ℕ) → IsDueAfter (Some k) idl text acf file → IsMissing (Some k) file → IsDueAfter (Some k) idl text acf other
-        → IsMissing (Some k) other → file ≡ other
-    one_missing file other (inl due) missing (inl due') missing' = one_import file other due missing due' missing'
-    one_missing file other (inl due) missing (inr due') missing' =
-        let a = absent_fault file due missing in
-        done_or_faulty due'.state a.0 (names.Absent a.1) due'.resolved a.2 tt
-    one_missing file other (inr due) missing (inl due') missing' =
-        let a = absent_fault other due' missing' in
-        done_or_faulty due.state a.0 (names.Absent a.1) due.resolved a.2 tt
-    one_missing file other (inr due) missing (inr due') missing' = same_Some _ _ (sym due.named ∙ due'.named)

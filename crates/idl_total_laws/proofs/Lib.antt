@@ -8,4 +8,5 @@ pub mod NodeNames
 pub mod MeantNames
 pub mod Judged
 pub mod AcfRead
+pub mod Missing
 pub mod Results

@@ -38,9 +38,9 @@ use Rattle.command_compile.specs.AcfFile.{AcfFile, IsBeside, tree_beside}
 use Rattle.command_compile.specs.Idl.{main_file, resolved_world, AreResolved, IsNameFault, by_names, by_acf, by_rules, name_in, text_in, word_in, place_of, reported_at, reported_by, reported_rule}
 use Rattle.command_compile.specs.Idl.{reported_fault, reported_beside}
 use Rattle.command_compile.proofs.Compiled.{absent_due}
-use Rattle.command_compile.proofs.Walks.{IsStepFault, passed_fault}
+use Rattle.command_compile.proofs.Walks.{passed_fault}
 use Rattle.command_compile.proofs.OneInterface.{one_interface}
-use Rattle.command_compile.proofs.OneMeaning.{never_both, one_bad, absent_or_means, absent_or_bad, one_missing}
+use Rattle.command_compile.proofs.OneMeaning.{never_both, one_bad, absent_or_means, absent_or_bad}
 use Rattle.idl_total_laws.specs.Judged.{world, IsJudged, Means, Breaks}
 use Rattle.idl_total_laws.specs.Named.{Comes, ToNames, ToFault}
 use Rattle.idl_total_laws.specs.Read.{IsReadAs, AsFile, AsNoFile, AsUncut}
@@ -50,6 +50,7 @@ use Rattle.idl_total_laws.proofs.EndedNames.{ended_named, resolved_named}
 use Rattle.idl_total_laws.proofs.Ends.{each_main}
 use Rattle.idl_total_laws.proofs.Judged.{none_broken, same_meant, named_as, each_resolved}
 use Rattle.idl_total_laws.proofs.MeantNames.{meant_named}
+use Rattle.idl_total_laws.proofs.Missing.{one_missing}
 use Rattle.idl_total_laws.proofs.Read.{each_read}
 use Rattle.idl_total_laws.proofs.TreeNames.{tree_named, export_named}
 
@@ -63,6 +64,13 @@ IsReal f = Unit {0}
 abbrev IsRealEnding : Ending → Type 0
 IsRealEnding (Done s) = Unit {0}
 IsRealEnding (Stopped sources f) = IsReal f
+
+-- the faults of steps: a name or an expression
+abbrev IsStepFault : NameFault → Type 0
+IsStepFault (names.Unknown p) = Unit {0}
+IsStepFault (names.Twice p q) = Unit {0}
+IsStepFault (names.Const p x) = Unit {0}
+IsStepFault _ = ⊥
 
 step_real : (f : NameFault) → IsStepFault f → IsReal f
 step_real (names.Unknown p) h = tt
