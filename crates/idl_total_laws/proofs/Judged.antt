@@ -84,7 +84,7 @@ main_found (f ∷ fs) h = by_case (eqb f.file 0) h (main_found fs)
     by_case true g later = (f.tree, refl)
     by_case false g later = later g
 
-none_broken : (w : World) (bs : List Breach) → first_of w bs ≡ None → bs ≡ []
+pub none_broken : (w : World) (bs : List Breach) → first_of w bs ≡ None → bs ≡ []
 none_broken w [] h = refl
 none_broken w (b ∷ bs) h = absurd (cc)
 
@@ -99,7 +99,7 @@ judged w h = by_case (first_broken w) refl
     by_case (Some b) is = Breaks b is
     by_case None is = let f = main_found w.files h in Means (header_meant (scene_of w) f.0) (means_legal w is f.0 f.1)
 
-same_meant : (a b : Meant) → ◌≡◌ {A = List Meant} (a ∷ []) (b ∷ []) → a ≡ b
+pub same_meant : (a b : Meant) → ◌≡◌ {A = List Meant} (a ∷ []) (b ∷ []) → a ≡ b
 same_meant a b e = cc
 
 -- what the files mean has the types and operations of their scene
@@ -110,7 +110,7 @@ named_by w (t ∷ []) m e h =
     subst (λ (x : Meant). HasIdentifiers x.types x.operations) (same_meant (header_meant (scene_of w) t) m e) h
 named_by w (t ∷ u ∷ trees) m e h = absurd (cc)
 
-named_as : (w : World) (m : Meant) → meaning w ≡ m ∷ [] → HasIdentifiers (types_of (scene_of w)) (operations_of (scene_of w)) → HasIdentifiers m.types m.operations
+pub named_as : (w : World) (m : Meant) → meaning w ≡ m ∷ [] → HasIdentifiers (types_of (scene_of w)) (operations_of (scene_of w)) → HasIdentifiers m.types m.operations
 unfolding meaning
 named_as w m e h = named_by w (main_among w.files) m e h
 

@@ -7,3 +7,6 @@ pub mod EndedNames
 pub mod NodeNames
 pub mod MeantNames
 pub mod Judged
+pub mod AcfRead
+pub mod Missing
+pub mod Results

@@ -1,4 +1,4 @@
--- The names that a text declares are identifiers: those of members, arms, operations and parameters.
+-- The names that a text declares are identifiers: that of its interface, and those of members, arms, operations and parameters.
 use Rattle.std.proofs.Common.{◌≡◌, ℕ, ◌+◌, Bool, true, false, ◌&&◌, List, [], ◌∷◌, length, refl, sym, ap, subst, ◌∙◌}
 use Rattle.std.specs.List.{list_all}
 use Rattle.std.specs.Cmp.Derive.{both_true}
@@ -65,7 +65,7 @@ export_named (tree.Tagged at a type) = type_named type
 export_named (tree.Operation at a result name ps) = is_identifier name.octets && (type_named result && list_all parameter_named (parameters_of ps))
 
 abbrev pub tree_named : Tree → Bool
-tree_named t = list_all export_named t.exports
+tree_named t = is_identifier t.name.octets && list_all export_named t.exports
 
 -- ## The names of a text
 
@@ -165,7 +165,7 @@ module _ (x : Text) (formed : IsFormed x) (lifted : Lifted) where
   tree_is t i j ph =
       let bracketed = ph.2.2.2 in
       let inner = bracketed.2.1 in
-      exports_are 1 t.exports inner.0 bracketed.2.0 inner.2
+      both_true (name_is false t.name ph.2.0 ph.2.2.0 ph.2.2.1) (exports_are 1 t.exports inner.0 bracketed.2.0 inner.2)
 
 -- a file of the language has identifiers for names
 pub file_named : (text : List ℕ) (t : Tree) → IsFile text t → tree_named t ≡ true

@@ -1,3 +1,4 @@
 pub mod Read
 pub mod Named
 pub mod Judged
+pub mod Results
