@@ -60,7 +60,8 @@ use Rattle.ndr_drain_laws.specs.parts.Parts.{BadHead, HasEmptyPipes, IsHead, emp
 use Rattle.ndr_drain_laws.proofs.parts.Spelt.{ends_append, full_append}
 use Rattle.ndr_drain_laws.specs.heads.Heads.{HeadRead, HeadThrough}
 use Rattle.ndr_drain_laws.proofs.heads.Canonical.{canonical_pipes, empty_still, take_first}
-use Rattle.ndr_drain_laws.proofs.heads.HeadConforming as conforming
+use Rattle.nd_grammar.proofs.conforming.StreamConforming as conforming
+use Rattle.ndr_drain_laws.proofs.heads.EmptyPipes.{empty_passes}
 
 made_parts : (table : Table) (rs : List Root) (us vs : List Tree) → RootsMade table rs us → RootsMade table (drop (length us) rs) vs → RootsMade table rs (us ++ vs)
 made_parts table rs [] vs a b = b
@@ -484,11 +485,10 @@ module _ (w : Setting) (side : IsLegalSide w) (order : Order) (octets : List ℕ
     empty = subst (AllByRecursion (λ v. v ≡ empty_pipe)) (sym pipes_at) (are_empty (length (drop n rl)))
 
     abbrev Node : HomeNode → Type 0
-    Node x =
-        conforming.NodeGood w side K cells_fit all_made all_roots done.state.cells_made reached steps steps_then.deferral empty light (all_right Passed F T' ms_passed) x.typed
+    Node x = conforming.NodeGood w K x.typed
 
     nodes : AllByRecursion Node (all_nodes w K)
-    nodes = conforming.all_good w side K cells_fit all_made all_roots done.state.cells_made reached steps steps_then.deferral empty light (all_right Passed F T' ms_passed)
+    nodes = conforming.all_good w side K cells_fit all_made all_roots done.state.cells_made reached steps steps_then.deferral light (all_right Passed F T' ms_passed) (empty_passes w side K empty)
 
     conforms : Conforms w K
     conforms = record {
@@ -499,7 +499,7 @@ module _ (w : Setting) (side : IsLegalSide w) (order : Order) (octets : List ℕ
       reached = reached;
       agreed = all_weaker Node (λ x. AgreesAt K x.typed) (λ x k. k.agrees) (all_nodes w K) nodes;
       few_cells = stream.few_cells w side order octets all;
-      few_nodes = conforming.few_nodes w side K cells_fit all_made all_roots done.state.cells_made reached steps steps_then.deferral empty light (all_right Passed F T' ms_passed);
+      few_nodes = conforming.few_nodes w side K cells_fit all_made all_roots done.state.cells_made reached steps steps_then.deferral light (all_right Passed F T' ms_passed) (empty_passes w side K empty);
     }
 
     canonical : IsCanon w K K
