@@ -16,7 +16,8 @@ use Rattle.idl_scope.specs.Known.{Known}
 use Rattle.idl_names.specs.Sources.{Source, and_source}
 use Rattle.idl_scope.specs.Ended.{has_ended}
 use Rattle.idl_names.specs.Walk.{State, Due, Ending, Done, Stopped, Walk, with_source, all_of, all_done, goes_on, faults, ends, cycle, again, too_many, absent, failed, uncut, no_file, enters, short, short_in_load, short_after_load}
-use Rattle.command_compile.proofs.OneFile.{one_tree, one_no_file, one_cut, never_cut, never_file, never_uncut}
+use Rattle.command_compile.proofs.OneFile.{one_no_file, one_cut, never_cut, never_file, never_uncut}
+use Rattle.idl_names.proofs.Once.{one_tree}
 
 -- an ending that is told by the files alone
 abbrev pub IsKept : Ending → Type 0
@@ -25,7 +26,7 @@ IsKept (Stopped sources names.Memory) = ⊥
 IsKept (Stopped sources (names.Failed n)) = ⊥
 IsKept (Stopped sources f) = Unit {0}
 
-none_some : {X : Type 0} {B : Type 0} (o : Option X) (x : X) → o ≡ None → o ≡ Some x → B
+pub none_some : {X : Type 0} {B : Type 0} (o : Option X) (x : X) → o ≡ None → o ≡ Some x → B
 none_some o x e f = let never : None ≡ Some x = sym e ∙ f in absurd (cc)
 
 module _ (k : List ℕ → Option (List ℕ)) where

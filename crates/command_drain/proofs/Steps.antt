@@ -8,11 +8,7 @@ use Rattle.nd_base.proofs.Rising.{rose_later}
 use Rattle.nd_base.specs.declared.octets.Order.{Order}
 use Rattle.nd_base.specs.Counts.{Rose}
 use Rattle.nd_base.specs.Over.{SourceSeen}
-use Rattle.nd_types.specs.declared.interface.Interface.{Interface}
-use Rattle.nd_types.specs.declared.types.Operation.{Operation}
-use Rattle.nd_types.specs.declared.types.Side.{Side}
 use Rattle.nd_value.specs.declared.value.Graph.{Graph}
-use Rattle.nd_value.specs.Fitting.{setting_beside}
 use Rattle.nd_value.specs.Setting.{Setting}
 use Rattle.nd_grammar.specs.declared.reason.Reason.{Reason}
 use Rattle.nd_grammar.proofs.conforming.StreamConforms.{le_or}
@@ -25,8 +21,7 @@ use Rattle.ndr_drain.specs.declared.fault.DrainFault.TheVariants as fault
 use Rattle.command_decode.specs.Taken.{IsEnd, IsNoEnd}
 use Rattle.text_grammar.specs.Printed.{IsText}
 use Rattle.command_refusals.specs.declared.refusal.Refusal.{Refusal}
-use Rattle.command_refusals.specs.declared.refusal.Refusal.TheVariants.{Memory, Absent, FileFailed, BadIdl, NoOperation, ReadFault, BadOctets, BadText, BadValue, TooLong, BadRequest, BadLabel}
-use Rattle.command_refusals.specs.declared.refusal.Refusal.TheVariants.{ShortLabel, TooFewEnds, EndFailed}
+use Rattle.command_refusals.specs.declared.refusal.Refusal.TheVariants.{Memory, Absent, FileFailed, BadIdl, NoOperation, ReadFault, BadOctets, BadText, BadValue, TooLong, BadRequest, BadLabel, ShortLabel, TooFewEnds, EndFailed}
 use Rattle.command_refusals.specs.declared.refusal.OctetsFault.TheVariants as octets_fault
 use Rattle.command_drain.specs.Printed.{AreEnough, IsDrainRefusal, IsPrinted, IsTakenWhole}
 use Rattle.command_drain.specs.Taken.{IsNotTaken, IsTaken}
@@ -102,11 +97,6 @@ not_taken s e w order (BadLabel fault) never = absurd never
 not_taken s e w order ShortLabel never = absurd never
 
 -- ## The text
-
-pub text_is : (i : Interface) (o : Operation) (side own : Side) (given its : Option Graph) (g : Graph) (text : List ℕ) → own ≡ side → its ≡ given
-    → IsText (setting_beside i o own its) g text → IsText (setting_beside i o side given) g text
-text_is i o side own given its g text same alone printed =
-    subst (λ q. IsText (setting_beside i o side q) g text) alone (subst (λ k. IsText (setting_beside i o k its) g text) same printed)
 
 -- ## The end
 

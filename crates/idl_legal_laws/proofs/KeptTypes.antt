@@ -9,8 +9,7 @@ use Rattle.idl_grammar.specs.declared.words.Spelling.{Spelling}
 use Rattle.idl_grammar.specs.Tree.{TypeSpec}
 use Rattle.idl_grammar.specs.Tree as tree
 use Rattle.idl_scope.specs.Known.{Known}
-use Rattle.idl_rule_definitions.specs.Nodes.{Construct, place_in, Node, HeaderNode, AttributeNode, SwitchNode, TagNode, BodyNode, EnumeratorNode, LabelNode, EmptyArmNode, DeclaratorNode, ConstantNode}
-use Rattle.idl_rule_definitions.specs.Nodes.{TypeNode, OperationNode}
+use Rattle.idl_rule_definitions.specs.Nodes.{Construct, place_in, Node, HeaderNode, AttributeNode, SwitchNode, TagNode, BodyNode, EnumeratorNode, LabelNode, EmptyArmNode, DeclaratorNode, ConstantNode, TypeNode, OperationNode}
 use Rattle.idl_rule_definitions.specs.Types.{IdlType, Void, Handle, ContextHandle, Basic, Struct, Union, Enum, Array, Text, Pointer, Pipe, Names, type_of, type_of_tag}
 use Rattle.idl_rule_definitions.specs.Scene.{Scoped, Scene, Use, use_of, chain, type_of_body}
 use Rattle.idl_rule_definitions.specs.Rules.{breach, breaches_at, breaches_in}
@@ -21,14 +20,7 @@ use Rattle.idl_rule_definitions.specs.Kept.{KeepsUse}
 use Rattle.idl_legal_laws.proofs.Kept.{neither, keeps_use}
 use Rattle.idl_rule_definitions.proofs.Needed.{conjunction}
 use Rattle.idl_rule_definitions.specs.declared.rule.TheConstants as Rule
-
-apart : (a b : Bool) → (a && b) ≡ true → (a ≡ true) × (b ≡ true)
-apart true b h = (refl, h)
-apart false b h = absurd (let e : false ≡ true = h in cc)
-
-pub none_of : (a b : Bool) → (a || b) ≡ false → (a ≡ false) × (b ≡ false)
-none_of false b h = (refl, h)
-none_of true b h = absurd (let e : true ≡ false = h in cc)
+use Rattle.std.proofs.lemmas.Bool.{and_parts as apart, or_parts as none_of}
 
 -- ## From nodes to the types that they need
 

@@ -1,9 +1,8 @@
 -- The files whose resolving has ended are files of the language, so they have identifiers for names.
-use Rattle.std.proofs.Common.{◌≡◌, ℕ, Bool, true, eqb, List, [], ◌∷◌, ◌++◌, map, length, Option, refl, ◌∙◌}
+use Rattle.std.proofs.Common.{◌≡◌, ℕ, Bool, true, eqb, List, [], ◌∷◌, ◌++◌, map, length, Option, refl}
 use Rattle.std.specs.List.{list_all}
 use Rattle.std.specs.Cmp.Derive.{both_true}
-use Rattle.std.proofs.lemmas.List.Folds.{list_all-append}
-use Rattle.grammar_phrases.proofs.Sequences.{both}
+use Rattle.std.proofs.lemmas.Bool.{and_parts as both}
 use Rattle.idl_grammar.specs.declared.words.Spelling.{Spelling}
 use Rattle.idl_grammar.specs.Tree.{Tree}
 use Rattle.idl_scope.specs.Ended.{Ended, ended}
@@ -13,6 +12,7 @@ use Rattle.idl_scope.specs.Steps.{Step, attribute_steps, imports_of, declaration
 use Rattle.idl_names.specs.Walk as walk
 use Rattle.idl_names.specs.Walk.{State, Due, Pass, Load, End, Done, Walk, IsResolved, all_of, load_of}
 use Rattle.idl_total_laws.proofs.TreeNames.{tree_named, file_named}
+use Rattle.idl_legal_laws.proofs.fields.FromNodes.{join_all as join}
 
 abbrev pub ended_named : Ended → Bool
 ended_named e = tree_named e.tree
@@ -21,9 +21,6 @@ abbrev due_named : Due → Bool
 due_named (Pass file step) = true
 due_named (Load place name) = true
 due_named (End file t) = tree_named t
-
-join : {X : Type 0} (p : X → Bool) (xs ys : List X) → list_all p xs ≡ true → list_all p ys ≡ true → list_all p (xs ++ ys) ≡ true
-join p xs ys h i = list_all-append p xs ys ∙ both_true h i
 
 passes : (file : ℕ) (steps : List Step) → list_all due_named (map (Pass file) steps) ≡ true
 passes file [] = refl

@@ -1,5 +1,5 @@
 -- Each walk has an ending.
-use Rattle.std.proofs.Common.{◌≡◌, ◌⊎◌, inl, inr, ℕ, zero, suc, ◌+◌, ◌<◌, ◌≤◌, Bool, true, false, refl, sym, ap, subst, ◌∙◌, arith, List, [], ◌∷◌, ◌++◌, length, Option, Some, None, option_map, Result, Ok, Err}
+use Rattle.std.proofs.Common.{◌≡◌, ◌⊎◌, inl, inr, ℕ, zero, suc, ◌+◌, ◌≤◌, Bool, true, false, refl, ap, subst, arith, List, [], ◌∷◌, ◌++◌, length, Option, Some, None, option_map, Result, Ok, Err}
 use Rattle.std.proofs.Math.Decide.{dec_lt}
 use Rattle.std.proofs.lemmas.List.{length-append}
 use Rattle.nd_base.specs.declared.octets.Place.{Place}
@@ -13,11 +13,12 @@ use Rattle.idl_names.specs.Sources.{Source, source, file_number}
 use Rattle.idl_scope.specs.Steps.{Step}
 use Rattle.idl_names.specs.Walk as walk
 use Rattle.idl_scope.specs.Ended.{has_ended}
-use Rattle.idl_names.specs.Walk.{State, Due, Pass, Load, End, Ending, Done, Stopped, Walk, IsDue, IsResolved, IsRefused, start, all_of, most_files, with_known, with_ended, with_source}
+use Rattle.idl_names.specs.Walk.{State, Due, Pass, Load, End, Ending, Done, Stopped, Walk, IsDue, start, all_of, most_files, with_known, with_ended, with_source}
 use Rattle.idl_names.proofs.Going.{IsOfNames, OfNames, passed_of_names}
 use Rattle.idl_total_laws.specs.Read.{IsReadAs, AsFile, AsNoFile, AsUncut}
 use Rattle.idl_total_laws.specs.Named.{Comes, ToNames, ToFault}
 use Rattle.idl_total_laws.proofs.Read.{each_read}
+use Rattle.idl_names.proofs.Once.{undecided as fails_or_not}
 
 -- what is held under a name, or that nothing is
 abbrev Holds : Option (List ℕ → Option (List ℕ)) → List ℕ → Type 0
@@ -43,9 +44,6 @@ memory_of_names sources _ h = refl
 
 abbrev none_fails : List ℕ → Bool
 none_fails name = false
-
-fails_or_not : {B : Type 0} → false ≡ true → B
-fails_or_not e = absurd (cc)
 
 -- an ending in which no load failed
 is_told_decided : {held : Option (List ℕ → Option (List ℕ))} {s : State} {dues : List Due} {e : Ending} → has_memory e ≡ true → (w : Walk held s dues e) → FailsAs none_fails w

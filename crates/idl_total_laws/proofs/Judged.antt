@@ -1,5 +1,5 @@
 -- Each main file means an interface, or is refused.
-use Rattle.std.proofs.Common.{◌≡◌, ℕ, Bool, true, false, ◌||◌, eqb, List, [], ◌∷◌, ◌++◌, map, refl, sym, ap, subst, ◌∙◌, Option, Some, None, Ok}
+use Rattle.std.proofs.Common.{◌≡◌, ℕ, Bool, true, false, ◌||◌, eqb, List, [], ◌∷◌, ◌++◌, map, refl, sym, ap, subst, ◌∙◌, Option, Some, None}
 use Rattle.std.specs.List.{list_any}
 use Rattle.std.proofs.lemmas.List.Folds.{list_any-append}
 use Rattle.grammar_phrases.proofs.Parts.{clash}
@@ -9,7 +9,7 @@ use Rattle.idl_scope.specs.Steps.{attribute_steps, imports_of, declaration_steps
 use Rattle.idl_names.specs.Files.{IsFile}
 use Rattle.idl_names.specs.Sources.{Source}
 use Rattle.idl_names.specs.Walk as walk
-use Rattle.idl_names.specs.Walk.{State, Due, Pass, Load, End, Done, Walk, IsResolved, all_of, load_of, start, with_ended}
+use Rattle.idl_names.specs.Walk.{State, Due, Pass, Load, End, Done, Walk, IsResolved, all_of, load_of}
 use Rattle.idl_rule_definitions.specs.World.{World}
 use Rattle.idl_rule_definitions.specs.Rules.{Breach, breaches}
 use Rattle.idl_rule_definitions.specs.Scene.{scene_of}
@@ -23,6 +23,8 @@ use Rattle.idl_total_laws.proofs.Read.{each_read}
 use Rattle.idl_total_laws.proofs.Ends.{each_main}
 use Rattle.idl_total_laws.proofs.MeantNames.{meant_named}
 use Rattle.idl_legal_laws.proofs.legal.All.{all_legal}
+use Rattle.acf_reader.proofs.Within.{or_false as or_none}
+use Rattle.idl_legal_laws.proofs.fields.Counts.{or_true}
 
 -- ## The main file has ended
 
@@ -36,14 +38,6 @@ ends_main (End file t) = eqb file 0
 
 abbrev main_due : List Due → Bool
 main_due dues = list_any ends_main dues
-
-or_none : (a : Bool) → (a || false) ≡ a
-or_none true = refl
-or_none false = refl
-
-or_true : (a : Bool) → (a || true) ≡ true
-or_true true = refl
-or_true false = refl
 
 or_more : (a b c : Bool) → (a || c) ≡ true → (a || (b || c)) ≡ true
 or_more true b c h = refl

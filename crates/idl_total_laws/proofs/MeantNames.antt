@@ -4,7 +4,7 @@ use Rattle.std.specs.List.{list_all, flat_map}
 use Rattle.std.specs.Cmp.Derive.{both_true}
 use Rattle.std.proofs.lemmas.List.Concat.{flat_map-cons}
 use Rattle.std.proofs.lemmas.List.Folds.{list_all-map}
-use Rattle.grammar_phrases.proofs.Sequences.{both}
+use Rattle.std.proofs.lemmas.Bool.{and_parts as both}
 use Rattle.nd_base.specs.Text.{is_identifier}
 use Rattle.nd_types.specs.declared.types.Arm as arm
 use Rattle.nd_types.specs.declared.types.Field.{Field}
@@ -26,7 +26,8 @@ use Rattle.idl_total_laws.specs.Judged.{world}
 use Rattle.idl_total_laws.proofs.TreeNames as named
 use Rattle.idl_total_laws.proofs.TreeNames.{are_named, type_named, members_named, cases_named, arms_named, arm_named}
 use Rattle.idl_total_laws.proofs.EndedNames.{resolved_named}
-use Rattle.idl_total_laws.proofs.NodeNames.{join, is_declared, node_named, IsScopedNamed, scene_named}
+use Rattle.idl_total_laws.proofs.NodeNames.{is_declared, node_named, IsScopedNamed, scene_named}
+use Rattle.idl_legal_laws.proofs.fields.FromNodes.{join_all as join}
 
 -- ## Lists that are joined
 

@@ -1,12 +1,11 @@
 -- The pipes of a stream, one after the other: from the agreements of the parameters to the end of the stream.
 -- `x` is the stream before its pipes, `m` the machine so far, `z` the one after the next pipe; `a` and `s` are what was seen so far, `b` and `t` over the next pipe,
 -- `e` and `u` over both; `passed` is how many pipes were read.
-use Rattle.std.proofs.Common.{◌≡◌, ◌≤◌, ◌<◌, ℕ, ◌+◌, ◌*◌, zero, suc, Bool, List, [], ◌∷◌, ◌++◌, length, map, drop, Option, Some, None, Result, Ok, Err, IsErrAnd, refl, ap, sym, ◌∙◌, subst, arith}
-use Rattle.std.proofs.Common.{append_assoc}
+use Rattle.std.proofs.Common.{◌≡◌, ◌≤◌, ◌<◌, ℕ, ◌+◌, ◌*◌, zero, suc, Bool, List, [], ◌∷◌, ◌++◌, length, map, drop, Option, Some, None, Result, Ok, Err, IsErrAnd, refl, ap, sym, ◌∙◌, subst, arith, append_assoc}
 use Rattle.std.specs.Prelude.{slice_get}
 use Rattle.std.specs.List.{AllByRecursion}
 use Rattle.std.proofs.lemmas.List.{append-nil}
-use Rattle.std.proofs.lemmas.Option.{same_Some}
+use Rattle.std.proofs.lemmas.Option.{same_Some, slice_get_within as within}
 use Rattle.nd_base.specs.declared.octets.Order.{Order}
 use Rattle.nd_base.specs.Over.{Count, SourceSeen}
 use Rattle.nd_types.specs.Number.{AreOctets}
@@ -53,7 +52,7 @@ use Rattle.ndr_decode.specs.Streaming.{FaultOf, IsSettingOf, Stands, WasRead, ce
 use Rattle.ndr_decode.proofs.PaidHomes.{paid_between, roots_kept, roots_within}
 use Rattle.ndr_decode.proofs.PipeLines.{HasLine, first_line, no_pipe_line, one_run, pipe_line}
 use Rattle.ndr_decode.proofs.PipeOpens.{closed_roots}
-use Rattle.ndr_decode.proofs.PipeFaults.{faulty}
+use Rattle.ndr_decoder_chunks.proofs.Counting.{faulty}
 use Rattle.ndr_decode.proofs.Standing.{idle_log, idle_source, then_fault, took_nothing}
 
 -- ## Lists of pipes
@@ -81,11 +80,6 @@ each_left : {X : Type 0} (P : X → Type 0) (p : ℕ) (xs : List X) → AllByRec
 each_left P zero xs a = a
 each_left P (suc p) [] a = a
 each_left P (suc p) (y ∷ ys) a = each_left P p ys a.1
-
-within : {X : Type 0} (xs : List X) (i : ℕ) (x : X) → slice_get xs i ≡ Some x → i < length xs
-within [] i x e = cc
-within (y ∷ ys) zero x e = omega arith
-within (y ∷ ys) (suc i) x e = let l : i < length ys = within ys i x e in omega (arith, l)
 
 -- So many pipes of the side were read.
 pub record PipesRead (w : Setting) (order : Order) (fetched : List ℕ) (noted : List Item) (direct : ℕ) (first : Names) (cells : ℕ) (source : SourceSeen) (t : DecodingSeen) (m : Machine)

@@ -15,8 +15,7 @@ use Rattle.nd_value.specs.Tree as tree
 use Rattle.nd_value.specs.Tree.{Tree, Trees, node, none, more, Label, Referent, count, node_count, take_trees, drop_trees}
 use Rattle.nd_value.specs.Setting.{Setting, root_list, root_at, or_unread, cell_home, cell_at, cell_tree, cell_of_number}
 use Rattle.nd_value.specs.Nodes.{child_types}
-use Rattle.nd_value.specs.Deferral.{Pending, Due, due_roots, before_pipes, Step, Deferral, none_due, at_root, at_null, at_standing, at_referent, Placed_cells, Standing, standing_root, standing_by}
-use Rattle.nd_value.specs.Deferral.{standing_cell, direct, root_type, due_of}
+use Rattle.nd_value.specs.Deferral.{Pending, Due, due_roots, before_pipes, Step, Deferral, none_due, at_root, at_null, at_standing, at_referent, Placed_cells, Standing, standing_root, standing_by, standing_cell, direct, root_type, due_of}
 use Rattle.nd_value.specs.Homes.{HomeNode, in_home, root_nodes, cell_nodes, all_nodes}
 use Rattle.nd_value.specs.Misfit.{has_shape, misfit_of, names_cell, names_pointee, has_machine_values}
 use Rattle.nd_value.specs.Conforms.{Conforms}
@@ -34,17 +33,14 @@ use Rattle.nd_grammar.proofs.next.NextStream.{IsPipeRoot, drop_at}
 use Rattle.nd_grammar.specs.ReaderState.{IsNoPipe}
 use Rattle.nd_grammar.proofs.conforming.GoodStream.{PendingGood, StandsGood, DueGood, standing_due, pending_cell, root_good}
 use Rattle.nd_grammar.proofs.conforming.StreamConforming.{pipe_label as label_is}
-use Rattle.nd_grammar.proofs.written.WritableTrees.{IsWritable, WritableTrees, writable_trees}
+use Rattle.nd_grammar.proofs.written.WritableTrees.{IsWritable, WritableTrees, writable_trees, max_below}
 use Rattle.nd_flat.specs.Building.{HasHome}
 use Rattle.ndr_encoder_laws.specs.pieces.Pieces.{Piece}
 use Rattle.ndr_encoder_laws.specs.pieces.Shown.{shown, kinds_pieces, values_pieces, chunks_pieces, pipe_pieces}
 use Rattle.ndr_encoder_laws.specs.pieces.Heads.{standings, homes_pieces, pipes_pieces, stream_pieces}
 use Rattle.ndr_encoder_laws.proofs.pieces.Showing.{shown_whole}
-use Rattle.ndr_encoder_homes.proofs.Fits.{Good, four_good, max_below, values_good, hoisted_good}
-
-pub count_few : (ks : Trees) → count ks ≤ node_count ks
-count_few none = omega arith
-count_few (more (node l kids) ts) = let a = count_few ts in omega (arith, a)
+use Rattle.ndr_encoder_homes.proofs.Fits.{Good, four_good, values_good, hoisted_good}
+use Rattle.ndr_encoder_laws.proofs.written.Pipes.{nodes_of_count as count_few}
 
 module _ (w : Setting) (side : IsLegalSide w) (g : Graph) (c : Conforms w g) where
   abbrev Node : HomeNode → Type 0

@@ -1,7 +1,6 @@
 -- Each cell that a stream names is named by a root, or by a cell that is named before it.
 -- `w` is a setting, `g` a graph that conforms, `k` and `b` are numbers of cells, `p` is a pointer, `A` and `B` are lists of named cells.
-use Rattle.std.proofs.Common.{◌≡◌, ◌⊎◌, inl, inr, ℕ, zero, suc, ◌+◌, ◌<◌, ◌≤◌, Bool, true, false, cond, eqb, List, [], ◌∷◌, ◌++◌, length, map, Option, Some, None, refl, ap, sym, ◌∙◌, subst, arith}
-use Rattle.std.proofs.Common.{append_assoc, get_or}
+use Rattle.std.proofs.Common.{◌≡◌, ◌⊎◌, inl, inr, ℕ, zero, suc, ◌+◌, ◌<◌, ◌≤◌, Bool, true, false, cond, eqb, List, [], ◌∷◌, ◌++◌, length, map, Option, Some, None, refl, ap, sym, ◌∙◌, subst, arith, append_assoc, get_or}
 use Rattle.std.specs.Prelude.{flat_map}
 use Rattle.std.specs.List.{slice_get, AllByRecursion}
 use Rattle.std.proofs.lemmas.Bool.{eqb-true, eqb-false, both_ways}
@@ -14,15 +13,14 @@ use Rattle.nd_value.specs.declared.item.Home.TheVariants as home
 use Rattle.nd_value.specs.Tree as tree
 use Rattle.nd_value.specs.Tree.{Tree, node, none, more, Referent}
 use Rattle.nd_value.specs.Setting.{Setting, Among, root_list, root_at, or_unread, cell_home, cell_at, cell_tree, cell_of_number}
-use Rattle.nd_value.specs.Deferral.{Pending, home_pointers, Due, due_root, due_referent, Step, Deferral, none_due, at_root, at_null, at_standing, at_referent, Placed_cells, Standing, standing_root}
-use Rattle.nd_value.specs.Deferral.{standing_by, standing_cell, direct, root_type, due_of, due_roots, before_pipes}
+use Rattle.nd_value.specs.Deferral.{Pending, home_pointers, Due, due_root, due_referent, Step, Deferral, none_due, at_root, at_null, at_standing, at_referent, Placed_cells, Standing, standing_root, standing_by, standing_cell, direct, root_type, due_of, due_roots, before_pipes}
 use Rattle.nd_value.specs.Homes.{root_pointers}
 use Rattle.nd_value.specs.Canon.{target, named, own_cell, named_cells, has, number_from, canonical_number}
 use Rattle.nd_value.specs.Conforms.{Conforms}
 use Rattle.nd_value.proofs.Apart.{all_append, among_left, among_right}
 use Rattle.nd_value.proofs.DeferralExists.{direct_is, direct_pointer}
 use Rattle.nd_grammar.specs.LegalSide.{IsLegalSide}
-use Rattle.nd_grammar.proofs.written.CanonNumbers.{number_low}
+use Rattle.nd_grammar.proofs.written.CanonNumbers.{number_low, others as later}
 use Rattle.nd_grammar.proofs.conforming.GoodStream.{DueGood, StandsGood, standing_due, root_good, pending_cell}
 use Rattle.nd_grammar.proofs.ChosenRepresents.{none_inside, w_roots, of_named, own_within, dues}
 use Rattle.nd_grammar.proofs.written.WritableTrees.{WritableTrees}
@@ -62,10 +60,6 @@ unseen seen d k apart h = by (eqb k d) refl where
   by : (b : Bool) → eqb k d ≡ b → cond b true (has seen k) ≡ false
   by true e = absurd (apart (eqb-true k d e))
   by false e = h
-
-later : (d : ℕ) (xs : List ℕ) (k : ℕ) → Among (d ∷ xs) k → (k ≡ d → ⊥) → Among xs k
-later d xs k (inl e) apart = absurd (apart e)
-later d xs k (inr m) apart = m
 
 -- a cell that is named among the first has a lower number than one that is named later alone
 lower : (A B : List ℕ) (n : ℕ) (seen : List ℕ) (b k : ℕ) → Among A b → has seen b ≡ false → (Among A k → ⊥) → has seen k ≡ false → Among B k

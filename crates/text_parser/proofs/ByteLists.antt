@@ -1,6 +1,5 @@
 -- Lists of bytes by their digits.
-use Rattle.std.proofs.Common.{◌≡◌, ℕ, ◌+◌, ◌*◌, ◌<◌, pos, Bool, true, false, ◌&&◌, ◌||◌, cond, eqb, if◌then◌else◌, List, [], ◌∷◌, ◌++◌, length, map, replicate, Option, Some, None, refl, sym, ap}
-use Rattle.std.proofs.Common.{subst, ◌∙◌, arith}
+use Rattle.std.proofs.Common.{◌≡◌, ℕ, ◌+◌, ◌*◌, ◌<◌, pos, Bool, true, false, ◌&&◌, ◌||◌, cond, eqb, if◌then◌else◌, List, [], ◌∷◌, ◌++◌, length, map, replicate, Option, Some, None, refl, sym, ap, subst, ◌∙◌, arith}
 use Rattle.std.specs.List.{list_all}
 use Rattle.std.proofs.lemmas.Option.{same_Some}
 use Rattle.std.proofs.lemmas.Bool.{and_parts, and_from, lt-ltb}
@@ -31,11 +30,9 @@ use Rattle.text_parser.specs.Passing.{Named, Passes, Halts, AreElements, element
 use Rattle.text_parser.specs.ValueParts.{byte_trees}
 use Rattle.text_parser.proofs.Passages.{passes_one, halts_miss}
 use Rattle.text_parser.proofs.OneMore.{count_trees}
+use Rattle.text_reading_laws.proofs.Real.{hex_small as hex_low}
 
 -- ## Octets
-
-hex_low : (c : ℕ) → is_hex_digit c ≡ true → hex_value c < 16
-hex_low c h = grind (arith, nat_tests, h)
 
 abbrev pub TakesOctets : First → Type 0
 TakesOctets first = (text : List ℕ) (b : ℕ) (after : List ℕ) → first text ≡ Some (b, after) → is_octet b ≡ true

@@ -17,18 +17,13 @@ use Rattle.nd_value.specs.Nodes.{child_types, selected_types}
 use Rattle.text_grammar.specs.declared.version.Version.{Version}
 use Rattle.text_grammar.specs.declared.version.Version.TheVariants as version
 use Rattle.text_grammar.specs.Tokens.{Token, Mark}
-use Rattle.text_grammar.specs.Written.{Piece, Other, token_of, separated, members, named, octet_in, octets_in, writes_octets, list_pieces, array_counts, arm_pieces, node_pieces, values_pieces}
-use Rattle.text_grammar.specs.Written.{value_pieces}
+use Rattle.text_grammar.specs.Written.{Piece, Other, token_of, separated, members, named, octet_in, octets_in, writes_octets, list_pieces, array_counts, arm_pieces, node_pieces, values_pieces, value_pieces}
 use Rattle.text_grammar.specs.Readable.{has_offset, has_maximum, may_be_elements, is_octet_number, are_octets, has_text_form}
 use Rattle.text_grammar.specs.Dues.{closes}
 use Rattle.text_reading_laws.specs.Values.{have_forms, value_tokens}
 use Rattle.text_reading_laws.proofs.Forms.{Form, form_of, a_number, an_enum, a_struct, an_array, a_bound_text, a_text, a_union, a_null, a_pointer, a_context, a_pipe}
 use Rattle.text_reading_laws.proofs.ValuesRead.{tail, separated_tail, map_both, Opens, value_read}
-
--- a list's tokens after a comma are those of its tail
-comma_tail : (value : List Piece) (values : List (List Piece)) (c : ℕ) (ts : List Token)
-    → Mark 44 ∷ (map token_of (separated (value ∷ values) ++ Other (Mark c) ∷ []) ++ ts) ≡ map token_of (tail (value ∷ values) c) ++ ts
-comma_tail value values c ts = ap (λ (l : List Piece). Mark 44 ∷ (map token_of l ++ ts)) (separated_tail value values c)
+use Rattle.text_reading_laws.proofs.Taken.{comma_tail}
 
 module _ (v : Version) (table : Table) where
   abbrev pieces_of : List ℕ → Trees → List (List Piece)

@@ -12,8 +12,7 @@ use Rattle.idl_grammar.specs.declared.words.Spelling.{Spelling}
 use Rattle.idl_grammar.specs.Tree.{TypeSpec}
 use Rattle.idl_grammar.specs.Tree as tree
 use Rattle.idl_rule_definitions.specs.World.{World}
-use Rattle.idl_rule_definitions.specs.Nodes.{Construct, Declared, declared_members, result_of, Node, HeaderNode, AttributeNode, SwitchNode, TagNode, BodyNode, EnumeratorNode, LabelNode, EmptyArmNode}
-use Rattle.idl_rule_definitions.specs.Nodes.{DeclaratorNode, ConstantNode, TypeNode, OperationNode}
+use Rattle.idl_rule_definitions.specs.Nodes.{Construct, Declared, declared_members, result_of, Node, HeaderNode, AttributeNode, SwitchNode, TagNode, BodyNode, EnumeratorNode, LabelNode, EmptyArmNode, DeclaratorNode, ConstantNode, TypeNode, OperationNode}
 use Rattle.idl_rule_definitions.specs.Types.{IdlType, Void, Handle, ContextHandle, Basic, Struct, Union, Enum, Array, Text, Pointer, Pipe, Names}
 use Rattle.idl_rule_definitions.specs.Scene.{Scoped, Scene, scene_of, Body, body_by, body_among, body_of, place_of, same_place}
 use Rattle.idl_rule_definitions.specs.Rules.{breaches}
@@ -21,7 +20,8 @@ use Rattle.idl_rule_definitions.specs.TypeRules.{is_operation}
 use Rattle.idl_rule_definitions.specs.Numbering.{Needed, own_types}
 use Rattle.idl_rule_definitions.specs.Meaning.{field, parameter, operation_in, operations_of, definition, types_of, struct_of, defined_by, defined_at, body_if, is_struct, is_union, is_enum}
 use Rattle.idl_rule_definitions.proofs.Needed.{conjunction}
-use Rattle.idl_legal_laws.proofs.fields.FromNodes.{they_pass, one_passes, body_passes, node_passes, both_of, join_all}
+use Rattle.idl_legal_laws.proofs.fields.FromNodes.{they_pass, one_passes, body_passes, node_passes, join_all}
+use Rattle.std.proofs.lemmas.Bool.{and_parts as both_of}
 use Rattle.idl_legal_laws.proofs.fields.Standing.{node_keeps, all_keep, Stands, stands}
 
 -- ## Facts
@@ -57,7 +57,7 @@ list_is s test fact names is_param list h = they_are s test fact names is_param 
 
 -- ## Members
 
-members_are : (fs : List Field) → members_of (struct_of fs) ≡ fs
+pub members_are : (fs : List Field) → members_of (struct_of fs) ≡ fs
 members_are [] = refl
 members_are (f ∷ fs) = refl
 

@@ -22,11 +22,7 @@ use Rattle.idl_scope.specs.Steps.{parameters_of}
 use Rattle.idl_scope.specs.Known.{Known}
 use Rattle.idl_rule_definitions.specs.World.{World}
 use Rattle.idl_rule_definitions.specs.Attributes.{switch_type_in}
-use Rattle.idl_rule_definitions.specs.Nodes.{Construct, Position, InTypedef, InTaggedType, InMember, InArm, InCasedArm, InOperation, Declared, declared, inside, declared_members, parameter_construct}
-use Rattle.idl_rule_definitions.specs.Nodes.{declared_parameters, attribute_nodes, attribute_nodes_from, switch_node, switch_nodes, declarator_nodes, ArmLabel, LabelledArm, arms_of, labels_of}
-use Rattle.idl_rule_definitions.specs.Nodes.{label_nodes, type_nodes, member_nodes, case_nodes, arms_nodes, arm_nodes, parameter_nodes, typedef_node, result_of, operation_nodes, export_nodes}
-use Rattle.idl_rule_definitions.specs.Nodes.{header_of, file_nodes, nodes, Node, HeaderNode, AttributeNode, SwitchNode, TagNode, BodyNode, EnumeratorNode, LabelNode, EmptyArmNode, DeclaratorNode}
-use Rattle.idl_rule_definitions.specs.Nodes.{ConstantNode, TypeNode, OperationNode}
+use Rattle.idl_rule_definitions.specs.Nodes.{Construct, Position, InTypedef, InTaggedType, InMember, InArm, InCasedArm, InOperation, Declared, declared, inside, declared_members, parameter_construct, declared_parameters, attribute_nodes, attribute_nodes_from, switch_node, switch_nodes, declarator_nodes, ArmLabel, LabelledArm, arms_of, labels_of, label_nodes, type_nodes, member_nodes, case_nodes, arms_nodes, arm_nodes, parameter_nodes, typedef_node, result_of, operation_nodes, export_nodes, header_of, file_nodes, nodes, Node, HeaderNode, AttributeNode, SwitchNode, TagNode, BodyNode, EnumeratorNode, LabelNode, EmptyArmNode, DeclaratorNode, ConstantNode, TypeNode, OperationNode}
 use Rattle.idl_rule_definitions.specs.Types.{IdlType, Void, Handle, ContextHandle, Basic, Struct, Union, Enum, Array, Text, Pointer, Pipe, Names}
 use Rattle.idl_rule_definitions.specs.Scene.{Scoped, Scene, scoped_from, scene_of, names_behind, Body, body_by, body_among, bodies, body_of, place_of, same_place, type_of_body}
 use Rattle.idl_rule_definitions.specs.Rules.{breaches_in}
@@ -37,9 +33,10 @@ use Rattle.idl_rule_definitions.specs.Meaning.{parameter, definition, types_of, 
 use Rattle.idl_rule_definitions.specs.Meaning as meaning
 use Rattle.idl_legal_laws.proofs.Kept.{neither}
 use Rattle.idl_rule_definitions.proofs.Equal.{type_is}
-use Rattle.idl_rule_definitions.proofs.Needed.{conjunction, right}
+use Rattle.idl_rule_definitions.proofs.Needed.{conjunction}
+use Rattle.std.proofs.lemmas.Bool.{or_right as right, and_parts as both_of}
 use Rattle.idl_legal_laws.proofs.Few.{none_too_many, few, joined}
-use Rattle.idl_legal_laws.proofs.fields.FromNodes.{both_of, join_all}
+use Rattle.idl_legal_laws.proofs.fields.FromNodes.{join_all}
 
 -- ## Operations and parameters
 
@@ -85,7 +82,7 @@ few_operations s h =
     let b = as_many s s.nodes in
     omega (arith, a, b)
 
-nat_le_from : (m n : ℕ) → m ≤ n → nat_le m n ≡ true
+pub nat_le_from : (m n : ℕ) → m ≤ n → nat_le m n ≡ true
 nat_le_from m n h = grind (arith, nat_tests, h)
 
 operation_params : (s : Scene) (limit : ℕ) (names : Names) (n : Node) → first_past limit (parameters_in n) ≡ [] → list_all (λ o. nat_le (length o.params) limit) (meaning.operation_in s names n) ≡ true

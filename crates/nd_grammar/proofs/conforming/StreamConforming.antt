@@ -1,7 +1,6 @@
 -- A partial graph whose stream is accepted whole conforms: each node fits, each agreement holds, and its nodes are few. What comes before the pipes and the
 -- pipes themselves are taken apart, as a head may be read whose pipes come later.
-use Rattle.std.proofs.Common.{◌≡◌, ℕ, ◌+◌, ◌-◌, ◌^◌, ◌<◌, ◌≤◌, zero, suc, Bool, true, false, List, [], ◌∷◌, ◌++◌, length, Option, Some, None, refl, ap, ap₂, sym, ◌∙◌, inl, inr, ◌⊎◌, arith, subst}
-use Rattle.std.proofs.Common.{replicate, drop}
+use Rattle.std.proofs.Common.{◌≡◌, ℕ, ◌+◌, ◌-◌, ◌^◌, ◌<◌, ◌≤◌, zero, suc, Bool, true, false, List, [], ◌∷◌, ◌++◌, length, Option, Some, None, refl, ap, ap₂, sym, ◌∙◌, inl, inr, ◌⊎◌, arith, subst, replicate, drop}
 use Rattle.std.specs.Prelude.{map, flat_map}
 use Rattle.std.specs.List.{AllByRecursion, slice_get}
 use Rattle.std.proofs.lemmas.List.{append-nil}
@@ -33,7 +32,8 @@ use Rattle.nd_grammar.specs.Entry.{Entry}
 use Rattle.nd_grammar.specs.InPlace.{in_place, own_tests}
 use Rattle.nd_grammar.specs.Stream.{step_entries, root_test, root_tests, chunks, Cuts, pipe_entries, pipes_entries, AllCut, kids_of, representation}
 use Rattle.nd_grammar.proofs.LegalSides.{laid_out}
-use Rattle.nd_grammar.proofs.next.NextStream.{IsPipeRoot, IsLaidOut, drop_at, all_at}
+use Rattle.nd_grammar.proofs.next.NextStream.{IsPipeRoot, IsLaidOut, drop_at}
+use Rattle.nd_lemmas.proofs.Lists.{all_at, all_at as at_index}
 use Rattle.nd_grammar.proofs.next.Mapped.{no_pointers, pipe_pointers}
 use Rattle.nd_grammar.proofs.reader.ReaderInPlace.{node_entries, value_then_others}
 use Rattle.nd_grammar.proofs.reader.MadeTrees.{CellOf, CellFits, label_known, made_count}
@@ -48,7 +48,7 @@ use Rattle.nd_grammar.proofs.legal.LegalUsable.{usable_readable, root_usable, el
 use Rattle.nd_grammar.proofs.conforming.StreamConforms.{one_few, le_or, due_all, due_at, all_of, root_pointer, no_child_tests, whole_all, least_chunks, passed_chunks}
 use Rattle.nd_grammar.proofs.next.HoistedMaxes.{HoistsLast}
 
-some_before : (rs : List Root) → before_pipes rs ≤ length rs
+pub some_before : (rs : List Root) → before_pipes rs ≤ length rs
 some_before [] = omega arith
 some_before (r ∷ rs) = go r.is_pipe (some_before rs)
   where
@@ -74,11 +74,6 @@ pointer_shape table d c ks (inr f) = f
 no_count : (ks : Trees) → count ks ≡ 0 → node_count ks ≡ 0
 no_count none e = refl
 no_count (more t ts) e = absurd (omega arith)
-
-at_index : {X : Type 0} (P : X → Type 0) (xs : List X) (i : ℕ) (x : X) → AllByRecursion P xs → slice_get xs i ≡ Some x → P x
-at_index P [] i x a e = cc
-at_index P (y ∷ ys) zero x a e = subst P (same_Some _ _ e) a.0
-at_index P (y ∷ ys) (suc i) x a e = at_index P ys i x a.1 e
 
 by_index : {X : Type 0} (P : X → Type 0) (xs : List X) → ((i : ℕ) (x : X) → slice_get xs i ≡ Some x → P x) → AllByRecursion P xs
 by_index P [] f = tt

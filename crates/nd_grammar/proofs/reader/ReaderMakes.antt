@@ -1,6 +1,5 @@
 -- What reading a value makes: nodes of the form of their types, distinct numbers, cells that its pointers name, each paid by octets.
-use Rattle.std.proofs.Common.{◌≡◌, ℕ, ◌+◌, ◌-◌, ◌*◌, ◌^◌, ◌<◌, ◌≤◌, zero, suc, ℤ, Bool, true, false, ◌&&◌, List, [], ◌∷◌, ◌++◌, length, Option, Some, None, refl, ap, sym, ◌∙◌, inl, inr, ◌⊎◌, arith}
-use Rattle.std.proofs.Common.{subst, replicate, length-append}
+use Rattle.std.proofs.Common.{◌≡◌, ℕ, ◌+◌, ◌-◌, ◌*◌, ◌^◌, ◌<◌, ◌≤◌, zero, suc, ℤ, Bool, true, false, ◌&&◌, List, [], ◌∷◌, ◌++◌, length, Option, Some, None, refl, ap, sym, ◌∙◌, inl, inr, ◌⊎◌, arith, subst, replicate, length-append}
 use Rattle.std.specs.Prelude.{pos, map, flat_map, not, eqb}
 use Rattle.std.specs.List.{AllByRecursion}
 use Rattle.std.proofs.lemmas.List.{length-replicate}
@@ -29,8 +28,7 @@ use Rattle.nd_value.proofs.Apart.{among_left, among_right}
 use Rattle.nd_grammar.specs.declared.reason.Reason.{Reason}
 use Rattle.nd_grammar.specs.Entry.{Kind, Entry, Align, Max, Offset, Actual, Number, Num, Tag, Text, Context}
 use Rattle.nd_grammar.specs.InPlace.{child_tests}
-use Rattle.nd_grammar.specs.Reader.{Progress, Names, Named, Read, ReadAll, is_stopped, pass, taken, number_in, value_in, text_in, attributes_in, identifier_in, named, read_if, read_list, tree_nodes}
-use Rattle.nd_grammar.specs.Reader.{read_children, read_array, read_text, read_tagged, read_context, read_number, read_by, read_in_place, read_hoisted, read_whole, bound_or}
+use Rattle.nd_grammar.specs.Reader.{Progress, Names, Named, Read, ReadAll, is_stopped, pass, taken, number_in, value_in, text_in, attributes_in, identifier_in, named, read_if, read_list, tree_nodes, read_children, read_array, read_text, read_tagged, read_context, read_number, read_by, read_in_place, read_hoisted, read_whole, bound_or}
 use Rattle.nd_grammar.proofs.next.HoistedMaxes.{HoistsLast}
 use Rattle.nd_grammar.proofs.next.Mapped.{in_parts}
 use Rattle.nd_grammar.proofs.reader.ReaderInPlace.{Readable}
@@ -40,6 +38,7 @@ use Rattle.nd_grammar.proofs.reader.ReaderMoves.{Moves, stays_there, moves_twice
 use Rattle.nd_grammar.specs.ReaderState.{paid, NumbersOk}
 use Rattle.nd_grammar.proofs.reader.MadeTrees.{made_more, made_count, unread_made}
 use Rattle.nd_grammar.specs.MadeTrees.{FitsAlone, MadeTrees, MadeTree}
+use Rattle.nd_lemmas.proofs.Lists.{length_map as mapped_length}
 
 -- a fixed bound is a number of 32 bits
 abbrev pub IsSmall : Option ℕ → Type 0
@@ -62,10 +61,6 @@ bound_small (Some n) m a h = a
 bound_is : (b : Option ℕ) (m : ℕ) → is_bound b (bound_or b m) ≡ true
 bound_is None m = refl
 bound_is (Some n) m = eq-eqb n n refl
-
-mapped_length : {X Y : Type 0} (f : X → Y) (xs : List X) → length (map f xs) ≡ length xs
-mapped_length f [] = refl
-mapped_length f (x ∷ xs) = ap suc (mapped_length f xs)
 
 arm_made : (o : Option Arm) (ks : Trees) → count ks ≡ length (selected_types o) → arm_fits o ks ≡ true
 arm_made None ks e = refl

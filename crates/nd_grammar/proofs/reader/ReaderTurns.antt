@@ -1,6 +1,5 @@
 -- One step of the reader over what is due: the state after it, and the step of deferral that it is.
-use Rattle.std.proofs.Common.{◌≡◌, ℕ, ◌+◌, ◌*◌, ◌≤◌, zero, suc, Bool, true, false, List, [], ◌∷◌, ◌++◌, length, Option, Some, None, refl, ap, sym, ◌∙◌, inl, inr, arith, subst, append_assoc}
-use Rattle.std.proofs.Common.{length-append}
+use Rattle.std.proofs.Common.{◌≡◌, ℕ, ◌+◌, ◌*◌, ◌≤◌, zero, suc, Bool, true, false, List, [], ◌∷◌, ◌++◌, length, Option, Some, None, refl, ap, sym, ◌∙◌, inl, inr, arith, subst, append_assoc, length-append}
 use Rattle.std.specs.Prelude.{map, flat_map, eqb, ◌||◌}
 use Rattle.std.specs.List.{AllByRecursion, slice_get}
 use Rattle.std.proofs.lemmas.Bool.{eqb-true, eqb-false}
@@ -11,8 +10,7 @@ use Rattle.nd_types.specs.Number.{AreOctets}
 use Rattle.nd_value.specs.declared.value.Graph.{Graph}
 use Rattle.nd_value.specs.Tree.{Tree, Referent}
 use Rattle.nd_value.specs.Setting.{Setting, cell_home, cell_at, cell_tree}
-use Rattle.nd_value.specs.Deferral.{Pending, Due, due_root, due_referent, due_roots, due_of, home_pointers, IsPlaced, IsPlacedFull, Placed_cells, Step, root_stands, referent_stands, stands_already}
-use Rattle.nd_value.specs.Deferral.{Deferral, at_root, at_null, at_standing, at_referent, Standing, standing_root, standing_cell, root_cell, AreFree}
+use Rattle.nd_value.specs.Deferral.{Pending, Due, due_root, due_referent, due_roots, due_of, home_pointers, IsPlaced, IsPlacedFull, Placed_cells, Step, root_stands, referent_stands, stands_already, Deferral, at_root, at_null, at_standing, at_referent, Standing, standing_root, standing_cell, root_cell, AreFree}
 use Rattle.nd_value.specs.Conforms.{ShareOnlyIfFull}
 use Rattle.nd_value.proofs.Apart.{all_append, all_left, all_among, among_left, earlier_meets}
 use Rattle.nd_grammar.specs.LegalSide.{IsLegalSide}
@@ -30,7 +28,7 @@ use Rattle.nd_grammar.proofs.reader.ReaderCells.{set, set_same, set_other}
 use Rattle.nd_grammar.proofs.reader.EntriesFine.{Fine, fine_tests}
 use Rattle.nd_grammar.proofs.reader.ReaderStates.{Numbered, WholeRead, referent_state, referent_paid, read_so, cell_then}
 
-stands_true : (done : Placed_cells) (c : ℕ) → stands_among done c ≡ true → IsPlaced done c
+pub stands_true : (done : Placed_cells) (c : ℕ) → stands_among done c ≡ true → IsPlaced done c
 stands_true [] c e = cc
 stands_true (d ∷ ds) c e = go (eqb c d.1) refl e (stands_true ds c)
   where

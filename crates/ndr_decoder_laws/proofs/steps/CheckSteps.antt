@@ -1,11 +1,10 @@
 -- `check`: an agreement of a struct's member, and the end of the struct after the last one.
-use Rattle.std.proofs.Common.{◌≡◌, ◌≤◌, ◌<◌, ◌⊎◌, inl, inr, ℕ, ◌+◌, suc, Bool, true, false, List, [], ◌∷◌, ◌++◌, length, Option, Some, None, refl, ap, ap₂, sym, ◌∙◌, subst, arith, append_assoc}
-use Rattle.std.proofs.Common.{length-append, map}
+use Rattle.std.proofs.Common.{◌≡◌, ◌≤◌, ◌<◌, ◌⊎◌, inl, inr, ℕ, ◌+◌, suc, Bool, true, false, List, [], ◌∷◌, ◌++◌, length, Option, Some, None, refl, ap, ap₂, sym, ◌∙◌, subst, arith, append_assoc, length-append, map}
 use Rattle.std.specs.Prelude.{ℤ, cond, option_map, if◌then◌else◌}
 use Rattle.std.specs.List.{AllByRecursion, slice_get}
 use Rattle.std.specs.Ordering.{int_eq}
 use Rattle.std.proofs.lemmas.List.{append-nil, length-map, map-append}
-use Rattle.std.proofs.lemmas.Option.{same_Some, slice_get_within}
+use Rattle.std.proofs.lemmas.Option.{same_Some, slice_get_within, slice_get_past as past_end}
 use Rattle.nd_base.specs.declared.octets.Order.{Order}
 use Rattle.nd_types.specs.declared.types.Attr.{Attr}
 use Rattle.nd_types.specs.declared.types.AttrVar.{AttrVar}
@@ -38,14 +37,13 @@ use Rattle.ndr_decoder_laws.specs.declared.first.Member.{Member}
 use Rattle.ndr_decoder_laws.specs.declared.frame.Frame.{Frame}
 use Rattle.ndr_decoder_laws.specs.declared.frame.Frame.TheVariants as frame
 use Rattle.ndr_decoder_laws.specs.steps.Spots.{IsFine, IsStruct, Inside, Fits, IsShaped, AreShaped, at_member, types_of}
-use Rattle.ndr_decoder_laws.specs.steps.Steps.{State, Outcome, goes, refused, Owed, begun, next, with_fresh, joined_by, check_in, checked, try_all, disagreed, place_of, place_in, first_of}
-use Rattle.ndr_decoder_laws.specs.steps.Steps.{first_number, first_found, is_owing}
+use Rattle.ndr_decoder_laws.specs.steps.Steps.{State, Outcome, goes, refused, Owed, begun, next, with_fresh, joined_by, check_in, checked, try_all, disagreed, place_of, place_in, first_of, first_number, first_found, is_owing}
 use Rattle.ndr_decoder_laws.specs.steps.Good.{Told, Kept, Good, IsRight, owed, BeginsAt, Begin, BeginStruct, members_around, members_of, read_members}
 use Rattle.ndr_decoder_laws.proofs.steps.Passing.{told_passed, kept_passed, silent, judged, Lies}
 use Rattle.ndr_decoder_laws.proofs.steps.Arriving.{KeptAll, KeptOwn}
 use Rattle.ndr_decoder_laws.proofs.steps.Adding.{stop_by}
-use Rattle.ndr_decoder_laws.proofs.steps.MemberChecks.{first_number_is, owing_is, SameFound, found_is, get_behind, past_end, at_end, there, number_past, tree_there, member_at, member_is, other_joins}
-use Rattle.ndr_decoder_laws.proofs.steps.MemberChecks.{pointer_joins}
+use Rattle.ndr_decoder_laws.proofs.steps.MemberChecks.{first_number_is, owing_is, SameFound, found_is, get_behind, number_past, tree_there, member_at, member_is, other_joins, pointer_joins}
+use Rattle.nd_lemmas.proofs.Lists.{past_end as at_end, item_at as there}
 
 -- a struct all of whose members were read
 pub record AllRead (noted : List Item) (direct : ℕ) (order : Order) (fetched : List ℕ) (code : List Instr) (table : Table) (h : Home) (own limit : ℕ) (k : ℕ) (fs : List Around) (f : Around)

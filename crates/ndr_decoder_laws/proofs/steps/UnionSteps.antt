@@ -1,6 +1,5 @@
 -- Unions: the tag, and the arm that it selects.
-use Rattle.std.proofs.Common.{◌≡◌, ◌≤◌, inl, inr, ℕ, ◌+◌, suc, Bool, true, false, List, [], ◌∷◌, ◌++◌, length, Option, Some, None, refl, ap, ap₂, sym, ◌∙◌, subst, arith, append_assoc, length-append}
-use Rattle.std.proofs.Common.{map}
+use Rattle.std.proofs.Common.{◌≡◌, ◌≤◌, inl, inr, ℕ, ◌+◌, suc, Bool, true, false, List, [], ◌∷◌, ◌++◌, length, Option, Some, None, refl, ap, ap₂, sym, ◌∙◌, subst, arith, append_assoc, length-append, map}
 use Rattle.std.specs.Prelude.{ℤ, pos, not, eqb, if◌then◌else◌}
 use Rattle.std.specs.List.{AllByRecursion}
 use Rattle.std.specs.Ordering.{int_eq}
@@ -46,7 +45,8 @@ use Rattle.ndr_decoder_laws.specs.steps.Steps.{State, Outcome, goes, refused, be
 use Rattle.ndr_code.specs.Fields.{prim_of}
 use Rattle.ndr_decoder_laws.specs.steps.Good.{Told, Good, HeldTag, IsRight, owed, members_around}
 use Rattle.ndr_decoder_laws.specs.steps.StepItems.{item_here, tag_items, arm_items}
-use Rattle.ndr_decoder_laws.proofs.steps.Passing.{items_it, own_items, onward, no_less, later_node, told_counted, told_longer, judged, taken_it, other_eqb', Change, Lies}
+use Rattle.ndr_decoder_laws.proofs.steps.Passing.{items_it, own_items, onward, later_node, told_counted, told_longer, judged, taken_it, other_eqb', Change, Lies}
+use Rattle.std.proofs.lemmas.Bool.{le-ltb as no_less}
 use Rattle.ndr_decoder_laws.proofs.steps.Arriving.{Within, parts_of, within_passed, plain_good, arrives}
 use Rattle.ndr_decoder_laws.proofs.steps.Adding.{added, leaf_good, none_found, told_node, no_pointer, stop_by, Stops}
 use Rattle.ndr_decoder_laws.proofs.steps.NumberSteps.{prim_back}

@@ -13,7 +13,8 @@ use Rattle.nd_grammar.specs.Stream.{Cuts, kids_of, pipe_entries}
 use Rattle.nd_grammar.proofs.LegalSides.{laid_out}
 use Rattle.nd_grammar.proofs.conforming.Passed.{PassedAll}
 use Rattle.nd_grammar.proofs.conforming.StreamConforming.{PipePasses}
-use Rattle.nd_grammar.proofs.next.NextStream.{IsPipeRoot, all_at, drop_at}
+use Rattle.nd_grammar.proofs.next.NextStream.{IsPipeRoot, drop_at}
+use Rattle.nd_lemmas.proofs.Lists.{all_at}
 use Rattle.ndr_drain_laws.specs.parts.Parts.{HasEmptyPipes, empty_pipe}
 
 module _ (w : Setting) (side : IsLegalSide w) (g : Graph) (empty : HasEmptyPipes w g) where

@@ -1,6 +1,5 @@
 -- The entries of chunks, one after the other, are those of the pipes that they make.
-use Rattle.std.proofs.Common.{◌≡◌, ◌<◌, ◌≤◌, ◌∙◌, ◌⊎◌, inl, inr, ap, ap₂, sym, subst, refl, ℕ, ◌+◌, zero, suc, List, [], ◌∷◌, ◌++◌, length, length-append, drop, append_assoc, Some, None, false, ◌-◌}
-use Rattle.std.proofs.Common.{arith}
+use Rattle.std.proofs.Common.{◌≡◌, ◌<◌, ◌≤◌, ◌∙◌, ◌⊎◌, inl, inr, ap, ap₂, sym, subst, refl, ℕ, ◌+◌, zero, suc, List, [], ◌∷◌, ◌++◌, length, length-append, drop, append_assoc, Some, None, false, ◌-◌, arith}
 use Rattle.std.specs.Prelude.{sum}
 use Rattle.std.specs.List.{slice_get}
 use Rattle.std.proofs.lemmas.List.{append-nil}
@@ -20,7 +19,8 @@ use Rattle.nd_grammar.specs.Stream.{chunk_entries, chunks, pipe_entries, pipes_e
 use Rattle.nd_grammar.proofs.LegalSides.{laid_out}
 use Rattle.nd_grammar.proofs.conforming.StreamConforms.{le_or}
 use Rattle.nd_grammar.proofs.next.NextPipes.{sum_first}
-use Rattle.nd_grammar.proofs.next.NextStream.{IsPipeRoot, all_at, drop_at}
+use Rattle.nd_grammar.proofs.next.NextStream.{IsPipeRoot, drop_at}
+use Rattle.nd_lemmas.proofs.Lists.{all_at}
 use Rattle.ndr_drain_laws.specs.parts.Parts.{Part, Spot, AreParts, after, after_all, elem_at, elem_by, part_entries, pipes_by, pipes_of, spot_after}
 
 -- ## Lists of trees
