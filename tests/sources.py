@@ -4,7 +4,7 @@
     tests/sources.py [CHECK ..]     prints what is wrong, a line each; the status is 1 where something is
 
     imports     each import of this repository's definitions and lemmas finds its file, which it may see, and a public
-                name in it
+                name in it; so does each name that is used by the short name of a file
     unused      each public name of `specs/` and `proofs/` is used: by a file that imports it, or in its own file
                 outside its own definition. Examples are for readers, and their names are not looked at
     repeated    no statement of a lemma is in three files. `tests/cases/sources.py` does not ask for this one
@@ -35,7 +35,7 @@ FIXED = ("Answers.antt", "Invariants.antt", "Lib.antt")  # files whose names the
 EXAMPLE = re.compile(r"/crates/example_|/(?:Worked\w*|\w*Examples|Proof)\.antt$")
 # Crates whose names are not all used: none of these is looked at by `unused`.
 NOT_LOOKED_AT = """
-command_compile ctx_store idl_check idl_constructs idl_cycles idl_declared_types idl_expressions idl_grammar idl_lexer idl_listing idl_names
+command_compile ctx_session ctx_store idl_check idl_constructs idl_cycles idl_declared_types idl_expressions idl_grammar idl_lexer idl_listing idl_names
 idl_rule_definitions idl_rules idl_scope idl_type_numbers idl_typing nd_base nd_types nd_value rpc_pdu
 """.split()
 
@@ -201,7 +201,15 @@ def imports(root: Path = ROOT) -> List[str]:
                 wrong.append(f"{place}: {imported.module} has no public {imported.name}")
             elif any(not is_below(source.module, module) for module in above_and(imported.module) & private):
                 wrong.append(f"{place}: {imported.module} is private")
+            elif imported.name is None and imported.module in public and source.path.suffix == ".antt":
+                missing = sorted(members(imported.short, source.text()) - public[imported.module])
+                wrong += [f"{place}: {imported.module} has no public {name}" for name in missing]
     return wrong
+
+
+def members(short: str, text: str) -> Set[str]:
+    """The names that a text uses of a file that it calls so."""
+    return set(re.findall(r"(?<![\w.'])" + re.escape(short) + r"\.([^\s(){}\[\],;.]+)", text))
 
 
 def above_and(module: str) -> Set[str]:
@@ -228,8 +236,7 @@ def used_names(source: Source) -> Set[Tuple[str, str]]:
     used: Set[Tuple[str, str]] = set()
     for imported in source.imports:
         if imported.name is None:
-            names = re.findall(r"(?<![\w.])" + re.escape(imported.short) + r"\.([^\s(){}\[\],;.]+)", text)
-            used |= {(imported.module, name) for name in names}
+            used |= {(imported.module, name) for name in members(imported.short, text)}
         elif imported.passed_on or source.path.suffix == ".rt" or is_named(imported.short, found, text):
             used.add((imported.module, imported.name))
     for path in re.findall(r"\bRattle\.[\w.'\-]+", text):

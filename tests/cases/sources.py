@@ -23,6 +23,7 @@ LAWS = FILES["crates/low/proofs/Laws.antt"]
 WRONG = [
     ({"crates/top/proofs/Top.antt": "use Rattle.low.specs.Sums.{sums}\n"}, "Rattle.low.specs.Sums has no public sums"),
     ({"crates/top/proofs/Top.antt": "use Rattle.low.proofs.Sums.{sum}\n"}, "there is no Rattle.low.proofs.Sums"),
+    ({"crates/top/proofs/Top.antt": "use Rattle.low.specs.Sums as low\nx = low.sums 1\n"}, "Rattle.low.specs.Sums has no public sums"),
     ({"crates/low/specs/Lib.antt": "mod Sums\n"}, "Rattle.low.specs.Sums is private"),
     ({"crates/low/proofs/Lib.antt": "mod Laws\n"}, "is private", False),
     ({"crates/low/proofs/Laws.antt": LAWS.replace("pub one", "one")}, "nothing uses", False),

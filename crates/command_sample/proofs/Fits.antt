@@ -76,11 +76,12 @@ module _ (f : Fitting) (seed n : ℕ) (is : IsSampleFit f seed n) where
       let fits : Conforms sample_setting g = conforms seed n is.some is.few in
       let (octets, c) = chosen_exists sample_setting Little 1 g fits in
       let is_m : length octets ≡ m = t.many Little octets (λ o there. subst₂ (λ (v : Setting) (h : Graph). Chosen v Little 1 h octets) (sym (own_is o there)) (sym is.graph) c) in
-      let ends = end_of_octets sample_setting sample_side g fits Little 1 octets c c.steps c.deferral in
-      let e = length_is seed n is.some is.few c.steps c.deferral (pipe_cuts 1 (drop (before_pipes (root_list sample_setting)) g.roots)) in
+      let total : length octets ≡ 4 + 12 * n =
+      end_of_octets sample_setting sample_side g fits Little 1 octets c c.steps c.deferral
+      ∙ length_is seed n is.some is.few c.steps c.deferral (pipe_cuts 1 (drop (before_pipes (root_list sample_setting)) g.roots)) in
       let past = t.too_long in
       let few = is.few in
-      omega (arith, e, ends, is_m, past, few)
+      omega (arith, total, is_m, past, few)
 
   pub octets_are : (work : WorkSeen) → IsWorkFor f 1 work → (octets : List ℕ) → IsChosen f Little work.chunk octets → length octets ≡ work.length → AreSampleOctets octets seed n
   octets_are work w octets chosen long =

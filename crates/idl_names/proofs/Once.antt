@@ -18,6 +18,7 @@ use Rattle.idl_grammar.specs.declared.fault.SyntaxFault.TheVariants as syntax
 use Rattle.idl_scope.specs.declared.name_fault.NameFault.{NameFault}
 use Rattle.idl_scope.specs.declared.name_fault.NameFault.TheVariants as fault
 use Rattle.idl_names.specs.Files.{IsRead, IsFile, IsNoFile, IsSyntaxFault}
+use Rattle.idl_scope.specs.Ended.{has_ended}
 use Rattle.idl_scope.specs.Known.{Known, passed}
 use Rattle.idl_names.specs.Sources.{file_number}
 use Rattle.idl_names.specs.Walk.{State, Due, Ending, Done, Stopped, Walk, most_files, with_known, with_source, all_of}
@@ -126,12 +127,12 @@ module _ (f : List ℕ → Option (List ℕ)) (fails : List ℕ → Bool) where
   one_told_ending p q (walk.faults s file step n rest h) (walk.faults _ _ _ m _ g) fv fw = ap (λ (x : NameFault). Stopped s.sources x) (same_fault n m (passed file s.known step) h g)
   one_told_ending p q (walk.ends s file t rest e w) (walk.ends _ _ _ _ x v) fv fw = one_told_ending p q w v fv fw
   one_told_ending p q (walk.cycle s place name rest n h d) (walk.cycle _ _ _ _ m g c) fv fw = refl
-  one_told_ending p q (walk.cycle s place name rest n h d) (walk.again _ _ _ _ x m g c v) fv fw = ended_or_not m n (file_number s.sources name) (λ k. walk.has_ended s.ended k) g h c d
+  one_told_ending p q (walk.cycle s place name rest n h d) (walk.again _ _ _ _ x m g c v) fv fw = ended_or_not m n (file_number s.sources name) (λ k. has_ended s.ended k) g h c d
   one_told_ending p q (walk.cycle s place name rest n h d) (walk.too_many _ _ _ _ g c) fv fw = known_or_new n (file_number s.sources name) h g
   one_told_ending p q (walk.cycle s place name rest n h d) (walk.uncut _ _ _ _ text at kind due c v) fv fw = known_or_new n (file_number s.sources name) h due.new
   one_told_ending p q (walk.cycle s place name rest n h d) (walk.no_file _ _ _ _ text at g due c v) fv fw = known_or_new n (file_number s.sources name) h due.new
   one_told_ending p q (walk.cycle s place name rest n h d) (walk.enters _ _ _ _ x text t due c g v) fv fw = known_or_new n (file_number s.sources name) h due.new
-  one_told_ending p q (walk.again s place name rest e n h d w) (walk.cycle _ _ _ _ m g c) fv fw = ended_or_not n m (file_number s.sources name) (λ k. walk.has_ended s.ended k) h g d c
+  one_told_ending p q (walk.again s place name rest e n h d w) (walk.cycle _ _ _ _ m g c) fv fw = ended_or_not n m (file_number s.sources name) (λ k. has_ended s.ended k) h g d c
   one_told_ending p q (walk.again s place name rest e n h d w) (walk.again _ _ _ _ x m g c v) fv fw = one_told_ending p q w v fv fw
   one_told_ending p q (walk.again s place name rest e n h d w) (walk.too_many _ _ _ _ g c) fv fw = known_or_new n (file_number s.sources name) h g
   one_told_ending p q (walk.again s place name rest e n h d w) (walk.uncut _ _ _ _ text at kind due c v) fv fw = known_or_new n (file_number s.sources name) h due.new

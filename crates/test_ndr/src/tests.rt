@@ -15,8 +15,8 @@ use ndr_plan::make;
 use std::alloc::Global;
 use std::test::Fail;
 
-// The operations by their numbers: an array of structs with unique pointers, a struct with an array, two full pointers, a context handle, a list, and full
-// pointers that share a referent.
+// The operations by their numbers: an array of structs with unique pointers, a struct with an array, two full pointers, a context handle,
+// a list, and full pointers that share a referent.
 const IDL: &[u8] = b"[uuid(11111111-2222-3333-4444-555555555555)] interface t {
   typedef struct { long v; } leaf;
   typedef struct { byte t; [unique] leaf *p; } holder;

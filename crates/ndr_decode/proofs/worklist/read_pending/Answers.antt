@@ -1,4 +1,4 @@
-use Rattle.std.proofs.Common.{refl, ap, ◌∙◌, le_refl, le_trans}
+use Rattle.std.proofs.Common.{refl, ap, ◌∙◌, le_refl, le_trans, arith}
 use Rattle.nd_base.specs.Over.{source_seen}
 use Rattle.nd_flat.specs.Building.{Building}
 use Rattle.ndr_decoder_state.specs.declared.machine.Machine.{Machine}

@@ -4,11 +4,16 @@ use Rattle.ndr_refs.proofs.Naming.{as_before, has_met, is_known}
 use Rattle.ndr_refs.proofs.tests.a_number_has_one_first_turn.Goals as goal
 
 pub turn-first-requires : goal.turn-first-requires
-turn-first-requires c d = record { known = is_known 1 d.meet.new.self d.in-Ok.cell (has_met 1 _ _ d.in-Ok.cell _ d.meet.new.self d.in-Ok.ensures).here }
+turn-first-requires c d = record {
+  known =
+      is_known 1 d.meet.new.self d.in-Ok.cell
+      (has_met 1 (record { 0 = 7 }) (record { 0 = 1 }) d.in-Ok.cell d.new-referents.result d.meet.new.self d.in-Ok.ensures).here;
+}
 
 pub turn-later-requires : goal.turn-later-requires
 turn-later-requires c d = record {
   known =
       is_known 1 d.turn-first.new.self d.in-Ok.cell
-      (ap (cell_of 1) d.turn-first.ensures.represented ∙ as_before 1 d.meet.new.self 1 ∙ (has_met 1 _ _ d.in-Ok.cell _ d.meet.new.self d.in-Ok.ensures).here);
+      (ap (cell_of 1) d.turn-first.ensures.represented ∙ as_before 1 d.meet.new.self 1
+      ∙ (has_met 1 (record { 0 = 7 }) (record { 0 = 1 }) d.in-Ok.cell d.new-referents.result d.meet.new.self d.in-Ok.ensures).here);
 }

@@ -1,0 +1,10 @@
+pub mod Digits
+pub mod Numerals
+pub mod LineLaws
+pub mod Scripts
+pub mod Steps
+pub mod UnderWay
+pub mod Places
+pub mod Serving
+pub mod Accounts
+pub mod OneScript

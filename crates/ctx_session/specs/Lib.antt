@@ -1,0 +1,9 @@
+pub mod Numbers
+pub mod Script
+pub mod Lines
+pub mod Session
+pub mod Stocked
+pub mod Written
+pub mod UnderWay
+pub mod Outcome
+pub mod Accounts

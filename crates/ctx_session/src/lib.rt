@@ -1,0 +1,16 @@
+//! Sessions: a script opens, uses and ends the resources of a stock, which a store keeps under the identifiers of their context handles.
+#![tactic(auto)]
+
+mod answer;
+pub mod laws;
+mod line;
+mod lines;
+mod numbers;
+mod script;
+mod session;
+mod stock;
+#[cfg(test)]
+mod tests;
+
+pub use session::{SCRIPT_LIMIT, SessionFault, run_script};
+pub use stock::{Stock, StockOf};
