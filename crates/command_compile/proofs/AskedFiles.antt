@@ -1,5 +1,6 @@
 -- The names that a walk through the files asks for, each when it is due.
-use Rattle.std.proofs.Common.{◌≡◌, ◌∙◌, ℕ, zero, suc, ◌+◌, ◌≤◌, ◌<◌, arith, Bool, true, false, List, [], ◌∷◌, ◌++◌, length, take, drop, Option, Some, None, refl, sym, ap, subst, inl, inr, append_assoc, append-nil, length-append}
+use Rattle.std.proofs.Common.{◌≡◌, ◌∙◌, ℕ, zero, suc, ◌+◌, ◌≤◌, ◌<◌, arith, Bool, true, false, List, [], ◌∷◌, ◌++◌, length, take, drop, Option, Some, None, refl, sym, ap, subst, inl, inr}
+use Rattle.std.proofs.Common.{append_assoc, append-nil, length-append}
 use Rattle.std.specs.Prelude.{option_to_list, leb}
 use Rattle.std.specs.List.{slice_get}
 use Rattle.std.proofs.lemmas.Bool.{leb-true, leb-false}
@@ -10,7 +11,8 @@ use Rattle.idl_grammar.specs.Tree.{Tree}
 use Rattle.idl_scope.specs.declared.name_fault.NameFault.TheVariants as names
 use Rattle.idl_names.specs.Files.{IsFile}
 use Rattle.idl_names.specs.Sources.{Source, and_source, source}
-use Rattle.idl_names.specs.Walk.{State, Due, Load, IsDue, Done, Stopped, Walk, names_of, start, all_of, with_source, all_done, goes_on, faults, ends, again, failed, enters, short, short_in_load, short_after_load}
+use Rattle.idl_names.specs.Walk.{State, Due, Load, IsDue, Done, Stopped, Walk, names_of, start, all_of, with_source, all_done, goes_on, faults, ends, again, failed, enters, short, short_in_load}
+use Rattle.idl_names.specs.Walk.{short_after_load}
 use Rattle.command_compile.specs.Asked.{IsNext, AreAsked, all_due}
 use Rattle.command_compile.specs.Idl.{main_file, AreResolved}
 use Rattle.command_compile.proofs.Walks.{passed_fault, at_load}

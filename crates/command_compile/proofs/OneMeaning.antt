@@ -24,7 +24,8 @@ use Rattle.command_refusals.specs.declared.refusal.IdlReason.{IdlReason}
 use Rattle.command_refusals.specs.declared.refusal.Refusal.{Refusal}
 use Rattle.command_refusals.specs.declared.refusal.Refusal.TheVariants.{BadIdl}
 use Rattle.command_compile.specs.AcfFile.{AcfFile, IsAcf, IsLoadedAcf, IsBeside, tree_beside}
-use Rattle.command_compile.specs.Idl.{main_file, resolved_world, AreResolved, Means, IsMainFault, IsNameFault, IsAcfFault, IsBadAcf, IsIdlFault, by_names, by_acf, by_rules, reported_by, reported_fault, reported_beside, IsDueImport, IsDueAcf, IsDueAfter}
+use Rattle.command_compile.specs.Idl.{main_file, resolved_world, AreResolved, Means, IsMainFault, IsNameFault, IsAcfFault, IsBadAcf, IsIdlFault, by_names, by_acf, by_rules, reported_by}
+use Rattle.command_compile.specs.Idl.{reported_fault, reported_beside, IsDueImport, IsDueAcf, IsDueAfter}
 use Rattle.command_compile.proofs.OneFile.{one_no_file, one_cut, never_cut, never_file, never_uncut}
 use Rattle.idl_names.proofs.Once.{one_tree}
 use Rattle.command_compile.proofs.OneAcf.{one_acf, one_acf_fault, never_acf}

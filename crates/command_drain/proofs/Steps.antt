@@ -21,7 +21,8 @@ use Rattle.ndr_drain.specs.declared.fault.DrainFault.TheVariants as fault
 use Rattle.command_decode.specs.Taken.{IsEnd, IsNoEnd}
 use Rattle.text_grammar.specs.Printed.{IsText}
 use Rattle.command_refusals.specs.declared.refusal.Refusal.{Refusal}
-use Rattle.command_refusals.specs.declared.refusal.Refusal.TheVariants.{Memory, Absent, FileFailed, BadIdl, NoOperation, ReadFault, BadOctets, BadText, BadValue, TooLong, BadRequest, BadLabel, ShortLabel, TooFewEnds, EndFailed}
+use Rattle.command_refusals.specs.declared.refusal.Refusal.TheVariants.{Memory, Absent, FileFailed, BadIdl, NoOperation, ReadFault, BadOctets, BadText, BadValue, TooLong, BadRequest, BadLabel}
+use Rattle.command_refusals.specs.declared.refusal.Refusal.TheVariants.{ShortLabel, TooFewEnds, EndFailed}
 use Rattle.command_refusals.specs.declared.refusal.OctetsFault.TheVariants as octets_fault
 use Rattle.command_drain.specs.Printed.{AreEnough, IsDrainRefusal, IsPrinted, IsTakenWhole}
 use Rattle.command_drain.specs.Taken.{IsNotTaken, IsTaken}

@@ -15,7 +15,8 @@ use Rattle.text_grammar.specs.Reads.{ReadsAs, IsTextFault}
 use Rattle.text_reading_laws.proofs.Stated.{one_graph, one_fault}
 use Rattle.text_reading_laws.proofs.OneText.{never_both}
 use Rattle.command_refusals.specs.declared.refusal.Refusal.{Refusal}
-use Rattle.command_refusals.specs.declared.refusal.Refusal.TheVariants.{Memory, Absent, FileFailed, BadIdl, NoOperation, ReadFault, BadOctets, BadText, BadValue, TooLong, BadRequest, BadLabel, ShortLabel, TooFewEnds, EndFailed}
+use Rattle.command_refusals.specs.declared.refusal.Refusal.TheVariants.{Memory, Absent, FileFailed, BadIdl, NoOperation, ReadFault, BadOctets, BadText, BadValue, TooLong, BadRequest, BadLabel}
+use Rattle.command_refusals.specs.declared.refusal.Refusal.TheVariants.{ShortLabel, TooFewEnds, EndFailed}
 use Rattle.command_refusals.specs.declared.refusal.RequestFault.{RequestFault}
 use Rattle.command_refusals.specs.declared.refusal.RequestFault.TheVariants.{Text, Value}
 use Rattle.command_text.specs.Fitted.{IsTextCause, IsMisfitAt}

@@ -19,7 +19,8 @@ use Rattle.text_grammar.specs.declared.TheConstants.{TEXT_LIMIT}
 use Rattle.command_text.specs.Fitted.{IsTextCause}
 use Rattle.dceidl.specs.Encode.{IsLabelledEncoding, IsEncodingCause, IsMigration}
 use Rattle.command_refusals.specs.declared.refusal.Refusal.{Refusal}
-use Rattle.command_refusals.specs.declared.refusal.Refusal.TheVariants.{Memory, Absent, FileFailed, BadIdl, NoOperation, ReadFault, BadOctets, BadText, BadValue, TooLong, BadRequest, BadLabel, ShortLabel, TooFewEnds, EndFailed}
+use Rattle.command_refusals.specs.declared.refusal.Refusal.TheVariants.{Memory, Absent, FileFailed, BadIdl, NoOperation, ReadFault, BadOctets, BadText, BadValue, TooLong, BadRequest, BadLabel}
+use Rattle.command_refusals.specs.declared.refusal.Refusal.TheVariants.{ShortLabel, TooFewEnds, EndFailed}
 use Rattle.nd_base.specs.Over.{FilesSeen, SourceSeen}
 use Rattle.dceidl.specs.Ready.{IsFound, IsReady, IsReadyCause, IsNotFound}
 use Rattle.command_compile.specs.Compiled.{IsCompiled, IsIdlCause}

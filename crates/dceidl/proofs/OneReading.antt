@@ -11,7 +11,8 @@ use Rattle.nd_grammar.specs.Represents.{Represents}
 use Rattle.nd_grammar.proofs.ReaderLaws.{never_both, one_beginning}
 use Rattle.nd_grammar.proofs.OneRefusal.{one_bad}
 use Rattle.command_refusals.specs.declared.refusal.Refusal.{Refusal}
-use Rattle.command_refusals.specs.declared.refusal.Refusal.TheVariants.{Memory, Absent, FileFailed, BadIdl, NoOperation, ReadFault, BadOctets, BadText, BadValue, TooLong, BadRequest, BadLabel, ShortLabel, TooFewEnds, EndFailed}
+use Rattle.command_refusals.specs.declared.refusal.Refusal.TheVariants.{Memory, Absent, FileFailed, BadIdl, NoOperation, ReadFault, BadOctets, BadText, BadValue, TooLong, BadRequest, BadLabel}
+use Rattle.command_refusals.specs.declared.refusal.Refusal.TheVariants.{ShortLabel, TooFewEnds, EndFailed}
 use Rattle.command_refusals.specs.declared.refusal.OctetsFault.{OctetsFault}
 use Rattle.command_refusals.specs.declared.refusal.OctetsFault.TheVariants as fault
 use Rattle.nd_base.specs.Over.{SourceSeen}

@@ -17,7 +17,8 @@ use Rattle.text_reading_laws.proofs.OneText.{never_both}
 use Rattle.command_text.specs.Fitted.{IsTextCause, IsMisfitAt}
 use Rattle.command_text.proofs.OneText.{good_cause}
 use Rattle.command_refusals.specs.declared.refusal.Refusal.{Refusal}
-use Rattle.command_refusals.specs.declared.refusal.Refusal.TheVariants.{Memory, Absent, FileFailed, BadIdl, NoOperation, ReadFault, BadOctets, BadText, BadValue, TooLong, BadRequest, BadLabel, ShortLabel, TooFewEnds, EndFailed}
+use Rattle.command_refusals.specs.declared.refusal.Refusal.TheVariants.{Memory, Absent, FileFailed, BadIdl, NoOperation, ReadFault, BadOctets, BadText, BadValue, TooLong, BadRequest, BadLabel}
+use Rattle.command_refusals.specs.declared.refusal.Refusal.TheVariants.{ShortLabel, TooFewEnds, EndFailed}
 use Rattle.command_line.specs.Words.{order_in}
 use Rattle.command_line.specs.declared.command.OrderWord.{OrderWord}
 use Rattle.dceidl.specs.Encode.{IsEncoding, IsLabelledEncoding, IsLongEncoding, IsEncodingCause, IsMigration}

@@ -1,5 +1,6 @@
 -- Tests that compute, and what they show.
-use Rattle.std.proofs.Common.{◌≡◌, ℕ, ◌+◌, ◌^◌, ◌<◌, zero, suc, ℤ, Bool, true, false, ◌&&◌, ◌||◌, cond, not, eqb, ltb, leb, List, [], ◌∷◌, ◌++◌, length, Option, Some, None, refl, ap, sym, inl, inr, subst, take, drop}
+use Rattle.std.proofs.Common.{◌≡◌, ℕ, ◌+◌, ◌^◌, ◌<◌, zero, suc, ℤ, Bool, true, false, ◌&&◌, ◌||◌, cond, not, eqb, ltb, leb, List, [], ◌∷◌, ◌++◌, length, Option, Some, None, refl, ap, sym, inl, inr}
+use Rattle.std.proofs.Common.{subst, take, drop}
 use Rattle.std.proofs.lemmas.Bool.{eqb-true, eq-eqb, leb-true, ltb-true, not-true as not_is}
 use Rattle.std.proofs.lemmas.Bool.Decides.{Decides-int_eq}
 use Rattle.std.proofs.lemmas.Option.{same_Some}
@@ -12,7 +13,8 @@ use Rattle.nd_value.specs.declared.value.Graph.{Graph}
 use Rattle.nd_base.specs.declared.TheConstants.{STREAM_LIMIT}
 use Rattle.nd_value.specs.Setting.{Setting, Among, root_list}
 use Rattle.nd_grammar.specs.Stream.{Stream, representation, AllCut}
-use Rattle.nd_value.specs.Deferral.{Due, due_root, due_referent, Step, root_stands, referent_stands, stands_already, Deferral, none_due, at_root, at_null, at_standing, at_referent, Pending, due_of, standing_root, standing_cell, IsPlaced, IsPlacedFull, AreFree, Placed_cells, root_cell, due_roots, before_pipes}
+use Rattle.nd_value.specs.Deferral.{Due, due_root, due_referent, Step, root_stands, referent_stands, stands_already, Deferral, none_due, at_root, at_null, at_standing, at_referent, Pending, due_of}
+use Rattle.nd_value.specs.Deferral.{standing_root, standing_cell, IsPlaced, IsPlacedFull, AreFree, Placed_cells, root_cell, due_roots, before_pipes}
 use Rattle.nd_types.specs.Number.{unsigned, value_of_octets}
 use Rattle.nd_grammar.specs.Entry.{Kind, Entry, Align, Max, Offset, Actual, Chunk, Number, Num, Tag, Text, Context, Test, Unread, size_at, EntryAt, end_to_end, end_of, full_cells}
 use Rattle.nd_grammar.specs.Represents.{piece, Spells, IsNumber, IsRendered, id_octets, IsNumbering, Represents}

@@ -1,5 +1,6 @@
 -- What is read exactly is judged rightly.
-use Rattle.std.proofs.Common.{◌≡◌, ◌≢◌, ℕ, suc, ◌+◌, ◌-◌, ◌<◌, ◌≤◌, Bool, true, false, [], ◌∷◌, ◌++◌, length, take, cond, refl, sym, ap, subst, arith, ◌∙◌, eqb, not, eq-eqb, Result, Ok, Err, ◌⊎◌, inl, inr, length-append, length-take, length-drop}
+use Rattle.std.proofs.Common.{◌≡◌, ◌≢◌, ℕ, suc, ◌+◌, ◌-◌, ◌<◌, ◌≤◌, Bool, true, false, [], ◌∷◌, ◌++◌, length, take, cond, refl, sym, ap, subst, arith, ◌∙◌, eqb, not, eq-eqb, Result, Ok, Err, ◌⊎◌, inl}
+use Rattle.std.proofs.Common.{inr, length-append, length-take, length-drop}
 use Rattle.std.proofs.Math.Decide.{dec_lt}
 use Rattle.std.proofs.Math.ListN.{get_or-append}
 use Rattle.std.proofs.Math.Seq.{get_or-append_seam}

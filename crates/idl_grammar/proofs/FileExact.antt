@@ -4,7 +4,8 @@ use Rattle.grammar_phrases.specs.Text.{Text, is_in, Lifted, Rel, located, made, 
 use Rattle.grammar_phrases.specs.Reading.{then}
 use Rattle.grammar_phrases.proofs.Exact.{Exact, HasPhrase, pair_exact, turned_exact}
 use Rattle.grammar_phrases.proofs.Parts.{pair_has, many_has}
-use Rattle.grammar_phrases.proofs.Sequences.{stops, Begins, subset, disjoint, meets_or, skip_exact, skip_has, skip_begins, end_exact, end_has, located_begins, bracketed_exact, bracketed_has, made_begins, list_exact, list_begins, separated_exact, separated_has, ends_at}
+use Rattle.grammar_phrases.proofs.Sequences.{stops, Begins, subset, disjoint, meets_or, skip_exact, skip_has, skip_begins, end_exact, end_has, located_begins, bracketed_exact, bracketed_has}
+use Rattle.grammar_phrases.proofs.Sequences.{made_begins, list_exact, list_begins, separated_exact, separated_has, ends_at}
 use Rattle.idl_grammar.specs.declared.words.Spelling.{Spelling}
 use Rattle.idl_grammar.specs.Symbols as symbol
 use Rattle.idl_grammar.specs.Limits.{names}

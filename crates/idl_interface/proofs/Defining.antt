@@ -1,5 +1,6 @@
 -- What the program makes of the types of a scene.
-use Rattle.std.proofs.Common.{◌≡◌, ℕ, ◌≤◌, drop, ◌<◌, Bool, true, false, ◌||◌, ◌&&◌, inl, inr, get_or, List, [], ◌∷◌, ◌++◌, map, length, Option, Some, None, is_none, option_map, ℤ, pos, refl, sym, ap, arith, ◌∙◌}
+use Rattle.std.proofs.Common.{◌≡◌, ℕ, ◌≤◌, drop, ◌<◌, Bool, true, false, ◌||◌, ◌&&◌, inl, inr, get_or, List, [], ◌∷◌, ◌++◌, map, length, Option, Some, None, is_none, option_map, ℤ, pos, refl, sym, ap}
+use Rattle.std.proofs.Common.{arith, ◌∙◌}
 use Rattle.std.specs.List.{flat_map, slice_get, list_any, list_all}
 use Rattle.std.specs.Prelude.{Result, IfOk, nat_le}
 use Rattle.std.proofs.lemmas.Result.{IfOk-weaker}
@@ -42,7 +43,8 @@ use Rattle.idl_constructs.specs.SeenNodes.{seen_construct}
 use Rattle.idl_type_numbers.specs.SeenTypes.{names_at, body_at, IsTypes}
 use Rattle.idl_type_numbers.specs.SeenOperations.{HasTags}
 use Rattle.idl_type_numbers.specs.SeenNumbers.{AreNumbers, seen_own, seen_needed}
-use Rattle.idl_rule_definitions.specs.Meaning.{number, field, arm_for, name_of_arm, type_of_arm, arm_by, labelled_arms, default_by, first_arm, default_arm, or_handle, or_zero, struct_of, defined_at, body_if, is_struct, is_union, is_enum, definition, types_of}
+use Rattle.idl_rule_definitions.specs.Meaning.{number, field, arm_for, name_of_arm, type_of_arm, arm_by, labelled_arms, default_by, first_arm, default_arm, or_handle, or_zero, struct_of, defined_at}
+use Rattle.idl_rule_definitions.specs.Meaning.{body_if, is_struct, is_union, is_enum, definition, types_of}
 use Rattle.nd_types.specs.Kinds.{basic_types}
 use Rattle.nd_types.specs.declared.TheConstants.{ELEMENT_LIMIT}
 use Rattle.nd_types.proofs.LegalLaws.{passes_at}

@@ -14,8 +14,10 @@ use Rattle.idl_grammar.specs.declared.words.Spelling.{Spelling}
 use Rattle.idl_grammar.specs.Tree.{TypeSpec}
 use Rattle.idl_grammar.specs.Tree as tree
 use Rattle.idl_scope.specs.Known.{Known}
-use Rattle.idl_rule_definitions.specs.Nodes.{Construct, Node, HeaderNode, AttributeNode, SwitchNode, TagNode, BodyNode, EnumeratorNode, LabelNode, EmptyArmNode, DeclaratorNode, ConstantNode, TypeNode, OperationNode}
-use Rattle.idl_rule_definitions.specs.Types.{IdlType, Void, Handle, ContextHandle, Basic, Struct, Union, Enum, Array, Text, Pointer, Pipe, Names, type_of, type_of_tag, is_void, is_handle, is_reference}
+use Rattle.idl_rule_definitions.specs.Nodes.{Construct, Node, HeaderNode, AttributeNode, SwitchNode, TagNode, BodyNode, EnumeratorNode, LabelNode, EmptyArmNode, DeclaratorNode, ConstantNode, TypeNode}
+use Rattle.idl_rule_definitions.specs.Nodes.{OperationNode}
+use Rattle.idl_rule_definitions.specs.Types.{IdlType, Void, Handle, ContextHandle, Basic, Struct, Union, Enum, Array, Text, Pointer, Pipe, Names, type_of, type_of_tag, is_void, is_handle}
+use Rattle.idl_rule_definitions.specs.Types.{is_reference}
 use Rattle.idl_rule_definitions.specs.Scene.{Scoped, Scene, Body, body_of, type_of_body}
 use Rattle.idl_rule_definitions.specs.Rules.{breaches_in}
 use Rattle.idl_rule_definitions.specs.PointerRules.{refers_to_reference}

@@ -12,7 +12,11 @@ use Rattle.idl_scope.specs.Known.{Known}
 use Rattle.idl_scope.specs.Steps.{parameters_of}
 use Rattle.idl_rule_definitions.specs.World.{World}
 use Rattle.idl_rule_definitions.specs.Attributes.{switch_type_in}
-use Rattle.idl_rule_definitions.specs.Nodes.{Construct, Position, InTypedef, InTaggedType, InMember, InParameter, InArm, InCasedArm, InOperation, inside, Declared, declared, ArmLabel, Node, HeaderNode, AttributeNode, SwitchNode, TagNode, BodyNode, EnumeratorNode, LabelNode, EmptyArmNode, DeclaratorNode, ConstantNode, TypeNode, OperationNode, attribute_nodes, attribute_nodes_from, switch_node, switch_nodes, declared_members, declared_parameters, parameter_construct, declarator_nodes, labels_of, label_nodes, type_nodes, member_nodes, case_nodes, arms_nodes, arm_nodes, parameter_nodes, typedef_node, result_of, operation_nodes, export_nodes, header_of, file_nodes, nodes}
+use Rattle.idl_rule_definitions.specs.Nodes.{Construct, Position, InTypedef, InTaggedType, InMember, InParameter, InArm, InCasedArm, InOperation, inside, Declared, declared, ArmLabel, Node}
+use Rattle.idl_rule_definitions.specs.Nodes.{HeaderNode, AttributeNode, SwitchNode, TagNode, BodyNode, EnumeratorNode, LabelNode, EmptyArmNode, DeclaratorNode, ConstantNode, TypeNode, OperationNode}
+use Rattle.idl_rule_definitions.specs.Nodes.{attribute_nodes, attribute_nodes_from, switch_node, switch_nodes, declared_members, declared_parameters, parameter_construct, declarator_nodes, labels_of}
+use Rattle.idl_rule_definitions.specs.Nodes.{label_nodes, type_nodes, member_nodes, case_nodes, arms_nodes, arm_nodes, parameter_nodes, typedef_node, result_of, operation_nodes, export_nodes}
+use Rattle.idl_rule_definitions.specs.Nodes.{header_of, file_nodes, nodes}
 use Rattle.idl_rule_definitions.specs.Types.{IdlType, Names, type_of}
 use Rattle.idl_rule_definitions.specs.Scene.{Scoped, scene_of, is_typedef, names_behind, scoped_from, parts_declared, tag_written}
 use Rattle.idl_legal_laws.proofs.Among.{Among, among_left, among_right, Sub, sub_left, sub_right, sub_join, sub_map, Each, each_join}

@@ -33,13 +33,16 @@ pub data IsJudged (w : World) : Type 0 where
 abbrev pub main_file : List ℕ → List ℕ → List Source
 main_file name text = source name text ∷ []
 
--- What a main file of this name and text comes to: an interface, which is legal; a broken rule; a fault of names or of an imported file, which is absent, say, but
--- neither by running out of memory nor by a failed load; a fault of its own syntax; or one of its own tokens.
+-- What a main file of this name and text comes to: an interface, which is legal; a broken rule; a fault of names or of an imported file, which is
+-- absent, say, but neither by running out of memory nor by a failed load; a fault of its own syntax; or one of its own tokens.
 pub data HasOutcome (held : Option (List ℕ → Option (List ℕ))) (name text : List ℕ) : Type 0 where
-  Interface : (t : Tree) → IsFile text t → (s : State) → IsResolved held (main_file name text) t s → (m : Meant) → MeansLegal (world s) m → IsLegal m.types m.operations
+  Interface : (t : Tree) → IsFile text t → (s : State) → IsResolved held (main_file name text) t s → (m : Meant) → MeansLegal (world s) m
+      → IsLegal m.types m.operations
       → HasOutcome held name text
-  Broken : (t : Tree) → IsFile text t → (s : State) → IsResolved held (main_file name text) t s → (b : Breach) → first_broken (world s) ≡ Some b → HasOutcome held name text
-  Unnamed : (t : Tree) → IsFile text t → (sources : List Source) (f : NameFault) → is_decided (Stopped sources f) ≡ true → IsRefused held (main_file name text) t sources f
+  Broken : (t : Tree) → IsFile text t → (s : State) → IsResolved held (main_file name text) t s → (b : Breach) → first_broken (world s) ≡ Some b
+      → HasOutcome held name text
+  Unnamed : (t : Tree) → IsFile text t → (sources : List Source) (f : NameFault) → is_decided (Stopped sources f) ≡ true
+      → IsRefused held (main_file name text) t sources f
       → HasOutcome held name text
   NoFile : (at : ℕ) (f : SyntaxFault) → IsNoFile text at f → HasOutcome held name text
   Uncut : (at : ℕ) (kind : LexKind) → IsVerdict text (Refused at kind) → HasOutcome held name text

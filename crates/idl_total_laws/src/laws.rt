@@ -37,16 +37,20 @@ pub fn texts_are_read()
     ensures { (text : List ℕ) → IsReadAs text }
 {}
 
-/// A walk over files ends in some way other than by running out of memory or by a failed load, whatever is due and whatever files hold. Where it is known
-/// which loads fail, it ends in some way other than by running out of memory, by a failed load where it comes to one. Where no file is held, a walk
-/// that comes to an import ends as absent there. `idl_names: walks_have_one_ending` says that a walk ends in one such way alone.
-#[tactic(auto, using(crate::proofs::Ends::each_walk, crate::proofs::Ends::each_told_walk, crate::proofs::Instances::nothing_held, crate::proofs::Instances::load_fails))]
+/// A walk over files ends in some way other than by running out of memory or by a failed load, whatever is due and whatever files hold. Where it is
+/// known which loads fail, it ends in some way other than by running out of memory, by a failed load where it comes to one. Where no file is held, a
+/// walk that comes to an import ends as absent there. `idl_names: walks_have_one_ending` says that a walk ends in one such way alone.
+#[tactic(auto,
+    using(crate::proofs::Ends::each_walk, crate::proofs::Ends::each_told_walk, crate::proofs::Instances::nothing_held,
+    crate::proofs::Instances::load_fails))]
 pub fn walks_end()
     ensures ends { (held : Option (List ℕ → Option (List ℕ))) (s : State) (dues : List Due) → HasEnding held s dues }
-    ensures told { (held : Option (List ℕ → Option (List ℕ))) (fails : List ℕ → Bool) (s : State) (dues : List Due) → HasToldEnding held fails s dues }
+    ensures told { (held : Option (List ℕ → Option (List ℕ))) (fails : List ℕ → Bool) (s : State) (dues : List Due)
+        → HasToldEnding held fails s dues }
     ensures absent { (place : Place) (e : Ending) → is_decided e ≡ true → Walk (Some (λ name. None)) (start []) (Load place (codes "a.idl") ∷ []) e
         → e ≡ Stopped (source (codes "a.idl") [] ∷ []) (Absent 0) }
-    ensures failed { (place : Place) (e : Ending) → has_memory e ≡ true → (w : Walk (Some (λ name. None)) (start []) (Load place (codes "a.idl") ∷ []) e) → FailsAs (λ name. true) w
+    ensures failed { (place : Place) (e : Ending) → has_memory e ≡ true
+        → (w : Walk (Some (λ name. None)) (start []) (Load place (codes "a.idl") ∷ []) e) → FailsAs (λ name. true) w
         → e ≡ Stopped (source (codes "a.idl") [] ∷ []) (Failed 0) }
 {}
 
@@ -58,10 +62,13 @@ pub fn names_are_resolved()
 
 /// Files whose names are resolved mean an interface, which is legal if its names are identifiers, or break a rule. The names of what is read from
 /// a text are identifiers: those of its members, arms, operations and parameters. So each main file, with all that it imports, means a legal
-/// interface or is refused: for a rule, for names, for a file that it imports (which is absent, or has a fault of its own), for its syntax or for its tokens.
+/// interface or is refused: for a rule, for names, for a file that it imports (which is absent, or has a fault of its own), for its syntax or for its
+/// tokens.
 pub fn files_are_judged()
-    ensures resolved { (held : Option (List ℕ → Option (List ℕ))) (main : List Source) (t : Tree) (s : State) → IsResolved held main t s → IsJudged (world s) }
-    ensures named { (held : Option (List ℕ → Option (List ℕ))) (main : List Source) (text : List ℕ) (t : Tree) (s : State) → IsFile text t → IsResolved held main t s
+    ensures resolved { (held : Option (List ℕ → Option (List ℕ))) (main : List Source) (t : Tree) (s : State) → IsResolved held main t s
+        → IsJudged (world s) }
+    ensures named { (held : Option (List ℕ → Option (List ℕ))) (main : List Source) (text : List ℕ) (t : Tree) (s : State) → IsFile text t
+        → IsResolved held main t s
         → HasIdentifiers (types_of (scene_of (world s))) (operations_of (scene_of (world s))) }
     ensures outcome { (held : Option (List ℕ → Option (List ℕ))) (name text : List ℕ) → HasOutcome held name text }
 {}

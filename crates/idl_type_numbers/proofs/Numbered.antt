@@ -1,5 +1,6 @@
 -- The numbers that the program notes, and those of the definitions.
-use Rattle.std.proofs.Common.{◌≡◌, ℕ, zero, suc, ◌+◌, ◌<◌, ◌≤◌, Bool, true, false, not, ◌||◌, eqb, ltb, List, [], ◌∷◌, ◌++◌, map, length, set, reverse, Option, Some, None, is_some, slice_get, refl, sym, ap, ap₂, ◌∙◌, subst, arith, append_assoc, true≢false}
+use Rattle.std.proofs.Common.{◌≡◌, ℕ, zero, suc, ◌+◌, ◌<◌, ◌≤◌, Bool, true, false, not, ◌||◌, eqb, ltb, List, [], ◌∷◌, ◌++◌, map, length, set, reverse, Option, Some, None, is_some, slice_get, refl}
+use Rattle.std.proofs.Common.{sym, ap, ap₂, ◌∙◌, subst, arith, append_assoc, true≢false}
 use Rattle.std.specs.List.{list_all}
 use Rattle.std.proofs.lemmas.Option.{slice_get_within, slice_get_past}
 use Rattle.std.proofs.lemmas.List.{map-append, length-set, reverse-append}
@@ -15,7 +16,8 @@ use Rattle.idl_rule_definitions.specs.Types.{IdlType, or_void, Void, Handle, Con
 use Rattle.idl_rule_definitions.specs.Scene.{Scene}
 use Rattle.idl_rule_definitions.specs.Numbering.{Needed, needed, needed_types, built, has_own_number, same_type, own_types, number_among, number_of_type}
 use Rattle.idl_declared_types.specs.Kinds.{type_by, seen_types, type_at, inner_of, AreOnce}
-use Rattle.idl_type_numbers.specs.SeenNumbers.{found_number, next_of, number_or, number_by, seen_own, seen_needed, AreNumbers, has_number, is_settled, IsClosed, given, Shows, Gives, grown, grown_by, along}
+use Rattle.idl_type_numbers.specs.SeenNumbers.{found_number, next_of, number_or, number_by, seen_own, seen_needed, AreNumbers, has_number, is_settled, IsClosed, given, Shows, Gives, grown, grown_by}
+use Rattle.idl_type_numbers.specs.SeenNumbers.{along}
 use Rattle.idl_rule_definitions.proofs.Equal.{type_is}
 use Rattle.idl_rule_definitions.proofs.Needed.{itself}
 use Rattle.idl_declared_types.proofs.KindLists.{length-seen_types}

@@ -1,7 +1,8 @@
 -- A graph whose cells are renumbered conforms as before.
 -- `w` is a setting, `g` a graph, `h` the same with its cells renumbered by `m`, `c` and `d` are cells' numbers, `t` a type's number or a tree, `l` a label, `ks` are
 -- children, `x` is a node or a cell, `p` a pointer, `a` and `b` are homes.
-use Rattle.std.proofs.Common.{◌≡◌, inl, inr, ℕ, ◌+◌, ◌<◌, ◌≤◌, ◌^◌, zero, suc, ℤ, Bool, true, false, not, ◌&&◌, eqb, List, [], ◌∷◌, ◌++◌, length, map, flat_map, Option, Some, None, option_map, refl, ap, ap₂, sym, ◌∙◌, subst, arith}
+use Rattle.std.proofs.Common.{◌≡◌, inl, inr, ℕ, ◌+◌, ◌<◌, ◌≤◌, ◌^◌, zero, suc, ℤ, Bool, true, false, not, ◌&&◌, eqb, List, [], ◌∷◌, ◌++◌, length, map, flat_map, Option, Some, None, option_map, refl}
+use Rattle.std.proofs.Common.{ap, ap₂, sym, ◌∙◌, subst, arith}
 use Rattle.std.specs.Prelude.{leb, ltb, replicate, pos, ◌-ℤ◌}
 use Rattle.std.specs.List.{AllByRecursion, slice_get}
 use Rattle.std.proofs.lemmas.Bool.{eqb-false, ne_eqb, leb-true, le-leb, lt-ltb, ltb-true, ltb-false, not-true, and_parts}
@@ -32,7 +33,8 @@ use Rattle.nd_value.specs.Setting.{Setting, Among, root_list, root_at, or_unread
 use Rattle.nd_value.specs.Variables.{root_agreements, starred, given_value}
 use Rattle.nd_value.specs.Deferral.{Pending, pointer, pointer_by, home_pointers}
 use Rattle.nd_value.specs.Homes.{HomeNode, in_home, root_nodes, cell_nodes, all_nodes, root_pointers, cell_pointers, all_pointers}
-use Rattle.nd_value.specs.Misfit.{misfit_of, unless, has_shape, has_range, is_no_null_ref, names_cell, names_pointee, has_type, has_counts, is_within, has_no_zero, has_arm, arm_fits, is_bound, has_machine_values}
+use Rattle.nd_value.specs.Misfit.{misfit_of, unless, has_shape, has_range, is_no_null_ref, names_cell, names_pointee, has_type, has_counts, is_within, has_no_zero, has_arm, arm_fits, is_bound}
+use Rattle.nd_value.specs.Misfit.{has_machine_values}
 use Rattle.nd_value.specs.Conforms.{Conforms, Reached, by_root, by_cell, ShareOnlyIfFull, AllEarlier, AgreesAt, IsAgreed, subject, subject_by, HasFewNodes, FewNodes}
 use Rattle.nd_value.specs.Names.{AreThere, HasNames, named_by}
 use Rattle.nd_value.specs.Same.{renumbered, renumbered_label}

@@ -1,6 +1,7 @@
 -- The search for the cells that are reached finds them.
 -- `g` is a graph, `t` a tree, `b`, `c` and `d` are cells' numbers, `cs` some of them, `s` is how far the search has come, `ms` are marks.
-use Rattle.std.proofs.Common.{◌≡◌, ◌⊎◌, inl, inr, ℕ, ◌+◌, ◌<◌, ◌≤◌, zero, suc, Bool, true, false, List, [], ◌∷◌, ◌++◌, length, drop, get_or, set, replicate, Option, Some, None, refl, ap, sym, ◌∙◌, subst, arith, append_assoc, length-append, below_more, zero-add}
+use Rattle.std.proofs.Common.{◌≡◌, ◌⊎◌, inl, inr, ℕ, ◌+◌, ◌<◌, ◌≤◌, zero, suc, Bool, true, false, List, [], ◌∷◌, ◌++◌, length, drop, get_or, set, replicate, Option, Some, None, refl, ap, sym, ◌∙◌}
+use Rattle.std.proofs.Common.{subst, arith, append_assoc, length-append, below_more, zero-add}
 use Rattle.std.specs.List.{AllByRecursion, slice_get}
 use Rattle.std.proofs.lemmas.List.{append-nil}
 use Rattle.nd_value.specs.declared.value.Graph.{Graph}

@@ -19,7 +19,8 @@ use Rattle.nd_flat.specs.declared.records.Members.{Members}
 use Rattle.nd_flat.specs.declared.records.Records.{Records}
 use Rattle.nd_flat.specs.declared.records.KeptRecords.{KeptRecords}
 use Rattle.nd_flat.specs.declared.records.RecordsLeft.{RecordsLeft}
-use Rattle.nd_flat.specs.Records.{gap, place, end_from, widest_from, stride, records_len, member_flats, records_flats, IsMembers, members_of, IsRecords, all_records, HasRecords, kept_flats, members_left, records_left, HasLeft, IsOver, no_records, next_prim, next_value, member_passed, next_begun, after_this, first_begun, some_passed}
+use Rattle.nd_flat.specs.Records.{gap, place, end_from, widest_from, stride, records_len, member_flats, records_flats, IsMembers, members_of, IsRecords, all_records, HasRecords, kept_flats}
+use Rattle.nd_flat.specs.Records.{members_left, records_left, HasLeft, IsOver, no_records, next_prim, next_value, member_passed, next_begun, after_this, first_begun, some_passed}
 
 -- ## Lists
 

@@ -1,5 +1,6 @@
 -- Lemmas of lists, their items by number, and what is kept of them by `take` and `drop`.
-use Rattle.std.proofs.Common.{◌≡◌, ◌<◌, ℕ, ◌+◌, zero, suc, List, [], ◌∷◌, ◌++◌, length, refl, arith, Bool, true, ap, Some, take, sym, ◌∙◌, subst, drop, slice_get, add-one, get_or, set, false, ◌≤◌, None, ap₂, length-append, append_assoc}
+use Rattle.std.proofs.Common.{◌≡◌, ◌<◌, ℕ, ◌+◌, zero, suc, List, [], ◌∷◌, ◌++◌, length, refl, arith, Bool, true, ap, Some, take, sym, ◌∙◌, subst, drop, slice_get, add-one, get_or, set, false, ◌≤◌}
+use Rattle.std.proofs.Common.{None, ap₂, length-append, append_assoc}
 use Rattle.std.proofs.Math.Seq.{take-append_seam, take-suc}
 use Rattle.std.proofs.lemmas.List.{drop_more}
 use Rattle.std.proofs.lemmas.Option.{same_Some, slice_get_within, get_or_from_slice_get}

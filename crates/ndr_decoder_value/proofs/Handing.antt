@@ -16,7 +16,8 @@ use Rattle.ndr_decoder_laws.specs.declared.first.First.{First}
 use Rattle.ndr_decoder_laws.specs.declared.first.Member.{Member}
 use Rattle.ndr_decoder_laws.specs.declared.frame.Frame.{Frame}
 use Rattle.ndr_decoder_laws.specs.declared.frame.Frame.TheVariants as frame
-use Rattle.ndr_decoder_laws.specs.steps.Steps.{State, Outcome, goes, refused, whole, next, popped_to, with_members, with_tag, tag_form, tag_step, elements, call_from, back_to, close_of, is_owing, disagreed, try_all, checked, check_in, place_of, place_in, first_found, first_number}
+use Rattle.ndr_decoder_laws.specs.steps.Steps.{State, Outcome, goes, refused, whole, next, popped_to, with_members, with_tag, tag_form, tag_step, elements, call_from, back_to, close_of, is_owing}
+use Rattle.ndr_decoder_laws.specs.steps.Steps.{disagreed, try_all, checked, check_in, place_of, place_in, first_found, first_number}
 use Rattle.ndr_decoder_state.specs.declared.fault.DecodeFault.{DecodeFault}
 use Rattle.ndr_decoder_state.specs.declared.fault.DecodeFault.TheVariants as fault
 use Rattle.ndr_decoder_state.specs.declared.fault.Progress.{Progress}

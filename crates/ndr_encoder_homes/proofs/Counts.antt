@@ -1,6 +1,7 @@
 -- The homes of a graph that conforms can be counted, and so can its pipes.
 -- `t` is a type's number, `l` a label, `ks` are its children, `v` is a value, `k` the greatest count of a chunk, `x` a value as a whole, `j` a pipe's place among the pipes.
-use Rattle.std.proofs.Common.{◌≡◌, ℕ, ◌+◌, ◌*◌, ◌^◌, ◌<◌, ◌≤◌, zero, suc, ℤ, Bool, true, false, List, [], ◌∷◌, ◌++◌, length, map, drop, Option, Some, None, refl, ap, ap₂, sym, ◌∙◌, subst, arith, length-append}
+use Rattle.std.proofs.Common.{◌≡◌, ℕ, ◌+◌, ◌*◌, ◌^◌, ◌<◌, ◌≤◌, zero, suc, ℤ, Bool, true, false, List, [], ◌∷◌, ◌++◌, length, map, drop, Option, Some, None, refl, ap, ap₂, sym, ◌∙◌, subst, arith}
+use Rattle.std.proofs.Common.{length-append}
 use Rattle.std.specs.Prelude.{◌==◌, replicate, flat_map}
 use Rattle.std.specs.List.{AllByRecursion, slice_get}
 use Rattle.std.proofs.lemmas.Bool.{and_parts, not-true as not_true}
@@ -19,7 +20,8 @@ use Rattle.nd_value.specs.Tree as tree
 use Rattle.nd_value.specs.Tree.{Tree, Trees, node, none, more, count, node_count, Label, flat, take_trees, drop_trees}
 use Rattle.nd_value.specs.Nodes.{child_types}
 use Rattle.nd_value.specs.Setting.{Setting, root_list, root_at}
-use Rattle.nd_value.specs.Deferral.{Pending, Due, due_referent, Step, Deferral, none_due, at_root, at_null, at_standing, at_referent, Placed_cells, due_roots, before_pipes, Standing, standing_root, standing_cell, due_of, home_pointers}
+use Rattle.nd_value.specs.Deferral.{Pending, Due, due_referent, Step, Deferral, none_due, at_root, at_null, at_standing, at_referent, Placed_cells, due_roots, before_pipes, Standing, standing_root}
+use Rattle.nd_value.specs.Deferral.{standing_cell, due_of, home_pointers}
 use Rattle.nd_value.specs.Conforms.{Conforms}
 use Rattle.nd_value.proofs.Apart.{all_append}
 use Rattle.nd_value.proofs.NodeFacts.{all_of_list}

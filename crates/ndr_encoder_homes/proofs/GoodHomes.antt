@@ -15,7 +15,8 @@ use Rattle.nd_value.specs.Tree as tree
 use Rattle.nd_value.specs.Tree.{Tree, Trees, node, none, more, Label, Referent, count, node_count, take_trees, drop_trees}
 use Rattle.nd_value.specs.Setting.{Setting, root_list, root_at, or_unread, cell_home, cell_at, cell_tree, cell_of_number}
 use Rattle.nd_value.specs.Nodes.{child_types}
-use Rattle.nd_value.specs.Deferral.{Pending, Due, due_roots, before_pipes, Step, Deferral, none_due, at_root, at_null, at_standing, at_referent, Placed_cells, Standing, standing_root, standing_by, standing_cell, direct, root_type, due_of}
+use Rattle.nd_value.specs.Deferral.{Pending, Due, due_roots, before_pipes, Step, Deferral, none_due, at_root, at_null, at_standing, at_referent, Placed_cells, Standing, standing_root, standing_by}
+use Rattle.nd_value.specs.Deferral.{standing_cell, direct, root_type, due_of}
 use Rattle.nd_value.specs.Homes.{HomeNode, in_home, root_nodes, cell_nodes, all_nodes}
 use Rattle.nd_value.specs.Misfit.{has_shape, misfit_of, names_cell, names_pointee, has_machine_values}
 use Rattle.nd_value.specs.Conforms.{Conforms}

@@ -1,5 +1,6 @@
 -- Numbers side by side: their pieces, and their octets.
-use Rattle.std.proofs.Common.{◌≡◌, ◌≢◌, ◌⊎◌, inl, inr, ℕ, ◌+◌, ◌-◌, ◌*◌, ◌<◌, zero, suc, ℤ, true, List, [], ◌∷◌, ◌++◌, length, take, drop, false, rules, length-append, refl, ap, ap₂, sym, ◌∙◌, subst, arith, append_assoc, append-nil, length-drop, drop-drop}
+use Rattle.std.proofs.Common.{◌≡◌, ◌≢◌, ◌⊎◌, inl, inr, ℕ, ◌+◌, ◌-◌, ◌*◌, ◌<◌, zero, suc, ℤ, true, List, [], ◌∷◌, ◌++◌, length, take, drop, false, rules, length-append, refl, ap, ap₂, sym, ◌∙◌, subst}
+use Rattle.std.proofs.Common.{arith, append_assoc, append-nil, length-drop, drop-drop}
 use Rattle.std.specs.Prelude.{◌==◌, ◌^◌, get_or, replicate}
 use Rattle.std.specs.List.{AllByRecursion}
 use Rattle.nd_base.specs.declared.octets.Order.{Order}

@@ -13,7 +13,8 @@ use Rattle.ndr_encoder_laws.specs.declared.frames.Frame.TheVariants.{Call}
 use Rattle.ndr_encoder_laws.specs.written.Run.{here, later, after, past_checks, stepped, run}
 use Rattle.ndr_encoder_structs.specs.declared.members.Member.{Member}
 use Rattle.ndr_encoder_structs.specs.declared.members.StructRun.{StructRun}
-use Rattle.ndr_encoder_structs.specs.Structs.{member_gap, member_piece, member_pieces, members_pieces, members_of, IsMember, IsNode, IsMemberRun, IsMemberCall, HasBegun, HasClosed, HasEnded, IsStructRun}
+use Rattle.ndr_encoder_structs.specs.Structs.{member_gap, member_piece, member_pieces, members_pieces, members_of, IsMember, IsNode, IsMemberRun, IsMemberCall, HasBegun, HasClosed, HasEnded}
+use Rattle.ndr_encoder_structs.specs.Structs.{IsStructRun}
 
 -- one step
 pub step_here : (code : List Instr) (m k n pc : ℕ) (frames : List Frame) (fs : List Flat)

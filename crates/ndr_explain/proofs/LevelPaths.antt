@@ -1,6 +1,7 @@
 -- Levels of a node's children.
 -- `L` is a level, `Ls` are levels, `p` is a path.
-use Rattle.std.proofs.Common.{◌≡◌, ℕ, ◌+◌, ◌-◌, ◌<◌, ◌≤◌, zero, suc, ℤ, List, [], ◌∷◌, ◌++◌, length, map, drop, replicate, reverse, Option, None, Some, codes, decimal, refl, ap, sym, ◌∙◌, subst, append_assoc, arith, option_map}
+use Rattle.std.proofs.Common.{◌≡◌, ℕ, ◌+◌, ◌-◌, ◌<◌, ◌≤◌, zero, suc, ℤ, List, [], ◌∷◌, ◌++◌, length, map, drop, replicate, reverse, Option, None, Some, codes, decimal, refl, ap, sym, ◌∙◌, subst}
+use Rattle.std.proofs.Common.{append_assoc, arith, option_map}
 use Rattle.std.specs.List.{slice_get}
 use Rattle.std.proofs.lemmas.Option.{same_Some}
 use Rattle.std.proofs.lemmas.List.{length-map, length-replicate, reverse-append, drop-drop}
@@ -17,7 +18,8 @@ use Rattle.nd_value.specs.Nodes.{child_types, selected_types}
 use Rattle.text_grammar.specs.Paths.{member_path, element_path, element_paths, arm_paths, child_paths}
 use Rattle.ndr_explain.specs.declared.levels.Level.{Level}
 use Rattle.ndr_explain.specs.declared.levels.Level.TheVariants as level
-use Rattle.ndr_explain.specs.Cursors.{index_paths, level_types, level_paths, child_path, field_path, path_to, types_after, paths_after, inner_types, inner_paths, IsLevelOf, valued_path, armed_paths, union_arm, elem_types, elem_paths, array_element, pipe_element}
+use Rattle.ndr_explain.specs.Cursors.{index_paths, level_types, level_paths, child_path, field_path, path_to, types_after, paths_after, inner_types, inner_paths, IsLevelOf, valued_path, armed_paths}
+use Rattle.ndr_explain.specs.Cursors.{union_arm, elem_types, elem_paths, array_element, pipe_element}
 use Rattle.nd_lemmas.proofs.Lists.{drop_past as drop_all}
 
 length_indices : (p : List ℕ) (i n : ℕ) → length (index_paths p i n) ≡ n

@@ -20,7 +20,8 @@ use Rattle.ndr_explain.specs.declared.levels.Level.{Level}
 use Rattle.ndr_explain.specs.declared.levels.Levels.{Levels}
 use Rattle.ndr_explain.specs.declared.located.Located.{Located}
 use Rattle.ndr_explain.specs.Explained.{path_in, label_in, string_shown, context_shown, value_shown, home_paths, home_flats}
-use Rattle.ndr_explain.specs.Cursors.{level_types, path_to, types_after, paths_after, types_from, paths_from, inner_types, inner_paths, HasChild, IsLevelOf, IsChildLevel, AreLevelsOf, IsAt, IsPast, Reaches, IsFound, IsLast, found_label}
+use Rattle.ndr_explain.specs.Cursors.{level_types, path_to, types_after, paths_after, types_from, paths_from, inner_types, inner_paths, HasChild, IsLevelOf, IsChildLevel, AreLevelsOf, IsAt, IsPast}
+use Rattle.ndr_explain.specs.Cursors.{Reaches, IsFound, IsLast, found_label}
 use Rattle.ndr_explain.proofs.LevelPaths.{path_first}
 use Rattle.ndr_explain.proofs.Walks.{ComesAfter, after_step, no_paths, path_here, path_later, drop_next, got_first, got_none}
 

@@ -1,6 +1,7 @@
 -- The nodes of values that are left in a walk, with their paths.
 -- `types` and `T` are types of values, `paths` and `P` their paths, `ks` are the children of a node, `us` and `w` values, `n` is a node's number.
-use Rattle.std.proofs.Common.{◌≡◌, ℕ, ◌+◌, ◌<◌, ◌≤◌, zero, suc, true, false, List, [], ◌∷◌, ◌++◌, length, drop, Option, None, Some, refl, ap, ap₂, sym, ◌∙◌, subst, append_assoc, add-zero, arith, length-append}
+use Rattle.std.proofs.Common.{◌≡◌, ℕ, ◌+◌, ◌<◌, ◌≤◌, zero, suc, true, false, List, [], ◌∷◌, ◌++◌, length, drop, Option, None, Some, refl, ap, ap₂, sym, ◌∙◌, subst, append_assoc, add-zero, arith}
+use Rattle.std.proofs.Common.{length-append}
 use Rattle.std.specs.List.{slice_get}
 use Rattle.std.proofs.lemmas.Bool.{eq-eqb, ne_eqb}
 use Rattle.std.proofs.lemmas.List.{drop-drop}

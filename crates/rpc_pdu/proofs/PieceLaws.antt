@@ -1,5 +1,6 @@
 -- Pieces are the fragments of a call.
-use Rattle.std.proofs.Common.{◌≡◌, ◌∙◌, ℕ, ◌+◌, ◌-◌, ◌^◌, ◌≤◌, ◌<◌, suc, zero, Bool, true, false, leb, ltb, eqb, not, ◌&&◌, List, [], ◌∷◌, ◌++◌, length, take, drop, Option, Some, None, refl, ap, sym, subst, arith, append_assoc}
+use Rattle.std.proofs.Common.{◌≡◌, ◌∙◌, ℕ, ◌+◌, ◌-◌, ◌^◌, ◌≤◌, ◌<◌, suc, zero, Bool, true, false, leb, ltb, eqb, not, ◌&&◌, List, [], ◌∷◌, ◌++◌, length, take, drop, Option, Some, None, refl, ap, sym}
+use Rattle.std.proofs.Common.{subst, arith, append_assoc}
 use Rattle.std.proofs.lemmas.Bool.Decides.{nat_tests}
 use Rattle.std.proofs.lemmas.List.{length-append, length-drop, length-take-le, take-append-drop, take_all}
 use Rattle.nd_base.specs.declared.TheConstants.{STREAM_LIMIT}
@@ -11,7 +12,8 @@ use Rattle.rpc_pdu.specs.declared.pdu.Head.{Head}
 use Rattle.rpc_pdu.specs.declared.pdu.Head.TheVariants as head
 use Rattle.rpc_pdu.specs.declared.pdu.Opening.{Opening}
 use Rattle.rpc_pdu.specs.declared.pdu.PduReason.{PduReason}
-use Rattle.rpc_pdu.specs.Fields.{version, pdu_type, type_of, is_first, is_last, label, order_of, fragment_length, authentication_length, call_id, header_length, operation_of, part_length, part_of, opening_of}
+use Rattle.rpc_pdu.specs.Fields.{version, pdu_type, type_of, is_first, is_last, label, order_of, fragment_length, authentication_length, call_id, header_length, operation_of, part_length, part_of}
+use Rattle.rpc_pdu.specs.Fields.{opening_of}
 use Rattle.rpc_pdu.specs.Checks.{Before, Check, check, nothing, after, opened, first_failing, wrong_first, other_order, other_call, other_operation, differ, checks, is_refused}
 use Rattle.rpc_pdu.specs.Fragments.{IsFragment, AreEarlier, none_earlier, one_more, Fragments}
 use Rattle.rpc_pdu.specs.Pieces.{want_of, opnum_of, HeadFits, flags_for, header, fragment, pieces_from, Pieces}

@@ -7,7 +7,8 @@ use Rattle.rpc_pdu.specs.declared.pdu.PduReason.TheVariants as why
 use Rattle.rpc_pdu.specs.Fields.{has_object, fragment_length, header_length, part_of, opening_of}
 use Rattle.rpc_pdu.specs.Checks.{Before, Check, first_failing, is_short, common_checks, whole_checks, refusal, after, opened}
 use Rattle.rpc_pdu.specs.Fragments.{IsFragment}
-use Rattle.rpc_pdu.proofs.Checking.{Answer, NotShort, Pass, each_passes, passes, passed, both_pass, alike_after, group_step, short_step, longer, below_or, common_same, header_same, length_same, whole_same, opening_same, least_header}
+use Rattle.rpc_pdu.proofs.Checking.{Answer, NotShort, Pass, each_passes, passes, passed, both_pass, alike_after, group_step, short_step, longer, below_or, common_same, header_same, length_same}
+use Rattle.rpc_pdu.proofs.Checking.{whole_same, opening_same, least_header}
 use Rattle.std.proofs.lemmas.Bool.{le-ltb as not_below}
 
 abbrev pub end_checks : Before → List ℕ → List Check

@@ -1,6 +1,7 @@
 -- Nodes with their numbers and paths.
 -- `m` and `n` are numbers of nodes, `p` and `q` paths, `v` is a value, `vs` are values.
-use Rattle.std.proofs.Common.{◌≡◌, ℕ, ◌+◌, ◌<◌, ◌≤◌, ◌⊎◌, inl, inr, zero, suc, ℤ, List, [], ◌∷◌, ◌++◌, map, take, replicate, Option, None, Some, refl, ap, ap₂, sym, ◌∙◌, subst, append-nil, add-zero, arith}
+use Rattle.std.proofs.Common.{◌≡◌, ℕ, ◌+◌, ◌<◌, ◌≤◌, ◌⊎◌, inl, inr, zero, suc, ℤ, List, [], ◌∷◌, ◌++◌, map, take, replicate, Option, None, Some, refl, ap, ap₂, sym, ◌∙◌, subst, append-nil, add-zero}
+use Rattle.std.proofs.Common.{arith}
 use Rattle.std.specs.List.{slice_get}
 use Rattle.std.proofs.lemmas.Option.{same_Some}
 use Rattle.nd_types.specs.declared.types.Arm.{Arm}

@@ -1,6 +1,7 @@
 -- What is written step by step, as a walk comes to nodes, is the text of the values that came next.
 -- `types` are types of values, `w` are the values that are left in a walk, `f`, `g` make one text of many.
-use Rattle.std.proofs.Common.{◌≡◌, ℕ, ◌+◌, ◌-◌, zero, suc, add-one, ℤ, Bool, true, List, [], ◌∷◌, ◌++◌, length, take, drop, map, replicate, Option, Some, codes, refl, ap, ap₂, sym, ◌∙◌, subst, append_assoc, append-nil}
+use Rattle.std.proofs.Common.{◌≡◌, ℕ, ◌+◌, ◌-◌, zero, suc, add-one, ℤ, Bool, true, List, [], ◌∷◌, ◌++◌, length, take, drop, map, replicate, Option, Some, codes, refl, ap, ap₂, sym, ◌∙◌, subst}
+use Rattle.std.proofs.Common.{append_assoc, append-nil}
 use Rattle.std.specs.Fmt.{signed_decimal}
 use Rattle.std.proofs.lemmas.List.{length-replicate}
 use Rattle.nd_types.specs.declared.types.TypeDef.{TypeDef}

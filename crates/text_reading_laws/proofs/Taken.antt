@@ -1,7 +1,8 @@
 -- Where reading comes to its end, a value that was due has taken the tokens of one of its type.
 -- `y` is what has been read at the end, `t` a type's number, `d` a type, `ds` are dues, `nb` the cells that have a type, `k` how many have a line,
 -- `ts` are tokens, `n` a number that their length does not pass.
-use Rattle.std.proofs.Common.{◌≡◌, ◌⊎◌, inl, inr, ℕ, zero, suc, ◌+◌, ◌≤◌, ℤ, pos, Bool, true, false, ◌&&◌, cond, eqb, List, [], ◌∷◌, ◌++◌, length, map, replicate, get_or, Option, Some, None, Ok, refl, ap, sym, subst, ◌∙◌, append_assoc, arith, length-append, codes}
+use Rattle.std.proofs.Common.{◌≡◌, ◌⊎◌, inl, inr, ℕ, zero, suc, ◌+◌, ◌≤◌, ℤ, pos, Bool, true, false, ◌&&◌, cond, eqb, List, [], ◌∷◌, ◌++◌, length, map, replicate, get_or, Option, Some, None, Ok, refl}
+use Rattle.std.proofs.Common.{ap, sym, subst, ◌∙◌, append_assoc, arith, length-append, codes}
 use Rattle.std.specs.List.{list_all}
 use Rattle.std.proofs.lemmas.Bool.{and_parts, and_from, both_ways, ltb-true, eqb-true, eq-eqb}
 use Rattle.std.proofs.lemmas.Option.{slice_get-get_or}
@@ -25,14 +26,17 @@ use Rattle.nd_value.specs.Misfit.{is_octet, is_count}
 use Rattle.text_grammar.specs.declared.version.Version.{Version}
 use Rattle.text_grammar.specs.declared.version.Version.TheVariants as version
 use Rattle.text_grammar.specs.Tokens.{Token, Word, Number, Cell, Str, Bytes, Uuid, Mark}
-use Rattle.text_grammar.specs.Written.{Piece, Name, Other, token_of, comma, colon, equals, word, separated, members, named, octets_in, writes_octets, list_pieces, arm_pieces, node_pieces, values_pieces, value_pieces}
+use Rattle.text_grammar.specs.Written.{Piece, Name, Other, token_of, comma, colon, equals, word, separated, members, named, octets_in, writes_octets, list_pieces, arm_pieces, node_pieces}
+use Rattle.text_grammar.specs.Written.{values_pieces, value_pieces}
 use Rattle.text_grammar.specs.Readable.{has_maximum, has_offset, are_octets, may_be_elements, has_text_form}
-use Rattle.text_grammar.specs.Dues.{Due, This, ACount, AString, AUuid, FirstElement, NextElement, AValue, Reading, separated_dues, count_dues, list_dues, arm_dues, value_dues, closes, may_end, all_read}
+use Rattle.text_grammar.specs.Dues.{Due, This, ACount, AString, AUuid, FirstElement, NextElement, AValue, Reading, separated_dues, count_dues, list_dues, arm_dues, value_dues, closes, may_end}
+use Rattle.text_grammar.specs.Dues.{all_read}
 use Rattle.text_reading_laws.specs.Values.{reading, have_forms, noted, value_tokens}
 use Rattle.text_reading_laws.specs.Real.{is_real}
 use Rattle.text_reading_laws.proofs.Alike.{all_open, all_element}
 use Rattle.text_reading_laws.proofs.ValuesRead.{tail, separated_tail, member_due, member_tail, separated_members, map_both, value_read}
-use Rattle.text_reading_laws.proofs.Steps.{real_rest, real_others, not_yet, this_taken, number_taken, count_taken, string_taken, bytes_taken, uuid_taken, tag_taken, PointerTaken, null_taken, cell_taken, pointer_taken, bracket_or_comma}
+use Rattle.text_reading_laws.proofs.Steps.{real_rest, real_others, not_yet, this_taken, number_taken, count_taken, string_taken, bytes_taken, uuid_taken, tag_taken, PointerTaken, null_taken}
+use Rattle.text_reading_laws.proofs.Steps.{cell_taken, pointer_taken, bracket_or_comma}
 
 -- ## The types of a table that names none but its own
 

@@ -10,7 +10,8 @@ use Rattle.idl_grammar.specs.declared.attributes.PointerClass.TheVariants as cla
 use Rattle.idl_grammar.specs.Tree.{TypeSpec}
 use Rattle.idl_grammar.specs.Tree as tree
 use Rattle.idl_rule_definitions.specs.Nodes.{Construct}
-use Rattle.idl_rule_definitions.specs.Types.{IdlType, Basic, Struct, Union, Enum, Array, Text, Pointer, Pipe, Names, is_array, is_text, is_pipe, is_pointer, is_reference, is_conformant_array, is_conformant_text, is_varying_array}
+use Rattle.idl_rule_definitions.specs.Types.{IdlType, Basic, Struct, Union, Enum, Array, Text, Pointer, Pipe, Names, is_array, is_text, is_pipe, is_pointer, is_reference, is_conformant_array}
+use Rattle.idl_rule_definitions.specs.Types.{is_conformant_text, is_varying_array}
 use Rattle.idl_rule_definitions.specs.Scene.{Scene, Body, body_of, is_nonencapsulated, is_nonencapsulated_body, is_found_nonencapsulated}
 use Rattle.idl_rule_definitions.specs.VariableRules.{is_integer, may_be_switched}
 use Rattle.idl_rule_definitions.specs.Meaning.{struct_of, defined_by, defined_at, body_if, is_struct, is_union, is_enum}

@@ -9,7 +9,8 @@ use Rattle.idl_grammar.specs.declared.attributes.PointerClass.{PointerClass}
 use Rattle.idl_grammar.specs.Tree.{Attribute}
 use Rattle.idl_rule_definitions.specs.Attributes.{has, has_one_of, class_in, sizes, lengths, string_word}
 use Rattle.idl_rule_definitions.specs.Nodes.{Position, InMember, InParameter, Declared}
-use Rattle.idl_rule_definitions.specs.Types.{IdlType, Array, Text, Pointer, Names, type_of, declared_type, with_attributes, class_or, text_of, sized, is_array, is_text, is_conformant_array, is_conformant_text, is_varying_array}
+use Rattle.idl_rule_definitions.specs.Types.{IdlType, Array, Text, Pointer, Names, type_of, declared_type, with_attributes, class_or, text_of, sized, is_array, is_text, is_conformant_array}
+use Rattle.idl_rule_definitions.specs.Types.{is_conformant_text, is_varying_array}
 use Rattle.idl_rule_definitions.specs.Scene.{Scene}
 use Rattle.idl_rule_definitions.specs.Rules.{breaches_in}
 use Rattle.idl_rule_definitions.specs.VariableRules.{may_be_sized, may_vary, is_listed}

@@ -22,7 +22,11 @@ use Rattle.idl_scope.specs.Steps.{parameters_of}
 use Rattle.idl_scope.specs.Known.{Known}
 use Rattle.idl_rule_definitions.specs.World.{World}
 use Rattle.idl_rule_definitions.specs.Attributes.{switch_type_in}
-use Rattle.idl_rule_definitions.specs.Nodes.{Construct, Position, InTypedef, InTaggedType, InMember, InArm, InCasedArm, InOperation, Declared, declared, inside, declared_members, parameter_construct, declared_parameters, attribute_nodes, attribute_nodes_from, switch_node, switch_nodes, declarator_nodes, ArmLabel, LabelledArm, arms_of, labels_of, label_nodes, type_nodes, member_nodes, case_nodes, arms_nodes, arm_nodes, parameter_nodes, typedef_node, result_of, operation_nodes, export_nodes, header_of, file_nodes, nodes, Node, HeaderNode, AttributeNode, SwitchNode, TagNode, BodyNode, EnumeratorNode, LabelNode, EmptyArmNode, DeclaratorNode, ConstantNode, TypeNode, OperationNode}
+use Rattle.idl_rule_definitions.specs.Nodes.{Construct, Position, InTypedef, InTaggedType, InMember, InArm, InCasedArm, InOperation, Declared, declared, inside, declared_members, parameter_construct}
+use Rattle.idl_rule_definitions.specs.Nodes.{declared_parameters, attribute_nodes, attribute_nodes_from, switch_node, switch_nodes, declarator_nodes, ArmLabel, LabelledArm, arms_of, labels_of}
+use Rattle.idl_rule_definitions.specs.Nodes.{label_nodes, type_nodes, member_nodes, case_nodes, arms_nodes, arm_nodes, parameter_nodes, typedef_node, result_of, operation_nodes, export_nodes}
+use Rattle.idl_rule_definitions.specs.Nodes.{header_of, file_nodes, nodes, Node, HeaderNode, AttributeNode, SwitchNode, TagNode, BodyNode, EnumeratorNode, LabelNode, EmptyArmNode, DeclaratorNode}
+use Rattle.idl_rule_definitions.specs.Nodes.{ConstantNode, TypeNode, OperationNode}
 use Rattle.idl_rule_definitions.specs.Types.{IdlType, Void, Handle, ContextHandle, Basic, Struct, Union, Enum, Array, Text, Pointer, Pipe, Names}
 use Rattle.idl_rule_definitions.specs.Scene.{Scoped, Scene, scoped_from, scene_of, names_behind, Body, body_by, body_among, bodies, body_of, place_of, same_place, type_of_body}
 use Rattle.idl_rule_definitions.specs.Rules.{breaches_in}

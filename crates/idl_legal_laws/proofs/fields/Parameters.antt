@@ -15,7 +15,8 @@ use Rattle.idl_grammar.specs.Tree.{TypeSpec}
 use Rattle.idl_grammar.specs.Tree as tree
 use Rattle.idl_rule_definitions.specs.Attributes.{has, in_word, out_word}
 use Rattle.idl_rule_definitions.specs.Nodes.{Construct, Position, InParameter, result_of, DeclaratorNode}
-use Rattle.idl_rule_definitions.specs.Types.{IdlType, Void, Handle, ContextHandle, Basic, Struct, Union, Enum, Array, Text, Pointer, Pipe, Names, type_of, is_handle, is_array, is_text, is_pipe, is_pointer, is_reference}
+use Rattle.idl_rule_definitions.specs.Types.{IdlType, Void, Handle, ContextHandle, Basic, Struct, Union, Enum, Array, Text, Pointer, Pipe, Names, type_of, is_handle, is_array, is_text, is_pipe}
+use Rattle.idl_rule_definitions.specs.Types.{is_pointer, is_reference}
 use Rattle.idl_rule_definitions.specs.Scene.{Scene, Body, body_of, use_of}
 use Rattle.idl_rule_definitions.specs.Rules.{breaches_at, breaches_in}
 use Rattle.idl_rule_definitions.specs.DeclarationRules.{is_parameter}

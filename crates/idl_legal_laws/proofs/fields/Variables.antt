@@ -28,7 +28,8 @@ use Rattle.idl_rule_definitions.specs.Types.{IdlType, Void, Handle, ContextHandl
 use Rattle.idl_rule_definitions.specs.Scene.{Scene, use_of, is_nonencapsulated, chain}
 use Rattle.idl_rule_definitions.specs.Rules.{breaches_in}
 use Rattle.idl_rule_definitions.specs.DeclarationRules.{is_parameter}
-use Rattle.idl_rule_definitions.specs.VariableRules.{Listed, listed_from, passes, passes_listed, is_right_variable, variable_if, variables, is_integer, may_be_switched, is_switched, is_switched_place, below_pointer, is_other}
+use Rattle.idl_rule_definitions.specs.VariableRules.{Listed, listed_from, passes, passes_listed, is_right_variable, variable_if, variables, is_integer, may_be_switched, is_switched, is_switched_place}
+use Rattle.idl_rule_definitions.specs.VariableRules.{below_pointer, is_other}
 use Rattle.idl_rule_definitions.specs.Numbering.{number_of_type}
 use Rattle.idl_rule_definitions.specs.Meaning.{index_in, attr_var, vars_of, field_vars, field, types_of}
 use Rattle.std.proofs.lemmas.Bool.{or_parts as none_of, and_parts as both_of}

@@ -24,8 +24,11 @@ use Rattle.idl_grammar.specs.Tree.{Attribute, Bound, TypeSpec}
 use Rattle.idl_grammar.specs.Tree as tree
 use Rattle.idl_scope.specs.Known.{Known}
 use Rattle.idl_rule_definitions.specs.Attributes.{has, has_one_of, sizes, lengths, string_word}
-use Rattle.idl_rule_definitions.specs.Nodes.{Declared, Node, HeaderNode, AttributeNode, SwitchNode, TagNode, BodyNode, EnumeratorNode, LabelNode, EmptyArmNode, DeclaratorNode, ConstantNode, TypeNode, OperationNode}
-use Rattle.idl_rule_definitions.specs.Types.{IdlType, Void, Handle, ContextHandle, Basic, Struct, Union, Enum, Array, Text, Pointer, Pipe, Names, type_of, is_array, is_text, is_conformant_text, is_varying_array, simple_type, tagged_type, written_type, with_stars, with_dimensions, with_declarator, outermost_class, text_of, sized, with_attributes, pipe_or_plain, type_before, declared_from, declared_type, is_context_handle}
+use Rattle.idl_rule_definitions.specs.Nodes.{Declared, Node, HeaderNode, AttributeNode, SwitchNode, TagNode, BodyNode, EnumeratorNode, LabelNode, EmptyArmNode, DeclaratorNode, ConstantNode, TypeNode}
+use Rattle.idl_rule_definitions.specs.Nodes.{OperationNode}
+use Rattle.idl_rule_definitions.specs.Types.{IdlType, Void, Handle, ContextHandle, Basic, Struct, Union, Enum, Array, Text, Pointer, Pipe, Names, type_of, is_array, is_text, is_conformant_text}
+use Rattle.idl_rule_definitions.specs.Types.{is_varying_array, simple_type, tagged_type, written_type, with_stars, with_dimensions, with_declarator, outermost_class, text_of, sized, with_attributes}
+use Rattle.idl_rule_definitions.specs.Types.{pipe_or_plain, type_before, declared_from, declared_type, is_context_handle}
 use Rattle.idl_rule_definitions.specs.Scene.{Scoped, Scene, use_of, Body, body_of, chain, type_of_body, hoists}
 use Rattle.idl_rule_definitions.specs.ArrayRules.{dimensions, is_few, is_right_count, times, product, has_wrong_count, are_many, has_many_not_fixed, has_wrong_element}
 use Rattle.idl_rule_definitions.specs.VariableRules.{is_octet, may_be_text}

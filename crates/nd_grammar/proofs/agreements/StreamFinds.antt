@@ -1,5 +1,6 @@
 -- Each agreement that a stream of a sound graph tries stands after the count or tag that it speaks of.
-use Rattle.std.proofs.Common.{◌≡◌, ℕ, ◌+◌, ◌<◌, ◌≤◌, ◌-◌, zero, suc, true, false, List, [], ◌∷◌, ◌++◌, length, Option, Some, None, refl, ap, sym, ◌∙◌, inl, inr, ◌⊎◌, arith, subst, replicate, append_assoc, drop}
+use Rattle.std.proofs.Common.{◌≡◌, ℕ, ◌+◌, ◌<◌, ◌≤◌, ◌-◌, zero, suc, true, false, List, [], ◌∷◌, ◌++◌, length, Option, Some, None, refl, ap, sym, ◌∙◌, inl, inr, ◌⊎◌, arith, subst, replicate}
+use Rattle.std.proofs.Common.{append_assoc, drop}
 use Rattle.std.specs.Prelude.{flat_map, map, sum}
 use Rattle.std.specs.List.{AllByRecursion, slice_get}
 use Rattle.std.proofs.lemmas.Grind.{flat_map-append}
@@ -22,7 +23,8 @@ use Rattle.nd_value.specs.Tree.{Tree, Trees, node, none, more, Label, Referent, 
 use Rattle.nd_value.specs.Agreement.{Agreement, agreement}
 use Rattle.nd_value.specs.Setting.{Setting, root_list, root_at, or_unread, cell_at, cell_tree, cell_of_number, cell_home}
 use Rattle.nd_value.specs.Nodes.{TypedNode, nodes_of, child_types, child_agreements, first_agreements, rest_agreements}
-use Rattle.nd_value.specs.Deferral.{Pending, pointer, pointer_by, home_pointers, Due, due_root, due_referent, due_roots, before_pipes, Step, Deferral, none_due, at_root, at_null, at_standing, at_referent, Placed_cells, IsPlacedFull, Standing, standing_root, standing_by, standing_cell, root_type, root_cell, direct, due_of}
+use Rattle.nd_value.specs.Deferral.{Pending, pointer, pointer_by, home_pointers, Due, due_root, due_referent, due_roots, before_pipes, Step, Deferral, none_due, at_root, at_null, at_standing}
+use Rattle.nd_value.specs.Deferral.{at_referent, Placed_cells, IsPlacedFull, Standing, standing_root, standing_by, standing_cell, root_type, root_cell, direct, due_of}
 use Rattle.nd_value.specs.Variables.{root_agreements, variable}
 use Rattle.nd_value.proofs.Apart.{all_append, all_left, all_right}
 use Rattle.nd_value.proofs.NodeFacts.{IsSound}
@@ -38,7 +40,8 @@ use Rattle.nd_grammar.proofs.next.NextPipes.{sum_first, count_drop, known_take, 
 use Rattle.nd_grammar.proofs.next.NextStream.{IsLaidOut, IsPipeRoot, drop_at}
 use Rattle.nd_lemmas.proofs.Lists.{all_at}
 use Rattle.nd_grammar.proofs.next.PointerPlaces.{root_there}
-use Rattle.nd_grammar.proofs.agreements.TestsFind.{IsReadKind, Finds, onto, behind, Within, still_seen, now_seen, kinds_find, is_read, AttrFits, AllFit, AgsFit, stands_more, HasSubjects, tests_find, child_fits, in_place_find, NodeStands, whole_find, whole_stands}
+use Rattle.nd_grammar.proofs.agreements.TestsFind.{IsReadKind, Finds, onto, behind, Within, still_seen, now_seen, kinds_find, is_read, AttrFits, AllFit, AgsFit, stands_more, HasSubjects, tests_find}
+use Rattle.nd_grammar.proofs.agreements.TestsFind.{child_fits, in_place_find, NodeStands, whole_find, whole_stands}
 
 -- what an agreement of a parameter speaks of is in its subject's type
 abbrev pub RootFits : Table → Root → Type 0

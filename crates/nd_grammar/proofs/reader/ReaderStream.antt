@@ -1,5 +1,6 @@
 -- What a whole stream that is read says: its graph is a partial one, its entries are a stream of it, and reading goes over them.
-use Rattle.std.proofs.Common.{◌≡◌, ℕ, ◌+◌, ◌^◌, ◌<◌, ◌≤◌, zero, suc, Bool, true, false, List, [], ◌∷◌, ◌++◌, length, Some, refl, ap, ap₂, sym, ◌∙◌, inl, inr, arith, subst, replicate, drop, append_assoc, length-append}
+use Rattle.std.proofs.Common.{◌≡◌, ℕ, ◌+◌, ◌^◌, ◌<◌, ◌≤◌, zero, suc, Bool, true, false, List, [], ◌∷◌, ◌++◌, length, Some, refl, ap, ap₂, sym, ◌∙◌, inl, inr, arith, subst, replicate, drop}
+use Rattle.std.proofs.Common.{append_assoc, length-append}
 use Rattle.std.specs.Prelude.{map, flat_map, filter, cond, not, nat_le}
 use Rattle.std.specs.List.{AllByRecursion, slice_get, list_all}
 use Rattle.std.proofs.lemmas.List.{append-nil, length-replicate}

@@ -1,5 +1,6 @@
 -- One step of the reader over what is due: the state after it, and the step of deferral that it is.
-use Rattle.std.proofs.Common.{◌≡◌, ℕ, ◌+◌, ◌*◌, ◌≤◌, zero, suc, Bool, true, false, List, [], ◌∷◌, ◌++◌, length, Option, Some, None, refl, ap, sym, ◌∙◌, inl, inr, arith, subst, append_assoc, length-append}
+use Rattle.std.proofs.Common.{◌≡◌, ℕ, ◌+◌, ◌*◌, ◌≤◌, zero, suc, Bool, true, false, List, [], ◌∷◌, ◌++◌, length, Option, Some, None, refl, ap, sym, ◌∙◌, inl, inr, arith, subst, append_assoc}
+use Rattle.std.proofs.Common.{length-append}
 use Rattle.std.specs.Prelude.{map, flat_map, eqb, ◌||◌}
 use Rattle.std.specs.List.{AllByRecursion, slice_get}
 use Rattle.std.proofs.lemmas.Bool.{eqb-true, eqb-false}
@@ -10,7 +11,8 @@ use Rattle.nd_types.specs.Number.{AreOctets}
 use Rattle.nd_value.specs.declared.value.Graph.{Graph}
 use Rattle.nd_value.specs.Tree.{Tree, Referent}
 use Rattle.nd_value.specs.Setting.{Setting, cell_home, cell_at, cell_tree}
-use Rattle.nd_value.specs.Deferral.{Pending, Due, due_root, due_referent, due_roots, due_of, home_pointers, IsPlaced, IsPlacedFull, Placed_cells, Step, root_stands, referent_stands, stands_already, Deferral, at_root, at_null, at_standing, at_referent, Standing, standing_root, standing_cell, root_cell, AreFree}
+use Rattle.nd_value.specs.Deferral.{Pending, Due, due_root, due_referent, due_roots, due_of, home_pointers, IsPlaced, IsPlacedFull, Placed_cells, Step, root_stands, referent_stands, stands_already}
+use Rattle.nd_value.specs.Deferral.{Deferral, at_root, at_null, at_standing, at_referent, Standing, standing_root, standing_cell, root_cell, AreFree}
 use Rattle.nd_value.specs.Conforms.{ShareOnlyIfFull}
 use Rattle.nd_value.proofs.Apart.{all_append, all_left, all_among, among_left, earlier_meets}
 use Rattle.nd_grammar.specs.LegalSide.{IsLegalSide}

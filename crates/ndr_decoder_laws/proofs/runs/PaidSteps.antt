@@ -32,7 +32,10 @@ use Rattle.ndr_decoder_laws.specs.declared.frame.Frame.{Frame}
 use Rattle.ndr_decoder_laws.specs.declared.frame.Frame.TheVariants as frame
 use Rattle.ndr_decoder_laws.specs.declared.first.First.{First}
 use Rattle.ndr_decoder_laws.specs.declared.first.Member.{Member}
-use Rattle.ndr_decoder_laws.specs.steps.Steps.{State, Outcome, goes, refused, whole, Phase, begun, gap_read, offset_read, count_read, tag_form, wants, text_want, jumped, next, past, with_node, with_frames, pushed, popped_to, popped, with_members, with_fresh, with_names, with_max, with_tag, done_after, elements, arm_taken, call_from, back_to, close_of, owing, new_cell, full_by, pointer_step, place_of, joined_by, first_number, first_found, place_in, is_owing, disagreed, try_all, checked, check_in, text_done, limit_of, number_step, vary_by, text_by, hoist_by, tag_step, step}
+use Rattle.ndr_decoder_laws.specs.steps.Steps.{State, Outcome, goes, refused, whole, Phase, begun, gap_read, offset_read, count_read, tag_form, wants, text_want, jumped, next, past, with_node}
+use Rattle.ndr_decoder_laws.specs.steps.Steps.{with_frames, pushed, popped_to, popped, with_members, with_fresh, with_names, with_max, with_tag, done_after, elements, arm_taken, call_from, back_to}
+use Rattle.ndr_decoder_laws.specs.steps.Steps.{close_of, owing, new_cell, full_by, pointer_step, place_of, joined_by, first_number, first_found, place_in, is_owing, disagreed, try_all, checked}
+use Rattle.ndr_decoder_laws.specs.steps.Steps.{check_in, text_done, limit_of, number_step, vary_by, text_by, hoist_by, tag_step, step}
 use Rattle.ndr_code.specs.Fields.{prim_of}
 use Rattle.ndr_decoder_laws.specs.steps.Good.{HasOctets}
 use Rattle.ndr_decoder_laws.specs.runs.Reaching.{Reaches, begins, steps_to}

@@ -28,7 +28,8 @@ use Rattle.ndr_decoder_laws.specs.steps.Steps.{State, begun, number_step, own_by
 use Rattle.ndr_code.specs.Fields.{prim_of}
 use Rattle.ndr_decoder_laws.specs.steps.StepItems.{gap_items, item_here, step_items}
 use Rattle.ndr_decoder_laws.specs.runs.Reaching.{Reaches, steps_to}
-use Rattle.ndr_decoder_laws.specs.runs.Records.{Slot, IsNumberAt, IsSlotRun, AreSlots, IsNumberRecord, IsAmongElements, slots_len, slot_octets, after_slot, slot_flats, slot_items, record_read, records_read, IsRecordRun, next_place, records_len, record_flats, record_items, EndsWithin, slots_came, records_came}
+use Rattle.ndr_decoder_laws.specs.runs.Records.{Slot, IsNumberAt, IsSlotRun, AreSlots, IsNumberRecord, IsAmongElements, slots_len, slot_octets, after_slot, slot_flats, slot_items, record_read}
+use Rattle.ndr_decoder_laws.specs.runs.Records.{records_read, IsRecordRun, next_place, records_len, record_flats, record_items, EndsWithin, slots_came, records_came}
 use Rattle.ndr_decoder_laws.proofs.runs.RowSteps.{length_left}
 use Rattle.nd_lemmas.proofs.Lists.{none_of_none as no_octets_at}
 

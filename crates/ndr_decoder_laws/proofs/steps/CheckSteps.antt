@@ -1,5 +1,6 @@
 -- `check`: an agreement of a struct's member, and the end of the struct after the last one.
-use Rattle.std.proofs.Common.{◌≡◌, ◌≤◌, ◌<◌, ◌⊎◌, inl, inr, ℕ, ◌+◌, suc, Bool, true, false, List, [], ◌∷◌, ◌++◌, length, Option, Some, None, refl, ap, ap₂, sym, ◌∙◌, subst, arith, append_assoc, length-append, map}
+use Rattle.std.proofs.Common.{◌≡◌, ◌≤◌, ◌<◌, ◌⊎◌, inl, inr, ℕ, ◌+◌, suc, Bool, true, false, List, [], ◌∷◌, ◌++◌, length, Option, Some, None, refl, ap, ap₂, sym, ◌∙◌, subst, arith, append_assoc}
+use Rattle.std.proofs.Common.{length-append, map}
 use Rattle.std.specs.Prelude.{ℤ, cond, option_map, if◌then◌else◌}
 use Rattle.std.specs.List.{AllByRecursion, slice_get}
 use Rattle.std.specs.Ordering.{int_eq}
@@ -37,7 +38,8 @@ use Rattle.ndr_decoder_laws.specs.declared.first.Member.{Member}
 use Rattle.ndr_decoder_laws.specs.declared.frame.Frame.{Frame}
 use Rattle.ndr_decoder_laws.specs.declared.frame.Frame.TheVariants as frame
 use Rattle.ndr_decoder_laws.specs.steps.Spots.{IsFine, IsStruct, Inside, Fits, IsShaped, AreShaped, at_member, types_of}
-use Rattle.ndr_decoder_laws.specs.steps.Steps.{State, Outcome, goes, refused, Owed, begun, next, with_fresh, joined_by, check_in, checked, try_all, disagreed, place_of, place_in, first_of, first_number, first_found, is_owing}
+use Rattle.ndr_decoder_laws.specs.steps.Steps.{State, Outcome, goes, refused, Owed, begun, next, with_fresh, joined_by, check_in, checked, try_all, disagreed, place_of, place_in, first_of}
+use Rattle.ndr_decoder_laws.specs.steps.Steps.{first_number, first_found, is_owing}
 use Rattle.ndr_decoder_laws.specs.steps.Good.{Told, Kept, Good, IsRight, owed, BeginsAt, Begin, BeginStruct, members_around, members_of, read_members}
 use Rattle.ndr_decoder_laws.proofs.steps.Passing.{told_passed, kept_passed, silent, judged, Lies}
 use Rattle.ndr_decoder_laws.proofs.steps.Arriving.{KeptAll, KeptOwn}

@@ -32,7 +32,8 @@ use Rattle.ndr_code.specs.Code.{place_at, whole_at, id, text_bound, arm_run, arm
 use Rattle.ndr_code.specs.Runs.{IsRunAt}
 use Rattle.ndr_code.proofs.Runs.{first_at, next_at}
 use Rattle.ndr_decoder_laws.specs.reader.Around.{Around, going, finish, tried, nodes_around, pointers_around, governed_pointers}
-use Rattle.ndr_decoder_laws.specs.reader.Points.{Point, TagForm, IsTagForm, hoisting, counting, called, due, opened, offset_read as at_offset, text_offset, text_counted, tagged, between, checking, has, read_at, held, nodes_at, pointers_at, NumberedAt, TiedAt}
+use Rattle.ndr_decoder_laws.specs.reader.Points.{Point, TagForm, IsTagForm, hoisting, counting, called, due, opened, offset_read as at_offset, text_offset, text_counted, tagged, between, checking}
+use Rattle.ndr_decoder_laws.specs.reader.Points.{has, read_at, held, nodes_at, pointers_at, NumberedAt, TiedAt}
 use Rattle.ndr_decoder_laws.proofs.reader.FromPoint.{members_read}
 use Rattle.ndr_decoder_laws.proofs.reader.HomePointers.{of_number, of_enumerated}
 use Rattle.nd_grammar.proofs.reader.ReaderPipes.{joined_count as count_joined}

@@ -34,7 +34,8 @@ use Rattle.ndr_decoder_laws.specs.reader.Halves.{array_after_offset, text_after_
 use Rattle.ndr_decoder_laws.proofs.reader.FromPoint.{array_offset, array_count, text_begins, text_count, text_ends}
 use Rattle.ndr_decoder_laws.proofs.reader.HomePointers.{of_text}
 use Rattle.ndr_decoder_laws.specs.steps.Spots.{IsFine, IsPlanned, body_run, at_ret}
-use Rattle.ndr_decoder_laws.specs.steps.Steps.{State, Outcome, goes, refused, begun, offset_read, count_read, past, elements, with_node, vary_by, text_by, text_done, limit_of, offset_before, counts_at}
+use Rattle.ndr_decoder_laws.specs.steps.Steps.{State, Outcome, goes, refused, begun, offset_read, count_read, past, elements, with_node, vary_by, text_by, text_done, limit_of, offset_before}
+use Rattle.ndr_decoder_laws.specs.steps.Steps.{counts_at}
 use Rattle.ndr_decoder_laws.specs.steps.Good.{Told, IsRight, owed}
 use Rattle.ndr_decoder_laws.specs.steps.StepItems.{item_here, next_item, count_items}
 use Rattle.ndr_decoder_laws.proofs.steps.Passing.{items_it, onward, later_node, told_counted, told_passed, silent, judged, taken_it, lies_it, Change}

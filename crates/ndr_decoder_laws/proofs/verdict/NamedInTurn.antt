@@ -18,14 +18,16 @@ use Rattle.nd_value.specs.declared.item.Home.TheVariants as home
 use Rattle.nd_value.specs.Tree as tree
 use Rattle.nd_value.specs.Tree.{Tree, Trees, Label, node, none, more, Referent, trees}
 use Rattle.nd_value.specs.Setting.{Setting, root_list, root_at, or_unread, unread, cell_home, cell_at, cell_tree}
-use Rattle.nd_value.specs.Deferral.{Pending, Due, due_root, due_referent, due_roots, due_of, before_pipes, home_pointers, IsPlaced, Placed_cells, Step, root_stands, referent_stands, stands_already, Deferral, none_due, at_root, at_null, at_standing, at_referent, Standing, standing_root, standing_by, standing_cell, direct, root_type, root_cell}
+use Rattle.nd_value.specs.Deferral.{Pending, Due, due_root, due_referent, due_roots, due_of, before_pipes, home_pointers, IsPlaced, Placed_cells, Step, root_stands, referent_stands, stands_already}
+use Rattle.nd_value.specs.Deferral.{Deferral, none_due, at_root, at_null, at_standing, at_referent, Standing, standing_root, standing_by, standing_cell, direct, root_type, root_cell}
 use Rattle.nd_value.specs.Canon.{IsCanon, named, own_cell, named_cells}
 use Rattle.nd_value.proofs.DeferralLaws.{full_stands}
 use Rattle.nd_value.proofs.NodeFacts.{sound_partial}
 use Rattle.nd_value.specs.Same.{Same, renumbered, renumbered_label}
 use Rattle.nd_grammar.specs.LegalSide.{IsLegalSide}
 use Rattle.nd_grammar.specs.Reader.{Names, Read, is_stopped, fresh, with_cell, read_if, read_hoisted, read_whole}
-use Rattle.nd_grammar.specs.StreamReader.{Reading, with_value, stands_among, stood, read_referent, read_pending, read_direct, read_placed, read_root, read_first, read_next, read_due, read_start, read_stream}
+use Rattle.nd_grammar.specs.StreamReader.{Reading, with_value, stands_among, stood, read_referent, read_pending, read_direct, read_placed, read_root, read_first, read_next, read_due, read_start}
+use Rattle.nd_grammar.specs.StreamReader.{read_stream}
 use Rattle.nd_grammar.proofs.reader.ReaderNames.{last_cell, cell_kept, no_pointers_ok}
 use Rattle.nd_grammar.specs.ReaderState.{cell_in, PointersOk, paid, no_names, State, Usable}
 use Rattle.nd_grammar.proofs.reader.ReaderCells.{no_roots, set_same, value_length}

@@ -1,6 +1,7 @@
 -- The head that the reader reads: its graph with pipes that have no elements conforms, is its own canonical form, and the octets are its head.
 -- `w` is a setting, `octets` are those of the head, which the reader reads to their end.
-use Rattle.std.proofs.Common.{◌≡◌, ℕ, ◌+◌, ◌<◌, ◌≤◌, zero, suc, true, List, [], ◌∷◌, ◌++◌, length, Option, Some, None, refl, ap, ap₂, sym, ◌∙◌, inl, inr, arith, subst, replicate, drop, append_assoc, length-append}
+use Rattle.std.proofs.Common.{◌≡◌, ℕ, ◌+◌, ◌<◌, ◌≤◌, zero, suc, true, List, [], ◌∷◌, ◌++◌, length, Option, Some, None, refl, ap, ap₂, sym, ◌∙◌, inl, inr, arith, subst, replicate, drop, append_assoc}
+use Rattle.std.proofs.Common.{length-append}
 use Rattle.std.specs.Prelude.{map, flat_map}
 use Rattle.std.specs.List.{AllByRecursion, list_all}
 use Rattle.std.proofs.lemmas.List.{append-nil, length-replicate}
@@ -484,7 +485,8 @@ module _ (w : Setting) (side : IsLegalSide w) (order : Order) (octets : List ℕ
       reached = reached;
       agreed = all_weaker Node (λ x. AgreesAt K x.typed) (λ x k. k.agrees) (all_nodes w K) nodes;
       few_cells = stream.few_cells w side order octets all;
-      few_nodes = conforming.few_nodes w side K cells_fit all_made all_roots done.state.cells_made reached steps steps_then.deferral light (all_right Passed F T' ms_passed) (empty_passes w side K empty);
+      few_nodes =
+          conforming.few_nodes w side K cells_fit all_made all_roots done.state.cells_made reached steps steps_then.deferral light (all_right Passed F T' ms_passed) (empty_passes w side K empty);
     }
 
     canonical : IsCanon w K K

@@ -1,6 +1,7 @@
 -- A head that is read excludes a refused head, and a chunk that is read a refused chunk; and each is refused at one place, for one reason.
 -- `w` is a setting, `s` a spot, `vs` and `us` are elements, `before` any octets that come before the spot, `g` the graph of a head.
-use Rattle.std.proofs.Common.{◌≡◌, ◌<◌, ◌≤◌, ◌-◌, ◌∙◌, ap, ap₂, sym, subst, refl, ℕ, ◌+◌, zero, suc, true, false, List, [], ◌∷◌, ◌++◌, length, length-append, append_assoc, drop, flat_map, replicate, Some, None, inr, arith}
+use Rattle.std.proofs.Common.{◌≡◌, ◌<◌, ◌≤◌, ◌-◌, ◌∙◌, ap, ap₂, sym, subst, refl, ℕ, ◌+◌, zero, suc, true, false, List, [], ◌∷◌, ◌++◌, length, length-append, append_assoc, drop, flat_map, replicate}
+use Rattle.std.proofs.Common.{Some, None, inr, arith}
 use Rattle.std.specs.List.{AllByRecursion, list_all, slice_get}
 use Rattle.std.proofs.lemmas.Bool.{and_parts}
 use Rattle.std.proofs.lemmas.List.{append-nil, length-replicate}

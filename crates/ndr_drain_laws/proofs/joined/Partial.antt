@@ -1,5 +1,6 @@
 -- The graph of a stream of which a chunk was begun is a partial graph.
-use Rattle.std.proofs.Common.{◌≡◌, ◌∙◌, ap, ap₂, sym, subst, refl, ℕ, ◌+◌, zero, suc, Bool, true, ◌&&◌, List, [], ◌∷◌, ◌++◌, length, length-append, take, map, replicate, Option, Some, None, inl, inr, ◌⊎◌, arith}
+use Rattle.std.proofs.Common.{◌≡◌, ◌∙◌, ap, ap₂, sym, subst, refl, ℕ, ◌+◌, zero, suc, Bool, true, ◌&&◌, List, [], ◌∷◌, ◌++◌, length, length-append, take, map, replicate, Option, Some, None, inl, inr}
+use Rattle.std.proofs.Common.{◌⊎◌, arith}
 use Rattle.std.specs.Prelude.{eqb, ◌||◌}
 use Rattle.std.specs.List.{AllByRecursion, list_all, slice_get}
 use Rattle.std.proofs.lemmas.Bool.{and_from, and_parts, eq-eqb, or_right}

@@ -13,7 +13,8 @@ use Rattle.nd_value.specs.Tree as tree
 use Rattle.nd_value.specs.Tree.{Tree, Trees, node, none, more, count, node_count, trees, Label}
 use Rattle.nd_value.specs.Nodes.{TypedNode, child_types, child_agreements, rest_agreements, nodes_of, home_nodes}
 use Rattle.nd_value.specs.Conforms.{AgreesAt, subject_by, IsAgreed}
-use Rattle.nd_value.specs.Misfit.{misfit_of, misfit_by, unless, has_shape, has_range, is_no_null_ref, names_cell, names_pointee, has_type, has_machine_values, has_counts, is_within, has_no_zero, has_arm}
+use Rattle.nd_value.specs.Misfit.{misfit_of, misfit_by, unless, has_shape, has_range, is_no_null_ref, names_cell, names_pointee, has_type, has_machine_values, has_counts, is_within, has_no_zero}
+use Rattle.nd_value.specs.Misfit.{has_arm}
 use Rattle.nd_value.specs.Setting.{cell_of_number, cell_tree}
 use Rattle.nd_value.proofs.Apart.{all_append, all_left, all_right}
 use Rattle.std.proofs.lemmas.Bool.{and_parts, leb-true}
