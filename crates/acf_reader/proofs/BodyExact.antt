@@ -5,9 +5,8 @@ use Rattle.grammar_phrases.specs.Text.{Lexeme, Text, lexeme_at, symbol_at, is, i
 use Rattle.grammar_phrases.specs.Reading.{Read, then, turned}
 use Rattle.grammar_phrases.proofs.Exact.{Exact, HasPhrase, Part, pair_exact, turned_exact}
 use Rattle.grammar_phrases.proofs.Parts.{clash, pair_has, turned_has, optional_has}
-use Rattle.grammar_phrases.proofs.Sequences.{stops, Begins, subset, disjoint, meets_first, skip_exact, skip_has, skip_begins, end_exact, end_has, end_begins, pair_begins, or_pair_begins}
-use Rattle.grammar_phrases.proofs.Sequences.{located_exact, located_has, located_begins, bracketed_exact, bracketed_has, bracketed_begins, separated_exact, separated_has, separated_begins, list_exact}
-use Rattle.grammar_phrases.proofs.Sequences.{choice_exact}
+use Rattle.grammar_phrases.proofs.Sequences.{stops, Begins, subset, disjoint, meets_first, skip_exact, skip_begins, end_exact, end_has, end_begins, pair_begins, or_pair_begins, located_exact}
+use Rattle.grammar_phrases.proofs.Sequences.{located_has, bracketed_exact, bracketed_has, bracketed_begins, separated_exact, separated_has, separated_begins, list_exact, choice_exact}
 use Rattle.idl_grammar.specs.declared.words.Spelling.{Spelling}
 use Rattle.idl_grammar.specs.Symbols as symbol
 use Rattle.idl_grammar.specs.Expressions.{spelled}
@@ -26,6 +25,7 @@ use Rattle.acf_reader.specs.Reading.{ident_read, attributes_read, maybe_attribut
 use Rattle.acf_reader.specs.Reading.{element_read, element_firsts, body_read}
 use Rattle.acf_reader.proofs.NamesExact.{ident_exact, ident_has, ident_begins}
 use Rattle.acf_reader.proofs.AttributesExact.{attributes_exact, attributes_has, attributes_begin, maybe_attributes_exact, maybe_attributes_begin}
+use Rattle.idl_grammar.proofs.FileExact.{nothing_apart}
 
 -- ## what stands where
 
@@ -84,10 +84,6 @@ names_element = refl
 no_typedef : is_in name_firsts symbol.Typedef ≡ false
 unfolding name_firsts names
 no_typedef = refl
-
-nothing_apart : (xs : List ℕ) → disjoint xs [] ≡ true
-nothing_apart [] = refl
-nothing_apart (d ∷ ds) = nothing_apart ds
 
 one : (b : Bool) → (b || false) ≡ true → b ≡ true
 one true h = refl

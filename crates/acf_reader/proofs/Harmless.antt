@@ -1,7 +1,6 @@
 -- No phrase holds a word that is banned anywhere, and none is refused for its depth.
-use Rattle.std.proofs.Common.{◌≡◌, ℕ, ◌+◌, ◌<◌, ◌≤◌, Bool, true, false, leb, List, [], ◌∷◌, length, refl, ap, arith, ◌∙◌, eq-eqb, inl, inr, Option, Some, None, Err}
+use Rattle.std.proofs.Common.{◌≡◌, ℕ, ◌+◌, ◌<◌, ◌≤◌, Bool, true, false, leb, List, [], ◌∷◌, length, refl, arith, eq-eqb, inl, inr, Option, Some, None, Err}
 use Rattle.std.proofs.Math.Decide.{dec_lt}
-use Rattle.std.proofs.lemmas.Bool.{eqb-true}
 use Rattle.grammar_phrases.specs.Text.{Lexeme, Text, Phrase, Rel, Lifted, Depth, Ban, symbol_at, is, is_in, nothing, never, mark, token, unless, optional, many, located, bracketed, many_brackets, ◌▹◌}
 use Rattle.grammar_phrases.specs.Text.{◌⊗◌}
 use Rattle.grammar_phrases.specs.Reading.{Passes, to_unit}
@@ -23,6 +22,7 @@ use Rattle.acf_reader.specs.Tree as tree
 use Rattle.acf_reader.specs.Tree.{Attributes, Parameter, BodyElement, Acf}
 use Rattle.acf_reader.specs.Grammar.{ident, handle_type, attribute_kind, attribute, attributes, parameter, parameters, body_element, acf}
 use Rattle.acf_reader.specs.Answers.{IsAnswer}
+use Rattle.idl_grammar.proofs.Clean.{one_place, unbanned}
 
 pub record Harmless (p : Phrase) : Type 0 where
   -- no token is a word that is banned anywhere
@@ -31,17 +31,6 @@ pub record Harmless (p : Phrase) : Type 0 where
   pub shallow : (lifted other : Lifted) → ((k : ℕ) → lifted Ban k ≡ false) → (x : Text) (i j : ℕ) → p lifted x i j → p other x i j
 
 -- ## the parts of phrases
-
--- what a test refuses does not pass it
-unbanned : (f : ℕ → Bool) → f symbol.Banned ≡ false → (x : Text) (i : ℕ) → f (symbol_at x i) ≡ true → is_banned x i ≡ false
-unfolding is_banned
-unbanned f other x i h = by_case (is (symbol_at x i) symbol.Banned) refl where
-  by_case : (b : Bool) → is (symbol_at x i) symbol.Banned ≡ b → is (symbol_at x i) symbol.Banned ≡ false
-  by_case false e = e
-  by_case true e = clash (f (symbol_at x i)) h (ap f (eqb-true (symbol_at x i) symbol.Banned e) ∙ other)
-
-one_place : (x : Text) (i j k : ℕ) → j ≡ i + 1 → is_banned x i ≡ false → i ≤ k → k < j → is_banned x k ≡ false
-one_place x i j k e h from to = let here : k ≡ i = omega arith in ap (λ (n : ℕ). is_banned x n) here ∙ h
 
 token_is : {A : Type 0} (f : ℕ → Bool) → f symbol.Banned ≡ false → (see : Lexeme → A) (a : A) → Harmless (token (λ l. f l.symbol) see a)
 token_is f other see a = record {

@@ -39,7 +39,7 @@ banned_here t i h = rw h (by_case (is (symbol_at t i) word.Code)) where
 abbrev here : ℕ → Bool → Read (Unit {0})
 here i b = cond b (Ok (tt, i + 1)) (Err (Syntax i))
 
-or_false : (b : Bool) → (b || false) ≡ b
+pub or_false : (b : Bool) → (b || false) ≡ b
 or_false true = refl
 or_false false = refl
 

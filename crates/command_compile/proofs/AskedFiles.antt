@@ -1,5 +1,6 @@
 -- The names that a walk through the files asks for, each when it is due.
-use Rattle.std.proofs.Common.{◌≡◌, ◌∙◌, ℕ, zero, suc, ◌+◌, ◌≤◌, ◌<◌, arith, Bool, true, false, List, [], ◌∷◌, ◌++◌, length, map, take, drop, Option, Some, None, refl, sym, ap, subst, inl, inr, append_assoc, append-nil, length-append}
+use Rattle.std.proofs.Common.{◌≡◌, ◌∙◌, ℕ, zero, suc, ◌+◌, ◌≤◌, ◌<◌, arith, Bool, true, false, List, [], ◌∷◌, ◌++◌, length, take, drop, Option, Some, None, refl, sym, ap, subst, inl, inr}
+use Rattle.std.proofs.Common.{append_assoc, append-nil, length-append}
 use Rattle.std.specs.Prelude.{option_to_list, leb}
 use Rattle.std.specs.List.{slice_get}
 use Rattle.std.proofs.lemmas.Bool.{leb-true, leb-false}
@@ -10,10 +11,12 @@ use Rattle.idl_grammar.specs.Tree.{Tree}
 use Rattle.idl_scope.specs.declared.name_fault.NameFault.TheVariants as names
 use Rattle.idl_names.specs.Files.{IsFile}
 use Rattle.idl_names.specs.Sources.{Source, and_source, source}
-use Rattle.idl_names.specs.Walk.{State, Due, Load, IsDue, Ending, Done, Stopped, Walk, names_of, start, all_of, with_source, all_done, goes_on, faults, ends, cycle, again, too_many, absent, failed, uncut, no_file, enters, short, short_in_load, short_after_load}
+use Rattle.idl_names.specs.Walk.{State, Due, Load, IsDue, Done, Stopped, Walk, names_of, start, all_of, with_source, all_done, goes_on, faults, ends, again, failed, enters, short, short_in_load}
+use Rattle.idl_names.specs.Walk.{short_after_load}
 use Rattle.command_compile.specs.Asked.{IsNext, AreAsked, all_due}
-use Rattle.command_compile.specs.Idl.{main_file, AreResolved, IsDueImport, IsDueAcf}
+use Rattle.command_compile.specs.Idl.{main_file, AreResolved}
 use Rattle.command_compile.proofs.Walks.{passed_fault, at_load}
+use Rattle.nd_lemmas.proofs.Lists.{get_in_front as get_front}
 
 -- ## Lists
 
@@ -30,15 +33,6 @@ at_seam (x ∷ xs) y ys = at_seam xs y ys
 take_seam : {X : Type 0} (xs ys : List X) → take (length xs) (xs ++ ys) ≡ xs
 take_seam [] ys = refl
 take_seam (x ∷ xs) ys = ap (λ l. x ∷ l) (take_seam xs ys)
-
-drop_seam : {X : Type 0} (xs ys : List X) → drop (length xs) (xs ++ ys) ≡ ys
-drop_seam [] ys = refl
-drop_seam (x ∷ xs) ys = drop_seam xs ys
-
-get_front : {X : Type 0} (xs ys : List X) (n : ℕ) → n < length xs → slice_get (xs ++ ys) n ≡ slice_get xs n
-get_front [] ys n h = absurd (omega (arith, h))
-get_front (x ∷ xs) ys zero h = refl
-get_front (x ∷ xs) ys (suc n) h = get_front xs ys n (omega (arith, h))
 
 take_front : {X : Type 0} (xs ys : List X) (n : ℕ) → n ≤ length xs → take n (xs ++ ys) ≡ take n xs
 take_front [] ys zero h = refl

@@ -1,7 +1,6 @@
 -- A text is an attribute configuration file of one tree, or is refused at one octet for one reason, and never both.
 use Rattle.std.proofs.Common.{◌≡◌, ◌∙◌, ℕ, List, Result, Ok, Err, refl, sym, ap, ap₂}
 use Rattle.grammar_phrases.specs.Reading.{Fault}
-use Rattle.idl_lexer.specs.declared.tokens.Token.{Token}
 use Rattle.idl_lexer.specs.declared.tokens.LexKind.{LexKind}
 use Rattle.idl_lexer.specs.Lexed.{Lexed, place_of}
 use Rattle.idl_lexer.specs.Verdict.{IsVerdict, Cut, Refused}
@@ -17,9 +16,7 @@ use Rattle.command_refusals.specs.declared.refusal.IdlReason.TheVariants as reas
 use Rattle.command_compile.specs.AcfFile.{IsAcfRead, IsAcf, IsNoAcf}
 use Rattle.command_compile.specs.Idl.{word_at, IsAcfFault}
 use Rattle.command_compile.proofs.OneFile.{one_cut, fault_of, token_of, fault_is}
-
-same_tokens : (a b : List Token) → Cut a ≡ Cut b → a ≡ b
-same_tokens a b e = let d : Cut a ≡ Cut b = e in cc
+use Rattle.idl_names.proofs.Once.{same_tokens}
 
 one_lexed : (text : List ℕ) (a b : Lexed) (u v : Result Acf Fault) → IsAcfRead text a u → IsAcfRead text b v → a ≡ b
 one_lexed text a b u v x y =

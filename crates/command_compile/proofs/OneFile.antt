@@ -2,7 +2,6 @@
 use Rattle.std.proofs.Common.{◌≡◌, ◌∙◌, ℕ, List, Result, Ok, Err, sym, ap, ap₂, arith}
 use Rattle.grammar_phrases.specs.Text.{Depth, Ban}
 use Rattle.grammar_phrases.specs.Reading.{Fault, Syntax, Passes}
-use Rattle.idl_lexer.specs.declared.tokens.Token.{Token}
 use Rattle.idl_lexer.specs.declared.tokens.LexKind.{LexKind}
 use Rattle.idl_lexer.specs.Lexed.{Lexed, place_of}
 use Rattle.idl_lexer.specs.Verdict.{IsVerdict, Cut, Refused}
@@ -15,9 +14,7 @@ use Rattle.idl_grammar.proofs.RealTokens.{lexemes_real}
 use Rattle.idl_grammar.specs.declared.fault.SyntaxFault.{SyntaxFault}
 use Rattle.idl_grammar.specs.declared.fault.SyntaxFault.TheVariants as syntax
 use Rattle.idl_names.specs.Files.{IsRead, IsFile, IsNoFile, IsSyntaxFault}
-
-same_tokens : (a b : List Token) → Cut a ≡ Cut b → a ≡ b
-same_tokens a b e = let d : Cut a ≡ Cut b = e in cc
+use Rattle.idl_names.proofs.Once.{one_answer, same_tokens}
 
 one_lexed : (text : List ℕ) (a b : Lexed) (u v : Result Tree Fault) → IsRead text a u → IsRead text b v → a ≡ b
 one_lexed text a b u v x y =
@@ -32,14 +29,6 @@ answer_of l = file_answer 64 129 (lexemes l)
 
 alone : (text : List ℕ) (l : Lexed) (v : Result Tree Fault) → IsRead text l v → v ≡ answer_of l
 alone text l v r = file_answered_alone 64 129 (omega arith) (omega arith) (lexemes l) (lexemes_real l) v r.answered
-
-one_answer : (text : List ℕ) (a b : Lexed) (u v : Result Tree Fault) → IsRead text a u → IsRead text b v → u ≡ v
-one_answer text a b u v x y = alone text a u x ∙ ap answer_of (one_lexed text a b u v x y) ∙ sym (alone text b v y)
-
-pub one_tree : (text : List ℕ) (t t' : Tree) → IsFile text t → IsFile text t' → t ≡ t'
-one_tree text t t' x y =
-    let e : ◌≡◌ {A = Result Tree Fault} (Ok t) (Ok t') = one_answer text x.lexed y.lexed (Ok t) (Ok t') x.read y.read in
-    cc
 
 pub never_file : {B : Type 0} (text : List ℕ) (at : ℕ) (f : SyntaxFault) (t : Tree) → IsNoFile text at f → IsFile text t → B
 never_file text at f t x y =

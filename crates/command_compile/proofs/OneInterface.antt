@@ -5,30 +5,23 @@ use mathlib.Core.HLevel.{is_prop→PathP}
 use Rattle.nd_base.specs.Text.{is_identifier}
 use Rattle.nd_types.specs.declared.interface.Interface.{Interface}
 use Rattle.nd_types.specs.Rounds.{layouts_of}
-use Rattle.nd_types.specs.declared.layouts.Layout.{Layout}
 use Rattle.nd_types.specs.declared.types.Operation.{Operation}
 use Rattle.nd_types.specs.Table.{Table}
 use Rattle.nd_types.specs.Legal.{IsLegal}
 use Rattle.idl_rule_definitions.specs.World.{World}
 use Rattle.idl_rule_definitions.specs.Rules.{Breach, breaches}
 use Rattle.idl_rule_definitions.specs.FirstBroken.{first_of}
-use Rattle.nd_types.specs.Meant.{Meant}
-use Rattle.nd_types.specs.Meant.{meant_by}
+use Rattle.nd_types.specs.Meant.{Meant, meant_by}
 use Rattle.acf_reader.specs.Tree.{Acf}
 use Rattle.idl_check.specs.AcfRules.{acf_breaches, first_of_all}
 use Rattle.command_compile.specs.AcfFile.{AcfFile, IsLoadedAcf}
 use Rattle.command_compile.specs.Idl.{Means, resolved_world}
 use Rattle.command_compile.proofs.OneMeaning.{means_one}
+use Rattle.nd_types.proofs.EqualLaws.{layouts-prop as layouts_once, named-prop as named_once}
 
 -- there is one proof that an interface is legal, and one that its layouts are those of its types
 legal_once : (types : Table) (operations : List Operation) → IsProp (IsLegal types operations)
 legal_once types operations = hlevel props
-
-named_once : (name : List ℕ) → IsProp (is_identifier name ≡ true)
-named_once name = hlevel props
-
-layouts_once : (types : Table) (layouts : List Layout) → IsProp (layouts ≡ layouts_of types)
-layouts_once types layouts = hlevel props
 
 -- interfaces that mean the same are equal
 same_meant : (i j : Interface) → meant_by i ≡ meant_by j → i ≡ j

@@ -24,10 +24,12 @@ use Rattle.command_refusals.specs.declared.refusal.IdlReason.{IdlReason}
 use Rattle.command_refusals.specs.declared.refusal.Refusal.{Refusal}
 use Rattle.command_refusals.specs.declared.refusal.Refusal.TheVariants.{BadIdl}
 use Rattle.command_compile.specs.AcfFile.{AcfFile, IsAcf, IsLoadedAcf, IsBeside, tree_beside}
-use Rattle.command_compile.specs.Idl.{main_file, resolved_world, AreResolved, Means, IsMainFault, IsNameFault, IsAcfFault, IsBadAcf, IsIdlFault, by_names, by_acf, by_rules, reported_by, reported_fault, reported_beside, IsDueImport, IsDueAcf, IsDueAfter}
-use Rattle.command_compile.proofs.OneFile.{one_tree, one_no_file, one_cut, never_cut, never_file, never_uncut}
+use Rattle.command_compile.specs.Idl.{main_file, resolved_world, AreResolved, Means, IsMainFault, IsNameFault, IsAcfFault, IsBadAcf, IsIdlFault, by_names, by_acf, by_rules, reported_by}
+use Rattle.command_compile.specs.Idl.{reported_fault, reported_beside, IsDueImport, IsDueAcf, IsDueAfter}
+use Rattle.command_compile.proofs.OneFile.{one_no_file, one_cut, never_cut, never_file, never_uncut}
+use Rattle.idl_names.proofs.Once.{one_tree}
 use Rattle.command_compile.proofs.OneAcf.{one_acf, one_acf_fault, never_acf}
-use Rattle.command_compile.proofs.OneWalk.{IsKept, one_end, one_content, not_missing}
+use Rattle.command_compile.proofs.OneWalk.{IsKept, one_end, one_content, not_missing, none_some}
 use Rattle.command_compile.proofs.Compiled.{last_name}
 use Rattle.command_compile.proofs.Walks.{passed_fault}
 
@@ -73,9 +75,6 @@ sure_told s (names.ImportCycle a) b = tt
 sure_told s (names.TooMany a) b = tt
 sure_told s (names.Absent n) b = tt
 sure_told s (names.Syntax n at x) b = tt
-
-none_some : {X : Type 0} {B : Type 0} (o : Option X) (x : X) → o ≡ None → o ≡ Some x → B
-none_some o x e f = let never : None ≡ Some x = sym e ∙ f in absurd (cc)
 
 -- ## The main file
 

@@ -15,8 +15,10 @@ use Rattle.idl_names.specs.Files.{IsFile, IsNoFile}
 use Rattle.idl_scope.specs.Known.{Known}
 use Rattle.idl_names.specs.Sources.{Source, and_source}
 use Rattle.idl_scope.specs.Ended.{has_ended}
-use Rattle.idl_names.specs.Walk.{State, Due, Ending, Done, Stopped, Walk, with_source, all_of, all_done, goes_on, faults, ends, cycle, again, too_many, absent, failed, uncut, no_file, enters, short, short_in_load, short_after_load}
-use Rattle.command_compile.proofs.OneFile.{one_tree, one_no_file, one_cut, never_cut, never_file, never_uncut}
+use Rattle.idl_names.specs.Walk.{State, Due, Ending, Done, Stopped, Walk, with_source, all_of, all_done, goes_on, faults, ends, cycle, again, too_many, absent, failed, uncut, no_file, enters, short}
+use Rattle.idl_names.specs.Walk.{short_in_load, short_after_load}
+use Rattle.command_compile.proofs.OneFile.{one_no_file, one_cut, never_cut, never_file, never_uncut}
+use Rattle.idl_names.proofs.Once.{one_tree}
 
 -- an ending that is told by the files alone
 abbrev pub IsKept : Ending → Type 0
@@ -25,7 +27,7 @@ IsKept (Stopped sources names.Memory) = ⊥
 IsKept (Stopped sources (names.Failed n)) = ⊥
 IsKept (Stopped sources f) = Unit {0}
 
-none_some : {X : Type 0} {B : Type 0} (o : Option X) (x : X) → o ≡ None → o ≡ Some x → B
+pub none_some : {X : Type 0} {B : Type 0} (o : Option X) (x : X) → o ≡ None → o ≡ Some x → B
 none_some o x e f = let never : None ≡ Some x = sym e ∙ f in absurd (cc)
 
 module _ (k : List ℕ → Option (List ℕ)) where
@@ -76,13 +78,15 @@ module _ (k : List ℕ → Option (List ℕ)) where
       let same : f ≡ f' = cc in
       ap (Stopped st.sources) same
   one_end st ds g h (cycle s place name rest n a b) (cycle s' place' name' rest' n' a' b') x y = refl
-  one_end st ds g h (cycle s place name rest n a b) (again s' place' name' rest' e' n' a' b' d') x y = let m : n ≡ n' = same_Some _ _ (sym a ∙ a') in let never : false ≡ true = sym b ∙ ap (has_ended st.ended) m ∙ b' in absurd (cc)
+  one_end st ds g h (cycle s place name rest n a b) (again s' place' name' rest' e' n' a' b' d') x y = let m : n ≡ n' = same_Some _ _ (sym a ∙ a') in let never : false ≡ true =
+      sym b ∙ ap (has_ended st.ended) m ∙ b' in absurd (cc)
   one_end st ds g h (cycle s place name rest n a b) (too_many s' place' name' rest' a' b') x y = none_some _ n a' a
   one_end st ds g h (cycle s place name rest n a b) (absent s' place' name' rest' due' m') x y = none_some _ n due'.new a
   one_end st ds g h (cycle s place name rest n a b) (uncut s' place' name' rest' text' at' kind' due' c' v') x y = none_some _ n due'.new a
   one_end st ds g h (cycle s place name rest n a b) (no_file s' place' name' rest' text' at' f' due' c' v') x y = none_some _ n due'.new a
   one_end st ds g h (cycle s place name rest n a b) (enters s' place' name' rest' e' text' t' due' c' v' d') x y = none_some _ n due'.new a
-  one_end st ds g h (again s place name rest e n a b d) (cycle s' place' name' rest' n' a' b') x y = let m : n ≡ n' = same_Some _ _ (sym a ∙ a') in let never : true ≡ false = sym b ∙ ap (has_ended st.ended) m ∙ b' in absurd (cc)
+  one_end st ds g h (again s place name rest e n a b d) (cycle s' place' name' rest' n' a' b') x y = let m : n ≡ n' = same_Some _ _ (sym a ∙ a') in let never : true ≡ false =
+      sym b ∙ ap (has_ended st.ended) m ∙ b' in absurd (cc)
   one_end st ds g h (again s place name rest e n a b d) (again s' place' name' rest' e' n' a' b' d') x y = one_end st rest g h d d' x y
   one_end st ds g h (again s place name rest e n a b d) (too_many s' place' name' rest' a' b') x y = none_some _ n a' a
   one_end st ds g h (again s place name rest e n a b d) (absent s' place' name' rest' due' m') x y = none_some _ n due'.new a
@@ -107,20 +111,30 @@ module _ (k : List ℕ → Option (List ℕ)) where
   one_end st ds g h (uncut s place name rest text at kind due c v) (again s' place' name' rest' e' n' a' b' d') x y = none_some _ n' due.new a'
   one_end st ds g h (uncut s place name rest text at kind due c v) (too_many s' place' name' rest' a' b') x y = absurd (omega (arith, b', due.room))
   one_end st ds g h (uncut s place name rest text at kind due c v) (absent s' place' name' rest' due' m') x y = not_missing name text m' c
-  one_end st ds g h (uncut s place name rest text at kind due c v) (uncut s' place' name' rest' text' at' kind' due' c' v') x y = let same : text ≡ text' = one_content name text text' c c' in let r = one_cut text at kind at' kind' v (subst (λ z. IsVerdict z (Refused at' kind')) (sym same) v') in one_uncut_end st.sources name text text' at at' kind kind' same r.0 r.1
-  one_end st ds g h (uncut s place name rest text at kind due c v) (no_file s' place' name' rest' text' at' f' due' c' v') x y = let same : text ≡ text' = one_content name text text' c c' in never_uncut text at kind at' f' v (subst (λ z. IsNoFile z at' f') (sym same) v')
-  one_end st ds g h (uncut s place name rest text at kind due c v) (enters s' place' name' rest' e' text' t' due' c' v' d') x y = let same : text ≡ text' = one_content name text text' c c' in never_cut text at kind t' v (subst (λ z. IsFile z t') (sym same) v')
+  one_end st ds g h (uncut s place name rest text at kind due c v) (uncut s' place' name' rest' text' at' kind' due' c' v') x y = let same : text ≡ text' = one_content name text text' c c' in let r =
+      one_cut text at kind at' kind' v (subst (λ z. IsVerdict z (Refused at' kind')) (sym same) v') in one_uncut_end st.sources name text text' at at' kind kind' same r.0 r.1
+  one_end st ds g h (uncut s place name rest text at kind due c v) (no_file s' place' name' rest' text' at' f' due' c' v') x y = let same : text ≡ text' =
+      one_content name text text' c c' in never_uncut text at kind at' f' v (subst (λ z. IsNoFile z at' f') (sym same) v')
+  one_end st ds g h (uncut s place name rest text at kind due c v) (enters s' place' name' rest' e' text' t' due' c' v' d') x y = let same : text ≡ text' =
+      one_content name text text' c c' in never_cut text at kind t' v (subst (λ z. IsFile z t') (sym same) v')
   one_end st ds g h (no_file s place name rest text at f due c v) (cycle s' place' name' rest' n' a' b') x y = none_some _ n' due.new a'
   one_end st ds g h (no_file s place name rest text at f due c v) (again s' place' name' rest' e' n' a' b' d') x y = none_some _ n' due.new a'
   one_end st ds g h (no_file s place name rest text at f due c v) (too_many s' place' name' rest' a' b') x y = absurd (omega (arith, b', due.room))
   one_end st ds g h (no_file s place name rest text at f due c v) (absent s' place' name' rest' due' m') x y = not_missing name text m' c
-  one_end st ds g h (no_file s place name rest text at f due c v) (uncut s' place' name' rest' text' at' kind' due' c' v') x y = let same : text ≡ text' = one_content name text text' c c' in never_uncut text at' kind' at f (subst (λ z. IsVerdict z (Refused at' kind')) (sym same) v') v
-  one_end st ds g h (no_file s place name rest text at f due c v) (no_file s' place' name' rest' text' at' f' due' c' v') x y = let same : text ≡ text' = one_content name text text' c c' in let r = one_no_file text at f at' f' v (subst (λ z. IsNoFile z at' f') (sym same) v') in one_no_file_end st.sources name text text' at at' f f' same r.0 r.1
-  one_end st ds g h (no_file s place name rest text at f due c v) (enters s' place' name' rest' e' text' t' due' c' v' d') x y = let same : text ≡ text' = one_content name text text' c c' in never_file text at f t' v (subst (λ z. IsFile z t') (sym same) v')
+  one_end st ds g h (no_file s place name rest text at f due c v) (uncut s' place' name' rest' text' at' kind' due' c' v') x y = let same : text ≡ text' =
+      one_content name text text' c c' in never_uncut text at' kind' at f (subst (λ z. IsVerdict z (Refused at' kind')) (sym same) v') v
+  one_end st ds g h (no_file s place name rest text at f due c v) (no_file s' place' name' rest' text' at' f' due' c' v') x y = let same : text ≡ text' = one_content name text text' c c' in let r =
+      one_no_file text at f at' f' v (subst (λ z. IsNoFile z at' f') (sym same) v') in one_no_file_end st.sources name text text' at at' f f' same r.0 r.1
+  one_end st ds g h (no_file s place name rest text at f due c v) (enters s' place' name' rest' e' text' t' due' c' v' d') x y = let same : text ≡ text' =
+      one_content name text text' c c' in never_file text at f t' v (subst (λ z. IsFile z t') (sym same) v')
   one_end st ds g h (enters s place name rest e text t due c v d) (cycle s' place' name' rest' n' a' b') x y = none_some _ n' due.new a'
   one_end st ds g h (enters s place name rest e text t due c v d) (again s' place' name' rest' e' n' a' b' d') x y = none_some _ n' due.new a'
   one_end st ds g h (enters s place name rest e text t due c v d) (too_many s' place' name' rest' a' b') x y = absurd (omega (arith, b', due.room))
   one_end st ds g h (enters s place name rest e text t due c v d) (absent s' place' name' rest' due' m') x y = not_missing name text m' c
-  one_end st ds g h (enters s place name rest e text t due c v d) (uncut s' place' name' rest' text' at' kind' due' c' v') x y = let same : text ≡ text' = one_content name text text' c c' in never_cut text at' kind' t (subst (λ z. IsVerdict z (Refused at' kind')) (sym same) v') v
-  one_end st ds g h (enters s place name rest e text t due c v d) (no_file s' place' name' rest' text' at' f' due' c' v') x y = let same : text ≡ text' = one_content name text text' c c' in never_file text at' f' t (subst (λ z. IsNoFile z at' f') (sym same) v') v
-  one_end st ds g h (enters s place name rest e text t due c v d) (enters s' place' name' rest' e' text' t' due' c' v' d') x y = let same : text ≡ text' = one_content name text text' c c' in let tree : t ≡ t' = one_tree text t t' v (subst (λ z. IsFile z t') (sym same) v') in one_end _ _ g h d (same_walk st place name rest h text text' t t' same tree d') x y
+  one_end st ds g h (enters s place name rest e text t due c v d) (uncut s' place' name' rest' text' at' kind' due' c' v') x y = let same : text ≡ text' =
+      one_content name text text' c c' in never_cut text at' kind' t (subst (λ z. IsVerdict z (Refused at' kind')) (sym same) v') v
+  one_end st ds g h (enters s place name rest e text t due c v d) (no_file s' place' name' rest' text' at' f' due' c' v') x y = let same : text ≡ text' =
+      one_content name text text' c c' in never_file text at' f' t (subst (λ z. IsNoFile z at' f') (sym same) v') v
+  one_end st ds g h (enters s place name rest e text t due c v d) (enters s' place' name' rest' e' text' t' due' c' v' d') x y = let same : text ≡ text' =
+      one_content name text text' c c' in let tree : t ≡ t' =
+      one_tree text t t' v (subst (λ z. IsFile z t') (sym same) v') in one_end _ _ g h d (same_walk st place name rest h text text' t t' same tree d') x y

@@ -18,7 +18,8 @@ pub record IsNextImport (held : Option (List ℕ → Option (List ℕ))) (idl te
   pub earlier_are : earlier ≡ names_of due.sources
 
 -- The attribute configuration file is due once exactly these files were asked for: all names are resolved with them.
-pub record IsNextAcf (held : Option (List ℕ → Option (List ℕ))) (idl text : List ℕ) (acf : Option (List ℕ)) (earlier : List (List ℕ)) (name : List ℕ) : Type 0 where
+pub record IsNextAcf (held : Option (List ℕ → Option (List ℕ))) (idl text : List ℕ) (acf : Option (List ℕ)) (earlier : List (List ℕ))
+    (name : List ℕ) : Type 0 where
   pub due : IsDueAcf held idl text acf name
   pub earlier_are : earlier ≡ names_of due.state.sources
 

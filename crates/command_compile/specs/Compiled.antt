@@ -31,7 +31,8 @@ pub record IsListed (f : FilesSeen) (idl : List ℕ) (acf : Option (List ℕ)) (
 pub record IsPlanned (f : FilesSeen) (idl : List ℕ) (acf : Option (List ℕ)) (made : List ℕ) : Type 0 where
   pub interface : Interface
   pub compiled : IsCompiled f idl acf interface
-  pub made_is : made ≡ plan.listing (code_of interface.types interface.operations) (values_of interface.types) (entries_of interface.types interface.operations)
+  pub made_is : made
+      ≡ plan.listing (code_of interface.types interface.operations) (values_of interface.types) (entries_of interface.types interface.operations)
 
 -- Why a main file that was loaded means no interface with the files after it: a load comes first that is absent or fails, or one of the files is
 -- refused. (Of memory no more is said.)

@@ -66,7 +66,8 @@ IsNameFault held idl text sources f =
     ⊎ ((tree : Tree) × IsFile text tree × IsRefused held (main_file idl text) tree sources f)
 
 -- The names are resolved, the attribute configuration file is read, and this is the rule that is reported, at its place.
-pub record IsBroken (held : Option (List ℕ → Option (List ℕ))) (idl text : List ℕ) (acf : Option (List ℕ)) (sources : List Source) (beside : Option AcfFile) (rule : ℕ) (place : Place) : Type 0 where
+pub record IsBroken (held : Option (List ℕ → Option (List ℕ))) (idl text : List ℕ) (acf : Option (List ℕ)) (sources : List Source)
+    (beside : Option AcfFile) (rule : ℕ) (place : Place) : Type 0 where
   pub state : State
   pub resolved : AreResolved held idl text state
   pub sources_are : sources ≡ state.sources
@@ -131,8 +132,8 @@ reported_fault s (names.Syntax file at f) = reported_if s (place_of file at) (sy
 abbrev pub reported_rule : List Source → ℕ → Place → Refusal
 reported_rule s rule place = reported_at s place (reason.Rule rule)
 
--- A broken rule as a refusal. It is reported under the name of the file that breaks it: that of the attribute configuration file where the place is one
--- of that file.
+-- A broken rule as a refusal. It is reported under the name of the file that breaks it: that of the attribute configuration file where the place is
+-- one of that file.
 abbrev pub reported_beside : List Source → Option AcfFile → ℕ → Place → Refusal
 reported_beside s None rule place = reported_rule s rule place
 reported_beside s (Some f) rule place = elim (eqb place.file acf_file) [
@@ -151,7 +152,8 @@ IsAcfFault text at (reason.Banned word) = ((token : ℕ) × IsNoAcf text at (syn
 IsAcfFault text at _ = ⊥
 
 -- The names are resolved, and the attribute configuration file of this name was loaded. It has this text, and a fault at this octet.
-pub record IsBadAcf (held : Option (List ℕ → Option (List ℕ))) (idl text : List ℕ) (acf : Option (List ℕ)) (name body : List ℕ) (at : ℕ) (why : IdlReason) : Type 0 where
+pub record IsBadAcf (held : Option (List ℕ → Option (List ℕ))) (idl text : List ℕ) (acf : Option (List ℕ)) (name body : List ℕ) (at : ℕ)
+    (why : IdlReason) : Type 0 where
   pub state : State
   pub resolved : AreResolved held idl text state
   pub named : acf ≡ Some name
@@ -163,8 +165,10 @@ pub record IsBadAcf (held : Option (List ℕ → Option (List ℕ))) (idl text :
 -- The files are refused in this way: for the first fault of their names; after that for the first fault of the attribute configuration file, which is
 -- told by its name and by line and column of its text; and after that for the first rule that is broken.
 pub data IsIdlFault (held : Option (List ℕ → Option (List ℕ))) (idl text : List ℕ) (acf : Option (List ℕ)) (r : Refusal) : Type 0 where
-  by_names : (sources : List Source) (f : NameFault) → IsNameFault held idl text sources f → r ≡ reported_fault sources f → IsIdlFault held idl text acf r
-  by_acf : (name body : List ℕ) (at : ℕ) (why : IdlReason) → IsBadAcf held idl text acf name body at why → r ≡ reported_by name (position_of body at) why
+  by_names : (sources : List Source) (f : NameFault) → IsNameFault held idl text sources f → r ≡ reported_fault sources f
+      → IsIdlFault held idl text acf r
+  by_acf : (name body : List ℕ) (at : ℕ) (why : IdlReason) → IsBadAcf held idl text acf name body at why
+      → r ≡ reported_by name (position_of body at) why
       → IsIdlFault held idl text acf r
   by_rules : (sources : List Source) (beside : Option AcfFile) (rule : ℕ) (place : Place) → IsBroken held idl text acf sources beside rule place
       → r ≡ reported_beside sources beside rule place → IsIdlFault held idl text acf r
@@ -178,8 +182,8 @@ pub record IsDueImport (held : Option (List ℕ → Option (List ℕ))) (idl tex
   pub sources : List Source
   pub comes : Walk held (start (main_file idl text)) (all_of 0 tree) (Stopped (and_source sources file []) (names.Failed (length sources)))
 
--- The load of the attribute configuration file is due: it is named, and all names are resolved. A file that was loaded already under this name, as one
--- of IDL, is loaded again.
+-- The load of the attribute configuration file is due: it is named, and all names are resolved. A file that was loaded already under this name, as
+-- one of IDL, is loaded again.
 pub record IsDueAcf (held : Option (List ℕ → Option (List ℕ))) (idl text : List ℕ) (acf : Option (List ℕ)) (file : List ℕ) : Type 0 where
   pub state : State
   pub resolved : AreResolved held idl text state

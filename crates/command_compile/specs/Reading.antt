@@ -58,7 +58,8 @@ IsReportedUnread name text l (parser.Banned k) r =
 -- ## Names asked for
 
 -- What files mean whose names are resolved in this way.
-pub record IsJudged (held : Option (List ℕ → Option (List ℕ))) (idl text : List ℕ) (acf : Option (List ℕ)) (state : State) (i : Interface) : Type 0 where
+pub record IsJudged (held : Option (List ℕ → Option (List ℕ))) (idl text : List ℕ) (acf : Option (List ℕ)) (state : State)
+    (i : Interface) : Type 0 where
   pub means : Means held idl text acf i
   pub state_is : means.state ≡ state
 

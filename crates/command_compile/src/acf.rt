@@ -31,7 +31,8 @@ pub(crate) fn load_beside<'a, F: Files>(
     files: &mut F,
 ) -> Result<Option<NamedAcf<'a>>, Refusal>
     ensures beside { IfOk result (λ f. IsBeside (F.held files.old) (option_map (λ n. n.now) name.entry) (seen_beside f)) }
-    ensures refused { IfErr result (IsBesideCause (files_seen F.held F.absences F.faults F.asked files.old files.new) (option_map (λ n. n.now) name.entry)) }
+    ensures refused { IfErr result
+        (IsBesideCause (files_seen F.held F.absences F.faults F.asked files.old files.new) (option_map (λ n. n.now) name.entry)) }
     ensures asked { F.asked files.new ≡ F.asked files.old ++ option_to_list (option_map (λ n. n.now) name.entry) }
     ensures later { F.faults files.old ≤ F.faults files.new }
     ensures absences_later { F.absences files.old ≤ F.absences files.new }

@@ -45,9 +45,12 @@ pub fn list<F: Files>(
     acf: Option<&str>,
     files: &mut F,
 ) -> Result<Octets, Refusal>
-    ensures asked { AsksFiles (files_seen F.held F.absences F.faults F.asked files.old files.new) (Some (record { idl = idl.now; acf = option_map (λ a. a.now) acf.entry })) }
-    ensures listed { IfOk result (IsListed (files_seen F.held F.absences F.faults F.asked files.old files.new) idl.now (option_map (λ a. a.now) acf.entry)) }
-    ensures refused { IfErr result (IsIdlCause (files_seen F.held F.absences F.faults F.asked files.old files.new) idl.now (option_map (λ a. a.now) acf.entry)) }
+    ensures asked { AsksFiles (files_seen F.held F.absences F.faults F.asked files.old files.new)
+        (Some (record { idl = idl.now; acf = option_map (λ a. a.now) acf.entry })) }
+    ensures listed { IfOk result
+        (IsListed (files_seen F.held F.absences F.faults F.asked files.old files.new) idl.now (option_map (λ a. a.now) acf.entry)) }
+    ensures refused { IfErr result
+        (IsIdlCause (files_seen F.held F.absences F.faults F.asked files.old files.new) idl.now (option_map (λ a. a.now) acf.entry)) }
 {
     let interface = compile(alloc, idl, acf, files)?;
     Ok(interface_listing(alloc, &interface)?)
@@ -66,9 +69,12 @@ pub fn list_plan<F: Files>(
     acf: Option<&str>,
     files: &mut F,
 ) -> Result<Octets, Refusal>
-    ensures asked { AsksFiles (files_seen F.held F.absences F.faults F.asked files.old files.new) (Some (record { idl = idl.now; acf = option_map (λ a. a.now) acf.entry })) }
-    ensures planned { IfOk result (IsPlanned (files_seen F.held F.absences F.faults F.asked files.old files.new) idl.now (option_map (λ a. a.now) acf.entry)) }
-    ensures refused { IfErr result (IsIdlCause (files_seen F.held F.absences F.faults F.asked files.old files.new) idl.now (option_map (λ a. a.now) acf.entry)) }
+    ensures asked { AsksFiles (files_seen F.held F.absences F.faults F.asked files.old files.new)
+        (Some (record { idl = idl.now; acf = option_map (λ a. a.now) acf.entry })) }
+    ensures planned { IfOk result
+        (IsPlanned (files_seen F.held F.absences F.faults F.asked files.old files.new) idl.now (option_map (λ a. a.now) acf.entry)) }
+    ensures refused { IfErr result
+        (IsIdlCause (files_seen F.held F.absences F.faults F.asked files.old files.new) idl.now (option_map (λ a. a.now) acf.entry)) }
 {
     let interface = compile(alloc, idl, acf, files)?;
     let plan = make(alloc, &interface)?;
@@ -90,9 +96,12 @@ pub fn compile<F: Files>(
     acf: Option<&str>,
     files: &mut F,
 ) -> Result<Interface, Refusal>
-    ensures asked { AsksFiles (files_seen F.held F.absences F.faults F.asked files.old files.new) (Some (record { idl = idl.now; acf = option_map (λ a. a.now) acf.entry })) }
-    ensures ok { IfOk result (IsCompiled (files_seen F.held F.absences F.faults F.asked files.old files.new) idl.now (option_map (λ a. a.now) acf.entry)) }
-    ensures err { IfErr result (IsIdlCause (files_seen F.held F.absences F.faults F.asked files.old files.new) idl.now (option_map (λ a. a.now) acf.entry)) }
+    ensures asked { AsksFiles (files_seen F.held F.absences F.faults F.asked files.old files.new)
+        (Some (record { idl = idl.now; acf = option_map (λ a. a.now) acf.entry })) }
+    ensures ok { IfOk result
+        (IsCompiled (files_seen F.held F.absences F.faults F.asked files.old files.new) idl.now (option_map (λ a. a.now) acf.entry)) }
+    ensures err { IfErr result
+        (IsIdlCause (files_seen F.held F.absences F.faults F.asked files.old files.new) idl.now (option_map (λ a. a.now) acf.entry)) }
     ensures later { F.faults files.old ≤ F.faults files.new }
     ensures absences_later { F.absences files.old ≤ F.absences files.new }
     ensures same { F.held files.new ≡ F.held files.old }
@@ -111,8 +120,10 @@ fn compile_text<F: Files>(
 ) -> Result<Interface, Refusal>
     requires { IsContent (F.held files.old) idl.now text }
     ensures asked { AsksAfter (files_seen F.held F.absences F.faults F.asked files.old files.new) idl.now (option_map (λ a. a.now) acf.entry) }
-    ensures ok { IfOk result (MeansAfter (files_seen F.held F.absences F.faults F.asked files.old files.new) idl.now text (option_map (λ a. a.now) acf.entry)) }
-    ensures err { IfErr result (IsTextCause (files_seen F.held F.absences F.faults F.asked files.old files.new) idl.now text (option_map (λ a. a.now) acf.entry)) }
+    ensures ok { IfOk result
+        (MeansAfter (files_seen F.held F.absences F.faults F.asked files.old files.new) idl.now text (option_map (λ a. a.now) acf.entry)) }
+    ensures err { IfErr result
+        (IsTextCause (files_seen F.held F.absences F.faults F.asked files.old files.new) idl.now text (option_map (λ a. a.now) acf.entry)) }
     ensures later { F.faults files.old ≤ F.faults files.new }
     ensures absences_later { F.absences files.old ≤ F.absences files.new }
     ensures same { F.held files.new ≡ F.held files.old }
@@ -215,7 +226,8 @@ fn judge<F: Files>(
     ensures ok { (idl text : List ℕ) → (r : AreResolved (F.held files.old) idl text (seen_scope sources.now scope.now))
         → IfOk result (IsJudged (F.held files.old) idl text (option_map (λ a. a.now) acf.entry) (seen_scope sources.now scope.now)) }
     ensures err { (idl text : List ℕ) → AreResolved (F.held files.old) idl text (seen_scope sources.now scope.now)
-        → IfErr result (IsTextCause (files_seen F.held F.absences F.faults F.asked files.old files.new) idl text (option_map (λ a. a.now) acf.entry)) }
+        → IfErr result
+        (IsTextCause (files_seen F.held F.absences F.faults F.asked files.old files.new) idl text (option_map (λ a. a.now) acf.entry)) }
     ensures later { F.faults files.old ≤ F.faults files.new }
     ensures absences_later { F.absences files.old ≤ F.absences files.new }
     ensures same { F.held files.new ≡ F.held files.old }

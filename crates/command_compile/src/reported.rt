@@ -4,7 +4,8 @@ ghost use Rattle.command_refusals.specs.declared.refusal.Refusal.{Refusal as Ref
 ghost use Rattle.command_refusals.specs.declared.refusal.IdlReason.TheVariants as reason;
 ghost use Rattle.nd_base.specs.Text.{is_word_octet as is_of_word, position_of as position_at};
 ghost use Rattle.command_compile.specs.Reading.{IsOrMemory};
-ghost use Rattle.command_compile.specs.Idl.{name_in as name_of_file, text_in as text_of_file, word_at as word_from, reported_by, reported_at as reported_there, reported_fault, reported_beside};
+ghost use Rattle.command_compile.specs.Idl.{name_in as name_of_file, text_in as text_of_file, word_at as word_from, reported_by};
+ghost use Rattle.command_compile.specs.Idl.{reported_at as reported_there, reported_fault, reported_beside};
 ghost use Rattle.command_compile.specs.Loaded.{seen_beside};
 
 use crate::acf::NamedAcf;

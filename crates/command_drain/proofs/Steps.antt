@@ -8,11 +8,7 @@ use Rattle.nd_base.proofs.Rising.{rose_later}
 use Rattle.nd_base.specs.declared.octets.Order.{Order}
 use Rattle.nd_base.specs.Counts.{Rose}
 use Rattle.nd_base.specs.Over.{SourceSeen}
-use Rattle.nd_types.specs.declared.interface.Interface.{Interface}
-use Rattle.nd_types.specs.declared.types.Operation.{Operation}
-use Rattle.nd_types.specs.declared.types.Side.{Side}
 use Rattle.nd_value.specs.declared.value.Graph.{Graph}
-use Rattle.nd_value.specs.Fitting.{setting_beside}
 use Rattle.nd_value.specs.Setting.{Setting}
 use Rattle.nd_grammar.specs.declared.reason.Reason.{Reason}
 use Rattle.nd_grammar.proofs.conforming.StreamConforms.{le_or}
@@ -107,11 +103,6 @@ not_taken s e w order (BadLabel fault) never = absurd never
 not_taken s e w order ShortLabel never = absurd never
 
 -- ## The text
-
-pub text_is : (i : Interface) (o : Operation) (side own : Side) (given its : Option Graph) (g : Graph) (text : List ℕ) → own ≡ side → its ≡ given
-    → IsText (setting_beside i o own its) g text → IsText (setting_beside i o side given) g text
-text_is i o side own given its g text same alone printed =
-    subst (λ q. IsText (setting_beside i o side q) g text) alone (subst (λ k. IsText (setting_beside i o k its) g text) same printed)
 
 -- ## The end
 

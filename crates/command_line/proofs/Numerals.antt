@@ -7,14 +7,7 @@ use Rattle.std.proofs.lemmas.Bool.{eqb-true, leb-true}
 use Rattle.std.proofs.lemmas.Str.Parse.{IsNumeralModel}
 use Rattle.std.proofs.lemmas.Fmt.{parse-decimal, digits_value-decimal}
 use Rattle.command_line.specs.Words.{is_word, number_by, number_of}
-
-left : (a b : Bool) → (a && b) ≡ true → a ≡ true
-left true b h = refl
-left false b h = h
-
-right : (a b : Bool) → (a && b) ≡ true → b ≡ true
-right true b h = h
-right false b h = cc
+use Rattle.nd_lemmas.proofs.Booleans.{first_true as left, second_true as right}
 
 same_word : (xs ys : List ℕ) → pointwise nat_eq xs ys ≡ true → xs ≡ ys
 same_word [] [] h = refl

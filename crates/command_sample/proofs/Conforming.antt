@@ -22,6 +22,7 @@ use Rattle.nd_value.specs.Conforms.{Conforms, Reached, by_root, by_cell, AgreesA
 use Rattle.nd_value.proofs.Apart.{all_append}
 use Rattle.command_sample.specs.Interface.{sample_types, sample_setting}
 use Rattle.command_sample.specs.Nodes.{next_state, value_by, left, right, sample_node, sample_nodes, sample_graph}
+use Rattle.nd_lemmas.proofs.Lists.{list_all_from as list_of_all}
 
 -- ## The nodes
 
@@ -113,10 +114,6 @@ module _ (P : HomeNode → Type 0) (n : ℕ)
       (cell_nodes sample_types (i + 1) (sample_nodes n (i + 1) k (next_state (next_state x))))
       (each i (next_state x) (next_state (next_state x)) some (omega (arith, e)))
       (all_cells k (i + 1) (next_state (next_state x)) (omega (arith, some)) (omega (arith, e)))
-
-list_of_all : {X : Type 0} (f : X → Bool) (xs : List X) → AllByRecursion (λ x. f x ≡ true) xs → list_all f xs ≡ true
-list_of_all f [] h = refl
-list_of_all f (x ∷ xs) h = rw (h.0, list_of_all f xs h.1) refl
 
 module _ (seed n : ℕ) (some : 1 ≤ n) (few : n ≤ 1000000) where
   abbrev g : Graph

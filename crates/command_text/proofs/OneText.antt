@@ -12,7 +12,8 @@ use Rattle.text_grammar.specs.declared.fault.TextReason.{TextReason}
 use Rattle.text_grammar.specs.declared.fault.TextReason.TheVariants.{TooLong as too_long}
 use Rattle.text_grammar.specs.Paths.{IsPath}
 use Rattle.text_grammar.specs.Reads.{ReadsAs, IsTextFault}
-use Rattle.text_reading_laws.proofs.Stated.{never_both, one_graph, one_fault}
+use Rattle.text_reading_laws.proofs.Stated.{one_graph, one_fault}
+use Rattle.text_reading_laws.proofs.OneText.{never_both}
 use Rattle.command_refusals.specs.declared.refusal.Refusal.{Refusal}
 use Rattle.command_refusals.specs.declared.refusal.Refusal.TheVariants.{Memory, Absent, FileFailed, BadIdl, NoOperation, ReadFault, BadOctets, BadText, BadValue, TooLong, BadRequest, BadLabel}
 use Rattle.command_refusals.specs.declared.refusal.Refusal.TheVariants.{ShortLabel, TooFewEnds, EndFailed}

@@ -29,6 +29,7 @@ use Rattle.nd_value.specs.Tree.{Tree, Trees, node, none, more, count, node_count
 use Rattle.nd_value.specs.Variables.{root_agreements}
 use Rattle.nd_value.proofs.Apart.{among_left, among_right}
 use Rattle.text_grammar.specs.Paths.{child_paths, element_paths, arm_paths, member_path, node_paths, home_name, home_types, home_value, root_types, cell_types, IsPath}
+use Rattle.nd_lemmas.proofs.Lists.{length_map as map_length}
 
 -- ## Items of lists
 
@@ -61,10 +62,6 @@ gathered f (x ∷ xs) y a =
       | inl b ↦ record { of = x; among = inl refl; is = b }
       | inr b ↦ let i = gathered f xs y b in record { of = i.of; among = inr i.among; is = i.is }
     ]
-
-map_length : {X Y : Type 0} (f : X → Y) (xs : List X) → length (map f xs) ≡ length xs
-map_length f [] = refl
-map_length f (x ∷ xs) = ap suc (map_length f xs)
 
 -- ## Paths of nodes
 

@@ -1,6 +1,5 @@
 -- What the commands on values answer, from what their steps answer.
-use Rattle.std.proofs.Common.{◌≡◌, ◌∙◌, ℕ, zero, suc, ◌<◌, ◌≤◌, true, false, Bool, List, [], ◌∷◌, length, Option, Some, None, Result, Ok, Err, IfOk, IfErr, refl, sym, ap, subst, inr, take, arith}
-use Rattle.std.specs.List.{slice_get}
+use Rattle.std.proofs.Common.{◌≡◌, ◌∙◌, ℕ, ◌<◌, true, false, Bool, List, length, Some, None, Result, Ok, Err, IfOk, IfErr, refl, sym, ap, subst, inr}
 use Rattle.nd_types.specs.declared.interface.Interface.{Interface}
 use Rattle.nd_types.specs.declared.types.Operation.{Operation}
 use Rattle.nd_types.specs.Operations.{operation_named}
@@ -27,11 +26,7 @@ use Rattle.nd_base.specs.Over.{FilesSeen, SourceSeen}
 use Rattle.dceidl.specs.Ready.{IsFound, IsReady, IsReadyCause, IsNotFound}
 use Rattle.command_compile.specs.Compiled.{IsCompiled, IsIdlCause}
 use Rattle.dceidl.specs.Input.{AreRead, OfText, IsMadeOf, IsTaskCause, IsInputTextCause, IsInputEncodingCause}
-
-pub item_at : {X : Type 0} (xs : List X) (i : ℕ) → i < length xs → (x : X) × (slice_get xs i ≡ Some x)
-item_at [] i h = absurd (omega (arith, h))
-item_at (x ∷ xs) zero h = (x, refl)
-item_at (x ∷ xs) (suc i) h = item_at xs i (omega (arith, h))
+use Rattle.nd_lemmas.proofs.Lists.{item_at}
 
 -- an interface that files mean, and its operation, are ready
 pub found_is : (f : FilesSeen) (of : Subject) (i : Interface) → IsCompiled f of.idl of.acf i → (result : Result Ready Refusal)
@@ -97,12 +92,6 @@ idl_refused f of (BadPdu spot because) cause = absurd cause
 idl_refused f of (NotCompatible differing) cause = absurd cause
 idl_refused f of (BadScript row) cause = absurd cause
 idl_refused f of LongScript cause = absurd cause
-
-pub take_whole : (n : ℕ) (xs : List ℕ) → length xs ≤ n → take n xs ≡ xs
-take_whole zero [] h = refl
-take_whole zero (x ∷ xs) h = absurd (omega (arith, h))
-take_whole (suc n) [] h = refl
-take_whole (suc n) (x ∷ xs) h = ap (λ u. x ∷ u) (take_whole n xs (omega (arith, h)))
 
 -- ## What is made of the text of the input
 

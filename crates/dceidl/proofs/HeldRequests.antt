@@ -1,7 +1,6 @@
 -- What is accepted beside the request of a file that is held, and how it is refused where no load fails.
 use Rattle.std.proofs.Common.{◌≡◌, ℕ, List, Option, Some, None, refl, sym, ◌∙◌, ap, subst, inl, inr, ◌⊎◌}
 use Rattle.nd_base.specs.Over.{FilesSeen, HasRisen}
-use Rattle.nd_types.specs.declared.types.Side.TheVariants.{In}
 use Rattle.nd_value.specs.declared.value.Graph.{Graph}
 use Rattle.nd_value.specs.Setting.{Setting}
 use Rattle.nd_grammar.specs.LegalSide.{IsLegalSide}
@@ -12,11 +11,11 @@ use Rattle.command_refusals.specs.declared.refusal.Refusal.TheVariants.{BadPdu, 
 use Rattle.command_refusals.specs.declared.refusal.RequestFault.{RequestFault}
 use Rattle.command_text.specs.Request.{inputs, beside, IsRequestText, IsRequestFault, HoldsRequest, HoldsNoRequest}
 use Rattle.command_text.proofs.OneText.{request_or_fault, one_request, one_request_fault}
-use Rattle.dceidl.specs.Ready.{IsReady, IsReadyCause, IsReadyBeside, IsUnreadyBeside, IsAllReady, IsUnready, HasAsked, up_to}
+use Rattle.dceidl.specs.Ready.{IsReadyBeside, IsAllReady, IsUnready, HasAsked, up_to}
 use Rattle.dceidl.specs.Rows.{IsHeld, IsAccepted, IsAcceptedBeside, AreAccepted, MustBeUnready, MustBeNoRequest}
 use Rattle.command_line.specs.Words.{Subject}
 use Rattle.dceidl.proofs.HeldFiles.{held_only, held_there, one_setting, accepted_cause, unready, unready_cause}
-use Rattle.dceidl.proofs.Sides.{legal_side_of}
+use Rattle.nd_grammar.proofs.LegalSides.{interface_side as legal_side_of}
 
 -- the side of what is accepted is legal, and so are the inputs of its operation
 pub legal_of : (f : FilesSeen) (of : Subject) (w : Setting) → IsAccepted f of w → IsLegalSide w

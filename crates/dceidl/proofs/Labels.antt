@@ -1,5 +1,5 @@
 -- The format label before the octets of values: what is read after it, and where the input is known it states one order, or is refused in one way.
-use Rattle.std.proofs.Common.{◌≡◌, ℕ, ◌+◌, ◌<◌, ◌≤◌, Bool, List, [], ◌++◌, length, Option, Some, Result, Ok, Err, IfOk, IfErr, refl, sym, ◌∙◌, ap, subst, take, drop, inl, inr, arith}
+use Rattle.std.proofs.Common.{◌≡◌, ℕ, ◌+◌, ◌<◌, ◌≤◌, Bool, List, [], ◌++◌, length, Option, Some, Result, Ok, Err, IfOk, IfErr, refl, sym, ◌∙◌, ap, subst, take, drop, inr, arith}
 use Rattle.std.proofs.lemmas.List.{append-nil, length-append, drop_at}
 use Rattle.std.specs.Io.KnownBytes.{Consumes, IsAtEnd}
 use Rattle.nd_base.specs.declared.octets.Order.{Order}
@@ -21,7 +21,8 @@ use Rattle.command_line.specs.declared.command.OrderWord.TheVariants.{Fixed, Lab
 use Rattle.command_line.specs.declared.command.Task.TheVariants.{Read}
 use Rattle.dceidl.specs.Input.{IsAfterLabel, IsOpened, IsUnopened, IsMadeReading, IsReadingCause, IsMadeOf, IsTaskCause}
 use Rattle.dceidl.specs.Rows.{AreGiven, AreGivenIn}
-use Rattle.dceidl.proofs.OneInput.{split_by, take_front}
+use Rattle.dceidl.proofs.OneInput.{split_by}
+use Rattle.nd_lemmas.proofs.Lists.{take_front}
 
 -- a source over a call
 abbrev pub over : Option (List ℕ) → Option (List ℕ) → Bool → ℕ → ℕ → SourceSeen

@@ -1,18 +1,14 @@
 -- Which octets of an input are read, where it tells them.
 use Rattle.std.proofs.Common.{◌≡◌, ℕ, ◌+◌, ◌<◌, ◌≤◌, List, [], ◌++◌, length, Option, Some, None, refl, sym, ◌∙◌, ap, subst, take, arith}
 use Rattle.std.proofs.lemmas.Option.{same_Some}
-use Rattle.std.proofs.lemmas.List.{append-nil}
-use Rattle.std.proofs.Math.Seq.{take-append_seam}
+use Rattle.std.proofs.lemmas.List.{append-nil, take_all as take_whole}
 use Rattle.std.proofs.lemmas.Bool.{leb-true, leb-false}
 use Rattle.std.specs.Prelude.{leb, Bool, true, false}
 use Rattle.std.specs.Io.KnownBytes.{Consumes, IsAtEnd}
 use Rattle.nd_base.specs.Over.{SourceSeen}
 use Rattle.dceidl.specs.Input.{AreRead}
 use Rattle.dceidl.specs.Rows.{IsInput, AreGiven}
-use Rattle.dceidl.proofs.Causes.{take_whole}
-
-pub take_front : (n : ℕ) (xs ys : List ℕ) → length xs ≡ n → take n (xs ++ ys) ≡ xs
-take_front n xs ys e = ap (λ k. take k (xs ++ ys)) (sym e) ∙ take-append_seam xs ys
+use Rattle.nd_lemmas.proofs.Lists.{take_front}
 
 -- the octets that were read are those of the input that count
 module _ (s : SourceSeen) (limit : ℕ) (octets others : List ℕ) (input : IsInput s limit octets) (read : AreRead s limit others) where

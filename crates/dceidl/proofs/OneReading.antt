@@ -16,7 +16,7 @@ use Rattle.command_refusals.specs.declared.refusal.Refusal.TheVariants.{ShortLab
 use Rattle.command_refusals.specs.declared.refusal.Refusal.TheVariants.{BadPdu, NotCompatible, BadScript, LongScript}
 use Rattle.command_refusals.specs.declared.refusal.OctetsFault.{OctetsFault}
 use Rattle.command_refusals.specs.declared.refusal.OctetsFault.TheVariants as fault
-use Rattle.nd_base.specs.Over.{SourceSeen, HasRisen}
+use Rattle.nd_base.specs.Over.{SourceSeen}
 use Rattle.nd_grammar.specs.declared.reason.Reason.{Reason}
 use Rattle.nd_grammar.specs.declared.reason.Reason.TheVariants as reason
 use Rattle.nd_grammar.specs.Bad.{Bad}
@@ -24,7 +24,8 @@ use Rattle.nd_grammar.specs.decoded.Verdict.{MayFollow}
 use Rattle.std.specs.Io.KnownBytes.{IsAtEnd}
 use Rattle.command_decode.specs.Printed.{IsWhole, IsInputCause, IsRefusedInput, IsTrailedInput}
 use Rattle.dceidl.specs.Rows.{IsRefusedAt, IsTrailing, AreGiven}
-use Rattle.dceidl.proofs.OneInput.{split_input, take_front}
+use Rattle.dceidl.proofs.OneInput.{split_input}
+use Rattle.nd_lemmas.proofs.Lists.{take_front}
 use Rattle.dceidl.proofs.Sides.{whole_begins}
 
 -- why octets are refused; where memory was wanting no more is said

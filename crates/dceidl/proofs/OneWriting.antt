@@ -8,14 +8,14 @@ use Rattle.nd_value.specs.Setting.{Setting}
 use Rattle.nd_value.specs.Conforms.{Conforms}
 use Rattle.nd_value.proofs.Misfits.{misfit_is_no_fit}
 use Rattle.nd_grammar.specs.LegalSide.{IsLegalSide}
-use Rattle.nd_grammar.specs.Chosen.{Chosen}
-use Rattle.nd_grammar.proofs.ChosenRepresents.{chosen_exists, chosen_alone}
+use Rattle.nd_grammar.proofs.ChosenRepresents.{chosen_exists}
 use Rattle.command_encode.specs.Written.{IsWritten, IsLong}
 use Rattle.text_grammar.specs.declared.fault.TextReason.{TextReason}
 use Rattle.text_grammar.specs.Reads.{ReadsAs, IsTextFault}
-use Rattle.text_reading_laws.proofs.Stated.{never_both, one_graph}
+use Rattle.text_reading_laws.proofs.Stated.{one_graph}
+use Rattle.text_reading_laws.proofs.OneText.{never_both}
 use Rattle.command_text.specs.Fitted.{IsTextCause, IsMisfitAt}
-use Rattle.command_text.proofs.OneText.{good_cause, fault_cause, misfit_cause}
+use Rattle.command_text.proofs.OneText.{good_cause}
 use Rattle.command_refusals.specs.declared.refusal.Refusal.{Refusal}
 use Rattle.command_refusals.specs.declared.refusal.Refusal.TheVariants.{Memory, Absent, FileFailed, BadIdl, NoOperation, ReadFault, BadOctets, BadText, BadValue, TooLong, BadRequest, BadLabel}
 use Rattle.command_refusals.specs.declared.refusal.Refusal.TheVariants.{ShortLabel, TooFewEnds, EndFailed}

@@ -2,16 +2,8 @@
 -- to which an edge goes from one of them. A level after which no number comes is there before n + 1 levels are over.
 -- `starts` is a test of a number, `goes` a test of two, `f` and `g` are tests, `b` and `c` numbers, `k` and `l` levels or numbers up to which one goes.
 use Rattle.std.proofs.Common.{◌≡◌, ℕ, ◌+◌, ◌<◌, ◌≤◌, zero, suc, Bool, true, false, ◌&&◌, ◌||◌, eqb, leb, ◌≢◌, refl, ap, sym, ◌∙◌, subst, inl, inr, ◌⊎◌, arith}
-use Rattle.std.proofs.lemmas.Bool.{and_parts, and_from, leb-true, leb-false}
+use Rattle.std.proofs.lemmas.Bool.{and_parts, and_from, leb-true, leb-false, or_left, or_right}
 use Rattle.std.proofs.lemmas.Bool.Decides.{eqb_tells}
-
-or_left : (a b : Bool) → a ≡ true → (a || b) ≡ true
-or_left true b h = refl
-or_left false b h = cc
-
-or_right : (a b : Bool) → b ≡ true → (a || b) ≡ true
-or_right true b h = refl
-or_right false b h = h
 
 pub or_parts : (a b : Bool) → (a || b) ≡ true → (a ≡ true) ⊎ (b ≡ true)
 or_parts true b h = inl refl

@@ -2,7 +2,7 @@
 use Rattle.std.proofs.Common.{◌≡◌, ℕ, ◌+◌, ◌^◌, ◌<◌, ◌≤◌, zero, suc, Bool, true, List, [], ◌∷◌, ◌++◌, length, Option, Some, None, refl, ap, ap₂, sym, ◌∙◌, arith, subst, map}
 use Rattle.std.specs.Prelude.{flat_map}
 use Rattle.std.specs.List.{AllByRecursion, list_all, slice_get}
-use Rattle.std.proofs.lemmas.Bool.{and_parts, and_from}
+use Rattle.std.proofs.lemmas.Bool.{and_parts}
 use Rattle.nd_types.specs.declared.interface.Interface.{Interface}
 use Rattle.nd_types.specs.declared.types.TypeDef.{TypeDef}
 use Rattle.nd_types.specs.declared.types.TypeDef.TheVariants as def
@@ -35,6 +35,8 @@ use Rattle.nd_value.specs.FirstMisfit.{MisfitAt, first_local, first_shared, IsFi
 use Rattle.nd_value.specs.Fitting.{setting_of}
 use Rattle.nd_value.proofs.NodeFacts.{fit_node}
 use Rattle.nd_value.proofs.Misfits.{all_left, all_both, all_weaker, Without, first-none, none-local, passed_conforms}
+use Rattle.nd_lemmas.proofs.Lists.{list_all_from}
+use Rattle.nd_value.proofs.DeferralExists.{no_nodes as none_typed}
 
 no_pointer_by : (d : Option TypeDef) → is_simple d ≡ true → (b : Bool) (c : Option ℕ) (h : Home) (n : ℕ) (ags : List Agreement) → pointer_by d b c h n ags ≡ []
 no_pointer_by (Some (def.Pointer k to)) e b c h n ags = cc
@@ -46,10 +48,6 @@ no_children (Some (def.Array elem bound varying)) e l ks = cc
 no_children (Some (def.Union tag encapsulated arms default)) e l ks = cc
 no_children (Some (def.Pipe elem)) e l ks = cc
 no_children _ e l ks = refl
-
-none_typed : (table : Table) (ags : List (List Agreement)) (n : ℕ) (ts : Trees) → nodes_of table [] ags n ts ≡ []
-none_typed table ags n none = refl
-none_typed table ags n (more t ts) = refl
 
 -- no agreements
 abbrev Ungoverned : HomeNode → Type 0
@@ -98,10 +96,6 @@ value_of_type d p e l ks h = by l (ap (λ x. has_shape x l ks) (sym e) ∙ h) wh
   by : (m : Label) → has_shape (Some (def.Prim p)) m ks ≡ true → has_machine_values m ≡ true
   by (tree.Num z) h = refl
   by m h = cc
-
-list_all_from : {X : Type 0} (f : X → Bool) (xs : List X) → AllByRecursion (λ x. f x ≡ true) xs → list_all f xs ≡ true
-list_all_from f [] h = refl
-list_all_from f (x ∷ xs) h = and_from (f x) (list_all f xs) h.0 (list_all_from f xs h.1)
 
 module _ (w : Setting) (g : Graph) (simple : AllByRecursion (IsSimpleCell w.table) g.cells) (plain : AllByRecursion (IsPrimitiveRoot w.table) (root_list w)) where
   pub no_pointers_at_all : all_pointers w g ≡ []

@@ -1,7 +1,7 @@
 -- Tests that compute, and what they show.
 use Rattle.std.proofs.Common.{◌≡◌, ℕ, ◌+◌, ◌^◌, ◌<◌, zero, suc, ℤ, Bool, true, false, ◌&&◌, ◌||◌, cond, not, eqb, ltb, leb, List, [], ◌∷◌, ◌++◌, length, Option, Some, None, refl, ap, sym, inl, inr}
 use Rattle.std.proofs.Common.{subst, take, drop}
-use Rattle.std.proofs.lemmas.Bool.{eqb-true, eq-eqb, leb-true, ltb-true}
+use Rattle.std.proofs.lemmas.Bool.{eqb-true, eq-eqb, leb-true, ltb-true, not-true as not_is}
 use Rattle.std.proofs.lemmas.Bool.Decides.{Decides-int_eq}
 use Rattle.std.proofs.lemmas.Option.{same_Some}
 use Rattle.std.specs.Ordering.{int_eq}
@@ -27,6 +27,7 @@ use Rattle.nd_grammar.specs.Chosen.{Chosen, octets_from, pipe_cuts}
 use Rattle.nd_value.specs.Conforms.{IsPartial, ShareOnlyIfFull, AllEarlier}
 use Rattle.nd_value.specs.Misfit.{is_partial_node, has_machine_values}
 use Rattle.nd_value.specs.Homes.{all_nodes, all_pointers}
+use Rattle.nd_lemmas.proofs.Booleans.{first_true as and_left, second_true as and_right}
 
 abbrev is_full : Class → Bool
 is_full Full = true
@@ -72,18 +73,6 @@ walk (suc fuel) w g done (due_referent p ∷ ts) =
         | false ↦ only_if (not (is_standing done c)) (with (referent_stands p c) (walk fuel w g ((p.class, c) ∷ done) (due_of w.table (standing_cell g p c) ++ ts)))
       ]
     ]
-
-and_left : (a b : Bool) → (a && b) ≡ true → a ≡ true
-and_left true b e = refl
-and_left false b e = cc
-
-and_right : (a b : Bool) → (a && b) ≡ true → b ≡ true
-and_right true b e = e
-and_right false b e = cc
-
-not_is : (b : Bool) → not b ≡ true → b ≡ false
-not_is true e = cc
-not_is false e = refl
 
 standing_full_yes : (ds : Placed_cells) (c : ℕ) → is_standing_full ds c ≡ true → IsPlacedFull ds c
 standing_full_yes [] c e = cc

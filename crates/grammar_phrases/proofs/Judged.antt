@@ -7,8 +7,7 @@ use Rattle.std.proofs.Math.Seq.{get_or-append_seam}
 use Rattle.std.proofs.lemmas.List.{get_or_past, get_or-take, take-append-le}
 use Rattle.std.proofs.lemmas.Bool.{le-leb}
 use Rattle.std.proofs.lemmas.Bool.Decides.{eqb_tells}
-use Rattle.grammar_phrases.specs.Text.{Rel}
-use Rattle.grammar_phrases.specs.Text.{Text, the_end, lexeme_at, Lifted, Rule, Depth, Ban}
+use Rattle.grammar_phrases.specs.Text.{Rel, Text, the_end, lexeme_at, Lifted, Rule, Depth, Ban}
 use Rattle.grammar_phrases.specs.Reading.{Fault, Syntax, Passes, Read}
 use Rattle.grammar_phrases.specs.Verdict.{begins, derives, strict, lax, limits_before, limits_before_but, all_but, Judges, whole_read}
 use Rattle.grammar_phrases.proofs.OneVerdict.{Refused, refused_alone, tree_alone}
@@ -24,7 +23,7 @@ same_list (x ∷ xs) (y ∷ ys) l same =
     cc
 
 -- the end after a text changes nothing at a place
-ended : (x : Text) (i : ℕ) → lexeme_at (x ++ the_end ∷ []) i ≡ lexeme_at x i
+pub ended : (x : Text) (i : ℕ) → lexeme_at (x ++ the_end ∷ []) i ≡ lexeme_at x i
 ended x i = elim (dec_lt i (length x)) as (λ _. lexeme_at (x ++ the_end ∷ []) i ≡ lexeme_at x i) [
   | yes lt ↦ get_or-append x (the_end ∷ []) the_end i lt
   | no ge ↦

@@ -37,7 +37,7 @@ refuses_before (Syntax p) k h = tt
 refuses_before (Passes Depth p) k h = lt-leb k p h
 refuses_before (Passes Ban p) k h = refl
 
-unequal : (p k : ℕ) → p ≢ k → eqb p k ≡ false
+pub unequal : (p k : ℕ) → p ≢ k → eqb p k ≡ false
 unequal p k h = elim (eqb_tells p k) as (λ _. eqb p k ≡ false) [ inl e ↦ absurd (h e.1) | inr n ↦ n.0 ]
 
 below : (p k : ℕ) → p < k → p ≢ k

@@ -1,7 +1,7 @@
 -- Exact readings put together: sequences, alternatives, lists and brackets, told by lists of first symbols.
-use Rattle.std.proofs.Common.{◌≡◌, ℕ, suc, ◌<◌, ◌≤◌, Bool, true, false, ◌&&◌, ◌||◌, not, cond, List, [], ◌∷◌, length, refl, sym, ap, subst, arith, ◌∙◌, leb, eq-eqb, Ok, Err, ◌⊎◌, inl, inr, Some, None}
+use Rattle.std.proofs.Common.{◌≡◌, ℕ, suc, ◌<◌, ◌≤◌, Bool, true, false, ◌||◌, not, cond, List, [], ◌∷◌, length, refl, sym, ap, subst, arith, ◌∙◌, leb, eq-eqb, Ok, Err, ◌⊎◌, inl, inr, Some, None}
 use Rattle.std.specs.List.{list_all}
-use Rattle.std.proofs.lemmas.Bool.{leb-false, eqb-true}
+use Rattle.std.proofs.lemmas.Bool.{leb-false, eqb-true, and_parts as both, not-true as not_true}
 use Rattle.std.proofs.lemmas.Bool.Decides.{eqb_tells}
 use Rattle.grammar_phrases.specs.Text.{Lexeme, Text, lexeme_at, symbol_at, is, is_in, Depth, Lifted, Rel, many, token, optional, unless, ◌⊗◌, ◌⊳◌, ◌⊲◌, ◌∣◌, located, some_of, separated, many_brackets}
 use Rattle.grammar_phrases.specs.Text.{bracketed, made}
@@ -18,20 +18,12 @@ disjoint xs ys = list_all (λ s. not (is_in ys s)) xs
 abbrev pub subset : List ℕ → List ℕ → Bool
 subset xs ys = list_all (λ s. is_in ys s) xs
 
-pub both : (a b : Bool) → (a && b) ≡ true → (a ≡ true) × (b ≡ true)
-both true b h = (refl, h)
-both false b h = clash false h refl
-
 passes : (p : ℕ → Bool) (xs : List ℕ) (s : ℕ) → list_all p xs ≡ true → is_in xs s ≡ true → p s ≡ true
 passes p [] s all one = clash false one refl
 passes p (d ∷ ds) s all one = elim (eqb_tells s d) as (λ _. p s ≡ true) [
   | inl e ↦ ap p e.1 ∙ (both (p d) (list_all p ds) all).0
   | inr n ↦ passes p ds s (both (p d) (list_all p ds) all).1 (sym (ap (λ (b : Bool). b || is_in ds s) n.0) ∙ one)
 ]
-
-not_true : (b : Bool) → not b ≡ true → b ≡ false
-not_true false e = refl
-not_true true e = clash false e refl
 
 pub apart : (xs ys : List ℕ) (s : ℕ) → disjoint xs ys ≡ true → is_in xs s ≡ true → is_in ys s ≡ false
 apart xs ys s d h = not_true (is_in ys s) (passes (λ d. not (is_in ys d)) xs s d h)
@@ -195,10 +187,6 @@ module _ {A B : Type 0} (P : Rel A) (Q : Rel B) (firsts others : List ℕ) (begi
 
   pub choice_exact : (r : Read A) (s : Read B) → (is_in firsts (symbol_at t i) ≡ true → Exact P Stop t i r) → Exact Q Stop t i s → Exact (P ∣ Q) Stop t i (choice_read firsts t i r s)
   choice_exact r s x y = choice_case r s x y (is_in firsts (symbol_at t i)) refl
-
-or_true : (a b : Bool) → b ≡ true → (a || b) ≡ true
-or_true true b h = refl
-or_true false b h = h
 
 pub in_more : (xs ys : List ℕ) (s : ℕ) → subset xs ys ≡ true → is_in xs s ≡ true → is_in ys s ≡ true
 in_more xs ys s sub h = passes (λ d. is_in ys d) xs s sub h

@@ -1,5 +1,5 @@
 -- What is noted of attributes one by one.
-use Rattle.std.proofs.Common.{◌≡◌, ◌∙◌, ℕ, ◌+◌, ◌<◌, ◌≤◌, map, take, drop, length, get_or, Bool, true, false, ◌||◌, not, List, [], ◌∷◌, ◌++◌, Option, refl, ap, ap₂, sym}
+use Rattle.std.proofs.Common.{◌≡◌, ◌∙◌, ℕ, ◌+◌, ◌<◌, ◌≤◌, map, take, drop, length, get_or, Bool, true, false, ◌||◌, List, [], ◌∷◌, ◌++◌, Option, refl, ap, ap₂, sym}
 use Rattle.std.proofs.lemmas.Slice.Eq.{bytes_eq-Decides}
 use Rattle.std.specs.List.{list_any}
 use Rattle.std.specs.Str.{bytes_eq}
@@ -67,7 +67,7 @@ no_word_more words before a word are is among x =
 abbrev pub left : Construct → List program.Attribute → ℕ → List Breach
 left c xs i = list_breaches (attribute_nodes_from c (map seen_attribute (take i xs)) (map seen_attribute (drop i xs)))
 
-before_next : (xs : List program.Attribute) (i : ℕ) (x : program.Attribute) → i < length xs → x ≡ get_or xs i x
+pub before_next : (xs : List program.Attribute) (i : ℕ) (x : program.Attribute) → i < length xs → x ≡ get_or xs i x
     → map seen_attribute (take (i + 1) xs) ≡ map seen_attribute (take i xs) ++ seen_attribute x ∷ []
 before_next xs i x below is =
     ap (map seen_attribute) (take_more xs i x below ∙ ap (λ y. take i xs ++ y ∷ []) (sym is)) ∙ map-append seen_attribute (take i xs) (x ∷ [])

@@ -1,13 +1,12 @@
 -- The breaches of all rules are those of the rules on attribute lists, those of the other rules node by node, and those of rule 39.
-use Rattle.std.proofs.Common.{◌≡◌, ◌∙◌, ℕ, Bool, true, false, ltb, List, [], ◌∷◌, ◌++◌, map, append_assoc, append-nil, refl, ap, ap₂, sym}
+use Rattle.std.proofs.Common.{◌≡◌, ◌∙◌, ℕ, Bool, true, false, ltb, List, [], ◌∷◌, ◌++◌, map, append-nil, refl, ap, ap₂, sym}
 use Rattle.std.specs.List.{flat_map}
 use Rattle.std.proofs.lemmas.List.Concat.{flat_map-cons}
-use Rattle.idl_rule_definitions.specs.World.{World}
 use Rattle.idl_rule_definitions.specs.Nodes.{Construct, place_in, Node, HeaderNode, AttributeNode, SwitchNode, TagNode, BodyNode, EnumeratorNode, LabelNode, EmptyArmNode, DeclaratorNode, ConstantNode}
 use Rattle.idl_rule_definitions.specs.Nodes.{TypeNode, OperationNode}
 use Rattle.idl_rule_definitions.specs.Types.{Names, switch_type, is_void, is_handle, is_pipe, is_context}
 use Rattle.idl_rule_definitions.specs.Scene.{Scene, Scoped, Use, Body, use_of, tag_type}
-use Rattle.idl_rule_definitions.specs.Rules.{Breach, breach, broken_at, broken_in, breaches_at, breaches_of_use, breaches_of_body, breaches_in}
+use Rattle.idl_rule_definitions.specs.Rules.{Breach, breach, broken_at, breaches_at, breaches_of_use, breaches_of_body, breaches_in}
 use Rattle.idl_rule_definitions.specs.AttributeRules.{is_out_of_place, is_repeated, lacks_uuid_and_local, is_large_version, is_second_class}
 use Rattle.idl_rule_definitions.specs.DeclarationRules.{has_no_body, lacks_switch_type, is_wrongly_cased, has_class, has_string, lacks_direction}
 use Rattle.idl_rule_definitions.specs.ValueRules.{is_large_enumerator, has_lower_bounds, is_bad_label, is_wrong_constant, is_void_constant, is_handle_constant}
@@ -20,8 +19,9 @@ use Rattle.idl_rule_definitions.specs.VariableRules.{has_wrong_variable}
 use Rattle.idl_rule_definitions.specs.CountRules.{too_many}
 use Rattle.idl_rule_definitions.specs.Noted.{is_of_lists, of_lists, of_others}
 use Rattle.idl_constructs.specs.ListBreaches.{list_breaches_at, list_breaches}
-use Rattle.idl_rule_definitions.specs.OtherBreaches.{other_breaches_at, other_breaches}
+use Rattle.idl_rule_definitions.specs.OtherBreaches.{other_breaches}
 use Rattle.idl_rule_definitions.specs.declared.rule.TheConstants as Rule
+use Rattle.idl_rule_definitions.proofs.OtherNotes.{others_append}
 
 -- ## Two parts of a list
 
@@ -32,14 +32,6 @@ lists_append (b ∷ xs) ys = by (is_of_lists b) (lists_append xs ys) where
       → elim t [ true ↦ b ∷ of_lists (xs ++ ys) | false ↦ of_lists (xs ++ ys) ] ≡ (elim t [ true ↦ b ∷ of_lists xs | false ↦ of_lists xs ]) ++ of_lists ys
   by true rest = ap (λ l. b ∷ l) rest
   by false rest = rest
-
-others_append : (xs ys : List Breach) → of_others (xs ++ ys) ≡ of_others xs ++ of_others ys
-others_append [] ys = refl
-others_append (b ∷ xs) ys = by (is_of_lists b) (others_append xs ys) where
-  by : (t : Bool) → of_others (xs ++ ys) ≡ of_others xs ++ of_others ys
-      → elim t [ true ↦ of_others (xs ++ ys) | false ↦ b ∷ of_others (xs ++ ys) ] ≡ (elim t [ true ↦ of_others xs | false ↦ b ∷ of_others xs ]) ++ of_others ys
-  by true rest = rest
-  by false rest = ap (λ l. b ∷ l) rest
 
 lists_of_all : (f : Scoped → List Breach) (ns : List Scoped) → of_lists (flat_map f ns) ≡ flat_map (λ n. of_lists (f n)) ns
 lists_of_all f [] = refl

@@ -9,7 +9,7 @@ use Rattle.idl_cycles.proofs.GraphTests.{all_weaker}
 use Rattle.idl_cycles.proofs.GraphContains.{no_parts, stands_apart}
 
 -- a node without parts
-all_of_none : (f : ℕ → Bool) (xs : List ℕ) → xs ≡ [] → list_all f xs ≡ true
+pub all_of_none : (f : ℕ → Bool) (xs : List ℕ) → xs ≡ [] → list_all f xs ≡ true
 all_of_none f xs e = ap (list_all f) e
 
 pub none_contained : (n : ℕ) (graph : List (List ℕ)) (node inner : ℕ) → length graph ≤ node → contains_within n graph node inner ≡ false

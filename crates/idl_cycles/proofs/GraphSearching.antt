@@ -1,16 +1,18 @@
 -- What a search keeps.
 use Rattle.std.proofs.Common.{◌≡◌, ℕ, suc, zero, ◌<◌, ◌≤◌, ◌+◌, Bool, true, false, not, eqb, cond, ◌&&◌, ◌||◌, ◌⊎◌, List, [], ◌∷◌, ◌++◌, length, get_or, set, take, replicate, Some, None, refl, sym}
 use Rattle.std.proofs.Common.{ap, ◌∙◌, subst, inl, inr, arith}
-use Rattle.std.specs.List.{list_all, list_any, slice_get}
-use Rattle.std.proofs.lemmas.Bool.{cases_eq, cases_lt, eqb-true, eq-eqb, ne_eqb}
+use Rattle.std.specs.List.{list_any, slice_get}
+use Rattle.std.proofs.lemmas.Bool.{cases_eq, cases_lt, eqb-true, eq-eqb, ne_eqb, or_left, or_right}
 use Rattle.std.proofs.lemmas.List.{get_or-set_same, get_or-set_other, length-set, get_or_append_left, get_or_push, length_push, get_or_past, take_more, get_or_default, get_or-replicate}
 use Rattle.std.proofs.lemmas.List.{length-replicate}
 use Rattle.std.proofs.lemmas.Option.{none-some, slice_get_within, get_or_from_slice_get, slice_get-get_or}
 use Rattle.std.proofs.lemmas.List.Folds.{list_all-append, list_any-append}
 use Rattle.idl_cycles.specs.Graph.{parts_at, contains_itself}
 use Rattle.idl_cycles.specs.GraphCycles.{reaches_within, is_marked, times_in, Waits, Comes, IsReady, is_done, Searches}
-use Rattle.idl_cycles.proofs.GraphTests.{or_left, or_right, both, all_weaker, none_is, never_true, first_of, second_of}
+use Rattle.idl_cycles.proofs.GraphTests.{both, all_weaker, none_is, never_true}
+use Rattle.nd_lemmas.proofs.Booleans.{first_true as first_of, second_true as second_of}
 use Rattle.idl_cycles.proofs.GraphContains.{no_parts, contains_more, part_of_reached, never_comes}
+use Rattle.idl_cycles.proofs.GraphPeeling.{all_of_none as done_of_none}
 
 -- ## Counts
 
@@ -152,9 +154,6 @@ comes_more number nodes i s q s' q' s'' q'' h a b =
     subst P (sym (take_more nodes i 0 h)) (comes_both number (take i nodes) (get_or nodes i 0 ∷ []) s q s' q' s'' q'' a b)
 
 -- ## The search
-
-done_of_none : (f : ℕ → Bool) (xs : List ℕ) → xs ≡ [] → list_all f xs ≡ true
-done_of_none f xs e = ap (list_all f) e
 
 only : (b : Bool) → (b || false) ≡ true → b ≡ true
 only true e = refl

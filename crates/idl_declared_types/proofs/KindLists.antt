@@ -1,8 +1,7 @@
 -- Lists of kinds and their types.
-use Rattle.std.proofs.Common.{◌≡◌, ℕ, zero, suc, ◌+◌, ◌<◌, ◌≤◌, Bool, true, false, ◌&&◌, ltb, List, [], ◌∷◌, ◌++◌, length, get_or, Option, Some, None, slice_get, refl, sym, ap, ◌∙◌, subst, arith}
-use Rattle.std.proofs.Common.{length-append, add-one, true≢false}
-use Rattle.std.proofs.lemmas.Option.{none-some, slice_get_within, slice_get-get_or, same_Some}
-use Rattle.std.proofs.lemmas.Bool.{ltb-true}
+use Rattle.std.proofs.Common.{◌≡◌, ℕ, zero, suc, ◌+◌, Bool, true, false, ltb, List, [], ◌∷◌, ◌++◌, length, get_or, Option, Some, None, slice_get, refl, sym, ap, ◌∙◌, subst, arith, length-append}
+use Rattle.std.proofs.lemmas.Option.{none-some, slice_get-get_or, same_Some}
+use Rattle.std.proofs.lemmas.Bool.{ltb-true, and_parts as both}
 use Rattle.std.specs.List.{list_any}
 use Rattle.std.specs.Bool.{if◌then◌else◌}
 use Rattle.indexmap.specs.IndexSet.{insert_key}
@@ -19,10 +18,6 @@ slice_get_kept (y ∷ xs) ys (suc n) x h = slice_get_kept xs ys n x h
 pub slice_get_last : {X : Type 0} (xs : List X) (x : X) → slice_get (xs ++ x ∷ []) (length xs) ≡ Some x
 slice_get_last [] x = refl
 slice_get_last (y ∷ xs) x = slice_get_last xs x
-
-pub both : (a b : Bool) → (a && b) ≡ true → (a ≡ true) × (b ≡ true)
-both true b h = (refl, h)
-both false b h = absurd (true≢false (sym h))
 
 -- types that are known stay
 pub kept_from : (ks : List Kind) (done : List IdlType) (n : ℕ) (t : IdlType) → slice_get done n ≡ Some t → slice_get (types_from done ks) n ≡ Some t

@@ -1,21 +1,20 @@
 -- Equal types stand at one number.
-use Rattle.std.proofs.Common.{◌≡◌, ℕ, zero, suc, ◌<◌, Bool, true, false, ◌&&◌, eqb, ltb, List, [], ◌∷◌, length, get_or, Option, Some, None, slice_get, refl, sym, ap, ap₂, ◌∙◌, subst, arith}
-use Rattle.std.proofs.Common.{true≢false}
-use Rattle.std.specs.List.{IsDistinct, AllByRecursion}
-use Rattle.std.proofs.lemmas.Option.{none-some, slice_get-get_or, slice_get_within, same_Some}
-use Rattle.std.proofs.lemmas.Bool.{ltb-true, lt-ltb}
-use Rattle.std.proofs.lemmas.Bool.Decides.{nat_tests, Decides-int_eq}
+use Rattle.std.proofs.Common.{◌≡◌, ℕ, zero, suc, ◌<◌, Bool, true, false, ◌&&◌, eqb, ltb, List, [], ◌∷◌, length, get_or, Some, slice_get, refl, sym, ap, ap₂, ◌∙◌, arith, true≢false}
+use Rattle.std.specs.List.{IsDistinct}
+use Rattle.std.proofs.lemmas.Option.{none-some, slice_get-get_or, same_Some}
+use Rattle.std.proofs.lemmas.Bool.{ltb-true, and_parts as both}
+use Rattle.std.proofs.lemmas.Bool.Decides.{nat_tests}
 use Rattle.nd_types.specs.Kinds.{prim_number}
 use Rattle.idl_declared_types.specs.declared.kinds.Class.{Class}
 use Rattle.idl_declared_types.specs.declared.kinds.Class.TheVariants as class
 use Rattle.idl_declared_types.specs.declared.kinds.Kind.{Kind}
 use Rattle.idl_declared_types.specs.declared.kinds.Kind.TheVariants as kind
-use Rattle.idl_rule_definitions.specs.Types.{IdlType}
 use Rattle.idl_rule_definitions.specs.Numbering.{same_type, same_count, same_flag, same_class}
 use Rattle.idl_declared_types.specs.Kinds.{seen_class, primitive_by, type_by, seen_types, type_at, is_inside, are_ordered, AreOnce}
-use Rattle.idl_rule_definitions.proofs.Equal.{both, type_is, flag_is, count_is}
+use Rattle.idl_rule_definitions.proofs.Equal.{flag_is, count_is}
 use Rattle.idl_rule_definitions.proofs.Needed.{itself}
 use Rattle.idl_declared_types.proofs.KindLists.{stands_at, inside_at, type_at-stands}
+use Rattle.nd_lemmas.proofs.Lists.{all_at as all_get}
 
 pub number_is : (a : ℕ) → ltb a 11 ≡ true → prim_number (primitive_by a) ≡ a
 number_is zero h = refl
@@ -83,11 +82,6 @@ module _ (ks : List Kind) where
   kind_is m n ih _ _ p q h = absurd (let e : false ≡ true = h in cc)
 
 -- ## Kinds that are distinct
-
-all_get : {X : Type 0} (P : X → Type 0) (xs : List X) (i : ℕ) (x : X) → AllByRecursion P xs → slice_get xs i ≡ Some x → P x
-all_get P [] i x all h = absurd (none-some x h)
-all_get P (y ∷ ys) zero x all h = subst P (same_Some y x h) all.0
-all_get P (y ∷ ys) (suc i) x all h = all_get P ys i x all.1 h
 
 module _ (eq : Kind → Kind → Bool) (itself_eq : (k : Kind) → eq k k ≡ true) where
   pub distinct_at : (ks : List Kind) (i j : ℕ) (k : Kind) → IsDistinct eq ks → slice_get ks i ≡ Some k → slice_get ks j ≡ Some k → i ≡ j

@@ -1,15 +1,15 @@
 -- The names of types as the program keeps them.
-use Rattle.std.proofs.Common.{◌≡◌, ℕ, ◌+◌, ◌<◌, ◌≤◌, Bool, true, false, cond, ◌&&◌, ltb, List, [], ◌∷◌, ◌++◌, length, get_or, Option, Some, None, slice_get, option_map, is_some, refl, sym, ap, ◌∙◌}
-use Rattle.std.proofs.Common.{subst, arith, true≢false}
+use Rattle.std.proofs.Common.{◌≡◌, ℕ, ◌+◌, ◌<◌, ◌≤◌, Bool, true, false, cond, ltb, List, [], ◌∷◌, ◌++◌, length, Some, None, option_map, is_some, refl, sym, ap, ◌∙◌, subst, arith}
 use Rattle.std.specs.Str.{bytes_eq}
 use Rattle.std.proofs.lemmas.Option.{none-some, same_Some, slice_get_within, slice_get-get_or}
-use Rattle.std.proofs.lemmas.Bool.{ltb-true, lt-ltb}
+use Rattle.std.proofs.lemmas.Bool.{ltb-true, lt-ltb, and_parts as both}
 use Rattle.idl_scope.specs.Tables.{found, put}
 use Rattle.idl_declared_types.specs.declared.kinds.Kind.{Kind}
-use Rattle.idl_rule_definitions.specs.Types.{IdlType, Void, Names, or_void}
+use Rattle.idl_rule_definitions.specs.Types.{IdlType, Void, or_void}
 use Rattle.idl_declared_types.specs.Kinds.{seen_types, type_at, Stands, Keeps}
 use Rattle.idl_declared_types.specs.SeenNames.{seen_names, are_within, and_name}
-use Rattle.idl_declared_types.proofs.KindLists.{length-seen_types, type_at-stands, both}
+use Rattle.idl_declared_types.proofs.KindLists.{length-seen_types, type_at-stands}
+use Rattle.idl_scope.proofs.Tables.{put_new}
 
 -- a number of a type
 pub stands_within : (ks : List Kind) (n : ℕ) → n < length ks → Stands ks n (type_at ks n)
@@ -79,16 +79,6 @@ pub named_none : (ks : List Kind) (names : List (List ℕ × ℕ)) (name : List 
 named_none ks names name h = ap or_void (found_seen ks names name ∙ ap (option_map (type_at ks)) h)
 
 -- ## A name that is declared
-
--- what a new name does to the list, if it is put
-put_new : {X : Type 0} (es : List (List ℕ × X)) (name : List ℕ) (x : X) → found name es ≡ None → put es name x ≡ es ++ (name, x) ∷ []
-put_new [] name x h = refl
-put_new {X} (e ∷ es) name x h = by (bytes_eq name e.0) h (λ p. put_new es name x p)
-  where
-    by : (b : Bool) → cond b (Some e.1) (found name es) ≡ None → (found name es ≡ None → put es name x ≡ es ++ (name, x) ∷ [])
-        → elim b [ true ↦ (e.0, x) ∷ es | false ↦ e ∷ put es name x ] ≡ e ∷ (es ++ (name, x) ∷ [])
-    by true p more = absurd (none-some e.1 (sym p))
-    by false p more = ap (λ r. e ∷ r) (more p)
 
 pub and_name-there : (names : List (List ℕ × ℕ)) (name : List ℕ) (of n : ℕ) → found name names ≡ Some n → names ≡ and_name names name of
 and_name-there names name of n h = sym (ap (λ o. elim (is_some o) [ true ↦ names | false ↦ names ++ (name, of) ∷ [] ]) h)

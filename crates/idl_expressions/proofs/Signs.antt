@@ -1,20 +1,18 @@
 -- Operators: their levels, and what is read of them.
-use Rattle.std.proofs.Common.{◌≡◌, ◌≢◌, ℕ, zero, suc, ◌+◌, ◌<◌, ◌≤◌, Bool, true, false, ◌&&◌, cond, eqb, leb, length, refl, sym, ap, arith, ◌∙◌, Ok, Err, Some, None}
-use Rattle.std.proofs.Common.{eq-eqb, ◌⊎◌, inl, inr}
-use Rattle.std.proofs.lemmas.Bool.{leb-false, lt-leb}
-use Rattle.std.proofs.lemmas.Bool.Decides.{eqb_tells}
-use Rattle.grammar_phrases.specs.Text.{Text, lexeme_at, symbol_at, is_in, Depth}
+use Rattle.std.proofs.Common.{◌≡◌, ◌≢◌, ℕ, zero, suc, ◌+◌, ◌<◌, ◌≤◌, Bool, true, false, cond, eqb, leb, length, refl, sym, ap, arith, ◌∙◌, Ok, Err, Some, None, eq-eqb}
+use Rattle.std.proofs.lemmas.Bool.{lt-leb}
+use Rattle.grammar_phrases.specs.Text.{Text, lexeme_at, symbol_at, Depth}
 use Rattle.grammar_phrases.specs.Reading.{Syntax, Passes}
-use Rattle.grammar_phrases.proofs.Parts.{clash}
 use Rattle.grammar_phrases.proofs.Within.{test_within}
 use Rattle.idl_grammar.specs.declared.expressions.BinaryOperator.{BinaryOperator}
 use Rattle.idl_grammar.specs.declared.expressions.BinaryOperator.TheVariants as binary
 use Rattle.idl_grammar.specs.declared.expressions.UnaryOperator.{UnaryOperator}
 use Rattle.idl_grammar.specs.declared.expressions.UnaryOperator.TheVariants as unary
-use Rattle.idl_grammar.specs.Limits.{symbols_of, value_of, level, symbol_level, binary_operators, unary_operators, binary_of, unary_of, is_unary, operators, many_operators}
+use Rattle.idl_grammar.specs.Limits.{level, symbol_level, binary_operators, unary_operators, binary_of, unary_of, is_unary, operators, many_operators}
 use Rattle.idl_grammar.specs.ReadExpressions.{unary_sign_read, binary_sign_read}
 use Rattle.idl_tokens.specs.Found.{found}
 use Rattle.idl_tokens.proofs.Basics.{is_found, not_found}
+use Rattle.grammar_phrases.proofs.OneVerdict.{unequal as not_equal}
 
 -- levels
 
@@ -99,9 +97,6 @@ module _ (start : ℕ) (t : Text) (i : ℕ) where
   pub unary_sign_none : found unary_operators (symbol_at t i) ≡ None → unary_sign_read start t i ≡ Err (Syntax i)
   unary_sign_none h =
       ap (λ (b : Bool). cond b (cond (many_operators start t i) (Err (Passes Depth i)) (Ok (((lexeme_at t i).at, unary_of (symbol_at t i)), i + 1))) (Err (Syntax i))) (unary_none (symbol_at t i) h)
-
-not_equal : (m n : ℕ) → m ≢ n → eqb m n ≡ false
-not_equal m n h = elim (eqb_tells m n) as (λ _. eqb m n ≡ false) [ inl e ↦ absurd (h e.1) | inr e ↦ e.0 ]
 
 module _ (n start : ℕ) (t : Text) (i : ℕ) where
   pub binary_sign_none : found binary_operators (symbol_at t i) ≡ None → 1 ≤ n → binary_sign_read n start t i ≡ Err (Syntax i)

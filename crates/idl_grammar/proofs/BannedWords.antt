@@ -1,10 +1,6 @@
 -- Where a file could go on, a word that is banned anywhere is answered as such.
-use Rattle.std.proofs.Common.{◌≡◌, ◌≢◌, ℕ, ◌+◌, ◌<◌, ◌≤◌, true, [], ◌∷◌, ◌++◌, length, refl, sym, ap, subst, arith, ◌∙◌, Err, inl, inr, length-append}
-use Rattle.std.proofs.Math.Decide.{dec_lt}
-use Rattle.std.proofs.Math.ListN.{get_or-append}
-use Rattle.std.proofs.Math.Seq.{get_or-append_seam}
-use Rattle.std.proofs.lemmas.Bool.Decides.{eqb_tells}
-use Rattle.std.proofs.lemmas.List.{get_or_past, get_or-take}
+use Rattle.std.proofs.Common.{◌≡◌, ℕ, ◌+◌, ◌<◌, true, [], ◌∷◌, ◌++◌, length, refl, sym, ap, arith, ◌∙◌, Err, inl}
+use Rattle.std.proofs.lemmas.List.{get_or-take}
 use Rattle.grammar_phrases.specs.Text.{Lexeme, Text, the_end, lexeme_at, is, Ban}
 use Rattle.grammar_phrases.specs.Reading.{Passes}
 use Rattle.grammar_phrases.specs.Verdict.{begins, derives, lax, limits_before}
@@ -15,20 +11,7 @@ use Rattle.idl_grammar.specs.Tree.{Tree}
 use Rattle.idl_grammar.specs.Grammar.{file}
 use Rattle.idl_grammar.specs.Answers.{is_banned, Answers}
 use Rattle.idl_grammar.proofs.CleanFile.{no_banned_word}
-
--- the end after a text changes nothing at a place
-ended : (x : Text) (i : ℕ) → lexeme_at (x ++ the_end ∷ []) i ≡ lexeme_at x i
-ended x i = elim (dec_lt i (length x)) as (λ _. lexeme_at (x ++ the_end ∷ []) i ≡ lexeme_at x i) [
-  | yes lt ↦ get_or-append x (the_end ∷ []) the_end i lt
-  | no ge ↦
-      let past : length x ≤ i = omega arith in
-      at_end past ∙ sym (get_or_past x i the_end past)
-] where
-  at_end : length x ≤ i → lexeme_at (x ++ the_end ∷ []) i ≡ the_end
-  at_end past = elim (eqb_tells i (length x)) as (λ _. lexeme_at (x ++ the_end ∷ []) i ≡ the_end) [
-    | inl eq ↦ subst (λ (k : ℕ). lexeme_at (x ++ the_end ∷ []) k ≡ the_end) (sym eq.1) (get_or-append_seam x the_end [] the_end)
-    | inr ne ↦ get_or_past (x ++ the_end ∷ []) i the_end (simp length-append (let differs : i ≢ length x = ne.1 in omega arith))
-  ]
+use Rattle.grammar_phrases.proofs.Judged.{ended}
 
 -- texts that begin alike have the same tokens there
 agrees : (t x : Text) (n i : ℕ) → begins t n x → i < n → lexeme_at x i ≡ lexeme_at t i

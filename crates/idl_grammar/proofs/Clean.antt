@@ -12,14 +12,14 @@ pub record Clean (p : Phrase) : Type 0 where
   pub clean : (lifted : _) (x : Text) (i j : ℕ) → p lifted x i j → (k : ℕ) → i ≤ k → k < j → is_banned x k ≡ false
 
 -- what a test refuses does not pass it
-unbanned : (f : ℕ → Bool) → f symbol.Banned ≡ false → (x : Text) (i : ℕ) → f (symbol_at x i) ≡ true → is_banned x i ≡ false
+pub unbanned : (f : ℕ → Bool) → f symbol.Banned ≡ false → (x : Text) (i : ℕ) → f (symbol_at x i) ≡ true → is_banned x i ≡ false
 unfolding is_banned
 unbanned f other x i h = by_case (is (symbol_at x i) symbol.Banned) refl where
   by_case : (b : Bool) → is (symbol_at x i) symbol.Banned ≡ b → is (symbol_at x i) symbol.Banned ≡ false
   by_case false e = e
   by_case true e = clash (f (symbol_at x i)) h (ap f (eqb-true (symbol_at x i) symbol.Banned e) ∙ other)
 
-one_place : (x : Text) (i j k : ℕ) → j ≡ i + 1 → is_banned x i ≡ false → i ≤ k → k < j → is_banned x k ≡ false
+pub one_place : (x : Text) (i j k : ℕ) → j ≡ i + 1 → is_banned x i ≡ false → i ≤ k → k < j → is_banned x k ≡ false
 one_place x i j k e h from to = let here : k ≡ i = omega arith in ap (λ (n : ℕ). is_banned x n) here ∙ h
 
 pub token_clean : {A : Type 0} (f : ℕ → Bool) → f symbol.Banned ≡ false → (see : Lexeme → A) (a : A) → Clean (token (λ l. f l.symbol) see a)

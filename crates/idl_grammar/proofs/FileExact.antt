@@ -1,28 +1,21 @@
 -- Files are read exactly.
 use Rattle.std.proofs.Common.{◌≡◌, ℕ, ◌+◌, ◌≤◌, true, false, List, [], ◌∷◌, length, refl, sym, subst, arith, inl, inr, Option, Some, None}
-use Rattle.grammar_phrases.specs.Text.{Text, is_in, Lifted, Rel, located, made, ◌⊗◌, ◌⊳◌, ◌⊲◌}
+use Rattle.grammar_phrases.specs.Text.{Text, is_in, Lifted, Rel, located, made, ◌⊗◌, ◌⊳◌, ◌⊲◌, many, bracketed}
 use Rattle.grammar_phrases.specs.Reading.{then}
 use Rattle.grammar_phrases.proofs.Exact.{Exact, HasPhrase, pair_exact, turned_exact}
-use Rattle.grammar_phrases.proofs.Parts.{pair_has}
+use Rattle.grammar_phrases.proofs.Parts.{pair_has, many_has}
 use Rattle.grammar_phrases.proofs.Sequences.{stops, Begins, subset, disjoint, meets_or, skip_exact, skip_has, skip_begins, end_exact, end_has, located_begins, bracketed_exact, bracketed_has}
-use Rattle.grammar_phrases.proofs.Sequences.{made_begins}
+use Rattle.grammar_phrases.proofs.Sequences.{made_begins, list_exact, list_begins, separated_exact, separated_has, ends_at}
 use Rattle.idl_grammar.specs.declared.words.Spelling.{Spelling}
 use Rattle.idl_grammar.specs.Symbols as symbol
 use Rattle.idl_grammar.specs.Limits.{names}
 use Rattle.idl_grammar.specs.Tree as tree
-use Rattle.idl_grammar.specs.Tree.{Expr, Attributes, Declarator, Init, TypeSpec, Parameters, Export}
+use Rattle.idl_grammar.specs.Tree.{Attributes, TypeSpec, Parameters, Export, Import}
 use Rattle.idl_grammar.specs.Expressions.{spelled, ident}
 use Rattle.idl_grammar.specs.ReadExpressions.{spelled_read, ident_read}
-use Rattle.idl_grammar.specs.Grammar.{attributes, export}
-use Rattle.idl_grammar.specs.Reading.{type_firsts, member_firsts, export_read, export_firsts}
-use Rattle.idl_grammar.proofs.Combine.{changed_exact, turned_twice, branch_exact, branch_begins, flag_exact, flag_has, flag_begins, mark_begins, spelled_exact, spelled_begins, placed_exact}
-use Rattle.idl_grammar.proofs.Combine.{placed_begins, ident_exact, ident_has, ident_begins, either, either_exact, either_begins, before_meets}
-use Rattle.grammar_phrases.specs.Text.{many, bracketed}
-use Rattle.grammar_phrases.proofs.Parts.{many_has}
-use Rattle.grammar_phrases.proofs.Sequences.{list_exact, list_begins, separated_exact, separated_has, ends_at}
-use Rattle.idl_grammar.specs.Tree.{Import, Tree}
-use Rattle.idl_grammar.specs.Grammar.{commas, import, file}
-use Rattle.idl_grammar.specs.Reading.{commas_read, attributes_read, import_of, import_read, imports_read, exports_read, tree_of, file_read}
+use Rattle.idl_grammar.specs.Grammar.{attributes, export, commas, import, file}
+use Rattle.idl_grammar.specs.Reading.{type_firsts, member_firsts, export_read, export_firsts, commas_read, attributes_read, import_of, import_read, imports_read, exports_read, tree_of, file_read}
+use Rattle.idl_grammar.proofs.Combine.{changed_exact, spelled_exact, ident_exact, ident_has, either, either_exact, either_begins}
 use Rattle.idl_grammar.proofs.AttributeLists.{attributes_exact}
 use Rattle.idl_grammar.proofs.ExportsExact.{typedef_line, typedef_of, const_line, const_of, typed_line, typed_line_begins, typed_of, typedef_exact, const_exact, typed_exact}
 
@@ -72,7 +65,7 @@ body_closes : is_in body_ends symbol.CloseCurly ≡ false
 unfolding body_ends export_firsts type_firsts names
 body_closes = refl
 
-nothing_apart : (xs : List ℕ) → disjoint xs [] ≡ true
+pub nothing_apart : (xs : List ℕ) → disjoint xs [] ≡ true
 nothing_apart [] = refl
 nothing_apart (d ∷ ds) = nothing_apart ds
 

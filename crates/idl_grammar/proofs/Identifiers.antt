@@ -1,8 +1,7 @@
 -- How many octets an identifier has.
-use Rattle.std.proofs.Common.{◌≡◌, ℕ, ◌≤◌, true, List, [], ◌∷◌, ◌&&◌, length, arith}
+use Rattle.std.proofs.Common.{◌≡◌, ℕ, ◌≤◌, true, List, [], ◌∷◌, length, arith}
 use Rattle.std.specs.Prelude.{nat_le}
-use Rattle.std.proofs.lemmas.Bool.{leb-true}
-use Rattle.grammar_phrases.proofs.Sequences.{both}
+use Rattle.std.proofs.lemmas.Bool.{leb-true, and_parts as both}
 use Rattle.nd_base.specs.Text.{is_word, is_identifier}
 
 some_octets : (name : List ℕ) → is_word name ≡ true → 1 ≤ length name

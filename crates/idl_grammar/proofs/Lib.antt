@@ -23,6 +23,6 @@ pub mod FileExamples
 pub mod RealTokens
 pub mod Formed
 pub mod Identifiers
-mod Clean
+pub mod Clean
 mod CleanFile
 mod BannedWords

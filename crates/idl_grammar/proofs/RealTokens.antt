@@ -5,7 +5,7 @@ use Rattle.std.specs.Str.{bytes_eq}
 use Rattle.grammar_phrases.specs.Text.{Lexeme}
 use Rattle.grammar_phrases.specs.Gives.{IsText}
 use Rattle.grammar_phrases.proofs.Parts.{clash}
-use Rattle.grammar_phrases.proofs.Sequences.{both}
+use Rattle.std.proofs.lemmas.Bool.{and_parts as both, not-true as not_zero}
 use Rattle.idl_lexer.specs.declared.tokens.TokenKind.{TokenKind}
 use Rattle.idl_lexer.specs.declared.tokens.TokenKind.TheVariants as token
 use Rattle.idl_lexer.specs.declared.tokens.Token.{Token}
@@ -17,10 +17,6 @@ use Rattle.idl_grammar.specs.Lexemes.{symbol_among, words, symbol_of, lexeme_of,
 -- no word of a list has the number of the end
 abbrev pub are_real : List Spelled → Bool
 are_real list = list_all (λ s. not (eqb s.symbol 0)) list
-
-not_zero : (b : Bool) → not b ≡ true → b ≡ false
-not_zero false h = refl
-not_zero true h = clash false h refl
 
 cond_real : (b : Bool) (m n : ℕ) → eqb m 0 ≡ false → eqb n 0 ≡ false → eqb (cond b m n) 0 ≡ false
 cond_real true m n p q = p

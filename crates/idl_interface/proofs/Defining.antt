@@ -47,10 +47,10 @@ use Rattle.idl_rule_definitions.specs.Meaning.{number, field, arm_for, name_of_a
 use Rattle.idl_rule_definitions.specs.Meaning.{body_if, is_struct, is_union, is_enum, definition, types_of}
 use Rattle.nd_types.specs.Kinds.{basic_types}
 use Rattle.nd_types.specs.declared.TheConstants.{ELEMENT_LIMIT}
-use Rattle.nd_types.specs.Legal.{has_small_bound}
 use Rattle.nd_types.proofs.LegalLaws.{passes_at}
 use Rattle.idl_constructs.proofs.Gathering.{gathered}
 use Rattle.idl_interface.specs.Made.{id, ids_of, tag_id, field_with, each_with, valued, type_for, types_past, arm_with, arms_with, default_with, is_narrow, is_encapsulated, IsFound}
+use Rattle.nd_lemmas.proofs.Booleans.{second_true}
 
 -- ## Numbers
 
@@ -280,10 +280,6 @@ own_kinds_are s ks (x ∷ xs) = ap (λ l. definition s (type_at ks x.kind) ∷ l
 
 pub own_made : (s : Scene) (ks : List Kind) (t : Numbers) → AreNumbers s ks t → map (λ o. definition s (type_at ks o.kind)) t.own.items ≡ map (λ n. definition s n.type) (own_types s)
 own_made s ks t h = sym (own_kinds_are s ks t.own.items) ∙ (ap (map (λ p. definition s p.0)) (sym h.own) ∙ own_types_are s (own_types s))
-
-second_true : (a b : Bool) → (a && b) ≡ true → b ≡ true
-second_true true b h = h
-second_true false b h = absurd (cc)
 
 -- a bound from 1 to the limit
 abbrev is_dimension : Option ℕ → Bool

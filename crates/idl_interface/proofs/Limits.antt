@@ -6,7 +6,6 @@ use Rattle.std.specs.List.{list_all, slice_get}
 use Rattle.std.proofs.lemmas.List.{length-map}
 use Rattle.std.proofs.lemmas.List.Sums.{sum_by-cons}
 use Rattle.std.proofs.lemmas.Bool.{leb-true}
-use Rattle.std.proofs.lemmas.Bool.Decides.{nat_tests}
 use Rattle.std.proofs.lemmas.Option.{slice_get_within, slice_get_cases, slice_get_read, slice_get-map}
 use Rattle.nd_base.specs.declared.octets.Place.{Place}
 use Rattle.nd_types.specs.declared.types.TypeDef.{TypeDef}
@@ -40,6 +39,7 @@ use Rattle.idl_type_numbers.specs.SeenOperations.{Called, called, called_at, Has
 use Rattle.idl_interface.specs.Made.{has_few_parts, has_few_parameters, parameters_at, operation_made, IsFound}
 use Rattle.idl_interface.proofs.Defining.{there_as}
 use Rattle.idl_interface.proofs.Operating.{operations_are}
+use Rattle.idl_legal_laws.proofs.fields.Limits.{nat_le_from}
 
 -- ## Numbers of types
 
@@ -86,9 +86,6 @@ number_narrow s (Pointer c u) few = own_narrow s (Pointer c u) few
 number_narrow s (Pipe u) few = own_narrow s (Pipe u) few
 
 -- ## Members
-
-nat_le_from : (m n : ℕ) → m ≤ n → nat_le m n ≡ true
-nat_le_from m n h = grind (arith, nat_tests, h)
 
 -- each type has no more parts than all together
 pub each_few : (n : ℕ) (ds : List TypeDef) → sum_by part_count ds ≤ n → list_all (λ d. nat_le (part_count d) n) ds ≡ true

@@ -69,7 +69,3 @@ listed_old list d t h some = record {
       (λ same none. sym (ap is_some (sym (ap (λ n. found n t) ((bytes_eq-Decides name d.declarator.name.octets).0 same)) ∙ none)) ∙ some)
       ∙ (ap (λ o. or_last o (bytes_eq name d.declarator.name.octets) (length list)) (h.index name) ∙ sym (listed_last list d name));
 }
-
-pub lacks : (o : Option ℕ) → is_some o ≡ false → o ≡ None
-lacks None h = refl
-lacks (Some n) h = absurd (true≢false h)

@@ -1,5 +1,5 @@
 -- The main file, and what its header says.
-use Rattle.std.proofs.Common.{◌≡◌, ℕ, ◌+◌, ◌≤◌, Bool, true, false, ◌||◌, eqb, List, [], ◌∷◌, ◌++◌, map, drop, Option, Some, None, refl, sym, ap, arith, ◌∙◌, subst}
+use Rattle.std.proofs.Common.{◌≡◌, ℕ, ◌+◌, ◌≤◌, Bool, true, false, ◌||◌, eqb, List, [], ◌∷◌, ◌++◌, drop, Option, Some, None, refl, sym, ap, arith, ◌∙◌, subst}
 use Rattle.std.specs.List.{slice_get, flat_map}
 use Rattle.std.proofs.lemmas.Bool.{ltb-false}
 use Rattle.std.proofs.lemmas.Grind.{flat_map-append}
@@ -13,7 +13,7 @@ use Rattle.idl_rule_definitions.specs.World.{World}
 use Rattle.idl_rule_definitions.specs.Attributes.{first_said}
 use Rattle.idl_rule_definitions.specs.AttributeRules.{is_out_of_place, is_repeated, is_past_65535, is_large_minor, is_large_version_in, is_large_version, lacks_uuid_and_local}
 use Rattle.idl_constructs.specs.ListBreaches.{attribute_breaches, list_breaches_at, list_breaches}
-use Rattle.idl_rule_definitions.specs.Nodes.{Construct, Node, attribute_nodes, attribute_nodes_from, export_nodes, header_of, file_nodes, nodes}
+use Rattle.idl_rule_definitions.specs.Nodes.{Construct, attribute_nodes, attribute_nodes_from, export_nodes, header_of, file_nodes, nodes}
 use Rattle.idl_rule_definitions.specs.Noted.{of_lists}
 use Rattle.idl_rule_definitions.specs.Rules.{broken_at, breaches}
 use Rattle.idl_rule_definitions.specs.Scene.{Scene, scene_of}
@@ -22,6 +22,7 @@ use Rattle.idl_legal_laws.proofs.Kept.{neither}
 use Rattle.idl_constructs.proofs.Split.{lists_in}
 use Rattle.nd_types.specs.Meant.{Meant}
 use Rattle.idl_rule_definitions.specs.Meaning.{main_among, header_meant, uuid_said, major_said, minor_said, or_none, types_of, operations_of}
+use Rattle.idl_legal_laws.proofs.fields.Words.{broken_is as at_fails}
 
 drop_is : (fs : List Ended) (i : ℕ) (f : Ended) → slice_get fs i ≡ Some f → drop i fs ≡ f ∷ drop (i + 1) fs
 drop_is fs i f h = drop_more fs i f (slice_get_within fs i f h) ∙ ap (λ y. y ∷ drop (i + 1) fs) (get_or_from_slice_get fs i f f h)
@@ -57,10 +58,6 @@ meant_is s t m name uuid major minor types operations =
     ∙ ap (λ x. record m { operations = x }) (sym operations)))))
 
 -- ## Its version, of which rule 4 holds
-
-at_fails : (c : Construct) (rule at : ℕ) (b : Bool) → broken_at c rule at b ≡ [] → b ≡ false
-at_fails c rule at false h = refl
-at_fails c rule at true h = absurd (cc)
 
 small_in : (c : Construct) (before : List Attribute) (a : Attribute) → attribute_breaches c before a ≡ [] → is_large_version_in a.kind ≡ false
 small_in c before a h =

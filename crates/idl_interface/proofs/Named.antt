@@ -1,25 +1,12 @@
 -- Lists whose items pass a test, as items are added.
-use Rattle.std.proofs.Common.{◌≡◌, Bool, true, false, ◌&&◌, List, [], ◌∷◌, ◌++◌, refl, ap, subst, sym}
+use Rattle.std.proofs.Common.{◌≡◌, Bool, true, List, [], ◌∷◌, ◌++◌, ap, subst, sym}
 use Rattle.std.specs.List.{list_all}
 use Rattle.std.specs.Prelude.{ℤ, Result, Ok, Err, IfOk}
-use Rattle.std.specs.Cmp.Derive.{both_true}
 use Rattle.nd_base.specs.declared.octets.Memory.{Memory}
 use Rattle.nd_types.specs.declared.types.TypeDef.{TypeDef}
 use Rattle.nd_types.specs.declared.types.TypeDef.TheVariants as def
 use Rattle.nd_types.specs.Legal.{has_named_parts}
-
-left_true : (a b : Bool) → (a && b) ≡ true → a ≡ true
-left_true true b h = refl
-left_true false b h = cc
-
-right_true : (a b : Bool) → (a && b) ≡ true → b ≡ true
-right_true true b h = h
-right_true false b h = cc
-
-one_more : {X : Type 0} (test : X → Bool) (xs : List X) (x : X) → list_all test xs ≡ true → test x ≡ true → list_all test (xs ++ x ∷ []) ≡ true
-one_more test [] x all one = both_true one refl
-one_more test (y ∷ ys) x all one =
-    both_true (left_true (test y) (list_all test ys) all) (one_more test ys x (right_true (test y) (list_all test ys) all) one)
+use Rattle.idl_type_numbers.proofs.Grown.{all_more as one_more}
 
 -- where an item that passes is added, all pass
 pub pushed : {X : Type 0} (test : X → Bool) (xs ys : List X) (x : X) → ys ≡ xs ++ x ∷ [] → list_all test xs ≡ true → test x ≡ true → list_all test ys ≡ true

@@ -1,13 +1,11 @@
 -- The digits of a UUID are those of a number of 128 bits.
-use Rattle.std.proofs.Common.{◌≡◌, ℕ, zero, suc, ◌+◌, ◌-◌, ◌*◌, ◌^◌, ◌<◌, ◌≤◌, Bool, true, false, ◌||◌, ◌&&◌, cond, eqb, leb, List, [], ◌∷◌, length, drop, slice_index, refl, sym, ap, subst, arith}
-use Rattle.std.proofs.Common.{◌∙◌}
-use Rattle.std.proofs.lemmas.Bool.{eqb-true, leb-true, leb-false}
+use Rattle.std.proofs.Common.{◌≡◌, ℕ, zero, suc, ◌+◌, ◌-◌, ◌*◌, ◌^◌, ◌<◌, ◌≤◌, Bool, true, false, ◌||◌, ◌&&◌, cond, eqb, leb, List, [], ◌∷◌, length, drop, slice_index, refl, sym, ap, arith, ◌∙◌}
+use Rattle.std.proofs.lemmas.Bool.{leb-true}
 use Rattle.std.proofs.lemmas.List.{length-drop}
 use Rattle.grammar_phrases.proofs.Parts.{clash}
-use Rattle.grammar_phrases.proofs.Sequences.{both}
 use Rattle.nd_base.specs.Text.{is_hex_digit}
 use Rattle.idl_lexer.specs.Numbers.{digit_value}
-use Rattle.idl_lexer.specs.Pieces.{is_dash_place, fits_uuid, IsUuid}
+use Rattle.idl_lexer.specs.Pieces.{is_dash_place, IsUuid}
 use Rattle.idl_rule_definitions.specs.Meaning.{uuid_from}
 
 -- a number does not become less by what follows it

@@ -1,13 +1,10 @@
 -- Elements of lists, and what holds of each.
 use Rattle.std.proofs.Common.{◌≡◌, Bool, true, false, ◌⊎◌, inl, inr, List, [], ◌∷◌, ◌++◌, map, refl, sym, ap, ◌∙◌, subst}
 use Rattle.std.specs.List.{list_any, list_all, flat_map}
-use Rattle.std.proofs.lemmas.List.{append_assoc}
 use Rattle.std.proofs.lemmas.List.Folds.{list_any-append}
-use Rattle.idl_rule_definitions.proofs.Equal.{both}
-use Rattle.idl_rule_definitions.proofs.Needed.{conjunction, right}
+use Rattle.std.proofs.lemmas.Bool.{and_parts as both, or_right as right, or_parts as none_of, or_left as left}
+use Rattle.idl_rule_definitions.proofs.Needed.{conjunction}
 use Rattle.idl_legal_laws.proofs.Kept.{neither}
-use Rattle.idl_legal_laws.proofs.KeptTypes.{none_of}
-use Rattle.idl_legal_laws.proofs.Referents.{left}
 
 -- x is an element
 abbrev pub Among : {X : Type 0} → X → List X → Type 0
@@ -132,7 +129,3 @@ any_flat p f (y ∷ ys) x (inr h) i = list_any-append p (f y) (flat_map f ys) �
 pub each_unflat : {X Y : Type 0} (P : Y → Type 0) (f : X → List Y) (xs : List X) → Each P (flat_map f xs) → Each (λ x. Each P (f x)) xs
 each_unflat P f [] h = tt
 each_unflat P f (x ∷ xs) h = (each_left P (f x) (flat_map f xs) h, each_unflat P f xs (each_right P (f x) (flat_map f xs) h))
-
-pub flat_join : {X Y : Type 0} (f : X → List Y) (xs ys : List X) → flat_map f (xs ++ ys) ≡ flat_map f xs ++ flat_map f ys
-flat_join f [] ys = refl
-flat_join f (x ∷ xs) ys = ap (λ zs. f x ++ zs) (flat_join f xs ys) ∙ sym (append_assoc (f x) (flat_map f xs) (flat_map f ys))

@@ -13,6 +13,7 @@ use Rattle.idl_rule_definitions.specs.Numbering.{own_types}
 use Rattle.idl_rule_definitions.specs.Meaning.{definition, types_of}
 use Rattle.idl_legal_laws.proofs.Kept.{neither}
 use Rattle.idl_rule_definitions.specs.declared.rule.TheConstants as Rule
+use Rattle.nd_lemmas.proofs.Lists.{length_map as mapped}
 
 none_mapped : {X Y : Type 0} (f : X → Y) (xs : List X) → map f xs ≡ [] → xs ≡ []
 none_mapped f [] h = refl
@@ -29,10 +30,6 @@ pub none_too_many : (s : Scene) → breaches_in s ≡ [] → too_many s ≡ []
 none_too_many s h =
     none_mapped (λ c. breach Rule.COUNTS (place_in c c.at)) (too_many s)
     (neither (flat_map (λ n. breaches_at s n.names n.node) s.nodes) (map (λ c. breach Rule.COUNTS (place_in c c.at)) (too_many s)) h).1
-
-pub mapped : {X Y : Type 0} (f : X → Y) (xs : List X) → length (map f xs) ≡ length xs
-mapped f [] = refl
-mapped f (x ∷ xs) = let e = mapped f xs in omega (arith, e)
 
 pub joined : {X : Type 0} (xs ys : List X) → length (xs ++ ys) ≡ length xs + length ys
 joined [] ys = omega (arith)

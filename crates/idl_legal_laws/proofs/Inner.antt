@@ -7,7 +7,9 @@ use Rattle.idl_rule_definitions.specs.Scene.{Scene, chain, below}
 use Rattle.idl_rule_definitions.specs.Rules.{breaches_in}
 use Rattle.idl_rule_definitions.specs.TypeRules.{without_void, without_handle, is_in_alone}
 use Rattle.idl_rule_definitions.specs.Numbering.{own_types}
-use Rattle.idl_legal_laws.proofs.KeptTypes.{none_of, all_own_good}
+use Rattle.idl_legal_laws.proofs.KeptTypes.{all_own_good}
+use Rattle.std.proofs.lemmas.Bool.{or_parts as none_of}
+use Rattle.idl_rule_definitions.proofs.Order.{none as neither_one}
 
 -- what a type is made of, or points to, is `void` or `handle_t`
 abbrev pub is_hollow : IdlType → Bool
@@ -16,10 +18,6 @@ is_hollow (Text t m) = is_void t || is_handle t
 is_hollow (Pointer c t) = is_void t || is_handle t
 is_hollow (Pipe t) = is_void t || is_handle t
 is_hollow _ = false
-
-pub neither_one : (a b : Bool) → a ≡ false → b ≡ false → (a || b) ≡ false
-neither_one false b h i = i
-neither_one true b h i = absurd (let e : true ≡ false = h in cc)
 
 -- the parts of a type are itself and those below it
 pub chain_is : (p : IdlType → Bool) (t : IdlType) → list_any p (chain t) ≡ (p t || list_any p (below t))

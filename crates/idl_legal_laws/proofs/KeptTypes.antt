@@ -21,14 +21,7 @@ use Rattle.idl_rule_definitions.specs.Kept.{KeepsUse}
 use Rattle.idl_legal_laws.proofs.Kept.{neither, keeps_use}
 use Rattle.idl_rule_definitions.proofs.Needed.{conjunction}
 use Rattle.idl_rule_definitions.specs.declared.rule.TheConstants as Rule
-
-apart : (a b : Bool) → (a && b) ≡ true → (a ≡ true) × (b ≡ true)
-apart true b h = (refl, h)
-apart false b h = absurd (let e : false ≡ true = h in cc)
-
-pub none_of : (a b : Bool) → (a || b) ≡ false → (a ≡ false) × (b ≡ false)
-none_of false b h = (refl, h)
-none_of true b h = absurd (let e : true ≡ false = h in cc)
+use Rattle.std.proofs.lemmas.Bool.{and_parts as apart, or_parts as none_of}
 
 -- ## From nodes to the types that they need
 

@@ -25,7 +25,8 @@ use Rattle.idl_rule_definitions.specs.Numbering.{Needed, needed, built, needed_b
 use Rattle.idl_rule_definitions.specs.Meaning.{definition, types_of, struct_of, defined_by, defined_at, body_if, is_struct, is_union, is_enum}
 use Rattle.idl_rule_definitions.proofs.Equal.{type_is}
 use Rattle.idl_legal_laws.proofs.Numbers.{at_its_number}
-use Rattle.idl_rule_definitions.proofs.Needed.{conjunction, right, itself, is_among, each_one, all_among}
+use Rattle.idl_rule_definitions.proofs.Needed.{conjunction, itself, is_among, each_one, all_among}
+use Rattle.std.proofs.lemmas.Bool.{or_right as right, and_parts as parts, not-true as untrue, or_left as left}
 use Rattle.idl_legal_laws.proofs.KeptTypes.{all_are, all_first, no_pointer_to_reference}
 use Rattle.idl_legal_laws.proofs.Inner.{is_hollow, all_solid}
 
@@ -41,10 +42,6 @@ inner_of t = t
 
 abbrev stands : List IdlType → IdlType → Bool
 stands us t = list_any (λ u. same_type u t) us
-
-pub left : (a b : Bool) → a ≡ true → (a || b) ≡ true
-left true b h = refl
-left false b h = absurd (let e : false ≡ true = h in cc)
 
 in_front : (us : List IdlType) (x t : IdlType) → stands us t ≡ true → stands (us ++ x ∷ []) t ≡ true
 in_front us x t h = list_any-append (λ u. same_type u t) us (x ∷ []) ∙ left (stands us t) (stands (x ∷ []) t) h
@@ -212,10 +209,6 @@ alike s Handle = refl
 alike s ContextHandle = refl
 alike s (Basic p) = refl
 
-pub untrue : (a : Bool) → not a ≡ true → a ≡ false
-untrue false h = refl
-untrue true h = absurd (let e : false ≡ true = h in cc)
-
 struct_points : (types : Table) (fs : List Field) → refers_to_no_reference types (struct_of fs) ≡ true
 struct_points types [] = refl
 struct_points types (f ∷ fs) = refl
@@ -248,10 +241,6 @@ fact s Void h i j = refl
 fact s Handle h i j = refl
 fact s ContextHandle h i j = refl
 fact s (Basic p) h i j = refl
-
-pub parts : (a b : Bool) → (a && b) ≡ true → (a ≡ true) × (b ≡ true)
-parts true b h = (refl, h)
-parts false b h = absurd (let e : false ≡ true = h in cc)
 
 together : (p q r z : IdlType → Bool) → ((t : IdlType) → p t ≡ true → q t ≡ true → r t ≡ true → z t ≡ true) → (ns : List Needed) → all_are p ns ≡ true → all_are q ns ≡ true
     → all_are r ns ≡ true → all_are z ns ≡ true

@@ -1,15 +1,15 @@
 -- Scenes of files that break no rule.
-use Rattle.std.proofs.Common.{◌≡◌, ℕ, zero, suc, ◌+◌, ◌<◌, Bool, true, false, not, ◌||◌, ◌&&◌, inl, inr, List, [], ◌∷◌, ◌++◌, map, length, Option, Some, None, refl, sym, ap, arith, ◌∙◌, subst}
-use Rattle.std.specs.List.{list_any, list_all, flat_map, slice_get}
+use Rattle.std.proofs.Common.{◌≡◌, ℕ, ◌+◌, Bool, true, false, not, ◌||◌, ◌&&◌, inl, inr, List, [], ◌∷◌, ◌++◌, map, length, Option, Some, None, refl, sym, ap, ◌∙◌, subst}
+use Rattle.std.specs.List.{list_any, list_all, flat_map}
 use Rattle.std.proofs.lemmas.List.Folds.{list_all-append, list_all-map}
-use Rattle.std.proofs.lemmas.Bool.{lt-ltb}
+use Rattle.std.proofs.lemmas.Bool.{lt-ltb, and_parts as both, or_right as right, not-true as untrue}
 use Rattle.nd_types.specs.declared.types.TypeDef.{TypeDef}
 use Rattle.nd_types.specs.declared.types.TypeDef.TheVariants as def
 use Rattle.nd_types.specs.Kinds.{basic_types}
 use Rattle.nd_types.specs.Legal.{is_in_table}
 use Rattle.idl_grammar.specs.declared.words.Spelling.{Spelling}
 use Rattle.idl_grammar.specs.declared.types.Discriminant.{Discriminant}
-use Rattle.idl_grammar.specs.Tree.{TypeSpec, Members, Cases, Arms, Arm, Declarator, Attributes}
+use Rattle.idl_grammar.specs.Tree.{TypeSpec, Members, Cases, Arms, Declarator, Attributes}
 use Rattle.idl_grammar.specs.Tree as tree
 use Rattle.nd_base.specs.declared.octets.Place.{Place}
 use Rattle.idl_rule_definitions.specs.World.{World}
@@ -24,16 +24,18 @@ use Rattle.idl_rule_definitions.specs.TypeRules.{without_void, without_handle, i
 use Rattle.idl_rule_definitions.specs.Kept.{KeepsUse}
 use Rattle.idl_rule_definitions.specs.Numbering.{Needed, built, first_needed, has_own_number, needed_by, needed_types, own_types, same_type, number_of_type, is_numbered, is_numbered_or_none}
 use Rattle.idl_rule_definitions.specs.Meaning.{definition, types_of, defined_by, defined_at, body_if, is_struct, is_union, is_enum}
-use Rattle.idl_rule_definitions.proofs.Equal.{type_is, place_is, both}
+use Rattle.idl_rule_definitions.proofs.Equal.{type_is, place_is}
 use Rattle.idl_legal_laws.proofs.Numbers.{at_its_number}
-use Rattle.idl_rule_definitions.proofs.Needed.{conjunction, right, itself, is_among, each_one}
+use Rattle.idl_rule_definitions.proofs.Needed.{conjunction, itself, is_among, each_one}
 use Rattle.idl_legal_laws.proofs.Kept.{neither, keeps_use}
 use Rattle.idl_legal_laws.proofs.KeptTypes.{all_are}
-use Rattle.idl_legal_laws.proofs.Inner.{is_hollow, all_solid, further, neither_one}
-use Rattle.idl_legal_laws.proofs.Referents.{inner_of, inner_numbered, numbered, untrue, last, as_list}
+use Rattle.idl_legal_laws.proofs.Inner.{is_hollow, all_solid, further}
+use Rattle.idl_rule_definitions.proofs.Order.{none as neither_one}
+use Rattle.idl_legal_laws.proofs.Referents.{inner_of, inner_numbered, numbered, last, as_list}
 use Rattle.idl_legal_laws.proofs.Among.{Among, among_one, Sub, Each, each_at, each_made, each_mapped, each_join, each_right, each_empty, each_all, any_flat}
 use Rattle.idl_legal_laws.proofs.Whole.{Good, scope, beside, switch_of, lone, NamesKeep, Declares, whole, named}
 use Rattle.idl_rule_definitions.specs.declared.rule.TheConstants as Rule
+use Rattle.std.proofs.lemmas.Option.{slice_get_within as got}
 
 abbrev pub Passes : (IdlType → Bool) → IdlType → Type 0
 Passes test t = test t ≡ true
@@ -268,11 +270,6 @@ inner_there s k (Basic p) h i = absurd (let e : false ≡ true = h in cc)
 inner_there s k (Struct p) h i = absurd (let e : false ≡ true = h in cc)
 inner_there s k (Union p) h i = absurd (let e : false ≡ true = h in cc)
 inner_there s k (Enum p) h i = absurd (let e : false ≡ true = h in cc)
-
-got : {X : Type 0} (xs : List X) (k : ℕ) (x : X) → slice_get xs k ≡ Some x → k < length xs
-got [] k x h = absurd (cc)
-got (y ∷ ys) zero x h = omega (arith)
-got (y ∷ ys) (suc k) x h = let e = got ys k x h in omega (arith, e)
 
 -- the number of a type in the table is below the table's length
 pub number_in : (s : Scene) (t : IdlType) → is_numbered s t ≡ true → is_in_table (types_of s) (number_of_type s t) ≡ true

@@ -20,6 +20,7 @@ use Rattle.idl_rule_definitions.specs.Nodes.{header_of, file_nodes, nodes}
 use Rattle.idl_rule_definitions.specs.Types.{IdlType, Names, type_of}
 use Rattle.idl_rule_definitions.specs.Scene.{Scoped, scene_of, is_typedef, names_behind, scoped_from, parts_declared, tag_written}
 use Rattle.idl_legal_laws.proofs.Among.{Among, among_left, among_right, Sub, sub_left, sub_right, sub_join, sub_map, Each, each_join}
+use Rattle.nd_lemmas.proofs.Lists.{length_map as as_many}
 
 -- ## What is beside a node
 
@@ -93,10 +94,6 @@ further list index (x ∷ xs) ys =
     let e : (index + 1) + length xs ≡ index + length (x ∷ xs) = omega (arith) in
     ap (λ ns. DeclaratorNode list index x ∷ ns) (further list (index + 1) xs ys)
     ∙ ap (λ i. DeclaratorNode list index x ∷ (declarator_nodes list (index + 1) xs ++ declarator_nodes list i ys)) e
-
-as_many : {X Y : Type 0} (f : X → Y) (xs : List X) → length (map f xs) ≡ length xs
-as_many f [] = refl
-as_many f (x ∷ xs) = let e = as_many f xs in omega (arith, e)
 
 members_there : (c : Construct) (list : List Declared) (index : ℕ) (ms : Members) → Sub (declarator_nodes list index (declared_members c ms)) (member_nodes c list index ms)
 members_there c list index tree.no_members = λ x h. absurd h

@@ -1,5 +1,5 @@
 -- Which kinds of piece an octet may begin.
-use Rattle.std.proofs.Common.{◌≡◌, ◌≢◌, ℕ, ◌<◌, ◌≤◌, Bool, true, false, not, ◌||◌, ◌&&◌, ◌⊎◌, inl, inr, List, [], ◌∷◌, length, refl, sym, ap, arith, ◌∙◌}
+use Rattle.std.proofs.Common.{◌≡◌, ◌≢◌, ℕ, ◌<◌, ◌≤◌, Bool, true, false, not, ◌||◌, ◌⊎◌, inl, inr, List, [], ◌∷◌, length, refl, sym, ap, arith, ◌∙◌}
 use Rattle.std.specs.Prelude.{slice_index, eqb, codes}
 use Rattle.std.specs.List.{list_all}
 use Rattle.std.proofs.lemmas.Bool.Decides.{nat_tests, eqb_tells}
@@ -9,13 +9,10 @@ use Rattle.idl_lexer.specs.declared.cut.PieceKind.TheVariants as piece
 use Rattle.nd_base.specs.Text.{is_letter, is_digit, is_hex_digit, is_word_octet}
 use Rattle.idl_lexer.specs.Classes.{is_space, is_one_of, is_mark_octet, are, are_mark}
 use Rattle.idl_lexer.specs.Pieces.{IsOf, char_goes_on, string_goes_on}
+use Rattle.std.proofs.lemmas.Bool.{and_parts as both, not-true as not_true, or_left, or_right}
 
 pub clash : {A : Type 0} (b : Bool) → b ≡ true → b ≡ false → A
 clash b p q = absurd (let e : true ≡ false = sym p ∙ q in cc)
-
-pub both : (a b : Bool) → (a && b) ≡ true → (a ≡ true) × (b ≡ true)
-both true b h = (refl, h)
-both false b h = clash false h refl
 
 pub one_of_passes : (p : ℕ → Bool) (octets : List ℕ) (c : ℕ) → list_all p octets ≡ true → is_one_of octets c ≡ true → p c ≡ true
 one_of_passes p [] c all one = clash false one refl
@@ -75,17 +72,6 @@ is_some (piece.Token token.Mark) (c ∷ cs) is = omega arith
 -- marks are no letters, digits, spaces or quotes
 abbrev is_apart : ℕ → Bool
 is_apart c = (is_word_octet c || is_space c) || (eqb c 34 || eqb c 39)
-
-pub or_left : (a b : Bool) → a ≡ true → (a || b) ≡ true
-or_left a b h = ap (λ (x : Bool). x || b) h
-
-pub or_right : (a b : Bool) → b ≡ true → (a || b) ≡ true
-or_right true b h = refl
-or_right false b h = h
-
-pub not_true : (b : Bool) → not b ≡ true → b ≡ false
-not_true false e = refl
-not_true true e = clash false e refl
 
 mark_apart : (c : ℕ) → is_mark_octet c ≡ true → is_apart c ≡ false
 mark_apart c h = not_true (is_apart c) (one_of_passes (λ d. not (is_apart d)) (codes "[](){},;:=*.+-/%~!&|^<>?") c refl h)

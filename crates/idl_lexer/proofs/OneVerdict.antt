@@ -1,7 +1,7 @@
 -- At most one verdict is right, so each is answered exactly where it is.
 use Rattle.std.proofs.Common.{◌≡◌, ℕ, ◌+◌, ◌<◌, ◌≤◌, Bool, true, false, ◌⊎◌, inl, inr, List, [], ◌∷◌, ◌++◌, length, refl, sym, ap, subst, arith, ◌∙◌, append_assoc}
 use Rattle.std.proofs.Math.Decide.{dec_lt}
-use Rattle.std.specs.Prelude.{slice_index, slice_range, is_some}
+use Rattle.std.specs.Prelude.{slice_index, slice_range, is_some, Result, Ok, Err, IfOk, IfErr}
 use Rattle.std.specs.List.{flat_map}
 use Rattle.idl_lexer.specs.declared.tokens.TokenKind.TheVariants as token
 use Rattle.idl_lexer.specs.declared.tokens.LexKind.{LexKind}
@@ -16,12 +16,12 @@ use Rattle.idl_lexer.specs.Numbers.{number_of}
 use Rattle.idl_lexer.specs.Pieces.{IsRun, IsUuid, IsComment, IsOf, is_mark}
 use Rattle.idl_lexer.specs.Cut.{IsLongest, IsCut, OpensComment, IsRefused, Begins, IsStuck, IsBadOctet, IsOpenText}
 use Rattle.idl_lexer.specs.Verdict.{AreCut, token_of, AreTokens, IsFirstFault, IsVerdict, IsFault, Answers, Verdict, Cut, Refused}
-use Rattle.std.specs.Prelude.{Result, Ok, Err, IfOk, IfErr}
 use Rattle.idl_lexer.specs.Lexed.{Lexed}
 use Rattle.idl_lexer.specs.declared.tokens.LexFault.{LexFault}
 use Rattle.idl_lexer.specs.declared.tokens.LexFault.TheVariants as errors
 use Rattle.idl_lexer.proofs.Ranges.{range_split, range_one, range_first}
-use Rattle.idl_lexer.proofs.FirstOctets.{clash, may_begin, begins, IsRunKind, word_kind, space_kind, string_kind, char_kind, mark_kind, hex_word, or_left, or_right, letter_no_digit, equal_octets}
+use Rattle.idl_lexer.proofs.FirstOctets.{clash, may_begin, begins, IsRunKind, word_kind, space_kind, string_kind, char_kind, mark_kind, hex_word, letter_no_digit, equal_octets}
+use Rattle.std.proofs.lemmas.Bool.{or_left, or_right}
 use Rattle.idl_lexer.proofs.Cuts.{mark_size}
 
 -- ## octets have one kind

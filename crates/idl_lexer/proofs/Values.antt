@@ -4,11 +4,10 @@ use Rattle.std.proofs.Math.Nat.{mul-le-mul_left}
 use Rattle.std.proofs.Math.Seq.{drop-cons}
 use Rattle.std.proofs.lemmas.Bool.Decides.{nat_tests}
 use Rattle.std.proofs.lemmas.List.{drop_all}
-use Rattle.std.specs.Prelude.{slice_index}
-use Rattle.std.specs.Prelude.{leb, ◌||◌, ◌&&◌}
+use Rattle.std.specs.Prelude.{slice_index, leb, ◌||◌, ◌&&◌}
 use Rattle.std.specs.List.{list_all}
 use Rattle.nd_base.specs.Text.{is_digit, is_hex_digit}
-use Rattle.idl_lexer.proofs.FirstOctets.{both}
+use Rattle.std.proofs.lemmas.Bool.{and_parts as both}
 use Rattle.idl_lexer.specs.Numbers.{digit_value, value_from, in_64_bits}
 
 pub value_grows : (base so_far : ℕ) (xs : List ℕ) → 1 ≤ base → so_far ≤ value_from base so_far xs

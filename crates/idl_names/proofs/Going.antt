@@ -1,13 +1,12 @@
 -- Parts of a walk, one after the other.
-use Rattle.std.proofs.Common.{◌≡◌, ◌⊎◌, inl, inr, ℕ, ◌+◌, ◌-◌, ◌^◌, ◌<◌, ◌≤◌, Bool, true, false, eqb, refl, sym, ap, subst, ◌∙◌, arith, List, [], ◌∷◌, ◌++◌, map, drop, length, get_or, Option, Some}
-use Rattle.std.proofs.Common.{None, min, Result, Ok, Err, IfErr}
+use Rattle.std.proofs.Common.{◌≡◌, ℕ, ◌+◌, ◌-◌, ◌<◌, ◌≤◌, Bool, true, false, eqb, refl, sym, ap, subst, ◌∙◌, arith, List, [], ◌∷◌, ◌++◌, map, drop, length, get_or, Option, Some, None, Result, Ok, Err}
+use Rattle.std.proofs.Common.{IfErr}
 use Rattle.std.specs.List.{flat_map}
 use Rattle.std.specs.Result.{IsErrAnd}
 use Rattle.std.proofs.lemmas.List.{append_assoc, append-nil, map-append, drop_more, drop_all}
 use Rattle.std.proofs.lemmas.List.Concat.{flat_map-cons}
 use Rattle.std.proofs.Math.Seq.{drop-append_seam}
 use Rattle.nd_base.specs.declared.octets.Place.{Place}
-use Rattle.nd_base.specs.Counts.{Rose, next_count}
 use Rattle.idl_grammar.specs.declared.words.Spelling.{Spelling}
 use Rattle.idl_grammar.specs.declared.files.Import as import
 use Rattle.idl_grammar.specs.Seen.{seen_import}
@@ -23,15 +22,13 @@ use Rattle.idl_names.specs.Loads.{IsLoaded}
 use Rattle.idl_names.specs.Sources.{Source, file_number, and_source}
 use Rattle.idl_scope.specs.Steps as step
 use Rattle.idl_scope.specs.Steps.{Step, attribute_steps, imports_of, declaration_steps}
-use Rattle.idl_scope.specs.Known.{Known, nothing, passed, then, walked, where_known, where_free, where_valued, in_file, expression_fault_in, value_in, tag_used}
+use Rattle.idl_scope.specs.Known.{Known, nothing, passed, then, walked, where_known, where_free, where_valued, in_file, expression_fault_in, tag_used}
 use Rattle.idl_scope.specs.Kept.{is_memory, IsRight}
 use Rattle.idl_names.specs.Walk as walk
 use Rattle.idl_names.specs.Walk.{State, Due, Pass, Load, End, Ending, Done, Stopped, Walk, load_of, all_of, with_known, with_ended, start, names_of, AsksAlong, most_files}
+use Rattle.nd_base.proofs.Rising.{rose_later as rose_before}
 
 -- ## Counts
-
-rose_before : (a b c : ℕ) → a ≤ b → Rose b c → Rose a c
-rose_before a b c h r = omega (arith, h, r)
 
 absent_before : (a b c : ℕ) (f : NameFault) → a ≤ b → IsAbsent b c f → IsAbsent a c f
 absent_before a b c (fault.Absent file) h r = rose_before a b c h r

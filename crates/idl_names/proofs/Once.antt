@@ -1,20 +1,16 @@
 -- A walk has one ending, except when out of memory, where it is told which loads fail.
-use Rattle.std.proofs.Common.{◌≡◌, ℕ, ◌<◌, ◌≤◌, Bool, true, false, refl, sym, ap, subst, ◌∙◌, arith, List, [], ◌∷◌, ◌++◌, length, Option, Some, None, option_map, Result, Ok, Err}
+use Rattle.std.proofs.Common.{◌≡◌, ℕ, ◌<◌, ◌≤◌, Bool, true, false, refl, sym, ap, subst, ◌∙◌, arith, List, ◌++◌, length, Option, Some, None, option_map, Result, Ok, Err}
 use Rattle.std.proofs.lemmas.Option.{same_Some}
-use Rattle.grammar_phrases.specs.Text.{Depth, Ban}
-use Rattle.grammar_phrases.specs.Reading.{Fault, Syntax, Passes}
-use Rattle.nd_base.specs.declared.octets.Place.{Place}
+use Rattle.grammar_phrases.specs.Reading.{Fault, Syntax}
 use Rattle.nd_base.specs.Outside.{loaded, IsContent, IsMissing}
 use Rattle.idl_lexer.specs.Lexed.{Lexed, place_of}
 use Rattle.idl_lexer.specs.Verdict.{IsVerdict, AreTokens, Cut, Refused}
 use Rattle.idl_lexer.specs.declared.tokens.LexKind.{LexKind}
-use Rattle.idl_lexer.specs.declared.tokens.LexFault.TheVariants as lex_fault
 use Rattle.idl_lexer.specs.declared.tokens.Token.{Token}
 use Rattle.idl_lexer.proofs.OneVerdict.{one_verdict}
-use Rattle.idl_grammar.specs.Grammar as grammar
 use Rattle.idl_grammar.specs.Lexemes.{lexemes}
 use Rattle.idl_grammar.specs.Tree.{Tree}
-use Rattle.idl_grammar.specs.Answers.{Answers, file_answer}
+use Rattle.idl_grammar.specs.Answers.{file_answer}
 use Rattle.idl_grammar.proofs.FileLaws.{file_answered_alone}
 use Rattle.idl_grammar.proofs.RealTokens.{lexemes_real}
 use Rattle.idl_grammar.specs.declared.fault.SyntaxFault.{SyntaxFault}
@@ -24,17 +20,19 @@ use Rattle.idl_scope.specs.declared.name_fault.NameFault.TheVariants as fault
 use Rattle.idl_names.specs.Files.{IsRead, IsFile, IsNoFile, IsSyntaxFault}
 use Rattle.idl_scope.specs.Ended.{has_ended}
 use Rattle.idl_scope.specs.Known.{Known, passed}
-use Rattle.idl_names.specs.Sources.{and_source, file_number}
-use Rattle.idl_names.specs.Walk.{State, Due, Pass, Load, End, Ending, Done, Stopped, Walk, IsDue, most_files, with_known, with_source, all_of}
+use Rattle.idl_names.specs.Sources.{file_number}
+use Rattle.idl_names.specs.Walk.{State, Due, Ending, Done, Stopped, Walk, most_files, with_known, with_source, all_of}
 use Rattle.idl_names.specs.Walk as walk
 use Rattle.idl_names.specs.Decided.{is_decided, has_memory, FailsAs}
+use Rattle.grammar_phrases.proofs.Parts.{clash as fails_or_not}
+use Rattle.idl_names.proofs.Loads.{same_fault as same_errors}
 
 -- ## Texts
 
 one_text : (f : List ℕ → Option (List ℕ)) (name a b : List ℕ) → IsContent (Some f) name a → IsContent (Some f) name b → a ≡ b
 one_text f name a b x y = same_Some _ _ (sym x ∙ y)
 
-same_tokens : (a b : List Token) → Cut a ≡ Cut b → a ≡ b
+pub same_tokens : (a b : List Token) → Cut a ≡ Cut b → a ≡ b
 same_tokens a b e = cc
 
 one_lexed : (text : List ℕ) (l m : Lexed) → l.text ≡ text → m.text ≡ text → AreTokens text l.tokens → AreTokens text m.tokens → l ≡ m
@@ -42,7 +40,7 @@ one_lexed text l m a b x y =
     let e : l.tokens ≡ m.tokens = same_tokens l.tokens m.tokens (one_verdict text (Cut m.tokens) (Cut l.tokens) y x) in
     ap (λ (t : List ℕ). record { text = t; tokens = l.tokens }) (a ∙ sym b) ∙ ap (λ (ts : List Token). record { text = m.text; tokens = ts }) e
 
-one_answer : (text : List ℕ) (l m : Lexed) (a b : Result Tree Fault) → IsRead text l a → IsRead text m b → a ≡ b
+pub one_answer : (text : List ℕ) (l m : Lexed) (a b : Result Tree Fault) → IsRead text l a → IsRead text m b → a ≡ b
 one_answer text l m a b x y =
     let e : l ≡ m = one_lexed text l m x.text_is y.text_is x.tokens y.tokens in
     let p : a ≡ file_answer 64 129 (lexemes l) = file_answered_alone 64 129 (omega arith) (omega arith) (lexemes l) (lexemes_real l) a x.answered in
@@ -62,16 +60,13 @@ one_syntax (syntax.Banned m) (syntax.Syntax n) j k a b x y e = absurd (cc)
 one_syntax (syntax.Banned m) (syntax.Deep n) j k a b x y e = absurd (cc)
 one_syntax (syntax.Banned m) (syntax.Banned n) j k a b x y e = (cc, cc)
 
-same_errors : {A : Type 0} (a b : Fault) → ◌≡◌ {A = Result A Fault} (Err a) (Err b) → a ≡ b
-same_errors a b e = cc
-
 same_trees : (a b : Tree) → ◌≡◌ {A = Result Tree Fault} (Ok a) (Ok b) → a ≡ b
 same_trees a b e = cc
 
 no_clash : {B : Type 0} (a : Tree) (b : Fault) → ◌≡◌ {A = Result Tree Fault} (Ok a) (Err b) → B
 no_clash a b e = absurd (cc)
 
-one_tree : (text : List ℕ) (a b : Tree) → IsFile text a → IsFile text b → a ≡ b
+pub one_tree : (text : List ℕ) (a b : Tree) → IsFile text a → IsFile text b → a ≡ b
 one_tree text a b x y = same_trees a b (one_answer text x.lexed y.lexed (Ok a) (Ok b) x.read y.read)
 
 one_fault : (text : List ℕ) (at at' : ℕ) (f f' : SyntaxFault) → IsNoFile text at f → IsNoFile text at' f' → (f ≡ f') × (at ≡ at')
@@ -111,7 +106,7 @@ passes_or_not a b r e h = absurd (cc)
 missing_or_held : {B : Type 0} (f : List ℕ → Option (List ℕ)) (name text : List ℕ) → IsMissing (Some f) name → IsContent (Some f) name text → B
 missing_or_held f name text m c = let e : ◌≡◌ {A = Option (List ℕ)} None (Some text) = sym (ap (option_map loaded) m) ∙ c in absurd (cc)
 
-undecided : {B : Type 0} → false ≡ true → B
+pub undecided : {B : Type 0} → false ≡ true → B
 undecided e = absurd (cc)
 
 -- ## Walks
@@ -119,9 +114,6 @@ undecided e = absurd (cc)
 -- a walk with these failed loads
 abbrev Told : (List ℕ → Bool) → Option (List ℕ → Option (List ℕ)) → State → List Due → Ending → Type 0
 Told fails held s dues e = (w : Walk held s dues e) × FailsAs fails w
-
-fails_or_not : {B : Type 0} (b : Bool) → b ≡ true → b ≡ false → B
-fails_or_not b p q = absurd (cc)
 
 module _ (f : List ℕ → Option (List ℕ)) (fails : List ℕ → Bool) where
   pub one_told_ending : {s : State} {dues : List Due} {a b : Ending} → has_memory a ≡ true → has_memory b ≡ true → (v : Walk (Some f) s dues a) (w : Walk (Some f) s dues b)

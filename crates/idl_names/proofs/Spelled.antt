@@ -1,14 +1,12 @@
 -- What strings spell, from an octet on.
-use Rattle.std.proofs.Common.{◌≡◌, ◌≢◌, ℕ, suc, ◌+◌, ◌-◌, ◌<◌, ◌≤◌, Bool, true, false, not, cond, eqb, refl, sym, ap, subst, ◌∙◌, arith, List, [], ◌∷◌, ◌++◌, ◌||◌, drop, length, get_or, position, map}
-use Rattle.std.proofs.Common.{string_bytes, Option, Some, None, slice_get}
-use Rattle.std.proofs.lemmas.List.{append_assoc, append-nil, drop_more, length-drop, length-map}
-use Rattle.std.proofs.lemmas.Option.{slice_get_within, get_or_from_slice_get}
-use Rattle.std.proofs.lemmas.Bool.Decides.{nat_tests}
+use Rattle.std.proofs.Common.{◌≡◌, ◌≢◌, ℕ, ◌+◌, ◌-◌, ◌<◌, ◌≤◌, Bool, true, false, not, cond, eqb, refl, sym, ap, ◌∙◌, arith, List, [], ◌∷◌, ◌++◌, ◌||◌, drop, length, get_or, position, map}
+use Rattle.std.proofs.lemmas.List.{append_assoc, drop_more, length-drop, length-map}
 use Rattle.std.specs.List.{position_or_len}
-use Rattle.std.specs.Str.{bytes_eq}
 use Rattle.idl_scope.specs.Ended.{Ended, has_ended}
 use Rattle.idl_scope.specs.Value.{escaped}
 use Rattle.idl_names.specs.Sources.{backslash, before_quote, string_value}
+use Rattle.grammar_phrases.proofs.OneVerdict.{unequal as are_not_same}
+use Rattle.std.proofs.lemmas.Bool.{eq-eqb as are_same}
 
 pub at_quote : (s : List ℕ) → string_value s ≡ before_quote (drop 1 s)
 at_quote [] = refl
@@ -53,15 +51,6 @@ module _ {A B : Type 0} (f : A → B) (test : B → Bool) where
   position_of xs = rw (place_of xs, sym (length-map xs f)) refl
 
 -- ## The item at a place
-
-pub item_at : {X : Type 0} (xs : List X) (i : ℕ) (x : X) → slice_get xs i ≡ Some x → drop i xs ≡ x ∷ drop (i + 1) xs
-item_at xs i x e = drop_more xs i x (slice_get_within xs i x e) ∙ ap (λ y. y ∷ drop (i + 1) xs) (get_or_from_slice_get xs i x x e)
-
-are_same : (a b : ℕ) → a ≡ b → eqb a b ≡ true
-are_same a b e = grind (arith, nat_tests)
-
-are_not_same : (a b : ℕ) → a ≢ b → eqb a b ≡ false
-are_not_same a b h = grind (arith, nat_tests, h)
 
 pub first_is : (xs : List Ended) (i : ℕ) (x : Ended) (number : ℕ) → drop i xs ≡ x ∷ drop (i + 1) xs → x.file ≡ number → has_ended (drop i xs) number ≡ true
 first_is xs i x number e same = ap (λ l. has_ended l number) e ∙ ap (λ b. b || has_ended (drop (i + 1) xs) number) (are_same x.file number same)

@@ -11,10 +11,7 @@ use Rattle.idl_grammar.specs.declared.attributes.PointerClass.TheVariants as cla
 use Rattle.idl_rule_definitions.specs.Types.{IdlType, Void, Handle, ContextHandle, Basic, Struct, Union, Enum, Array, Text, Pointer, Pipe}
 use Rattle.idl_rule_definitions.specs.Scene.{same_place}
 use Rattle.idl_rule_definitions.specs.Numbering.{same_type, same_count, same_flag, same_class}
-
-pub both : (a b : Bool) → (a && b) ≡ true → (a ≡ true) × (b ≡ true)
-both true b h = (refl, h)
-both false b h = absurd (let e : false ≡ true = h in cc)
+use Rattle.std.proofs.lemmas.Bool.{and_parts as both}
 
 pub place_is : (p q : Place) → same_place p q ≡ true → p ≡ q
 place_is p q h =

@@ -8,14 +8,11 @@ use Rattle.idl_rule_definitions.specs.Types.{IdlType, Void, Handle, ContextHandl
 use Rattle.idl_rule_definitions.specs.Scene.{Scene}
 use Rattle.idl_rule_definitions.specs.Numbering.{Needed, needed_types, own_types, first_needed, has_own_number, same_type, same_count, same_flag, same_class, is_numbered_or_none}
 use Rattle.idl_rule_definitions.proofs.Equal.{type_is}
+use Rattle.std.proofs.lemmas.Bool.{or_right as right}
 
 pub conjunction : (a b : Bool) → a ≡ true → b ≡ true → (a && b) ≡ true
 conjunction true b h i = i
 conjunction false b h i = absurd (let e : false ≡ true = h in cc)
-
-pub right : (a b : Bool) → b ≡ true → (a || b) ≡ true
-right true b h = refl
-right false b h = h
 
 same_flag_itself : (v : Bool) → same_flag v v ≡ true
 same_flag_itself true = refl

@@ -6,6 +6,7 @@ use Rattle.std.proofs.lemmas.Bool.Decides.{nat_tests}
 use Rattle.idl_rule_definitions.specs.World.{World}
 use Rattle.idl_rule_definitions.specs.Rules.{Breach}
 use Rattle.idl_rule_definitions.specs.FirstBroken.{comes_before, same_breach, rank, earlier, first_of, IsFirstOf, IsLeast}
+use Rattle.std.proofs.lemmas.Bool.{or_parts as neither, or_right as second}
 
 -- three numbers, compared one after the other
 abbrev before : ℕ → ℕ → ℕ → ℕ → ℕ → ℕ → Bool
@@ -33,15 +34,7 @@ not_before_next w a b c h i =
 same_itself : (a : Breach) → same_breach a a ≡ true
 same_itself a = grind (arith, nat_tests)
 
-neither : (a b : Bool) → (a || b) ≡ false → (a ≡ false) × (b ≡ false)
-neither false b h = (refl, h)
-neither true b h = (h, absurd (let e : true ≡ false = h in cc))
-
-second : (a b : Bool) → b ≡ true → (a || b) ≡ true
-second true b h = refl
-second false b h = h
-
-none : (a b : Bool) → a ≡ false → b ≡ false → (a || b) ≡ false
+pub none : (a b : Bool) → a ≡ false → b ≡ false → (a || b) ≡ false
 none false b h i = i
 none true b h i = absurd (let e : true ≡ false = h in cc)
 

@@ -1,18 +1,14 @@
 -- A name is in the text; a word that stands for a value is read.
-use Rattle.std.proofs.Common.{◌≡◌, ℕ, ◌+◌, ◌<◌, ◌≤◌, Bool, true, false, ◌||◌, cond, eqb, length, refl, sym, ap, arith, ◌∙◌, List, [], ◌∷◌, Ok, Err, Option, Some, None}
-use Rattle.grammar_phrases.specs.Text.{Lexeme, Text, lexeme_at, symbol_at, is_in}
-use Rattle.grammar_phrases.specs.Reading.{Read, Syntax}
+use Rattle.std.proofs.Common.{◌≡◌, ℕ, ◌+◌, ◌<◌, Bool, true, false, ◌||◌, cond, eqb, length, refl, ap, ◌∙◌, List, [], ◌∷◌, Ok, Err, Option, Some, None}
+use Rattle.grammar_phrases.specs.Text.{Text, symbol_at, is_in}
+use Rattle.grammar_phrases.specs.Reading.{Syntax}
 use Rattle.grammar_phrases.proofs.Within.{test_within}
 use Rattle.grammar_phrases.proofs.Sequences.{disjoint, apart}
 use Rattle.idl_grammar.specs.Lexemes.{no_words}
 use Rattle.idl_grammar.specs.Limits.{Meant, names, symbols_of, value_of}
 use Rattle.idl_grammar.specs.Reading.{one_of_read}
 use Rattle.idl_tokens.specs.Found.{found}
-
-not_end : (inside : Bool) → is_in (names inside) 0 ≡ false
-unfolding names
-not_end true = refl
-not_end false = refl
+use Rattle.idl_grammar.proofs.Combine.{name_real as not_end}
 
 names_are_words : (inside : Bool) → disjoint (names inside) no_words ≡ true
 unfolding names no_words

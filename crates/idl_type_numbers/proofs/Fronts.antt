@@ -1,18 +1,18 @@
 -- The nodes for which the first of the program stand, each with its names.
-use Rattle.std.proofs.Common.{append-nil, ◌≡◌, ℕ, ◌+◌, ◌<◌, List, [], ◌∷◌, ◌++◌, take, length, get_or, Some, slice_get, refl, sym, ap, ◌∙◌, add-one}
+use Rattle.std.proofs.Common.{append-nil, ◌≡◌, ℕ, ◌+◌, List, [], ◌∷◌, ◌++◌, take, length, Some, slice_get, refl, ap, ◌∙◌}
 use Rattle.std.specs.List.{flat_map}
 use Rattle.std.proofs.lemmas.Grind.{flat_map-append}
-use Rattle.std.proofs.lemmas.Option.{slice_get_within, get_or_from_slice_get}
-use Rattle.std.proofs.Math.Seq.{take-suc, take-length}
+use Rattle.std.proofs.Math.Seq.{take-length}
 use Rattle.idl_scope.specs.Known.{Known}
 use Rattle.idl_rule_definitions.specs.World.{World}
 use Rattle.idl_constructs.specs.declared.nodes.Node as program_node
 use Rattle.idl_constructs.specs.declared.nodes.Nodes as program_nodes
 use Rattle.idl_rule_definitions.specs.Nodes.{Node, nodes}
 use Rattle.idl_rule_definitions.specs.Types.{Names}
-use Rattle.idl_rule_definitions.specs.Scene.{Scene, Scoped, scoped_from, names_behind, scene_of}
+use Rattle.idl_rule_definitions.specs.Scene.{scoped_from, names_behind, scene_of}
 use Rattle.idl_constructs.specs.SeenNodes.{seen_node, seen_nodes}
 use Rattle.idl_type_numbers.specs.SeenTypes.{names_past, front, names_at, scoped_front, scene_seen}
+use Rattle.nd_lemmas.proofs.Lists.{take_next}
 
 pub names_past-append : (known : Known) (names : Names) (xs ys : List Node) → names_past known names (xs ++ ys) ≡ names_past known (names_past known names xs) ys
 names_past-append known names [] ys = refl
@@ -23,11 +23,6 @@ pub scoped_from-append : (known : Known) (names : Names) (xs ys : List Node)
 scoped_from-append known names [] ys = refl
 scoped_from-append known names (x ∷ xs) ys =
     ap (λ l. record { names = names; node = x } ∷ l) (scoped_from-append known (names_behind known names x) xs ys)
-
--- one more node of the program
-pub take_next : {X : Type 0} (xs : List X) (i : ℕ) (x : X) → slice_get xs i ≡ Some x → take (i + 1) xs ≡ take i xs ++ x ∷ []
-take_next xs i x h =
-    rw (add-one i) (take-suc xs i x (slice_get_within xs i x h) ∙ ap (λ y. take i xs ++ y ∷ []) (get_or_from_slice_get xs i x x h))
 
 pub front_next : (n : program_nodes.Nodes) (i : ℕ) (it : program_node.Node) → slice_get n.items.items i ≡ Some it → front n (i + 1) ≡ front n i ++ seen_node n.lists.items it
 front_next n i it h = ap (λ l. flat_map (seen_node n.lists.items) l) (take_next n.items.items i it h) ∙ flat_map-append (seen_node n.lists.items) (take i n.items.items) (it ∷ [])

@@ -1,5 +1,5 @@
 -- Types that get numbers one by one, where they are needed first.
-use Rattle.std.proofs.Common.{◌≡◌, ℕ, ◌+◌, Bool, true, false, not, ◌||◌, ◌&&◌, List, [], ◌∷◌, ◌++◌, map, length, refl, sym, ap, ap₂, ◌∙◌, subst, append-nil, append_assoc, true≢false}
+use Rattle.std.proofs.Common.{◌≡◌, ◌+◌, Bool, true, false, not, ◌||◌, ◌&&◌, List, [], ◌∷◌, ◌++◌, map, refl, sym, ap, ap₂, ◌∙◌, subst, append-nil, append_assoc, true≢false}
 use Rattle.std.specs.List.{list_any, list_all}
 use Rattle.std.proofs.lemmas.List.{map-append}
 use Rattle.idl_rule_definitions.specs.Nodes.{Construct}
@@ -7,8 +7,9 @@ use Rattle.idl_rule_definitions.specs.Types.{IdlType, Void, Handle, ContextHandl
 use Rattle.idl_rule_definitions.specs.Scene.{Scene}
 use Rattle.idl_rule_definitions.specs.Numbering.{Needed, needed, built, has_own_number, same_type, first_needed, needed_types, own_types}
 use Rattle.idl_type_numbers.specs.SeenNumbers.{has_number, grown_by, grown, is_settled, IsClosed}
-use Rattle.idl_rule_definitions.proofs.Equal.{type_is, both}
-use Rattle.idl_rule_definitions.proofs.Needed.{itself, conjunction, right}
+use Rattle.idl_rule_definitions.proofs.Equal.{type_is}
+use Rattle.std.proofs.lemmas.Bool.{and_parts as both, or_right as right, or_left as left}
+use Rattle.idl_rule_definitions.proofs.Needed.{itself, conjunction}
 
 pub same_turned : (t u : IdlType) → same_type t u ≡ same_type u t
 same_turned t u = by (same_type t u) (same_type u t) refl refl where
@@ -28,7 +29,7 @@ or_false : (b : Bool) → (b || false) ≡ b
 or_false true = refl
 or_false false = refl
 
-or_turned : (a b : Bool) → (a || b) ≡ (b || a)
+pub or_turned : (a b : Bool) → (a || b) ≡ (b || a)
 or_turned true true = refl
 or_turned true false = refl
 or_turned false true = refl
@@ -74,10 +75,6 @@ grown-append firsts [] ys = refl
 grown-append firsts (x ∷ xs) ys = grown-append (grown_by firsts x) xs ys
 
 -- ## What has a number keeps it
-
-left : (a b : Bool) → a ≡ true → (a || b) ≡ true
-left true b h = refl
-left false b h = absurd (true≢false (sym h))
 
 settled_by : (a b c : Bool) → (a || b) ≡ true → (b ≡ true → c ≡ true) → (a || c) ≡ true
 settled_by true b c h k = refl
@@ -194,7 +191,7 @@ closed_behind firsts c t h = (done firsts c t h).closed
 abbrev pub are_own : List Needed → Bool
 are_own firsts = list_all (λ n. has_own_number n.type) firsts
 
-all_more : {X : Type 0} (p : X → Bool) (xs : List X) (x : X) → list_all p xs ≡ true → p x ≡ true → list_all p (xs ++ x ∷ []) ≡ true
+pub all_more : {X : Type 0} (p : X → Bool) (xs : List X) (x : X) → list_all p xs ≡ true → p x ≡ true → list_all p (xs ++ x ∷ []) ≡ true
 all_more p [] x h k = conjunction (p x) true k refl
 all_more p (y ∷ xs) x h k =
     let e = both (p y) (list_all p xs) h in

@@ -1,14 +1,13 @@
 -- Numbers of types, and of what they hold in their place.
-use Rattle.std.proofs.Common.{◌≡◌, ◌∙◌, ℕ, zero, suc, ◌+◌, ◌<◌, ◌≤◌, Bool, true, false, ltb, ◌&&◌, List, [], ◌∷◌, ◌++◌, map, take, length, get_or, refl, ap, ap₂, sym, arith}
-use Rattle.std.specs.List.{list_all}
+use Rattle.std.proofs.Common.{◌≡◌, ◌∙◌, ℕ, suc, ◌+◌, ◌<◌, ◌≤◌, true, ltb, List, [], ◌∷◌, ◌++◌, map, take, length, get_or, ap, ap₂, sym, arith}
 use Rattle.std.proofs.lemmas.Option.{slice_get_past}
 use Rattle.std.proofs.lemmas.List.{take_more, map-append}
-use Rattle.std.proofs.lemmas.Bool.{lt-ltb}
 use Rattle.idl_declared_types.specs.declared.kinds.Kind.{Kind}
-use Rattle.idl_rule_definitions.specs.Types.{IdlType, Void}
+use Rattle.idl_rule_definitions.specs.Types.{Void}
 use Rattle.idl_declared_types.specs.Kinds.{type_at}
 use Rattle.idl_type_numbers.specs.InPlace.{AreHeld}
 use Rattle.idl_declared_types.proofs.KindLists.{none_at}
+use Rattle.idl_type_numbers.proofs.Grown.{all_more as all_last}
 
 -- a number past all types stands for `void`
 pub void_past : (ks : List Kind) (n : ℕ) → length ks ≤ n → type_at ks n ≡ Void
@@ -16,14 +15,6 @@ void_past ks n past = none_at ks n (slice_get_past ks n past)
 
 pub same_past : (ks : List Kind) (count n : ℕ) → length ks ≡ count → count ≤ n → type_at ks count ≡ type_at ks n
 same_past ks count n size past = void_past ks count (omega (arith, size)) ∙ sym (void_past ks n (omega (arith, size, past)))
-
-all_last : {X : Type 0} (test : X → Bool) (xs : List X) (x : X) → list_all test xs ≡ true → test x ≡ true → list_all test (xs ++ x ∷ []) ≡ true
-all_last test [] x h i = ap (λ b. b && true) i
-all_last test (y ∷ xs) x h i = by (test y) refl h (λ rest. all_last test xs x rest i) where
-  by : (t : Bool) → test y ≡ t → (t && list_all test xs) ≡ true → (list_all test xs ≡ true → list_all test (xs ++ x ∷ []) ≡ true)
-      → (test y && list_all test (xs ++ x ∷ [])) ≡ true
-  by true e rest more = ap (λ b. b && list_all test (xs ++ x ∷ [])) e ∙ more rest
-  by false e rest more = absurd (let f : false ≡ true = rest in cc)
 
 -- one more number
 pub held_more : (ks : List Kind) (count : ℕ) (held numbers : List ℕ) (i d y : ℕ) → i < length numbers

@@ -1,13 +1,12 @@
 -- The numbers that the program notes, and those of the definitions.
-use Rattle.std.proofs.Common.{◌≡◌, ℕ, zero, suc, ◌+◌, ◌<◌, ◌≤◌, Bool, true, false, not, ◌||◌, ◌&&◌, eqb, ltb, List, [], ◌∷◌, ◌++◌, map, length, set, reverse, Option, Some, None, is_some, slice_get}
-use Rattle.std.proofs.Common.{refl, sym, ap, ap₂, ◌∙◌, subst, arith, append-nil, append_assoc, true≢false}
-use Rattle.std.specs.List.{list_any, list_all}
-use Rattle.std.proofs.lemmas.Option.{none-some, slice_get_within, slice_get_past, slice_get-get_or, same_Some}
+use Rattle.std.proofs.Common.{◌≡◌, ℕ, zero, suc, ◌+◌, ◌<◌, ◌≤◌, Bool, true, false, not, ◌||◌, eqb, ltb, List, [], ◌∷◌, ◌++◌, map, length, set, reverse, Option, Some, None, is_some, slice_get, refl}
+use Rattle.std.proofs.Common.{sym, ap, ap₂, ◌∙◌, subst, arith, append_assoc, true≢false}
+use Rattle.std.specs.List.{list_all}
+use Rattle.std.proofs.lemmas.Option.{slice_get_within, slice_get_past}
 use Rattle.std.proofs.lemmas.List.{map-append, length-set, reverse-append}
-use Rattle.std.proofs.lemmas.Bool.{ltb-true, lt-ltb}
+use Rattle.std.proofs.lemmas.Bool.{ltb-true, lt-ltb, and_parts as both, or_right as right}
 use Rattle.std.proofs.lemmas.Bool.Decides.{nat_tests}
 use Rattle.nd_base.specs.declared.octets.Place.{Place}
-use Rattle.nd_types.specs.Kinds.{prim_number}
 use Rattle.idl_declared_types.specs.declared.kinds.Kind.{Kind}
 use Rattle.idl_declared_types.specs.declared.kinds.Kind.TheVariants as kind
 use Rattle.idl_type_numbers.specs.declared.numbering.Own.{Own}
@@ -16,13 +15,15 @@ use Rattle.idl_rule_definitions.specs.Nodes.{Construct, place_in}
 use Rattle.idl_rule_definitions.specs.Types.{IdlType, or_void, Void, Handle, ContextHandle, Basic, Struct, Union, Enum, Array, Text, Pointer, Pipe}
 use Rattle.idl_rule_definitions.specs.Scene.{Scene}
 use Rattle.idl_rule_definitions.specs.Numbering.{Needed, needed, needed_types, built, has_own_number, same_type, own_types, number_among, number_of_type}
-use Rattle.idl_declared_types.specs.Kinds.{type_by, seen_types, type_at, inner_of, is_inside, AreOnce}
-use Rattle.idl_type_numbers.specs.SeenNumbers.{found_number, next_of, number_or, number_by, number_at, seen_own, seen_needed, AreNumbers, has_number, is_settled, IsClosed, given, Shows, Gives, grown}
-use Rattle.idl_type_numbers.specs.SeenNumbers.{grown_by, along}
-use Rattle.idl_rule_definitions.proofs.Equal.{type_is, both}
-use Rattle.idl_rule_definitions.proofs.Needed.{itself, conjunction, right}
+use Rattle.idl_declared_types.specs.Kinds.{type_by, seen_types, type_at, inner_of, AreOnce}
+use Rattle.idl_type_numbers.specs.SeenNumbers.{found_number, next_of, number_or, number_by, seen_own, seen_needed, AreNumbers, has_number, is_settled, IsClosed, given, Shows, Gives, grown, grown_by}
+use Rattle.idl_type_numbers.specs.SeenNumbers.{along}
+use Rattle.idl_rule_definitions.proofs.Equal.{type_is}
+use Rattle.idl_rule_definitions.proofs.Needed.{itself}
 use Rattle.idl_declared_types.proofs.KindLists.{length-seen_types}
-use Rattle.idl_type_numbers.proofs.Grown.{nothing_more, one_more, nothing_all, grown-append, own_grown, are_own, all_own}
+use Rattle.idl_type_numbers.proofs.Grown.{nothing_more, one_more, nothing_all, grown-append, own_grown, are_own, all_own, all_more}
+use Rattle.idl_type_numbers.proofs.Held.{void_past as past_all}
+use Rattle.nd_lemmas.proofs.Lists.{same_first as first_of, same_rest as rest_of}
 
 -- a type with a number of its own is one of those that were met
 pub own_within : (ks : List Kind) (k : ℕ) → has_own_number (type_at ks k) ≡ true → k < length ks
@@ -47,12 +48,6 @@ same_number ks once a b p q = by (eqb a b) (same_type (type_at ks a) (type_at ks
 
 abbrev pub are_within : List Kind → List Own → Bool
 are_within ks os = list_all (λ o. ltb o.kind (length ks)) os
-
-first_of : {X : Type 0} (x y : X) (xs ys : List X) → x ∷ xs ≡ y ∷ ys → x ≡ y
-first_of x y xs ys h = cc
-
-rest_of : {X : Type 0} (x y : X) (xs ys : List X) → x ∷ xs ≡ y ∷ ys → xs ≡ ys
-rest_of x y xs ys h = cc
 
 module _ (ks : List Kind) (once : AreOnce ks) (k : ℕ) (below : k < length ks) where
   same_kind : (m : Needed) (o : Own) → seen_needed m ≡ seen_own ks o → ltb o.kind (length ks) ≡ true → same_type m.type (type_at ks k) ≡ eqb o.kind k
@@ -88,7 +83,7 @@ module _ (ks : List Kind) (once : AreOnce ks) (k : ℕ) (below : k < length ks) 
 
 -- ## One more number
 
-no_number : (o : Option ℕ) → is_some o ≡ false → o ≡ None
+pub no_number : (o : Option ℕ) → is_some o ≡ false → o ≡ None
 no_number None h = refl
 no_number (Some n) h = absurd (true≢false h)
 
@@ -118,12 +113,6 @@ get_other (y ∷ xs) zero zero x h = absurd (true≢false h)
 get_other (y ∷ xs) zero (suc j) x h = refl
 get_other (y ∷ xs) (suc k) zero x h = refl
 get_other (y ∷ xs) (suc k) (suc j) x h = get_other xs k j x (grind (arith, nat_tests, h))
-
-all_more : {X : Type 0} (p : X → Bool) (xs : List X) (x : X) → list_all p xs ≡ true → p x ≡ true → list_all p (xs ++ x ∷ []) ≡ true
-all_more p [] x h k = conjunction (p x) true k refl
-all_more p (y ∷ xs) x h k =
-    let e = both (p y) (list_all p xs) h in
-    conjunction (p y) (list_all p (xs ++ x ∷ [])) e.0 (all_more p xs x e.1 k)
 
 shows_next : (ks : List Kind) (firsts : List Needed) (old new : Numbers) (c : Construct) (k : ℕ) (place : Place) → Shows ks firsts old → place ≡ place_in c c.at → k < length ks
     → is_some (given 12 old.own.items k) ≡ false → Gives k place old new → Shows ks (firsts ++ needed c (type_at ks k) ∷ []) new
@@ -267,9 +256,6 @@ as_long f g [] [] h = refl
 as_long f g [] (y ∷ ys) h = absurd (let e : [] ≡ g y ∷ map g ys = h in cc)
 as_long f g (x ∷ xs) [] h = absurd (let e : f x ∷ map f xs ≡ [] = h in cc)
 as_long f g (x ∷ xs) (y ∷ ys) h = ap suc (as_long f g xs ys (rest_of _ _ _ _ h))
-
-past_all : (ks : List Kind) (k : ℕ) → length ks ≤ k → type_at ks k ≡ Void
-past_all ks k h = ap or_void (slice_get_past (seen_types ks) k (omega (arith, h, length-seen_types ks)))
 
 own_number_is : (ks : List Kind) (firsts : List Needed) (t : Numbers) (k : ℕ) → Shows ks firsts t → are_own firsts ≡ true
     → number_or (next_of t) (found_number (slice_get t.numbers.items k)) ≡ number_among 12 firsts (type_at ks k)

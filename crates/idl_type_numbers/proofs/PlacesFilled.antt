@@ -1,12 +1,11 @@
 -- A graph of what types hold, filled type by type.
-use Rattle.std.proofs.Common.{◌≡◌, ◌∙◌, ◌⊎◌, inl, inr, ℕ, zero, suc, ◌+◌, ◌<◌, ◌≤◌, Bool, true, false, ltb, ◌&&◌, List, [], ◌∷◌, ◌++◌, map, length, refl, ap, sym, subst, arith, add-one, length-append}
+use Rattle.std.proofs.Common.{◌≡◌, ◌∙◌, ◌⊎◌, inl, inr, ℕ, zero, suc, ◌+◌, ◌<◌, Bool, true, false, ltb, List, [], ◌∷◌, ◌++◌, length, refl, ap, sym, subst, arith, length-append}
 use Rattle.std.proofs.lemmas.Bool.{ltb-true, ltb-false}
 use Rattle.std.specs.Prelude.{slice_index_or}
 use Rattle.idl_declared_types.specs.declared.kinds.Kind.{Kind}
 use Rattle.idl_rule_definitions.specs.Types.{IdlType, Void}
 use Rattle.idl_rule_definitions.specs.Scene.{Scene, in_place}
 use Rattle.idl_declared_types.specs.Kinds.{type_at}
-use Rattle.idl_cycles.specs.Graph.{parts_at, rule_at}
 use Rattle.idl_cycles.specs.declared.graph.rounds.Rule.{Rule}
 use Rattle.idl_cycles.specs.declared.graph.rounds.Rule.TheVariants.{Never}
 use Rattle.idl_type_numbers.specs.InPlace.{AreHeld, AreRules, IsPlaces}
@@ -28,7 +27,7 @@ item_last (y ∷ xs) x d (suc i) e = item_last xs x d i (omega (arith, e))
 abbrev pub Each : {X : Type 0} → (ℕ → X → Type 0) → X → List X → Type 0
 Each P d xs = (i : ℕ) → i < length xs → P i (slice_index_or xs i d)
 
-here_or_before : (i n : ℕ) → i < n + 1 → (i < n) ⊎ (i ≡ n)
+pub here_or_before : (i n : ℕ) → i < n + 1 → (i < n) ⊎ (i ≡ n)
 here_or_before i n h = by (ltb i n) refl where
   by : (t : Bool) → ltb i n ≡ t → (i < n) ⊎ (i ≡ n)
   by true e = inl (ltb-true i n e)

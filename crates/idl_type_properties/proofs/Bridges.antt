@@ -1,5 +1,5 @@
 -- From the properties of a graph's nodes to those of the types for which they stand.
-use Rattle.std.proofs.Common.{◌≡◌, ℕ, suc, zero, ◌<◌, Bool, true, false, eqb, ltb, ◌&&◌, ◌||◌, List, [], ◌∷◌, length, map, replicate, Some, None, arith, refl, sym, ap, ◌∙◌}
+use Rattle.std.proofs.Common.{◌≡◌, ℕ, suc, zero, ◌<◌, Bool, true, false, ltb, ◌&&◌, ◌||◌, List, [], ◌∷◌, map, replicate, Some, None, arith, refl, sym, ap, ◌∙◌}
 use Rattle.std.specs.List.{list_all, list_any}
 use Rattle.std.proofs.lemmas.Bool.{ltb-true}
 use Rattle.idl_cycles.specs.declared.graph.rounds.Rule.{Rule}
@@ -12,8 +12,8 @@ use Rattle.idl_rule_definitions.specs.Scene as scene
 use Rattle.idl_rule_definitions.specs.ArrayRules.{is_barred_by, is_barred_within, is_barred_in_pipes}
 use Rattle.idl_declared_types.specs.Kinds.{type_at}
 use Rattle.idl_type_numbers.specs.InPlace.{hoists_rule, barred_rule, AreRules, IsPlaces}
-use Rattle.idl_cycles.specs.Graph.{parts_at, rule_at, has_by, has_within, last_passes, contains_within}
-use Rattle.idl_cycles.proofs.GraphTests.{first_of, second_of}
+use Rattle.idl_cycles.specs.Graph.{parts_at, rule_at, has_by, has_within, last_passes}
+use Rattle.nd_lemmas.proofs.Booleans.{first_true as first_of, second_true as second_of}
 
 -- tests that agree at each number below a limit give the same of such numbers
 all_within : (m : ℕ) (f g : ℕ → Bool) → ((x : ℕ) → x < m → f x ≡ g x) → (xs : List ℕ) → list_all (λ x. ltb x m) xs ≡ true → list_all f xs ≡ list_all g xs

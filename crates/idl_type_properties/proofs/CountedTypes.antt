@@ -1,5 +1,5 @@
 -- What is counted of a type's dimensions.
-use Rattle.std.proofs.Common.{◌≡◌, ◌∙◌, ℕ, Bool, true, false, not, ◌&&◌, ◌||◌, List, [], ◌∷◌, Option, Some, None, ℤ, refl, sym, ap, ap₂, subst, true≢false}
+use Rattle.std.proofs.Common.{◌≡◌, ◌∙◌, ℕ, Bool, true, false, not, ◌&&◌, ◌||◌, List, [], ◌∷◌, Option, Some, ℤ, refl, sym, ap, ap₂, subst, true≢false}
 use Rattle.std.specs.Prelude.{is_none, zero, suc, ◌++◌, length, slice_get}
 use Rattle.std.proofs.lemmas.Option.{none-some, same_Some}
 use Rattle.std.specs.List.{list_any}
@@ -8,16 +8,11 @@ use Rattle.idl_rule_definitions.specs.Types.{IdlType, Array, or_void, is_array}
 use Rattle.idl_rule_definitions.specs.Scene.{chain}
 use Rattle.idl_rule_definitions.specs.ArrayRules.{dimensions, times, product, is_right_count, has_wrong_count, are_many, has_many_not_fixed}
 use Rattle.idl_type_properties.specs.Counted.{IsCounted, AreCounted}
+use Rattle.idl_type_numbers.proofs.Grown.{or_turned as or_swap}
 
 or_true : (a : Bool) → true ≡ (a || true)
 or_true true = refl
 or_true false = refl
-
-or_swap : (a b : Bool) → (a || b) ≡ (b || a)
-or_swap true true = refl
-or_swap true false = refl
-or_swap false true = refl
-or_swap false false = refl
 
 many_array : (t : IdlType) (count : Option ℤ) → is_array t ≡ are_many (count ∷ dimensions t)
 many_array (Array t c varying) count = refl

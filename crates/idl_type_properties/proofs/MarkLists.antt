@@ -1,5 +1,5 @@
 -- Marks of types, one by one.
-use Rattle.std.proofs.Common.{◌≡◌, ◌∙◌, ◌⊎◌, inl, inr, ℕ, zero, suc, ◌+◌, ◌<◌, ◌≤◌, Bool, true, false, ltb, List, [], ◌∷◌, ◌++◌, length, slice_get, Some, None, refl, ap, sym, subst, arith}
+use Rattle.std.proofs.Common.{◌≡◌, ℕ, zero, suc, ◌+◌, ◌<◌, Bool, true, false, ltb, List, [], ◌∷◌, ◌++◌, length, slice_get, Some, refl, ap, sym, subst, arith}
 use Rattle.std.proofs.lemmas.Bool.{ltb-true, ltb-false}
 use Rattle.std.proofs.lemmas.Option.{slice_get_past}
 use Rattle.idl_declared_types.specs.declared.kinds.Kind.{Kind}
@@ -11,14 +11,10 @@ use Rattle.idl_rule_definitions.specs.TypeRules.{is_too_deep}
 use Rattle.idl_declared_types.specs.Kinds.{type_at}
 use Rattle.idl_type_properties.specs.SeenMarks.{IsMark, or_void_mark}
 use Rattle.idl_type_numbers.proofs.Held.{void_past}
+use Rattle.nd_lemmas.proofs.Lists.{get_in_front as before}
 
 abbrev pub MarksTo : Scene → List Kind → ℕ → List Mark → Type 0
 MarksTo s ks number items = (n : ℕ) → n < number → IsMark s (type_at ks n) (or_void_mark (slice_get items n))
-
-before : {X : Type 0} (xs ys : List X) (n : ℕ) → n < length xs → slice_get (xs ++ ys) n ≡ slice_get xs n
-before [] ys n below = absurd (omega (arith, below))
-before (x ∷ xs) ys zero below = refl
-before (x ∷ xs) ys (suc n) below = before xs ys n (omega (arith, below))
 
 last : {X : Type 0} (xs : List X) (x : X) (n : ℕ) → n ≡ length xs → slice_get (xs ++ x ∷ []) n ≡ Some x
 last [] x n e = ap (λ j. slice_get (x ∷ []) j) e

@@ -3,7 +3,7 @@ use Rattle.std.proofs.Common.{◌≡◌, ℕ, zero, suc, ◌+◌, ◌<◌, ◌�
 use Rattle.std.proofs.Common.{sym, ap, ◌∙◌, arith, Vec}
 use Rattle.std.specs.List.{list_any}
 use Rattle.std.specs.Str.{bytes_eq}
-use Rattle.std.proofs.lemmas.Option.{none-some, same_Some, slice_get_past}
+use Rattle.std.proofs.lemmas.Option.{none-some, same_Some}
 use Rattle.std.proofs.lemmas.List.{map-append}
 use Rattle.std.proofs.lemmas.List.Folds.{list_any-append}
 use Rattle.std.proofs.lemmas.Slice.Eq.{bytes_eq-Decides}
@@ -14,10 +14,10 @@ use Rattle.idl_constructs.specs.declared.nodes.Declared as declared
 use Rattle.idl_rule_definitions.specs.Attributes.{variable_said}
 use Rattle.idl_rule_definitions.specs.Nodes.{Declared}
 use Rattle.idl_declared_types.specs.SeenNames.{and_name}
-use Rattle.idl_constructs.specs.SeenNodes.{seen_declared, list_at}
+use Rattle.idl_constructs.specs.SeenNodes.{seen_declared}
 use Rattle.idl_rule_definitions.specs.VariableRules.{Listed, listed_from, variable_if, variables}
-use Rattle.idl_typing.specs.Lookups.{found_at, AreTables}
-use Rattle.idl_type_numbers.proofs.Fronts.{take_next}
+use Rattle.idl_typing.specs.Lookups.{AreTables}
+use Rattle.nd_lemmas.proofs.Lists.{take_next}
 
 last_number : Option ℕ → Bool → ℕ → Option ℕ
 last_number (Some n) b m = Some n

@@ -1,16 +1,13 @@
 -- The types of parts, one after another.
-use Rattle.std.proofs.Common.{◌≡◌, ℕ, suc, ◌+◌, ◌<◌, Bool, true, ◌&&◌, ltb, List, [], ◌∷◌, ◌++◌, map, take, length, Some, slice_get, refl, sym, ap, ◌∙◌, arith}
-use Rattle.std.specs.List.{list_all}
+use Rattle.std.proofs.Common.{◌≡◌, ℕ, ◌+◌, ◌<◌, true, ltb, List, [], ◌∷◌, ◌++◌, map, take, length, Some, slice_get, refl, sym, ap, ◌∙◌, arith}
 use Rattle.std.proofs.lemmas.List.{map-append}
-use Rattle.std.proofs.lemmas.List.Folds.{list_all-append}
-use Rattle.std.proofs.lemmas.Bool.{ltb-true, lt-ltb}
+use Rattle.std.proofs.lemmas.Bool.{ltb-true, lt-ltb, and_parts as both}
 use Rattle.idl_declared_types.specs.declared.kinds.Kind.{Kind}
 use Rattle.idl_rule_definitions.specs.Types.{IdlType}
 use Rattle.idl_declared_types.specs.Kinds.{type_at, Keeps}
 use Rattle.idl_declared_types.specs.SeenNames.{are_below}
-use Rattle.idl_declared_types.proofs.KindLists.{both}
 use Rattle.idl_declared_types.proofs.NameLists.{le-keeps, type_at-keeps}
-use Rattle.idl_type_numbers.proofs.Fronts.{take_next}
+use Rattle.nd_lemmas.proofs.Lists.{take_next}
 
 -- more kinds leave the types of numbers
 pub types-keeps : (old new : List Kind) (numbers : List ℕ) → Keeps old new → are_below (length old) numbers ≡ true → map (type_at new) numbers ≡ map (type_at old) numbers

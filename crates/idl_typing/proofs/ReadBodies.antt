@@ -1,10 +1,8 @@
 -- One more body is read.
-use Rattle.std.proofs.Common.{◌≡◌, ℕ, zero, suc, ◌+◌, ◌<◌, ◌≤◌, Bool, true, false, cond, eqb, ◌&&◌, List, [], ◌∷◌, ◌++◌, map, length, Option, Some, None, is_some, slice_get, refl, sym, ap, ◌∙◌, subst}
-use Rattle.std.proofs.Common.{arith, true≢false}
+use Rattle.std.proofs.Common.{◌≡◌, ℕ, zero, suc, ◌+◌, ◌<◌, Bool, true, false, cond, List, [], ◌∷◌, ◌++◌, length, Option, Some, None, is_some, slice_get, refl, sym, ap, ◌∙◌, subst, arith}
 use Rattle.std.specs.Option.{option_and_then}
 use Rattle.std.proofs.lemmas.Option.{none-some, same_Some, slice_get_within}
 use Rattle.std.proofs.lemmas.List.{length-append, append-nil}
-use Rattle.std.proofs.lemmas.Bool.{eqb-true}
 use Rattle.nd_base.specs.declared.octets.Place.{Place}
 use Rattle.idl_scope.specs.Known.{Known}
 use Rattle.idl_declared_types.specs.declared.kinds.Kind.{Kind}
@@ -19,19 +17,13 @@ use Rattle.idl_declared_types.specs.SeenNames.{are_below}
 use Rattle.idl_type_numbers.specs.SeenTypes.{names_at, bare, body_at, IsBody}
 use Rattle.idl_declared_types.specs.Places.{found_place}
 use Rattle.idl_typing.specs.ReadTypes.{bodies_front, BodiesOver, BodiesRead, and_place}
-use Rattle.idl_declared_types.proofs.KindLists.{both, slice_get_kept, slice_get_last}
+use Rattle.idl_declared_types.proofs.KindLists.{slice_get_kept, slice_get_last}
 use Rattle.idl_typing.proofs.PartTypes.{types-keeps, below-le}
 use Rattle.idl_typing.proofs.ReadNames.{body_list, bodies_front_next}
 use Rattle.idl_typing.proofs.ReadSteps.{last_or_before}
+use Rattle.idl_rule_definitions.proofs.Equal.{place_is as same_is}
 
 -- ## Places
-
-same_is : (p q : Place) → same_place p q ≡ true → p ≡ q
-same_is p q h =
-    let parts = both (eqb p.file q.file) (eqb p.at q.at) h in
-    let file = eqb-true p.file q.file parts.0 in
-    let at = eqb-true p.at q.at parts.1 in
-    λ i. record { file = file i; at = at i }
 
 same_back : (p q : Place) → same_place p q ≡ same_place q p
 same_back p q = by (same_place p q) (same_place q p) refl refl

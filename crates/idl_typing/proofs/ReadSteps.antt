@@ -1,12 +1,11 @@
 -- One more node is read.
-use Rattle.std.proofs.Common.{◌≡◌, ℕ, zero, suc, ◌+◌, ◌<◌, ◌≤◌, Bool, true, false, cond, ◌&&◌, ltb, List, [], ◌∷◌, ◌++◌, map, length, Option, Some, None, option_map, is_some, slice_get, refl, sym, ap}
-use Rattle.std.proofs.Common.{◌∙◌, subst, arith, Vec}
-use Rattle.std.specs.List.{list_all}
+use Rattle.std.proofs.Common.{◌≡◌, ℕ, zero, suc, ◌+◌, ◌<◌, Bool, true, false, cond, ◌&&◌, ltb, List, [], ◌∷◌, ◌++◌, length, Option, Some, None, option_map, is_some, slice_get, refl, sym, ap, ◌∙◌}
+use Rattle.std.proofs.Common.{subst, arith, Vec}
 use Rattle.std.specs.Str.{bytes_eq}
-use Rattle.std.proofs.lemmas.Option.{none-some, same_Some, slice_get_within, slice_get_past}
+use Rattle.std.proofs.lemmas.Option.{none-some, same_Some}
 use Rattle.std.proofs.lemmas.List.{map-append, length-append}
 use Rattle.std.proofs.lemmas.List.Folds.{list_all-append}
-use Rattle.std.proofs.lemmas.Bool.{ltb-true, lt-ltb}
+use Rattle.std.proofs.lemmas.Bool.{lt-ltb}
 use Rattle.std.proofs.lemmas.Slice.Eq.{bytes_eq-Decides}
 use Rattle.idl_scope.specs.Known.{Known}
 use Rattle.idl_scope.specs.Tables.{found}
@@ -21,11 +20,10 @@ use Rattle.idl_rule_definitions.specs.Types.{IdlType, Names, type_of}
 use Rattle.idl_rule_definitions.specs.Scene.{is_typedef, Use}
 use Rattle.idl_declared_types.specs.Kinds.{type_at, Keeps}
 use Rattle.idl_declared_types.specs.SeenNames.{seen_names, are_within, and_name, declared_in, names_with}
-use Rattle.idl_constructs.specs.SeenNodes.{seen_construct, seen_declared, seen_result, list_at, seen_node}
+use Rattle.idl_constructs.specs.SeenNodes.{seen_construct, seen_declared, seen_result, list_at}
 use Rattle.idl_grammar.specs.Seen.{seen_type}
-use Rattle.idl_type_numbers.specs.SeenTypes.{names_past, names_at, bare, IsTypedUse, IsTyped, AreTypedWithin}
+use Rattle.idl_type_numbers.specs.SeenTypes.{names_at, bare, IsTypedUse, IsTyped, AreTypedWithin}
 use Rattle.idl_typing.specs.ReadTypes.{NamesRead, TypedRead}
-use Rattle.idl_declared_types.proofs.KindLists.{both, slice_get_kept, slice_get_last}
 use Rattle.idl_declared_types.proofs.NameLists.{le-keeps, type_at-keeps, are_within-keeps, seen_names-keeps, found_seen}
 use Rattle.idl_typing.proofs.Agreed.{Same, declared_same, type_same, switch_same, tag_same, wrong_same, wrong_switch_same}
 use Rattle.idl_type_numbers.proofs.Fronts.{names_at_next}

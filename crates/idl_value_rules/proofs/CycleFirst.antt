@@ -14,6 +14,7 @@ use Rattle.idl_rule_definitions.specs.Noted.{later, noted}
 use Rattle.idl_value_rules.specs.RestBreaches.{cycle_of, cycle_breaches}
 use Rattle.idl_rule_definitions.proofs.Noted.{noted_more}
 use Rattle.idl_rule_definitions.specs.declared.rule.TheConstants as Rule
+use Rattle.idl_rule_definitions.proofs.Order.{not_before_next as not_through}
 
 -- the breach of a body
 abbrev pub cycle_at : Body → Breach
@@ -27,12 +28,6 @@ through : (w : World) (a b c : Breach) → comes_before w a b ≡ true → comes
 through w a b c h i = by_numbers a.rule (rank w a.place.file) a.place.at b.rule (rank w b.place.file) b.place.at c.rule (rank w c.place.file) c.place.at h i where
   by_numbers : (r k p s l q t m o : ℕ) → (ltb r s || eqb r s && (ltb k l || eqb k l && ltb p q)) ≡ true → (ltb s t || eqb s t && (ltb l m || eqb l m && ltb q o)) ≡ true
       → (ltb r t || eqb r t && (ltb k m || eqb k m && ltb p o)) ≡ true
-  by_numbers r k p s l q t m o h i = grind (arith, nat_tests, h, i)
-
-not_through : (w : World) (a b c : Breach) → comes_before w a b ≡ false → comes_before w b c ≡ false → comes_before w a c ≡ false
-not_through w a b c h i = by_numbers a.rule (rank w a.place.file) a.place.at b.rule (rank w b.place.file) b.place.at c.rule (rank w c.place.file) c.place.at h i where
-  by_numbers : (r k p s l q t m o : ℕ) → (ltb r s || eqb r s && (ltb k l || eqb k l && ltb p q)) ≡ false → (ltb s t || eqb s t && (ltb l m || eqb l m && ltb q o)) ≡ false
-      → (ltb r t || eqb r t && (ltb k m || eqb k m && ltb p o)) ≡ false
   by_numbers r k p s l q t m o h i = grind (arith, nat_tests, h, i)
 
 -- what one comes before leaves no trace

@@ -17,6 +17,8 @@ use Rattle.idl_type_numbers.specs.SeenTypes.{IsTypes}
 use Rattle.idl_value_rules.specs.Cycles.{first_number, AreOfPlaces}
 use Rattle.idl_value_rules.proofs.CycleGraph.{among_place}
 use Rattle.idl_value_rules.proofs.CycleKeys.{item_there}
+use Rattle.idl_type_numbers.proofs.PlacesFilled.{here_or_before}
+use Rattle.nd_lemmas.proofs.Lists.{item_at as some_below}
 
 -- ## One number of a list is set
 
@@ -55,12 +57,6 @@ lowered_none first values = record {
   is_value = λ j v valued. (j, inl refl, valued);
   no_less = λ i v j w below. absurd (omega (arith, below));
 }
-
-here_or_before : (i n : ℕ) → i < n + 1 → (i < n) ⊎ (i ≡ n)
-here_or_before i n h = by (ltb i n) refl where
-  by : (t : Bool) → ltb i n ≡ t → (i < n) ⊎ (i ≡ n)
-  by true e = inl (ltb-true i n e)
-  by false e = let z = ltb-false i n e in inr (omega (arith, h, z))
 
 -- one that goes nowhere
 pub lowered_same : (first : ℕ → Option ℕ) (values least : List ℕ) (count : ℕ) → AreLowered first values least count → first count ≡ None → AreLowered first values least (count + 1)
@@ -126,11 +122,6 @@ lowered_more first values least count number value are goes_there valued_here = 
       absurd (differ j number e same)
 
 -- ## At the first bodies of places
-
-some_below : {X : Type 0} (xs : List X) (i : ℕ) → i < length xs → (x : X) × (slice_get xs i ≡ Some x)
-some_below [] i below = absurd (omega (arith, below))
-some_below (x ∷ xs) zero below = (x, refl)
-some_below (y ∷ xs) (suc i) below = some_below xs i (omega (arith, below))
 
 module _ (s : Scene) (n : program_nodes.Nodes) (t : program_types.Types) (is : IsTypes s n t) where
   first_has_place : (p : Place) (j : ℕ) (b : Body) → found_place p t.by_place ≡ Some j → slice_get (bodies s) j ≡ Some b → place_of b ≡ p

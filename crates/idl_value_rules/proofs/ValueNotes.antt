@@ -1,7 +1,7 @@
 -- What is noted of enumerators, constants and classes.
 use Rattle.std.proofs.Common.{◌≡◌, ◌∙◌, ℕ, ℤ, ◌+◌, ◌<◌, ◌≤◌, Bool, true, false, ◌||◌, List, [], ◌∷◌, ◌++◌, map, take, drop, length, get_or, Option, Some, None, refl, ap, ap₂, sym, codes}
 use Rattle.std.proofs.lemmas.Option.{none-some, same_Some}
-use Rattle.std.proofs.lemmas.List.{take_more, drop_more, drop_all, map-append}
+use Rattle.std.proofs.lemmas.List.{drop_more, drop_all}
 use Rattle.nd_types.specs.declared.types.Primitive.{Primitive}
 use Rattle.nd_types.specs.Table.{in_range}
 use Rattle.idl_grammar.specs.declared.types.Enumerator as program
@@ -21,7 +21,7 @@ use Rattle.idl_rule_definitions.specs.ValueRules.{holds, is_large_enumerator, is
 use Rattle.idl_rule_definitions.specs.Rules.{Breach, broken_at}
 use Rattle.idl_rule_definitions.specs.Noted.{noted}
 use Rattle.idl_rule_definitions.specs.OthersOf.{others_of}
-use Rattle.idl_constructs.proofs.ListNotes.{any_last}
+use Rattle.idl_constructs.proofs.ListNotes.{any_last, before_next}
 use Rattle.idl_rule_definitions.proofs.OtherNotes.{kept, other_cons, other_one, three_kept, last_kept}
 use Rattle.idl_rule_definitions.specs.declared.rule.TheConstants as Rule
 
@@ -104,11 +104,6 @@ class_breaches s names c xs i = others_of s names (attribute_nodes_from c (map s
 
 abbrev pub has_class_before : List attribute.Attribute → ℕ → Bool
 has_class_before xs i = has_one_of classes (map seen_attribute (take i xs))
-
-before_next : (xs : List attribute.Attribute) (i : ℕ) (x : attribute.Attribute) → i < length xs → x ≡ get_or xs i x
-    → map seen_attribute (take (i + 1) xs) ≡ map seen_attribute (take i xs) ++ seen_attribute x ∷ []
-before_next xs i x below is =
-    ap (map seen_attribute) (take_more xs i x below ∙ ap (λ y. take i xs ++ y ∷ []) (sym is)) ∙ map-append seen_attribute (take i xs) (x ∷ [])
 
 pub class_next : (xs : List attribute.Attribute) (i : ℕ) (x : attribute.Attribute) (found class : Bool) → i < length xs → x ≡ get_or xs i x
     → found ≡ has_class_before xs i → class ≡ is_class (seen_attribute x) → (found || class) ≡ has_class_before xs (i + 1)

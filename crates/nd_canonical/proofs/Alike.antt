@@ -7,7 +7,7 @@ use Rattle.std.specs.Bool.{Decides}
 use Rattle.std.specs.List.{AllByRecursion, slice_get}
 use Rattle.std.proofs.lemmas.Bool.{eqb-true, eqb-false, eq-eqb, ne_eqb, leb-true, leb-false}
 use Rattle.std.proofs.lemmas.List.{map-append}
-use Rattle.std.proofs.lemmas.Option.{slice_get-get_or}
+use Rattle.std.proofs.lemmas.Option.{slice_get-get_or, slice_get_past as none_past}
 use Rattle.nd_value.specs.declared.value.Graph.{Graph}
 use Rattle.nd_value.specs.declared.item.Home.{Home}
 use Rattle.nd_value.specs.declared.item.Home.TheVariants as home
@@ -25,7 +25,9 @@ use Rattle.nd_canonical.specs.Order.{IsOrder}
 use Rattle.nd_canonical.specs.Alike.{AreAlike, IsSameCell, number_by}
 use Rattle.nd_canonical.proofs.Carried.{carried_cell, get_map, among_mapped, mapped_from}
 use Rattle.nd_canonical.proofs.Complete.{cells_both}
-use Rattle.nd_canonical.proofs.Renumbered.{trees_on, tree_renumbered, image_of, image_inside, image_outside, roots_image, tree_image, there_at, zero_or, fit_names}
+use Rattle.nd_canonical.proofs.Renumbered.{trees_on, tree_renumbered, image_of, image_inside, image_outside, roots_image, tree_image, there_at, fit_names}
+use Rattle.nd_lemmas.proofs.Numbers.{zero_or}
+use Rattle.nd_value.proofs.SameCells.{back as back_items}
 
 -- ## One map after another
 
@@ -48,7 +50,7 @@ twice m k (more (node l ks) ts) = ap₂ more (ap₂ node (label_twice m k l) (tw
 tree_twice : (m k : ℕ → ℕ) (t : Tree) → renumbered_tree m (renumbered_tree k t) ≡ renumbered_tree (λ c. m (k c)) t
 tree_twice m k (node l ks) = ap₂ node (label_twice m k l) (twice m k ks)
 
-label_still : (l : Label) → renumbered_label (λ c. c) l ≡ l
+pub label_still : (l : Label) → renumbered_label (λ c. c) l ≡ l
 label_still (tree.Ptr None) = refl
 label_still (tree.Ptr (Some c)) = refl
 label_still (tree.Num z) = refl
@@ -60,7 +62,7 @@ label_still (tree.Context a i) = refl
 label_still tree.Pipe = refl
 label_still tree.Unread = refl
 
-still : (ts : Trees) → renumbered (λ c. c) ts ≡ ts
+pub still : (ts : Trees) → renumbered (λ c. c) ts ≡ ts
 still none = refl
 still (more (node l ks) ts) = ap₂ more (ap₂ node (label_still l) (still ks)) (still ts)
 
@@ -83,10 +85,6 @@ all_there : (P : ℕ → Type 0) (n : ℕ) (cs : List ℕ) → AreThere n cs →
 all_there P n [] h f = tt
 all_there P n (c ∷ cs) h f = (f c h.0.0 h.0.1, all_there P n cs h.1 f)
 
-back_items : (ts : List Tree) → items (trees ts) ≡ ts
-back_items [] = refl
-back_items (t ∷ ts) = ap (λ us. t ∷ us) (back_items ts)
-
 -- lists whose elements are the same
 same_lists : (F : Tree → Tree) (xs ys : List Tree) → length xs ≡ length ys → ((i : ℕ) → i < length xs → F (or_unread (slice_get xs i)) ≡ or_unread (slice_get ys i)) → map F xs ≡ ys
 same_lists F [] [] l f = refl
@@ -99,11 +97,6 @@ some_below : {A : Type 0} (xs : List A) (i : ℕ) (x : A) → slice_get xs i ≡
 some_below [] i x e = cc
 some_below (y ∷ xs) zero x e = omega arith
 some_below (y ∷ xs) (suc i) x e = let l = some_below xs i x e in omega (arith, l)
-
-none_past : {A : Type 0} (xs : List A) (i : ℕ) → length xs ≤ i → slice_get xs i ≡ None
-none_past [] i l = refl
-none_past (x ∷ xs) zero l = absurd (omega (arith, l))
-none_past (x ∷ xs) (suc i) l = none_past xs i (omega (arith, l))
 
 root_there : (n : ℕ) (ts : List Tree) (i : ℕ) → AllByRecursion (λ t. AreThere n (named_by t)) ts → AreThere n (named_by (or_unread (slice_get ts i)))
 root_there n [] i h = tt

@@ -4,10 +4,10 @@
 use Rattle.std.proofs.Common.{◌≡◌, inl, inr, ℕ, ◌+◌, ◌<◌, ◌≤◌, ◌^◌, zero, suc, ℤ, Bool, true, false, not, ◌&&◌, eqb, List, [], ◌∷◌, ◌++◌, length, map, flat_map, Option, Some, None, option_map, refl}
 use Rattle.std.proofs.Common.{ap, ap₂, sym, ◌∙◌, subst, arith}
 use Rattle.std.specs.Prelude.{leb, ltb, replicate, pos, ◌-ℤ◌}
-use Rattle.std.specs.List.{AllByRecursion, slice_get, list_all}
+use Rattle.std.specs.List.{AllByRecursion, slice_get}
 use Rattle.std.proofs.lemmas.Bool.{eqb-false, ne_eqb, leb-true, le-leb, lt-ltb, ltb-true, ltb-false, not-true, and_parts}
 use Rattle.std.proofs.lemmas.List.{map-append}
-use Rattle.std.proofs.lemmas.Option.{same_Some}
+use Rattle.std.proofs.lemmas.Option.{same_Some, slice_get_within as get_some}
 use Rattle.nd_types.specs.declared.types.TypeDef.{TypeDef}
 use Rattle.nd_types.specs.declared.types.TypeDef.TheVariants as def
 use Rattle.nd_types.specs.declared.types.Arm.{Arm}
@@ -42,6 +42,7 @@ use Rattle.nd_value.proofs.Apart.{all_append, all_left, all_right, all_map, all_
 use Rattle.nd_value.proofs.NodeFacts.{all_of_list, fit_node}
 use Rattle.nd_flat.specs.Renumbered.{renumbered_tree}
 use Rattle.nd_canonical.proofs.Complete.{names_its_cell, has_names, among_split, of_roots}
+use Rattle.nd_lemmas.proofs.Lists.{length_map, list_all_from as list_of_all}
 
 -- ## Labels and children
 
@@ -311,10 +312,6 @@ get_map f [] i = refl
 get_map f (x ∷ xs) zero = refl
 get_map f (x ∷ xs) (suc i) = get_map f xs i
 
-pub length_map : {A B : Type 0} (f : A → B) (xs : List A) → length (map f xs) ≡ length xs
-length_map f [] = refl
-length_map f (x ∷ xs) = ap suc (length_map f xs)
-
 -- the same elements, mapped
 all_mapped : {A B : Type 0} (P : B → Type 0) (f : A → B) (xs : List A) → AllByRecursion (λ x. P (f x)) xs → AllByRecursion P (map f xs)
 all_mapped P f [] h = tt
@@ -329,15 +326,6 @@ pub mapped_from : {A B : Type 0} (f : A → B) (xs : List A) (y : B) → Among (
 mapped_from f [] y a = absurd a
 mapped_from f (x ∷ xs) y (inl e) = (x, inl refl, e)
 mapped_from f (x ∷ xs) y (inr a) = let (z, b, e) = mapped_from f xs y a in (z, inr b, e)
-
-get_some : {A : Type 0} (xs : List A) (i : ℕ) (x : A) → slice_get xs i ≡ Some x → i < length xs
-get_some [] i x e = cc
-get_some (y ∷ xs) zero x e = omega arith
-get_some (y ∷ xs) (suc i) x e = let l = get_some xs i x e in omega (arith, l)
-
-list_of_all : {X : Type 0} (f : X → Bool) (xs : List X) → AllByRecursion (λ x. f x ≡ true) xs → list_all f xs ≡ true
-list_of_all f [] h = refl
-list_of_all f (x ∷ xs) h = ap₂ (λ a b. a && b) h.0 (list_of_all f xs h.1)
 
 module _ (w : Setting) (g h : Graph) (m : ℕ → ℕ) (r : Renumbers m g h) where
   n : ℕ

@@ -9,6 +9,9 @@ use Rattle.nd_value.specs.Names.{AreThere}
 use Rattle.nd_value.specs.Canon.{has, number_from}
 use Rattle.nd_value.proofs.Apart.{all_append}
 use Rattle.nd_canonical.specs.Order.{Numbering, name, name_by, zeros, HaveNumbers}
+use Rattle.nd_lemmas.proofs.Lists.{set_elsewhere as get_other, set_here as get_set}
+use Rattle.nd_lemmas.proofs.Numbers.{zero_or}
+use Rattle.std.proofs.lemmas.List.{length-set as set_length}
 
 -- ## Places
 
@@ -235,28 +238,6 @@ firsts_have seen (d ∷ ds) c h n = go (λ h. firsts_have seen ds c h n) (λ h m
     go p q false e false f h = has_more d c F (q h (ap (λ b. cond b true (has seen c)) f ∙ n))
 
 -- ## The numbers that are kept
-
-zero_or : (v : ℕ) → (v ≡ 0) ⊎ ((k : ℕ) × (v ≡ suc k))
-zero_or zero = inl refl
-zero_or (suc k) = inr (k, refl)
-
--- A list of numbers with one of them set
-get_set : (xs : List ℕ) (i v : ℕ) → i < length xs → get_or (set xs i v) i 0 ≡ v
-get_set [] i v l = absurd (omega (arith, l))
-get_set (x ∷ xs) zero v l = refl
-get_set (x ∷ xs) (suc i) v l = get_set xs i v (omega (arith, l))
-
-get_other : (xs : List ℕ) (i j v : ℕ) → (j ≡ i → ⊥) → get_or (set xs i v) j 0 ≡ get_or xs j 0
-get_other [] i j v n = refl
-get_other (x ∷ xs) zero zero v n = absurd (n refl)
-get_other (x ∷ xs) zero (suc j) v n = refl
-get_other (x ∷ xs) (suc i) zero v n = refl
-get_other (x ∷ xs) (suc i) (suc j) v n = get_other xs i j v (λ e. n (ap suc e))
-
-set_length : (xs : List ℕ) (i v : ℕ) → length (set xs i v) ≡ length xs
-set_length [] i v = refl
-set_length (x ∷ xs) zero v = refl
-set_length (x ∷ xs) (suc i) v = ap suc (set_length xs i v)
 
 zeros_set : (xs : List ℕ) (i v : ℕ) → i < length xs → get_or xs i 0 ≡ 0 → suc (zeros (set xs i (suc v))) ≡ zeros xs
 zeros_set [] i v l e = absurd (omega (arith, l))

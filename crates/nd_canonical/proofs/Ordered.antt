@@ -16,6 +16,7 @@ use Rattle.nd_flat.specs.Building.{HasHome, home_tree}
 use Rattle.nd_canonical.specs.Naming.{Naming, none_due, root_due, cell_due, stands_already, AreNamed, cell_homes, root_homes}
 use Rattle.nd_canonical.specs.Order.{Numbering, name, Ordering, visited, visited_by, IsAllNamed, IsOrder, zeros, HaveNumbers}
 use Rattle.nd_canonical.proofs.Numbers.{AreNumbers, names_step, can_name, firsts, place, number_is_place, placed, placed_at, found, has_among, among_has, firsts_have, no_zeros}
+use Rattle.nd_lemmas.proofs.Lists.{marked_elsewhere as other_mark, marked_here as get_mark, marks_length as mark_length}
 
 -- what the search keeps
 pub record Ordered (g : Graph) (s : Ordering) : Type 0 where
@@ -29,23 +30,6 @@ pub record Ordered (g : Graph) (s : Ordering) : Type 0 where
   pub there : AllByRecursion (HasHome g) s.due
 
 -- ## Marks
-
-get_mark : (xs : List Bool) (i : ℕ) → i < length xs → get_or (set xs i true) i false ≡ true
-get_mark [] i l = absurd (omega (arith, l))
-get_mark (x ∷ xs) zero l = refl
-get_mark (x ∷ xs) (suc i) l = get_mark xs i (omega (arith, l))
-
-other_mark : (xs : List Bool) (i j : ℕ) → (j ≡ i → ⊥) → get_or (set xs i true) j false ≡ get_or xs j false
-other_mark [] i j n = refl
-other_mark (x ∷ xs) zero zero n = absurd (n refl)
-other_mark (x ∷ xs) zero (suc j) n = refl
-other_mark (x ∷ xs) (suc i) zero n = refl
-other_mark (x ∷ xs) (suc i) (suc j) n = other_mark xs i j (λ e. n (ap suc e))
-
-mark_length : (xs : List Bool) (i : ℕ) → length (set xs i true) ≡ length xs
-mark_length [] i = refl
-mark_length (x ∷ xs) zero = refl
-mark_length (x ∷ xs) (suc i) = ap suc (mark_length xs i)
 
 -- ## The cells that a home names are there
 

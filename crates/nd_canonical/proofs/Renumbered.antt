@@ -5,7 +5,7 @@ use Rattle.std.proofs.Common.{option_map, refl, ap, ap₂, sym, ◌∙◌, subst
 use Rattle.std.specs.Prelude.{leb, IfOk}
 use Rattle.std.specs.List.{AllByRecursion, slice_get}
 use Rattle.std.proofs.lemmas.Bool.{eqb-false, ne_eqb, leb-true, leb-false, le-leb, not-true, and_parts}
-use Rattle.std.proofs.lemmas.Option.{same_Some, slice_get-get_or}
+use Rattle.std.proofs.lemmas.Option.{same_Some, slice_get-get_or, slice_get_past as none_past}
 use Rattle.std.proofs.lemmas.List.{length-map}
 use Rattle.nd_types.specs.Roots.{roots_of}
 use Rattle.nd_types.specs.Walk.{named_root, named_roots}
@@ -23,8 +23,10 @@ use Rattle.nd_flat.specs.Building.{referent_type}
 use Rattle.nd_flat.specs.Renumbered.{renumbered_tree, renumbered_cell, renumbered_graph, renumbered_fitting}
 use Rattle.nd_canonical.specs.Canonical.{IsCanonical}
 use Rattle.nd_canonical.specs.Order.{IsOrder, IsAllNamed}
-use Rattle.nd_canonical.proofs.Carried.{Renumbers, carried_cell, conforms_as_before, get_map, length_map}
+use Rattle.nd_canonical.proofs.Carried.{Renumbers, carried_cell, conforms_as_before, get_map}
+use Rattle.nd_lemmas.proofs.Lists.{length_map}
 use Rattle.nd_canonical.proofs.Complete.{cells_both, has_names, all_named}
+use Rattle.nd_lemmas.proofs.Numbers.{zero_or}
 
 -- ## Maps that agree on the cells that pointers name
 
@@ -93,19 +95,10 @@ roots_image n m (node l ks ∷ ts) h =
     let first : renumbered (image_of n m) (more (node l ks) none) ≡ more (renumbered_tree m (node l ks)) none = tree_image n m (node l ks) h.0 in
     ap₂ (λ (a : Tree) (us : Trees). more a us) (ap first_of first) (roots_image n m ts h.1)
 
-none_past : {A : Type 0} (xs : List A) (i : ℕ) → length xs ≤ i → slice_get xs i ≡ None
-none_past [] i l = refl
-none_past (x ∷ xs) zero l = absurd (omega (arith, l))
-none_past (x ∷ xs) (suc i) l = none_past xs i (omega (arith, l))
-
 pub there_at : (n : ℕ) (cs : List ℕ) (k : ℕ) → k < length cs → AreThere n cs → (0 < get_or cs k 0) × (get_or cs k 0 ≤ n)
 there_at n [] k l h = absurd (omega (arith, l))
 there_at n (c ∷ cs) zero l h = h.0
 there_at n (c ∷ cs) (suc k) l h = there_at n cs k (omega (arith, l)) h.1
-
-pub zero_or : (v : ℕ) → (v ≡ 0) ⊎ ((k : ℕ) × (v ≡ suc k))
-zero_or zero = inl refl
-zero_or (suc k) = inr (k, refl)
 
 -- ## The renumbered graph
 

@@ -10,6 +10,7 @@ use Rattle.nd_value.specs.Tree.{Tree, Trees, node, none, more, Label, Referent, 
 use Rattle.nd_value.specs.Setting.{Among}
 use Rattle.nd_value.specs.Same.{Same, renumbered, renumbered_label}
 use Rattle.nd_grammar.proofs.next.Counting.{Distinct, no_longer, down, among_down}
+use Rattle.nd_canonical.proofs.Alike.{still as unchanged}
 
 -- the first of trees, and the others
 abbrev pub first_tree : Trees → Tree
@@ -147,17 +148,6 @@ module _ (p q r : ℕ → ℕ) (one_by_one : (k : ℕ) → p (q k) ≡ r k) wher
   carried_on (more (node l ks) ts) =
       ap₂ (λ (a : Label) (us : Trees). more (node a us) (renumbered p (renumbered q ts))) (label_carried_on l) (carried_on ks)
       ∙ ap (λ (us : Trees). more (node (renumbered_label r l) (renumbered r ks)) us) (carried_on ts)
-
-label_unchanged : (l : Label) → renumbered_label (λ k. k) l ≡ l
-label_unchanged (tree.Ptr None) = refl
-label_unchanged (tree.Ptr (Some k)) = refl
-label_unchanged _ = refl
-
-unchanged : (ts : Trees) → renumbered (λ k. k) ts ≡ ts
-unchanged none = refl
-unchanged (more (node l ks) ts) =
-    ap₂ (λ (a : Label) (us : Trees). more (node a us) (renumbered (λ k. k) ts)) (label_unchanged l) (unchanged ks)
-    ∙ ap (λ (us : Trees). more (node l ks) us) (unchanged ts)
 
 -- ## Graphs that are the same as one
 

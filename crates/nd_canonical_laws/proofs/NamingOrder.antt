@@ -1,6 +1,6 @@
 -- The cells of a graph that conforms are named in the order of deferral.
 -- `w` is a setting, `g` a graph, `h` a home, `t` a type's number, `l` a label, `ks` and `ts` are values, `p` is a pointer, `c` a cell's number, `i` a root's index, `ds` are those that are due.
-use Rattle.std.proofs.Common.{◌≡◌, inl, inr, ℕ, ◌+◌, ◌-◌, ◌<◌, ◌≤◌, zero, suc, true, false, List, [], ◌∷◌, ◌++◌, length, map, flat_map, drop, Option, Some, None, refl, ap, ap₂, sym, ◌∙◌, subst, arith}
+use Rattle.std.proofs.Common.{◌≡◌, inl, inr, ℕ, ◌+◌, ◌-◌, ◌<◌, ◌≤◌, zero, suc, true, List, [], ◌∷◌, ◌++◌, length, map, flat_map, drop, Option, Some, None, refl, ap, ap₂, sym, ◌∙◌, subst, arith}
 use Rattle.std.proofs.Common.{append_assoc}
 use Rattle.std.specs.List.{AllByRecursion, slice_get}
 use Rattle.std.proofs.lemmas.List.{append-nil, map-append}
@@ -33,28 +33,23 @@ use Rattle.nd_value.proofs.Apart.{all_left, all_right, all_map}
 use Rattle.nd_value.proofs.DeferralExists.{direct_is, direct_pointer}
 use Rattle.nd_value.proofs.DeferralLaws.{full_stands}
 use Rattle.nd_value.proofs.DeferralBridge.{deferral_is, some_before}
-use Rattle.nd_value.proofs.FewRoots.{item_at}
+use Rattle.nd_lemmas.proofs.Lists.{item_at, all_at}
 use Rattle.nd_value.proofs.NodeFacts.{fit_node, fit_children, sound_conforming, orderly}
 use Rattle.nd_value.proofs.Orderly.{Orderly, Pointee, Fits, PointerFits, pointees, cell_pointees}
 use Rattle.nd_grammar.specs.LegalSide.{IsLegalSide}
 use Rattle.nd_grammar.proofs.LegalSides.{laid_out}
 use Rattle.nd_grammar.proofs.next.Mapped.{pipe_pointers}
-use Rattle.nd_grammar.proofs.next.NextStream.{IsLaidOut, IsPipeRoot, drop_at, all_at}
+use Rattle.nd_grammar.proofs.next.NextStream.{IsLaidOut, IsPipeRoot, drop_at}
 use Rattle.nd_canonical.specs.Naming.{Naming, none_due as nothing_due, root_due, cell_due, stands_already as stood, AreNamed, cell_homes, root_homes}
 use Rattle.nd_canonical.specs.Canonical.{IsCanonical}
 use Rattle.nd_canonical.proofs.Alike.{one_naming}
 use Rattle.nd_canonical.proofs.Complete.{cells_both}
+use Rattle.nd_grammar.proofs.reader.ReaderLeaves.{no_pointer_unread as no_pointer}
 
 -- ## The cells that pointers name are those that labels name
 
 abbrev cells_named : List Pending → List ℕ
 cells_named ps = flat_map (λ p. target p.cell) ps
-
-no_pointer : (d : Option TypeDef) (h : Home) (n : ℕ) (us : List Agreement) → pointer_by d false None h n us ≡ []
-no_pointer (Some (def.Pointer class to)) h n us = refl
-no_pointer None h n us = refl
-no_pointer (Some (def.Prim p)) h n us = refl
-no_pointer (Some _) h n us = refl
 
 pointer_there : (d : Option TypeDef) (c : Option ℕ) (ks : Trees) (h : Home) (n : ℕ) (us : List Agreement) → has_shape d (tree.Ptr c) ks ≡ true
     → cells_named (pointer_by d true c h n us) ≡ target c

@@ -1,6 +1,6 @@
 -- What nodes say alone, and what they say by their types: where each node has the form of its type, both name the same cells.
 -- `table` is the table of types, `d` a type, `l` a label, `ks` and `ts` are values, `h` is a home, `n` a node's number, `x` a node, `p` a pointer.
-use Rattle.std.proofs.Common.{◌≡◌, ℕ, ◌+◌, Bool, true, false, ◌&&◌, List, [], ◌∷◌, ◌++◌, Option, Some, None, refl, ap, ap₂, sym, ◌∙◌, flat_map}
+use Rattle.std.proofs.Common.{◌≡◌, ℕ, ◌+◌, true, false, ◌&&◌, List, [], ◌∷◌, ◌++◌, Option, Some, None, refl, ap, ap₂, sym, ◌∙◌, flat_map}
 use Rattle.std.proofs.lemmas.List.{append-nil}
 use Rattle.std.proofs.lemmas.Grind.{flat_map-append}
 use Rattle.nd_types.specs.declared.types.TypeDef.{TypeDef}
@@ -16,14 +16,7 @@ use Rattle.nd_value.specs.Misfit.{has_shape, has_range, has_arm}
 use Rattle.nd_value.specs.Canon.{target}
 use Rattle.nd_value.specs.Names.{cells_in, named_by}
 use Rattle.nd_misfits.specs.Pointers.{are_formed}
-
-pub and_left : (a b : Bool) → (a && b) ≡ true → a ≡ true
-and_left true b h = refl
-and_left false b h = h
-
-pub and_right : (a b : Bool) → (a && b) ≡ true → b ≡ true
-and_right true b h = h
-and_right false b h = let e : false ≡ true = h in cc
+use Rattle.nd_lemmas.proofs.Booleans.{first_true as and_left, second_true as and_right}
 
 -- the cells that pointers name
 abbrev pub cells_named : List Pending → List ℕ

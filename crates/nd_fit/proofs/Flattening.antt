@@ -1,10 +1,10 @@
 -- Values put into a builder.
-use Rattle.std.proofs.Common.{◌≡◌, ℕ, ◌+◌, ◌≤◌, zero, suc, List, [], ◌∷◌, ◌++◌, length, drop, Some, refl, ap, ap₂, sym, ◌∙◌, subst, arith, append_assoc}
+use Rattle.std.proofs.Common.{◌≡◌, ℕ, ◌+◌, ◌≤◌, zero, suc, List, [], ◌∷◌, ◌++◌, length, drop, Some, ap, ap₂, sym, ◌∙◌, subst, arith, append_assoc}
 use Rattle.std.proofs.lemmas.List.{append-nil}
 use Rattle.std.proofs.lemmas.Option.{same_Some}
 use Rattle.std.specs.List.{slice_get}
 use Rattle.nd_value.specs.Tree.{Tree, Trees, Flat, Label, node, none, more, trees, flat, node_count, count}
-use Rattle.nd_value.proofs.LocalPass.{drop-get}
+use Rattle.nd_lemmas.proofs.Lists.{drop_next as drop-get}
 use Rattle.nd_flat.specs.Building.{Building, with_nodes, with_node}
 use Rattle.nd_flat.specs.Keepable.{AreKeepable}
 use Rattle.nd_flat.specs.Built.{Adds}
@@ -43,19 +43,7 @@ keepable_at [] i v e h = cc
 keepable_at (node l ks ∷ vs) zero v e h = subst (λ t. AreKeepable (more t none)) (same_Some (node l ks) v e) (h.0, (h.1.0, tt))
 keepable_at (node l ks ∷ vs) (suc i) v e h = keepable_at vs i v e h.1.1
 
-pub smaller_at : (vs : List Tree) (i : ℕ) (v : Tree) → slice_get vs i ≡ Some v → node_count (more v none) ≤ node_count (trees vs)
-smaller_at [] i v e = cc
-smaller_at (node l ks ∷ vs) zero v e =
-    let s : node l ks ≡ v = same_Some (node l ks) v e in
-    let m : node_count (more (node l ks) none) ≤ node_count (trees (node l ks ∷ vs)) = omega arith in
-    subst (λ t. node_count (more t none) ≤ node_count (trees (node l ks ∷ vs))) s m
-smaller_at (node l ks ∷ vs) (suc i) v e = let m : node_count (more v none) ≤ node_count (trees vs) = smaller_at vs i v e in omega arith
-
 -- there are no more values than nodes
 pub few_values : (vs : List Tree) → length vs ≤ node_count (trees vs)
 few_values [] = omega arith
 few_values (node l ks ∷ vs) = let m : length vs ≤ node_count (trees vs) = few_values vs in omega arith
-
-pub count_of : (vs : List Tree) → count (trees vs) ≡ length vs
-count_of [] = refl
-count_of (v ∷ vs) = ap suc (count_of vs)

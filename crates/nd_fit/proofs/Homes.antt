@@ -16,18 +16,10 @@ use Rattle.nd_value.specs.Setting.{unread, set_nth, set_cell}
 use Rattle.nd_flat.specs.Built.{HasGraph, Rooted, Filled}
 use Rattle.nd_fit.specs.Steps.{AllRooted, AllFilled, AllReserved, blank}
 use Rattle.nd_flat.proofs.Rooted.{frame_on}
+use Rattle.nd_lemmas.proofs.Lists.{take_next as take_on}
 
 abbrev mk : List Tree → List Referent → Graph
 mk rs cs = record { roots = rs; cells = cs }
-
--- one item more of a list
-pub take_on : {A : Type 0} (xs : List A) (i : ℕ) (x : A) → slice_get xs i ≡ Some x → take (i + 1) xs ≡ take i xs ++ x ∷ []
-take_on xs i x e = let n : i + 1 ≡ suc i = omega arith in ap (λ k. take k xs) n ∙ take_suc xs i x e
-  where
-    take_suc : {A : Type 0} (xs : List A) (i : ℕ) (x : A) → slice_get xs i ≡ Some x → take (suc i) xs ≡ take i xs ++ x ∷ []
-    take_suc [] i x e = cc
-    take_suc (y ∷ ys) zero x e = ap (λ z. z ∷ []) (same_Some y x e)
-    take_suc (y ∷ ys) (suc i) x e = ap (λ zs. y ∷ zs) (take_suc ys i x e)
 
 pub roots_on : (vs : List Tree) (i : ℕ) (v : Tree) (old now next : Building) → slice_get vs i ≡ Some v
     → HasGraph (mk ((closed old).roots ++ take i vs) (closed old).cells) old now → Rooted v now next → HasGraph (mk ((closed old).roots ++ take (i + 1) vs) (closed old).cells) old next

@@ -14,8 +14,7 @@ use Rattle.nd_value.specs.Setting.{Setting, or_unread}
 use Rattle.nd_value.specs.Conforms.{Conforms}
 use Rattle.nd_value.specs.Fitting.{Fitting, IsFit, IsGiven, IsGivenRequest, setting_beside, setting_of}
 use Rattle.nd_value.specs.FirstMisfit.{first_local}
-use Rattle.nd_value.proofs.FewRoots.{past_end}
-use Rattle.nd_value.proofs.LocalPass.{drop-get, drop-past}
+use Rattle.nd_lemmas.proofs.Lists.{past_end, drop_next as drop-get, drop_past as drop-past}
 use Rattle.nd_value.proofs.Misfits.{local-none}
 use Rattle.nd_misfits.specs.declared.numbers.RootNumber.{RootNumber}
 use Rattle.nd_misfits.specs.Numbers.{number_at, numbers_of, no_number, are_small_roots}

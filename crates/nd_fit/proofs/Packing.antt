@@ -1,6 +1,6 @@
 -- Numbers of one primitive as a row.
 -- `p` is a primitive, `vs` are trees, `z` is a number, `zs` are numbers.
-use Rattle.std.proofs.Math.Seq.{take-append_seam, drop-append_seam}
+use Rattle.std.proofs.Math.Seq.{drop-append_seam}
 use Rattle.std.proofs.Common.{◌≡◌, ℕ, ℤ, ◌+◌, ◌*◌, suc, List, [], ◌∷◌, ◌++◌, length, take, drop, Some, refl, ap, ap₂, sym, ◌∙◌, subst, arith, append_assoc, append-nil, length-append}
 use Rattle.std.specs.List.{slice_get}
 use Rattle.std.proofs.lemmas.List.{map-append}
@@ -16,7 +16,7 @@ use Rattle.nd_flat.specs.FlatForm.{row_values, num_trees}
 use Rattle.nd_flat.proofs.Frames.{all_both}
 use Rattle.nd_flat.proofs.RowWalks.{numbers_added}
 use Rattle.nd_fit.specs.Numbers.{number_of, numbers_of, IsNumberOf, AreNumbersOf, written_all}
-use Rattle.nd_fit.proofs.Homes.{take_on}
+use Rattle.nd_lemmas.proofs.Lists.{take_next as take_on, take_front}
 
 -- one value more is a number of the primitive
 pub numbers_on : (p : Primitive) (vs : List Tree) (i : ℕ) (v : Tree) → slice_get vs i ≡ Some v → AreNumbersOf p (take i vs) → IsNumberOf p v
@@ -36,9 +36,6 @@ written_on p vs i v old new e h n =
     n ∙ ap₂ (λ xs ys. xs ++ ys) h (sym (append-nil one))
     ∙ sym (written_both p (numbers_of (take i vs)) (number_of v ∷ []))
     ∙ ap (written_all p) (sym (map-append number_of (take i vs) (v ∷ [])) ∙ ap numbers_of (sym (take_on vs i v e)))
-
-take_front : (n : ℕ) (xs ys : List ℕ) → length xs ≡ n → take n (xs ++ ys) ≡ xs
-take_front n xs ys e = ap (λ k. take k (xs ++ ys)) (sym e) ∙ take-append_seam xs ys
 
 drop_front : (n : ℕ) (xs ys : List ℕ) → length xs ≡ n → drop n (xs ++ ys) ≡ ys
 drop_front n xs ys e = ap (λ k. drop k (xs ++ ys)) (sym e) ∙ drop-append_seam xs ys

@@ -1,5 +1,5 @@
 -- A graph of values of the program: each node is one, and a node in which the first pass finds no misfit can be kept.
-use Rattle.std.proofs.Common.{◌≡◌, ℕ, ◌+◌, ◌^◌, ◌<◌, ◌≤◌, ℤ, Bool, true, ◌&&◌, List, [], ◌∷◌, length, Option, Some, None, refl, sym, ◌∙◌, arith, subst, map}
+use Rattle.std.proofs.Common.{◌≡◌, ℕ, ◌+◌, ◌^◌, ◌<◌, ◌≤◌, ℤ, true, ◌&&◌, List, [], ◌∷◌, length, Option, Some, None, refl, sym, ◌∙◌, arith, subst, map}
 use Rattle.std.specs.List.{list_all, AllByRecursion}
 use Rattle.std.specs.Cmp.Derive.{both_true}
 use Rattle.std.proofs.lemmas.Bool.{and_parts, leb-true, ltb-true}
@@ -35,6 +35,7 @@ use Rattle.nd_misfits.proofs.Walkable.{Fits, fits, home_none}
 use Rattle.nd_flat.specs.FlatForm.{IsKeepable, IsKeepableNumber}
 use Rattle.nd_flat.specs.Keepable.{AreKeepable, HasKeepable}
 use Rattle.nd_flat.proofs.Keepables.{number_keepable}
+use Rattle.nd_lemmas.proofs.Lists.{list_all_from}
 
 -- what holds of values of the program: of the first node, of its children, of the others
 split_values : (l : Label) (ks vs : Trees) → have_machine_values (more (node l ks) vs) ≡ true
@@ -52,10 +53,6 @@ rest_values (node l ks) vs e = (split_values l ks vs e).2
 
 abbrev HasValue : HomeNode → Type 0
 HasValue x = has_machine_values x.typed.label ≡ true
-
-list_all_from : {X : Type 0} (f : X → Bool) (xs : List X) → AllByRecursion (λ x. f x ≡ true) xs → list_all f xs ≡ true
-list_all_from f [] h = refl
-list_all_from f (x ∷ xs) h = both_true h.0 (list_all_from f xs h.1)
 
 nodes_values : (table : Table) (h : Home) (types : List ℕ) (ags : List (List Agreement)) (n : ℕ) (ts : Trees) → have_machine_values ts ≡ true
     → AllByRecursion HasValue (map (in_home h) (nodes_of table types ags n ts))

@@ -11,6 +11,7 @@ use Rattle.nd_value.specs.Setting.{Among, cell_at, cell_tree, or_unread}
 use Rattle.nd_value.specs.Names.{cells_in, named_by, AreThere, HasNames}
 use Rattle.nd_fit.specs.Reach.{Reach, root_names, cell_names, Search, searched, is_marked, note_by, note, note_roots, HaveMarks, AreMarked, unmarked, Searching, TellsReach, TellsMark}
 use Rattle.nd_flat.proofs.Frames.{all_as, all_both, all_get}
+use Rattle.nd_lemmas.proofs.Lists.{marked_here as sets, marks_length as set_length}
 
 -- Lists
 pub all_among : {A : Type 0} (P : A → Type 0) (xs : List A) (x : A) → AllByRecursion P xs → Among xs x → P x
@@ -51,11 +52,6 @@ set_keeps (m ∷ ms) zero (suc d) h = h
 set_keeps (m ∷ ms) (suc c) zero h = h
 set_keeps (m ∷ ms) (suc c) (suc d) h = set_keeps ms c d h
 
-sets : (ms : List Bool) (c : ℕ) → c < length ms → get_or (set ms c true) c false ≡ true
-sets [] c l = absurd (omega (arith, l))
-sets (m ∷ ms) zero l = refl
-sets (m ∷ ms) (suc c) l = sets ms c (omega (arith, l))
-
 set_only : (ms : List Bool) (c d : ℕ) → get_or (set ms c true) d false ≡ true → (d ≡ c) ⊎ (get_or ms d false ≡ true)
 set_only [] zero d h = inr h
 set_only [] (suc c) d h = inr h
@@ -64,12 +60,6 @@ set_only (m ∷ ms) zero (suc d) h = inr h
 set_only (m ∷ ms) (suc c) zero h = inr h
 set_only (m ∷ ms) (suc c) (suc d) h =
     elim (set_only ms c d h) as (λ v. (suc d ≡ suc c) ⊎ (get_or ms d false ≡ true)) [ inl e ↦ inl (ap suc e) | inr b ↦ inr b ]
-
-set_length : (ms : List Bool) (c : ℕ) → length (set ms c true) ≡ length ms
-set_length [] zero = refl
-set_length [] (suc c) = refl
-set_length (m ∷ ms) zero = refl
-set_length (m ∷ ms) (suc c) = ap suc (set_length ms c)
 
 unmarked_set : (ms : List Bool) (c : ℕ) → c < length ms → get_or ms c false ≡ false → suc (unmarked (set ms c true)) ≡ unmarked ms
 unmarked_set [] c l h = absurd (omega (arith, l))

@@ -17,12 +17,10 @@ use Rattle.nd_flat.specs.declared.builder.OpenHome.{OpenHome}
 use Rattle.nd_flat.specs.declared.builder.OpenHome.TheVariants as at
 use Rattle.nd_flat.specs.Forest.{tree_in, IsWhole}
 use Rattle.nd_flat.specs.FlatForm.{seen_nodes, flats, HasOctets}
-use Rattle.nd_flat.specs.Building.{Building, put, closed, opened, with_root, with_nodes, CanCloseAt}
-use Rattle.nd_flat.specs.Store.{no_span, span_flats, span_tree, span_cell, seen_graph, seen_builder, home_of, IsSound, IsBuilt, IsPlace, closed_roots, closed_cells, set_span}
+use Rattle.nd_flat.specs.Building.{Building, put, closed, opened, with_root, with_nodes, CanCloseAt, fitting, HasNoUnread}
+use Rattle.nd_flat.specs.Store.{no_span, span_flats, span_tree, span_cell, seen_graph, seen_builder, home_of, IsSound, IsBuilt, IsPlace, closed_roots, closed_cells, set_span, IsKept}
 use Rattle.nd_value.specs.Conforms.{Conforms}
 use Rattle.nd_value.specs.Fitting.{Fitting, IsFit, setting_beside}
-use Rattle.nd_flat.specs.Building.{fitting, HasNoUnread}
-use Rattle.nd_flat.specs.Store.{IsKept}
 use Rattle.nd_flat.proofs.RowLaws.{flats-append}
 use Rattle.nd_flat.proofs.NoUnread.{kept_if_conforms, kept_if_no_unread}
 use Rattle.nd_flat.proofs.Frames.{all_as, all_both, Keeps, keeps_same, keeps_more, kept_roots, kept_cells, kept_sound, map_grow, text_grow, all_drop}
@@ -110,7 +108,7 @@ root_after rs cs at.NoHome s e h = refl
 root_after rs cs (at.Root i) s e h = set-append_left rs (e ∷ []) i s h
 root_after rs cs (at.Cell i) s e h = refl
 
-count_set : {A : Type 0} (xs : List A) (i : ℕ) (y : A) → length (set xs i y) ≡ length xs
+pub count_set : {A : Type 0} (xs : List A) (i : ℕ) (y : A) → length (set xs i y) ≡ length xs
 count_set [] zero y = refl
 count_set [] (suc i) y = refl
 count_set (x ∷ xs) zero y = refl

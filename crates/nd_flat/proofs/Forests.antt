@@ -3,6 +3,7 @@
 use Rattle.std.proofs.Common.{◌≡◌, ℕ, zero, suc, List, [], ◌∷◌, ◌++◌, refl, ap, sym, ◌∙◌, append_assoc}
 use Rattle.nd_value.specs.Tree.{Tree, Trees, node, none, more, count, Flat, flat, unflat, take_trees, drop_trees, joined, unflat-of}
 use Rattle.nd_flat.specs.Forest.{IsForest, IsWhole, first_tree, tree_in}
+use Rattle.nd_lemmas.proofs.Lists.{same_rest as tail_same}
 
 pub joined-take-drop : (k : ℕ) (us : Trees) → joined (take_trees k us) (drop_trees k us) ≡ us
 joined-take-drop zero us = refl
@@ -37,9 +38,6 @@ pub flat-unflat : (f : Flat) (fs : List Flat)
 flat-unflat f fs =
     ap (λ gs. (f.0, count (take_trees f.1 (unflat fs))) ∷ gs)
     (sym (flat-joined (take_trees f.1 (unflat fs)) (drop_trees f.1 (unflat fs))) ∙ ap flat (joined-take-drop f.1 (unflat fs)))
-
-tail_same : {A : Type 0} (x y : A) (xs ys : List A) → x ∷ xs ≡ y ∷ ys → xs ≡ ys
-tail_same x y xs ys e = cc
 
 -- after the first node of trees are trees
 pub forest-rest : (f : Flat) (fs : List Flat) → IsForest (f ∷ fs) → IsForest fs

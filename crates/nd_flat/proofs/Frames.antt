@@ -3,7 +3,7 @@
 use Rattle.std.proofs.Common.{◌≡◌, ◌⊎◌, inl, inr, ℕ, ◌+◌, ◌*◌, ◌<◌, ◌≤◌, zero, suc, List, [], ◌∷◌, ◌++◌, length, take, drop, map, get_or, Some, refl, ap, ap₂, sym, ◌∙◌, subst, arith, length-append}
 use Rattle.std.specs.List.{AllByRecursion, slice_get}
 use Rattle.std.proofs.lemmas.List.{take-append-le}
-use Rattle.nd_value.specs.Tree.{Tree, Flat, Referent}
+use Rattle.nd_value.specs.Tree.{Tree, Referent}
 use Rattle.nd_flat.specs.declared.node.Node.{Node}
 use Rattle.nd_flat.specs.declared.node.Node.TheVariants as kept
 use Rattle.nd_flat.specs.declared.flat.Span.{Span}
@@ -12,7 +12,7 @@ use Rattle.nd_flat.specs.Forest.{tree_in, IsWhole}
 use Rattle.nd_flat.specs.FlatForm.{seen_nodes, flats, HasOctets, HaveOctets}
 use Rattle.nd_types.specs.Table.{width}
 use Rattle.nd_flat.proofs.RowLaws.{kept_row_grow}
-use Rattle.nd_flat.proofs.RecordLaws.{kept_records_grow, has_grown}
+use Rattle.nd_flat.proofs.RecordLaws.{kept_records_grow, has_grown, piece_more as piece_grow}
 use Rattle.nd_flat.specs.Store.{span_flats, span_tree, span_cell, IsSound}
 
 take2 : {A : Type 0} (len b : ℕ) (ns : List A) → len ≤ b → take len (take b ns) ≡ take len ns
@@ -70,12 +70,6 @@ text_grow os ps (kept.Context a id) h = tt
 text_grow os ps (kept.Pipe k) h = tt
 text_grow os ps (kept.Row r) h = (let t : r.from + r.count * width r.of ≤ length os = h.0 in omega (arith, t, length-append os ps), h.1)
 text_grow os ps (kept.Records o m n from) h = has_grown os ps (record { order = o; members = m; count = n; from = from }) h
-
-piece_grow : (os ps : List ℕ) (len from : ℕ) → from + len ≤ length os → take len (drop from (os ++ ps)) ≡ take len (drop from os)
-piece_grow os ps len from h =
-    sym (take_low len from (length os) (os ++ ps) h)
-    ∙ ap (λ xs. take len (drop from xs)) (take-append-le (length os) os ps (omega arith))
-    ∙ take_low len from (length os) os h
 
 pub seen_grow : (os ps : List ℕ) (n : Node) → HasOctets os n → seen_nodes (os ++ ps) n ≡ seen_nodes os n
 seen_grow os ps (kept.Num z) h = refl

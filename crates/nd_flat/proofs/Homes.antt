@@ -1,6 +1,6 @@
 -- What reading a home does to a builder: the laws that a decoder takes.
 -- `b` is a builder, `t` the tree of the value that was read, `c` a cell's number.
-use Rattle.std.proofs.Common.{◌≡◌, ℕ, ◌+◌, zero, suc, List, [], ◌∷◌, ◌++◌, length, set, Option, Some, None, refl, ap, ap₂, sym, ◌∙◌, subst}
+use Rattle.std.proofs.Common.{◌≡◌, ℕ, ◌+◌, List, [], ◌∷◌, ◌++◌, length, set, Option, Some, None, refl, ap, ap₂, sym, ◌∙◌, subst}
 use Rattle.std.proofs.Math.Seq.{set-append_seam}
 use Rattle.nd_value.specs.declared.value.Graph.{Graph}
 use Rattle.nd_value.specs.declared.item.Home.{Home}
@@ -10,12 +10,7 @@ use Rattle.nd_value.specs.Setting.{unread, cell_home, set_cell}
 use Rattle.nd_flat.specs.Forest.{tree_in}
 use Rattle.nd_flat.specs.Building.{Building, put, closed, opened, with_root, with_nodes, CanClose}
 use Rattle.nd_flat.proofs.Forests.{tree-of, whole-of}
-
-count_set : {A : Type 0} (xs : List A) (i : ℕ) (y : A) → length (set xs i y) ≡ length xs
-count_set [] zero y = refl
-count_set [] (suc i) y = refl
-count_set (x ∷ xs) zero y = refl
-count_set (x ∷ xs) (suc i) y = ap suc (count_set xs i y)
+use Rattle.nd_flat.proofs.Closing.{count_set}
 
 put_count : (h : Option Home) (t : Tree) (g : Graph) → length (put h t g).roots ≡ length g.roots
 put_count None t g = refl

@@ -9,6 +9,7 @@ use Rattle.nd_flat.specs.Building.{referent_type}
 use Rattle.nd_value.specs.Tree.{Tree, Trees, Flat, node, none, more, trees, count, flat, take_trees, drop_trees, joined, Referent}
 use Rattle.nd_flat.specs.Forest.{first_tree}
 use Rattle.nd_flat.proofs.Forests.{walked, joined-none, flat-joined, joined-take-drop}
+use Rattle.nd_lemmas.proofs.Lists.{item_at as there_is, take_next as take_more}
 
 -- fewer nodes are left without the first of trees
 drop_short : (k : ℕ) (us : Trees) → length (flat (drop_trees k us)) ≤ length (flat us)
@@ -65,19 +66,11 @@ take_next [] i x e = cc
 take_next (y ∷ ys) zero x e = ap (λ z. z ∷ []) (same_Some y x e)
 take_next (y ∷ ys) (suc i) x e = ap (λ zs. y ∷ zs) (take_next ys i x e)
 
-take_more : {A : Type 0} (xs : List A) (i : ℕ) (x : A) → slice_get xs i ≡ Some x → take (i + 1) xs ≡ take i xs ++ x ∷ []
-take_more xs i x e = let n : i + 1 ≡ suc i = omega arith in ap (λ k. take k xs) n ∙ take_next xs i x e
-
 take_all : {A : Type 0} (xs : List A) (i : ℕ) → length xs ≤ i → take i xs ≡ xs
 take_all [] zero l = refl
 take_all [] (suc i) l = refl
 take_all (x ∷ xs) zero l = absurd (omega (arith, l))
 take_all (x ∷ xs) (suc i) l = ap (λ ys. x ∷ ys) (take_all xs i (omega (arith, l)))
-
-there_is : {A : Type 0} (xs : List A) (i : ℕ) → i < length xs → (x : A) × (slice_get xs i ≡ Some x)
-there_is [] i l = absurd (omega (arith, l))
-there_is (x ∷ xs) zero l = (x, refl)
-there_is (x ∷ xs) (suc i) l = there_is xs i (omega (arith, l))
 
 -- one root more was made
 pub root_more : (g : Graph) (i : ℕ) (vs vs' : List Tree) (v : Tree) → i < length g.roots → vs ≡ take i g.roots → v ≡ root_at g i → vs' ≡ vs ++ v ∷ []

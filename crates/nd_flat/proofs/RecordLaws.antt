@@ -58,7 +58,7 @@ with_last_at (suc n) (y ∷ ys) x h = ap (λ l. y ∷ l) (with_last_at n ys x (o
 pub with_last : {A : Type 0} (n : ℕ) (xs : List A) (x : A) → n < length xs → take (n + 1) (slice_set xs n x) ≡ take n xs ++ x ∷ []
 with_last n xs x h = let e : n + 1 ≡ suc n = omega arith in ap (λ i. take i (slice_set xs n x)) e ∙ with_last_at n xs x h
 
-piece_more : (xs ys : List ℕ) (w b : ℕ) → b + w ≤ length xs → take w (drop b (xs ++ ys)) ≡ take w (drop b xs)
+pub piece_more : (xs ys : List ℕ) (w b : ℕ) → b + w ≤ length xs → take w (drop b (xs ++ ys)) ≡ take w (drop b xs)
 piece_more xs ys w b h =
     let d : length (drop b xs) ≡ length xs - b = length-drop b xs in
     ap (take w) (drop-append-le b xs ys (omega (arith, h))) ∙ take-append-le w (drop b xs) ys (omega (arith, h, d))
@@ -74,10 +74,10 @@ chain a b c h g = omega (arith, h, g)
 one_more : (n s : ℕ) → suc n * s ≡ s + n * s
 one_more n s = omega arith
 
-mul_sum : (a b s : ℕ) → (a + b) * s ≡ a * s + b * s
+pub mul_sum : (a b s : ℕ) → (a + b) * s ≡ a * s + b * s
 mul_sum a b s = omega arith
 
-width_some : (p : Primitive) → 0 < width p
+pub width_some : (p : Primitive) → 0 < width p
 width_some Boolean = omega arith
 width_some Char = omega arith
 width_some Byte = omega arith

@@ -2,7 +2,7 @@
 -- `o` is an order, `p` a primitive, `os`, `ps`, `xs` are octets, `n`, `k`, `m` numbers of numbers, `r` is a row.
 use Rattle.std.proofs.Common.{◌≡◌, ℕ, ◌+◌, ◌-◌, ◌*◌, ◌<◌, ◌≤◌, zero, suc, List, [], ◌∷◌, ◌++◌, length, take, drop, refl, ap, ap₂, sym, ◌∙◌, arith, length-append, append_assoc}
 use Rattle.std.proofs.Math.Seq.{drop-append_seam}
-use Rattle.std.proofs.lemmas.List.{map-append, drop-drop, length-drop, drop-append-le, take-append-le, take-append-drop}
+use Rattle.std.proofs.lemmas.List.{map-append, drop-drop, length-drop, drop-append-le, take-append-le, take-append-drop, length-take-le as length-take_le}
 use Rattle.nd_base.specs.declared.octets.Order.{Order}
 use Rattle.nd_types.specs.declared.types.Primitive.{Primitive}
 use Rattle.nd_types.specs.Table.{width}
@@ -10,6 +10,7 @@ use Rattle.nd_types.specs.Number.{value_of_octets}
 use Rattle.nd_flat.specs.declared.node.Node.{Node}
 use Rattle.nd_flat.specs.declared.row.KeptRow.{KeptRow}
 use Rattle.nd_flat.specs.FlatForm.{row_values, num_flat, num_flats, row_flats, without_first, no_row, seen_nodes, flats, HasRow}
+use Rattle.nd_flat.proofs.RecordLaws.{mul_sum}
 
 -- all nodes of a list and another
 pub flats-append : (os : List ℕ) (ns ms : List Node) → flats os (ns ++ ms) ≡ flats os ns ++ flats os ms
@@ -40,11 +41,6 @@ row_grow o p (suc n) xs ps h =
     ap₂ (λ ys zs. value_of_octets o p ys ∷ zs) (take-append-le (width p) xs ps one)
     (ap (row_values o p n) (drop-append-le (width p) xs ps one) ∙ row_grow o p n (drop (width p) xs) ps rest)
 
-length-take_le : (k : ℕ) (xs : List ℕ) → k ≤ length xs → length (take k xs) ≡ k
-length-take_le zero xs h = refl
-length-take_le (suc k) [] h = absurd (omega (arith, h))
-length-take_le (suc k) (x ∷ xs) h = ap suc (length-take_le k xs (omega (arith, h)))
-
 -- a row needs its own octets alone
 pub row_taken : (o : Order) (p : Primitive) (n k : ℕ) (xs : List ℕ) → k ≡ n * width p → k ≤ length xs → row_values o p n (take k xs) ≡ row_values o p n xs
 row_taken o p n k xs e h =
@@ -71,9 +67,6 @@ kept_row_parts os r k le =
 pub kept_row_first : (os : List ℕ) (r : KeptRow) → 0 < r.count
     → row_flats os r ≡ num_flat (value_of_octets r.order r.of (take (width r.of) (drop r.from os))) ∷ row_flats os (without_first 1 r)
 kept_row_first os r some = kept_row_parts os r 1 (omega (arith, some))
-
-mul_sum : (a b w : ℕ) → (a + b) * w ≡ a * w + b * w
-mul_sum a b w = omega arith
 
 -- what follows the first numbers of a row is there too
 pub rest_there : (os : List ℕ) (r : KeptRow) (k : ℕ) → k ≤ r.count → HasRow os r → HasRow os (without_first k r)

@@ -1,17 +1,15 @@
 -- Walks by type. What a function gives of values of these types, one after the other, goes value by value: `give` is what an
 -- encoder writes, or a printer, in the form of the definitions: something of the node, then its children, then the other values.
 -- `t` is a type's number, `f` a node, `k` a number of values that are left of this list, `old` and `new` are what is left of a walk.
-use Rattle.std.proofs.Common.{◌≡◌, ℕ, ◌≤◌, zero, suc, List, ◌∷◌, ap, sym, ◌∙◌, arith}
+use Rattle.std.proofs.Common.{◌≡◌, ℕ, ◌≤◌, zero, suc, ◌∷◌, ap, sym, ◌∙◌, arith}
 use Rattle.nd_value.specs.Tree.{Trees, Flat, none, more, count, flat, unflat, take_trees, drop_trees, unflat-of}
 use Rattle.nd_flat.proofs.Forests.{walked, flat-unflat}
+use Rattle.nd_lemmas.proofs.Lists.{same_first as head_same}
 
 count_take : (k : ℕ) (us : Trees) → count (take_trees k us) ≤ count us
 count_take zero us = omega arith
 count_take (suc k) none = omega arith
 count_take (suc k) (more t ts) = let h : count (take_trees k ts) ≤ count ts = count_take k ts in omega arith
-
-head_same : {A : Type 0} (x y : A) (xs ys : List A) → x ∷ xs ≡ y ∷ ys → x ≡ y
-head_same x y xs ys e = cc
 
 -- after a node its children are left, all of them
 pub walked_count : (old new : Trees) (f : Flat) → flat old ≡ f ∷ flat new → count (take_trees f.1 new) ≡ f.1

@@ -1,8 +1,7 @@
 -- A conforming graph of a legal side is a partial graph in which nothing is unread.
-use Rattle.std.proofs.Common.{◌≡◌, Bool, true, false, List, [], ◌∷◌, length, Option, None, refl}
-use Rattle.std.specs.Prelude.{◌||◌}
+use Rattle.std.proofs.Common.{◌≡◌, true, List, [], ◌∷◌, length, Option, None, refl}
 use Rattle.std.specs.List.{AllByRecursion, list_all}
-use Rattle.std.proofs.lemmas.Bool.{and_from, eq-eqb}
+use Rattle.std.proofs.lemmas.Bool.{and_from, eq-eqb, or_right}
 use Rattle.nd_types.specs.declared.types.TypeDef.{TypeDef}
 use Rattle.nd_types.specs.declared.types.Operation.{Operation}
 use Rattle.nd_types.specs.Table.{Table, type_at}
@@ -17,10 +16,6 @@ use Rattle.nd_value.specs.Conforms.{Conforms, IsPartial}
 use Rattle.nd_value.proofs.NodeFacts.{IsFit, IsRead, fit_node, fit_is_read}
 use Rattle.nd_value.proofs.ValueRanges.{range_fits}
 use Rattle.nd_grammar.specs.LegalSide.{IsLegalSide}
-
-or_right : (x y : Bool) → y ≡ true → (x || y) ≡ true
-or_right true y e = refl
-or_right false y e = e
 
 module _ (table : Table) (operations : List Operation) (legal : IsLegal table operations) where
   partial_node : (g : Graph) (x : TypedNode) → misfit_of table g x ≡ None → is_partial_node table g x ≡ true

@@ -11,7 +11,7 @@ use Rattle.nd_types.specs.Roots.{Root}
 use Rattle.nd_value.specs.declared.value.Graph.{Graph}
 use Rattle.nd_value.specs.declared.item.Home.TheVariants as home
 use Rattle.nd_value.specs.Tree as tree
-use Rattle.nd_value.specs.Tree.{Tree, Trees, Referent, node, none, more}
+use Rattle.nd_value.specs.Tree.{Tree, Trees, node, none, more}
 use Rattle.nd_value.specs.Setting.{Setting, Among, root_list, root_at, or_unread}
 use Rattle.nd_value.specs.Deferral.{Pending, home_pointers, due_root, due_roots, before_pipes, Step, Deferral, standing_root, standing_by, direct, root_type}
 use Rattle.nd_value.specs.Homes.{root_pointers}
@@ -34,10 +34,11 @@ use Rattle.nd_grammar.proofs.ItemSizes.{numbers, numbers_append, items_size}
 use Rattle.nd_grammar.proofs.legal.LegalPipes.{holds_no_pipe, plain_before}
 use Rattle.nd_grammar.proofs.LegalSides.{laid_out}
 use Rattle.nd_grammar.proofs.next.Mapped.{pipe_pointers}
-use Rattle.nd_grammar.proofs.next.NextStream.{IsLaidOut, IsPipeRoot, drop_at, all_at}
+use Rattle.nd_grammar.proofs.next.NextStream.{IsLaidOut, IsPipeRoot, drop_at}
+use Rattle.nd_lemmas.proofs.Lists.{all_at}
 use Rattle.nd_grammar.proofs.Placed.{all_placed, few_placed, made, made_numbers, covered, DueCovered, Covers, among_split, own}
 
-down_in : (n c : ℕ) → Among (down n) c → (0 < c) × (c ≤ n)
+pub down_in : (n c : ℕ) → Among (down n) c → (0 < c) × (c ≤ n)
 down_in zero c m = absurd m
 down_in (suc n) c (inl e) = (omega arith, omega arith)
 down_in (suc n) c (inr m) = let (a, b) = down_in n c m in (a, omega arith)

@@ -35,7 +35,7 @@ pub numbers_append : (ms ns : List Entry) → numbers (ms ++ ns) ≡ numbers ms 
 numbers_append [] ns = omega arith
 numbers_append (m ∷ ms) ns = ap (λ u. is_number m.kind + u) (numbers_append ms ns) ∙ omega arith
 
-width_low : (p : Primitive) → 1 ≤ width p
+pub width_low : (p : Primitive) → 1 ≤ width p
 width_low Boolean = omega arith
 width_low Char = omega arith
 width_low Byte = omega arith

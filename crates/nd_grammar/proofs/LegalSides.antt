@@ -344,7 +344,7 @@ module _ (w : Setting) (side_of : IsLegalSide w) where
             (subst (AllByRecursion (IsPipeRoot w.table)) (sym (pipes_behind first last z x)) y);
       }
 
-operation_there : (os : List Operation) (n : ℕ) (o : Operation) → slice_get os n ≡ Some o → Among os o
+pub operation_there : (os : List Operation) (n : ℕ) (o : Operation) → slice_get os n ≡ Some o → Among os o
 operation_there [] n o e = cc
 operation_there (x ∷ os) zero o e = inl (sym (same_Some _ _ e))
 operation_there (x ∷ os) (suc n) o e = inr (operation_there os n o e)

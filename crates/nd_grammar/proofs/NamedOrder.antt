@@ -1,12 +1,11 @@
 -- The order in which cells are named is that in which a stream comes to them.
-use Rattle.std.proofs.Common.{◌≡◌, ℕ, ◌+◌, ◌<◌, ◌≤◌, ◌-◌, zero, suc, ℤ, Bool, true, false, ◌&&◌, List, [], ◌∷◌, ◌++◌, length, Option, Some, None, refl, ap, ap₂, sym, ◌∙◌, inl, inr, ◌⊎◌, arith, subst}
-use Rattle.std.proofs.Common.{replicate, append_assoc, drop}
-use Rattle.std.specs.Prelude.{flat_map, map, sum, cond, eqb}
+use Rattle.std.proofs.Common.{◌≡◌, ℕ, ◌+◌, ◌<◌, ◌≤◌, ◌-◌, zero, suc, ℤ, Bool, true, false, List, [], ◌∷◌, ◌++◌, length, Option, Some, None, refl, ap, sym, ◌∙◌, inl, inr, ◌⊎◌, arith, subst, replicate}
+use Rattle.std.proofs.Common.{append_assoc, drop}
+use Rattle.std.specs.Prelude.{flat_map, map, eqb}
 use Rattle.std.specs.List.{AllByRecursion, slice_get}
 use Rattle.std.proofs.lemmas.Grind.{flat_map-append}
 use Rattle.std.proofs.lemmas.List.{append-nil}
 use Rattle.std.proofs.lemmas.Bool.{and_parts, leb-true, eqb-true, cases_lt, both_ways}
-use Rattle.std.proofs.lemmas.Option.{same_Some}
 use Rattle.nd_types.specs.declared.types.TypeDef.{TypeDef}
 use Rattle.nd_types.specs.declared.types.TypeId.{TypeId}
 use Rattle.nd_types.specs.declared.types.Arm.{Arm}
@@ -20,21 +19,21 @@ use Rattle.nd_value.specs.declared.value.Graph.{Graph}
 use Rattle.nd_value.specs.declared.item.Home.{Home}
 use Rattle.nd_value.specs.declared.item.Home.TheVariants as home
 use Rattle.nd_value.specs.Tree as tree
-use Rattle.nd_value.specs.Tree.{Tree, Trees, node, none, more, Label, Referent, count, node_count, is_pointer, cell_in, take_trees, drop_trees}
+use Rattle.nd_value.specs.Tree.{Tree, Trees, node, none, more, Label, count, node_count, is_pointer, cell_in, take_trees, drop_trees}
 use Rattle.nd_value.specs.Agreement.{Agreement}
-use Rattle.nd_value.specs.Canon.{own_cell, target, named, step_names, named_cells, has, number_from, canonical_number}
+use Rattle.nd_value.specs.Canon.{own_cell, target, named, named_cells, has, number_from, canonical_number}
 use Rattle.nd_value.specs.Misfit.{has_shape, has_counts}
-use Rattle.nd_value.specs.Setting.{Setting, Among, root_list, root_at, or_unread, cell_at, cell_tree, cell_of_number, cell_home}
+use Rattle.nd_value.specs.Setting.{Setting, Among, root_list, root_at, or_unread, cell_at, cell_home}
 use Rattle.nd_value.specs.Nodes.{TypedNode, nodes_of, child_types, child_agreements, first_agreements, rest_agreements}
 use Rattle.nd_value.specs.Deferral.{Pending, pointer, pointer_by, home_pointers, Due, due_root, due_referent, due_roots, before_pipes, Step, Deferral, none_due, at_root, at_null, at_standing}
 use Rattle.nd_value.specs.Deferral.{at_referent, Placed_cells, Standing, standing_root, standing_by, standing_cell, root_type, direct, due_of}
 use Rattle.nd_value.specs.Variables.{root_agreements}
-use Rattle.nd_value.proofs.Apart.{all_append, all_left, all_right, among_left, among_right}
+use Rattle.nd_value.proofs.Apart.{all_append, all_right, among_left, among_right}
 use Rattle.nd_value.proofs.NodeFacts.{IsSound}
 use Rattle.nd_value.proofs.DeferralBridge.{some_before}
-use Rattle.nd_grammar.specs.Entry.{Kind, Entry, Align, Max, Offset, Actual, Chunk, Number, Num, Tag, Text, Context, Test, Unread}
-use Rattle.nd_grammar.specs.InPlace.{before_children, entries, in_place, tag_entries, counts, tests, own_tests, child_tests, hoisted_max, hoisted, whole_value}
-use Rattle.nd_grammar.specs.Stream.{Stream, step_entries, standing_entries, step_tests, root_test, root_tests, chunk_entries, chunks, pipe_entries, pipes_entries, AllCut, Cuts}
+use Rattle.nd_grammar.specs.Entry.{Kind, Entry, Align, Max, Num, Text, Context, Unread}
+use Rattle.nd_grammar.specs.InPlace.{before_children, entries, in_place, tag_entries, tests, own_tests, child_tests, hoisted_max, hoisted, whole_value}
+use Rattle.nd_grammar.specs.Stream.{Stream, step_entries, standing_entries, step_tests, root_test, root_tests, chunks, pipe_entries, pipes_entries}
 use Rattle.nd_grammar.specs.NamedOrder.{cells_met}
 use Rattle.nd_grammar.specs.LegalSide.{IsLegalSide}
 use Rattle.nd_grammar.specs.NextMark.{named_cell}
@@ -47,10 +46,10 @@ use Rattle.nd_grammar.proofs.next.PointerPlaces.{root_there}
 use Rattle.nd_grammar.proofs.agreements.StreamFinds.{PendFits, Whole, root_whole, cell_whole, standing_pends, no_root_tests}
 use Rattle.nd_grammar.proofs.agreements.TestsFind.{HasSubjects}
 use Rattle.nd_grammar.proofs.next.Matching.{Known}
-use Rattle.nd_grammar.proofs.next.NextInPlace.{View, view, v_prim, v_enum, v_struct, v_array, v_text, v_union, v_pointer, v_context, v_unread}
-use Rattle.nd_grammar.proofs.next.NextStream.{IsLaidOut, IsPipeRoot, FitsPipes, drop_at, all_at}
+use Rattle.nd_grammar.proofs.next.NextStream.{IsLaidOut, IsPipeRoot, FitsPipes, drop_at}
+use Rattle.nd_lemmas.proofs.Lists.{all_at}
 use Rattle.nd_grammar.proofs.next.HoistedMaxes.{HoistsLast}
-use Rattle.nd_grammar.proofs.next.KnownNodes.{known_cells, known_roots}
+use Rattle.nd_grammar.proofs.next.KnownNodes.{known_roots}
 use Rattle.nd_grammar.proofs.next.Mapped.{no_pointers}
 use Rattle.nd_grammar.proofs.written.CanonNumbers.{has_among, among_has}
 use Rattle.nd_grammar.proofs.ChosenRepresents.{of_named}

@@ -1,5 +1,5 @@
 -- Octets represent one conforming graph alone, up to the numbers of its cells.
-use Rattle.std.proofs.Common.{◌≡◌, ℕ, ◌<◌, ◌≤◌, List, [], ◌∷◌, ◌++◌, length, refl, sym, ◌∙◌, arith, length-append}
+use Rattle.std.proofs.Common.{◌≡◌, ℕ, ◌<◌, ◌≤◌, List, [], ◌++◌, length, sym, ◌∙◌, arith, length-append}
 use Rattle.std.specs.List.{AllByRecursion}
 use Rattle.nd_base.specs.declared.octets.Order.{Order}
 use Rattle.nd_value.specs.declared.value.Graph.{Graph}
@@ -17,6 +17,7 @@ use Rattle.nd_grammar.proofs.next.NextStream.{IsLaidOut, AreMapped, streams_next
 use Rattle.nd_grammar.proofs.LegalSides.{laid_out}
 use Rattle.nd_grammar.proofs.next.Spelt.{carried_on, carried_low, carried_one, cells_in, all_spelt_carried, spelt_whole, spelt_in_more}
 use Rattle.nd_grammar.proofs.next.SameByMap.{same_by_map}
+use Rattle.nd_lemmas.proofs.Lists.{none_of_none as none_longer}
 
 -- two readings of the same octets, their numberings carried on to all cells
 abbrev pub readings : Order → List ℕ → (nums : ℕ → ℕ) (cells : List ℕ) → IsNumbering nums cells → (nums' : ℕ → ℕ) (cells' : List ℕ) → IsNumbering nums' cells' → Readings
@@ -30,10 +31,6 @@ readings order octets nums cells is nums' cells' is' = record {
   left_one = carried_one nums cells is;
   right_one = carried_one nums' cells' is';
 }
-
-none_longer : (xs : List ℕ) → length xs ≡ 0 → xs ≡ []
-none_longer [] e = refl
-none_longer (x ∷ xs) e = cc
 
 reached_cell : (w : Setting) (g : Graph) → Conforms w g → (c : ℕ) → 0 < c → c ≤ length g.cells → Reached w g c
 reached_cell w g k c a b = k.reached c a (omega arith)

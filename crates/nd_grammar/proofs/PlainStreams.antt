@@ -5,7 +5,7 @@ use Rattle.nd_value.specs.declared.item.Home.{Home}
 use Rattle.nd_value.specs.Tree.{Tree, Trees, node, none, more, node_count, is_pointer}
 use Rattle.nd_grammar.specs.InPlace.{own_tests, child_tests}
 
-own_none : (b : Bool) (h : Home) (n : ℕ) (t : Tree) → own_tests b h n t [] ≡ []
+pub own_none : (b : Bool) (h : Home) (n : ℕ) (t : Tree) → own_tests b h n t [] ≡ []
 own_none true h n t = refl
 own_none false h n t = refl
 

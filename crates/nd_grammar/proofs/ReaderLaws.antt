@@ -22,7 +22,7 @@ use Rattle.nd_grammar.specs.StreamReader.{read_stream}
 use Rattle.nd_grammar.proofs.reader.ReaderVerdict.{start, AllTaken, all_taken, stopped_is_bad}
 use Rattle.nd_grammar.proofs.agreements.TestedAt.{tests_found}
 use Rattle.nd_grammar.proofs.conforming.Passed.{PassedAll, all_passed, least_end}
-use Rattle.nd_grammar.proofs.conforming.StreamConforming.{NodeGood, all_good, few_nodes}
+use Rattle.nd_grammar.proofs.conforming.StreamConforming.{NodeGood, stream_good, stream_few}
 use Rattle.nd_grammar.proofs.reader.ReaderStream.{Pipes, G, ms, numbering, is_partial, is_stream, numbered, goes_over, ends_within, ends_in_octets, graph_is, head, cells_fit, roots_all_made}
 use Rattle.nd_grammar.proofs.reader.ReaderStream.{all_roots, all_reached, few_cells}
 use Rattle.nd_value.specs.Same.{Same}
@@ -98,13 +98,11 @@ module _ (w : Setting) (side : IsLegalSide w) (order : Order) (octets : List ℕ
   reached c a b = all_reached w side order octets all c a (omega arith)
 
   abbrev Node : HomeNode → Type 0
-  Node x =
-      NodeGood w side g (cells_fit w side order octets all) (roots_all_made w side order octets all) (all_roots w side order octets all) (head w side order octets all).state.cells_made reached
-      its_stream.steps its_stream.deferral its_stream.cuts its_stream.all_cut passed_all x.typed
+  Node x = NodeGood w g x.typed
 
   nodes : AllByRecursion Node (all_nodes w g)
   nodes =
-      all_good w side g (cells_fit w side order octets all) (roots_all_made w side order octets all) (all_roots w side order octets all) (head w side order octets all).state.cells_made reached
+      stream_good w side g (cells_fit w side order octets all) (roots_all_made w side order octets all) (all_roots w side order octets all) (head w side order octets all).state.cells_made reached
       its_stream.steps its_stream.deferral its_stream.cuts its_stream.all_cut passed_all
 
   graph_conforms : Conforms w g
@@ -117,7 +115,7 @@ module _ (w : Setting) (side : IsLegalSide w) (order : Order) (octets : List ℕ
     agreed = all_weaker Node (λ x. AgreesAt g x.typed) (λ x k. k.agrees) (all_nodes w g) nodes;
     few_cells = few_cells w side order octets all;
     few_nodes =
-        few_nodes w side g (cells_fit w side order octets all) (roots_all_made w side order octets all) (all_roots w side order octets all) (head w side order octets all).state.cells_made reached
+        stream_few w side g (cells_fit w side order octets all) (roots_all_made w side order octets all) (all_roots w side order octets all) (head w side order octets all).state.cells_made reached
         its_stream.steps its_stream.deferral its_stream.cuts its_stream.all_cut passed_all;
   }
 

@@ -13,7 +13,7 @@ use Rattle.nd_value.specs.Agreement.{Agreement, member_agreements}
 use Rattle.nd_value.specs.Nodes.{child_types, child_agreements, first_agreements, rest_agreements}
 use Rattle.nd_value.specs.FirstMisfit.{disagreement_of}
 use Rattle.nd_value.specs.Passes.{or_next, at_number}
-use Rattle.nd_value.proofs.LocalPass.{drop-get}
+use Rattle.nd_lemmas.proofs.Lists.{drop_next as drop-get}
 use Rattle.nd_misfits.specs.Disagreeing.{subject_of, subject_in, disagreeing_in, Compared}
 use Rattle.nd_misfits.proofs.FormWalk.{Counted, next_counted}
 

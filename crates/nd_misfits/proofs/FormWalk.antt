@@ -9,7 +9,7 @@ use Rattle.nd_value.specs.Nodes.{child_types}
 use Rattle.nd_value.specs.Misfit.{has_shape, has_range, has_arm}
 use Rattle.nd_misfits.specs.Searched.{label_in, kids_in}
 use Rattle.nd_misfits.specs.Pointers.{are_formed}
-use Rattle.nd_value.proofs.LocalPass.{drop-get}
+use Rattle.nd_lemmas.proofs.Lists.{drop_next as drop-get}
 
 pub split_count : (v : Tree) (vs : List Tree) → node_count (trees (v ∷ vs)) ≡ node_count (more v none) + node_count (trees vs)
 split_count (node l ks) vs = omega arith

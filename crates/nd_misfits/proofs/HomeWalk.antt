@@ -1,9 +1,9 @@
 -- How the list of the homes of a graph is made.
-use Rattle.std.proofs.Common.{◌≡◌, ℕ, ◌+◌, ◌<◌, ◌≤◌, zero, suc, get_or, subst, List, [], ◌∷◌, ◌++◌, length, drop, Some, None, ap, ap₂, sym, ◌∙◌, map, append_assoc}
+use Rattle.std.proofs.Common.{◌≡◌, ℕ, ◌+◌, ◌<◌, ◌≤◌, get_or, subst, List, [], ◌∷◌, ◌++◌, length, drop, Some, None, ap, ap₂, sym, ◌∙◌, map, append_assoc}
 use Rattle.std.specs.List.{slice_get, AllByRecursion}
 use Rattle.std.specs.Option.{option_map}
 use Rattle.std.proofs.lemmas.List.{map-append, drop_more}
-use Rattle.std.proofs.lemmas.Option.{same_Some, slice_get-map, slice_get-get_or}
+use Rattle.std.proofs.lemmas.Option.{slice_get-map, slice_get-get_or}
 use Rattle.nd_types.specs.Table.{Table}
 use Rattle.nd_types.specs.Walk.{NamedRoot}
 use Rattle.nd_value.specs.declared.item.Home.TheVariants as home
@@ -14,7 +14,7 @@ use Rattle.nd_value.specs.Setting.{cell_home}
 use Rattle.nd_value.specs.Seen.{tree_of}
 use Rattle.nd_misfits.specs.HomeList.{HomeTree, home_tree, root_homes, cell_homes}
 use Rattle.nd_misfits.specs.Pointers.{pointers_of_home, pointers_of_homes, NamesBelow, IsWalkable}
-use Rattle.nd_value.proofs.LocalPass.{drop-get, drop-past}
+use Rattle.nd_lemmas.proofs.Lists.{drop_next as drop-get, drop_past as drop-past, all_at}
 
 -- one home more
 pub home_pushed : (hs : List HomeValue) (x : HomeValue) (one : HomeTree) (left rest : List HomeTree) → home_tree x ≡ one → left ≡ one ∷ rest
@@ -37,11 +37,6 @@ root_past rs vs i h = ap (λ xs. root_homes i xs (drop i vs)) (drop-past rs i h)
 pub cell_more : (xs : List Referent) (i : ℕ) (x : Referent) → slice_get xs i ≡ Some x
     → cell_homes (i + 1) (drop i xs) ≡ record { home = cell_home (i + 1); of = x.of; param = None; val = x.val } ∷ cell_homes (i + 1 + 1) (drop (i + 1) xs)
 cell_more xs i x e = ap (cell_homes (i + 1)) (drop-get xs i x e)
-
-pub all_at : {X : Type 0} (P : X → Type 0) (xs : List X) (i : ℕ) (x : X) → AllByRecursion P xs → slice_get xs i ≡ Some x → P x
-all_at P [] i x h e = cc
-all_at P (y ∷ ys) zero x h e = subst P (same_Some y x e) h.0
-all_at P (y ∷ ys) (suc i) x h e = all_at P ys i x h.1 e
 
 -- a home of a list that the passes can go over
 pub walkable_home : (table : Table) (limit : ℕ) (hs : List HomeValue) (i : ℕ) (x : HomeValue) → x ≡ get_or hs i x → i < length hs

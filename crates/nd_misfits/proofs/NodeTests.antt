@@ -4,11 +4,7 @@ use Rattle.std.specs.Prelude.{◌||◌}
 use Rattle.std.specs.List.{list_all, list_any, slice_get}
 use Rattle.std.specs.Cmp.Derive.{both_true}
 use Rattle.std.specs.Ordering.{int_eq}
-use Rattle.std.proofs.lemmas.Bool.{false_from_ne_true, eq-eqb, ne_eqb, lt-ltb}
-use Rattle.std.proofs.lemmas.Bool.Decides.{Decides-int_eq}
-use Rattle.std.proofs.lemmas.Int.{to_z-of_z}
-use mir.Val.{SFits, of_z, to_z}
-use mir.Syntax.{w128}
+use Rattle.std.proofs.lemmas.Bool.{eq-eqb, ne_eqb, lt-ltb}
 use Rattle.nd_types.specs.declared.types.Arm.{Arm}
 use Rattle.nd_types.specs.declared.types.Field.{Field}
 use Rattle.nd_types.specs.declared.types.TypeId.{TypeId}
@@ -19,7 +15,7 @@ use Rattle.nd_value.specs.declared.misfit.MisfitReason.TheVariants as misfit
 use Rattle.nd_value.specs.Tree as tree
 use Rattle.nd_value.specs.Tree.{Tree, Trees, trees, count}
 use Rattle.nd_value.specs.Misfit.{has_counts, is_within, unless, misfit_by, is_octet}
-use Rattle.nd_value.proofs.LocalPass.{drop-get}
+use Rattle.nd_lemmas.proofs.Lists.{drop_next as drop-get}
 
 pub count_trees : (ts : List Tree) → count (trees ts) ≡ length ts
 count_trees [] = refl
@@ -41,24 +37,6 @@ module _ (table : Table) (g : Graph) (members : List Field) (ks : Trees) where
 
   pub struct_shape : (count ks ≡ length members → ⊥) → Some misfit.Shape ≡ misfit_by table g (Some (def.Struct members)) tree.Rec ks
   struct_shape n = sym (ap (λ x. unless x misfit.Shape None) (ne_eqb (count ks) (length members) n))
-
--- a test of two numbers of the program
-pub same_number : (y z : ℤ) → SFits w128 z → of_z w128 y ≡ of_z w128 z → int_eq (to_z w128 (of_z w128 y)) z ≡ true
-same_number y z fits e = (Decides-int_eq (to_z w128 (of_z w128 y)) z).1 (ap (to_z w128) e ∙ to_z-of_z w128 z fits)
-
-pub other_number : (y z : ℤ) → SFits w128 y → (of_z w128 y ≡ of_z w128 z → ⊥) → int_eq (to_z w128 (of_z w128 y)) z ≡ false
-other_number y z fits n =
-    false_from_ne_true (int_eq (to_z w128 (of_z w128 y)) z)
-    (λ t. n (ap (of_z w128) (sym (to_z-of_z w128 y fits) ∙ (Decides-int_eq (to_z w128 (of_z w128 y)) z).0 t)))
-
--- the same with the sides of the test turned round
-pub same_label : (y z : ℤ) → SFits w128 y → of_z w128 y ≡ of_z w128 z → int_eq y (to_z w128 (of_z w128 z)) ≡ true
-same_label y z fits e = (Decides-int_eq y (to_z w128 (of_z w128 z))).1 (sym (to_z-of_z w128 y fits) ∙ ap (to_z w128) e)
-
-pub other_label : (y z : ℤ) → SFits w128 z → (of_z w128 y ≡ of_z w128 z → ⊥) → int_eq y (to_z w128 (of_z w128 z)) ≡ false
-other_label y z fits n =
-    false_from_ne_true (int_eq y (to_z w128 (of_z w128 z)))
-    (λ t. n (ap (of_z w128) ((Decides-int_eq y (to_z w128 (of_z w128 z))).0 t ∙ to_z-of_z w128 z fits)))
 
 module _ (z : ℤ) where
   -- one number further

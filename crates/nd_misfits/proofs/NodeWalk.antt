@@ -14,11 +14,8 @@ use Rattle.nd_value.specs.Misfit.{misfit_by, has_machine_values}
 use Rattle.nd_value.specs.Conforms.{FewNodes}
 use Rattle.nd_misfits.specs.Searched.{Searched, have_machine_values}
 use Rattle.nd_value.specs.Passes.{or_next, at_number, first_in}
-use Rattle.nd_value.proofs.LocalPass.{drop-get, drop-past}
-
-or_next-none : (o : Option NodeMisfit) → or_next o None ≡ o
-or_next-none None = refl
-or_next-none (Some m) = refl
+use Rattle.nd_lemmas.proofs.Lists.{drop_next as drop-get, drop_past as drop-past}
+use Rattle.nd_misfits.proofs.AgreementWalk.{or_next-none}
 
 or_next-assoc : (a b c : Option NodeMisfit) → or_next (or_next a b) c ≡ or_next a (or_next b c)
 or_next-assoc None b c = refl

@@ -8,7 +8,7 @@ use Rattle.nd_misfits.specs.declared.pointers.CellPointer.{CellPointer}
 use Rattle.nd_value.specs.Tree.{Tree, Trees, node, none, more, trees, node_count}
 use Rattle.nd_value.specs.Nodes.{child_types}
 use Rattle.nd_misfits.specs.Pointers.{named_here, pointers_in, Collects}
-use Rattle.nd_value.proofs.LocalPass.{drop-get}
+use Rattle.nd_lemmas.proofs.Lists.{drop_next as drop-get}
 use Rattle.nd_misfits.proofs.FormWalk.{Counted, next_counted}
 
 module _ (table : Table) (h : Home) where

@@ -1,6 +1,6 @@
 -- The second pass, as it goes over the pointers, finds the first that shares its cell wrongly.
-use Rattle.std.proofs.Common.{◌≡◌, ℕ, ◌+◌, ◌<◌, zero, suc, Bool, true, false, not, ◌&&◌, eqb, List, [], ◌∷◌, ◌++◌, length, Option, Some, None, refl, ap, ap₂, sym, ◌∙◌, arith, subst, map, append_assoc}
-use Rattle.std.proofs.Common.{cond, set, replicate}
+use Rattle.std.proofs.Common.{◌≡◌, ℕ, ◌+◌, ◌<◌, zero, suc, Bool, true, false, not, ◌&&◌, eqb, List, [], ◌∷◌, ◌++◌, length, Option, Some, None, refl, ap, ap₂, sym, ◌∙◌, arith, subst, map, cond, set}
+use Rattle.std.proofs.Common.{replicate}
 use Rattle.std.specs.Prelude.{◌||◌, flat_map}
 use Rattle.std.specs.List.{list_any, AllByRecursion}
 use Rattle.std.proofs.lemmas.Bool.{eqb-true, eq-eqb, ne_eqb, eqb-false}
@@ -34,10 +34,7 @@ use Rattle.nd_value.specs.Passes.{Tells}
 use Rattle.nd_misfits.specs.HomeList.{HomeTree, root_homes, cell_homes, homes_of}
 use Rattle.nd_misfits.specs.Pointers.{named_by, named_here, pointers_in, pointers_of_home, pointers_of_homes, NamesBelow, IsWalkable, naming_by, is_clash, naming_of, first_clash}
 use Rattle.nd_value.proofs.Misfits.{all_right, all_both}
-
-pub flat-append : {X Y : Type 0} (f : X → List Y) (xs ys : List X) → flat_map f (xs ++ ys) ≡ flat_map f xs ++ flat_map f ys
-flat-append f [] ys = refl
-flat-append f (x ∷ xs) ys = ap (λ zs. f x ++ zs) (flat-append f xs ys) ∙ sym (append_assoc (f x) (flat_map f xs) (flat_map f ys))
+use Rattle.std.proofs.lemmas.Grind.{flat_map-append as flat-append}
 
 -- the cell that a pointer names
 abbrev pub as_named : Pending → List CellPointer

@@ -13,7 +13,7 @@ use Rattle.nd_types.specs.declared.types.Operation.{Operation}
 use Rattle.nd_types.specs.Table.{Table, type_at}
 use Rattle.nd_types.specs.Kinds.{prim_number, context_number, basic_types, is_same_basic}
 use Rattle.nd_types.specs.Legal.{IsLegal}
-use Rattle.nd_types.proofs.LayoutLaws.{left_true, right_true}
+use Rattle.nd_lemmas.proofs.Booleans.{first_true as left_true, second_true as right_true}
 
 -- what all elements pass, one passes
 pub passes_at : {X : Type 0} (test : X → Bool) (xs : List X) (i : ℕ) (x : X) → list_all test xs ≡ true → slice_get xs i ≡ Some x → test x ≡ true

@@ -1,7 +1,7 @@
 -- Roots whose types are primitives: in a legal interface they are no pipes and have no attributes.
-use Rattle.std.proofs.Common.{◌≡◌, ℕ, zero, suc, ◌+◌, ◌≤◌, Bool, true, false, not, ◌&&◌, ◌||◌, List, [], ◌∷◌, ◌++◌, Option, Some, None, refl, ap, ap₂, sym, ◌∙◌, subst, map, cond, arith}
-use Rattle.std.specs.Prelude.{filter, nat_lt, ◌==◌, eqb, slice_get}
-use Rattle.std.specs.List.{list_all, list_any, AllByRecursion, enumerate_from}
+use Rattle.std.proofs.Common.{◌≡◌, ℕ, zero, suc, ◌+◌, ◌≤◌, Bool, true, false, not, ◌&&◌, ◌||◌, List, [], ◌∷◌, ◌++◌, Option, Some, None, refl, ap, sym, ◌∙◌, map, cond, arith}
+use Rattle.std.specs.Prelude.{filter, nat_lt, eqb, slice_get}
+use Rattle.std.specs.List.{list_all, AllByRecursion, enumerate_from}
 use Rattle.std.proofs.lemmas.Bool.{ltb-true}
 use Rattle.nd_types.specs.declared.TheConstants.{HANDLE}
 use Rattle.nd_types.specs.declared.types.Primitive.{Primitive}
@@ -19,12 +19,12 @@ use Rattle.nd_types.specs.declared.types.Operation.{Operation}
 use Rattle.nd_types.specs.declared.types.Side.{Side}
 use Rattle.nd_types.specs.declared.types.Side.TheVariants as side
 use Rattle.nd_types.specs.Table.{Table, type_at}
-use Rattle.nd_types.specs.Kinds.{prim_number, context_number, pointee, pointee_by, is_pipe, is_nonencapsulated, is_conformant_array, is_conformant_text, is_varying_array}
+use Rattle.nd_types.specs.Kinds.{prim_number, pointee, pointee_by, is_pipe, is_nonencapsulated, is_conformant_array, is_conformant_text, is_varying_array}
 use Rattle.nd_types.specs.Fields.{FieldAt, fields_at, members_of, all_fields, param_fields, has_attr, has_size, has_range_attr, subject_type}
 use Rattle.nd_types.specs.Legal.{IsLegal, implies, is_switched}
 use Rattle.nd_types.specs.Roots.{Root, roots_of, params_from, result_root, pipe_referent, pipe_by, pipe_of, root_of, root_by, travels}
 use Rattle.nd_types.specs.Numbers.{is_number_root, has_number_roots, IsPrimitiveRoot}
-use Rattle.nd_types.proofs.LayoutLaws.{left_true, right_true}
+use Rattle.nd_lemmas.proofs.Booleans.{first_true as left_true, second_true as right_true}
 use Rattle.nd_types.proofs.LegalLaws.{passes_at, prim_at}
 
 -- ## The primitive of a number

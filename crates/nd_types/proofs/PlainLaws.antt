@@ -82,7 +82,9 @@ module _ (p : Param) (h : IsPlainParam p) where
   in_table = lt-ltb t 12 (slice_get_within basic_types t (def.Prim prim) is_prim)
 
   no_handle : (t == HANDLE.0) ≡ false
-  no_handle = elim (t == HANDLE.0) as (λ b. (t == HANDLE.0) ≡ b → b ≡ false) [ true ↦ λ e. absurd (omega (arith, eqb-true t HANDLE.0 e, slice_get_within basic_types t (def.Prim prim) is_prim)) | false ↦ λ e. refl ] refl
+  no_handle =
+      elim (t == HANDLE.0) as
+      (λ b. (t == HANDLE.0) ≡ b → b ≡ false) [ true ↦ λ e. absurd (omega (arith, eqb-true t HANDLE.0 e, slice_get_within basic_types t (def.Prim prim) is_prim)) | false ↦ λ e. refl ] refl
 
   no_pipe : pipe_of basic_types t ≡ None
   no_pipe = ap (pipe_by basic_types t) is_prim
@@ -140,7 +142,8 @@ basic_is_legal operations h = record {
   out_types = params_pass _ (λ p plain. rw plain.way refl) operations h.plain;
   results = operations_pass (λ o. result_passes (λ t. is_result_type (type_at basic_types t)) o.result) (λ o plain. rw plain.no_result refl) operations h.plain;
   part_names = refl;
-  operation_names = operations_pass has_names (λ o plain. both_true plain.name (list_all_of IsPlainParam (λ p. is_identifier p.field.name) (λ p named. named.name) o.params plain.params)) operations h.plain;
+  operation_names =
+      operations_pass has_names (λ o plain. both_true plain.name (list_all_of IsPlainParam (λ p. is_identifier p.field.name) (λ p named. named.name) o.params plain.params)) operations h.plain;
   few_types = lit≤ tt;
   few_operations = h.few;
   few_params = operations_pass (λ o. nat_le (length o.params) PARAM_LIMIT) (λ o plain. le-leb (length o.params) PARAM_LIMIT plain.few) operations h.plain;

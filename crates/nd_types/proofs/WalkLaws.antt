@@ -1,5 +1,6 @@
 -- What is left of a walk over the roots of a side, one parameter further.
-use Rattle.std.proofs.Common.{◌≡◌, ℕ, suc, ◌+◌, ◌<◌, ◌≤◌, Bool, true, false, not, ◌&&◌, List, [], ◌∷◌, ◌++◌, length, drop, get_or, Option, Some, None, refl, ap, sym, ◌∙◌, map, append_assoc, cond, if◌then◌else◌, add-one}
+use Rattle.std.proofs.Common.{◌≡◌, ℕ, suc, ◌+◌, ◌<◌, ◌≤◌, Bool, true, false, not, ◌&&◌, List, [], ◌∷◌, ◌++◌, length, drop, get_or, Option, Some, None, refl, ap, sym, ◌∙◌, map, append_assoc, cond}
+use Rattle.std.proofs.Common.{if◌then◌else◌, add-one}
 use Rattle.std.specs.Prelude.{filter, ◌==◌}
 use mathlib.Core.Bool.{beq}
 use Rattle.std.proofs.Math.Seq.{drop-cons}
@@ -37,7 +38,8 @@ module _ (types : Table) (side : Side) (o : Operation) (pipes : Bool) (i : ℕ) 
       ap (λ at. with_name (root_name o at) r) (param_of i p (pipe_of types p.field.of.0))
       ∙ ap (λ q. with_name (param_name q) r) (slice_get-get_or o.params i p there ∙ ap Some (sym is))
 
-  by_kind : (pipes b : Bool) → r.is_pipe ≡ b → (more : List Root) → map (named_root o) (filter (is_kind pipes) (r ∷ more)) ≡ kept pipes (Some (with_name p.field.name r)) (map (named_root o) (filter (is_kind pipes) more))
+  by_kind : (pipes b : Bool) → r.is_pipe ≡ b → (more : List Root)
+      → map (named_root o) (filter (is_kind pipes) (r ∷ more)) ≡ kept pipes (Some (with_name p.field.name r)) (map (named_root o) (filter (is_kind pipes) more))
   by_kind true true e more =
       let others = filter (is_kind true) more in
       ap (λ b. map (named_root o) (cond b (r ∷ others) others)) e ∙ ap (λ x. x ∷ map (named_root o) others) is_named

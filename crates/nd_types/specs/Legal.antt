@@ -1,7 +1,8 @@
 -- What makes an interface legal: facts about its table of types and its operations.
 -- `d` is a type, `t` a type's number, `f` a field, `p` a parameter or a field where it stands, `v` an attribute with its
 -- variable, `o` an operation, `a` an arm, `z` a whole number.
-use Rattle.std.specs.Prelude.{◌≡◌, ℕ, suc, zero, ◌+◌, ◌*◌, ◌≤◌, ℤ, pos, int_le, Bool, true, false, not, ◌==◌, ◌&&◌, ◌||◌, nat_lt, nat_le, List, [], ◌∷◌, ◌++◌, Option, Some, None, map, length, drop, sum_by}
+use Rattle.std.specs.Prelude.{◌≡◌, ℕ, suc, zero, ◌+◌, ◌*◌, ◌≤◌, ℤ, pos, int_le, Bool, true, false, not, ◌==◌, ◌&&◌, ◌||◌, nat_lt, nat_le, List, []}
+use Rattle.std.specs.Prelude.{◌∷◌, ◌++◌, Option, Some, None, map, length, drop, sum_by}
 use Rattle.std.specs.Ordering.{int_eq}
 use Rattle.std.specs.List.{list_all, list_any, starts_with, enumerate_from}
 use Rattle.nd_base.specs.Text.{is_identifier}
@@ -17,10 +18,13 @@ use Rattle.nd_types.specs.declared.types.Param.{Param}
 use Rattle.nd_types.specs.declared.types.Way.{Way}
 use Rattle.nd_types.specs.declared.types.Way.TheVariants as way
 use Rattle.nd_types.specs.declared.types.Operation.{Operation}
-use Rattle.nd_types.specs.declared.TheConstants.{HANDLE, NESTING_LIMIT, ELEMENT_LIMIT, ENUMERATOR_LIMIT, TYPE_LIMIT, OPERATION_LIMIT, PARAM_LIMIT, MEMBER_LIMIT}
+use Rattle.nd_types.specs.declared.TheConstants.{HANDLE, NESTING_LIMIT, ELEMENT_LIMIT, ENUMERATOR_LIMIT, TYPE_LIMIT, OPERATION_LIMIT, PARAM_LIMIT}
+use Rattle.nd_types.specs.declared.TheConstants.{MEMBER_LIMIT}
 use Rattle.nd_types.specs.Table.{Table, type_at, is_value}
 use Rattle.nd_types.specs.Layout.{parts, nests, hoists}
-use Rattle.nd_types.specs.Kinds.{basic_types, is_basic, is_same_basic, is_integer, is_switch_type, is_array, is_text, is_pipe, is_context, is_pointer, is_reference, is_varying_array, is_conformant_array, is_conformant_text, is_fixed_array, is_nonencapsulated, pointee, referent_type}
+use Rattle.nd_types.specs.Kinds.{basic_types, is_basic, is_same_basic, is_integer, is_switch_type, is_array, is_text, is_pipe, is_context, is_pointer}
+use Rattle.nd_types.specs.Kinds.{is_reference, is_varying_array, is_conformant_array, is_conformant_text, is_fixed_array, is_nonencapsulated, pointee}
+use Rattle.nd_types.specs.Kinds.{referent_type}
 use Rattle.nd_types.specs.Fields.{FieldAt, members_of, all_fields, are_ordered, has_attr, has_size, has_range_attr, subject_type, all_variables}
 
 -- where the first holds, so does the second
@@ -135,7 +139,8 @@ is_barred_in_pipes d =
 -- no type on a path from a type down to its parts is one of these
 abbrev pub has_none_within : ℕ → (Option TypeDef → Bool) → Table → ℕ → Bool
 has_none_within zero is_barred types t = false
-has_none_within (suc n) is_barred types t = not (is_barred (type_at types t)) && list_all (has_none_within n is_barred types) (parts (type_at types t))
+has_none_within (suc n) is_barred types t =
+    not (is_barred (type_at types t)) && list_all (has_none_within n is_barred types) (parts (type_at types t))
 
 -- a type holds nothing that may not stand in a pipe's element
 unfoldable pub fits_pipes : Table → ℕ → Bool
@@ -292,13 +297,16 @@ pub record IsLegal (types : Table) (operations : List Operation) : Type 0 where
   -- An attribute's variable is another member of the same struct, or another parameter of the same operation.
   pub variables : all_fields has_other_variables types operations ≡ true
   -- size_is and max_is stand only on a conformant array or text or a pointer to one, and not both.
-  pub sized : all_fields (λ p. implies (has_size p.field) (is_conformant_array (subject_type types p.field) || is_conformant_text (subject_type types p.field))) types operations ≡ true
+  pub sized : all_fields
+      (λ p. implies (has_size p.field)
+      (is_conformant_array (subject_type types p.field) || is_conformant_text (subject_type types p.field))) types operations ≡ true
   pub one_size : all_fields (λ p. not (has_attr Size p.field && has_attr Max p.field)) types operations ≡ true
   -- A field that is itself a conformant array has one of them.
   pub conformant_sized : all_fields (λ p. implies (is_conformant_array (type_at types p.field.of.0)) (has_size p.field)) types operations ≡ true
   -- first_is, length_is and last_is stand only on a varying array, or on a pointer to one that has size_is or max_is; length_is and last_is not both.
   pub varying : all_fields (λ p. implies (has_range_attr p.field) (is_varying_array (subject_type types p.field))) types operations ≡ true
-  pub varying_sized : all_fields (λ p. implies (has_range_attr p.field) (is_array (type_at types p.field.of.0) || has_size p.field)) types operations ≡ true
+  pub varying_sized : all_fields (λ p. implies (has_range_attr p.field) (is_array (type_at types p.field.of.0) || has_size p.field)) types operations
+      ≡ true
   pub one_length : all_fields (λ p. not (has_attr Length p.field && has_attr Last p.field)) types operations ≡ true
   -- The variable of any of these five is an integer, or with a star a parameter that is a reference pointer to one.
   pub count_variables : all_fields (all_variables (λ a. not (is_switch_attr a)) is_integer types) types operations ≡ true
@@ -310,7 +318,8 @@ pub record IsLegal (types : Table) (operations : List Operation) : Type 0 where
   -- A parameter of type handle_t is an [in] parameter.
   pub handles : all_params (λ p. implies (is_handle p) (is_in p.way)) operations ≡ true
   -- A pointer that is an [out] parameter alone is a reference pointer.
-  pub out_pointers : all_params (λ p. implies (is_out_only p.way && is_pointer (type_at types p.field.of.0)) (is_reference (type_at types p.field.of.0))) operations ≡ true
+  pub out_pointers : all_params
+      (λ p. implies (is_out_only p.way && is_pointer (type_at types p.field.of.0)) (is_reference (type_at types p.field.of.0))) operations ≡ true
   -- An [out] or [in, out] parameter is an array, a text, a pipe or a pointer.
   pub out_types : all_params (λ p. is_in p.way || is_out_type (type_at types p.field.of.0)) operations ≡ true
   -- A result is a primitive or of an enumerated type.

@@ -1,6 +1,7 @@
 -- The numbers that octets spell (C706 14.2: integers in two's complement, in the order of the stream).
 -- `b` is an octet, `p` a primitive, `v` a number of octets, `z` a whole number, `n` how many octets.
-use Rattle.std.specs.Prelude.{ℕ, ◌+◌, ◌-◌, ◌*◌, ◌^◌, ◌<◌, ◌/◌, ◌%◌, zero, suc, ℤ, pos, negsuc, ◌-ℤ◌, Bool, true, false, cond, ltb, List, [], ◌∷◌, reverse}
+use Rattle.std.specs.Prelude.{ℕ, ◌+◌, ◌-◌, ◌*◌, ◌^◌, ◌<◌, ◌/◌, ◌%◌, zero, suc, ℤ, pos, negsuc, ◌-ℤ◌, Bool, true, false, cond, ltb, List, [], ◌∷◌}
+use Rattle.std.specs.Prelude.{reverse}
 use Rattle.std.specs.List.{AllByRecursion}
 use Rattle.nd_base.specs.declared.octets.Order.{Order}
 use Rattle.nd_base.specs.declared.octets.Order.TheVariants.{Big, Little}

@@ -37,7 +37,8 @@ pub fn number_roots_are_primitives()
 
 /// Each side of each operation of a plain interface has roots of types from 0 to 10 alone.
 pub fn plain_sides_are_numbers()
-    ensures { (types : Table) (operations : List Operation) → IsPlainInterface types operations → (n : ℕ) (s : Side) → IsNumberSide types operations n s }
+    ensures { (types : Table) (operations : List Operation) → IsPlainInterface types operations → (n : ℕ) (s : Side)
+        → IsNumberSide types operations n s }
 {}
 
 /// The alignment of a type of a legal interface is that of its parts.
@@ -74,5 +75,6 @@ pub fn written_octets()
 pub fn rounds_come_to_the_layout()
     ensures align { (table : Table) (t : ℕ) → align_in (layouts_of table) t ≡ align_of table t }
     ensures hoists { (table : Table) (t : ℕ) → hoists_in (layouts_of table) t ≡ hoists table t }
-    ensures settled { (table : Table) (k j : ℕ) → layouts_after (suc k) table ≡ layouts_after k table → layouts_after (j + k) table ≡ layouts_after k table }
+    ensures settled { (table : Table) (k j : ℕ) → layouts_after (suc k) table ≡ layouts_after k table
+        → layouts_after (j + k) table ≡ layouts_after k table }
 {}

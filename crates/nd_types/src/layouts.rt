@@ -2,7 +2,8 @@
 // which each goes by what the one before has of the parts of a type; types nest so deep at most as there are rounds.
 ghost use Rattle.std.specs.Prelude.{◌≡◌, ◌≤◌, ◌++◌, Some, map, max, IfOk, IsTrue};
 ghost use Rattle.nd_types.specs.Table.{type_at, width};
-ghost use Rattle.nd_types.specs.Layout.{largest, arm_type, arm_types, default_type, tag_width, at_least_4, align_by, hoists_by, last_hoists, align_of, hoists};
+ghost use Rattle.nd_types.specs.Layout.{largest, arm_type, arm_types, default_type, tag_width, at_least_4, align_by, hoists_by, last_hoists};
+ghost use Rattle.nd_types.specs.Layout.{align_of, hoists};
 ghost use Rattle.nd_types.specs.Rounds.{align_in, hoists_in, layout_by, round, unknown, layouts_after, layouts_of};
 
 use crate::{Arm, Field, Interface, NESTING_LIMIT, Prim, TypeDef, TypeId, Types};

@@ -8,7 +8,8 @@ use Rattle.nd_value.specs.declared.value.Graph.{Graph}
 use Rattle.nd_value.specs.declared.item.Home.{Home}
 use Rattle.nd_value.specs.declared.item.Home.TheVariants as home
 use Rattle.nd_value.specs.Setting.{Setting, Among, root_list}
-use Rattle.nd_value.specs.Deferral.{Due, due_root, due_referent, due_roots, before_pipes, Step, root_stands, referent_stands, stands_already, Deferral, none_due, at_root, at_null, at_standing, at_referent, Pending, IsPlaced, IsPlacedFull, Placed_cells, root_cell, due_of, standing_root, standing_cell}
+use Rattle.nd_value.specs.Deferral.{Due, due_root, due_referent, due_roots, before_pipes, Step, root_stands, referent_stands, stands_already, Deferral, none_due, at_root, at_null, at_standing}
+use Rattle.nd_value.specs.Deferral.{at_referent, Pending, IsPlaced, IsPlacedFull, Placed_cells, root_cell, due_of, standing_root, standing_cell}
 use Rattle.nd_value.specs.RepeatedDeferral.{RepeatedDeferral, nothing, root, null, met_again, referent, full_one}
 use Rattle.nd_value.proofs.DeferralLaws.{one_order}
 use Rattle.nd_value.proofs.DeferralExists.{deferral_of}

@@ -1,5 +1,6 @@
 -- A graph whose cells are shared by full pointers alone has an order of deferral.
-use Rattle.std.proofs.Common.{◌≡◌, ℕ, ◌+◌, ◌<◌, ◌≤◌, zero, suc, Bool, true, false, List, [], ◌∷◌, ◌++◌, length, Option, Some, None, refl, ap, ap₂, sym, ◌∙◌, inl, inr, ◌⊎◌, arith, subst, append_assoc, length-append}
+use Rattle.std.proofs.Common.{◌≡◌, ℕ, ◌+◌, ◌<◌, ◌≤◌, zero, suc, Bool, true, false, List, [], ◌∷◌, ◌++◌, length, Option, Some, None, refl, ap, ap₂, sym, ◌∙◌, inl, inr, ◌⊎◌, arith, subst, append_assoc}
+use Rattle.std.proofs.Common.{length-append}
 use Rattle.std.specs.Prelude.{map, flat_map}
 use Rattle.std.specs.List.{slice_get, AllByRecursion}
 use Rattle.std.proofs.lemmas.Option.{same_Some}
@@ -20,7 +21,8 @@ use Rattle.nd_value.specs.Tree.{Tree, Trees, node, none, more, Label, Referent}
 use Rattle.nd_value.specs.Agreement.{Agreement}
 use Rattle.nd_value.specs.Setting.{Setting, Among, root_list, root_at, or_unread, cell_at, cell_tree, cell_of_number, cell_home}
 use Rattle.nd_value.specs.Nodes.{nodes_of}
-use Rattle.nd_value.specs.Deferral.{Pending, home_pointers, pointer, Due, due_root, due_referent, due_roots, Step, root_stands, referent_stands, stands_already, Deferral, none_due, at_root, at_null, at_standing, at_referent, IsPlaced, IsPlacedFull, Placed_cells, Standing, standing_root, standing_by, standing_cell, root_type, direct, due_of, root_cell, AreFree}
+use Rattle.nd_value.specs.Deferral.{Pending, home_pointers, pointer, Due, due_root, due_referent, due_roots, Step, root_stands, referent_stands, stands_already, Deferral, none_due, at_root, at_null}
+use Rattle.nd_value.specs.Deferral.{at_standing, at_referent, IsPlaced, IsPlacedFull, Placed_cells, Standing, standing_root, standing_by, standing_cell, root_type, direct, due_of, root_cell, AreFree}
 use Rattle.nd_value.specs.Variables.{root_agreements}
 use Rattle.nd_value.specs.Homes.{root_nodes, root_pointers, cell_nodes, cell_pointers, all_nodes, all_pointers, in_home}
 use Rattle.nd_value.specs.Misfit.{is_no_null_ref}

@@ -3,7 +3,8 @@ use Rattle.std.proofs.Common.{◌≡◌, ℕ, List, [], ◌∷◌, ◌++◌, Opt
 use Rattle.std.proofs.lemmas.Option.{same_Some}
 use Rattle.nd_value.specs.declared.value.Graph.{Graph}
 use Rattle.nd_value.specs.Setting.{Setting}
-use Rattle.nd_value.specs.Deferral.{Due, due_root, due_referent, Step, root_stands, referent_stands, stands_already, Deferral, none_due, at_root, at_null, at_standing, at_referent, Pending, IsPlaced, IsPlacedFull, Placed_cells, due_of, standing_cell}
+use Rattle.nd_value.specs.Deferral.{Due, due_root, due_referent, Step, root_stands, referent_stands, stands_already, Deferral, none_due, at_root, at_null, at_standing, at_referent, Pending, IsPlaced}
+use Rattle.nd_value.specs.Deferral.{IsPlacedFull, Placed_cells, due_of, standing_cell}
 
 pub full_stands : (done : Placed_cells) (c : ℕ) → IsPlacedFull done c → IsPlaced done c
 full_stands [] c h = h

@@ -1,5 +1,5 @@
 -- A side of an operation has at most one root more than there may be parameters.
-use Rattle.std.proofs.Common.{◌≡◌, ℕ, ◌+◌, ◌<◌, ◌≤◌, zero, suc, Bool, true, false, not, ◌&&◌, eqb, List, [], ◌∷◌, ◌++◌, length, Option, Some, None, refl, ap, arith, length-append, cond}
+use Rattle.std.proofs.Common.{◌≡◌, ℕ, ◌+◌, ◌≤◌, zero, suc, Bool, true, false, not, ◌&&◌, eqb, List, [], ◌∷◌, ◌++◌, length, Option, Some, None, ap, arith, length-append, cond}
 use Rattle.std.specs.Prelude.{filter, nat_le}
 use Rattle.std.specs.List.{slice_get, list_all}
 use Rattle.std.proofs.lemmas.Bool.{and_parts, leb-true}
@@ -31,12 +31,12 @@ within : (b : Bool) (r : Root) (rs : List Root) (n : ℕ) → length rs ≤ n �
 within true r rs n h = omega (arith, h)
 within false r rs n h = omega (arith, h)
 
-few_params : (table : Table) (s : Side) (i : ℕ) (ps : List Param) → length (params_from table s i ps) ≤ length ps
+pub few_params : (table : Table) (s : Side) (i : ℕ) (ps : List Param) → length (params_from table s i ps) ≤ length ps
 few_params table s i [] = omega arith
 few_params table s i (p ∷ ps) =
     within (travels s p.way && not (eqb p.field.of.0 HANDLE.0)) (root_of table i p) (params_from table s (i + 1) ps) (length ps) (few_params table s (i + 1) ps)
 
-few_results : (s : Side) (t : Option TypeId) → length (result_root s t) ≤ 1
+pub few_results : (s : Side) (t : Option TypeId) → length (result_root s t) ≤ 1
 few_results side.In t = omega arith
 few_results side.Out None = omega arith
 few_results side.Out (Some t) = omega arith
@@ -67,15 +67,3 @@ pub few_named_roots : (table : Table) (os : List Operation) (i : ℕ) (s : Side)
     → list_all (λ o. nat_le (length o.params) PARAM_LIMIT) os ≡ true → slice_get os i ≡ Some o → length (named_roots table s o) ≤ PARAM_LIMIT + 1
 few_named_roots table os i s o h e =
     omega (arith, one_few os i o h e, few_roots_of table s o, length-map (roots_of table s o) (named_root o))
-
--- an item is there under a number that is in use
-pub item_at : {X : Type 0} (xs : List X) (i : ℕ) → i < length xs → (x : X) × (slice_get xs i ≡ Some x)
-item_at [] i h = absurd (omega (arith, h))
-item_at (x ∷ xs) zero h = (x, refl)
-item_at (x ∷ xs) (suc i) h = item_at xs i (omega (arith, h))
-
--- and none past the end
-pub past_end : {X : Type 0} (xs : List X) (i : ℕ) → slice_get xs i ≡ None → length xs ≤ i
-past_end [] i e = omega arith
-past_end (x ∷ xs) zero e = cc
-past_end (x ∷ xs) (suc i) e = omega (arith, past_end xs i e)

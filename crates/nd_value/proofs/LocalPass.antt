@@ -1,9 +1,9 @@
 -- The local pass, as it goes over a graph, finds the first local misfit.
-use Rattle.std.proofs.Common.{◌≡◌, ℕ, ◌+◌, ◌<◌, ◌≤◌, zero, suc, eqb, List, [], ◌∷◌, ◌++◌, length, drop, get_or, Option, Some, None, refl, ap, ap₂, sym, ◌∙◌, arith, subst, cond, map}
+use Rattle.std.proofs.Common.{◌≡◌, ℕ, ◌+◌, ◌<◌, ◌≤◌, suc, eqb, List, [], ◌∷◌, ◌++◌, length, drop, get_or, Option, Some, None, refl, ap, ap₂, sym, ◌∙◌, arith, subst, cond, map}
 use Rattle.std.specs.List.{slice_get}
 use Rattle.std.proofs.lemmas.Bool.{ne_eqb, eq-eqb, lt-ltb, le-ltb, cond-true, cond-false}
 use Rattle.std.proofs.lemmas.List.{map-append}
-use Rattle.std.proofs.lemmas.Option.{same_Some, slice_get-get_or}
+use Rattle.std.proofs.lemmas.Option.{slice_get-get_or}
 use Rattle.nd_types.specs.Table.{Table, type_at}
 use Rattle.nd_types.specs.Roots.{Root}
 use Rattle.nd_types.specs.Walk.{NamedRoot, named_root}
@@ -24,6 +24,7 @@ use Rattle.nd_value.specs.Homes.{HomeNode, in_home, root_nodes, cell_nodes}
 use Rattle.nd_value.specs.Misfit.{misfit_of}
 use Rattle.nd_value.specs.FirstMisfit.{MisfitAt, or_later, at_node, first_node, root_count, first_local}
 use Rattle.nd_value.specs.Passes.{Tells, or_next, at_number, first_in, at_home, first_in_home, first_in_roots, first_in_cells}
+use Rattle.nd_lemmas.proofs.Lists.{drop_next as drop-get, drop_past as drop-past}
 
 pub or_later-assoc : (a b c : Option MisfitAt) → or_later (or_later a b) c ≡ or_later a (or_later b c)
 or_later-assoc None b c = refl
@@ -44,7 +45,7 @@ first-append test (x ∷ xs) ys =
     ∙ sym (or_later-assoc (at_node x (test x.typed)) (first_node test xs) (first_node test ys))
 
 -- the misfits that are due for a wrong number of roots
-count_same : (has due : ℕ) → has ≡ due → root_count has due ≡ None
+pub count_same : (has due : ℕ) → has ≡ due → root_count has due ≡ None
 count_same has due e = cond-true (eqb has due) None _ (eq-eqb has due e)
 
 abbrev shape_at : ℕ → Option MisfitAt
@@ -114,23 +115,6 @@ module _ (w : Setting) (g : Graph) where
       let n : length (root_list w) ≡ 0 + length (root_list w) = omega arith in
       sym (or_later-assoc a b c)
       ∙ ap₂ or_later (ap (or_later a) (ap₂ root_count m n) ∙ roots_first 0 (root_list w) g.roots) (cells_first w.table g 1 g.cells)
-
-drop-found : {X : Type 0} (xs : List X) (i : ℕ) (x : X) → slice_get xs i ≡ Some x → drop i xs ≡ x ∷ drop (suc i) xs
-drop-found [] i x e = cc
-drop-found (y ∷ ys) zero x e = ap (λ z. z ∷ ys) (same_Some y x e)
-drop-found (y ∷ ys) (suc i) x e = drop-found ys i x e
-
--- a list from one of its places on
-pub drop-get : {X : Type 0} (xs : List X) (i : ℕ) (x : X) → slice_get xs i ≡ Some x → drop i xs ≡ x ∷ drop (i + 1) xs
-drop-get xs i x e =
-    let s : suc i ≡ i + 1 = omega arith in
-    drop-found xs i x e ∙ ap (λ j. x ∷ drop j xs) s
-
-pub drop-past : {X : Type 0} (xs : List X) (i : ℕ) → length xs ≤ i → drop i xs ≡ []
-drop-past [] zero h = refl
-drop-past [] (suc i) h = refl
-drop-past (x ∷ xs) zero h = absurd (omega (arith, h))
-drop-past (x ∷ xs) (suc i) h = drop-past xs i (omega (arith, h))
 
 module _ (table : Table) (g : Graph) where
   -- one root further

@@ -20,7 +20,9 @@ use Rattle.nd_value.specs.Deferral.{Pending}
 use Rattle.nd_value.specs.Homes.{HomeNode, root_nodes, cell_nodes, all_nodes, all_pointers}
 use Rattle.nd_value.specs.Misfit.{misfit_of, has_machine_values}
 use Rattle.nd_value.specs.Conforms.{Conforms, HasFewNodes, AllEarlier, ShareOnlyIfFull, Reached, subject, subject_by, IsAgreed, AgreesAt}
-use Rattle.nd_value.specs.FirstMisfit.{MisfitAt, or_later, at_node, first_node, root_count, first_local, is_full, same_cell, clashes, first_shared, IsFirstUnreached, disagreement, disagreement_of, first_disagreeing, IsFirstMisfit, is_local, is_shared, is_unreached, is_disagreeing}
+use Rattle.nd_value.specs.FirstMisfit.{MisfitAt, or_later, at_node, first_node, root_count, first_local, is_full, same_cell, clashes, first_shared, IsFirstUnreached, disagreement, disagreement_of}
+use Rattle.nd_value.specs.FirstMisfit.{first_disagreeing, IsFirstMisfit, is_local, is_shared, is_unreached, is_disagreeing}
+use Rattle.nd_value.proofs.LocalPass.{count_same as count-none}
 
 pub all_left : {X : Type 0} (P : X → Type 0) (xs ys : List X) → AllByRecursion P (xs ++ ys) → AllByRecursion P xs
 all_left P [] ys h = tt
@@ -59,10 +61,6 @@ module _ (test : TypedNode → Option MisfitReason) where
   none-first (x ∷ xs) e =
       let (a, b) = neither (at_node x (test x.typed)) (first_node test xs) e in
       (one-none x (test x.typed) a, none-first xs b)
-
--- as many roots as are due
-pub count-none : (has due : ℕ) → has ≡ due → root_count has due ≡ None
-count-none has due e = cond-true (eqb has due) None _ (eq-eqb has due e)
 
 pub none-count : (has due : ℕ) → root_count has due ≡ None → has ≡ due
 none-count has due e = go (eqb has due) refl e

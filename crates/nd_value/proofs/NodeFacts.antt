@@ -1,32 +1,33 @@
 -- What the nodes of a graph that conforms, and of a partial graph, keep to.
-use Rattle.std.proofs.Common.{◌≡◌, ℕ, ◌+◌, ◌<◌, ◌≤◌, zero, suc, ℤ, Bool, true, false, List, [], ◌∷◌, ◌++◌, length, Option, Some, None, refl, ap, sym, ◌∙◌, inl, inr, ◌⊎◌, arith, subst, replicate}
-use Rattle.std.specs.Prelude.{eqb, leb, not, ◌&&◌, ◌||◌, map}
+use Rattle.std.proofs.Common.{◌≡◌, ℕ, Bool, true, false, List, [], ◌∷◌, length, Option, Some, None, refl, sym, ◌∙◌, inl, inr, ◌⊎◌, subst}
+use Rattle.std.specs.Prelude.{eqb, ◌&&◌}
 use Rattle.std.specs.List.{AllByRecursion, list_all}
-use Rattle.std.proofs.lemmas.Bool.{eqb-true, and_parts, or_cases}
+use Rattle.std.proofs.lemmas.Bool.{eqb-true, and_parts}
 use Rattle.std.proofs.lemmas.List.{length-replicate}
 use Rattle.nd_types.specs.declared.types.TypeDef.{TypeDef}
 use Rattle.nd_types.specs.declared.types.TypeDef.TheVariants as def
 use Rattle.nd_types.specs.declared.types.Arm.{Arm}
 use Rattle.nd_types.specs.declared.types.Class.TheVariants.{Ref, Unique, Full}
 use Rattle.nd_types.specs.Table.{Table, type_at, is_value, fits_octets, selected}
-use Rattle.nd_types.specs.Layout.{arm_type}
 use Rattle.nd_value.specs.declared.value.Graph.{Graph}
 use Rattle.nd_value.specs.declared.misfit.MisfitReason.{MisfitReason}
 use Rattle.nd_value.specs.Tree as tree
-use Rattle.nd_value.specs.Tree.{Tree, Trees, node, none, more, Label, count}
+use Rattle.nd_value.specs.Tree.{Trees, node, none, Label, count}
 use Rattle.nd_value.specs.Setting.{Setting, root_list}
 use Rattle.nd_value.specs.Nodes.{TypedNode, child_types, selected_types}
-use Rattle.nd_value.specs.Homes.{HomeNode, all_nodes, all_pointers}
-use Rattle.nd_value.specs.Misfit.{misfit_of, unless, is_partial_node, has_shape, has_range, is_no_null_ref, names_cell, names_pointee, has_counts, is_within, has_no_zero, has_arm, has_machine_values, selects, arm_fits}
+use Rattle.nd_value.specs.Homes.{all_nodes, all_pointers}
+use Rattle.nd_value.specs.Misfit.{misfit_of, unless, is_partial_node, has_shape, has_range, is_no_null_ref, names_cell, names_pointee, has_counts, is_within, has_no_zero, has_arm, has_machine_values}
+use Rattle.nd_value.specs.Misfit.{selects, arm_fits}
 use Rattle.nd_value.specs.Conforms.{Conforms, IsPartial, AllEarlier, ShareOnlyIfFull}
 use Rattle.nd_value.proofs.Apart.{all_weaker}
 use Rattle.nd_value.proofs.Orderly.{Orderly, PointerFits}
+use Rattle.nd_lemmas.proofs.Lists.{length_map as length_mapped}
 
 pub all_of_list : {X : Type 0} (f : X → Bool) (xs : List X) → list_all f xs ≡ true → AllByRecursion (λ x. f x ≡ true) xs
 all_of_list f [] e = tt
 all_of_list f (x ∷ xs) e = let (a, b) = and_parts (f x) (list_all f xs) e in (a, all_of_list f xs b)
 
-unless_none : (b : Bool) (r : MisfitReason) (o : Option MisfitReason) → unless b r o ≡ None → (b ≡ true) × (o ≡ None)
+pub unless_none : (b : Bool) (r : MisfitReason) (o : Option MisfitReason) → unless b r o ≡ None → (b ≡ true) × (o ≡ None)
 unless_none true r o e = (refl, e)
 unless_none false r o e = cc
 
@@ -96,10 +97,6 @@ read_node table g x e = by_label x.label x.kids e
     by_label (tree.Context a i) ks e = inr (read_all table g x.of (tree.Context a i) ks (record { all = e }))
     by_label tree.Pipe ks e = inr (read_all table g x.of tree.Pipe ks (record { all = e }))
 
-length_mapped : {X Y : Type 0} (f : X → Y) (xs : List X) → length (map f xs) ≡ length xs
-length_mapped f [] = refl
-length_mapped f (x ∷ xs) = ap suc (length_mapped f xs)
-
 arm_children : (o : Option Arm) (ks : Trees) → selects o ≡ true → arm_fits o ks ≡ true → count ks ≡ length (selected_types o)
 arm_children None ks a b = cc
 arm_children (Some x) ks a b = eqb-true _ _ b
@@ -127,7 +124,7 @@ fit_is_read table g of l ks f = record {
   counts = f.counts;
 }
 
-unread_no_null : (d : Option TypeDef) → is_no_null_ref d tree.Unread ≡ true
+pub unread_no_null : (d : Option TypeDef) → is_no_null_ref d tree.Unread ≡ true
 unread_no_null (Some (def.Pointer Ref to)) = refl
 unread_no_null (Some (def.Pointer Unique to)) = refl
 unread_no_null (Some (def.Pointer Full to)) = refl

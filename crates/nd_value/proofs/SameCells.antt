@@ -1,5 +1,5 @@
 -- Which graphs are the same: each is the same as itself, and one without cells is the same as no other.
-use Rattle.std.proofs.Common.{◌≡◌, ℕ, ◌<◌, ◌≤◌, zero, suc, List, [], ◌∷◌, length, Option, Some, None, refl, ap, ap₂, sym, ◌∙◌, inl, inr, ◌⊎◌, arith, subst}
+use Rattle.std.proofs.Common.{◌≡◌, ℕ, ◌<◌, zero, suc, List, [], ◌∷◌, length, Some, None, refl, ap, ap₂, sym, ◌∙◌, inl, inr, ◌⊎◌, arith}
 use Rattle.std.specs.List.{slice_get}
 use Rattle.std.proofs.lemmas.Option.{same_Some}
 use Rattle.nd_value.specs.declared.value.Graph.{Graph}
@@ -18,7 +18,7 @@ module _ (m : ℕ → ℕ) (still : (c : ℕ) → m c ≡ c) where
   trees_still none = refl
   trees_still (more (node l ks) ts) = ap₂ more (ap₂ node (label_still l) (trees_still ks)) (trees_still ts)
 
-back : (ts : List Tree) → items (trees ts) ≡ ts
+pub back : (ts : List Tree) → items (trees ts) ≡ ts
 back [] = refl
 back (t ∷ ts) = ap (λ us. t ∷ us) (back ts)
 

@@ -1,13 +1,15 @@
 -- The order of a graph's cells: by the first pointer to them in the order of the stream.
 -- `w` is a setting, `g` and `h` are graphs, `p` is a pointer, `c` and `d` are numbers of cells, `x` is a value that stands,
 -- `n` the next number to give.
-use Rattle.std.specs.Prelude.{◌≡◌, ℕ, ◌+◌, ◌<◌, ◌≤◌, suc, zero, Bool, true, false, cond, eqb, List, [], ◌∷◌, ◌++◌, length, map, Option, Some, None, flat_map}
+use Rattle.std.specs.Prelude.{◌≡◌, ℕ, ◌+◌, ◌<◌, ◌≤◌, suc, zero, Bool, true, false, cond, eqb, List, [], ◌∷◌, ◌++◌, length, map, Option, Some, None}
+use Rattle.std.specs.Prelude.{flat_map}
 use Rattle.nd_types.specs.Table.{Table}
 use Rattle.nd_value.specs.declared.value.Graph.{Graph}
 use Rattle.nd_value.specs.declared.item.Home.{Home}
 use Rattle.nd_value.specs.declared.item.Home.TheVariants as home
 use Rattle.nd_value.specs.Setting.{Setting, root_list}
-use Rattle.nd_value.specs.Deferral.{Step, root_stands, referent_stands, stands_already, Deferral, Standing, standing_root, standing_cell, home_pointers, Pending, due_roots, before_pipes}
+use Rattle.nd_value.specs.Deferral.{Step, root_stands, referent_stands, stands_already, Deferral, Standing, standing_root, standing_cell}
+use Rattle.nd_value.specs.Deferral.{home_pointers, Pending, due_roots, before_pipes}
 use Rattle.nd_value.specs.Same.{Same}
 
 -- the cell that a pointer names, as a list

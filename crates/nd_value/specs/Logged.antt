@@ -15,7 +15,9 @@ pub record Logged : Type 0 where
   pub items : List Item
 
 abbrev pub logged_code : Coded Logged
-logged_code = code_by (Bool × List Item) (coded× coded_bool (coded_list item.the_row.coded)) (λ g. (g.keeps, g.items)) (λ p. record { keeps = p.0; items = p.1 }) (λ _. refl)
+logged_code =
+    code_by (Bool × List Item) (coded× coded_bool (coded_list item.the_row.coded)) (λ g. (g.keeps, g.items))
+    (λ p. record { keeps = p.0; items = p.1 }) (λ _. refl)
 
 -- a log that keeps nothing is empty
 abbrev pub log_seen : Option (Vec Item Global) → Logged

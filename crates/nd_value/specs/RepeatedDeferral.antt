@@ -5,7 +5,8 @@ use Rattle.nd_types.specs.declared.types.Class.{Class}
 use Rattle.nd_types.specs.declared.types.Class.TheVariants.{Ref, Unique, Full}
 use Rattle.nd_value.specs.declared.value.Graph.{Graph}
 use Rattle.nd_value.specs.Setting.{Setting, Among}
-use Rattle.nd_value.specs.Deferral.{Due, due_root, due_referent, Step, root_stands, referent_stands, stands_already, Pending, due_of, standing_root, standing_cell}
+use Rattle.nd_value.specs.Deferral.{Due, due_root, due_referent, Step, root_stands, referent_stands, stands_already, Pending, due_of, standing_root}
+use Rattle.nd_value.specs.Deferral.{standing_cell}
 
 -- the cell that joins those that stand for full pointers
 abbrev pub full_one : Class → ℕ → List ℕ

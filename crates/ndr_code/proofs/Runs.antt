@@ -76,12 +76,6 @@ item_at list at (y ∷ run) (suc i) x h e =
     let z : at + 1 + i ≡ at + suc i = omega arith in
     subst (λ k. slice_get list k ≡ Some x) z (item_at list (at + 1) run i x (next_at list at y run h) e)
 
--- an item of the first part of a list
-pub item_before : {X : Type 0} (xs ys : List X) (i : ℕ) (x : X) → slice_get xs i ≡ Some x → slice_get (xs ++ ys) i ≡ Some x
-item_before [] ys i x e = cc
-item_before (y ∷ xs) ys zero x e = e
-item_before (y ∷ xs) ys (suc i) x e = item_before xs ys i x e
-
 -- the i-th item with its number
 pub numbered : {X : Type 0} (k : ℕ) (xs : List X) (i : ℕ) (x : X) → slice_get xs i ≡ Some x → slice_get (enumerate_from k xs) i ≡ Some (k + i, x)
 numbered k [] i x e = cc

@@ -21,7 +21,8 @@ use Rattle.ndr_code.specs.declared.lists.EnumList.{EnumList}
 use Rattle.ndr_code.specs.Code.{id, value_roots, pipe_roots, root_at, checks_at, pipe_at}
 use Rattle.ndr_code.specs.Lines.{entry_lines, side_lines, operation_lines, entries_of, line_at, sides_of, side_number, enum_list, enum_list_by, values_of, enumerators}
 use Rattle.ndr_code.specs.Runs.{IsRunAt}
-use Rattle.ndr_code.proofs.Runs.{behind_at, part_at, first_at, item_at, item_before, flat_at, numbered, mapped}
+use Rattle.ndr_code.proofs.Runs.{behind_at, part_at, first_at, item_at, flat_at, numbered, mapped}
+use Rattle.nd_grammar.proofs.reader.ReaderNames.{get_left as item_before}
 
 -- there are as many entries as roots
 many_entries : (n : ℕ) (o : Operation) (s : Side) (at : ℕ → ℕ) (rs : List Root) → length (entry_lines n o s at rs) ≡ length rs

@@ -19,7 +19,7 @@ threes table (x ∷ rs) (suc i) r e =
     let h : length (flat_map (root_run table) (take i rs)) ≡ 3 * i = threes table rs i r e in
     length-append (root_run table x) (flat_map (root_run table) (take i rs)) ∙ omega (arith, h)
 
-all_threes : (table : Table) (rs : List Root) → length (flat_map (root_run table) rs) ≡ 3 * length rs
+pub all_threes : (table : Table) (rs : List Root) → length (flat_map (root_run table) rs) ≡ 3 * length rs
 all_threes table [] = refl
 all_threes table (x ∷ rs) =
     let h : length (flat_map (root_run table) rs) ≡ 3 * length rs = all_threes table rs in

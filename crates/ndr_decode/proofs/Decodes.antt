@@ -1,7 +1,7 @@
 -- What a call of decode comes to.
 -- `o` is the operation, of this number, `way` its side, `q` the graph of the request, if one is given; `x` is what is kept at the beginning of the stream, `z` at
 -- its end; `c`, `u` are what was seen of the source, the log and the steps.
-use Rattle.std.proofs.Common.{◌≡◌, ℕ, zero, suc, inl, inr, Bool, List, [], ◌∷◌, length, Option, Some, None, Result, Ok, Err, refl, ap, ap₂, sym, ◌∙◌, subst}
+use Rattle.std.proofs.Common.{◌≡◌, ℕ, Bool, List, [], length, Option, Some, None, Result, Ok, Err, refl, ap, ap₂, sym, ◌∙◌, subst}
 use Rattle.std.specs.Prelude.{IfErr, IsErrAnd, IsErrOf, option_map}
 use Rattle.std.specs.List.{slice_get}
 use Rattle.std.proofs.lemmas.List.{length-map}
@@ -18,7 +18,7 @@ use Rattle.nd_value.specs.Deferral.{before_pipes}
 use Rattle.nd_value.specs.Fitting.{Fitting, IsFit, IsGiven, IsGivenRequest, setting_beside, setting_of}
 use Rattle.nd_value.specs.Request.{ConformsIfGiven, IsRequest, IsRequestOf}
 use Rattle.nd_value.specs.Logged.{Logged}
-use Rattle.nd_value.specs.Setting.{Among, Setting, root_list}
+use Rattle.nd_value.specs.Setting.{Setting, root_list}
 use Rattle.nd_flat.specs.Building.{Building, closed, fitting, start}
 use Rattle.nd_grammar.specs.LegalSide.{IsLegalSide}
 use Rattle.nd_grammar.specs.StreamReader.{read_start}
@@ -38,6 +38,7 @@ use Rattle.ndr_decode.proofs.Handed.{stream_fault}
 use Rattle.ndr_decode.proofs.EndsWell.{decoded_reported}
 use Rattle.ndr_decode.proofs.Reported.{fault_reported, in_order_reported}
 use Rattle.ndr_decode.proofs.Standing.{cut_off_here, idle_log, idle_source}
+use Rattle.nd_grammar.proofs.LegalSides.{operation_there as operation_among}
 
 -- what a graph is built for, by a plan
 abbrev pub purpose_by : Plan → ℕ → Side → Option Graph → Purpose
@@ -102,11 +103,6 @@ pub source_failed : (w : Setting) (order : Order) (n : ℕ) (c : SourceSeen) (u 
 source_failed w order n c u e is x = (subst (λ (k : DecodeFault). FaultOf the_stream w order [] [] n c u k) is x).1
 
 -- ## A call
-
-operation_among : (os : List Operation) (n : ℕ) (o : Operation) → slice_get os n ≡ Some o → Among os o
-operation_among [] n o e = cc
-operation_among (x ∷ os) zero o e = inl (sym (same_Some x o e))
-operation_among (x ∷ os) (suc n) o e = inr (operation_among os n o e)
 
 module _ (plan : Plan) (number : ℕ) (way : Side) (q : Option Graph) (o : Operation) (there : slice_get plan.tie.operations number ≡ Some o) (order : Order) where
   abbrev pub w : Setting

@@ -1,5 +1,5 @@
 -- What the agreements of the parameters come to, tried by the code of a side.
-use Rattle.std.proofs.Common.{◌≡◌, ◌≤◌, ℕ, ◌+◌, zero, suc, true, List, [], ◌∷◌, ◌++◌, length, drop, Option, Some, None, refl, ap, sym, ◌∙◌, subst, append_assoc, arith}
+use Rattle.std.proofs.Common.{◌≡◌, ℕ, ◌+◌, zero, suc, true, List, [], ◌∷◌, ◌++◌, length, drop, Option, Some, None, refl, ap, sym, ◌∙◌, subst, append_assoc, arith}
 use Rattle.std.specs.Prelude.{replicate}
 use Rattle.std.specs.List.{AllByRecursion, flat_map}
 use Rattle.std.proofs.lemmas.List.{append-nil, length-append}
@@ -34,6 +34,7 @@ use Rattle.ndr_decoder_laws.specs.stream.Report.{IsRefusedAfter}
 use Rattle.ndr_decoder_laws.proofs.stream.HeadEnds.{parameters_stop}
 use Rattle.ndr_decoder_agreements.specs.Trials.{checks_fail, is_check}
 use Rattle.ndr_decoder_agreements.proofs.Together.{run_passes, run_stops}
+use Rattle.nd_lemmas.proofs.Lists.{drop_length as left_length}
 
 abbrev AreChecks : List Instr → Type 0
 AreChecks is = AllByRecursion (λ (i : Instr). is_check i ≡ true) is
@@ -66,11 +67,6 @@ but_return f e (i ∷ is) = ap (λ u. f i ++ u) (but_return f e is)
 as_long : (n : ℕ) → length (replicate n unread) ≡ n
 as_long zero = refl
 as_long (suc n) = ap suc (as_long n)
-
-left_length : {X : Type 0} (n : ℕ) (xs : List X) → n ≤ length xs → n + length (drop n xs) ≡ length xs
-left_length zero xs l = omega arith
-left_length (suc n) [] l = absurd (omega (arith, l))
-left_length (suc n) (x ∷ xs) l = let e = left_length n xs (omega (arith, l)) in omega (arith, e)
 
 module _ (w : Setting) (side : IsLegalSide w) (order : Order) (fetched : List ℕ) (noted : List Item) (direct : ℕ) (b : Between) (s : Reading) (seen : List EntryAt)
     (ag : Agrees w side order fetched noted direct b s seen [] 0) (code : List Instr) (at : ℕ) (here : IsRunAt code at (checks_run w.table w.op w.side)) where

@@ -28,7 +28,7 @@ use Rattle.nd_types.specs.Layout.{hoists}
 use Rattle.ndr_code.specs.Code.{place_at}
 use Rattle.ndr_code.specs.declared.plan.Plan.{Plan}
 use Rattle.ndr_decoder_laws.specs.reader.Around.{going}
-use Rattle.ndr_decoder_laws.proofs.reader.FlatNodes.{count_joined}
+use Rattle.nd_grammar.proofs.reader.ReaderPipes.{joined_count as count_joined}
 use Rattle.ndr_decoder_laws.specs.declared.frame.Frame.TheVariants as frame
 use Rattle.ndr_decoder_laws.specs.steps.Chunks.{chunk_read}
 use Rattle.ndr_decoder_laws.specs.steps.Good.{Good}

@@ -1,5 +1,5 @@
 -- Faults while the pipes of a stream are read.
-use Rattle.std.proofs.Common.{◌≡◌, ◌≤◌, ℕ, List, [], ◌++◌, length, Option, Result, Ok, Err, IsErrAnd, ap, sym, subst, arith}
+use Rattle.std.proofs.Common.{◌≡◌, ◌≤◌, ℕ, List, [], ◌++◌, length, Option, subst, arith}
 use Rattle.std.proofs.lemmas.List.{append-nil}
 use Rattle.nd_base.specs.declared.octets.Order.{Order}
 use Rattle.nd_base.specs.Over.{SourceSeen}
@@ -14,15 +14,10 @@ use Rattle.ndr_decoder_laws.specs.reader.Around.{going}
 use Rattle.ndr_refs.specs.declared.referents.Known.{Known}
 use Rattle.ndr_decoder_laws.specs.steps.Good.{Told}
 use Rattle.ndr_decoder_laws.specs.steps.Steps.{Place}
-use Rattle.ndr_decoder_state.specs.declared.fault.DecodeFault.{DecodeFault}
 use Rattle.nd_grammar.specs.decoded.Verdict.{DecodingSeen, direct_roots}
 use Rattle.ndr_decoder_laws.specs.stream.Added.{Goes}
 use Rattle.ndr_decoder_laws.specs.stream.Calls.{CutOff, Took}
 use Rattle.ndr_decoder_laws.specs.stream.Report.{StreamCut, the_stream}
-
-pub faulty : {T : Type 0} (r : Result T DecodeFault) (e : DecodeFault) → IsErrAnd r (λ y. y ≡ e) → Err e ≡ r
-faulty (Ok t) e h = absurd h
-faulty (Err y) e h = ap Err (sym h)
 
 -- ## Cut off
 

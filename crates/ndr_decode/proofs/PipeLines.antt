@@ -20,7 +20,7 @@ use Rattle.nd_types.specs.Walk.{root_name}
 use Rattle.nd_value.specs.Deferral.{before_pipes}
 use Rattle.nd_value.specs.Setting.{Setting, root_list}
 use Rattle.nd_value.proofs.Apart.{all_append, all_weaker}
-use Rattle.nd_grammar.proofs.legal.LegalPipes.{all_at}
+use Rattle.nd_lemmas.proofs.Lists.{all_at}
 use Rattle.nd_grammar.proofs.next.NextStream.{drop_at}
 use Rattle.ndr_code.specs.Code.{code_of, pipe_at, pipe_roots, place_at, value_roots}
 use Rattle.ndr_code.specs.Lines.{entries_of, entry_lines, line_at, operation_lines, side_lines}

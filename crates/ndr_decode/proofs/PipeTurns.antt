@@ -38,7 +38,8 @@ use Rattle.ndr_decode.specs.Piping.{ChunkComes, ElementsRead, IsInPipe, IsPipeBy
 use Rattle.ndr_decode.specs.Streaming.{FaultOf, HomeWhole}
 use Rattle.ndr_decode.proofs.HomeComes.{decoding_of}
 use Rattle.ndr_decode.proofs.PipeElements as elements
-use Rattle.ndr_decode.proofs.PipeFaults.{cut_after, cut_at, faulty}
+use Rattle.ndr_decode.proofs.PipeFaults.{cut_after, cut_at}
+use Rattle.ndr_decoder_chunks.proofs.Counting.{faulty}
 use Rattle.ndr_decode.proofs.PipeOpens.{cells_many, moved_cells, pipe_ended}
 use Rattle.ndr_decode.proofs.Placed.{took_by}
 use Rattle.ndr_decode.proofs.Standing.{then_fault}

@@ -6,7 +6,7 @@ use Rattle.std.proofs.Common.{append_assoc}
 use Rattle.std.specs.Prelude.{slice_get}
 use Rattle.std.specs.List.{AllByRecursion}
 use Rattle.std.proofs.lemmas.List.{append-nil}
-use Rattle.std.proofs.lemmas.Option.{same_Some}
+use Rattle.std.proofs.lemmas.Option.{same_Some, slice_get_within as within}
 use Rattle.nd_base.specs.declared.octets.Order.{Order}
 use Rattle.nd_base.specs.Over.{Count, SourceSeen}
 use Rattle.nd_types.specs.Number.{AreOctets}
@@ -53,7 +53,7 @@ use Rattle.ndr_decode.specs.Streaming.{FaultOf, IsSettingOf, Stands, WasRead, ce
 use Rattle.ndr_decode.proofs.PaidHomes.{paid_between, roots_kept, roots_within}
 use Rattle.ndr_decode.proofs.PipeLines.{HasLine, first_line, no_pipe_line, one_run, pipe_line}
 use Rattle.ndr_decode.proofs.PipeOpens.{closed_roots}
-use Rattle.ndr_decode.proofs.PipeFaults.{faulty}
+use Rattle.ndr_decoder_chunks.proofs.Counting.{faulty}
 use Rattle.ndr_decode.proofs.Standing.{idle_log, idle_source, then_fault, took_nothing}
 
 -- ## Lists of pipes
@@ -81,11 +81,6 @@ each_left : {X : Type 0} (P : X → Type 0) (p : ℕ) (xs : List X) → AllByRec
 each_left P zero xs a = a
 each_left P (suc p) [] a = a
 each_left P (suc p) (y ∷ ys) a = each_left P p ys a.1
-
-within : {X : Type 0} (xs : List X) (i : ℕ) (x : X) → slice_get xs i ≡ Some x → i < length xs
-within [] i x e = cc
-within (y ∷ ys) zero x e = omega arith
-within (y ∷ ys) (suc i) x e = let l : i < length ys = within ys i x e in omega (arith, l)
 
 -- So many pipes of the side were read.
 pub record PipesRead (w : Setting) (order : Order) (fetched : List ℕ) (noted : List Item) (direct : ℕ) (first : Names) (cells : ℕ) (source : SourceSeen) (t : DecodingSeen) (m : Machine)

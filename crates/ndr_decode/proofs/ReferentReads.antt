@@ -1,7 +1,7 @@
 -- The next of the pending referents, where it was not read yet: from what is kept of the stream before its value, through the run of its code, to what is kept
 -- after it and after the agreements of its pointer.
 -- `o` is the referent as code has it, `x` what is kept of the stream, `c` its cell, `x0` the state of the decoder at the beginning of the value and `x1` at its end.
-use Rattle.std.proofs.Common.{◌≡◌, ◌≤◌, ◌<◌, ℕ, zero, suc, List, [], ◌∷◌, ◌++◌, length, map, Some, None, sym, ap, ◌∙◌, subst, arith}
+use Rattle.std.proofs.Common.{◌≡◌, ◌≤◌, ◌<◌, ℕ, List, [], ◌∷◌, ◌++◌, length, map, Some, None, sym, ap, ◌∙◌, subst, arith}
 use Rattle.std.proofs.lemmas.List.{length-map}
 use Rattle.nd_base.specs.declared.octets.Order.{Order}
 use Rattle.nd_base.specs.declared.TheConstants.{STREAM_LIMIT}
@@ -16,13 +16,12 @@ use Rattle.nd_value.specs.declared.value.CellId.{CellId}
 use Rattle.nd_value.specs.Deferral.{Pending, due_roots, due_referent}
 use Rattle.nd_value.specs.Seen.{cell_number}
 use Rattle.nd_value.specs.Setting.{Setting, cell_home}
-use Rattle.nd_value.specs.Tree.{Referent}
 use Rattle.nd_value.proofs.Apart.{all_append}
 use Rattle.nd_grammar.specs.Entry.{EntryAt}
 use Rattle.nd_grammar.specs.LegalSide.{IsLegalSide}
 use Rattle.nd_grammar.specs.Reader.{Read}
 use Rattle.nd_grammar.specs.StreamReader.{Reading}
-use Rattle.nd_grammar.specs.ReaderState.{Usable, no_names, PointerAt, cell_in}
+use Rattle.nd_grammar.specs.ReaderState.{Usable, no_names, PointerAt}
 use Rattle.nd_grammar.proofs.reader.ReaderStates.{at_cell}
 use Rattle.ndr_code.specs.declared.instr.Instr.{Instr}
 use Rattle.ndr_code.specs.declared.lists.EnumList.{EnumList}
@@ -49,10 +48,7 @@ use Rattle.ndr_decoder_laws.specs.stream.Report.{the_head}
 use Rattle.ndr_decode.specs.Streaming.{FaultOf, HomeWhole, StandsWith, cells_of, with_next}
 use Rattle.ndr_decode.proofs.HomeComes.{whole_comes, fault_comes, decoding_of}
 use Rattle.ndr_decode.proofs.OwedReads.{cell_is, class_is, due_is}
-
-positive : (cells : List Referent) (c : ℕ) (y : Referent) → cell_in cells c ≡ Some y → 0 < c
-positive cells zero y e = cc
-positive cells (suc i) y e = omega arith
+use Rattle.nd_grammar.proofs.reader.ReaderCells.{cell_positive as positive}
 
 module _ (w : Setting) (side : IsLegalSide w) (order : Order) (fetched : List ℕ) (noted : List Item) (direct : ℕ) (o : Owed) (x : Stream) (s : Reading) (seen : List EntryAt) (p : Pending)
     (ps : List Pending) (n : ℕ)

@@ -8,7 +8,7 @@ use Rattle.nd_types.specs.declared.types.Side.{Side}
 use Rattle.nd_types.specs.Roots.{Root}
 use Rattle.nd_types.specs.Table.{Table, type_at}
 use Rattle.nd_types.specs.Walk.{root_name}
-use Rattle.nd_value.proofs.FewRoots.{item_at}
+use Rattle.nd_lemmas.proofs.Lists.{item_at}
 use Rattle.nd_value.specs.Deferral.{before_pipes}
 use Rattle.nd_value.specs.Setting.{Setting, root_list}
 use Rattle.ndr_code.specs.declared.instr.Instr.{Instr}

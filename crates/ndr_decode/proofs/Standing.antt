@@ -24,7 +24,7 @@ use Rattle.ndr_decoder_laws.specs.reader.Around.{stopped}
 use Rattle.ndr_decoder_laws.specs.declared.first.First.{First}
 use Rattle.ndr_decoder_laws.specs.steps.Good.{Told}
 use Rattle.ndr_decoder_laws.specs.steps.Steps.{first_found, place_of, place_in}
-use Rattle.nd_grammar.specs.decoded.Verdict.{DecodingSeen, with_items}
+use Rattle.nd_grammar.specs.decoded.Verdict.{DecodingSeen}
 use Rattle.ndr_decoder_laws.specs.stream.Added.{Goes}
 use Rattle.ndr_decoder_laws.specs.stream.Between.{Agrees, Between}
 use Rattle.ndr_decoder_laws.specs.stream.Calls.{CutOff, Follows, Refused, Took}
@@ -39,6 +39,7 @@ use Rattle.ndr_decoder_state.specs.declared.fault.DecodeFault.{DecodeFault}
 use Rattle.ndr_decoder_state.specs.declared.fault.DecodeFault.TheVariants as fault
 use Rattle.ndr_decoder_state.specs.declared.machine.Owed.{Owed}
 use Rattle.ndr_decode.specs.Streaming.{FaultOf, Stands, StandsTaking, WentOn, WentOnTaking, cells_of}
+use Rattle.ndr_decoder_chunks.proofs.Counting.{none_noted}
 
 -- ## Nothing is read
 
@@ -55,13 +56,6 @@ none_consumed (Some xs) = refl
 
 abbrev kept_in : Bool → List Item → Logged
 kept_in b xs = record { keeps = b; items = xs }
-
-none_noted : (g : Logged) → g ≡ with_items [] g
-none_noted g = go g.keeps
-  where
-    go : (b : Bool) → kept_in b g.items ≡ kept_in b (if b then g.items ++ [] else g.items)
-    go true = ap (kept_in true) (sym (append-nil g.items))
-    go false = refl
 
 module _ (o : Option (List ℕ)) (ended : Bool) (faults : Count) (g : Logged) (k : ℕ) where
   pub took_nothing : (n : ℕ) → Took (idle_source o ended faults) (idle_log g k) n [] [] n

@@ -1,4 +1,4 @@
 mod Opening
-mod Counting
+pub mod Counting
 mod Twice
 mod Alone

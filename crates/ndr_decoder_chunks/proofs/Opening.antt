@@ -1,6 +1,5 @@
 -- Graphs and nodes where a pipe or a chunk of it begins.
-use Rattle.std.proofs.Common.{◌≡◌, ℕ, List, [], ◌∷◌, length, map, Option, Some, None, refl, ap, sym, ◌∙◌, subst}
-use Rattle.std.specs.List.{AllByRecursion}
+use Rattle.std.proofs.Common.{◌≡◌, ℕ, List, [], ◌∷◌, length, map, Option, Some, None, refl, ap, sym, ◌∙◌}
 use Rattle.std.proofs.lemmas.List.{length-map}
 use Rattle.nd_value.specs.declared.item.Home.{Home}
 use Rattle.nd_value.specs.declared.item.Home.TheVariants as home
@@ -28,6 +27,3 @@ opened_length b o h e = sym (ap (λ (u : Building). length u.graph.cells) e ∙ 
 pub raised_length : (k : ℕ) (fs : List Flat) → length fs ≡ length (raised k fs)
 raised_length k [] = refl
 raised_length k (f ∷ fs) = refl
-
-pub all_of_none : {X : Type 0} (P : X → Type 0) (xs : List X) → xs ≡ [] → AllByRecursion P xs
-all_of_none {X} P xs e = subst (λ (ys : List X). AllByRecursion P ys) (sym e) tt

@@ -27,7 +27,7 @@ use Rattle.ndr_decoder_fast.specs.Strings.{HasCome, GoesFar}
 abbrev pub source : Option (List ℕ) → Option (List ℕ) → Bool → ℕ → ℕ → SourceSeen
 source left left_now ended before now = record { left = left; left_now = left_now; ended = ended; faults = record { before = before; now = now } }
 
-ticks_on : (xs ys : List Item) → ticks (xs ++ ys) ≡ ticks xs + ticks ys
+pub ticks_on : (xs ys : List Item) → ticks (xs ++ ys) ≡ ticks xs + ticks ys
 ticks_on [] ys = omega arith
 ticks_on (x ∷ xs) ys = let e : ticks (xs ++ ys) ≡ ticks xs + ticks ys = ticks_on xs ys in omega (arith, e)
 

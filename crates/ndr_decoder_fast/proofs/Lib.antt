@@ -2,11 +2,11 @@ mod Packed
 mod Slots
 mod SlotTicks
 mod PieceNodes
-mod ElementsTaken
+pub mod ElementsTaken
 mod FirstZeros
-mod Going
+pub mod Going
 mod TextSteps
-mod StringSteps
+pub mod StringSteps
 mod StructSteps
 mod StructReading
-mod Owing
+pub mod Owing

@@ -24,7 +24,7 @@ use Rattle.ndr_decoder_fast.specs.Structs.{with_part, owed_with, pointer_read}
 
 -- ## A pending referent more
 
-none_taken : (ws : List Wanted) → map agreement_of (take 0 (drop 0 ws)) ≡ []
+pub none_taken : (ws : List Wanted) → map agreement_of (take 0 (drop 0 ws)) ≡ []
 none_taken [] = refl
 none_taken (w ∷ ws) = refl
 

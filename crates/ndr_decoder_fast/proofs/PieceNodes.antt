@@ -3,23 +3,11 @@
 use Rattle.std.proofs.Common.{◌≡◌, ◌≤◌, ◌<◌, ℕ, ◌+◌, ◌*◌, zero, suc, List, [], ◌∷◌, length, refl, sym, subst, arith}
 use Rattle.std.specs.Prelude.{◌^◌}
 use Rattle.nd_types.specs.declared.types.Primitive.{Primitive}
-use Rattle.nd_types.specs.declared.types.Primitive.TheVariants.{Boolean, Char, Byte, Small, UnsignedSmall, Short, UnsignedShort, Long, UnsignedLong, Hyper, UnsignedHyper}
 use Rattle.nd_types.specs.Table.{width}
 use Rattle.nd_flat.specs.Records.{gap, place, end_from, widest_from, stride, records_len}
 use Rattle.ndr_decoder_fast.specs.Elements.{HaveRoom}
-
-width_some : (p : Primitive) → 0 < width p
-width_some Boolean = omega arith
-width_some Char = omega arith
-width_some Byte = omega arith
-width_some Small = omega arith
-width_some UnsignedSmall = omega arith
-width_some Short = omega arith
-width_some UnsignedShort = omega arith
-width_some Long = omega arith
-width_some UnsignedLong = omega arith
-width_some Hyper = omega arith
-width_some UnsignedHyper = omega arith
+use Rattle.nd_flat.proofs.RecordLaws.{width_some}
+use Rattle.nd_lemmas.proofs.Numbers.{times_more as left_of}
 
 one_octet : (at g w n e : ℕ) → 0 < w → at + g + w + n ≤ e → at + suc n ≤ e
 one_octet at g w n e h k = omega (arith, h, k)
@@ -35,14 +23,6 @@ octets_at_least at (p ∷ ps) =
 
 product : (n l s e g : ℕ) → 0 + l ≤ e → s ≡ e + g → n * l ≤ n * s → suc n * l ≤ n * s + e
 product n l s e g h k f = let m : suc n * l ≡ l + n * l = omega arith in omega (arith, h, k, f, m)
-
-left_of : (n l s : ℕ) → l ≤ s → n * l ≤ n * s
-left_of zero l s h = let a : zero * l ≡ 0 = omega arith in omega (arith, a)
-left_of (suc n) l s h =
-    let a : suc n * l ≡ l + n * l = omega arith in
-    let b : suc n * s ≡ s + n * s = omega arith in
-    let c : n * l ≤ n * s = left_of n l s h in
-    omega (arith, a, b, c, h)
 
 -- structs have no more numbers than octets
 numbers_few : (ps : List Primitive) (n : ℕ) → n * length ps ≤ records_len ps n

@@ -13,10 +13,7 @@ use Rattle.ndr_decoder_laws.specs.runs.Records.{Slot, slots_len, slot_octets, af
 use Rattle.ndr_decoder_laws.specs.steps.StepItems.{gap_items, item_here}
 use Rattle.ndr_decoder_state.specs.Notes.{ticks}
 use Rattle.ndr_decoder_fast.specs.Elements.{slot_of, slots_of}
-
-ticks_on : (xs ys : List Item) → ticks (xs ++ ys) ≡ ticks xs + ticks ys
-ticks_on [] ys = omega arith
-ticks_on (x ∷ xs) ys = let e : ticks (xs ++ ys) ≡ ticks xs + ticks ys = ticks_on xs ys in omega (arith, e)
+use Rattle.ndr_decoder_fast.proofs.Going.{ticks_on}
 
 none : (k : ℕ) → 0 + k ≡ k
 none k = omega arith

@@ -2,7 +2,6 @@
 -- `g` is how many octets the gap has, `max` the maximum count, `run` the string's run; `s0` is the state before, `s1` the one after.
 use Rattle.std.proofs.Common.{◌≡◌, ◌≤◌, ◌<◌, ◌^◌, ℕ, ◌+◌, ◌-◌, Bool, List, [], ◌∷◌, ◌++◌, length, take, drop, Option, Some, Result, Ok, Err, IsErrAnd, refl, sym, ap, ◌∙◌, subst, arith, pos, zero, suc}
 use Rattle.std.proofs.lemmas.List.{append-nil, take-append-drop, length-take-le, length-drop}
-use Rattle.std.proofs.lemmas.Option.{slice_get_within}
 use Rattle.std.specs.Prelude.{slice_get}
 use Rattle.std.specs.Io.KnownBytes.{Consumes}
 use Rattle.nd_base.specs.declared.octets.Order.{Order}
@@ -31,9 +30,6 @@ use Rattle.ndr_decoder_fast.proofs.Going.{source, far_on}
 
 -- ## What may be taken for granted
 
-pub address_fits : (code : List Instr) (pc : ℕ) (i : Instr) → slice_get code pc ≡ Some i → length code < 2 ^ 32 → pc < 2 ^ 32
-address_fits code pc i there short = let below : pc < length code = slice_get_within code pc i there in omega (arith, below, short)
-
 -- there is room for a node more after a step that added none
 pub few_more : (code : List Instr) (m n : Machine) → IsSafe code (state_of m) → n.builder.nodes ≡ m.builder.nodes → n.count + 1 < 2 ^ 32
 few_more code m n safe same =
@@ -52,7 +48,7 @@ octets_left zero os h = h
 octets_left (suc k) [] h = tt
 octets_left (suc k) (o ∷ os) h = octets_left k os h.1
 
-no_ticks : (h : Home) (at : ℕ) (os : List ℕ) → ticks (gap_items h at os) ≡ 0
+pub no_ticks : (h : Home) (at : ℕ) (os : List ℕ) → ticks (gap_items h at os) ≡ 0
 no_ticks h at [] = refl
 no_ticks h at (o ∷ os) = refl
 

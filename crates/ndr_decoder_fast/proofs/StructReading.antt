@@ -20,7 +20,8 @@ use Rattle.ndr_code.specs.declared.instr.Instr.TheVariants as op
 use Rattle.ndr_code.specs.declared.lists.EnumList.{EnumList}
 use Rattle.ndr_decoder_laws.specs.steps.Steps.{State, with_node, jumped}
 use Rattle.ndr_decoder_laws.specs.runs.Reaching.{Reaches, IsSafe, begins}
-use Rattle.ndr_decoder_laws.proofs.runs.RowSteps.{length_taken, length_left, taken_and_left}
+use Rattle.ndr_decoder_laws.proofs.runs.RowSteps.{length_left}
+use Rattle.std.proofs.lemmas.List.{length-take-le as length_taken, take-append-drop as taken_and_left}
 use Rattle.ndr_decoder_state.specs.Notes.{ticks}
 use Rattle.ndr_decoder_fast.specs.declared.fault.LeapFault.{LeapFault}
 use Rattle.ndr_decoder_fast.specs.declared.fault.LeapFault.TheVariants as leap
@@ -263,6 +264,3 @@ module _ (values : List EnumList) (order : Order) (code : List Instr) (h : Home)
 pub safe_first : {values : List EnumList} {order : Order} {code : List Instr} {h : Home} {s0 : State}
     → ((fetched : List ℕ) (noted : List Item) (s : State) → Reaches values order code h s0 fetched noted s → IsSafe code s) → IsSafe code s0
 safe_first {values} {order} {code} {h} {s0} safe = safe [] [] s0 begins
-
-pub address_short : (code : List Instr) (pc : ℕ) (i : Instr) → slice_get code pc ≡ Some i → length code < 2 ^ 32 → pc < 2 ^ 32
-address_short code pc i there short = let below : pc < length code = slice_get_within code pc i there in omega (arith, below, short)

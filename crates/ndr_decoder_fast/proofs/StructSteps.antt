@@ -2,7 +2,7 @@
 -- `t` is the state of the struct without its frame, `ms` are the members so far and `xs` what is kept of them.
 use Rattle.std.proofs.Common.{◌≡◌, ◌≤◌, ◌⊎◌, inl, inr, ℕ, ◌+◌, List, [], ◌∷◌, ◌++◌, length, Option, Some, None, refl, ap, ap₂, sym, ◌∙◌, subst, arith, append_assoc}
 use Rattle.std.specs.Prelude.{pos, Bool, true, false, if◌then◌else◌, take, drop, slice_get}
-use Rattle.std.proofs.lemmas.List.{append-nil}
+use Rattle.std.proofs.lemmas.List.{append-nil, length-take-le as length_taken, take-append-drop as taken_and_left}
 use Rattle.nd_base.specs.declared.octets.Order.{Order}
 use Rattle.nd_base.specs.declared.TheConstants.{STREAM_LIMIT}
 use Rattle.nd_types.specs.declared.types.Class.{Class}
@@ -27,7 +27,7 @@ use Rattle.ndr_decoder_laws.specs.steps.Steps.{State, goes, number_step, pointer
 use Rattle.ndr_code.specs.Fields.{prim_of, pointer_form, form_of, run_of, gap_of, is_end, field_with, form_run, field_by, field_called, field_of}
 use Rattle.ndr_decoder_laws.specs.steps.StepItems.{gap_items, item_here, step_items}
 use Rattle.ndr_decoder_laws.specs.runs.Reaching.{Reaches, begins, steps_to}
-use Rattle.ndr_decoder_laws.proofs.runs.RowSteps.{length_taken, length_left, taken_and_left}
+use Rattle.ndr_decoder_laws.proofs.runs.RowSteps.{length_left}
 use Rattle.ndr_decoder_laws.proofs.runs.RecordSteps.{front_taken}
 use Rattle.ndr_decoder_state.specs.Notes.{ticks}
 use Rattle.ndr_code.specs.declared.fields.Form.{Form}
@@ -35,6 +35,9 @@ use Rattle.ndr_code.specs.declared.fields.Form.TheVariants as form
 use Rattle.ndr_code.specs.declared.fields.Field.{Field}
 use Rattle.ndr_code.specs.Lengths.{form_width, field_len}
 use Rattle.ndr_decoder_fast.specs.Structs.{is_null, pointer_read, form_read, moved, at_address, field_read, within, IsInside, IsOver}
+use Rattle.nd_lemmas.proofs.Lists.{none_of_none as none_at}
+use Rattle.ndr_decoder_fast.proofs.Going.{ticks_on as ticks_after}
+use Rattle.ndr_decoder_fast.proofs.StringSteps.{no_ticks}
 
 -- ## What is at an address
 
@@ -101,20 +104,6 @@ with_parts to false (Some x) f e = absurd (cc)
 with_parts to false None f e = absurd (cc)
 
 -- ## Octets
-
-none_at : (os : List ℕ) → length os ≡ 0 → os ≡ []
-none_at [] e = refl
-none_at (o ∷ os) e = absurd (omega (arith, e))
-
-no_ticks : (h : Home) (at : ℕ) (gs : List ℕ) → ticks (gap_items h at gs) ≡ 0
-no_ticks h at [] = refl
-no_ticks h at (g ∷ gs) = refl
-
-ticks_after : (xs ys : List Item) → ticks (xs ++ ys) ≡ ticks xs + ticks ys
-ticks_after [] ys = omega arith
-ticks_after (x ∷ xs) ys =
-    let e : ticks (xs ++ ys) ≡ ticks xs + ticks ys = ticks_after xs ys in
-    omega (arith, e)
 
 -- ## A pointer
 

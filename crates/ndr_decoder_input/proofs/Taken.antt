@@ -11,10 +11,6 @@ pub more_taken : (start old new : Option (List ℕ)) (before buf : List ℕ) (n 
     → Consumes start new (before ++ take n buf)
 more_taken start old new before buf n first second = Consumes-trans start old new before (take n buf) first second
 
--- the first of some octets
-pub came_long : (n : ℕ) (os : List ℕ) → n ≤ length os → length (take n os) ≡ n
-came_long n os few = length-take-le n os few
-
 -- the front of a buffer of which a part was replaced, with the first octets of that part
 pub came_behind : (at room n : ℕ) (xs ys : List ℕ) → at ≤ length xs → n ≤ length ys → take (at + n) (put_mid at room xs ys) ≡ take at xs ++ take n ys
 came_behind at room n xs ys within few =

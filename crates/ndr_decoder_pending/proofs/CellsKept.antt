@@ -10,6 +10,7 @@ use Rattle.ndr_decoder_pending.specs.declared.cells.CellEntry.{CellEntry}
 use Rattle.ndr_decoder_pending.specs.declared.cells.CellEntry.TheVariants as entry
 use Rattle.ndr_decoder_pending.specs.declared.cells.Lists.{Lists}
 use Rattle.ndr_decoder_pending.specs.Entries.{HasGrown, HasMore, IsListed, IsPut, IsSound, counts_kept, entry_seen, read_count, said_at}
+use Rattle.nd_lemmas.proofs.Lists.{get_in_front as got_in}
 
 -- room for one cell more changes nothing
 pub none_pushed : (l : Lists) (es : List CellEntry) (i : ℕ) → said_at l (es ++ entry.Unread ∷ []) i ≡ said_at l es i
@@ -67,11 +68,6 @@ put_set es es' new at e w same is = subst (λ (us : List CellEntry). IsPut at e 
 })
 
 -- ## Entries
-
-got_in : {A : Type 0} (xs more : List A) (i : ℕ) → i < length xs → slice_get (xs ++ more) i ≡ slice_get xs i
-got_in [] more i p = absurd (omega (arith, p))
-got_in (x ∷ xs) more zero p = refl
-got_in (x ∷ xs) more (suc i) p = got_in xs more i (omega (arith, p))
 
 got_grown : {A : Type 0} (xs ys more : List A) → ys ≡ xs ++ more → (i : ℕ) → i < length xs → slice_get ys i ≡ slice_get xs i
 got_grown xs ys more g i p = ap (λ zs. slice_get zs i) g ∙ got_in xs more i p

@@ -12,6 +12,8 @@ use Rattle.ndr_decoder_state.specs.declared.machine.Owed as code
 use Rattle.ndr_decoder_state.specs.declared.machine.Wanted.{Wanted}
 use Rattle.ndr_decoder_state.specs.Seen.{agreement_of, owed_of}
 use Rattle.ndr_decoder_pending.specs.Seen.{AreSpans, pending_in}
+use Rattle.nd_lemmas.proofs.Lists.{drop_at as one_before, drop_length}
+use Rattle.std.proofs.Math.Seq.{drop-append_seam as drop_all}
 
 take_in : {X : Type 0} (n : ℕ) (xs ys : List X) → n ≤ length xs → take n (xs ++ ys) ≡ take n xs
 take_in zero xs ys l = refl
@@ -22,15 +24,6 @@ drop_in : {X : Type 0} (n : ℕ) (xs ys : List X) → n ≤ length xs → drop n
 drop_in zero xs ys l = refl
 drop_in (suc n) [] ys l = absurd (omega (arith, l))
 drop_in (suc n) (x ∷ xs) ys l = drop_in n xs ys (omega (arith, l))
-
-drop_length : {X : Type 0} (n : ℕ) (xs : List X) → n ≤ length xs → n + length (drop n xs) ≡ length xs
-drop_length zero xs l = omega arith
-drop_length (suc n) [] l = absurd (omega (arith, l))
-drop_length (suc n) (x ∷ xs) l = let e = drop_length n xs (omega (arith, l)) in omega (arith, e)
-
-drop_all : {X : Type 0} (xs ys : List X) → drop (length xs) (xs ++ ys) ≡ ys
-drop_all [] ys = refl
-drop_all (x ∷ xs) ys = drop_all xs ys
 
 take_twice : {X : Type 0} (n : ℕ) (xs : List X) → take n (take n xs) ≡ take n xs
 take_twice zero xs = refl
@@ -112,12 +105,6 @@ next_within ws ws' us os os' o next n a l e f m g =
     subst (λ us'. AllByRecursion (λ (p : code.Owed). p.from + p.len ≤ length us') os') (sym w)
     (subst (λ ps. AllByRecursion (λ (p : code.Owed). p.from + p.len ≤ length (ws ++ more)) ps) (sym f)
     (all_in (λ (p : code.Owed). p.from + p.len ≤ length (ws ++ more)) os (next ∷ []) (still_within ws more os a) (last, tt)))
-
--- one pointer of a list, and those after it
-pub one_before : {X : Type 0} (xs : List X) (n : ℕ) (x : X) → slice_get xs n ≡ Some x → drop n xs ≡ x ∷ drop (suc n) xs
-one_before [] n x e = cc
-one_before (y ∷ ys) zero x e = ap (λ u. u ∷ ys) (same_Some y x e)
-one_before (y ∷ ys) (suc n) x e = one_before ys n x e
 
 -- what is read at a place that is within
 pub got : {X : Type 0} (xs : List X) (i : ℕ) (x : X) → i < length xs → x ≡ slice_index_or xs i x → slice_get xs i ≡ Some x

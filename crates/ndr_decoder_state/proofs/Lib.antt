@@ -1,4 +1,3 @@
 mod Values
-mod Empty
 mod Frames
 pub mod Outside

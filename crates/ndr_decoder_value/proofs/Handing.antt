@@ -1,6 +1,6 @@
 -- Results that are handed on, and instructions that read nothing.
 -- `o` is what a step comes to, `r` a result, `e` its fault, `s` the state before, `t` the one after, `n` what was noted and counted.
-use Rattle.std.proofs.Common.{◌≡◌, ℕ, ◌+◌, zero, suc, ℤ, Bool, true, false, List, [], ◌∷◌, length, take, Option, Some, None, Result, Ok, Err, refl, sym, ap, ◌∙◌, subst, arith}
+use Rattle.std.proofs.Common.{◌≡◌, ℕ, ◌+◌, zero, suc, ℤ, Bool, true, false, List, [], ◌∷◌, take, Option, Some, None, Result, Ok, Err, refl, subst, arith}
 use Rattle.std.specs.Prelude.{if◌then◌else◌, slice_get}
 use Rattle.std.specs.Ordering.{int_eq}
 use Rattle.nd_base.specs.declared.octets.Order.{Order}
@@ -25,7 +25,7 @@ use Rattle.ndr_decoder_state.specs.declared.fault.Progress.TheVariants as progre
 use Rattle.ndr_decoder_state.specs.declared.machine.Machine.{Machine}
 use Rattle.ndr_decoder_state.specs.Notes.{notes_seen, nothing_noted, Noted, all_noted, ticks}
 use Rattle.ndr_decoder_state.specs.Seen.{state_of, Does, Comes}
-use Rattle.ndr_decoder_value.proofs.Noting.{cell_count}
+use Rattle.ndr_decoder_value.proofs.Noting.{same_cells as same_count}
 
 -- ## A fault that is handed on
 
@@ -94,9 +94,6 @@ check_leaves (frame.Record back first) a field var s =
 check_leaves (frame.Elements left run back) a field var s = refl
 
 -- ## They note nothing
-
-same_count : (m new : Machine) → (state_of new).cells ≡ (state_of m).cells → new.cells ≡ m.cells
-same_count m new e = sym (cell_count new) ∙ ap length e ∙ cell_count m
 
 none_counted : (log : Logged) (n : ℕ) (m new : Machine) → (state_of new).cells ≡ (state_of m).cells → (log ≡ all_noted [] log) × (n + m.cells ≡ n + ticks [] + new.cells)
 none_counted log n m new e = let same : new.cells ≡ m.cells = same_count m new e in (refl, omega (arith, same))

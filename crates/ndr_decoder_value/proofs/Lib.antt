@@ -3,7 +3,7 @@ mod Searches
 mod Pending
 mod Outcomes
 mod Elements
-mod Noting
+pub mod Noting
 mod RowItems
 mod RowStates
 mod Counting

@@ -23,16 +23,13 @@ use Rattle.ndr_decoder_state.specs.declared.fault.DecodeFault.{DecodeFault}
 use Rattle.ndr_decoder_state.specs.declared.fault.DecodeFault.TheVariants as fault
 use Rattle.ndr_decoder_state.specs.Notes.{NotesSeen, notes_seen, all_noted, ticks}
 use Rattle.ndr_decoder_value.specs.Reaching.{IsLogged, IsLoggedPart, Moves, End, EndsWhole, EndsBad, EndsUnread, EndsCutOff, EndsFault}
+use Rattle.ndr_decoder_fast.proofs.Going.{ticks_on}
 
 -- ## Items
 
 pub all_noted_on : (xs ys : List Item) (g : Logged) → all_noted (xs ++ ys) g ≡ all_noted ys (all_noted xs g)
 all_noted_on [] ys g = refl
 all_noted_on (x ∷ xs) ys g = all_noted_on xs ys (noted x g)
-
-pub ticks_on : (xs ys : List Item) → ticks (xs ++ ys) ≡ ticks xs + ticks ys
-ticks_on [] ys = omega arith
-ticks_on (x ∷ xs) ys = let e : ticks (xs ++ ys) ≡ ticks xs + ticks ys = ticks_on xs ys in omega (arith, e)
 
 -- a source over a call
 abbrev pub source : Option (List ℕ) → Option (List ℕ) → Bool → ℕ → ℕ → SourceSeen

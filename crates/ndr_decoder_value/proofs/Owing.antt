@@ -1,6 +1,6 @@
 -- Pointers: the node, the pending referent, and a cell that gets its number.
 -- `s` is a state, `ws` are agreements, `os` pending referents, `b` is what was built.
-use Rattle.std.proofs.Common.{◌≡◌, ◌≤◌, ℕ, ◌+◌, List, [], ◌∷◌, ◌++◌, length, take, drop, map, Option, Some, None, Result, Ok, Err, OnOk, OnErr, refl, sym, ap, ◌∙◌, subst, arith}
+use Rattle.std.proofs.Common.{◌≡◌, ◌≤◌, ℕ, ◌+◌, List, [], ◌∷◌, ◌++◌, length, map, Option, Some, None, Result, Ok, Err, OnOk, OnErr, sym, ap, ◌∙◌, subst, arith}
 use Rattle.std.specs.List.{AllByRecursion}
 use Rattle.std.proofs.lemmas.List.{map-append}
 use Rattle.nd_types.specs.declared.types.Class.{Class}
@@ -16,13 +16,10 @@ use Rattle.ndr_decoder_laws.specs.steps.Steps as steps
 use Rattle.ndr_decoder_laws.specs.steps.Steps.{State, Outcome, goes, with_node, with_fresh, with_names, owing, new_cell, done_after}
 use Rattle.ndr_decoder_state.specs.declared.machine.Owed.{Owed}
 use Rattle.ndr_decoder_state.specs.declared.machine.Wanted.{Wanted}
-use Rattle.ndr_decoder_state.specs.Seen.{owed_of, agreement_of}
+use Rattle.ndr_decoder_state.specs.Seen.{owed_of}
+use Rattle.ndr_decoder_fast.proofs.Owing.{none_taken}
 
 -- ## A pending referent more
-
-none_taken : (ws : List Wanted) → map agreement_of (take 0 (drop 0 ws)) ≡ []
-none_taken [] = refl
-none_taken (w ∷ ws) = refl
 
 -- a referent of a pointer without agreements
 abbrev pub new_owed : Class → TypeId → ℕ → Option CellId → Owed

@@ -1,7 +1,6 @@
 -- A cell that gets its number beside an item: what was noted and counted, and what is outside.
 -- `x` is an item, `s` a state, `log` a log, `n` a number of steps and `k` one of cells; the second of two is what there is afterwards. `b` is what was built.
 use Rattle.std.proofs.Common.{◌≡◌, ◌≤◌, ℕ, ◌+◌, [], ◌∷◌, length, Result, IsErrAnd, refl, sym, ap, ◌∙◌, subst, arith, length-append}
-use Rattle.std.proofs.lemmas.List.{length-map}
 use Rattle.nd_types.specs.declared.types.Class.{Class}
 use Rattle.nd_types.specs.declared.types.TypeId.{TypeId}
 use Rattle.nd_value.specs.Logged.{Logged, noted, ticks_of}
@@ -34,10 +33,6 @@ pub one_with_cell : (x : Item) (log log' : Logged) (n n' k k' : ℕ) → log' �
 one_with_cell x log log' n n' k k' e i c = (e, omega (arith, i, c))
 
 -- ## Cells
-
--- the next cell's number
-pub next_cell : (m : Machine) (n : ℕ) → n ≡ length m.builder.graph.cells + 1 → n ≡ length (state_of m).cells + 1
-next_cell m n e = e ∙ ap (λ (k : ℕ). k + 1) (sym (length-map m.builder.graph.cells (λ c. c.of)))
 
 -- the state with the cell has one more
 pub cells_after : (m : Machine) (class : Class) (to : TypeId) (run : ℕ) → length (done_after 4 (new_cell class to run (state_of m))).cells ≡ m.cells + 1

@@ -1,14 +1,8 @@
 -- Searches through lists, one item further.
-use Rattle.std.proofs.Common.{◌≡◌, ◌≤◌, ℕ, ◌+◌, zero, suc, ℤ, Bool, true, false, List, [], ◌∷◌, length, drop, Option, Some, None, refl, sym, ap, ◌∙◌, arith}
+use Rattle.std.proofs.Common.{◌≡◌, ◌≤◌, ℕ, ◌+◌, ℤ, Bool, true, false, List, length, drop, Option, Some, None, sym, ap, ◌∙◌}
 use Rattle.std.specs.Prelude.{◌||◌, ◌==◌, if◌then◌else◌}
 use Rattle.std.specs.List.{list_any, slice_get}
 use Rattle.std.specs.Ordering.{int_eq}
-use Rattle.std.proofs.lemmas.Bool.{false_from_ne_true}
-use Rattle.std.proofs.lemmas.Bool.Decides.{Decides-int_eq}
-use Rattle.std.proofs.lemmas.Int.{to_z-of_z}
-use Rattle.std.proofs.lemmas.Option.{same_Some}
-use mir.Val.{SFits, of_z, to_z}
-use mir.Syntax.{w128}
 use Rattle.nd_types.specs.declared.types.Primitive.{Primitive}
 use Rattle.nd_types.specs.declared.types.Primitive.TheVariants.{Short}
 use Rattle.nd_grammar.specs.Refusal.{is_enumerator as is_one_of}
@@ -16,24 +10,9 @@ use Rattle.ndr_code.specs.declared.lists.EnumList.{EnumList}
 use Rattle.ndr_code.specs.Lines.{enumerators}
 use Rattle.ndr_decoder_laws.specs.steps.Steps.{form_by}
 use Rattle.ndr_code.specs.Fields.{prim_of}
+use Rattle.nd_lemmas.proofs.Lists.{drop_next as drop-get, drop_past as drop-past}
 
 -- ## Lists from a place on
-
-drop-found : {X : Type 0} (xs : List X) (i : ℕ) (x : X) → slice_get xs i ≡ Some x → drop i xs ≡ x ∷ drop (suc i) xs
-drop-found [] i x e = cc
-drop-found (y ∷ ys) zero x e = ap (λ z. z ∷ ys) (same_Some y x e)
-drop-found (y ∷ ys) (suc i) x e = drop-found ys i x e
-
-pub drop-get : {X : Type 0} (xs : List X) (i : ℕ) (x : X) → slice_get xs i ≡ Some x → drop i xs ≡ x ∷ drop (i + 1) xs
-drop-get xs i x e =
-    let s : suc i ≡ i + 1 = omega arith in
-    drop-found xs i x e ∙ ap (λ j. x ∷ drop j xs) s
-
-pub drop-past : {X : Type 0} (xs : List X) (i : ℕ) → length xs ≤ i → drop i xs ≡ []
-drop-past [] zero h = refl
-drop-past [] (suc i) h = refl
-drop-past (x ∷ xs) zero h = absurd (omega (arith, h))
-drop-past (x ∷ xs) (suc i) h = drop-past xs i (omega (arith, h))
 
 -- ## Enumerated types
 
@@ -66,14 +45,6 @@ pub carrier_none : (es : List EnumList) (t i : ℕ) (p : Primitive) → enumerat
 carrier_none es t i p inv h is = is ∙ ap (λ (o : Option (List ℤ)). (form_by t o).prim) (sym (inv ∙ list_none es t i h))
 
 -- ## Numbers
-
-pub same_number : (y z : ℤ) → SFits w128 z → of_z w128 y ≡ of_z w128 z → int_eq (to_z w128 (of_z w128 y)) z ≡ true
-same_number y z fits e = (Decides-int_eq (to_z w128 (of_z w128 y)) z).1 (ap (to_z w128) e ∙ to_z-of_z w128 z fits)
-
-pub other_number : (y z : ℤ) → SFits w128 y → (of_z w128 y ≡ of_z w128 z → ⊥) → int_eq (to_z w128 (of_z w128 y)) z ≡ false
-other_number y z fits n =
-    false_from_ne_true (int_eq (to_z w128 (of_z w128 y)) z)
-    (λ t. n (ap (of_z w128) (sym (to_z-of_z w128 y fits) ∙ (Decides-int_eq (to_z w128 (of_z w128 y)) z).0 t)))
 
 module _ (z : ℤ) where
   pub any_found : (vs : List ℤ) (i : ℕ) (v : ℤ) → slice_get vs i ≡ Some v → int_eq z v ≡ true → list_any (int_eq z) (drop i vs) ≡ true

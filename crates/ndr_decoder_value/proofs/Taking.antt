@@ -1,8 +1,8 @@
 -- What a turn may take for granted: at the state before it, and of the octets that came.
 -- `m` is the machine before the turn.
-use Rattle.std.proofs.Common.{◌≡◌, ◌<◌, ℕ, ◌+◌, ◌^◌, List, length, Some, sym, ◌∙◌, subst, arith}
+use Rattle.std.proofs.Common.{◌≡◌, ◌<◌, ◌+◌, ◌^◌, List, length, Some, sym, ◌∙◌, subst, arith}
 use Rattle.std.specs.Prelude.{slice_get}
-use Rattle.std.proofs.lemmas.Option.{same_Some, slice_get_within}
+use Rattle.std.proofs.lemmas.Option.{same_Some}
 use Rattle.ndr_code.specs.declared.instr.Instr.{Instr}
 use Rattle.ndr_decoder_laws.specs.steps.Steps.{State, IsInner}
 use Rattle.ndr_decoder_laws.specs.runs.Reaching.{IsSafe}
@@ -12,10 +12,6 @@ use Rattle.ndr_decoder_value.proofs.Noting.{cell_count}
 
 pub inner_here : (code : List Instr) (s : State) (i : Instr) → IsSafe code s → slice_get code s.pc ≡ Some i → IsInner i
 inner_here code s i safe there = subst IsInner (same_Some safe.i i (sym safe.there ∙ there)) safe.inner
-
--- the address is below 2 ^ 32
-pub address_fits : (code : List Instr) (pc : ℕ) (i : Instr) → slice_get code pc ≡ Some i → length code < 2 ^ 32 → pc < 2 ^ 32
-address_fits code pc i there short = let below : pc < length code = slice_get_within code pc i there in omega (arith, below, short)
 
 pub count_fits : (code : List Instr) (m : Machine) → IsSafe code (state_of m) → m.count + 4096 < 2 ^ 32
 count_fits code m safe =

@@ -1,4 +1,4 @@
-mod Begun
+pub mod Begun
 mod Drains
 mod ElementTypes
 mod Giving

@@ -7,9 +7,8 @@ use Rattle.std.proofs.lemmas.List.{take-append-drop, length-append, length-take-
 use Rattle.std.proofs.Math.Seq.{take-append_seam, drop-append_seam}
 use Rattle.nd_base.specs.declared.octets.Order.{Order}
 use Rattle.nd_types.specs.Table.{Table}
-use Rattle.nd_types.specs.Roots.{Root}
 use Rattle.nd_value.specs.declared.value.Graph.{Graph}
-use Rattle.nd_value.specs.Tree.{Tree, trees, items}
+use Rattle.nd_value.specs.Tree.{Tree}
 use Rattle.nd_value.specs.Setting.{Setting, root_list}
 use Rattle.nd_value.specs.Deferral.{before_pipes}
 use Rattle.nd_value.specs.Conforms.{Conforms}
@@ -19,16 +18,14 @@ use Rattle.ndr_drain_laws.specs.parts.Parts.{Spot, Part, spot_after, after_all, 
 use Rattle.ndr_drain.specs.Lines.{line_of, lines}
 use Rattle.ndr_drain.specs.Given.{end_of_root, end_after, ends_after, given_pipes}
 use Rattle.ndr_drain.proofs.Giving.{with_nothing, with_twice}
+use Rattle.nd_grammar.proofs.conforming.StreamConforming.{some_before as few_before}
+use Rattle.nd_value.proofs.SameCells.{back as same_items}
 
 -- ## The roots before the pipes
 
 few_by : (b : Bool) (m n : ℕ) → m ≤ n → (elim b [ true ↦ 0 | false ↦ suc m ]) ≤ suc n
 few_by true m n h = omega arith
 few_by false m n h = omega (arith, h)
-
-pub few_before : (rs : List Root) → before_pipes rs ≤ length rs
-few_before [] = omega arith
-few_before (r ∷ rs) = few_by r.is_pipe (before_pipes rs) (length rs) (few_before rs)
 
 all_empty : (vs : List Tree) → AllByRecursion (λ v. v ≡ empty_pipe) vs → vs ≡ replicate (length vs) empty_pipe
 all_empty [] h = refl
@@ -73,10 +70,6 @@ kept_without w g pipes e k c =
 lines_append : (table : Table) (t : ℕ) (vs us : List Tree) → lines table t (vs ++ us) ≡ lines table t vs ++ lines table t us
 lines_append table t [] us = refl
 lines_append table t (v ∷ vs) us = ap (λ l. line_of table t v ++ l) (lines_append table t vs us) ∙ sym (append_assoc (line_of table t v) (lines table t vs) (lines table t us))
-
-same_items : (vs : List Tree) → items (trees vs) ≡ vs
-same_items [] = refl
-same_items (v ∷ vs) = ap (λ l. v ∷ l) (same_items vs)
 
 -- the first of these ends has taken the lines of elements
 abbrev begun : Setting → ℕ → List Tree → List EndSeen → List EndSeen

@@ -15,7 +15,7 @@ use Rattle.nd_value.specs.Deferral.{before_pipes}
 use Rattle.nd_value.specs.Fitting.{Fitting, setting_beside}
 use Rattle.nd_value.specs.Request.{IsRequestOf}
 use Rattle.nd_value.specs.Setting.{Setting, root_list}
-use Rattle.nd_value.proofs.FewRoots.{item_at}
+use Rattle.nd_lemmas.proofs.Lists.{item_at}
 use Rattle.nd_grammar.specs.decoded.Verdict.{DecodingSeen}
 use Rattle.ndr_drain_reader.specs.Calls.{HasBegun, HasHead}
 use Rattle.ndr_drain_reader.specs.Seen.{IntakeSeen}

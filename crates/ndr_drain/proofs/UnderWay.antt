@@ -2,7 +2,7 @@
 -- `w` is a setting, `s` a spot, `ps` are chunks, `p` is one more, `ends` are ends.
 use Rattle.std.proofs.Common.{◌≡◌, ◌∙◌, ap, sym, refl, subst, ℕ, zero, suc, ◌+◌, ◌-◌, ◌<◌, ◌≤◌, List, [], ◌∷◌, ◌++◌, length, length-append, replicate, Bool, Option, Some, None, true, false, arith}
 use Rattle.std.proofs.Common.{append_assoc}
-use Rattle.std.specs.Prelude.{cond, not, if◌then◌else◌}
+use Rattle.std.specs.Prelude.{if◌then◌else◌}
 use Rattle.std.proofs.lemmas.List.{append-nil}
 use Rattle.std.specs.Io.KnownBytes.{Consumes}
 use Rattle.nd_base.specs.declared.octets.Order.{Order}
@@ -15,7 +15,7 @@ use Rattle.nd_value.specs.Tree.{Tree, trees}
 use Rattle.nd_value.specs.Setting.{Setting, root_list}
 use Rattle.nd_value.specs.Deferral.{before_pipes}
 use Rattle.nd_grammar.specs.Entry.{Entry, end_of, size_at, gap}
-use Rattle.nd_grammar.specs.FewItems.{but_gaps, is_gap}
+use Rattle.nd_grammar.specs.FewItems.{but_gaps}
 use Rattle.nd_grammar.specs.InPlace.{in_place}
 use Rattle.nd_grammar.specs.decoded.Verdict.{DecodingSeen, decoding_seen, HasNoted, with_items}
 use Rattle.ndr_drain_laws.specs.parts.Parts.{Spot, Part, after, spot_after, after_all, octets_of, IsPart, AreParts, elem_at, part_items}
@@ -27,6 +27,8 @@ use Rattle.ndr_drain_reader.specs.Seen.{IntakeSeen, moved_to}
 use Rattle.ndr_drain.specs.Given.{end_of_root, end_after, ends_after, chunk_lines}
 use Rattle.ndr_drain.specs.Turns.{AreNoted, AreOpenFrom, HasPassed, HavePassed, IsStepCause, IsUnderWay, StopsUnderWay}
 use Rattle.ndr_drain.specs.declared.fault.DrainFault.{DrainFault}
+use Rattle.ndr_decoder_laws.proofs.stream.Joined.{gaps_apart as but_gaps_append}
+use Rattle.ndr_drain_laws.proofs.parts.Spelt.{place_after}
 
 -- ## Lists of chunks
 
@@ -60,10 +62,6 @@ items_append w order before s (q ∷ ps) p =
     ∙ sym (append_assoc A B (C ((before ++ q.octets) ++ octets_of ps)))
     ∙ ap (λ l. (A ++ B) ++ C l) (append_assoc before q.octets (octets_of ps))
 
-place_after : (s : Spot) (n : ℕ) (vs : List Tree) → (spot_after s n vs).place ≡ s.place + n
-place_after s n [] = refl
-place_after s n (v ∷ vs) = refl
-
 -- the place after chunks
 pub place_all : (s : Spot) (ps : List Part) → (after_all s ps).place ≡ s.place + length (octets_of ps)
 place_all s [] = omega arith
@@ -83,15 +81,6 @@ noted_twice xs ys g g1 g2 a b = b ∙ ap (with_items ys) a ∙ go g.keeps
         ≡ (let z : Logged = record { keeps = k; items = if k then g.items ++ (xs ++ ys) else g.items } in z)
     go true = ap (λ l. let z : Logged = record { keeps = true; items = l } in z) (append_assoc g.items xs ys)
     go false = refl
-
-pub but_gaps_append : (xs ys : List Item) → length (but_gaps (xs ++ ys)) ≡ length (but_gaps xs) + length (but_gaps ys)
-but_gaps_append [] ys = omega arith
-but_gaps_append (x ∷ xs) ys = go (not (is_gap x.kind)) (but_gaps_append xs ys)
-  where
-    go : (b : Bool) → length (but_gaps (xs ++ ys)) ≡ length (but_gaps xs) + length (but_gaps ys)
-        → length (cond b (x ∷ but_gaps (xs ++ ys)) (but_gaps (xs ++ ys))) ≡ length (cond b (x ∷ but_gaps xs) (but_gaps xs)) + length (but_gaps ys)
-    go true h = omega (arith, h)
-    go false h = h
 
 -- ## Ends
 

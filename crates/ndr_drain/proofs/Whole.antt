@@ -5,7 +5,6 @@ use Rattle.std.proofs.Common.{◌≡◌, ◌∙◌, ap, sym, refl, subst, ℕ, �
 use Rattle.std.proofs.lemmas.List.{append-nil}
 use Rattle.std.specs.Io.KnownBytes.{Consumes}
 use Rattle.nd_base.specs.declared.octets.Order.{Order}
-use Rattle.nd_base.specs.Counts.{Rose}
 use Rattle.nd_base.specs.Over.{SourceSeen}
 use Rattle.nd_value.specs.declared.item.Item.{Item}
 use Rattle.nd_value.specs.declared.value.Graph.{Graph}
@@ -31,7 +30,8 @@ use Rattle.ndr_drain_laws.specs.parts.Parts.{AreParts, AreReadTo, Part, Spot, af
 use Rattle.ndr_drain_laws.specs.joined.Entries.{entries_to, parts_at, parts_items}
 use Rattle.ndr_drain_laws.proofs.joined.Alone.{joined_alone}
 use Rattle.ndr_drain_laws.proofs.joined.Noted.{items_of_all, items_through, named_more}
-use Rattle.ndr_drain_laws.proofs.joined.Stopped.{place_after, refused_chunk, read_through_chunk, read_through_parts}
+use Rattle.ndr_drain_laws.proofs.joined.Stopped.{refused_chunk, read_through_chunk, read_through_parts}
+use Rattle.ndr_drain_laws.proofs.joined.Through.{place_after}
 use Rattle.ndr_pipe.specs.End.{EndSeen, with_octets}
 use Rattle.ndr_pipe.specs.Ends.{FailsAt, change_at}
 use Rattle.ndr_drain_reader.specs.Calls.{HasChunk, HasHead, IsChunkCounted, IsChunkCut, IsChunkRefused, IsChunkUnread, IsHeadCause}
@@ -43,10 +43,9 @@ use Rattle.ndr_drain.specs.Turns.{IsCutAtChunk, IsReadToEnd, StopsUnderWay}
 use Rattle.ndr_drain.specs.declared.fault.DrainFault.{DrainFault}
 use Rattle.ndr_drain.specs.declared.fault.DrainFault.TheVariants as fault
 use Rattle.ndr_drain.proofs.Pipes.{give_pipes, kept_without}
-use Rattle.ndr_drain.proofs.UnderWay.{Consumes-refl, Consumes-trans, noted_none, but_gaps_append, ends_to, items_append, noted_twice, octets_append, over, parts_append, place_all}
-
-rose_earlier : (a b c : ℕ) → a ≤ b → Rose b c → Rose a c
-rose_earlier a b c h r = grind (arith, h, r)
+use Rattle.ndr_drain.proofs.UnderWay.{Consumes-refl, Consumes-trans, noted_none, ends_to, items_append, noted_twice, octets_append, over, parts_append, place_all}
+use Rattle.ndr_decoder_laws.proofs.stream.Joined.{gaps_apart as but_gaps_append}
+use Rattle.nd_base.proofs.Rising.{rose_later as rose_earlier}
 
 module _ (w : Setting) (legal : IsLegalSide w) (b first : IntakeSeen) (l0 l1 l2 : Option (List ℕ)) (e1 e2 : Bool) (f0 f1 f2 : ℕ) (ends last : List EndSeen) (g0 g1 g2 : Logged)
     (n0 n1 n2 : ℕ) (h : HasHead w (over l0 l1 e1 f0 f1) (decoding_seen g0 g1 n0 n1) b first) where

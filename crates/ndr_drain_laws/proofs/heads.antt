@@ -1,3 +1,3 @@
 pub mod Canonical
-pub mod HeadConforming
+pub mod EmptyPipes
 pub mod HeadReads

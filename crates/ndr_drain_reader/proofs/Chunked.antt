@@ -1,6 +1,6 @@
 -- A chunk that was read, and the intake after it.
 -- `i` is the intake before, `o` its operation, `m` the machine that read the chunk, `s` the source over the call, `t` the log and the steps over it.
-use Rattle.std.proofs.Common.{◌≡◌, ◌≤◌, ◌<◌, ◌-◌, ◌*◌, ℕ, ◌+◌, suc, Bool, List, [], ◌∷◌, ◌++◌, length, Option, Some, None, refl, ap, ap₂, sym, ◌∙◌, subst, length-append, arith}
+use Rattle.std.proofs.Common.{◌≡◌, ◌≤◌, ◌<◌, ◌-◌, ◌*◌, ℕ, ◌+◌, suc, Bool, List, [], ◌∷◌, ◌++◌, length, Option, Some, None, refl, ap, ap₂, sym, ◌∙◌, subst, arith}
 use Rattle.std.specs.Io.KnownBytes.{Consumes}
 use Rattle.std.specs.List.{slice_get}
 use Rattle.nd_base.specs.declared.TheConstants.{STREAM_LIMIT}
@@ -30,20 +30,10 @@ use Rattle.ndr_drain_reader.specs.declared.intake.Intake.{Intake}
 use Rattle.ndr_drain_reader.proofs.Headers.{none_noted}
 use Rattle.ndr_drain_reader.proofs.Places.{at_pipe, by_plan, its_elem, side_legal, w}
 use Rattle.ndr_drain_reader.proofs.Taken.{cut_counted}
+use Rattle.nd_grammar.proofs.agreements.EntriesTell.{flat_length as many_nodes}
+use Rattle.nd_value.proofs.SameCells.{back as trees_items}
 
 -- ## Elements that were built
-
-trees_items : (vs : List Tree) → items (trees vs) ≡ vs
-trees_items [] = refl
-trees_items (v ∷ vs) = ap (λ us. v ∷ us) (trees_items vs)
-
-many_nodes : (ts : Trees) → length (flat ts) ≡ node_count ts
-many_nodes none = refl
-many_nodes (more (node l ks) ts) =
-    let a = many_nodes ks in
-    let b = many_nodes ts in
-    let c : length (flat ks ++ flat ts) ≡ length (flat ks) + length (flat ts) = length-append (flat ks) (flat ts) in
-    ap suc (omega (arith, a, b, c))
 
 module _ (elements : List Tree) (m : Machine) (h : HasElements elements m) where
   abbrev pipe : Tree

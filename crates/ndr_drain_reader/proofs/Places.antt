@@ -1,8 +1,8 @@
 -- The pipe that is next, by the plan.
 -- `i` is the intake, `o` its operation.
-use Rattle.std.proofs.Common.{◌≡◌, ◌≤◌, ◌<◌, ◌-◌, ℕ, ◌+◌, zero, suc, List, [], ◌∷◌, length, Some, None, refl, ap, sym, ◌∙◌, subst, arith}
+use Rattle.std.proofs.Common.{◌≡◌, ◌≤◌, ◌<◌, ◌-◌, ℕ, ◌+◌, List, length, Some, None, refl, ap, sym, ◌∙◌, subst, arith}
 use Rattle.std.specs.List.{slice_get}
-use Rattle.std.proofs.lemmas.Option.{same_Some}
+use Rattle.std.proofs.lemmas.Option.{same_Some, slice_get_within as below}
 use Rattle.nd_types.specs.declared.types.Operation.{Operation}
 use Rattle.nd_types.specs.declared.types.Side.{Side}
 use Rattle.nd_types.specs.declared.types.TypeDef.TheVariants as def
@@ -15,7 +15,8 @@ use Rattle.nd_value.specs.Setting.{Setting, root_list}
 use Rattle.nd_grammar.specs.LegalSide.{IsLegalSide}
 use Rattle.nd_grammar.proofs.LegalSides.{laid_out}
 use Rattle.nd_grammar.proofs.reader.ReaderStream.{roots_few}
-use Rattle.nd_grammar.proofs.next.NextStream.{IsPipeRoot, all_at, drop_at}
+use Rattle.nd_grammar.proofs.next.NextStream.{IsPipeRoot, drop_at}
+use Rattle.nd_lemmas.proofs.Lists.{all_at, item_at}
 use Rattle.ndr_code.specs.Code.{place_at}
 use Rattle.ndr_code.specs.declared.lists.PlanLine.TheVariants as line
 use Rattle.ndr_code.specs.declared.plan.Plan.{Plan}
@@ -28,17 +29,6 @@ use Rattle.ndr_drain_laws.specs.reader.PartReader.{type_of_root}
 use Rattle.ndr_drain_reader.specs.Ready.{IsAtPipe, IsReady}
 use Rattle.ndr_drain_reader.specs.Seen.{intake_seen}
 use Rattle.ndr_drain_reader.specs.declared.intake.Intake.{Intake}
-
--- an item of a list at a place below its length
-item_at : {A : Type 0} (xs : List A) (n : ℕ) → n < length xs → (x : A) × (slice_get xs n ≡ Some x)
-item_at [] n l = absurd (omega (arith, l))
-item_at (x ∷ xs) zero l = (x, refl)
-item_at (x ∷ xs) (suc n) l = item_at xs n (omega (arith, l))
-
-below : {A : Type 0} (xs : List A) (n : ℕ) (x : A) → slice_get xs n ≡ Some x → n < length xs
-below [] n x e = cc
-below (y ∷ xs) zero x e = omega arith
-below (y ∷ xs) (suc n) x e = let l : n < length xs = below xs n x e in omega (arith, l)
 
 same_place : (n : ℕ) (side : Side) (u v : List ℕ) (y z : ℕ) → line.Entry n side u y ≡ line.Entry n side v z → y ≡ z
 same_place n side u v y z e = cc

@@ -1,9 +1,7 @@
 -- The elements of a chunk that is read by itself.
 -- `m` is the machine before the chunk, `n` the one after its count, `o` the one at the beginning of its elements, `z` the one at their end; `a` and `d` are what was
 -- seen of the source, and of the log and the steps, over the count, `b` and `notes` over the elements, `s` and `t` over both. `suc k` is the count.
-use Rattle.std.proofs.Common.{◌≡◌, ◌≤◌, ◌<◌, ◌-◌, ◌⊎◌, inl, inr, ℕ, ◌+◌, suc, pos, Bool, true, false, List, [], ◌∷◌, ◌++◌, length, map, Some, None, refl, ap, ap₂, sym, ◌∙◌, subst, append_assoc}
-use Rattle.std.proofs.Common.{length-append, arith}
-use Rattle.std.specs.Prelude.{if◌then◌else◌, not, cond}
+use Rattle.std.proofs.Common.{◌≡◌, ◌≤◌, ◌<◌, ◌-◌, ◌⊎◌, inl, inr, ℕ, ◌+◌, suc, pos, true, List, [], ◌∷◌, ◌++◌, length, map, Some, None, refl, ap, ap₂, sym, ◌∙◌, subst, length-append, arith}
 use Rattle.std.specs.Io.KnownBytes.{Consumes, IsAtEnd}
 use Rattle.std.proofs.KnownBytes.{Consumes-trans}
 use Rattle.std.proofs.lemmas.List.{append-nil, length-map, length-replicate}
@@ -18,7 +16,6 @@ use Rattle.nd_types.specs.declared.types.TypeId.{TypeId}
 use Rattle.nd_value.specs.declared.item.Home.{Home}
 use Rattle.nd_value.specs.declared.item.Home.TheVariants as home
 use Rattle.nd_value.specs.declared.item.Item.{Item}
-use Rattle.nd_value.specs.Logged.{Logged}
 use Rattle.nd_value.specs.Setting.{Setting}
 use Rattle.nd_value.specs.Tree as tree
 use Rattle.nd_value.specs.Tree.{Tree, Trees, Referent, flat, items, more, node, none, trees, trees-items}
@@ -27,7 +24,7 @@ use Rattle.nd_flat.specs.Building.{Building, raised, with_nodes}
 use Rattle.nd_grammar.specs.declared.reason.Reason.{Reason}
 use Rattle.nd_grammar.specs.declared.reason.Reason.TheVariants as reason
 use Rattle.nd_grammar.specs.Entry.{gap}
-use Rattle.nd_grammar.specs.FewItems.{is_gap, but_gaps}
+use Rattle.nd_grammar.specs.FewItems.{but_gaps}
 use Rattle.nd_grammar.specs.LegalSide.{IsLegalSide}
 use Rattle.nd_grammar.specs.Reader.{Read}
 use Rattle.nd_grammar.specs.Stream.{kids_of}
@@ -66,29 +63,13 @@ use Rattle.ndr_drain_laws.specs.reader.Outcomes.{OpensPart, PartCut, PartRefused
 use Rattle.ndr_drain_laws.proofs.reader.Meeting.{elements_begin, elements_cut, elements_pipe, elements_refused, elements_safe, elements_whole}
 use Rattle.ndr_drain_reader.specs.Chunks.{FilledBad, FilledPart, FilledUnread, FilledWhole, FillsNot, HasElements, IsOpened, TookOctets}
 use Rattle.ndr_drain_reader.proofs.Headers.{counted_at, counted_near, gap_is, header_stepped, not_cut, of_count_all, of_gap_all, took_header}
+use Rattle.ndr_decoder_laws.proofs.stream.Joined.{gaps_apart, noted_twice}
 
 -- a count that is not 0
 pub some_is : (n : ℕ) → (n ≡ 0 → ⊥) → n ≡ suc (n - 1)
 some_is n h = omega (arith, h)
 
 -- ## Two calls
-
-gaps_apart : (xs ys : List Item) → length (but_gaps (xs ++ ys)) ≡ length (but_gaps xs) + length (but_gaps ys)
-gaps_apart [] ys = omega arith
-gaps_apart (x ∷ xs) ys = go (not (is_gap x.kind)) (gaps_apart xs ys)
-  where
-    go : (b : Bool) → length (but_gaps (xs ++ ys)) ≡ length (but_gaps xs) + length (but_gaps ys)
-        → length (cond b (x ∷ but_gaps (xs ++ ys)) (but_gaps (xs ++ ys))) ≡ length (cond b (x ∷ but_gaps xs) (but_gaps xs)) + length (but_gaps ys)
-    go true e = omega (arith, e)
-    go false e = e
-
--- a log with items, and others after them
-noted_twice : (xs ys : List Item) (g : Logged) → with_items ys (with_items xs g) ≡ with_items (xs ++ ys) g
-noted_twice xs ys g = go g.keeps
-  where
-    go : (b : Bool) → with_items ys (record { keeps = b; items = if b then g.items ++ xs else g.items }) ≡ record { keeps = b; items = if b then g.items ++ (xs ++ ys) else g.items }
-    go true = ap (λ u. record { keeps = true; items = u }) (append_assoc g.items xs ys)
-    go false = refl
 
 module _ (a b s : SourceSeen) (d e t : DecodingSeen) (f : Follows a b s d e t) where
   taken_twice : (xs ys : List ℕ) → Consumes a.left a.left_now xs → Consumes b.left b.left_now ys → Consumes s.left s.left_now (xs ++ ys)

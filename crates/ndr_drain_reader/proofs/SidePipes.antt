@@ -1,6 +1,6 @@
 -- The lines of a side's roots and pipes, one by one.
 -- `op` is the number of the operation `o`, `number` that of a line, `i` that of a root, `k` that of a pipe.
-use Rattle.std.proofs.Common.{◌≡◌, ◌≤◌, ◌<◌, ℕ, ◌+◌, ◌-◌, zero, suc, Bool, true, false, List, [], ◌∷◌, length, drop, Some, None, refl, ap, sym, ◌∙◌, inl, inr, ◌⊎◌, subst, arith}
+use Rattle.std.proofs.Common.{◌≡◌, ◌≤◌, ◌<◌, ℕ, ◌+◌, ◌-◌, Bool, true, false, List, [], length, drop, Some, None, refl, ap, sym, ◌∙◌, inl, inr, ◌⊎◌, subst, arith}
 use Rattle.std.specs.Prelude.{slice_get, slice_index_or}
 use Rattle.std.proofs.lemmas.Option.{slice_get-get_or, slice_get_past, slice_get_within}
 use Rattle.nd_types.specs.declared.types.Operation.{Operation}
@@ -10,11 +10,11 @@ use Rattle.nd_types.specs.Roots.{Root, roots_of}
 use Rattle.nd_value.specs.Deferral.{before_pipes}
 use Rattle.nd_value.specs.Fitting.{setting_of}
 use Rattle.nd_value.specs.Setting.{Setting}
-use Rattle.nd_value.proofs.FewRoots.{item_at}
+use Rattle.nd_lemmas.proofs.Lists.{item_at, all_at, drop_length}
 use Rattle.nd_grammar.specs.LegalSide.{IsLegalSide}
 use Rattle.nd_grammar.proofs.LegalSides.{interface_side, laid_out}
 use Rattle.nd_grammar.proofs.conforming.StreamConforms.{le_or}
-use Rattle.nd_grammar.proofs.next.NextStream.{IsPipeRoot, all_at}
+use Rattle.nd_grammar.proofs.next.NextStream.{IsPipeRoot}
 use Rattle.nd_grammar.proofs.reader.ReaderStream.{roots_few}
 use Rattle.ndr_code.specs.Code.{place_at, value_roots}
 use Rattle.ndr_code.specs.Lines.{line_at}
@@ -27,19 +27,7 @@ use Rattle.ndr_decode.proofs.PipeLines.{HasLine, no_pipe_line, pipe_line}
 use Rattle.ndr_decode.proofs.RootLines.{HasNextRoot, line_read, line_there, many_values, next_root, none_left}
 use Rattle.ndr_decode.proofs.RootTurns.{setting_by}
 use Rattle.ndr_drain_reader.specs.Pipes.{IsChecksBy}
-
-few_first : (rs : List Root) → before_pipes rs ≤ length rs
-few_first [] = omega arith
-few_first (r ∷ rs) = go r.is_pipe (few_first rs)
-  where
-    go : (b : Bool) → before_pipes rs ≤ length rs → elim b [ true ↦ 0 | false ↦ suc (before_pipes rs) ] ≤ suc (length rs)
-    go true h = omega arith
-    go false h = omega arith
-
-drop_length : {X : Type 0} (n : ℕ) (xs : List X) → n ≤ length xs → n + length (drop n xs) ≡ length xs
-drop_length zero xs h = omega arith
-drop_length (suc n) [] h = absurd (omega (arith, h))
-drop_length (suc n) (x ∷ xs) h = let e = drop_length n xs (omega (arith, h)) in omega (arith, e)
+use Rattle.nd_grammar.proofs.conforming.StreamConforming.{some_before as few_first}
 
 -- so many roots before the pipes were passed, and so many are left
 pub record IsUpTo (plan : Plan) (op : ℕ) (side : Side) (o : Operation) (number : ℕ) : Type 0 where

@@ -36,7 +36,8 @@ use Rattle.ndr_encode.specs.Making.{stream_of, HasStream}
 use Rattle.ndr_encode.specs.declared.work.EncodeFault.{EncodeFault}
 use Rattle.ndr_encode.specs.Work.{WorkSeen, setting, HasLength, IsWorkFor, IsTooLong, chosen_length}
 use Rattle.ndr_encode.proofs.Lengths.{chosen_length as end_of_octets}
-use Rattle.ndr_encode.proofs.Works.{has_length, operation_there}
+use Rattle.ndr_encode.proofs.Works.{has_length}
+use Rattle.nd_grammar.proofs.LegalSides.{operation_there}
 
 -- ## Lists
 

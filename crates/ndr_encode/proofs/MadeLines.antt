@@ -1,6 +1,6 @@
 -- The lines of a plan for the side of a fit, and the instructions at the addresses in them.
 -- `p` is a plan, `f` a fit, `o` its operation, `i` the number of a root, `n` how many roots that are no pipes are left.
-use Rattle.std.proofs.Common.{◌≡◌, ◌<◌, ◌≤◌, ℕ, ◌+◌, zero, suc, Bool, true, false, List, [], ◌∷◌, length, Option, Some, None, refl, ap, sym, ◌∙◌, subst, take, drop, arith}
+use Rattle.std.proofs.Common.{◌≡◌, ◌<◌, ℕ, ◌+◌, zero, suc, Bool, true, false, List, [], ◌∷◌, length, Option, Some, None, refl, ap, sym, ◌∙◌, subst, take, drop, arith}
 use Rattle.std.specs.Prelude.{slice_index_or}
 use Rattle.std.specs.List.{slice_get}
 use Rattle.std.proofs.lemmas.Option.{slice_get_read}
@@ -10,7 +10,7 @@ use Rattle.nd_types.specs.declared.types.Side.{Side}
 use Rattle.nd_types.specs.Roots.{Root}
 use Rattle.nd_types.specs.Table.{type_at}
 use Rattle.nd_types.specs.Walk.{root_name}
-use Rattle.nd_value.proofs.FewRoots.{item_at}
+use Rattle.nd_lemmas.proofs.Lists.{item_at}
 use Rattle.nd_value.specs.Deferral.{before_pipes}
 use Rattle.nd_value.specs.Fitting.{Fitting}
 use Rattle.nd_value.specs.Setting.{Setting, root_list}
@@ -54,15 +54,6 @@ many_first (r ∷ rs) = go r.is_pipe (many_first rs)
 -- how many roots have runs of their own
 many_values : (w : Setting) → length (value_roots (root_list w)) ≡ before_pipes (root_list w)
 many_values w = ap length (values_first w) ∙ many_first (root_list w)
-
--- they are among all roots
-pub few_first : (rs : List Root) → before_pipes rs ≤ length rs
-few_first [] = omega arith
-few_first (r ∷ rs) = go r.is_pipe (few_first rs)
-  where
-    go : (b : Bool) → before_pipes rs ≤ length rs → elim b [ true ↦ 0 | false ↦ suc (before_pipes rs) ] ≤ suc (length rs)
-    go true h = omega arith
-    go false h = omega (arith, h)
 
 -- ## The lines of a side
 

@@ -28,13 +28,10 @@ use Rattle.ndr_encode.specs.declared.search.Search.{Search}
 use Rattle.ndr_encode.specs.Search.{IsNumbered, unmarked, pending_names, ArePipes, IsTaken, CanTake}
 use Rattle.ndr_encode.specs.Making.{stream_of, HasStream, BeginsPipes, PipesTaken}
 use Rattle.ndr_encode.specs.Work.{setting}
-use Rattle.ndr_encode.proofs.MadeLines.{few_first, pipe_line, pipe_line_is, no_checks_line}
+use Rattle.ndr_encode.proofs.MadeLines.{pipe_line, pipe_line_is, no_checks_line}
+use Rattle.nd_grammar.proofs.conforming.StreamConforming.{some_before as few_first}
 use Rattle.ndr_encode.proofs.MadeRoots.{same_operation, as_many}
-use Rattle.ndr_encode.proofs.Searching.{count_more, room_left}
-
-pairs_joined : (ts : List Turn) (t : Turn) → turn_pairs (ts ++ t ∷ []) ≡ turn_pairs ts ++ turn_pair t ∷ []
-pairs_joined [] t = refl
-pairs_joined (x ∷ xs) t = ap (λ u. turn_pair x ∷ u) (pairs_joined xs t)
+use Rattle.ndr_encode.proofs.Searching.{count_more, room_left, pairs_joined}
 
 append_one : (us vs : List (Home × ℕ)) (u : Home × ℕ) → (us ++ u ∷ []) ++ vs ≡ us ++ u ∷ vs
 append_one [] vs u = refl

@@ -22,7 +22,8 @@ use Rattle.ndr_encode.specs.declared.search.Search.{Search}
 use Rattle.ndr_encode.specs.Search.{IsSearched, CanSearch, StillSearched, root_by, CanRoot, RootTaken}
 use Rattle.ndr_encode.specs.Making.{stream_of, HasStream, BeginsRoots, RootsTaken}
 use Rattle.ndr_encode.specs.Work.{setting}
-use Rattle.ndr_encode.proofs.MadeLines.{HasNextRoot, few_first, line_there, next_root, none_are_left}
+use Rattle.ndr_encode.proofs.MadeLines.{HasNextRoot, line_there, next_root, none_are_left}
+use Rattle.nd_grammar.proofs.conforming.StreamConforming.{some_before as few_first}
 
 -- the first instruction of a root's run says which item it is
 item_of : (table : Table) (i t : ℕ) (d : Option TypeDef) → root_by i (Some (instr_by table t d)) ≡ root_item table i t d ∷ []

@@ -1,6 +1,6 @@
 -- The canonical number of a cell, name by name.
 -- `n` is the next number, `seen` are the cells that were named before, `ds` those that are named, `c` is a cell, `e` the last one named.
-use Rattle.std.proofs.Common.{◌≡◌, inl, inr, ◌⊎◌, ℕ, ◌+◌, ◌<◌, ◌≤◌, zero, suc, Bool, true, false, List, [], ◌∷◌, ◌++◌, refl, ap, sym, ◌∙◌, subst, arith}
+use Rattle.std.proofs.Common.{◌≡◌, inl, inr, ◌⊎◌, ℕ, ◌+◌, ◌<◌, ◌≤◌, Bool, true, false, List, [], ◌∷◌, ◌++◌, refl, ap, sym, ◌∙◌, subst, arith}
 use Rattle.std.specs.Prelude.{eqb, cond, set, get_or, length}
 use Rattle.std.proofs.lemmas.Bool.{eq-eqb, eqb-true, eqb-false}
 use Rattle.nd_value.specs.Canon.{has, number_from, canonical_number}
@@ -8,6 +8,8 @@ use Rattle.nd_value.specs.Setting.{Among}
 use Rattle.nd_value.proofs.Apart.{all_append}
 use Rattle.nd_grammar.proofs.written.CanonNumbers.{canon_range}
 use Rattle.ndr_encode.specs.Search.{next_after, AreWithin, IsNumbered}
+use Rattle.nd_lemmas.proofs.Lists.{set_elsewhere as get_other, set_here as get_set}
+use Rattle.std.proofs.lemmas.List.{length-set as set_length}
 
 -- what two names come to
 abbrev by_two : Bool → Bool → ℕ → ℕ → ℕ → ℕ
@@ -102,24 +104,6 @@ next_known n seen (d ∷ ds) c h =
     go false true q k f g = g (inr (ap (λ b. cond b true (has seen c)) q))
     go false false q (inl k) f g = g (inl k)
     go false false q (inr k) f g = g (inr (ap (λ b. cond b true (has seen c)) q ∙ k))
-
--- a list of numbers with one of them set
-get_set : (xs : List ℕ) (i v : ℕ) → i < length xs → get_or (set xs i v) i 0 ≡ v
-get_set [] i v l = absurd (omega (arith, l))
-get_set (x ∷ xs) zero v l = refl
-get_set (x ∷ xs) (suc i) v l = get_set xs i v (omega (arith, l))
-
-get_other : (xs : List ℕ) (i j v : ℕ) → (j ≡ i → ⊥) → get_or (set xs i v) j 0 ≡ get_or xs j 0
-get_other [] i j v n = refl
-get_other (x ∷ xs) zero zero v n = absurd (n refl)
-get_other (x ∷ xs) zero (suc j) v n = refl
-get_other (x ∷ xs) (suc i) zero v n = refl
-get_other (x ∷ xs) (suc i) (suc j) v n = get_other xs i j v (λ e. n (ap suc e))
-
-set_length : (xs : List ℕ) (i v : ℕ) → length (set xs i v) ≡ length xs
-set_length [] i v = refl
-set_length (x ∷ xs) zero v = refl
-set_length (x ∷ xs) (suc i) v = ap suc (set_length xs i v)
 
 all_within : (n : ℕ) (ds : List ℕ) → AreWithin n ds → (d : ℕ) → Among ds d → (0 < d) × (d ≤ n)
 all_within n [] a d m = absurd m

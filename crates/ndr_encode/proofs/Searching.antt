@@ -1,13 +1,13 @@
 -- One home more of a search.
 -- `xs` is what is pending, the next first, `u` is the turn of a home.
-use Rattle.std.proofs.Common.{◌≡◌, inl, inr, ℕ, ◌+◌, ◌*◌, ◌^◌, ◌<◌, ◌≤◌, zero, suc, Bool, true, false, List, [], ◌∷◌, ◌++◌, length, Option, Some, None, refl, ap, ap₂, sym, ◌∙◌, subst, arith}
-use Rattle.std.proofs.Common.{append_assoc, append-nil}
+use Rattle.std.proofs.Common.{◌≡◌, ℕ, ◌+◌, ◌*◌, ◌^◌, ◌<◌, ◌≤◌, zero, suc, Bool, true, false, List, [], ◌∷◌, ◌++◌, length, Option, Some, None, refl, ap, ap₂, sym, ◌∙◌, subst, arith, append_assoc}
+use Rattle.std.proofs.Common.{append-nil}
 use Rattle.std.specs.Prelude.{eqb, cond, get_or, set, take, drop, reverse}
 use Rattle.std.specs.List.{AllByRecursion, slice_get}
 use Rattle.std.proofs.lemmas.Option.{same_Some}
 use Rattle.std.proofs.lemmas.List.{reverse-append, reverse-reverse, length-append}
 use Rattle.std.proofs.lemmas.Grind.{flat_map-append}
-use Rattle.std.proofs.lemmas.Bool.{eqb-true, eqb-false, eq-eqb}
+use Rattle.std.proofs.lemmas.Bool.{eqb-true, eqb-false}
 use Rattle.nd_value.specs.declared.value.Graph.{Graph}
 use Rattle.nd_value.specs.declared.value.CellId.{CellId}
 use Rattle.nd_value.specs.declared.item.Home.{Home}
@@ -33,19 +33,15 @@ use Rattle.ndr_encoder_homes.specs.Counted.{counted_turn, counted_turns, AreCell
 use Rattle.ndr_encode.specs.declared.search.Search.{Search}
 use Rattle.ndr_encoder_structs.specs.Structs.{AreKnown}
 use Rattle.ndr_encode.specs.Search.{AreWithin, IsNumbered, unmarked, unplaced, pending_names, Stream, IsSearchable, IsSearched, IsTaken, CanTake, first_cell, root_by, called_run, direct_run}
+use Rattle.nd_grammar.proofs.written.CanonNumbers.{among_has, has_among}
+use Rattle.nd_lemmas.proofs.Lists.{marked_elsewhere as get_other, marked_here as get_set, marks_length as set_room, same_first as first_of, same_rest as others_of}
+use Rattle.ndr_encoder_laws.proofs.turns.Turns.{due_joined}
 
 -- ## What is pending
 
 -- the last that was kept is the next
 pub pend_popped : (old new : List Named) (d : Named) → old ≡ new ++ d ∷ [] → pending_names old ≡ (d.cell.0, d.run) ∷ pending_names new
 pend_popped old new d e = ap pending_names e ∙ ap names_of (reverse-append new (d ∷ []))
-
--- lists with a first item
-first_of : {A : Type 0} (x y : A) (xs ys : List A) → x ∷ xs ≡ y ∷ ys → x ≡ y
-first_of x y xs ys e = ap (λ l. elim l as (λ _. _) [ [] ↦ x | ◌∷◌ z (zs → h) ↦ z ]) e
-
-others_of : {A : Type 0} (x y : A) (xs ys : List A) → x ∷ xs ≡ y ∷ ys → xs ≡ ys
-others_of x y xs ys e = ap (drop 1) e
 
 names_joined : (xs ys : List Named) → names_of (xs ++ ys) ≡ names_of xs ++ names_of ys
 names_joined [] ys = refl
@@ -60,44 +56,11 @@ pub cells_within : (g : Graph) (xs : List (ℕ × ℕ)) → AreCells g xs → Ar
 cells_within g [] a = tt
 cells_within g (x ∷ xs) a = (a.0, cells_within g xs a.1)
 
-due_joined : (xs ys : List (ℕ × ℕ)) → cells_due (xs ++ ys) ≡ cells_due xs ++ cells_due ys
-due_joined [] ys = refl
-due_joined (x ∷ xs) ys = ap (λ l. cell_due x.0 x.1 ∷ l) (due_joined xs ys)
-
 pub in_marks : (n : ℕ) (g : Graph) (xs : List (ℕ × ℕ)) → n ≡ length g.cells + 1 → AreCells g xs → AllByRecursion (λ x. x.0 < n) xs
 in_marks n g [] e a = tt
 in_marks n g (x ∷ xs) e a = (let h = a.0.1 in omega (arith, e, h), in_marks n g xs e a.1)
 
 -- ## Marks
-
-among_has : (xs : List ℕ) (c : ℕ) → Among xs c → has xs c ≡ true
-among_has [] c m = absurd m
-among_has (x ∷ xs) c (inl e) = ap (λ b. cond b true (has xs c)) (eq-eqb c x e)
-among_has (x ∷ xs) c (inr m) = go (eqb c x) (among_has xs c m)
-  where
-    go : (b : Bool) → has xs c ≡ true → cond b true (has xs c) ≡ true
-    go true h = refl
-    go false h = h
-
-has_among : (xs : List ℕ) (c : ℕ) → has xs c ≡ true → Among xs c
-has_among [] c e = cc
-has_among (x ∷ xs) c e = go (eqb c x) refl e (has_among xs c)
-  where
-    go : (b : Bool) → eqb c x ≡ b → cond b true (has xs c) ≡ true → (has xs c ≡ true → Among xs c) → Among (x ∷ xs) c
-    go true f h r = inl (eqb-true c x f)
-    go false f h r = inr (r h)
-
-get_set : (bs : List Bool) (i : ℕ) → i < length bs → get_or (set bs i true) i false ≡ true
-get_set [] i l = absurd (omega (arith, l))
-get_set (b ∷ bs) zero l = refl
-get_set (b ∷ bs) (suc i) l = get_set bs i (omega (arith, l))
-
-get_other : (bs : List Bool) (i j : ℕ) → (j ≡ i → ⊥) → get_or (set bs i true) j false ≡ get_or bs j false
-get_other [] i j n = refl
-get_other (b ∷ bs) zero zero n = absurd (n refl)
-get_other (b ∷ bs) zero (suc j) n = refl
-get_other (b ∷ bs) (suc i) zero n = refl
-get_other (b ∷ bs) (suc i) (suc j) n = get_other bs i j (λ e. n (ap suc e))
 
 pub marks_more : (bs : List Bool) (stands : List ℕ) (c : ℕ) → c < length bs → ((d : ℕ) → get_or bs d false ≡ has stands d) → (d : ℕ) → get_or (set bs c true) d false ≡ has (c ∷ stands) d
 marks_more bs stands c l m d = go (eqb d c) refl
@@ -113,14 +76,9 @@ fewer_unmarked (false ∷ bs) zero l e = refl
 fewer_unmarked (true ∷ bs) (suc c) l e = fewer_unmarked bs c (omega (arith, l)) e
 fewer_unmarked (false ∷ bs) (suc c) l e = ap suc (fewer_unmarked bs c (omega (arith, l)) e)
 
-pub set_room : (bs : List Bool) (c : ℕ) → length (set bs c true) ≡ length bs
-set_room [] c = refl
-set_room (b ∷ bs) zero = refl
-set_room (b ∷ bs) (suc c) = ap suc (set_room bs c)
-
 -- ## Counts
 
-pairs_joined : (ts : List Turn) (t : Turn) → turn_pairs (ts ++ t ∷ []) ≡ turn_pairs ts ++ turn_pair t ∷ []
+pub pairs_joined : (ts : List Turn) (t : Turn) → turn_pairs (ts ++ t ∷ []) ≡ turn_pairs ts ++ turn_pair t ∷ []
 pairs_joined [] t = refl
 pairs_joined (x ∷ xs) t = ap (λ u. turn_pair x ∷ u) (pairs_joined xs t)
 

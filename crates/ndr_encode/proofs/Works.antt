@@ -1,13 +1,12 @@
 -- What a work is for: the homes of the stream are there, their pieces can be written, and these are the octets that are chosen.
-use Rattle.std.proofs.Common.{◌≡◌, inl, inr, ℕ, zero, suc, List, [], ◌∷◌, ◌++◌, length, get_or, Some, ap, sym, ◌∙◌, subst, append-nil, arith}
-use Rattle.std.specs.List.{AllByRecursion, slice_get}
+use Rattle.std.proofs.Common.{◌≡◌, ℕ, List, [], ◌∷◌, ◌++◌, length, get_or, ap, sym, ◌∙◌, subst, append-nil, arith}
+use Rattle.std.specs.List.{AllByRecursion}
 use Rattle.std.proofs.lemmas.Option.{same_Some}
 use Rattle.nd_base.specs.declared.octets.Order.{Order}
-use Rattle.nd_types.specs.declared.types.Operation.{Operation}
 use Rattle.nd_value.specs.declared.value.Graph.{Graph}
 use Rattle.nd_value.specs.Conforms.{Conforms}
 use Rattle.nd_value.specs.Fitting.{Fitting, IsFit}
-use Rattle.nd_value.specs.Setting.{Setting, Among}
+use Rattle.nd_value.specs.Setting.{Setting}
 use Rattle.nd_grammar.specs.Chosen.{Chosen}
 use Rattle.nd_grammar.specs.LegalSide.{IsLegalSide}
 use Rattle.nd_flat.specs.Building.{HasHome}
@@ -23,11 +22,7 @@ use Rattle.ndr_encoder_homes.specs.Turns.{turn_pairs, written_turns}
 use Rattle.ndr_encoder_homes.proofs.Encoded.{all_there, turns_same, turns_fit}
 use Rattle.ndr_encode.specs.Work.{WorkSeen, setting, HasLength, IsWorkFor, IsChosen}
 use Rattle.ndr_encode.proofs.Lengths.{chosen_length}
-
-pub operation_there : (os : List Operation) (n : ℕ) (o : Operation) → slice_get os n ≡ Some o → Among os o
-operation_there [] n o e = cc
-operation_there (x ∷ os) zero o e = inl (sym (same_Some _ _ e))
-operation_there (x ∷ os) (suc n) o e = inr (operation_there os n o e)
+use Rattle.nd_grammar.proofs.LegalSides.{operation_there}
 
 there_of : (g : Graph) (ts : List Turn) → AllByRecursion (λ u. HasHome g u.0) (turn_pairs ts) → AllByRecursion (λ t. HasHome g t.home) ts
 there_of g [] a = tt

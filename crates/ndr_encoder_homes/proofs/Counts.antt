@@ -1,10 +1,10 @@
 -- The homes of a graph that conforms can be counted, and so can its pipes.
 -- `t` is a type's number, `l` a label, `ks` are its children, `v` is a value, `k` the greatest count of a chunk, `x` a value as a whole, `j` a pipe's place among the pipes.
 use Rattle.std.proofs.Common.{◌≡◌, ℕ, ◌+◌, ◌*◌, ◌^◌, ◌<◌, ◌≤◌, zero, suc, ℤ, Bool, true, false, List, [], ◌∷◌, ◌++◌, length, map, drop, Option, Some, None, refl, ap, ap₂, sym, ◌∙◌, subst, arith}
-use Rattle.std.proofs.Common.{append_assoc, length-append}
-use Rattle.std.specs.Prelude.{◌==◌, not, replicate, flat_map}
+use Rattle.std.proofs.Common.{length-append}
+use Rattle.std.specs.Prelude.{◌==◌, replicate, flat_map}
 use Rattle.std.specs.List.{AllByRecursion, slice_get}
-use Rattle.std.proofs.lemmas.Bool.{and_parts}
+use Rattle.std.proofs.lemmas.Bool.{and_parts, not-true as not_true}
 use Rattle.std.proofs.lemmas.Option.{slice_get_within}
 use Rattle.nd_types.specs.declared.types.TypeDef.{TypeDef}
 use Rattle.nd_types.specs.declared.types.TypeDef.TheVariants as def
@@ -26,11 +26,12 @@ use Rattle.nd_value.specs.Conforms.{Conforms}
 use Rattle.nd_value.proofs.Apart.{all_append}
 use Rattle.nd_value.proofs.NodeFacts.{all_of_list}
 use Rattle.nd_grammar.specs.LegalSide.{IsLegalSide}
-use Rattle.nd_grammar.specs.InPlace.{before_children, counts, tag_entries, hoisted, hoisted_max}
+use Rattle.nd_grammar.specs.InPlace.{before_children, tag_entries, hoisted, hoisted_max}
 use Rattle.nd_grammar.specs.Chosen.{cut_of}
 use Rattle.nd_grammar.proofs.ChosenRepresents.{w_roots, cell_within, none_inside, dues}
 use Rattle.nd_grammar.proofs.LegalSides.{laid_out}
-use Rattle.nd_grammar.proofs.next.NextStream.{IsPipeRoot, FitsPipes, drop_at, all_at}
+use Rattle.nd_grammar.proofs.next.NextStream.{IsPipeRoot, FitsPipes, drop_at}
+use Rattle.nd_lemmas.proofs.Lists.{all_at}
 use Rattle.nd_grammar.proofs.next.Mapped.{in_parts}
 use Rattle.nd_grammar.specs.ReaderState.{IsNoPipe}
 use Rattle.nd_grammar.proofs.conforming.GoodStream.{StandsGood, standing_due, pending_cell, root_good}
@@ -41,32 +42,28 @@ use Rattle.ndr_code.specs.declared.instr.Instr.TheVariants as op
 use Rattle.ndr_code.specs.Code.{whole_at, place_at, pipe_at, code_of, pipe_roots}
 use Rattle.ndr_code.specs.Runs.{IsRunAt}
 use Rattle.ndr_code.proofs.SideRuns.{pipe_run_at}
-use Rattle.ndr_encoder_laws.specs.pieces.Pieces.{Piece, Gap, Figure, gap_pieces, named_cell, piece_names, pieces_end, pieces_names}
+use Rattle.ndr_encoder_laws.specs.pieces.Pieces.{Piece, Gap, Figure, gap_pieces, named_cell, pieces_end, pieces_names}
 use Rattle.ndr_encoder_laws.specs.pieces.Shown.{kinds_pieces, values_pieces, chunks_pieces, pipe_pieces}
 use Rattle.ndr_encoder_laws.specs.pieces.Heads.{standings}
 use Rattle.ndr_encoder_laws.proofs.pieces.Showing.{end_joined}
 use Rattle.ndr_encoder_output.specs.Filling.{FitsPiece}
 use Rattle.ndr_encoder_laws.specs.written.Run.{run}
 use Rattle.ndr_encoder_laws.specs.written.Shaped.{Shaped}
-use Rattle.ndr_encoder_laws.proofs.written.Pipes.{pipe_written}
+use Rattle.ndr_encoder_laws.proofs.written.Pipes.{pipe_written, nodes_of_count as count_few}
 use Rattle.ndr_encoder_laws.specs.shaped.ShapedPipes.{IsShapedPipe}
 use Rattle.ndr_encoder_laws.proofs.shaped.Homes.{homes_shaped, pipes_shaped}
 use Rattle.ndr_encoder_laws.specs.turns.Turned.{STEPS, names_of}
 use Rattle.ndr_encoder_laws.specs.turns.Roots.{home_turns}
-use Rattle.ndr_encoder_laws.proofs.turns.Names.{name_of, names_are}
+use Rattle.ndr_encoder_laws.proofs.turns.Names.{name_of, names_are, counts_names as counts_nameless, names_joined}
 use Rattle.ndr_encoder_laws.specs.chosen.Written.{value_at, turn_pieces, pipe_turns, all_turns}
 use Rattle.ndr_encoder_homes.specs.Counted.{counted_turn, AreCells, IsCounted}
 use Rattle.ndr_encoder_homes.proofs.Fits.{Good, values_good, hoisted_good}
 use Rattle.ndr_encoder_homes.proofs.Sizes.{end_small, values_few, hoisted_few, hoisted_end, chunks_few, cuts_few}
-use Rattle.ndr_encoder_homes.proofs.GoodHomes.{count_few, Home_good, D, steps_good, one_pipe}
+use Rattle.ndr_encoder_homes.proofs.GoodHomes.{Home_good, D, steps_good, one_pipe}
 use Rattle.ndr_encoder_homes.proofs.Maxima.{few_at, values_are, by_run, pipe_same}
 use Rattle.ndr_encoder_homes.proofs.Encoded.{fit_of}
 
 -- ## Names
-
-names_joined : (xs ys : List Piece) → pieces_names (xs ++ ys) ≡ pieces_names xs ++ pieces_names ys
-names_joined [] ys = refl
-names_joined (x ∷ xs) ys = ap (λ l. piece_names x ++ l) (names_joined xs ys) ∙ sym (append_assoc (piece_names x) (pieces_names xs) (pieces_names ys))
 
 after_gap : (n : ℕ) (xs : List Piece) → pieces_names xs ≡ [] → pieces_names (gap_pieces n ++ xs) ≡ []
 after_gap n xs e = names_joined (gap_pieces n) xs ∙ ap₂ (λ u v. u ++ v) (go (n == 1)) e
@@ -74,10 +71,6 @@ after_gap n xs e = names_joined (gap_pieces n) xs ∙ ap₂ (λ u v. u ++ v) (go
     go : (b : Bool) → pieces_names (elim b [ true ↦ [] | false ↦ Gap n ∷ [] ]) ≡ []
     go true = refl
     go false = refl
-
-counts_nameless : (table : Table) (v : Bool) (m o n : ℕ) → pieces_names (kinds_pieces table (counts v m o n)) ≡ []
-counts_nameless table false m o n = refl
-counts_nameless table true m o n = refl
 
 tag_nameless : (table : Table) (d : Option TypeDef) (arms : List Arm) (default : Option Arm) (v : ℤ) → pieces_names (kinds_pieces table (tag_entries d arms default v)) ≡ []
 tag_nameless table (Some (def.Prim p)) arms default v = after_gap (width p) (Figure p v ∷ []) refl
@@ -96,10 +89,6 @@ before_nameless table t (Some (def.Union tag own arms default)) (tree.Union v) k
 before_nameless table t (Some (def.Pointer k to)) (tree.Ptr c) ks e = cc
 before_nameless table t (Some def.Context) (tree.Context x i) ks e = refl
 before_nameless table t _ _ ks e = refl
-
-not_true : (b : Bool) → not b ≡ true → b ≡ false
-not_true true h = cc
-not_true false h = refl
 
 weaker : (P Q : ℕ → Type 0) → ((t : ℕ) → P t → Q t) → (ts : List ℕ) → AllByRecursion P ts → AllByRecursion Q ts
 weaker P Q f [] a = tt

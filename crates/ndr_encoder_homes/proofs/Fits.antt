@@ -3,7 +3,7 @@
 use Rattle.std.proofs.Common.{◌≡◌, ℕ, ◌+◌, ◌^◌, ◌<◌, ◌≤◌, zero, suc, ℤ, Bool, true, false, List, [], ◌∷◌, ◌++◌, length, map, Option, Some, None, refl, arith, max}
 use Rattle.std.specs.Prelude.{◌==◌}
 use Rattle.std.specs.List.{AllByRecursion}
-use Rattle.std.proofs.lemmas.Bool.{and_parts, eqb-true, leb-true, ltb-true}
+use Rattle.std.proofs.lemmas.Bool.{and_parts, eqb-true, leb-true}
 use Rattle.nd_types.specs.declared.TheConstants.{NESTING_LIMIT}
 use Rattle.nd_types.specs.declared.types.TypeDef.{TypeDef}
 use Rattle.nd_types.specs.declared.types.TypeDef.TheVariants as def
@@ -20,15 +20,15 @@ use Rattle.nd_value.specs.declared.value.Graph.{Graph}
 use Rattle.nd_value.specs.Tree as tree
 use Rattle.nd_value.specs.Tree.{Trees, node, none, more, Label, count}
 use Rattle.nd_value.specs.Nodes.{child_types}
-use Rattle.nd_value.specs.Misfit.{has_shape, has_range, has_machine_values, is_within, is_count}
+use Rattle.nd_value.specs.Misfit.{has_shape, has_range, has_machine_values, is_within}
 use Rattle.nd_value.proofs.Apart.{all_append}
 use Rattle.nd_value.proofs.NodeFacts.{IsFit}
 use Rattle.nd_value.proofs.ValueRanges.{range_fits}
 use Rattle.nd_grammar.specs.Entry.{Number}
-use Rattle.nd_grammar.specs.InPlace.{before_children, counts, tag_entries, hoisted, hoisted_max, own_max}
+use Rattle.nd_grammar.specs.InPlace.{before_children, counts, tag_entries, hoisted}
 use Rattle.nd_grammar.proofs.conforming.GoodEntries.{HoldsNoPipe}
 use Rattle.nd_grammar.specs.ReaderState.{IsNoPipe}
-use Rattle.nd_grammar.proofs.written.WritableTrees.{WritableTrees}
+use Rattle.nd_grammar.proofs.written.WritableTrees.{WritableTrees, count_below}
 use Rattle.ndr_encoder_laws.specs.pieces.Pieces.{Piece, Gap, Figure, Raw, Handle, four, gap_pieces}
 use Rattle.ndr_encoder_laws.specs.pieces.Shown.{piece_of, kinds_pieces, values_pieces}
 use Rattle.ndr_encoder_output.specs.Filling.{FitsPiece}
@@ -117,29 +117,6 @@ after_gap n xs h a = all_append Good (gap_pieces n) xs (gap_good n h) a
 -- a count of 32 bits
 pub four_good : (v : ℕ) → v < 2 ^ 32 → Good (four v)
 four_good v h = (search (arith, h), tt)
-
-count_below : (n : ℕ) → is_count n ≡ true → n < 2 ^ 32
-count_below n h = ltb-true n (2 ^ 32) h
-
--- maximum counts are of 32 bits
-own_below : (l : Label) (m : ℕ) → has_machine_values l ≡ true → m < 2 ^ 32 → own_max l m < 2 ^ 32
-own_below (tree.Arr mx o) m h b = count_below mx (and_parts _ _ h).0
-own_below (tree.Text mx os) m h b = count_below mx (and_parts _ _ h).0
-own_below (tree.Num z) m h b = b
-own_below tree.Rec m h b = b
-own_below (tree.Union v) m h b = b
-own_below (tree.Ptr c) m h b = b
-own_below (tree.Context a i) m h b = b
-own_below tree.Pipe m h b = b
-own_below tree.Unread m h b = b
-
-pub max_below : (table : Table) (g : Graph) (types : List ℕ) (m : ℕ) (ts : Trees) → WritableTrees table g types ts → m < 2 ^ 32 → hoisted_max m ts < 2 ^ 32
-max_below table g [] m none a b = b
-max_below table g [] m (more t ts) a b = absurd a
-max_below table g (t ∷ types) m none a b = absurd a
-max_below table g (t ∷ types) m (more (node l ks) ts) a b =
-    max_below table g types (own_max l (hoisted_max 0 ks)) ts a.2
-    (own_below l (hoisted_max 0 ks) a.0.machine (max_below table g (child_types (type_at table t) l ks) 0 ks a.1 (omega arith)))
 
 module _ (table : Table) (operations : List Operation) (legal : IsLegal table operations) (none_inside : HoldsNoPipe table) (g : Graph) where
   counts_good : (v : Bool) (m o n : ℕ) → o < 2 ^ 32 → n < 2 ^ 32 → AllByRecursion Good (kinds_pieces table (counts v m o n))

@@ -1,9 +1,8 @@
 -- The runs of arrays of structs of numbers and pointers, followed step by step.
 -- `left` is how many elements are left of the array in which a run is, each by the run at `by`; it goes on at `on` after them, and at `back` after the array.
-use Rattle.std.proofs.Common.{◌≡◌, inl, inr, ℕ, ◌+◌, ◌*◌, ◌-◌, ◌^◌, ◌≤◌, ◌<◌, zero, suc, true, false, List, [], ◌∷◌, ◌++◌, length, take, Option, Some, None, refl, ap, ap₂, sym, ◌∙◌, subst, arith}
-use Rattle.std.proofs.Common.{append_assoc}
+use Rattle.std.proofs.Common.{◌≡◌, inl, inr, ℕ, ◌+◌, ◌*◌, ◌-◌, ◌^◌, ◌≤◌, ◌<◌, zero, suc, List, [], ◌∷◌, ◌++◌, length, take, Some, None, refl, ap, ap₂, sym, ◌∙◌, subst, arith, append_assoc}
 use Rattle.std.proofs.lemmas.List.{length-take-le}
-use Rattle.std.specs.Prelude.{◌==◌, slice_index_or}
+use Rattle.std.specs.Prelude.{slice_index_or}
 use Rattle.std.specs.List.{slice_get}
 use Rattle.nd_value.specs.Tree.{Flat}
 use Rattle.ndr_code.specs.declared.instr.Instr.{Instr}
@@ -11,34 +10,19 @@ use Rattle.ndr_code.specs.declared.instr.Instr.TheVariants as op
 use Rattle.ndr_encoder_laws.specs.pieces.Pieces.{Piece, Gap, gap_pieces, four}
 use Rattle.ndr_encoder_laws.specs.declared.frames.Frame.{Frame}
 use Rattle.ndr_encoder_laws.specs.declared.frames.Frame.TheVariants as frame
-use Rattle.ndr_encoder_laws.specs.written.Run.{here, later, after, stepped, elements, row_of, row_at, run}
+use Rattle.ndr_encoder_laws.specs.written.Run.{here, later, after, elements, row_of, row_at, run}
 use Rattle.ndr_encoder_structs.specs.declared.members.Member.{Member}
 use Rattle.ndr_encoder_structs.specs.declared.members.StructRun.{StructRun}
 use Rattle.ndr_encoder_structs.specs.Structs.{member_gap, member_piece, member_pieces, members_pieces, members_of, struct_pieces}
 use Rattle.ndr_encoder_homes.specs.Elements.{EndsMember, CallsMember, CallMembers, Begins, IsElementRun, IsArrayRun, elements_pieces, array_pieces}
+use Rattle.nd_lemmas.proofs.Numbers.{times_more as mul_least}
+use Rattle.ndr_encoder_structs.proofs.Following.{gap_there, step_by, step_here, steps_are}
 
 -- ## Steps
-
-step_here : (code : List Instr) (m k n pc : ℕ) (frames : List Frame) (fs : List Flat)
-    → run code m k (suc n) pc frames fs ≡ stepped (run code m k n) code m k pc frames fs (slice_get code pc)
-unfolding run
-step_here code m k n pc frames fs = refl
-
-step_by : (code : List Instr) (m k n pc : ℕ) (frames : List Frame) (fs : List Flat) (i : Option Instr) → slice_get code pc ≡ i
-    → run code m k (suc n) pc frames fs ≡ stepped (run code m k n) code m k pc frames fs i
-step_by code m k n pc frames fs i e = step_here code m k n pc frames fs ∙ ap (stepped (run code m k n) code m k pc frames fs) e
-
--- a number of steps, otherwise written
-steps_are : (code : List Instr) (m k n j pc : ℕ) (frames : List Frame) (fs : List Flat) → n ≡ j → run code m k n pc frames fs ≡ run code m k j pc frames fs
-steps_are code m k n j pc frames fs e = ap (λ i. run code m k i pc frames fs) e
 
 -- an address, otherwise written
 place_is : (code : List Instr) (m k n pc qc : ℕ) (frames : List Frame) (fs : List Flat) → pc ≡ qc → run code m k n pc frames fs ≡ run code m k n qc frames fs
 place_is code m k n pc qc frames fs e = ap (λ i. run code m k n i frames fs) e
-
--- a gap that is not left out
-gap_there : (a : ℕ) → (a == 1) ≡ false → gap_pieces a ≡ Gap a ∷ []
-gap_there a e = ap (λ b. elim b as (λ _. List Piece) [ true ↦ [] | false ↦ Gap a ∷ [] ]) e
 
 -- within an element, in some steps, at most so many, a run goes from an address to another, and writes this over the next nodes, so many of them
 pub record Goes (code : List Instr) (at to most count : ℕ) (written : List Flat → List Piece) : Type 0 where
@@ -181,14 +165,6 @@ module _ (code : List Instr) where
   no_row by_at a at (inr (some, (is, (first, (count, node))))) =
       ap (λ i. row_of i (slice_get code (by_at + 1)) (slice_get code (by_at + 2))) first
       ∙ ap (λ i. row_of (Some (op.Align a)) i (slice_get code (by_at + 2))) node
-
-mul_least : (c a b : ℕ) → a ≤ b → c * a ≤ c * b
-mul_least zero a b h = omega arith
-mul_least (suc c) a b h =
-    let i : c * a ≤ c * b = mul_least c a b h in
-    let x : suc c * a ≡ a + c * a = omega arith in
-    let y : suc c * b ≡ b + c * b = omega arith in
-    omega (arith, i, x, y, h)
 
 pub few_steps : (c l n : ℕ) → c < 2 ^ 32 → l < 2 ^ 8 → 2 ^ 43 ≤ n → 6 + c * (4 + 4 * l) ≤ n
 few_steps c l n h f g =

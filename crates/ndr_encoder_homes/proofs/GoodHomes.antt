@@ -34,17 +34,14 @@ use Rattle.nd_grammar.proofs.next.NextStream.{IsPipeRoot, drop_at}
 use Rattle.nd_grammar.specs.ReaderState.{IsNoPipe}
 use Rattle.nd_grammar.proofs.conforming.GoodStream.{PendingGood, StandsGood, DueGood, standing_due, pending_cell, root_good}
 use Rattle.nd_grammar.proofs.conforming.StreamConforming.{pipe_label as label_is}
-use Rattle.nd_grammar.proofs.written.WritableTrees.{IsWritable, WritableTrees, writable_trees}
+use Rattle.nd_grammar.proofs.written.WritableTrees.{IsWritable, WritableTrees, writable_trees, max_below}
 use Rattle.nd_flat.specs.Building.{HasHome}
 use Rattle.ndr_encoder_laws.specs.pieces.Pieces.{Piece}
 use Rattle.ndr_encoder_laws.specs.pieces.Shown.{shown, kinds_pieces, values_pieces, chunks_pieces, pipe_pieces}
 use Rattle.ndr_encoder_laws.specs.pieces.Heads.{standings, homes_pieces, pipes_pieces, stream_pieces}
 use Rattle.ndr_encoder_laws.proofs.pieces.Showing.{shown_whole}
-use Rattle.ndr_encoder_homes.proofs.Fits.{Good, four_good, max_below, values_good, hoisted_good}
-
-pub count_few : (ks : Trees) → count ks ≤ node_count ks
-count_few none = omega arith
-count_few (more (node l kids) ts) = let a = count_few ts in omega (arith, a)
+use Rattle.ndr_encoder_homes.proofs.Fits.{Good, four_good, values_good, hoisted_good}
+use Rattle.ndr_encoder_laws.proofs.written.Pipes.{nodes_of_count as count_few}
 
 module _ (w : Setting) (side : IsLegalSide w) (g : Graph) (c : Conforms w g) where
   abbrev Node : HomeNode → Type 0

@@ -10,7 +10,7 @@ use Rattle.nd_value.specs.declared.item.Home.{Home}
 use Rattle.nd_value.specs.declared.item.Home.TheVariants as home
 use Rattle.nd_value.specs.Tree as tree
 use Rattle.nd_value.specs.Tree.{Tree, Trees, node, none, more, node_count, Label, Referent, flat}
-use Rattle.nd_value.specs.Setting.{Setting, root_list, root_at, or_unread, cell_at, cell_tree}
+use Rattle.nd_value.specs.Setting.{Setting, root_list, root_at, cell_at}
 use Rattle.nd_value.specs.Deferral.{Step, root_stands, referent_stands, stands_already, Deferral, due_roots, before_pipes, Standing, standing_by, direct, root_type}
 use Rattle.nd_value.specs.Conforms.{Conforms, FewNodes}
 use Rattle.nd_value.proofs.Apart.{all_left, all_right}
@@ -36,16 +36,7 @@ use Rattle.ndr_encoder_laws.specs.turns.Turned.{STEPS}
 use Rattle.ndr_encoder_laws.specs.turns.Roots.{home_turns}
 use Rattle.ndr_encoder_laws.specs.chosen.Written.{value_at, turn_pieces, turns_pieces, pipe_turns, all_turns}
 use Rattle.ndr_encoder_homes.specs.Turns.{max_by, max_of, written_turn, written_turns}
-
-few_of : (vs : List Tree) (i : ℕ) → FewNodes vs → node_count (more (or_unread (slice_get vs i)) none) < 2 ^ 32
-few_of [] i h = omega arith
-few_of (v ∷ vs) zero h = h.0
-few_of (v ∷ vs) (suc i) h = few_of vs i h.1
-
-few_cells : (xs : List Referent) (i : ℕ) → FewNodes (map (λ (c : Referent). c.val) xs) → node_count (more (cell_tree (slice_get xs i)) none) < 2 ^ 32
-few_cells [] i h = omega arith
-few_cells (x ∷ xs) zero h = h.0
-few_cells (x ∷ xs) (suc i) h = few_cells xs i h.1
+use Rattle.ndr_encoder_laws.proofs.chosen.Written.{few_cells, few_of}
 
 -- each home has few nodes
 pub few_at : (g : Graph) → FewNodes (g.roots ++ map (λ (c : Referent). c.val) g.cells) → (h : Home) → node_count (more (value_at g h) none) < 2 ^ 32

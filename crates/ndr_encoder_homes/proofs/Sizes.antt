@@ -17,6 +17,7 @@ use Rattle.nd_grammar.specs.Chosen.{cut_of, cut_within}
 use Rattle.ndr_encoder_laws.specs.pieces.Pieces.{Piece, Gap, Figure, Name, Raw, Handle, gap_pieces, piece_size, pieces_end}
 use Rattle.ndr_encoder_laws.specs.pieces.Shown.{kinds_pieces, values_pieces, chunks_pieces}
 use Rattle.ndr_encoder_homes.proofs.Fits.{Good, width_fits}
+use Rattle.ndr_encoder_laws.proofs.written.Pipes.{nodes_parted}
 
 -- ## Octets
 
@@ -99,11 +100,6 @@ hoisted_end table true (tree.Num z) m n at = refl
 hoisted_end table true _ m n at = refl
 
 -- ## Pipes
-
-nodes_parted : (k : ℕ) (ts : Trees) → node_count ts ≡ node_count (take_trees k ts) + node_count (drop_trees k ts)
-nodes_parted zero ts = omega arith
-nodes_parted (suc k) none = omega arith
-nodes_parted (suc k) (more (node l ks) ts) = let e = nodes_parted k ts in omega (arith, e)
 
 pub chunks_few : (table : Table) (e : ℕ) (cut : List ℕ) (ts : Trees) → length (chunks_pieces table e cut ts) ≤ 2 + 2 * length cut + 4 * node_count ts
 chunks_few table e [] ts = omega arith

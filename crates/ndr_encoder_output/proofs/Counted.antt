@@ -1,5 +1,5 @@
 -- A count stays below its limit.
-use Rattle.std.proofs.Common.{◌≡◌, ℕ, ◌+◌, ◌*◌, ◌<◌, ◌≤◌, ◌^◌, ℤ, Bool, true, false, List, [], ◌∷◌, ◌++◌, length, refl, ap, ap₂, sym, ◌∙◌, subst, arith, append_assoc}
+use Rattle.std.proofs.Common.{◌≡◌, ℕ, ◌+◌, ◌*◌, ◌<◌, ◌≤◌, ◌^◌, ℤ, List, [], ◌∷◌, ◌++◌, length, refl, ap, ap₂, sym, ◌∙◌, subst, arith, append_assoc}
 use Rattle.std.specs.Prelude.{◌==◌}
 use Rattle.nd_base.specs.declared.octets.Order.TheVariants.{Little}
 use Rattle.nd_types.specs.declared.types.Primitive.{Primitive}
@@ -9,10 +9,11 @@ use Rattle.ndr_encoder_laws.proofs.pieces.Showing.{end_joined}
 use Rattle.std.proofs.Math.Facts.{Fits-of_lt}
 use mir.Val.{Fits}
 use mir.Syntax.{w128}
-use Rattle.ndr_encoder_laws.specs.pieces.Pieces.{Piece, Gap, Figure, Raw, four, gap_pieces, number_pieces, row_pieces, piece_size, piece_names, pieces_end, pieces_names}
+use Rattle.ndr_encoder_laws.specs.pieces.Pieces.{Piece, Figure, Raw, four, gap_pieces, number_pieces, row_pieces, piece_size, piece_names, pieces_end, pieces_names}
 use Rattle.ndr_encoder_output.specs.Counting.{CountCan, count_whole}
 use Rattle.ndr_encoder_output.proofs.Rows.{row_end, rest_fits}
 use Rattle.ndr_encoder_output.proofs.Filled.{grows}
+use Rattle.ndr_encoder_laws.proofs.turns.Names.{gap_names}
 
 -- there is room for the first piece
 pub count_room : (at k : ℕ) (p : Piece) (ps : List Piece) → k ≡ piece_size at p → CountCan at (p ∷ ps) → Fits w128 (at + k)
@@ -34,10 +35,6 @@ names_after xs ys e = joined xs ys ∙ ap (λ l. l ++ pieces_names ys) e
     joined : (xs ys : List Piece) → pieces_names (xs ++ ys) ≡ pieces_names xs ++ pieces_names ys
     joined [] ys = refl
     joined (x ∷ xs) ys = ap (λ l. piece_names x ++ l) (joined xs ys) ∙ sym (append_assoc (piece_names x) (pieces_names xs) (pieces_names ys))
-
-gap_names : (b : Bool) (n : ℕ) → pieces_names (elim b [ true ↦ [] | false ↦ Gap n ∷ [] ]) ≡ []
-gap_names true n = refl
-gap_names false n = refl
 
 number_names : (p : Primitive) (z : ℤ) → pieces_names (number_pieces p z) ≡ []
 number_names p z = names_after (gap_pieces (width p)) (Figure p z ∷ []) (gap_names (width p == 1) (width p))

@@ -17,13 +17,9 @@ use Rattle.nd_flat.specs.FlatForm.{row_values}
 use Rattle.ndr_encoder_laws.specs.pieces.Pieces.{Piece, Figure, gap_pieces, number_pieces, row_pieces, pieces_end, pieces_octets}
 use Rattle.ndr_encoder_laws.proofs.pieces.Showing.{end_joined, octets_joined, gap_end, gap_octets}
 use Rattle.ndr_encoder_output.specs.Filling.{FitsPiece, written_all}
+use Rattle.std.proofs.lemmas.List.{take-append-drop as take_drop}
 
 -- ## Octets that are kept as they are written
-
-take_drop : (n : ℕ) (os : List ℕ) → take n os ++ drop n os ≡ os
-take_drop zero os = refl
-take_drop (suc n) [] = refl
-take_drop (suc n) (x ∷ os) = ap (λ l. x ∷ l) (take_drop n os)
 
 take_long : (n m : ℕ) (os : List ℕ) → length os ≡ n + m → length (take n os) ≡ n
 take_long zero m os e = refl

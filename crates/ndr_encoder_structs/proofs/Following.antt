@@ -17,21 +17,21 @@ use Rattle.ndr_encoder_structs.specs.Structs.{member_gap, member_piece, member_p
 use Rattle.ndr_encoder_structs.specs.Structs.{IsStructRun}
 
 -- one step
-step_here : (code : List Instr) (m k n pc : ℕ) (frames : List Frame) (fs : List Flat)
+pub step_here : (code : List Instr) (m k n pc : ℕ) (frames : List Frame) (fs : List Flat)
     → run code m k (suc n) pc frames fs ≡ stepped (run code m k n) code m k pc frames fs (slice_get code pc)
 unfolding run
 step_here code m k n pc frames fs = refl
 
-step_by : (code : List Instr) (m k n pc : ℕ) (frames : List Frame) (fs : List Flat) (i : Option Instr) → slice_get code pc ≡ i
+pub step_by : (code : List Instr) (m k n pc : ℕ) (frames : List Frame) (fs : List Flat) (i : Option Instr) → slice_get code pc ≡ i
     → run code m k (suc n) pc frames fs ≡ stepped (run code m k n) code m k pc frames fs i
 step_by code m k n pc frames fs i e = step_here code m k n pc frames fs ∙ ap (stepped (run code m k n) code m k pc frames fs) e
 
 -- a number of steps, otherwise written
-steps_are : (code : List Instr) (m k n j pc : ℕ) (frames : List Frame) (fs : List Flat) → n ≡ j → run code m k n pc frames fs ≡ run code m k j pc frames fs
+pub steps_are : (code : List Instr) (m k n j pc : ℕ) (frames : List Frame) (fs : List Flat) → n ≡ j → run code m k n pc frames fs ≡ run code m k j pc frames fs
 steps_are code m k n j pc frames fs e = ap (λ i. run code m k i pc frames fs) e
 
 -- a gap that is not left out
-gap_there : (a : ℕ) → (a == 1) ≡ false → gap_pieces a ≡ Gap a ∷ []
+pub gap_there : (a : ℕ) → (a == 1) ≡ false → gap_pieces a ≡ Gap a ∷ []
 gap_there a e = ap (λ b. elim b as (λ _. List Piece) [ true ↦ [] | false ↦ Gap a ∷ [] ]) e
 
 -- ## Members

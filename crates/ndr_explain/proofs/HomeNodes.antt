@@ -2,7 +2,7 @@
 -- `w` is a setting, `g` a graph, `h` a home, `i` the place of a root or a cell, `r` a root, `q` the graph of a request.
 use Rattle.std.proofs.Common.{◌≡◌, ℕ, ◌<◌, ◌≤◌, zero, suc, List, [], ◌∷◌, length, map, Option, None, Some, refl, ap, sym, ◌∙◌, subst, arith}
 use Rattle.std.specs.List.{slice_get}
-use Rattle.std.proofs.lemmas.Option.{same_Some}
+use Rattle.std.proofs.lemmas.Option.{same_Some, slice_get_past as get_past, slice_get_within as got_below}
 use Rattle.nd_types.specs.declared.interface.Interface.{Interface}
 use Rattle.nd_types.specs.declared.types.Operation.{Operation}
 use Rattle.nd_types.specs.Roots.{Root}
@@ -24,26 +24,7 @@ use Rattle.ndr_explain.specs.declared.cursor.Cursor.{Cursor}
 use Rattle.ndr_explain.specs.Explained.{home_paths, home_flats, path_in, label_in, string_shown, context_shown}
 use Rattle.ndr_explain.specs.Cursors.{IsPast, IsBegun, IsSettingOf, Reaches}
 use Rattle.ndr_explain.proofs.Walks.{no_paths, path_later}
-
-get_past : {X : Type 0} (xs : List X) (i : ℕ) → length xs ≤ i → slice_get xs i ≡ None
-get_past [] i h = refl
-get_past (x ∷ xs) zero h = absurd (omega (arith, h))
-get_past (x ∷ xs) (suc i) h = get_past xs i (omega (arith, h))
-
-past_end : {X : Type 0} (xs : List X) (i : ℕ) → slice_get xs i ≡ None → length xs ≤ i
-past_end [] i e = omega arith
-past_end (x ∷ xs) zero e = cc
-past_end (x ∷ xs) (suc i) e = let h = past_end xs i e in omega (arith, h)
-
-get_there : {X : Type 0} (xs : List X) (i : ℕ) → i < length xs → (x : X) × (slice_get xs i ≡ Some x)
-get_there [] i h = absurd (omega (arith, h))
-get_there (x ∷ xs) zero h = (x, refl)
-get_there (x ∷ xs) (suc i) h = get_there xs i (omega (arith, h))
-
-got_below : {X : Type 0} (xs : List X) (i : ℕ) (x : X) → slice_get xs i ≡ Some x → i < length xs
-got_below [] i x e = cc
-got_below (y ∷ xs) zero x e = omega arith
-got_below (y ∷ xs) (suc i) x e = let h = got_below xs i x e in omega (arith, h)
+use Rattle.nd_lemmas.proofs.Lists.{item_at as get_there, past_end}
 
 -- the operation of a fit is there
 pub op_known : (i : Interface) (f : Fitting) (n : ℕ) → n ≡ f.op → f.interface ≡ i → IsFit f → n < length i.operations

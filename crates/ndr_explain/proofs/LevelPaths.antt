@@ -20,6 +20,7 @@ use Rattle.ndr_explain.specs.declared.levels.Level.{Level}
 use Rattle.ndr_explain.specs.declared.levels.Level.TheVariants as level
 use Rattle.ndr_explain.specs.Cursors.{index_paths, level_types, level_paths, child_path, field_path, path_to, types_after, paths_after, inner_types, inner_paths, IsLevelOf, valued_path, armed_paths}
 use Rattle.ndr_explain.specs.Cursors.{union_arm, elem_types, elem_paths, array_element, pipe_element}
+use Rattle.nd_lemmas.proofs.Lists.{drop_past as drop_all}
 
 length_indices : (p : List ℕ) (i n : ℕ) → length (index_paths p i n) ≡ n
 length_indices p i zero = refl
@@ -74,12 +75,6 @@ drop_suc xs n = drop-drop 1 n xs
 drop_map : {X Y : Type 0} (f : X → Y) (xs : List X) → drop 1 (map f xs) ≡ map f (drop 1 xs)
 drop_map f [] = refl
 drop_map f (x ∷ xs) = refl
-
-drop_all : {X : Type 0} (xs : List X) (n : ℕ) → length xs ≤ n → drop n xs ≡ []
-drop_all [] zero h = refl
-drop_all [] (suc n) h = refl
-drop_all (x ∷ xs) zero h = absurd (omega (arith, h))
-drop_all (x ∷ xs) (suc n) h = drop_all xs n (omega (arith, h))
 
 some_dropped : {X : Type 0} (xs : List X) (n : ℕ) → n < length xs → 0 < length (drop n xs)
 some_dropped [] n h = absurd (omega (arith, h))

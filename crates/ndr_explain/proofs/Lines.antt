@@ -8,7 +8,7 @@ use Rattle.nd_value.specs.declared.item.Item.{Item}
 use Rattle.nd_value.specs.declared.item.ItemKind.{ItemKind}
 use Rattle.nd_value.specs.declared.item.ItemKind.TheVariants as kind
 use Rattle.nd_value.specs.Setting.{Setting}
-use Rattle.nd_value.proofs.LocalPass.{drop-get, drop-past}
+use Rattle.nd_lemmas.proofs.Lists.{drop_next as drop-get, drop_past as drop-past}
 use Rattle.text_grammar.specs.Paths.{home_name, node_paths, home_types, home_value}
 use Rattle.nd_value.specs.Tree.{more, none}
 use Rattle.ndr_explain.specs.Explained.{home_paths, path_in, item_rest, item_line, node_shown, explanation}
@@ -20,9 +20,6 @@ two t t1 t2 a b e f = f ∙ ap (λ x. x ++ b) e ∙ append_assoc t a b
 
 pub three : (t t1 t2 t3 a b c : List ℕ) → t1 ≡ t ++ a → t2 ≡ t1 ++ b → t3 ≡ t2 ++ c → t3 ≡ t ++ (a ++ (b ++ c))
 three t t1 t2 t3 a b c e f g = two t t1 t3 a (b ++ c) e (two t1 t2 t3 b c f g)
-
-pub four : (t t1 t2 t3 t4 a b c d : List ℕ) → t1 ≡ t ++ a → t2 ≡ t1 ++ b → t3 ≡ t2 ++ c → t4 ≡ t3 ++ d → t4 ≡ t ++ (a ++ (b ++ (c ++ d)))
-four t t1 t2 t3 t4 a b c d e f g h = two t t1 t4 a (b ++ (c ++ d)) e (three t1 t2 t3 t4 b c d f g h)
 
 -- the home's own value has the home's name
 pub own_path : (w : Setting) (g : Graph) (h : Home) (n : ℕ) → n ≡ 0 → path_in (home_paths w g h) n ≡ home_name w h

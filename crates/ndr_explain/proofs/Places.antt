@@ -14,7 +14,7 @@ use Rattle.nd_value.specs.Tree.{Label, Trees, Flat, node, none, more, count, fla
 use Rattle.nd_flat.specs.FlatForm.{flat_seen}
 use Rattle.text_grammar.specs.Paths.{home_name, node_paths}
 use Rattle.text_printer.specs.Walks.{Begins}
-use Rattle.text_printer.proofs.Walking.{has_next}
+use Rattle.text_printer.proofs.Walking.{has_next, no_kids as none_left}
 use Rattle.ndr_explain.specs.declared.cursor.Cursor.{Cursor}
 use Rattle.ndr_explain.specs.declared.levels.Level.{Level}
 use Rattle.ndr_explain.specs.declared.levels.Levels.{Levels}
@@ -23,7 +23,7 @@ use Rattle.ndr_explain.specs.Explained.{path_in, label_in, string_shown, context
 use Rattle.ndr_explain.specs.Cursors.{level_types, path_to, types_after, paths_after, types_from, paths_from, inner_types, inner_paths, HasChild, IsLevelOf, IsChildLevel, AreLevelsOf, IsAt, IsPast}
 use Rattle.ndr_explain.specs.Cursors.{Reaches, IsFound, IsLast, found_label}
 use Rattle.ndr_explain.proofs.LevelPaths.{path_first}
-use Rattle.ndr_explain.proofs.Walks.{ComesAfter, after_step, no_paths, none_left, path_here, path_later, drop_next, got_first, got_none}
+use Rattle.ndr_explain.proofs.Walks.{ComesAfter, after_step, no_paths, path_here, path_later, drop_next, got_first, got_none}
 
 -- ## The node at which a cursor is
 

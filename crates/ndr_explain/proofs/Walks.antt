@@ -15,19 +15,11 @@ use Rattle.ndr_explain.specs.declared.levels.Level.{Level}
 use Rattle.ndr_explain.specs.Explained.{path_in}
 use Rattle.ndr_explain.specs.Cursors.{inner_types, inner_paths, IsLevelOf, IsChildLevel}
 use Rattle.ndr_explain.proofs.LevelPaths.{same_length}
-
-parted : (k : ℕ) (w : Trees) → joined (take_trees k w) (drop_trees k w) ≡ w
-parted zero w = refl
-parted (suc k) none = refl
-parted (suc k) (more t w) = ap (more t) (parted k w)
+use Rattle.nd_flat.proofs.Forests.{joined-take-drop as parted}
 
 count_joined : (ks us : Trees) → count (joined ks us) ≡ count ks + count us
 count_joined none us = omega arith
 count_joined (more t ks) us = let h = count_joined ks us in omega (arith, h)
-
-pub none_left : (w : Trees) → count w ≡ 0 → w ≡ none
-none_left none e = refl
-none_left (more t w) e = cc
 
 begins_joined : (table : Table) (types T : List ℕ) (ks us : Trees) → count ks ≡ length types → Begins table types ks → Begins table T us → Begins table (types ++ T) (joined ks us)
 begins_joined table [] T none us e b c = c

@@ -1,6 +1,6 @@
 -- What a side, an operation and all operations add to the code and the lines.
 -- `table` are the types, `n` is an operation's number, `o` the operation, `s` a side, `C` and `E` are the code and the lines before.
-use Rattle.std.proofs.Common.{◌≡◌, ◌∙◌, ℕ, zero, suc, ◌+◌, ◌*◌, ◌≤◌, List, [], ◌∷◌, ◌++◌, length, Some, refl, ap, ap₂, sym, take, arith, append_assoc, append-nil, length-append}
+use Rattle.std.proofs.Common.{◌≡◌, ◌∙◌, ℕ, zero, suc, ◌+◌, ◌*◌, ◌≤◌, List, [], ◌∷◌, ◌++◌, length, Some, ap, ap₂, sym, take, arith, append_assoc, append-nil, length-append}
 use Rattle.std.specs.List.{flat_map, enumerate_from, slice_get}
 use Rattle.std.proofs.lemmas.Option.{same_Some}
 use Rattle.std.proofs.lemmas.List.{take_all}
@@ -23,10 +23,7 @@ use Rattle.ndr_plan.specs.Parts.{value_run, value_line, pipe_run, pipe_line, lin
 use Rattle.ndr_plan.specs.declared.side_code.Parts.{Parts}
 use Rattle.ndr_plan.proofs.OwnParams.{roots_own}
 use Rattle.ndr_plan.proofs.Walked.{values_coded, pipes_coded, value_lines, pipe_lines}
-
-threes : (table : Table) (rs : List Root) → length (flat_map (root_run table) rs) ≡ 3 * length rs
-threes table [] = refl
-threes table (r ∷ rs) = length-append (root_run table r) (flat_map (root_run table) rs) ∙ omega (arith, threes table rs)
+use Rattle.ndr_code.proofs.SideRuns.{all_threes as threes}
 
 module _ (table : Table) (operations : List Operation) (n : ℕ) (o : Operation) (s : Side) where
   abbrev named : List NamedRoot

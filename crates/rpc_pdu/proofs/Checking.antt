@@ -1,14 +1,13 @@
 -- What checks of octets say of these octets with other octets after them.
-use Rattle.std.proofs.Common.{◌≡◌, ◌∙◌, ℕ, ◌+◌, ◌-◌, ◌≤◌, ◌<◌, suc, zero, Bool, true, false, ltb, List, [], ◌∷◌, ◌++◌, length, take, drop, Option, Some, None, refl, ap, sym, subst, arith}
-use Rattle.std.proofs.Common.{append_assoc}
+use Rattle.std.proofs.Common.{◌≡◌, ◌∙◌, ℕ, ◌+◌, ◌-◌, ◌≤◌, Bool, true, false, ltb, List, [], ◌∷◌, ◌++◌, length, Option, Some, None, refl, ap, sym, arith}
 use Rattle.std.proofs.lemmas.Bool.Decides.{nat_tests}
 use Rattle.std.proofs.lemmas.List.{length-append}
 use Rattle.rpc_pdu.specs.declared.pdu.Wanted.{Wanted}
 use Rattle.rpc_pdu.specs.declared.pdu.Wanted.TheVariants.{Request, Response}
 use Rattle.rpc_pdu.specs.declared.pdu.PduReason.{PduReason}
 use Rattle.rpc_pdu.specs.declared.pdu.PduReason.TheVariants as why
-use Rattle.rpc_pdu.specs.Fields.{is_last, has_object, fragment_length, header_by, header_length, operation_of, part_length, opening_of}
-use Rattle.rpc_pdu.specs.Checks.{Before, Check, check, first_failing, is_short, common_checks, whole_checks, checks, refusal}
+use Rattle.rpc_pdu.specs.Fields.{is_last, fragment_length, header_by, header_length, opening_of}
+use Rattle.rpc_pdu.specs.Checks.{Before, Check, check, first_failing, common_checks, whole_checks}
 
 abbrev pub Answer : Type 0
 Answer = Option (ℕ × PduReason)
@@ -115,9 +114,6 @@ long_enough n os h = grind (arith, nat_tests)
 
 pub below_or : (a b : ℕ) → ltb a b ≡ false → b ≤ a
 below_or a b h = grind (arith, nat_tests)
-
-pub not_below : (a b : ℕ) → b ≤ a → ltb a b ≡ false
-not_below a b h = grind (arith, nat_tests)
 
 pub common_same : (want : Wanted) (s : Before) (os more : List ℕ) → 16 ≤ length os → common_checks want s (os ++ more) ≡ common_checks want s os
 common_same want s (a0 ∷ a1 ∷ a2 ∷ a3 ∷ a4 ∷ a5 ∷ a6 ∷ a7 ∷ a8 ∷ a9 ∷ a10 ∷ a11 ∷ a12 ∷ a13 ∷ a14 ∷ a15 ∷ os) more h = refl

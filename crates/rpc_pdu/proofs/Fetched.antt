@@ -1,30 +1,26 @@
 -- A fragment that is fetched in three steps: the header that all PDUs have, the rest of the header, the stub data.
-use Rattle.std.proofs.Common.{◌≡◌, ◌∙◌, ℕ, ◌+◌, ◌-◌, ◌*◌, ◌≤◌, ◌<◌, suc, zero, Bool, true, false, eqb, ltb, not, ◌&&◌, List, [], ◌∷◌, ◌++◌, length, take, drop, Option, Some, None, Result}
-use Rattle.std.proofs.Common.{Ok, Err, IfErr, refl, ap, sym, subst, arith, append_assoc, append-nil}
+use Rattle.std.proofs.Common.{◌≡◌, ◌∙◌, ℕ, ◌+◌, ◌-◌, ◌≤◌, ◌<◌, Bool, true, false, ltb, List, [], ◌∷◌, ◌++◌, length, take, drop, Option, Some, None, Result, Ok, Err, IfErr, refl, ap, sym, subst, arith}
+use Rattle.std.proofs.Common.{append_assoc, append-nil}
 use Rattle.std.specs.Result.{IsErrAnd}
-use Rattle.std.proofs.lemmas.Bool.Decides.{nat_tests}
 use Rattle.std.proofs.lemmas.List.{length-append, take_all}
 use lib.Seq.{drop-append_seam}
-use Rattle.std.proofs.KnownBytes.{Consumes-trans, Consumes-nil}
-use Rattle.std.specs.Io.KnownBytes.{Consumes, IsAtEnd}
-use Rattle.nd_base.specs.Over.{SourceSeen, source_seen, HasRisen}
+use Rattle.std.proofs.KnownBytes.{Consumes-trans}
+use Rattle.std.specs.Io.KnownBytes.{Consumes}
+use Rattle.nd_base.specs.Over.{SourceSeen, source_seen}
 use Rattle.nd_base.proofs.Rising.{rose_later}
-use Rattle.nd_base.specs.declared.TheConstants.{STREAM_LIMIT}
 use Rattle.rpc_pdu.specs.declared.pdu.Wanted.{Wanted}
-use Rattle.rpc_pdu.specs.declared.pdu.Wanted.TheVariants.{Request, Response}
 use Rattle.rpc_pdu.specs.declared.pdu.Opening.{Opening}
 use Rattle.rpc_pdu.specs.declared.pdu.PduFault.{PduFault}
 use Rattle.rpc_pdu.specs.declared.pdu.PduFault.TheVariants as fault
 use Rattle.rpc_pdu.specs.declared.pdu.PduReason.{PduReason}
 use Rattle.rpc_pdu.specs.declared.pdu.PduReason.TheVariants as why
 use Rattle.rpc_pdu.specs.declared.header.CommonFields.{CommonFields}
-use Rattle.rpc_pdu.specs.Fields.{short_at, is_last, has_object, order_of, call_id, fragment_length, header_length, header_by, operation_in, operation_of, part_length, part_of, opening_of}
-use Rattle.rpc_pdu.specs.Checks.{Before, before, Check, check, first_failing, is_short, common_checks, whole_by, whole_checks, refusal, after, opened}
-use Rattle.rpc_pdu.specs.Fragments.{IsFragment}
-use Rattle.rpc_pdu.specs.Joined.{HasEnded, IsEnd, IsTaken, IsCut, IsTakeCause, IsSeen, IsBadBy, IsStated, rest_checks, IsWholeFragment, IsBadFragment, IsFragmentCause}
-use Rattle.rpc_pdu.proofs.Checking.{Answer, NotShort, passes, fails, all_pass, one_fails, common_same, header_same, length_same, last_same, whole_same, opening_same, least_header}
-use Rattle.rpc_pdu.proofs.Checking.{most_header, longer, not_below, Pass, each_passes}
-use Rattle.rpc_pdu.proofs.Staying.{end_checks, later_checks, IsThere, is_there}
+use Rattle.rpc_pdu.specs.Fields.{short_at, is_last, has_object, order_of, call_id, fragment_length, header_length, operation_in, operation_of, part_length, part_of, opening_of}
+use Rattle.rpc_pdu.specs.Checks.{Before, before, Check, check, first_failing, common_checks, whole_by, whole_checks, refusal, opened}
+use Rattle.rpc_pdu.specs.Joined.{HasEnded, IsEnd, IsTaken, IsTakeCause, IsSeen, IsBadBy, IsStated, rest_checks, IsWholeFragment, IsBadFragment, IsFragmentCause}
+use Rattle.rpc_pdu.proofs.Checking.{passes, fails, all_pass, one_fails, common_same, header_same, length_same, last_same, whole_same, opening_same, least_header, longer}
+use Rattle.std.proofs.lemmas.Bool.{le-ltb as not_below, lt-ltb as below}
+use Rattle.rpc_pdu.proofs.Staying.{end_checks, later_checks}
 
 -- ## Reasons
 
@@ -80,9 +76,6 @@ end_from left ended faults x y z why.EmptyPiece h = tt
 end_from left ended faults x y z why.StubLong h = tt
 
 -- ## What a part of a fragment says
-
-below : (a b : ℕ) → a < b → ltb a b ≡ true
-below a b h = grind (arith, nat_tests)
 
 -- no octet is lacking of the first 16
 after_16 : (want : Wanted) (b : Before) (head more : List ℕ) → length head ≡ 16 → first_failing (common_checks want b head) ≡ None

@@ -1,25 +1,24 @@
 -- Pieces are the fragments of a call.
-use Rattle.std.proofs.Common.{◌≡◌, ◌∙◌, ℕ, ◌+◌, ◌-◌, ◌^◌, ◌≤◌, ◌<◌, suc, zero, Bool, true, false, leb, ltb, eqb, not, ◌&&◌, List, [], ◌∷◌, ◌++◌, length, take, drop, Option, Some, None, refl}
-use Rattle.std.proofs.Common.{ap, sym, subst, arith, append_assoc}
+use Rattle.std.proofs.Common.{◌≡◌, ◌∙◌, ℕ, ◌+◌, ◌-◌, ◌^◌, ◌≤◌, ◌<◌, suc, zero, Bool, true, false, leb, ltb, eqb, not, ◌&&◌, List, [], ◌∷◌, ◌++◌, length, take, drop, Option, Some, None, refl, ap, sym}
+use Rattle.std.proofs.Common.{subst, arith, append_assoc}
 use Rattle.std.proofs.lemmas.Bool.Decides.{nat_tests}
 use Rattle.std.proofs.lemmas.List.{length-append, length-drop, length-take-le, take-append-drop, take_all}
 use Rattle.nd_base.specs.declared.TheConstants.{STREAM_LIMIT}
 use Rattle.nd_base.specs.declared.octets.Order.{Order}
 use Rattle.nd_base.specs.declared.octets.Order.TheVariants.{Big, Little}
-use Rattle.nd_types.specs.Number.{unsigned, spelling}
 use Rattle.nd_types.proofs.NumberLaws.{unsigned-spelling}
 use Rattle.ndr_prim.specs.Label.{order_of_label}
-use Rattle.rpc_pdu.specs.declared.pdu.Wanted.{Wanted}
 use Rattle.rpc_pdu.specs.declared.pdu.Head.{Head}
 use Rattle.rpc_pdu.specs.declared.pdu.Head.TheVariants as head
 use Rattle.rpc_pdu.specs.declared.pdu.Opening.{Opening}
 use Rattle.rpc_pdu.specs.declared.pdu.PduReason.{PduReason}
-use Rattle.rpc_pdu.specs.Fields.{version, pdu_type, type_of, is_first, is_last, has_object, has, label, order_of, fragment_length, authentication_length, call_id, header_length}
-use Rattle.rpc_pdu.specs.Fields.{operation_of, part_length, part_of, opening_of}
-use Rattle.rpc_pdu.specs.Checks.{Before, Check, check, nothing, after, opened, first_failing, wrong_first, other_order, other_call, other_operation, differ, same_order, checks, refusal, is_refused}
+use Rattle.rpc_pdu.specs.Fields.{version, pdu_type, type_of, is_first, is_last, label, order_of, fragment_length, authentication_length, call_id, header_length, operation_of, part_length, part_of}
+use Rattle.rpc_pdu.specs.Fields.{opening_of}
+use Rattle.rpc_pdu.specs.Checks.{Before, Check, check, nothing, after, opened, first_failing, wrong_first, other_order, other_call, other_operation, differ, checks, is_refused}
 use Rattle.rpc_pdu.specs.Fragments.{IsFragment, AreEarlier, none_earlier, one_more, Fragments}
 use Rattle.rpc_pdu.specs.Pieces.{want_of, opnum_of, HeadFits, flags_for, header, fragment, pieces_from, Pieces}
 use Rattle.rpc_pdu.proofs.Checking.{Pass}
+use Rattle.std.proofs.lemmas.Bool.{le-ltb as not_short}
 
 -- checks that all pass
 by_all : (b : Bool) (p : ℕ) (w : PduReason) (cs : List Check) → b ≡ false → first_failing cs ≡ None → first_failing (check b p w ∷ cs) ≡ None
@@ -95,9 +94,6 @@ header_is o head.Response call hint wide part first last = refl
 
 equal : (n m : ℕ) → n ≡ m → not (eqb n m) ≡ false
 equal n m e = grind (arith, nat_tests)
-
-not_short : (n m : ℕ) → m ≤ n → ltb n m ≡ false
-not_short n m h = grind (arith, nat_tests)
 
 first_right : (first : Bool) (o : Order) (call : ℕ) (opnum : Option ℕ) → wrong_first (opening_when first o call opnum) first ≡ false
 first_right true o call opnum = refl

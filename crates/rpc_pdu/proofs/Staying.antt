@@ -1,15 +1,15 @@
 -- What octets are refused for, they are refused for whatever follows them, and a whole fragment is one whatever follows it.
-use Rattle.std.proofs.Common.{◌≡◌, ◌∙◌, ℕ, ◌+◌, ◌-◌, ◌≤◌, ◌<◌, suc, zero, Bool, true, false, ltb, List, [], ◌∷◌, ◌++◌, length, take, drop, Option, Some, None, refl, ap, sym, subst, arith}
-use Rattle.std.proofs.lemmas.List.{length-append, take-append-le, length-drop, length-take-le, take-append-drop, drop_all}
+use Rattle.std.proofs.Common.{◌≡◌, ◌∙◌, ℕ, ◌+◌, ◌-◌, ◌≤◌, false, ltb, List, [], ◌∷◌, ◌++◌, length, take, drop, Some, None, ap, sym, subst, arith}
+use Rattle.std.proofs.lemmas.List.{take-append-le, length-drop}
 use lib.Seq.{drop-append-le}
 use Rattle.rpc_pdu.specs.declared.pdu.Wanted.{Wanted}
-use Rattle.rpc_pdu.specs.declared.pdu.PduReason.{PduReason}
 use Rattle.rpc_pdu.specs.declared.pdu.PduReason.TheVariants as why
-use Rattle.rpc_pdu.specs.Fields.{is_last, has_object, fragment_length, header_by, header_length, operation_of, part_length, part_of, opening_of}
-use Rattle.rpc_pdu.specs.Checks.{Before, Check, check, first_failing, is_short, common_checks, whole_checks, checks, refusal, after, opened}
+use Rattle.rpc_pdu.specs.Fields.{has_object, fragment_length, header_length, part_of, opening_of}
+use Rattle.rpc_pdu.specs.Checks.{Before, Check, first_failing, is_short, common_checks, whole_checks, refusal, after, opened}
 use Rattle.rpc_pdu.specs.Fragments.{IsFragment}
-use Rattle.rpc_pdu.proofs.Checking.{Answer, NotShort, Pass, each_passes, passes, passed, both_pass, alike_after, group_step, short_step, longer, below_or, not_below, common_same}
-use Rattle.rpc_pdu.proofs.Checking.{header_same, length_same, last_same, whole_same, opening_same, least_header}
+use Rattle.rpc_pdu.proofs.Checking.{Answer, NotShort, Pass, each_passes, passes, passed, both_pass, alike_after, group_step, short_step, longer, below_or, common_same, header_same, length_same}
+use Rattle.rpc_pdu.proofs.Checking.{whole_same, opening_same, least_header}
+use Rattle.std.proofs.lemmas.Bool.{le-ltb as not_below}
 
 abbrev pub end_checks : Before → List ℕ → List Check
 end_checks s os = is_short s (fragment_length os) os ∷ []

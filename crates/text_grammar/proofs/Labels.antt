@@ -1,23 +1,10 @@
 -- The arm that a tag selects, label by label.
-use Rattle.std.proofs.Common.{◌≡◌, ℕ, ◌+◌, ℤ, Bool, true, false, List, drop, Option, Some, ap, sym, ◌∙◌}
+use Rattle.std.proofs.Common.{◌≡◌, ℕ, ◌+◌, ℤ, Bool, true, false, List, drop, Option, Some, ap, ◌∙◌}
 use Rattle.std.specs.List.{slice_get}
 use Rattle.std.specs.Ordering.{int_eq}
-use Rattle.std.proofs.lemmas.Bool.{false_from_ne_true}
-use Rattle.std.proofs.lemmas.Bool.Decides.{Decides-int_eq}
-use Rattle.std.proofs.lemmas.Int.{to_z-of_z}
-use mir.Val.{SFits, of_z, to_z}
-use mir.Syntax.{w128}
 use Rattle.nd_types.specs.declared.types.Arm.{Arm}
 use Rattle.nd_types.specs.Table.{selected, or_else, labelled}
-use Rattle.nd_value.proofs.LocalPass.{drop-get}
-
-pub same_label : (y z : ℤ) → SFits w128 y → of_z w128 y ≡ of_z w128 z → int_eq y (to_z w128 (of_z w128 z)) ≡ true
-same_label y z fits e = (Decides-int_eq y (to_z w128 (of_z w128 z))).1 (sym (to_z-of_z w128 y fits) ∙ ap (to_z w128) e)
-
-pub other_label : (y z : ℤ) → SFits w128 z → (of_z w128 y ≡ of_z w128 z → ⊥) → int_eq y (to_z w128 (of_z w128 z)) ≡ false
-other_label y z fits n =
-    false_from_ne_true (int_eq y (to_z w128 (of_z w128 z)))
-    (λ t. n (ap (of_z w128) ((Decides-int_eq y (to_z w128 (of_z w128 z))).0 t ∙ to_z-of_z w128 z fits)))
+use Rattle.nd_lemmas.proofs.Lists.{drop_next as drop-get}
 
 module _ (default : Option Arm) (tag : ℤ) where
   abbrev rest : Arm → List Arm → Bool → Option Arm

@@ -3,7 +3,7 @@
 use Rattle.std.proofs.Common.{◌≡◌, ◌⊎◌, inl, inr, ℕ, zero, suc, ◌+◌, ◌<◌, ◌≤◌, ◌^◌, Bool, true, false, List, [], ◌∷◌, ◌++◌, length, map, Option, Some, None, refl, ap, sym, ◌∙◌, subst, arith, get_or}
 use Rattle.std.specs.Prelude.{flat_map}
 use Rattle.std.specs.List.{list_all, slice_get, AllByRecursion}
-use Rattle.std.proofs.lemmas.Bool.{and_from, eqb-true, eq-eqb, both_ways, cases_lt}
+use Rattle.std.proofs.lemmas.Bool.{eqb-true, eq-eqb, both_ways, cases_lt}
 use Rattle.std.proofs.lemmas.Option.{same_Some, slice_get-get_or, slice_get_within}
 use Rattle.nd_types.specs.Table.{type_at}
 use Rattle.nd_types.specs.Legal.{has_small_values}
@@ -34,6 +34,7 @@ use Rattle.text_laws.specs.Short.{is_short, HasShortNumbers}
 use Rattle.nd_canonical_laws.proofs.Images.{first_tree, rest_trees, CameFrom, came_from}
 use Rattle.text_laws.proofs.CarriedNodes.{Fine, Stands, nodes_carried}
 use Rattle.text_laws.proofs.NamedBefore.{IsSource, from_root, from_cell, source_of, numbered_lower, is_named}
+use Rattle.nd_lemmas.proofs.Lists.{list_all_from as to_list}
 
 -- ## The first pointer that names a cell
 
@@ -75,10 +76,6 @@ pend_both m (p ∷ ps) (q ∷ qs) ps' qs' a b = (a.0, pend_both m ps qs ps' qs' 
 to_map : {X Y : Type 0} (P : Y → Type 0) (f : X → Y) (xs : List X) → AllByRecursion (λ x. P (f x)) xs → AllByRecursion P (map f xs)
 to_map P f [] a = tt
 to_map P f (x ∷ xs) a = (a.0, to_map P f xs a.1)
-
-to_list : {X : Type 0} (f : X → Bool) (xs : List X) → AllByRecursion (λ x. f x ≡ true) xs → list_all f xs ≡ true
-to_list f [] a = refl
-to_list f (x ∷ xs) a = and_from (f x) (list_all f xs) a.0 (to_list f xs a.1)
 
 trees_count : (ts : List Tree) → count (trees ts) ≡ length ts
 trees_count [] = refl

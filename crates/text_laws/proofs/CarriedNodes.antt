@@ -5,7 +5,7 @@ use Rattle.std.proofs.Common.{subst, arith, lit<, int_le, unsigned_abs}
 use Rattle.std.specs.Ordering.{int_eq}
 use Rattle.std.specs.List.{list_all, list_any, AllByRecursion}
 use Rattle.std.proofs.lemmas.Int.{ints}
-use Rattle.std.proofs.lemmas.Bool.{and_parts, and_from, eqb-true, eq-eqb, lt-ltb}
+use Rattle.std.proofs.lemmas.Bool.{and_parts, and_from, eqb-true, lt-ltb, eq-eqb as count_equal}
 use Rattle.std.proofs.lemmas.Bool.Decides.{nat_tests, Decides-int_eq}
 use Rattle.nd_types.specs.declared.types.TypeDef.{TypeDef}
 use Rattle.nd_types.specs.declared.types.TypeDef.TheVariants as def
@@ -72,9 +72,6 @@ value_short None z small v = cc
 value_short (Some _) z small v = cc
 
 -- ## Forms
-
-count_equal : (a b : ℕ) → a ≡ b → eqb a b ≡ true
-count_equal a b e = eq-eqb a b e
 
 arm_form : (o : Option Arm) (m : ℕ → ℕ) (ks : Trees) → selects o ≡ true → arm_fits o ks ≡ true → eqb (count (renumbered m ks)) (length (selected_types o)) ≡ true
 arm_form None m ks a b = cc

@@ -22,7 +22,7 @@ use Rattle.nd_value.specs.Conforms.{Conforms}
 use Rattle.nd_value.proofs.Apart.{all_append, among_left, among_right}
 use Rattle.nd_value.proofs.DeferralExists.{direct_is, direct_pointer}
 use Rattle.nd_grammar.specs.LegalSide.{IsLegalSide}
-use Rattle.nd_grammar.proofs.written.CanonNumbers.{number_low}
+use Rattle.nd_grammar.proofs.written.CanonNumbers.{number_low, others as later}
 use Rattle.nd_grammar.proofs.conforming.GoodStream.{DueGood, StandsGood, standing_due, root_good, pending_cell}
 use Rattle.nd_grammar.proofs.ChosenRepresents.{none_inside, w_roots, of_named, own_within, dues}
 use Rattle.nd_grammar.proofs.written.WritableTrees.{WritableTrees}
@@ -62,10 +62,6 @@ unseen seen d k apart h = by (eqb k d) refl where
   by : (b : Bool) → eqb k d ≡ b → cond b true (has seen k) ≡ false
   by true e = absurd (apart (eqb-true k d e))
   by false e = h
-
-later : (d : ℕ) (xs : List ℕ) (k : ℕ) → Among (d ∷ xs) k → (k ≡ d → ⊥) → Among xs k
-later d xs k (inl e) apart = absurd (apart e)
-later d xs k (inr m) apart = m
 
 -- a cell that is named among the first has a lower number than one that is named later alone
 lower : (A B : List ℕ) (n : ℕ) (seen : List ℕ) (b k : ℕ) → Among A b → has seen b ≡ false → (Among A k → ⊥) → has seen k ≡ false → Among B k

@@ -31,11 +31,9 @@ use Rattle.text_parser.specs.Passing.{Named, Passes, Halts, AreElements, element
 use Rattle.text_parser.specs.ValueParts.{byte_trees}
 use Rattle.text_parser.proofs.Passages.{passes_one, halts_miss}
 use Rattle.text_parser.proofs.OneMore.{count_trees}
+use Rattle.text_reading_laws.proofs.Real.{hex_small as hex_low}
 
 -- ## Octets
-
-hex_low : (c : ℕ) → is_hex_digit c ≡ true → hex_value c < 16
-hex_low c h = grind (arith, nat_tests, h)
 
 abbrev pub TakesOctets : First → Type 0
 TakesOctets first = (text : List ℕ) (b : ℕ) (after : List ℕ) → first text ≡ Some (b, after) → is_octet b ≡ true

@@ -4,9 +4,7 @@ use Rattle.std.specs.List.{slice_get, list_all, AllByRecursion}
 use Rattle.std.proofs.lemmas.Option.{same_Some}
 use Rattle.std.proofs.lemmas.Bool.{and_parts, ltb-true}
 use Rattle.nd_base.specs.Text.{position_of}
-use Rattle.nd_types.specs.declared.interface.Interface.{Interface}
 use Rattle.nd_types.specs.declared.types.Operation.{Operation}
-use Rattle.nd_types.specs.declared.types.Side.{Side}
 use Rattle.nd_types.specs.Table.{Table}
 use Rattle.nd_types.specs.Roots.{Root}
 use Rattle.nd_types.specs.Legal.{is_in_table}
@@ -14,7 +12,6 @@ use Rattle.nd_types.specs.Walk.{NamedRoot, named_root}
 use Rattle.nd_value.specs.declared.value.Graph.{Graph}
 use Rattle.nd_value.specs.Tree.{Tree, none, more, node_count, Referent}
 use Rattle.nd_value.specs.Setting.{Setting, Among, root_list}
-use Rattle.nd_value.specs.Fitting.{setting_of}
 use Rattle.nd_grammar.specs.LegalSide.{IsLegalSide}
 use Rattle.text_grammar.specs.declared.fault.TextReason.{TextReason}
 use Rattle.text_grammar.specs.declared.fault.TextReason.TheVariants as reason
@@ -26,9 +23,9 @@ use Rattle.text_grammar.specs.Reads.{ReadsAs, IsFault, IsFirstFault, IsTextFault
 use Rattle.text_grammar.specs.Dues.{Reading, nothing_read, may_end}
 use Rattle.text_grammar.specs.Reader.{Ending, Whole, Stopped, ComesTo, goes_on, refused, no_token, ended}
 use Rattle.text_grammar.proofs.Runs.{skip_less}
-use Rattle.text_reading_laws.proofs.OneText.{cut_less}
+use Rattle.text_reading_laws.proofs.OneText.{cut_less, never_both}
 use Rattle.text_reading_laws.proofs.Faults.{legal_roots}
-use Rattle.text_reading_laws.proofs.Stated.{never_both, one_graph, first_fault}
+use Rattle.text_reading_laws.proofs.Stated.{one_graph, first_fault}
 use Rattle.text_lexer.specs.declared.stop.Stop.{Stop}
 use Rattle.text_lexer.specs.declared.stop.Stop.TheVariants as stop
 use Rattle.text_parser.specs.Lines.{Refuses, left_by, fault_by}
@@ -58,15 +55,6 @@ among_at : {X : Type 0} (xs : List X) (n : ℕ) (x : X) → slice_get xs n ≡ S
 among_at [] n x e = cc
 among_at (y ∷ xs) zero x e = inl (sym (same_Some _ _ e))
 among_at (y ∷ xs) (suc n) x e = inr (among_at xs n x e)
-
--- a number below the length is that of an item
-pub item_there : {X : Type 0} (xs : List X) (n : ℕ) → n < length xs → (x : X) × (slice_get xs n ≡ Some x)
-item_there [] n h = absurd (omega (arith, h))
-item_there (x ∷ xs) zero h = (x, refl)
-item_there (x ∷ xs) (suc n) h = item_there xs n (omega (arith, h))
-
-pub legal_side : (i : Interface) (n : ℕ) (o : Operation) (side : Side) → slice_get i.operations n ≡ Some o → IsLegalSide (setting_of i o side)
-legal_side i n o side there = record { operations = i.operations; legal = i.legal; operation = among_at i.operations n o there }
 
 known_at : (table : Table) (o : Operation) (rs : List Root) (n : ℕ) (r : NamedRoot) → list_all (λ (r : Root). is_in_table table r.of) rs ≡ true → slice_get (map (named_root o) rs) n ≡ Some r
     → r.of < length table

@@ -18,6 +18,7 @@ use Rattle.text_lexer.specs.declared.stop.Stop.TheVariants as stop
 use Rattle.text_lexer.specs.Lexemes.{plain, for_uuid, Comes, other_reason}
 use Rattle.text_lexer.specs.Misses.{MissesUuid}
 use Rattle.text_parser.specs.Identifiers.{fits_place, IsUuid, is_id}
+use Rattle.text_reading_laws.proofs.Real.{hex_small as hex_low}
 
 -- ## The form
 
@@ -38,13 +39,6 @@ module _ (whole text : List ℕ) where
   form_step (place ∷ places) (octet ∷ after) h k fits f =
       subst (λ (l : List ℕ). FormCame whole text l (take (length (octet ∷ after) - 1) after)) (sym (take_all (length (place ∷ places) - 1) places (omega arith)))
       (subst (λ (l : List ℕ). FormCame whole text places l) (sym (take_all (length (octet ∷ after) - 1) after (omega arith))) (form_next place places octet after fits f))
-
--- octets of a form are as many as its places
-pub form_long : (form s : List ℕ) → has_form form s ≡ true → length s ≡ length form
-form_long [] [] h = refl
-form_long [] (c ∷ cs) h = cc
-form_long (place ∷ form) [] h = cc
-form_long (place ∷ form) (c ∷ cs) h = ap suc (form_long form cs (and_parts (cond (eqb place 45) (eqb c 45) (is_hex_digit c)) (has_form form cs) h).1)
 
 -- ## Digits
 
@@ -80,9 +74,6 @@ form_digits (place ∷ form) (c ∷ cs) h =
         (ap (list_all is_hex_digit) kept ∙ and_from (is_hex_digit c) (list_all is_hex_digit (filter is_no_hyphen cs)) k r.0, ap length kept ∙ ap suc r.1 ∙ sym (ap length form_kept))
 
 -- ## Octets
-
-hex_low : (c : ℕ) → is_hex_digit c ≡ true → hex_value c < 16
-hex_low c h = grind (arith, nat_tests, h)
 
 pub pair_taken : (rest : List ℕ) (b : ℕ) (after : List ℕ) → hex_pair rest ≡ Some (b, after) → list_all is_hex_digit rest ≡ true
     → (hex_octets rest ≡ b ∷ hex_octets after) × (list_all is_hex_digit after ≡ true)

@@ -1,7 +1,7 @@
 -- Nodes with their numbers and paths.
 -- `m` and `n` are numbers of nodes, `p` and `q` paths, `v` is a value, `vs` are values.
-use Rattle.std.proofs.Common.{◌≡◌, ℕ, ◌+◌, ◌<◌, ◌≤◌, ◌⊎◌, inl, inr, zero, suc, ℤ, List, [], ◌∷◌, ◌++◌, length, map, take, replicate, Option, None, Some, refl, ap, ap₂, sym, ◌∙◌, subst, append-nil}
-use Rattle.std.proofs.Common.{add-zero, arith}
+use Rattle.std.proofs.Common.{◌≡◌, ℕ, ◌+◌, ◌<◌, ◌≤◌, ◌⊎◌, inl, inr, zero, suc, ℤ, List, [], ◌∷◌, ◌++◌, map, take, replicate, Option, None, Some, refl, ap, ap₂, sym, ◌∙◌, subst, append-nil, add-zero}
+use Rattle.std.proofs.Common.{arith}
 use Rattle.std.specs.List.{slice_get}
 use Rattle.std.proofs.lemmas.Option.{same_Some}
 use Rattle.nd_types.specs.declared.types.Arm.{Arm}
@@ -278,11 +278,6 @@ step_on table t n t' n' p p' v v' k e s q h = s.0 q (subst (λ (m : ℕ). HasPat
 
 pub step_ends : (table : Table) (t n : ℕ) (p p' : List ℕ) (v : Tree) (k : ℕ) → n ≡ suc k → IsStep table t v k p p' None → (q : List ℕ) → HasPath table t p v n q → ⊥
 step_ends table t n p p' v k e s q h = s q (subst (λ (m : ℕ). HasPath table t p v m q) e h)
-
-pub get_past : {X : Type 0} (xs : List X) (i : ℕ) → length xs ≤ i → slice_get xs i ≡ None
-get_past [] i h = refl
-get_past (x ∷ xs) zero h = absurd (omega (arith, h))
-get_past (x ∷ xs) (suc i) h = get_past xs i (omega (arith, h))
 
 -- ## Steps to members and arms
 

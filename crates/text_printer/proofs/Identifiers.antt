@@ -17,9 +17,3 @@ pub five : (t t1 t2 t3 t4 t5 a b c d e : List ℕ) → t1 ≡ t ++ a → t2 ≡ 
 five t t1 t2 t3 t4 t5 a b c d e h1 h2 h3 h4 h5 =
     h5 ∙ ap (λ x. x ++ e) h4 ∙ append_assoc t3 d e ∙ ap (λ x. x ++ (d ++ e)) h3 ∙ append_assoc t2 c (d ++ e) ∙ ap (λ x. x ++ (c ++ (d ++ e))) h2
     ∙ append_assoc t1 b (c ++ (d ++ e)) ∙ ap (λ x. x ++ (b ++ (c ++ (d ++ e)))) h1 ∙ append_assoc t a (b ++ (c ++ (d ++ e)))
-
--- four pieces after a text
-pub four : (t t1 t2 t3 t4 a b c d : List ℕ) → t1 ≡ t ++ a → t2 ≡ t1 ++ b → t3 ≡ t2 ++ c → t4 ≡ t3 ++ d → t4 ≡ t ++ (a ++ (b ++ (c ++ d)))
-four t t1 t2 t3 t4 a b c d h1 h2 h3 h4 =
-    h4 ∙ ap (λ x. x ++ d) h3 ∙ append_assoc t2 c d ∙ ap (λ x. x ++ (c ++ d)) h2 ∙ append_assoc t1 b (c ++ d) ∙ ap (λ x. x ++ (b ++ (c ++ d))) h1
-    ∙ append_assoc t a (b ++ (c ++ d))

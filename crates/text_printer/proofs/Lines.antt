@@ -6,7 +6,7 @@ use Rattle.nd_types.specs.Table.{Table}
 use Rattle.nd_types.specs.Walk.{NamedRoot}
 use Rattle.nd_value.specs.Tree.{Tree, Trees, node, none, more, Referent}
 use Rattle.nd_value.specs.Setting.{or_unread}
-use Rattle.nd_value.proofs.LocalPass.{drop-get, drop-past}
+use Rattle.nd_lemmas.proofs.Lists.{drop_next as drop-get, drop_past as drop-past}
 use Rattle.text_printer.specs.Texts.{text_of, root_text, roots_text, cell_text, cells_text}
 use Rattle.text_printer.specs.Walks.{Begins, Writes, RootsBegin, CellsBegin, first_text}
 

@@ -4,7 +4,7 @@ use Rattle.std.specs.List.{slice_get}
 use Rattle.nd_types.specs.declared.types.Field.{Field}
 use Rattle.nd_types.specs.Table.{Table}
 use Rattle.nd_value.specs.Tree.{Tree, node, none, trees, count}
-use Rattle.nd_value.proofs.LocalPass.{drop-get}
+use Rattle.nd_lemmas.proofs.Lists.{drop_next as drop-get}
 use Rattle.text_printer.specs.Texts.{separator, listed, member_texts, texts_of, text_of, bytes_text, byte_of}
 
 -- the types of members

@@ -163,7 +163,7 @@ array_written table d elem bound varying max offset n text text1 text' w w' e k 
 
 -- ## Bytes
 
-no_kids : (ks : Trees) → count ks ≡ 0 → ks ≡ none
+pub no_kids : (ks : Trees) → count ks ≡ 0 → ks ≡ none
 no_kids none e = refl
 no_kids (more t ts) e = cc
 

@@ -1,7 +1,7 @@
 -- The forms of nodes that a text can name: one constructor for each.
-use Rattle.std.proofs.Common.{◌≡◌, ℕ, ℤ, Bool, true, false, not, ◌&&◌, eqb, List, length, Option, Some, None, refl, sym, subst}
+use Rattle.std.proofs.Common.{◌≡◌, ℕ, ℤ, Bool, true, false, not, ◌&&◌, eqb, List, length, Option, Some, None, sym, subst}
 use Rattle.std.specs.List.{list_all}
-use Rattle.std.proofs.lemmas.Bool.{and_parts, eqb-true}
+use Rattle.std.proofs.lemmas.Bool.{and_parts, eqb-true, not-true as not_false}
 use Rattle.nd_types.specs.declared.types.TypeId.{TypeId}
 use Rattle.nd_types.specs.declared.types.TypeDef.{TypeDef}
 use Rattle.nd_types.specs.declared.types.TypeDef.TheVariants as def
@@ -32,10 +32,6 @@ pub data Form (v : Version) (table : Table) : Option TypeDef → Label → Trees
   a_pointer : (class : Class) (to : TypeId) (c : ℕ) → eqb c 0 ≡ false → is_count c ≡ true → Form v table (Some (def.Pointer class to)) (tree.Ptr (Some c)) none
   a_context : (attributes : ℕ) (id : List ℕ) → is_count attributes ≡ true → length id ≡ 16 → list_all is_octet id ≡ true → Form v table (Some def.Context) (tree.Context attributes id) none
   a_pipe : (elem : TypeId) (ks : Trees) → may_be_elements v (type_at table elem.0) ks ≡ true → Form v table (Some (def.Pipe elem)) tree.Pipe ks
-
-not_false : (b : Bool) → not b ≡ true → b ≡ false
-not_false true e = cc
-not_false false e = refl
 
 pub form_of : (v : Version) (table : Table) (d : Option TypeDef) (l : Label) (ks : Trees) → has_text_form v table d l ks ≡ true → Form v table d l ks
 form_of v table (Some (def.Prim p)) (tree.Num z) none h = a_number p z

@@ -14,7 +14,7 @@ use Rattle.text_reading_laws.proofs.Firsts.{one_first, spells_less}
 
 -- ## UUIDs
 
-form_length : (form octets : List ℕ) → has_form form octets ≡ true → length octets ≡ length form
+pub form_length : (form octets : List ℕ) → has_form form octets ≡ true → length octets ≡ length form
 form_length [] [] h = refl
 form_length [] (c ∷ cs) h = cc
 form_length (place ∷ form) [] h = cc

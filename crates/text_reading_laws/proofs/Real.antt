@@ -18,7 +18,7 @@ use Rattle.text_reading_laws.proofs.Quoted.{First}
 hex_high : (c : ℕ) → is_hex_digit c ≡ true → c ≤ 102
 hex_high c h = grind (arith, nat_tests, h)
 
-hex_small : (c : ℕ) → is_hex_digit c ≡ true → hex_value c < 16
+pub hex_small : (c : ℕ) → is_hex_digit c ≡ true → hex_value c < 16
 hex_small c h = by (is_digit c) refl (nat_le c 70) refl where
   by : (b : Bool) → is_digit c ≡ b → (u : Bool) → nat_le c 70 ≡ u → cond b (c - 48) (cond u (c - 55) (c - 87)) < 16
   by true e u f = let r = digit_range c e in omega (arith, r.1)

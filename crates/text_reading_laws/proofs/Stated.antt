@@ -5,7 +5,6 @@ use Rattle.nd_value.specs.Setting.{Setting}
 use Rattle.nd_grammar.specs.LegalSide.{IsLegalSide}
 use Rattle.text_grammar.specs.declared.fault.TextReason.{TextReason}
 use Rattle.text_grammar.specs.declared.TheConstants.{TEXT_LIMIT}
-use Rattle.text_grammar.specs.Tokens.{Token, Cutting, IsCut}
 use Rattle.text_grammar.specs.Reads.{ReadsAs, IsFirstFault, IsTextFault}
 use Rattle.text_grammar.specs.Dues.{nothing_read}
 use Rattle.text_grammar.specs.Reader.{Stopped, ComesTo}
@@ -13,14 +12,6 @@ use Rattle.text_reading_laws.proofs.OneText as text
 use Rattle.text_reading_laws.proofs.OneGraph as graph
 use Rattle.text_reading_laws.proofs.OneFault.{one_text_fault}
 use Rattle.text_reading_laws.proofs.Faults as faults
-
--- a text begins with one token at most
-pub one_token : (how : Cutting) (text : List ℕ) (t u : Token) (rest after : List ℕ) → IsCut how text t rest → IsCut how text u after → (t ≡ u) × (rest ≡ after)
-one_token = text.one_cut
-
--- a text that is read as a graph has no fault
-pub never_both : (w : Setting) (text : List ℕ) (g : Graph) (line column : ℕ) (why : TextReason) → ReadsAs w text g → IsTextFault w text line column why → ⊥
-never_both = text.never_both
 
 -- a text is read as one graph at most
 pub one_graph : (w : Setting) (text : List ℕ) (g h : Graph) → IsLegalSide w → ReadsAs w text g → ReadsAs w text h → g ≡ h

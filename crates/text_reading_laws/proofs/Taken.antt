@@ -115,7 +115,7 @@ abbrev closes_first : List Token → Bool
 closes_first [] = false
 closes_first (t ∷ ts) = closes t
 
-comma_tail : (value : List Piece) (values : List (List Piece)) (c : ℕ) (ts : List Token)
+pub comma_tail : (value : List Piece) (values : List (List Piece)) (c : ℕ) (ts : List Token)
     → Mark 44 ∷ (map token_of (separated (value ∷ values) ++ Other (Mark c) ∷ []) ++ ts) ≡ map token_of (tail (value ∷ values) c) ++ ts
 comma_tail value values c ts = ap (λ (l : List Piece). Mark 44 ∷ (map token_of l ++ ts)) (separated_tail value values c)
 

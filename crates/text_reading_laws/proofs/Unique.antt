@@ -24,11 +24,7 @@ use Rattle.text_grammar.specs.Dues.{closes}
 use Rattle.text_reading_laws.specs.Values.{have_forms, value_tokens}
 use Rattle.text_reading_laws.proofs.Forms.{Form, form_of, a_number, an_enum, a_struct, an_array, a_bound_text, a_text, a_union, a_null, a_pointer, a_context, a_pipe}
 use Rattle.text_reading_laws.proofs.ValuesRead.{tail, separated_tail, map_both, Opens, value_read}
-
--- a list's tokens after a comma are those of its tail
-comma_tail : (value : List Piece) (values : List (List Piece)) (c : ℕ) (ts : List Token)
-    → Mark 44 ∷ (map token_of (separated (value ∷ values) ++ Other (Mark c) ∷ []) ++ ts) ≡ map token_of (tail (value ∷ values) c) ++ ts
-comma_tail value values c ts = ap (λ (l : List Piece). Mark 44 ∷ (map token_of l ++ ts)) (separated_tail value values c)
+use Rattle.text_reading_laws.proofs.Taken.{comma_tail}
 
 module _ (v : Version) (table : Table) where
   abbrev pieces_of : List ℕ → Trees → List (List Piece)

@@ -142,7 +142,7 @@ enum_switched : (s : Scene) (c : Construct) (names : Names) (body : TypeSpec)
 enum_switched s c names (tree.Enum at tag es) = refl
 enum_switched s c names _ = refl
 
-found_switched : (s : Scene) (o : Option Body) → kinds.is_switch_type (Some (defined_at s (body_if is_enum o))) ≡ true
+pub found_switched : (s : Scene) (o : Option Body) → kinds.is_switch_type (Some (defined_at s (body_if is_enum o))) ≡ true
 found_switched s None = refl
 found_switched s (Some b) = enum_switched s b.construct b.names b.body
 
@@ -163,7 +163,7 @@ no_union_in : (s : Scene) (c : Construct) (names : Names) (body : TypeSpec)
 no_union_in s c names (tree.Struct at tag ms) = struct_no_union _
 no_union_in s c names _ = refl
 
-struct_is_no_union : (s : Scene) (o : Option Body) → kinds.is_nonencapsulated (Some (defined_at s (body_if is_struct o))) ≡ false
+pub struct_is_no_union : (s : Scene) (o : Option Body) → kinds.is_nonencapsulated (Some (defined_at s (body_if is_struct o))) ≡ false
 struct_is_no_union s None = refl
 struct_is_no_union s (Some b) = no_union_in s b.construct b.names b.body
 
@@ -172,7 +172,7 @@ no_union_by : (s : Scene) (c : Construct) (names : Names) (body : TypeSpec)
 no_union_by s c names (tree.Enum at tag es) = refl
 no_union_by s c names _ = refl
 
-enum_is_no_union : (s : Scene) (o : Option Body) → kinds.is_nonencapsulated (Some (defined_at s (body_if is_enum o))) ≡ false
+pub enum_is_no_union : (s : Scene) (o : Option Body) → kinds.is_nonencapsulated (Some (defined_at s (body_if is_enum o))) ≡ false
 enum_is_no_union s None = refl
 enum_is_no_union s (Some b) = no_union_by s b.construct b.names b.body
 
@@ -182,7 +182,7 @@ union_by s c names (tree.EncapsulatedUnion at tag d name cases) = refl
 union_by s c names (tree.NonEncapsulatedUnion at tag arms) = refl
 union_by s c names _ = refl
 
-union_found : (s : Scene) (o : Option Body) → kinds.is_nonencapsulated (Some (defined_at s (body_if is_union o))) ≡ is_found_nonencapsulated o
+pub union_found : (s : Scene) (o : Option Body) → kinds.is_nonencapsulated (Some (defined_at s (body_if is_union o))) ≡ is_found_nonencapsulated o
 union_found s None = refl
 union_found s (Some b) = union_by s b.construct b.names b.body
 

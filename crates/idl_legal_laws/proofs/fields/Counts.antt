@@ -111,7 +111,7 @@ pointee_varies true false t h = absurd (let e : false ≡ true = h in cc)
 pointee_varies false true t h = sized_varies t h
 pointee_varies false false t h = absurd (let e : false ≡ true = h in cc)
 
-or_true : (a : Bool) → (a || true) ≡ true
+pub or_true : (a : Bool) → (a || true) ≡ true
 or_true true = refl
 or_true false = refl
 

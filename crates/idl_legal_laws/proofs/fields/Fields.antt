@@ -21,7 +21,8 @@ use Rattle.idl_rule_definitions.specs.TypeRules.{is_operation}
 use Rattle.idl_rule_definitions.specs.Numbering.{Needed, own_types}
 use Rattle.idl_rule_definitions.specs.Meaning.{field, parameter, operation_in, operations_of, definition, types_of, struct_of, defined_by, defined_at, body_if, is_struct, is_union, is_enum}
 use Rattle.idl_rule_definitions.proofs.Needed.{conjunction}
-use Rattle.idl_legal_laws.proofs.fields.FromNodes.{they_pass, one_passes, body_passes, node_passes, both_of, join_all}
+use Rattle.idl_legal_laws.proofs.fields.FromNodes.{they_pass, one_passes, body_passes, node_passes, join_all}
+use Rattle.std.proofs.lemmas.Bool.{and_parts as both_of}
 use Rattle.idl_legal_laws.proofs.fields.Standing.{node_keeps, all_keep, Stands, stands}
 
 -- ## Facts
@@ -57,7 +58,7 @@ list_is s test fact names is_param list h = they_are s test fact names is_param 
 
 -- ## Members
 
-members_are : (fs : List Field) → members_of (struct_of fs) ≡ fs
+pub members_are : (fs : List Field) → members_of (struct_of fs) ≡ fs
 members_are [] = refl
 members_are (f ∷ fs) = refl
 

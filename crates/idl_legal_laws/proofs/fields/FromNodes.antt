@@ -21,6 +21,7 @@ use Rattle.idl_rule_definitions.specs.Types.{Names, type_of}
 use Rattle.idl_rule_definitions.specs.Scene.{Scoped, is_typedef, names_behind, scoped_from, scene_of}
 use Rattle.idl_rule_definitions.specs.TypeRules.{is_operation}
 use Rattle.idl_rule_definitions.proofs.Needed.{conjunction}
+use Rattle.std.proofs.lemmas.Bool.{and_parts as both_of}
 
 -- ## What passes
 
@@ -57,10 +58,6 @@ node_passes q names (OperationNode c name ps result) =
 node_passes q names _ = true
 
 -- ## Lists of tests
-
-pub both_of : (a b : Bool) → (a && b) ≡ true → (a ≡ true) × (b ≡ true)
-both_of true b h = (refl, h)
-both_of false b h = absurd (let e : false ≡ true = h in cc)
 
 pub split_all : {X : Type 0} (p : X → Bool) (xs ys : List X) → list_all p (xs ++ ys) ≡ true → (list_all p xs ≡ true) × (list_all p ys ≡ true)
 split_all p xs ys h = both_of (list_all p xs) (list_all p ys) (sym (list_all-append p xs ys) ∙ h)

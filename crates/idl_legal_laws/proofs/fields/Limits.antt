@@ -37,9 +37,10 @@ use Rattle.idl_rule_definitions.specs.Meaning.{parameter, definition, types_of, 
 use Rattle.idl_rule_definitions.specs.Meaning as meaning
 use Rattle.idl_legal_laws.proofs.Kept.{neither}
 use Rattle.idl_rule_definitions.proofs.Equal.{type_is}
-use Rattle.idl_rule_definitions.proofs.Needed.{conjunction, right}
+use Rattle.idl_rule_definitions.proofs.Needed.{conjunction}
+use Rattle.std.proofs.lemmas.Bool.{or_right as right, and_parts as both_of}
 use Rattle.idl_legal_laws.proofs.Few.{none_too_many, few, joined}
-use Rattle.idl_legal_laws.proofs.fields.FromNodes.{both_of, join_all}
+use Rattle.idl_legal_laws.proofs.fields.FromNodes.{join_all}
 
 -- ## Operations and parameters
 
@@ -85,7 +86,7 @@ few_operations s h =
     let b = as_many s s.nodes in
     omega (arith, a, b)
 
-nat_le_from : (m n : ℕ) → m ≤ n → nat_le m n ≡ true
+pub nat_le_from : (m n : ℕ) → m ≤ n → nat_le m n ≡ true
 nat_le_from m n h = grind (arith, nat_tests, h)
 
 operation_params : (s : Scene) (limit : ℕ) (names : Names) (n : Node) → first_past limit (parameters_in n) ≡ [] → list_all (λ o. nat_le (length o.params) limit) (meaning.operation_in s names n) ≡ true

@@ -25,10 +25,11 @@ use Rattle.idl_rule_definitions.specs.PointerRules.{is_out_type}
 use Rattle.idl_rule_definitions.specs.Numbering.{needed, built, needed_by, number_of_type, is_numbered_or_none}
 use Rattle.idl_rule_definitions.specs.Meaning.{way_by, parameter, result_number, types_of, defined_at, body_if, is_enum}
 use Rattle.idl_legal_laws.proofs.Kept.{keeps_use}
-use Rattle.idl_rule_definitions.proofs.Needed.{conjunction, right}
+use Rattle.idl_rule_definitions.proofs.Needed.{conjunction}
+use Rattle.std.proofs.lemmas.Bool.{or_right as right, and_parts as both_of}
 use Rattle.idl_legal_laws.proofs.Numbers.{at_its_number}
 use Rattle.idl_legal_laws.proofs.Few.{few_types}
-use Rattle.idl_legal_laws.proofs.fields.FromNodes.{stands_in, both_of}
+use Rattle.idl_legal_laws.proofs.fields.FromNodes.{stands_in}
 use Rattle.idl_legal_laws.proofs.fields.Standing.{nothing_is, is_nothing, Typed, field_typed, meant, first_of, last_of}
 use Rattle.idl_legal_laws.proofs.fields.Fields.{OfParams, OfOperations}
 use Rattle.idl_legal_laws.proofs.fields.Counts.{implied}

@@ -21,11 +21,11 @@ use Rattle.idl_rule_definitions.specs.Kept.{KeepsUse}
 use Rattle.idl_rule_definitions.specs.Numbering.{needed, built, needed_by, needed_types, number_of_type, is_numbered_or_none}
 use Rattle.idl_rule_definitions.specs.Meaning.{definition, types_of, struct_of, defined_by, defined_at, body_if, is_struct, is_union, is_enum}
 use Rattle.idl_legal_laws.proofs.Kept.{neither, keeps_use}
-use Rattle.idl_legal_laws.proofs.KeptTypes.{none_of}
+use Rattle.std.proofs.lemmas.Bool.{or_parts as none_of, and_parts as both_of}
 use Rattle.idl_rule_definitions.proofs.Needed.{conjunction, all_numbered}
 use Rattle.idl_legal_laws.proofs.Numbers.{at_its_number}
 use Rattle.idl_legal_laws.proofs.Few.{few_types}
-use Rattle.idl_legal_laws.proofs.fields.FromNodes.{Test, stands_in, one_passes, node_passes, both_of, split_all, members_and_parameters_pass}
+use Rattle.idl_legal_laws.proofs.fields.FromNodes.{Test, stands_in, one_passes, node_passes, split_all, members_and_parameters_pass}
 use Rattle.idl_rule_definitions.specs.declared.rule.TheConstants as Rule
 
 -- ## The test of a node: it breaks no rule, and the types that it needs have numbers
@@ -145,11 +145,11 @@ own_type s b (Pointer c t) h i = at_its_number s (Pointer c t) i
 own_type s b (Pipe t) h i = at_its_number s (Pipe t) i
 
 -- structs, unions and enums are no pointers
-by_struct : (n : ℕ) (fs : List Field) → pointee_by n (Some (struct_of fs)) ≡ n
+pub by_struct : (n : ℕ) (fs : List Field) → pointee_by n (Some (struct_of fs)) ≡ n
 by_struct n [] = refl
 by_struct n (f ∷ fs) = refl
 
-by_body : (n : ℕ) (s : Scene) (b : Body) (t : TypeSpec) → pointee_by n (Some (defined_by s b t)) ≡ n
+pub by_body : (n : ℕ) (s : Scene) (b : Body) (t : TypeSpec) → pointee_by n (Some (defined_by s b t)) ≡ n
 by_body n s b (tree.Struct at tag ms) = by_struct n _
 by_body n s b (tree.EncapsulatedUnion at tag d name cases) = refl
 by_body n s b (tree.NonEncapsulatedUnion at tag arms) = refl
@@ -158,7 +158,7 @@ by_body n s b (tree.Simple t) = refl
 by_body n s b (tree.Name m) = refl
 by_body n s b (tree.Tag at kind tag) = refl
 
-by_found : (n : ℕ) (s : Scene) (o : Option Body) → pointee_by n (Some (defined_at s o)) ≡ n
+pub by_found : (n : ℕ) (s : Scene) (o : Option Body) → pointee_by n (Some (defined_at s o)) ≡ n
 by_found n s None = refl
 by_found n s (Some b) = by_body n s b b.body
 

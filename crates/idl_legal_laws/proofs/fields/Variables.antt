@@ -32,9 +32,9 @@ use Rattle.idl_rule_definitions.specs.VariableRules.{Listed, listed_from, passes
 use Rattle.idl_rule_definitions.specs.VariableRules.{below_pointer, is_other}
 use Rattle.idl_rule_definitions.specs.Numbering.{number_of_type}
 use Rattle.idl_rule_definitions.specs.Meaning.{index_in, attr_var, vars_of, field_vars, field, types_of}
-use Rattle.idl_legal_laws.proofs.KeptTypes.{none_of}
+use Rattle.std.proofs.lemmas.Bool.{or_parts as none_of, and_parts as both_of}
 use Rattle.idl_rule_definitions.proofs.Needed.{conjunction}
-use Rattle.idl_legal_laws.proofs.fields.FromNodes.{stands_in, one_passes, they_pass, both_of, join_all}
+use Rattle.idl_legal_laws.proofs.fields.FromNodes.{stands_in, one_passes, they_pass, join_all}
 use Rattle.idl_legal_laws.proofs.fields.Standing.{node_keeps, Stands, stands, Typed, field_typed, referent, meant, first_of}
 use Rattle.idl_legal_laws.proofs.fields.Fields.{OfFields, field_here}
 use Rattle.idl_legal_laws.proofs.fields.Words.{none_is, has_is, switch_is_has, of_switch}

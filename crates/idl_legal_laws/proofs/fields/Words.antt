@@ -23,8 +23,9 @@ use Rattle.idl_rule_definitions.specs.AttributeRules.{is_out_of_place, is_repeat
 use Rattle.idl_rule_definitions.specs.VariableRules.{variable_if, variables}
 use Rattle.idl_rule_definitions.specs.Meaning.{attr_var, vars_of, field_vars, field}
 use Rattle.idl_legal_laws.proofs.Kept.{neither}
-use Rattle.idl_rule_definitions.proofs.Needed.{conjunction, right}
-use Rattle.idl_legal_laws.proofs.fields.FromNodes.{both_of, join_all}
+use Rattle.idl_rule_definitions.proofs.Needed.{conjunction}
+use Rattle.std.proofs.lemmas.Bool.{or_right as right, and_parts as both_of}
+use Rattle.idl_legal_laws.proofs.fields.FromNodes.{join_all}
 use Rattle.idl_legal_laws.proofs.fields.Standing.{node_keeps, nothing_is, is_nothing}
 use Rattle.idl_rule_definitions.specs.declared.rule.TheConstants as Rule
 
@@ -123,7 +124,7 @@ has_is word w (a ∷ more) =
 
 -- ## Each attribute once
 
-broken_is : (c : Construct) (rule at : ℕ) (b : Bool) → broken_at c rule at b ≡ [] → b ≡ false
+pub broken_is : (c : Construct) (rule at : ℕ) (b : Bool) → broken_at c rule at b ≡ [] → b ≡ false
 broken_is c rule at false h = refl
 broken_is c rule at true h = absurd (cc)
 

@@ -14,23 +14,26 @@ use Rattle.idl_grammar.specs.Tree as tree
 use Rattle.idl_rule_definitions.specs.Attributes.{has, switch_is_word}
 use Rattle.idl_rule_definitions.specs.Nodes.{Position, InHeader, InTypedef, InTaggedType, InMember, InParameter, InArm, InCasedArm, InOperation, Declared}
 use Rattle.idl_rule_definitions.specs.Types.{IdlType, Void, Handle, ContextHandle, Basic, Struct, Union, Enum, Array, Text, Pointer, Pipe, Names, type_of, is_pipe, is_context, is_pointer}
-use Rattle.idl_rule_definitions.specs.Scene.{Scene, Use, use_of, Body, body_of, parts_declared, chain, below, is_nonencapsulated, is_found_nonencapsulated}
+use Rattle.idl_rule_definitions.specs.Scene.{Scene, Use, use_of, Body, body_of, parts_declared, chain, below, is_nonencapsulated}
 use Rattle.idl_rule_definitions.specs.TypeRules.{below_reference, without_pipe}
 use Rattle.idl_rule_definitions.specs.ArrayRules.{is_arm}
 use Rattle.idl_rule_definitions.specs.VariableRules.{may_be_switched, is_switched, below_pointer, is_switched_place}
 use Rattle.idl_rule_definitions.specs.Kept.{KeepsUse}
 use Rattle.idl_rule_definitions.specs.Numbering.{own_types, same_type, number_of_type, is_numbered}
-use Rattle.idl_rule_definitions.specs.Meaning.{definition, types_of, struct_of, defined_by, body_if, defined_at, is_struct, is_union, is_enum}
+use Rattle.idl_rule_definitions.specs.Meaning.{definition, types_of, struct_of, defined_by, body_if, is_struct, is_union, is_enum}
 use Rattle.idl_legal_laws.proofs.Numbers.{at_its_number}
 use Rattle.idl_rule_definitions.proofs.Needed.{conjunction}
 use Rattle.idl_legal_laws.proofs.KeptTypes.{all_own_good}
-use Rattle.idl_legal_laws.proofs.Inner.{neither_one, further}
-use Rattle.idl_legal_laws.proofs.Referents.{untrue}
+use Rattle.idl_legal_laws.proofs.Inner.{further}
+use Rattle.idl_rule_definitions.proofs.Order.{none as neither_one}
+use Rattle.std.proofs.lemmas.Bool.{not-true as untrue}
 use Rattle.idl_legal_laws.proofs.Among.{Each, each_at, each_join, each_then, each_all}
 use Rattle.idl_legal_laws.proofs.Scenes.{IsKept, BodyThere, KeptPart, kept_parts, part_numbered, is_part, own_fact, is_made, inner_there, table_all}
 use Rattle.idl_legal_laws.proofs.PartNodes.{PartNumber, body_parts}
 use Rattle.idl_legal_laws.proofs.legal.Known.{tag_each, body_points}
 use Rattle.idl_legal_laws.proofs.legal.Places.{NoTag, tag_none, arms_each}
+use Rattle.idl_legal_laws.proofs.fields.Alike.{enum_is_no_union as enum_other, struct_is_no_union as struct_other, union_found as union_same}
+use Rattle.idl_legal_laws.proofs.fields.Standing.{by_found as tag_itself}
 
 -- what holds of the number of each member and arm that breaks no rule
 pub parts_each : (s : Scene) → IsKept s → (P : ℕ → Type 0) → ((names : Names) (d : Declared) → KeptPart s names d → P (number_of_type s (type_of s.known names d))) → (b : Body) → BodyThere s b
@@ -312,48 +315,9 @@ contexts s kept =
 
 -- ## Non-encapsulated unions
 
-union_same : (s : Scene) (o : Option Body) → kinds.is_nonencapsulated (Some (defined_at s (body_if is_union o))) ≡ is_found_nonencapsulated o
-union_same s None = refl
-union_same s (Some b) = by_form b.body
-  where
-    by_form : (t : TypeSpec) → kinds.is_nonencapsulated (Some (defined_at s (body_if is_union (Some (record b { body = t }))))) ≡ is_found_nonencapsulated (Some (record b { body = t }))
-    by_form (tree.EncapsulatedUnion at tag d name cases) = refl
-    by_form (tree.NonEncapsulatedUnion at tag arms) = refl
-    by_form (tree.Struct at tag ms) = refl
-    by_form (tree.Enum at tag es) = refl
-    by_form (tree.Simple t) = refl
-    by_form (tree.Name n) = refl
-    by_form (tree.Tag at kind tag) = refl
-
 struct_not : (s : Scene) (fs : List Field) → kinds.is_nonencapsulated (Some (struct_of fs)) ≡ false
 struct_not s [] = refl
 struct_not s (f ∷ fs) = refl
-
-struct_other : (s : Scene) (o : Option Body) → kinds.is_nonencapsulated (Some (defined_at s (body_if is_struct o))) ≡ false
-struct_other s None = refl
-struct_other s (Some b) = by_form b.body
-  where
-    by_form : (t : TypeSpec) → kinds.is_nonencapsulated (Some (defined_at s (body_if is_struct (Some (record b { body = t }))))) ≡ false
-    by_form (tree.EncapsulatedUnion at tag d name cases) = refl
-    by_form (tree.NonEncapsulatedUnion at tag arms) = refl
-    by_form (tree.Struct at tag ms) = struct_not s _
-    by_form (tree.Enum at tag es) = refl
-    by_form (tree.Simple t) = refl
-    by_form (tree.Name n) = refl
-    by_form (tree.Tag at kind tag) = refl
-
-enum_other : (s : Scene) (o : Option Body) → kinds.is_nonencapsulated (Some (defined_at s (body_if is_enum o))) ≡ false
-enum_other s None = refl
-enum_other s (Some b) = by_form b.body
-  where
-    by_form : (t : TypeSpec) → kinds.is_nonencapsulated (Some (defined_at s (body_if is_enum (Some (record b { body = t }))))) ≡ false
-    by_form (tree.EncapsulatedUnion at tag d name cases) = refl
-    by_form (tree.NonEncapsulatedUnion at tag arms) = refl
-    by_form (tree.Struct at tag ms) = refl
-    by_form (tree.Enum at tag es) = refl
-    by_form (tree.Simple t) = refl
-    by_form (tree.Name n) = refl
-    by_form (tree.Tag at kind tag) = refl
 
 pub nonencapsulated_same : (s : Scene) (t : IdlType) → kinds.is_nonencapsulated (Some (definition s t)) ≡ is_nonencapsulated s t
 nonencapsulated_same s (Struct p) = struct_other s (body_of s p)
@@ -367,23 +331,6 @@ nonencapsulated_same s Void = refl
 nonencapsulated_same s Handle = refl
 nonencapsulated_same s ContextHandle = refl
 nonencapsulated_same s (Basic p) = refl
-
-struct_itself : (n : ℕ) (fs : List Field) → pointee_by n (Some (struct_of fs)) ≡ n
-struct_itself n [] = refl
-struct_itself n (f ∷ fs) = refl
-
-form_itself : (n : ℕ) (s : Scene) (b : Body) (t : TypeSpec) → pointee_by n (Some (defined_by s b t)) ≡ n
-form_itself n s b (tree.EncapsulatedUnion at tag d name cases) = refl
-form_itself n s b (tree.NonEncapsulatedUnion at tag arms) = refl
-form_itself n s b (tree.Struct at tag ms) = struct_itself n _
-form_itself n s b (tree.Enum at tag es) = refl
-form_itself n s b (tree.Simple t) = refl
-form_itself n s b (tree.Name x) = refl
-form_itself n s b (tree.Tag at kind tag) = refl
-
-tag_itself : (n : ℕ) (s : Scene) (o : Option Body) → pointee_by n (Some (defined_at s o)) ≡ n
-tag_itself n s None = refl
-tag_itself n s (Some b) = form_itself n s b b.body
 
 abbrev non : Scene → ℕ → Bool
 non s n = kinds.is_nonencapsulated (type_at (types_of s) n)

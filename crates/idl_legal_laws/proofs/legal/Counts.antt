@@ -3,7 +3,7 @@ use Rattle.std.proofs.Common.{◌≡◌, ℕ, zero, suc, ◌*◌, ◌≤◌, Boo
 use Rattle.std.specs.Prelude.{pos, negsuc, ◌*ℤ◌, int_le, nat_le, is_none}
 use Rattle.std.specs.List.{list_any, list_all, flat_map}
 use Rattle.std.proofs.lemmas.List.Folds.{list_all-append, list_all-map}
-use Rattle.std.proofs.lemmas.Bool.{le-leb, leb-true}
+use Rattle.std.proofs.lemmas.Bool.{le-leb, leb-true, and_parts as both, or_parts as none_of, not-true as untrue}
 use Rattle.std.proofs.lemmas.Nat.{mul-le}
 use Rattle.nd_types.specs.declared.TheConstants.{ELEMENT_LIMIT}
 use Rattle.nd_types.specs.declared.types.TypeId.{TypeId}
@@ -37,10 +37,9 @@ use Rattle.idl_rule_definitions.specs.Numbering.{Needed, needed, built, needed_b
 use Rattle.idl_rule_definitions.specs.Meaning.{definition, types_of, struct_of, defined_by, body_if, defined_at, is_struct, is_union, is_enum, number, bound, natural}
 use Rattle.idl_legal_laws.proofs.Numbers.{at_its_number}
 use Rattle.idl_rule_definitions.proofs.Needed.{conjunction}
-use Rattle.idl_rule_definitions.proofs.Equal.{both}
-use Rattle.idl_legal_laws.proofs.KeptTypes.{none_of, all_are, all_first, is_good, IsOfDerived, one_good, built_good, tag_good, body_good, all_own_good}
-use Rattle.idl_legal_laws.proofs.Inner.{neither_one, further}
-use Rattle.idl_legal_laws.proofs.Referents.{untrue}
+use Rattle.idl_legal_laws.proofs.KeptTypes.{all_are, all_first, is_good, IsOfDerived, one_good, built_good, tag_good, body_good, all_own_good}
+use Rattle.idl_legal_laws.proofs.Inner.{further}
+use Rattle.idl_rule_definitions.proofs.Order.{none as neither_one}
 use Rattle.idl_legal_laws.proofs.Among.{Each, each_made}
 use Rattle.idl_legal_laws.proofs.Whole.{NamesKeep, Declares}
 use Rattle.idl_legal_laws.proofs.Scenes.{IsKept, There, Passes, use_there, names_there, own_fact, is_made, inner_there, table_all}

@@ -1,5 +1,5 @@
 -- The table begins with the basic types, names only types that it has, nests no deeper than the limit, and its tags are of types that tags may have.
-use Rattle.std.proofs.Common.{◌≡◌, ℕ, suc, ◌+◌, Bool, true, false, not, ◌&&◌, List, [], ◌∷◌, ◌++◌, map, length, Option, Some, None, refl, sym, ap, arith, ◌∙◌, subst}
+use Rattle.std.proofs.Common.{◌≡◌, ℕ, suc, ◌+◌, Bool, true, false, not, ◌&&◌, List, [], ◌∷◌, ◌++◌, map, length, Option, Some, refl, sym, ap, arith, ◌∙◌, subst}
 use Rattle.std.specs.Prelude.{drop}
 use Rattle.std.specs.List.{list_any, list_all, slice_get, starts_with, enumerate_from}
 use Rattle.nd_types.specs.declared.TheConstants.{NESTING_LIMIT}
@@ -19,18 +19,18 @@ use Rattle.idl_rule_definitions.specs.DeclarationRules.{lacks_switch_type}
 use Rattle.idl_rule_definitions.specs.TypeRules.{contains_itself, is_deep_body, is_too_deep, is_made_of_elements}
 use Rattle.idl_rule_definitions.specs.VariableRules.{may_be_switched}
 use Rattle.idl_rule_definitions.specs.Numbering.{own_types, same_type, number_of_type, is_numbered}
-use Rattle.idl_rule_definitions.specs.Meaning.{definition, types_of, struct_of, defined_by, body_if, defined_at, is_enum, or_handle}
+use Rattle.idl_rule_definitions.specs.Meaning.{definition, types_of, struct_of, defined_by, or_handle}
 use Rattle.idl_rule_definitions.proofs.Needed.{conjunction}
-use Rattle.idl_rule_definitions.proofs.Equal.{both}
+use Rattle.std.proofs.lemmas.Bool.{and_parts as both, not-true as untrue}
 use Rattle.idl_legal_laws.proofs.Numbers.{at_its_number}
 use Rattle.idl_legal_laws.proofs.Kept.{neither, fails}
 use Rattle.idl_legal_laws.proofs.KeptTypes.{all_own_good}
-use Rattle.idl_legal_laws.proofs.Referents.{untrue}
 use Rattle.idl_legal_laws.proofs.Among.{Each, each_at, each_join, each_then, all_each, each_all}
 use Rattle.idl_legal_laws.proofs.Scenes.{IsKept, There, BodyThere, keeps_there, own_fact, is_made, inner_there, number_in, own_all, table_all}
 use Rattle.idl_legal_laws.proofs.PartNodes.{Held, body_held, nests_there}
 use Rattle.idl_legal_laws.proofs.Tags.{KeptTag, kept_tag, no_not}
 use Rattle.idl_rule_definitions.specs.declared.rule.TheConstants as Rule
+use Rattle.idl_legal_laws.proofs.fields.Alike.{found_switched as enum_switched}
 
 -- ## Basic types
 
@@ -254,19 +254,6 @@ nesting s k =
     (table_all s (λ d. list_all (nest s) (layout.parts (Some d))) refl (record { nothing = refl; by_bodies = body_shallow s k; by_made = made_shallow s k }))
 
 -- ## Tags
-
-enum_switched : (s : Scene) (o : Option Body) → is_switch_type (Some (defined_at s (body_if is_enum o))) ≡ true
-enum_switched s None = refl
-enum_switched s (Some b) = by_form b.body
-  where
-    by_form : (t : TypeSpec) → is_switch_type (Some (defined_at s (elim (is_enum t) [ true ↦ Some (record b { body = t }) | false ↦ None ]))) ≡ true
-    by_form (tree.Enum at tag es) = refl
-    by_form (tree.Struct at tag ms) = refl
-    by_form (tree.EncapsulatedUnion at tag d name cases) = refl
-    by_form (tree.NonEncapsulatedUnion at tag arms) = refl
-    by_form (tree.Simple t) = refl
-    by_form (tree.Name n) = refl
-    by_form (tree.Tag at kind tag) = refl
 
 pub switched_there : (s : Scene) (t : IdlType) → may_be_switched t ≡ true → is_switch_type (Some (definition s t)) ≡ true
 switched_there s (Basic p) h = h

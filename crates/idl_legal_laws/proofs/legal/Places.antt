@@ -2,7 +2,7 @@
 use Rattle.std.proofs.Common.{◌≡◌, ℕ, zero, suc, ◌+◌, Bool, true, false, not, ◌||◌, ◌&&◌, List, [], ◌∷◌, map, length, Option, Some, None, ℤ, refl, ap, arith, ◌∙◌, subst}
 use Rattle.std.specs.Prelude.{ltb, is_none}
 use Rattle.std.specs.List.{list_all}
-use Rattle.std.proofs.lemmas.Bool.{lt-ltb}
+use Rattle.std.proofs.lemmas.Bool.{lt-ltb, and_parts as both, or_parts as none_of, not-true as untrue}
 use Rattle.nd_types.specs.declared.types.TypeId.{TypeId}
 use Rattle.nd_types.specs.declared.types.Field.{Field}
 use Rattle.nd_types.specs.declared.types.Arm as arm
@@ -26,13 +26,12 @@ use Rattle.idl_rule_definitions.specs.Numbering.{own_types, number_of_type, is_n
 use Rattle.idl_rule_definitions.specs.Meaning.{definition, types_of, number, bound, field, struct_of, defined_by, body_if, defined_at, is_struct, is_union, is_enum}
 use Rattle.idl_legal_laws.proofs.Numbers.{at_its_number}
 use Rattle.idl_rule_definitions.proofs.Needed.{conjunction}
-use Rattle.idl_rule_definitions.proofs.Equal.{both}
-use Rattle.idl_legal_laws.proofs.KeptTypes.{none_of, all_own_good}
-use Rattle.idl_legal_laws.proofs.Referents.{untrue}
+use Rattle.idl_legal_laws.proofs.KeptTypes.{all_own_good}
 use Rattle.idl_legal_laws.proofs.Among.{Each, each_at, each_join, each_then, all_each, each_all, none_each}
 use Rattle.idl_legal_laws.proofs.Scenes.{IsKept, There, BodyThere, KeptPart, kept_parts, part_numbered, use_there, beside_there, found_there, own_fact, is_made, inner_there, table_all}
 use Rattle.idl_legal_laws.proofs.PartNodes.{Held, PartNumber, body_parts, holds}
 use Rattle.idl_legal_laws.proofs.legal.Known.{not_deep}
+use Rattle.idl_legal_laws.proofs.fields.Fields.{members_are as struct_members}
 
 -- ## Tests of what types are in the table
 
@@ -364,10 +363,6 @@ members_hoist s k names list index (d ∷ d2 ∷ ds) e h i j =
     conjunction (not (layout.hoists (types_of s) (number_of_type s t))) (legal.only_last_hoists (types_of s) (map (field s names list) (d2 ∷ ds)))
     (ap not (hoists_there s k t (part_numbered s names d j.0) no))
     (members_hoist s k names list (index + 1) (d2 ∷ ds) (omega (arith, e)) h.1 i.1 j.1)
-
-struct_members : (fs : List Field) → members_of (struct_of fs) ≡ fs
-struct_members [] = refl
-struct_members (f ∷ fs) = refl
 
 body_hoists : (s : Scene) → IsKept s → (names : Names) (c : Construct) (t : TypeSpec) → There s names (BodyNode c t)
     → legal.only_last_hoists (types_of s) (members_of (defined_by s (record { construct = c; names = names; body = t }) t)) ≡ true

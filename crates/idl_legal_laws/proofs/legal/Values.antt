@@ -1,5 +1,5 @@
 -- The values of enumerators and labels in the table.
-use Rattle.std.proofs.Common.{◌≡◌, ℕ, Bool, true, false, not, ◌||◌, ◌&&◌, inl, List, [], ◌∷◌, ◌++◌, map, Option, Some, None, ℤ, refl, sym, ap, ◌∙◌, subst}
+use Rattle.std.proofs.Common.{◌≡◌, Bool, true, false, not, ◌||◌, ◌&&◌, inl, List, [], ◌∷◌, ◌++◌, map, Option, Some, None, ℤ, refl, sym, ap, ◌∙◌, subst}
 use Rattle.std.specs.Prelude.{pos, int_le}
 use Rattle.std.specs.Ordering.{int_eq}
 use Rattle.std.specs.List.{list_any, list_all, flat_map}
@@ -19,24 +19,20 @@ use Rattle.idl_rule_definitions.specs.World as world
 use Rattle.idl_rule_definitions.specs.Nodes.{Construct, EnumeratorNode, LabelNode, BodyNode, ArmLabel, LabelledArm, arms_of, labels_of, label_nodes}
 use Rattle.idl_rule_definitions.specs.Types.{IdlType, Void, Handle, ContextHandle, Basic, Struct, Union, Enum, Array, Text, Pointer, Pipe, Names}
 use Rattle.idl_rule_definitions.specs.Scene.{Scene, Body, body_of, tag_type, enumerators_found, parts_declared}
-use Rattle.idl_rule_definitions.specs.Rules.{broken_at}
 use Rattle.idl_rule_definitions.specs.ValueRules.{is_small, is_large_enumerator, same_value, label_value, is_repeated_label, is_value_of, is_label_of, is_bad_label}
 use Rattle.idl_rule_definitions.specs.VariableRules.{may_be_switched}
 use Rattle.idl_rule_definitions.specs.Numbering.{number_of_type}
 use Rattle.idl_rule_definitions.specs.Meaning.{definition, types_of, struct_of, defined_by, body_if, defined_at, is_union, is_enum, or_zero, or_handle, number, arm_by, labelled_arms, default_arm}
 use Rattle.idl_legal_laws.proofs.Numbers.{at_its_number}
-use Rattle.idl_rule_definitions.proofs.Needed.{conjunction, right}
-use Rattle.idl_legal_laws.proofs.KeptTypes.{none_of}
-use Rattle.idl_legal_laws.proofs.Inner.{neither_one}
-use Rattle.idl_legal_laws.proofs.Referents.{left}
-use Rattle.idl_legal_laws.proofs.Among.{Among, among_left, among_right, Each, each_at, each_left, each_right, each_flat, each_then, each_unflat, each_all, none_each, flat_join}
+use Rattle.idl_rule_definitions.proofs.Needed.{conjunction}
+use Rattle.std.proofs.lemmas.Bool.{or_right as right, or_parts as none_of, or_left as left}
+use Rattle.idl_rule_definitions.proofs.Order.{none as neither_one}
+use Rattle.idl_legal_laws.proofs.Among.{Among, among_left, among_right, Each, each_at, each_left, each_right, each_flat, each_then, each_unflat, each_all, none_each}
+use Rattle.std.proofs.lemmas.Grind.{flat_map-append as flat_join}
 use Rattle.idl_legal_laws.proofs.Whole.{lone, switch_of, enumerator_nodes}
 use Rattle.idl_legal_laws.proofs.Scenes.{IsKept, There, keeps_there, beside_there, is_made, table_all}
 use Rattle.idl_legal_laws.proofs.Tags.{KeptTag, kept_tag, no_not}
-
-fails_at : (c : Construct) (rule at : ℕ) (b : Bool) → broken_at c rule at b ≡ [] → b ≡ false
-fails_at c rule at false h = refl
-fails_at c rule at true h = absurd (cc)
+use Rattle.idl_legal_laws.proofs.fields.Words.{broken_is as fails_at}
 
 -- ## Enumerators
 

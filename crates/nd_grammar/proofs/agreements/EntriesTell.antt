@@ -1,7 +1,7 @@
 -- What the counts and tags of a stream say is told by the node at which they stand.
-use Rattle.std.proofs.Common.{◌≡◌, ℕ, ◌+◌, ◌<◌, ◌≤◌, zero, suc, ℤ, Bool, true, false, List, [], ◌∷◌, ◌++◌, length, length-append, Option, Some, None, refl, ap, sym, ◌∙◌, arith, subst, replicate}
-use Rattle.std.proofs.Common.{append_assoc, drop}
-use Rattle.std.specs.Prelude.{flat_map, sum}
+use Rattle.std.proofs.Common.{◌≡◌, ℕ, ◌+◌, zero, suc, ℤ, Bool, true, false, List, [], ◌∷◌, ◌++◌, length, length-append, Option, Some, None, refl, ap, sym, ◌∙◌, arith, subst, replicate, append_assoc}
+use Rattle.std.proofs.Common.{drop}
+use Rattle.std.specs.Prelude.{flat_map}
 use Rattle.std.specs.List.{AllByRecursion, slice_get}
 use Rattle.std.proofs.lemmas.List.{append-nil}
 use Rattle.nd_types.specs.declared.types.TypeDef.{TypeDef}
@@ -18,10 +18,10 @@ use Rattle.nd_value.specs.Tree.{Tree, Trees, node, none, more, Label, Flat, flat
 use Rattle.nd_value.specs.Agreement.{Agreement, offset_of, tag_of}
 use Rattle.nd_value.specs.Setting.{Setting, root_list, root_at, or_unread, cell_at, cell_home}
 use Rattle.nd_value.specs.Nodes.{child_types, child_agreements, first_agreements, rest_agreements}
-use Rattle.nd_value.specs.Deferral.{Step, root_stands, referent_stands, stands_already, standing_root, standing_by, standing_cell, direct, root_type, before_pipes}
+use Rattle.nd_value.specs.Deferral.{Step, root_stands, referent_stands, stands_already, standing_root, standing_by, direct, root_type, before_pipes}
 use Rattle.nd_value.specs.Variables.{root_agreements}
 use Rattle.nd_value.proofs.Apart.{all_append}
-use Rattle.nd_grammar.specs.Entry.{Kind, Entry, Align, Max, Offset, Actual, Chunk, Number, Num, Tag, Text, Context, Test, Unread}
+use Rattle.nd_grammar.specs.Entry.{Kind, Entry, Max, Offset, Actual, Num, Tag, Text, Context, Unread}
 use Rattle.nd_grammar.specs.InPlace.{before_children, entries, in_place, tag_entries, counts, tests, own_tests, child_tests, hoisted_max, hoisted, whole_value}
 use Rattle.nd_grammar.specs.Stream.{Stream, step_entries, root_test, root_tests, chunk_entries, chunks, pipe_entries, pipes_entries}
 use Rattle.nd_grammar.proofs.next.NextInPlace.{View, view, v_prim, v_enum, v_struct, v_array, v_text, v_union, v_pointer, v_context, v_unread}
@@ -57,15 +57,15 @@ TellsOf v x = Tells (flat (more v none)) (hoisted_max 0 (more v none)) x.node x.
 abbrev pub TellsAt : Graph → Entry → Type 0
 TellsAt g x = TellsOf (home_tree g x.home) x
 
-node_here : (pre rest : List Flat) (f : Flat) → node_at (pre ++ (f ∷ rest)) (length pre) ≡ f
+pub node_here : (pre rest : List Flat) (f : Flat) → node_at (pre ++ (f ∷ rest)) (length pre) ≡ f
 node_here [] rest f = refl
 node_here (p ∷ pre) rest f = node_here pre rest f
 
-flat_length : (ts : Trees) → length (flat ts) ≡ node_count ts
+pub flat_length : (ts : Trees) → length (flat ts) ≡ node_count ts
 flat_length none = refl
 flat_length (more (node l ks) ts) = let a = flat_length ks in let b = flat_length ts in omega (arith, a, b, length-append (flat ks) (flat ts))
 
-flat_cut : (k : ℕ) (ts : Trees) → flat ts ≡ flat (take_trees k ts) ++ flat (drop_trees k ts)
+pub flat_cut : (k : ℕ) (ts : Trees) → flat ts ≡ flat (take_trees k ts) ++ flat (drop_trees k ts)
 flat_cut zero ts = refl
 flat_cut (suc k) none = refl
 flat_cut (suc k) (more (node l ks) ts) =

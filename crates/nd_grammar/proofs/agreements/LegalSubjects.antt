@@ -1,9 +1,8 @@
 -- In a legal interface attributes stand only on fields whose subjects have what they speak of.
-use Rattle.std.proofs.Common.{◌≡◌, ℕ, ◌+◌, Bool, true, false, ◌&&◌, List, [], ◌∷◌, ◌++◌, Option, Some, None, refl, ap, sym, ◌∙◌, inl, inr, ◌⊎◌, subst}
+use Rattle.std.proofs.Common.{◌≡◌, ℕ, ◌+◌, Bool, true, false, ◌&&◌, List, [], ◌∷◌, ◌++◌, Option, Some, None, refl, ap, sym, inl, inr, subst}
 use Rattle.std.specs.Prelude.{map, not, eqb, filter, cond, ◌==◌, ◌||◌}
 use Rattle.std.specs.List.{AllByRecursion, list_all, list_any}
-use Rattle.std.proofs.lemmas.Bool.{and_parts, eq-eqb}
-use Rattle.nd_types.specs.declared.types.TypeDef.{TypeDef}
+use Rattle.std.proofs.lemmas.Bool.{and_parts, eq-eqb, or_left as first_or, or_right as second_or}
 use Rattle.nd_types.specs.declared.types.TypeId.{TypeId}
 use Rattle.nd_types.specs.declared.types.Field.{Field}
 use Rattle.nd_types.specs.declared.types.Attr.{Attr}
@@ -31,14 +30,6 @@ use Rattle.nd_grammar.proofs.agreements.StreamFinds.{RootFits}
 implied : (a b : Bool) → (not a || b) ≡ true → a ≡ true → b ≡ true
 implied true b h e = h
 implied false b h e = cc
-
-first_or : (a b : Bool) → a ≡ true → (a || b) ≡ true
-first_or true b e = refl
-first_or false b e = cc
-
-second_or : (a b : Bool) → b ≡ true → (a || b) ≡ true
-second_or true b e = refl
-second_or false b e = e
 
 -- an attribute that is there
 has_of : (vs : List AttrVar) (v : AttrVar) → Among vs v → list_any (λ u. attr_rank u.attr == attr_rank v.attr) vs ≡ true

@@ -1,14 +1,12 @@
 -- Each agreement that a stream of a sound graph tries stands after the count or tag that it speaks of.
-use Rattle.std.proofs.Common.{◌≡◌, ℕ, ◌+◌, ◌<◌, ◌≤◌, ◌-◌, zero, suc, Bool, true, false, List, [], ◌∷◌, ◌++◌, length, Option, Some, None, refl, ap, sym, ◌∙◌, inl, inr, ◌⊎◌, arith, subst, replicate}
+use Rattle.std.proofs.Common.{◌≡◌, ℕ, ◌+◌, ◌<◌, ◌≤◌, ◌-◌, zero, suc, true, false, List, [], ◌∷◌, ◌++◌, length, Option, Some, None, refl, ap, sym, ◌∙◌, inl, inr, ◌⊎◌, arith, subst, replicate}
 use Rattle.std.proofs.Common.{append_assoc, drop}
-use Rattle.std.specs.Prelude.{flat_map, map, sum, cond, not, eqb, ◌||◌, ◌&&◌, filter, ◌==◌}
-use Rattle.std.specs.List.{AllByRecursion, slice_get, list_any, list_all, enumerate_from}
+use Rattle.std.specs.Prelude.{flat_map, map, sum}
+use Rattle.std.specs.List.{AllByRecursion, slice_get}
 use Rattle.std.proofs.lemmas.Grind.{flat_map-append}
-use Rattle.std.proofs.lemmas.List.{append-nil}
-use Rattle.std.proofs.lemmas.Bool.{and_parts, or_cases, not-true, eq-eqb, both_ways, cases_lt}
+use Rattle.std.proofs.lemmas.Bool.{both_ways, cases_lt}
 use Rattle.std.proofs.lemmas.Option.{same_Some}
 use Rattle.nd_types.specs.declared.types.TypeDef.{TypeDef}
-use Rattle.nd_types.specs.declared.types.TypeId.{TypeId}
 use Rattle.nd_types.specs.declared.types.TypeDef.TheVariants as def
 use Rattle.nd_types.specs.declared.types.Class.{Class}
 use Rattle.nd_types.specs.declared.types.Class.TheVariants.{Ref, Unique, Full}
@@ -23,26 +21,27 @@ use Rattle.nd_value.specs.declared.item.Home.TheVariants as home
 use Rattle.nd_value.specs.Tree as tree
 use Rattle.nd_value.specs.Tree.{Tree, Trees, node, none, more, Label, Referent, count, node_count, is_pointer, cell_in, take_trees, drop_trees}
 use Rattle.nd_value.specs.Agreement.{Agreement, agreement}
-use Rattle.nd_value.specs.Setting.{Setting, Among, root_list, root_at, or_unread, cell_at, cell_tree, cell_of_number, cell_home}
+use Rattle.nd_value.specs.Setting.{Setting, root_list, root_at, or_unread, cell_at, cell_tree, cell_of_number, cell_home}
 use Rattle.nd_value.specs.Nodes.{TypedNode, nodes_of, child_types, child_agreements, first_agreements, rest_agreements}
 use Rattle.nd_value.specs.Deferral.{Pending, pointer, pointer_by, home_pointers, Due, due_root, due_referent, due_roots, before_pipes, Step, Deferral, none_due, at_root, at_null, at_standing}
 use Rattle.nd_value.specs.Deferral.{at_referent, Placed_cells, IsPlacedFull, Standing, standing_root, standing_by, standing_cell, root_type, root_cell, direct, due_of}
 use Rattle.nd_value.specs.Variables.{root_agreements, variable}
-use Rattle.nd_value.proofs.Apart.{all_append, all_left, all_right, among_left, among_right}
+use Rattle.nd_value.proofs.Apart.{all_append, all_left, all_right}
 use Rattle.nd_value.proofs.NodeFacts.{IsSound}
 use Rattle.nd_value.proofs.DeferralExists.{direct_is}
 use Rattle.nd_value.proofs.DeferralBridge.{some_before}
-use Rattle.nd_grammar.specs.Entry.{Kind, Entry, Align, Chunk, Unread}
+use Rattle.nd_grammar.specs.Entry.{Entry, Align, Chunk, Unread}
 use Rattle.nd_grammar.specs.InPlace.{entries, in_place, tests, before_children}
-use Rattle.nd_grammar.specs.Stream.{Stream, step_entries, standing_entries, step_tests, root_test, root_tests, chunk_entries, chunks, Cuts, pipe_entries, pipes_entries, AllCut, head_entries}
+use Rattle.nd_grammar.specs.Stream.{Stream, step_entries, standing_entries, step_tests, root_test, root_tests, chunks, Cuts, pipe_entries, pipes_entries, AllCut}
 use Rattle.nd_grammar.proofs.next.Matching.{Known, NodeKnown, PointeeKnown}
-use Rattle.nd_grammar.proofs.next.HoistedMaxes.{HoistsLast, no_children, replicate_only, replicate_last}
+use Rattle.nd_grammar.proofs.next.HoistedMaxes.{no_children, replicate_only, replicate_last}
 use Rattle.nd_grammar.proofs.next.KnownNodes.{known_cells, known_roots}
 use Rattle.nd_grammar.proofs.next.NextPipes.{sum_first, count_drop, known_take, known_drop, pipe_label, unread_pipe}
-use Rattle.nd_grammar.proofs.next.NextStream.{IsLaidOut, IsPipeRoot, drop_at, all_at}
+use Rattle.nd_grammar.proofs.next.NextStream.{IsLaidOut, IsPipeRoot, drop_at}
+use Rattle.nd_lemmas.proofs.Lists.{all_at}
 use Rattle.nd_grammar.proofs.next.PointerPlaces.{root_there}
-use Rattle.nd_grammar.proofs.agreements.TestsFind.{IsReadKind, AreRead, Finds, onto, behind, Within, still_seen, now_seen, IsNoTest, kinds_find, kinds_read, is_read, read_label, AttrFits, AllFit}
-use Rattle.nd_grammar.proofs.agreements.TestsFind.{AgsFit, StandsAt, stands_more, HasSubjects, tests_find, child_fits, in_place_find, NodeStands, whole_find, whole_stands}
+use Rattle.nd_grammar.proofs.agreements.TestsFind.{IsReadKind, Finds, onto, behind, Within, still_seen, now_seen, kinds_find, is_read, AttrFits, AllFit, AgsFit, stands_more, HasSubjects, tests_find}
+use Rattle.nd_grammar.proofs.agreements.TestsFind.{child_fits, in_place_find, NodeStands, whole_find, whole_stands}
 
 -- what an agreement of a parameter speaks of is in its subject's type
 abbrev pub RootFits : Table → Root → Type 0

@@ -1,5 +1,5 @@
 -- Each agreement that a stream tries finds the count or tag that it speaks of, at its place.
-use Rattle.std.proofs.Common.{◌≡◌, ℕ, ◌+◌, ℤ, Bool, true, false, ◌&&◌, List, [], ◌∷◌, ◌++◌, Option, Some, None, refl, ap, ap₂, sym, ◌∙◌, inl, inr, ◌⊎◌, subst, append_assoc}
+use Rattle.std.proofs.Common.{◌≡◌, ℕ, ◌+◌, ℤ, Bool, true, false, ◌&&◌, List, [], ◌∷◌, ◌++◌, Some, refl, ap, ap₂, sym, ◌∙◌, inl, inr, ◌⊎◌, subst, append_assoc}
 use Rattle.std.specs.Prelude.{pos, ◌-ℤ◌, eqb, cond, ◌||◌}
 use Rattle.std.specs.List.{AllByRecursion}
 use Rattle.std.proofs.lemmas.Bool.{and_parts, or_cases, eqb-true, eq-eqb}
@@ -8,16 +8,14 @@ use Rattle.nd_base.specs.declared.octets.Order.{Order}
 use Rattle.nd_types.specs.declared.types.Attr.{Attr}
 use Rattle.nd_types.specs.declared.types.Attr.TheVariants as attr
 use Rattle.nd_value.specs.declared.value.Graph.{Graph}
-use Rattle.nd_value.specs.declared.value.CellId.{CellId}
 use Rattle.nd_value.specs.declared.item.Home.{Home}
 use Rattle.nd_value.specs.declared.item.Home.TheVariants as home
 use Rattle.nd_value.specs.Agreement.{offset_of, tag_of}
 use Rattle.nd_value.specs.Tree.{Flat, flat, more, none}
 use Rattle.nd_value.specs.Setting.{Setting, Among}
-use Rattle.nd_value.specs.Conforms.{IsPartial}
 use Rattle.nd_value.proofs.Apart.{all_append, all_among, among_left, among_right}
-use Rattle.nd_value.proofs.NodeFacts.{IsSound, sound_partial}
-use Rattle.nd_grammar.specs.Entry.{Kind, Entry, Align, Max, Offset, Actual, Chunk, Number, Num, Tag, Text, Context, Test, Unread, size_at, EntryAt, end_to_end}
+use Rattle.nd_value.proofs.NodeFacts.{IsSound}
+use Rattle.nd_grammar.specs.Entry.{Kind, Entry, Align, Max, Offset, Actual, Tag, Test, Unread, size_at, EntryAt, end_to_end}
 use Rattle.nd_grammar.specs.InPlace.{hoisted_max}
 use Rattle.nd_grammar.specs.LegalSide.{IsLegalSide}
 use Rattle.nd_grammar.specs.Represents.{IsRendered}
@@ -30,7 +28,7 @@ use Rattle.nd_grammar.proofs.agreements.LegalSubjects.{has_subjects, roots_fit}
 use Rattle.nd_grammar.proofs.conforming.Passed.{IsFound, AllFound}
 use Rattle.nd_grammar.proofs.next.Spelt.{not_spelt}
 use Rattle.nd_grammar.proofs.agreements.StreamFinds.{stream_finds}
-use Rattle.nd_grammar.proofs.agreements.TestsFind.{IsReadKind, Found, Finds, Spoken}
+use Rattle.nd_grammar.proofs.agreements.TestsFind.{Found, Finds, Spoken}
 
 -- ## The first entry that an attribute speaks of
 
@@ -52,11 +50,11 @@ first_met a h n (x ∷ xs) y m e = go (meets a h n x) refl m (λ k. first_met a 
         let (z, k, g, t) = later m in
         (z, inr k, g, ap (λ t. cond t (Some x.at) (tested_at xs a h n)) f ∙ t)
 
-same_home_self : (h : Home) → same_home h h ≡ true
+pub same_home_self : (h : Home) → same_home h h ≡ true
 same_home_self (home.Root i) = eq-eqb i i refl
 same_home_self (home.Cell c) = eq-eqb c.0 c.0 refl
 
-same_home_is : (h k : Home) → same_home h k ≡ true → h ≡ k
+pub same_home_is : (h k : Home) → same_home h k ≡ true → h ≡ k
 same_home_is (home.Root i) (home.Root j) e = ap home.Root (eqb-true i j e)
 same_home_is (home.Root i) (home.Cell d) e = cc
 same_home_is (home.Cell c) (home.Root j) e = cc

@@ -1,10 +1,8 @@
 -- Over values in their places: each agreement that is tried stands after the count or tag that it speaks of.
-use Rattle.std.proofs.Common.{◌≡◌, ℕ, ◌+◌, ℤ, Bool, true, false, List, [], ◌∷◌, ◌++◌, length, Option, Some, None, refl, ap, sym, ◌∙◌, inl, inr, ◌⊎◌, subst, replicate}
-use Rattle.std.specs.Prelude.{pos, ◌||◌, map, flat_map}
+use Rattle.std.proofs.Common.{◌≡◌, ℕ, ◌+◌, ℤ, Bool, true, false, List, [], ◌∷◌, ◌++◌, Option, Some, None, refl, ap, sym, ◌∙◌, inl, inr, ◌⊎◌, subst}
+use Rattle.std.specs.Prelude.{pos, ◌||◌, map}
 use Rattle.std.specs.List.{AllByRecursion}
-use Rattle.std.proofs.lemmas.Grind.{flat_map-append}
 use Rattle.nd_types.specs.declared.types.TypeDef.{TypeDef}
-use Rattle.nd_types.specs.declared.types.TypeId.{TypeId}
 use Rattle.nd_types.specs.declared.types.Field.{Field}
 use Rattle.nd_types.specs.declared.types.Arm.{Arm}
 use Rattle.nd_types.specs.declared.types.Attr.{Attr}
@@ -22,12 +20,13 @@ use Rattle.nd_value.specs.Agreement.{Agreement, agreement, number_in, found_in, 
 use Rattle.nd_value.specs.Setting.{Among}
 use Rattle.nd_value.specs.Nodes.{child_types, child_agreements, first_agreements, rest_agreements}
 use Rattle.nd_value.proofs.Apart.{all_left, all_right, all_append, among_left, among_right}
-use Rattle.nd_grammar.specs.Entry.{Kind, Entry, Align, Max, Offset, Actual, Chunk, Number, Num, Tag, Text, Context, Test, Unread}
+use Rattle.nd_grammar.specs.Entry.{Kind, Entry, Max, Offset, Actual, Num, Tag, Text, Test, Unread}
 use Rattle.nd_grammar.specs.InPlace.{before_children, entries, in_place, tag_entries, counts, tests, own_tests, child_tests, own_max, hoisted_max, hoisted, whole_value}
 use Rattle.nd_grammar.specs.Tested.{HoldsFound, node_of}
 use Rattle.nd_grammar.proofs.next.Matching.{Known}
 use Rattle.nd_grammar.proofs.next.NextInPlace.{View, view, v_prim, v_enum, v_struct, v_array, v_text, v_union, v_pointer, v_context, v_unread}
-use Rattle.nd_grammar.proofs.next.HoistedMaxes.{OnlyLast, last_of, HoistsLast, children, no_children}
+use Rattle.nd_grammar.proofs.next.HoistedMaxes.{OnlyLast, last_of, HoistsLast, children}
+use Rattle.nd_grammar.proofs.next.NextWhole.{before_unread as unread_before}
 
 -- ## What is among earlier entries
 
@@ -120,11 +119,6 @@ plain_by table t d l ks (v_unread f) = subst (AllByRecursion IsNoTest) (sym (f k
 
 pub before_plain : (table : Table) (t : ℕ) (d : Option TypeDef) (l : Label) (ks : Trees) → AllByRecursion IsNoTest (before_children table t d l ks)
 before_plain table t d l ks = plain_by table t d l ks (view table t d l)
-
-unread_before : (table : Table) (t : ℕ) (d : Option TypeDef) (ks : Trees) → before_children table t d tree.Unread ks ≡ Unread ∷ []
-unread_before table t (Some (def.Prim p)) ks = refl
-unread_before table t None ks = refl
-unread_before table t (Some _) ks = refl
 
 pub read_label : (table : Table) (t : ℕ) (d : Option TypeDef) (l : Label) (ks : Trees) → AllByRecursion IsReadKind (before_children table t d l ks) → l ≡ tree.Unread → ⊥
 read_label table t d l ks r e =

@@ -3,7 +3,7 @@ use Rattle.std.proofs.Common.{◌≡◌, ℕ, ◌+◌, ◌<◌, ◌≤◌, ℤ, 
 use Rattle.std.specs.Prelude.{option_map, eqb, ltb, cond, not, ◌||◌}
 use Rattle.std.specs.Ordering.{int_eq}
 use Rattle.std.specs.List.{AllByRecursion, list_any}
-use Rattle.std.proofs.lemmas.Bool.{le-ltb, eqb-true, eq-eqb, eqb-false, and_right}
+use Rattle.std.proofs.lemmas.Bool.{le-ltb, eqb-true, eq-eqb, eqb-false, and_right, or_parts as either_false}
 use Rattle.std.proofs.lemmas.Option.{same_Some}
 use Rattle.std.proofs.lemmas.Cmp.{int_eq_equiv}
 use Rattle.nd_base.specs.declared.octets.Order.{Order}
@@ -26,10 +26,6 @@ use Rattle.nd_grammar.proofs.conforming.GoodEntries.{IsGood, GoodEntry}
 not_refused : (b : Bool) (r : ℕ × Reason) (o : Option (ℕ × Reason)) → b ≡ false → o ≡ None → refused_if b r o ≡ None
 not_refused true r o e f = cc
 not_refused false r o e f = f
-
-either_false : (x y : Bool) → (x || y) ≡ false → (x ≡ false) × (y ≡ false)
-either_false true y h = cc
-either_false false y h = (refl, h)
 
 no_zero : (b : ℕ) (os : List ℕ) → list_any (eqb 0) (b ∷ os) ≡ false → eqb b 0 ≡ false
 no_zero b os e =

@@ -1,4 +1,5 @@
--- A partial graph whose stream is accepted whole conforms: each node fits, each agreement holds, and its nodes are few.
+-- A partial graph whose stream is accepted whole conforms: each node fits, each agreement holds, and its nodes are few. What comes before the pipes and the
+-- pipes themselves are taken apart, as a head may be read whose pipes come later.
 use Rattle.std.proofs.Common.{◌≡◌, ℕ, ◌+◌, ◌-◌, ◌^◌, ◌<◌, ◌≤◌, zero, suc, Bool, true, false, List, [], ◌∷◌, ◌++◌, length, Option, Some, None, refl, ap, ap₂, sym, ◌∙◌, inl, inr, ◌⊎◌, arith, subst}
 use Rattle.std.proofs.Common.{replicate, drop}
 use Rattle.std.specs.Prelude.{map, flat_map}
@@ -32,7 +33,8 @@ use Rattle.nd_grammar.specs.Entry.{Entry}
 use Rattle.nd_grammar.specs.InPlace.{in_place, own_tests}
 use Rattle.nd_grammar.specs.Stream.{step_entries, root_test, root_tests, chunks, Cuts, pipe_entries, pipes_entries, AllCut, kids_of, representation}
 use Rattle.nd_grammar.proofs.LegalSides.{laid_out}
-use Rattle.nd_grammar.proofs.next.NextStream.{IsPipeRoot, IsLaidOut, drop_at, all_at}
+use Rattle.nd_grammar.proofs.next.NextStream.{IsPipeRoot, IsLaidOut, drop_at}
+use Rattle.nd_lemmas.proofs.Lists.{all_at, all_at as at_index}
 use Rattle.nd_grammar.proofs.next.Mapped.{no_pointers, pipe_pointers}
 use Rattle.nd_grammar.proofs.reader.ReaderInPlace.{node_entries, value_then_others}
 use Rattle.nd_grammar.proofs.reader.MadeTrees.{CellOf, CellFits, label_known, made_count}
@@ -47,7 +49,7 @@ use Rattle.nd_grammar.proofs.legal.LegalUsable.{usable_readable, root_usable, el
 use Rattle.nd_grammar.proofs.conforming.StreamConforms.{one_few, le_or, due_all, due_at, all_of, root_pointer, no_child_tests, whole_all, least_chunks, passed_chunks}
 use Rattle.nd_grammar.proofs.next.HoistedMaxes.{HoistsLast}
 
-some_before : (rs : List Root) → before_pipes rs ≤ length rs
+pub some_before : (rs : List Root) → before_pipes rs ≤ length rs
 some_before [] = omega arith
 some_before (r ∷ rs) = go r.is_pipe (some_before rs)
   where
@@ -74,33 +76,34 @@ no_count : (ks : Trees) → count ks ≡ 0 → node_count ks ≡ 0
 no_count none e = refl
 no_count (more t ts) e = absurd (omega arith)
 
-at_index : {X : Type 0} (P : X → Type 0) (xs : List X) (i : ℕ) (x : X) → AllByRecursion P xs → slice_get xs i ≡ Some x → P x
-at_index P [] i x a e = cc
-at_index P (y ∷ ys) zero x a e = subst P (same_Some _ _ e) a.0
-at_index P (y ∷ ys) (suc i) x a e = at_index P ys i x a.1 e
-
 by_index : {X : Type 0} (P : X → Type 0) (xs : List X) → ((i : ℕ) (x : X) → slice_get xs i ≡ Some x → P x) → AllByRecursion P xs
 by_index P [] f = tt
 by_index P (x ∷ xs) f = (f 0 x refl, by_index P xs (λ i y e. f (suc i) y e))
 
+-- a node fits, and agrees
+pub record NodeGood (w : Setting) (g : Graph) (x : TypedNode) : Type 0 where
+  pub fit : misfit_of w.table g x ≡ None
+  pub agrees : AgreesAt g x
+
+-- the nodes of a home are good, and few
+pub record HomeGood (w : Setting) (g : Graph) (xs : List TypedNode) (v : Tree) : Type 0 where
+  pub nodes : AllByRecursion (NodeGood w g) xs
+  pub few : node_count (more v none) < 2 ^ 32
+
+-- the entries of a root that is a pipe, with the counts of its chunks, pass
+abbrev pub PipePasses : Setting → ℕ → Root → Tree → Type 0
+PipePasses w j r v = (cut : List ℕ) × Cuts (count (kids_of v)) cut × PassedAll (pipe_entries w.table (home.Root j) (type_at w.table r.of) cut v)
+
 module _ (w : Setting) (side : IsLegalSide w) (g : Graph) (typed : AllByRecursion (CellFits g.cells) (all_pointers w g)) (made : RootsMade w.table (root_list w) g.roots)
     (all_roots : length g.roots ≡ length (root_list w)) (cells_made : AllByRecursion (CellMade w.table) g.cells)
     (reached : (c : ℕ) → 0 < c → c < length g.cells + 1 → Reached w g c) (steps : List Step) (deferral : Deferral w g [] (due_roots 0 (before_pipes (root_list w))) steps)
-    (cuts : List (List ℕ)) (all_cut : AllCut (drop (before_pipes (root_list w)) g.roots) cuts) (passed : PassedAll (representation w g steps cuts)) where
+    (steps_passed : PassedAll (flat_map (step_entries w g) steps)) (tests_passed : AllByRecursion Passed (root_tests w g 0 (root_list w) g.roots))
+    (pipes_passed : (j : ℕ) (r : Root) (v : Tree) → before_pipes (root_list w) ≤ j → slice_get (root_list w) j ≡ Some r → slice_get g.roots j ≡ Some v → PipePasses w j r v) where
   abbrev n : ℕ
   n = before_pipes (root_list w)
 
   abbrev rl : List Root
   rl = root_list w
-
-  abbrev F : List Entry
-  F = flat_map (step_entries w g) steps
-
-  abbrev T : List Entry
-  T = root_tests w g 0 (root_list w) g.roots
-
-  abbrev Q : List Entry
-  Q = pipes_entries w.table n (drop n (root_list w)) (drop n g.roots) cuts
 
   laid : IsLaidOut w
   laid = laid_out w side
@@ -114,9 +117,6 @@ module _ (w : Setting) (side : IsLegalSide w) (g : Graph) (typed : AllByRecursio
   dues_ok = due_all (DueOk w g typed made as_many) 0 n (λ j h. (
       let b : 0 + j < length rl = omega (arith, h, some_before rl) in
       (_, slice_get-get_or rl (0 + j) (record { of = 0; param = None; vars = []; is_pipe = false }) b)))
-
-  steps_passed : PassedAll F
-  steps_passed = left_passed F T (left_passed (F ++ T) Q passed)
 
   all_met : AllByRecursion (DueMet w g typed made as_many [] steps) (due_roots 0 n) × Closed w g typed made as_many [] steps
   all_met = met w g typed made as_many deferral dues_ok steps_passed
@@ -213,12 +213,7 @@ module _ (w : Setting) (side : IsLegalSide w) (g : Graph) (typed : AllByRecursio
       go j r v er ev k (inr q) = absurd (no_among (home_pointers w.table (home.Root j) r.of v) p (pipe_pointers w.table (home.Root j) r.of q.elem v q.type_is (laid.elements r.of q.elem q.type_is)) k)
   reached_placed b (by_cell {b = c} x p r ex m e) = is_placed b ((all_met.1 c (reached_placed c r) x ex).pointers p m b e).0
 
-  -- a node fits, and agrees
-  pub record NodeGood (x : TypedNode) : Type 0 where
-    pub fit : misfit_of w.table g x ≡ None
-    pub agrees : AgreesAt g x
-
-  both_good : (xs : List TypedNode) → AllByRecursion (λ x. misfit_of w.table g x ≡ None) xs → AllByRecursion (AgreesAt g) xs → AllByRecursion NodeGood xs
+  both_good : (xs : List TypedNode) → AllByRecursion (λ x. misfit_of w.table g x ≡ None) xs → AllByRecursion (AgreesAt g) xs → AllByRecursion (NodeGood w g) xs
   both_good [] a b = tt
   both_good (x ∷ xs) a b = (record { fit = a.0; agrees = b.0 }, both_good xs a.1 b.1)
 
@@ -237,15 +232,11 @@ module _ (w : Setting) (side : IsLegalSide w) (g : Graph) (typed : AllByRecursio
       (m.0, m.1) q.passed in
       omega (arith, b.below, q.light, one_few (hoists w.table t))
 
-  pub record HomeGood (xs : List TypedNode) (v : Tree) : Type 0 where
-    pub nodes : AllByRecursion NodeGood xs
-    pub few : node_count (more v none) < 2 ^ 32
-
   met_agrees : (h : Home) (t : ℕ) (v : Tree) → Met h t v → AllByRecursion (PendingAgrees w.table g) (home_pointers w.table h t v)
   met_agrees h t v m = all_of (PendingAgrees w.table g) (home_pointers w.table h t v) (λ p a c e. (m.pointers p a c e).1)
 
   -- a cell's nodes
-  pub cell_good : (b : ℕ) (x : Referent) → cell_of_number g b ≡ Some x → HomeGood (home_nodes w.table x.of x.val) x.val
+  pub cell_good : (b : ℕ) (x : Referent) → cell_of_number g b ≡ Some x → HomeGood w g (home_nodes w.table x.of x.val) x.val
   cell_good zero x e = cc
   cell_good (suc i) x e =
       let b : i < length g.cells = slice_get_within g.cells i x e in
@@ -280,7 +271,7 @@ module _ (w : Setting) (side : IsLegalSide w) (g : Graph) (typed : AllByRecursio
   tested : (j : ℕ) (r : Root) (v : Tree) → slice_get rl j ≡ Some r → slice_get g.roots j ≡ Some v → AllByRecursion Passed (root_test g j v (root_agreements w g r.vars))
   tested j r v e f =
       let z : 0 + j ≡ j = omega arith in
-      subst (λ k. AllByRecursion Passed (root_test g k v (root_agreements w g r.vars))) z (test_at 0 rl g.roots (right_passed F T (left_passed (F ++ T) Q passed)).passed j r v e f)
+      subst (λ k. AllByRecursion Passed (root_test g k v (root_agreements w g r.vars))) z (test_at 0 rl g.roots tests_passed j r v e f)
 
   own_pending : (j : ℕ) (d : Option TypeDef) (l : Label) (ks : Trees) (ags : List Agreement) → AllByRecursion Passed (root_test g j (node l ks) ags)
       → AllByRecursion (PendingAgrees w.table g) (pointer_by d (is_pointer l) (cell_in l) (home.Root j) 0 ags)
@@ -306,7 +297,7 @@ module _ (w : Setting) (side : IsLegalSide w) (g : Graph) (typed : AllByRecursio
 
   -- a root that stands as itself
   plain_good : (j : ℕ) (r : Root) (l : Label) (ks : Trees) → slice_get rl j ≡ Some r → slice_get g.roots j ≡ Some (node l ks) → j < n → Met (home.Root j) r.of (node l ks)
-      → HomeGood (governed_nodes w.table r.of (root_agreements w g r.vars) (node l ks)) (node l ks)
+      → HomeGood w g (governed_nodes w.table r.of (root_agreements w g r.vars) (node l ks)) (node l ks)
   plain_good j r l ks er ev h m =
       let v : Tree = node l ks in
       let ags : List Agreement = root_agreements w g r.vars in
@@ -334,7 +325,7 @@ module _ (w : Setting) (side : IsLegalSide w) (g : Graph) (typed : AllByRecursio
 
   -- a root whose referent is in its place
   direct_good : (j : ℕ) (r : Root) (to : TypeId) (c : ℕ) (ks : Trees) → slice_get rl j ≡ Some r → slice_get g.roots j ≡ Some (node (tree.Ptr (Some c)) ks)
-      → type_at w.table r.of ≡ Some (def.Pointer Ref to) → HomeGood (governed_nodes w.table r.of (root_agreements w g r.vars) (node (tree.Ptr (Some c)) ks)) (node (tree.Ptr (Some c)) ks)
+      → type_at w.table r.of ≡ Some (def.Pointer Ref to) → HomeGood w g (governed_nodes w.table r.of (root_agreements w g r.vars) (node (tree.Ptr (Some c)) ks)) (node (tree.Ptr (Some c)) ks)
   direct_good j r to c ks er ev ed =
       let l : Label = tree.Ptr (Some c) in
       let d : Option TypeDef = type_at w.table r.of in
@@ -349,7 +340,7 @@ module _ (w : Setting) (side : IsLegalSide w) (g : Graph) (typed : AllByRecursio
       ap (λ u. its ∷ (nodes_of w.table u (child_agreements d ks) 1 ks ++ [])) (pointer_kids d to (Some c) ks ed) ∙ ap (λ u. its ∷ (u ++ [])) (no_nodes w.table (child_agreements d ks) 1 ks) in
       let nz : node_count ks ≡ 0 = no_count ks zero_kids in
       record {
-        nodes = subst (AllByRecursion NodeGood) (sym e) (
+        nodes = subst (AllByRecursion (NodeGood w g)) (sym e) (
           record {
             fit = misfit_none w.table g 0 r.of ags l ks f (label_known g d l ks (home.Root j) 0 [] f.shape fits) (pointer_rest d to (Some c) ks ed);
             agrees = (tests_agree w.table g (cell_home c) 0 (cell_at g c) ags (tested j r (node l ks) er ev), tt);
@@ -360,6 +351,161 @@ module _ (w : Setting) (side : IsLegalSide w) (g : Graph) (typed : AllByRecursio
       }
 
   -- a pipe
+  many_of : (P : ℕ → Type 0) (t k : ℕ) → P t → AllByRecursion P (replicate k t)
+  many_of P t zero a = tt
+  many_of P t (suc k) a = (a, many_of P t k a)
+
+  pipe_rest : (e : TypeId) (ks : Trees) → Rest w.table (Some (def.Pipe e)) tree.Pipe ks
+  pipe_rest e ks = record { range = refl; within = refl; no_zero = refl; arm = refl }
+
+  elements_good : (h : Home) (t : ℕ) (x : TypeId) (ks : Trees) (cut : List ℕ) → type_at w.table t ≡ Some (def.Pipe x) → Cuts (count ks) cut → MadeTrees w.table (replicate (count ks) x.0) ks
+      → PassedAll (chunks w.table h x.0 1 cut ks) → HomeGood w g (nodes_of w.table (replicate (count ks) x.0) [] 1 ks) (node tree.Pipe ks)
+  elements_good h t x ks cut et c m p =
+      let N : List TypedNode = nodes_of w.table (replicate (count ks) x.0) [] 1 ks in
+      let no_p : flat_map (pointer w.table h) N ≡ [] = no_pointers w.table h (replicate (count ks) x.0) [] 1 ks (many_of _ x.0 (count ks) (laid.elements t x et)) in
+      let q : AllByRecursion Passed (in_place w.table h (replicate (count ks) x.0) 1 ks) = passed_chunks w.table h x.0 1 cut ks c.0 p.passed in
+      let l : least (in_place w.table h (replicate (count ks) x.0) 1 ks) ≤ least (chunks w.table h x.0 1 cut ks) = least_chunks w.table h x.0 1 cut ks c.0 in
+      let f : AllFew w.table h hoisting (some_members w.table side.operations side.legal) (some_bound w.table side.operations side.legal) 32 (replicate (count ks) x.0) 1 ks =
+      list_few w.table h hoisting (some_members w.table side.operations side.legal) (some_bound w.table side.operations side.legal) 32 (replicate (count ks) x.0)
+      (many_of _ x.0 (count ks) (value_few w.table h hoisting (some_members w.table side.operations side.legal) (some_bound w.table side.operations side.legal) 32 x.0
+      (usable_readable w.table side.operations side.legal x.0 (element_usable w.table side.operations side.legal t x et)))) 1 ks m q in
+      let o : ones w.table h hoisting (some_members w.table side.operations side.legal) (some_bound w.table side.operations side.legal) (replicate (count ks) x.0) ≡ 0 =
+      many_ones w.table h hoisting (some_members w.table side.operations side.legal) (some_bound w.table side.operations side.legal) x.0 (count ks) (hoisting.piped t x et) in
+      record {
+        nodes = both_good N
+            (in_place_fits w.table g h (replicate (count ks) x.0) [] [] 1 ks m (subst (AllByRecursion (CellFits g.cells)) (sym no_p) tt) q)
+            (in_place_agrees w.table g h (replicate (count ks) x.0) [] 1 ks m (subst (AllByRecursion (PendingAgrees w.table g)) (sym no_p) tt) q (no_child_tests h 1 ks));
+        few = omega (arith, f.below, o, l, p.light);
+      }
+
+  pipe_good : (j : ℕ) (r : Root) (l : Label) (ks : Trees) → IsPipeRoot w.table r → slice_get rl j ≡ Some r → slice_get g.roots j ≡ Some (node l ks) → (cut : List ℕ) → Cuts (count ks) cut
+      → PassedAll (pipe_entries w.table (home.Root j) (type_at w.table r.of) cut (node l ks))
+      → HomeGood w g (governed_nodes w.table r.of (root_agreements w g r.vars) (node l ks)) (node l ks)
+  pipe_good j r l ks q er ev cut c p =
+      let k : MadeTrees w.table (r.of ∷ []) (more (node l ks) none) = root_made w.table rl g.roots made j r (node l ks) er ev in
+      let p' : PassedAll (pipe_entries w.table (home.Root j) (Some (def.Pipe q.elem)) cut (node l ks)) = subst (λ d. PassedAll (pipe_entries w.table (home.Root j) d cut (node l ks))) q.type_is p in
+      by_made k.0 k.1 p'
+    where
+      at_pipe : (l : Label) → l ≡ tree.Pipe → FitsAlone w.table (type_at w.table r.of) l ks → MadeTrees w.table (child_types (type_at w.table r.of) l ks) ks
+          → PassedAll (pipe_entries w.table (home.Root j) (Some (def.Pipe q.elem)) cut (node l ks))
+          → HomeGood w g (governed_nodes w.table r.of (root_agreements w g r.vars) (node l ks)) (node l ks)
+      at_pipe (tree.Num z) e f m p = cc
+      at_pipe tree.Rec e f m p = cc
+      at_pipe (tree.Arr a b) e f m p = cc
+      at_pipe (tree.Text a b) e f m p = cc
+      at_pipe (tree.Union z) e f m p = cc
+      at_pipe (tree.Ptr z) e f m p = cc
+      at_pipe (tree.Context a b) e f m p = cc
+      at_pipe tree.Unread e f m p = cc
+      at_pipe tree.Pipe e f m p =
+          let d : Option TypeDef = type_at w.table r.of in
+          let x : TypeId = q.elem in
+          let m' : MadeTrees w.table (replicate (count ks) x.0) ks = subst (λ u. MadeTrees w.table (child_types u tree.Pipe ks) ks) q.type_is m in
+          let s : HomeGood w g (nodes_of w.table (replicate (count ks) x.0) [] 1 ks) (node tree.Pipe ks) = elements_good (home.Root j) r.of x ks cut q.type_is c m' p in
+          let rest : Rest w.table d tree.Pipe ks = subst (λ u. Rest w.table u tree.Pipe ks) (sym q.type_is) (pipe_rest x ks) in
+          let no_own : AllByRecursion (CellFits g.cells) (pointer_by d false None (home.Root j) 0 []) =
+          subst (λ u. AllByRecursion (CellFits g.cells) (pointer_by u false None (home.Root j) 0 [])) (sym q.type_is) tt in
+          let its : List Agreement → TypedNode = λ ags. record { node = 0; of = r.of; agreements = ags; label = tree.Pipe; kids = ks } in
+          let fit0 : misfit_of w.table g (its (root_agreements w g r.vars)) ≡ None =
+          misfit_none w.table g 0 r.of (root_agreements w g r.vars) tree.Pipe ks f (label_known g d tree.Pipe ks (home.Root j) 0 [] f.shape no_own) rest in
+          let agrees0 : AgreesAt g (its (root_agreements w g r.vars)) = subst (λ u. AgreesAt g (its (root_agreements w g u))) (sym q.no_vars) (tt, tt) in
+          record {
+            nodes =
+                subst (λ u. AllByRecursion (NodeGood w g) (its (root_agreements w g r.vars) ∷ (nodes_of w.table (child_types u tree.Pipe ks) (child_agreements u ks) 1 ks ++ []))) (sym q.type_is)
+                (record { fit = fit0; agrees = agrees0 }, all_append (NodeGood w g) (nodes_of w.table (replicate (count ks) x.0) [] 1 ks) [] s.nodes tt);
+            few = s.few;
+          }
+
+      by_made : MadeNode w.table (type_at w.table r.of) l ks → MadeTrees w.table (child_types (type_at w.table r.of) l ks) ks
+          → PassedAll (pipe_entries w.table (home.Root j) (Some (def.Pipe q.elem)) cut (node l ks))
+          → HomeGood w g (governed_nodes w.table r.of (root_agreements w g r.vars) (node l ks)) (node l ks)
+      by_made (inl u) m p = absurd ((subst (λ k. PassedAll (pipe_entries w.table (home.Root j) (Some (def.Pipe q.elem)) cut (node k ks))) u p).passed.0)
+      by_made (inr f) m p = at_pipe l (pipe_label q.elem l ks (subst (λ d. has_shape d l ks ≡ true) q.type_is f.shape)) f m p
+
+  -- a root's nodes
+  root_good_by : (j : ℕ) (r : Root) (l : Label) (ks : Trees) → slice_get rl j ≡ Some r → slice_get g.roots j ≡ Some (node l ks) → j < n → (o : Option (ℕ × ℕ))
+      → direct (type_at w.table r.of) (node l ks) ≡ o → Standing_met (standing_by g j r.of (node l ks) o)
+      → HomeGood w g (governed_nodes w.table r.of (root_agreements w g r.vars) (node l ks)) (node l ks)
+  root_good_by j r l ks er ev h None k s = plain_good j r l ks er ev h s.0
+  root_good_by j r l ks er ev h (Some (c, t)) k s =
+      let md : MadeTrees w.table (r.of ∷ []) (more (node l ks) none) = root_made w.table rl g.roots made j r (node l ks) er ev in
+      let (to, ed, el, et) = direct_is (type_at w.table r.of) l ks c t k (made_no_null w.table (type_at w.table r.of) l ks md.0) in
+      subst (λ u. HomeGood w g (governed_nodes w.table r.of (root_agreements w g r.vars) (node u ks)) (node u ks)) (sym el)
+      (direct_good j r to c ks er (subst (λ u. slice_get g.roots j ≡ Some (node u ks)) el ev) ed)
+
+  pub root_good : (j : ℕ) (r : Root) (v : Tree) → slice_get rl j ≡ Some r → slice_get g.roots j ≡ Some v → HomeGood w g (governed_nodes w.table r.of (root_agreements w g r.vars) v) v
+  root_good j r (node l ks) er ev = go (le_or j n)
+    where
+      go : (j < n) ⊎ (n ≤ j) → HomeGood w g (governed_nodes w.table r.of (root_agreements w g r.vars) (node l ks)) (node l ks)
+      go (inl h) = root_good_by j r l ks er ev h (direct (type_at w.table r.of) (node l ks)) refl (root_met j r (node l ks) er ev h)
+      go (inr h) =
+          let k : n + (j - n) ≡ j = omega arith in
+          let q : IsPipeRoot w.table r = all_at (IsPipeRoot w.table) (drop n rl) (j - n) r laid.pipes (drop_at n rl (j - n) ∙ ap (slice_get rl) k ∙ er) in
+          let (cut, c, p) = pipes_passed j r (node l ks) h er ev in
+          pipe_good j r l ks q er ev cut c p
+
+  -- all nodes
+  abbrev Good : HomeNode → Type 0
+  Good x = NodeGood w g x.typed
+
+  in_homes : (h : Home) (xs : List TypedNode) → AllByRecursion (NodeGood w g) xs → AllByRecursion Good (map (in_home h) xs)
+  in_homes h [] a = tt
+  in_homes h (x ∷ xs) a = (a.0, in_homes h xs a.1)
+
+  over_roots : (i : ℕ) (rs : List Root) (vs : List Tree)
+      → ((j : ℕ) (r : Root) (v : Tree) → slice_get rs j ≡ Some r → slice_get vs j ≡ Some v → AllByRecursion (NodeGood w g) (governed_nodes w.table r.of (root_agreements w g r.vars) v))
+      → AllByRecursion Good (root_nodes w g i rs vs)
+  over_roots i [] vs f = tt
+  over_roots i (r ∷ rs) [] f = tt
+  over_roots i (r ∷ rs) (v ∷ vs) f =
+      all_append Good (map (in_home (home.Root i)) (governed_nodes w.table r.of (root_agreements w g r.vars) v)) (root_nodes w g (i + 1) rs vs)
+      (in_homes (home.Root i) (governed_nodes w.table r.of (root_agreements w g r.vars) v) (f 0 r v refl refl)) (over_roots (i + 1) rs vs (λ j q u a b. f (suc j) q u a b))
+
+  over_cells : (i : ℕ) (xs : List Referent) → ((j : ℕ) (x : Referent) → slice_get xs j ≡ Some x → AllByRecursion (NodeGood w g) (home_nodes w.table x.of x.val))
+      → AllByRecursion Good (cell_nodes w.table i xs)
+  over_cells i [] f = tt
+  over_cells i (x ∷ xs) f =
+      all_append Good (map (in_home (cell_home i)) (home_nodes w.table x.of x.val)) (cell_nodes w.table (i + 1) xs) (in_homes (cell_home i) (home_nodes w.table x.of x.val) (f 0 x refl))
+      (over_cells (i + 1) xs (λ j y e. f (suc j) y e))
+
+  pub all_good : AllByRecursion (λ x. NodeGood w g x.typed) (all_nodes w g)
+  all_good =
+      all_append Good (root_nodes w g 0 rl g.roots) (cell_nodes w.table 1 g.cells) (over_roots 0 rl g.roots (λ j r v a b. (root_good j r v a b).nodes))
+      (over_cells 1 g.cells (λ j x e. (cell_good (suc j) x e).nodes))
+
+  root_there : (i : ℕ) (v : Tree) → slice_get g.roots i ≡ Some v → (r : Root) × (slice_get rl i ≡ Some r)
+  root_there i v e =
+      let b : i < length rl = omega (arith, slice_get_within g.roots i v e, all_roots) in
+      (_, slice_get-get_or rl i (record { of = 0; param = None; vars = []; is_pipe = false }) b)
+
+  values : (xs : List Referent) → AllByRecursion (λ x. node_count (more x.val none) < 2 ^ 32) xs → AllByRecursion (λ t. node_count (more t none) < 2 ^ 32) (map (λ c. c.val) xs)
+  values [] a = tt
+  values (x ∷ xs) a = (a.0, values xs a.1)
+
+  pub few_nodes : AllByRecursion (λ t. node_count (more t none) < 2 ^ 32) (g.roots ++ map (λ c. c.val) g.cells)
+  few_nodes =
+      all_append (λ t. node_count (more t none) < 2 ^ 32) g.roots (map (λ c. c.val) g.cells)
+      (by_index (λ t. node_count (more t none) < 2 ^ 32) g.roots (λ i v e. (let (r, f) = root_there i v e in (root_good i r v f e).few)))
+      (values g.cells (by_index (λ x. node_count (more x.val none) < 2 ^ 32) g.cells (λ i x e. (cell_good (suc i) x e).few)))
+
+-- ## A stream that is accepted whole
+
+module _ (w : Setting) (side : IsLegalSide w) (g : Graph) (typed : AllByRecursion (CellFits g.cells) (all_pointers w g)) (made : RootsMade w.table (root_list w) g.roots)
+    (all_roots : length g.roots ≡ length (root_list w)) (cells_made : AllByRecursion (CellMade w.table) g.cells)
+    (reached : (c : ℕ) → 0 < c → c < length g.cells + 1 → Reached w g c) (steps : List Step) (deferral : Deferral w g [] (due_roots 0 (before_pipes (root_list w))) steps)
+    (cuts : List (List ℕ)) (all_cut : AllCut (drop (before_pipes (root_list w)) g.roots) cuts) (passed : PassedAll (representation w g steps cuts)) where
+  abbrev first : ℕ
+  first = before_pipes (root_list w)
+
+  abbrev F : List Entry
+  F = flat_map (step_entries w g) steps
+
+  abbrev T : List Entry
+  T = root_tests w g 0 (root_list w) g.roots
+
+  abbrev Q : List Entry
+  Q = pipes_entries w.table first (drop first (root_list w)) (drop first g.roots) cuts
+
   pipe_at : (i : ℕ) (rs : List Root) (vs : List Tree) (cs : List (List ℕ)) → AllCut vs cs → PassedAll (pipes_entries w.table i rs vs cs) → (k : ℕ) (r : Root) (v : Tree) → slice_get rs k ≡ Some r
       → slice_get vs k ≡ Some v → (cut : List ℕ) × Cuts (count (kids_of v)) cut × PassedAll (pipe_entries w.table (home.Root (i + k)) (type_at w.table r.of) cut v)
   pipe_at i [] vs cs c p k r v e f = cc
@@ -381,141 +527,22 @@ module _ (w : Setting) (side : IsLegalSide w) (g : Graph) (typed : AllByRecursio
       let (d, x, y) = pipe_at (i + 1) rs vs cs c.1 (right_passed A (pipes_entries w.table (i + 1) rs vs cs) p) k r v e f in
       (d, x, subst (λ j. PassedAll (pipe_entries w.table (home.Root j) (type_at w.table r.of) d v)) z y)
 
-  many_of : (P : ℕ → Type 0) (t k : ℕ) → P t → AllByRecursion P (replicate k t)
-  many_of P t zero a = tt
-  many_of P t (suc k) a = (a, many_of P t k a)
+  steps_pass : PassedAll F
+  steps_pass = left_passed F T (left_passed (F ++ T) Q passed)
 
-  pipe_rest : (e : TypeId) (ks : Trees) → Rest w.table (Some (def.Pipe e)) tree.Pipe ks
-  pipe_rest e ks = record { range = refl; within = refl; no_zero = refl; arm = refl }
+  tests_pass : AllByRecursion Passed T
+  tests_pass = (right_passed F T (left_passed (F ++ T) Q passed)).passed
 
-  elements_good : (h : Home) (t : ℕ) (x : TypeId) (ks : Trees) (cut : List ℕ) → type_at w.table t ≡ Some (def.Pipe x) → Cuts (count ks) cut → MadeTrees w.table (replicate (count ks) x.0) ks
-      → PassedAll (chunks w.table h x.0 1 cut ks) → HomeGood (nodes_of w.table (replicate (count ks) x.0) [] 1 ks) (node tree.Pipe ks)
-  elements_good h t x ks cut et c m p =
-      let N : List TypedNode = nodes_of w.table (replicate (count ks) x.0) [] 1 ks in
-      let no_p : flat_map (pointer w.table h) N ≡ [] = no_pointers w.table h (replicate (count ks) x.0) [] 1 ks (many_of _ x.0 (count ks) (laid.elements t x et)) in
-      let q : AllByRecursion Passed (in_place w.table h (replicate (count ks) x.0) 1 ks) = passed_chunks w.table h x.0 1 cut ks c.0 p.passed in
-      let l : least (in_place w.table h (replicate (count ks) x.0) 1 ks) ≤ least (chunks w.table h x.0 1 cut ks) = least_chunks w.table h x.0 1 cut ks c.0 in
-      let f : AllFew w.table h hoisting (some_members w.table side.operations side.legal) (some_bound w.table side.operations side.legal) 32 (replicate (count ks) x.0) 1 ks =
-      list_few w.table h hoisting (some_members w.table side.operations side.legal) (some_bound w.table side.operations side.legal) 32 (replicate (count ks) x.0)
-      (many_of _ x.0 (count ks) (value_few w.table h hoisting (some_members w.table side.operations side.legal) (some_bound w.table side.operations side.legal) 32 x.0
-      (usable_readable w.table side.operations side.legal x.0 (element_usable w.table side.operations side.legal t x et)))) 1 ks m q in
-      let o : ones w.table h hoisting (some_members w.table side.operations side.legal) (some_bound w.table side.operations side.legal) (replicate (count ks) x.0) ≡ 0 =
-      many_ones w.table h hoisting (some_members w.table side.operations side.legal) (some_bound w.table side.operations side.legal) x.0 (count ks) (hoisting.piped t x et) in
-      record {
-        nodes = both_good N
-            (in_place_fits w.table g h (replicate (count ks) x.0) [] [] 1 ks m (subst (AllByRecursion (CellFits g.cells)) (sym no_p) tt) q)
-            (in_place_agrees w.table g h (replicate (count ks) x.0) [] 1 ks m (subst (AllByRecursion (PendingAgrees w.table g)) (sym no_p) tt) q (no_child_tests h 1 ks));
-        few = omega (arith, f.below, o, l, p.light);
-      }
+  pipes_pass : (j : ℕ) (r : Root) (v : Tree) → first ≤ j → slice_get (root_list w) j ≡ Some r → slice_get g.roots j ≡ Some v → PipePasses w j r v
+  pipes_pass j r v h er ev =
+      let k : first + (j - first) ≡ j = omega arith in
+      let e1 : slice_get (drop first (root_list w)) (j - first) ≡ Some r = drop_at first (root_list w) (j - first) ∙ ap (slice_get (root_list w)) k ∙ er in
+      let e2 : slice_get (drop first g.roots) (j - first) ≡ Some v = drop_at first g.roots (j - first) ∙ ap (slice_get g.roots) k ∙ ev in
+      let (cut, c, p) = pipe_at first (drop first (root_list w)) (drop first g.roots) cuts all_cut (right_passed (F ++ T) Q passed) (j - first) r v e1 e2 in
+      (cut, c, subst (λ i. PassedAll (pipe_entries w.table (home.Root i) (type_at w.table r.of) cut v)) k p)
 
-  pipe_good : (j : ℕ) (r : Root) (l : Label) (ks : Trees) → IsPipeRoot w.table r → slice_get rl j ≡ Some r → slice_get g.roots j ≡ Some (node l ks) → (cut : List ℕ) → Cuts (count ks) cut
-      → PassedAll (pipe_entries w.table (home.Root j) (type_at w.table r.of) cut (node l ks))
-      → HomeGood (governed_nodes w.table r.of (root_agreements w g r.vars) (node l ks)) (node l ks)
-  pipe_good j r l ks q er ev cut c p =
-      let k : MadeTrees w.table (r.of ∷ []) (more (node l ks) none) = root_made w.table rl g.roots made j r (node l ks) er ev in
-      let p' : PassedAll (pipe_entries w.table (home.Root j) (Some (def.Pipe q.elem)) cut (node l ks)) = subst (λ d. PassedAll (pipe_entries w.table (home.Root j) d cut (node l ks))) q.type_is p in
-      by_made k.0 k.1 p'
-    where
-      at_pipe : (l : Label) → l ≡ tree.Pipe → FitsAlone w.table (type_at w.table r.of) l ks → MadeTrees w.table (child_types (type_at w.table r.of) l ks) ks
-          → PassedAll (pipe_entries w.table (home.Root j) (Some (def.Pipe q.elem)) cut (node l ks))
-          → HomeGood (governed_nodes w.table r.of (root_agreements w g r.vars) (node l ks)) (node l ks)
-      at_pipe (tree.Num z) e f m p = cc
-      at_pipe tree.Rec e f m p = cc
-      at_pipe (tree.Arr a b) e f m p = cc
-      at_pipe (tree.Text a b) e f m p = cc
-      at_pipe (tree.Union z) e f m p = cc
-      at_pipe (tree.Ptr z) e f m p = cc
-      at_pipe (tree.Context a b) e f m p = cc
-      at_pipe tree.Unread e f m p = cc
-      at_pipe tree.Pipe e f m p =
-          let d : Option TypeDef = type_at w.table r.of in
-          let x : TypeId = q.elem in
-          let m' : MadeTrees w.table (replicate (count ks) x.0) ks = subst (λ u. MadeTrees w.table (child_types u tree.Pipe ks) ks) q.type_is m in
-          let s : HomeGood (nodes_of w.table (replicate (count ks) x.0) [] 1 ks) (node tree.Pipe ks) = elements_good (home.Root j) r.of x ks cut q.type_is c m' p in
-          let rest : Rest w.table d tree.Pipe ks = subst (λ u. Rest w.table u tree.Pipe ks) (sym q.type_is) (pipe_rest x ks) in
-          let no_own : AllByRecursion (CellFits g.cells) (pointer_by d false None (home.Root j) 0 []) =
-          subst (λ u. AllByRecursion (CellFits g.cells) (pointer_by u false None (home.Root j) 0 [])) (sym q.type_is) tt in
-          let its : List Agreement → TypedNode = λ ags. record { node = 0; of = r.of; agreements = ags; label = tree.Pipe; kids = ks } in
-          let fit0 : misfit_of w.table g (its (root_agreements w g r.vars)) ≡ None =
-          misfit_none w.table g 0 r.of (root_agreements w g r.vars) tree.Pipe ks f (label_known g d tree.Pipe ks (home.Root j) 0 [] f.shape no_own) rest in
-          let agrees0 : AgreesAt g (its (root_agreements w g r.vars)) = subst (λ u. AgreesAt g (its (root_agreements w g u))) (sym q.no_vars) (tt, tt) in
-          record {
-            nodes =
-                subst (λ u. AllByRecursion NodeGood (its (root_agreements w g r.vars) ∷ (nodes_of w.table (child_types u tree.Pipe ks) (child_agreements u ks) 1 ks ++ []))) (sym q.type_is)
-                (record { fit = fit0; agrees = agrees0 }, all_append NodeGood (nodes_of w.table (replicate (count ks) x.0) [] 1 ks) [] s.nodes tt);
-            few = s.few;
-          }
+  pub stream_good : AllByRecursion (λ x. NodeGood w g x.typed) (all_nodes w g)
+  stream_good = all_good w side g typed made all_roots cells_made reached steps deferral steps_pass tests_pass pipes_pass
 
-      by_made : MadeNode w.table (type_at w.table r.of) l ks → MadeTrees w.table (child_types (type_at w.table r.of) l ks) ks
-          → PassedAll (pipe_entries w.table (home.Root j) (Some (def.Pipe q.elem)) cut (node l ks))
-          → HomeGood (governed_nodes w.table r.of (root_agreements w g r.vars) (node l ks)) (node l ks)
-      by_made (inl u) m p = absurd ((subst (λ k. PassedAll (pipe_entries w.table (home.Root j) (Some (def.Pipe q.elem)) cut (node k ks))) u p).passed.0)
-      by_made (inr f) m p = at_pipe l (pipe_label q.elem l ks (subst (λ d. has_shape d l ks ≡ true) q.type_is f.shape)) f m p
-
-  -- a root's nodes
-  root_good_by : (j : ℕ) (r : Root) (l : Label) (ks : Trees) → slice_get rl j ≡ Some r → slice_get g.roots j ≡ Some (node l ks) → j < n → (o : Option (ℕ × ℕ))
-      → direct (type_at w.table r.of) (node l ks) ≡ o → Standing_met (standing_by g j r.of (node l ks) o)
-      → HomeGood (governed_nodes w.table r.of (root_agreements w g r.vars) (node l ks)) (node l ks)
-  root_good_by j r l ks er ev h None k s = plain_good j r l ks er ev h s.0
-  root_good_by j r l ks er ev h (Some (c, t)) k s =
-      let md : MadeTrees w.table (r.of ∷ []) (more (node l ks) none) = root_made w.table rl g.roots made j r (node l ks) er ev in
-      let (to, ed, el, et) = direct_is (type_at w.table r.of) l ks c t k (made_no_null w.table (type_at w.table r.of) l ks md.0) in
-      subst (λ u. HomeGood (governed_nodes w.table r.of (root_agreements w g r.vars) (node u ks)) (node u ks)) (sym el)
-      (direct_good j r to c ks er (subst (λ u. slice_get g.roots j ≡ Some (node u ks)) el ev) ed)
-
-  pub root_good : (j : ℕ) (r : Root) (v : Tree) → slice_get rl j ≡ Some r → slice_get g.roots j ≡ Some v → HomeGood (governed_nodes w.table r.of (root_agreements w g r.vars) v) v
-  root_good j r (node l ks) er ev = go (le_or j n)
-    where
-      go : (j < n) ⊎ (n ≤ j) → HomeGood (governed_nodes w.table r.of (root_agreements w g r.vars) (node l ks)) (node l ks)
-      go (inl h) = root_good_by j r l ks er ev h (direct (type_at w.table r.of) (node l ks)) refl (root_met j r (node l ks) er ev h)
-      go (inr h) =
-          let k : n + (j - n) ≡ j = omega arith in
-          let e1 : slice_get (drop n rl) (j - n) ≡ Some r = drop_at n rl (j - n) ∙ ap (slice_get rl) k ∙ er in
-          let e2 : slice_get (drop n g.roots) (j - n) ≡ Some (node l ks) = drop_at n g.roots (j - n) ∙ ap (slice_get g.roots) k ∙ ev in
-          let q : IsPipeRoot w.table r = all_at (IsPipeRoot w.table) (drop n rl) (j - n) r laid.pipes e1 in
-          let (cut, c, p) = pipe_at n (drop n rl) (drop n g.roots) cuts all_cut (right_passed (F ++ T) Q passed) (j - n) r (node l ks) e1 e2 in
-          pipe_good j r l ks q er ev cut c (subst (λ i. PassedAll (pipe_entries w.table (home.Root i) (type_at w.table r.of) cut (node l ks))) k p)
-
-  -- all nodes
-  abbrev Good : HomeNode → Type 0
-  Good x = NodeGood x.typed
-
-  in_homes : (h : Home) (xs : List TypedNode) → AllByRecursion NodeGood xs → AllByRecursion Good (map (in_home h) xs)
-  in_homes h [] a = tt
-  in_homes h (x ∷ xs) a = (a.0, in_homes h xs a.1)
-
-  over_roots : (i : ℕ) (rs : List Root) (vs : List Tree)
-      → ((j : ℕ) (r : Root) (v : Tree) → slice_get rs j ≡ Some r → slice_get vs j ≡ Some v → AllByRecursion NodeGood (governed_nodes w.table r.of (root_agreements w g r.vars) v))
-      → AllByRecursion Good (root_nodes w g i rs vs)
-  over_roots i [] vs f = tt
-  over_roots i (r ∷ rs) [] f = tt
-  over_roots i (r ∷ rs) (v ∷ vs) f =
-      all_append Good (map (in_home (home.Root i)) (governed_nodes w.table r.of (root_agreements w g r.vars) v)) (root_nodes w g (i + 1) rs vs)
-      (in_homes (home.Root i) (governed_nodes w.table r.of (root_agreements w g r.vars) v) (f 0 r v refl refl)) (over_roots (i + 1) rs vs (λ j q u a b. f (suc j) q u a b))
-
-  over_cells : (i : ℕ) (xs : List Referent) → ((j : ℕ) (x : Referent) → slice_get xs j ≡ Some x → AllByRecursion NodeGood (home_nodes w.table x.of x.val))
-      → AllByRecursion Good (cell_nodes w.table i xs)
-  over_cells i [] f = tt
-  over_cells i (x ∷ xs) f =
-      all_append Good (map (in_home (cell_home i)) (home_nodes w.table x.of x.val)) (cell_nodes w.table (i + 1) xs) (in_homes (cell_home i) (home_nodes w.table x.of x.val) (f 0 x refl))
-      (over_cells (i + 1) xs (λ j y e. f (suc j) y e))
-
-  pub all_good : AllByRecursion (λ x. NodeGood x.typed) (all_nodes w g)
-  all_good =
-      all_append Good (root_nodes w g 0 rl g.roots) (cell_nodes w.table 1 g.cells) (over_roots 0 rl g.roots (λ j r v a b. (root_good j r v a b).nodes))
-      (over_cells 1 g.cells (λ j x e. (cell_good (suc j) x e).nodes))
-
-  root_there : (i : ℕ) (v : Tree) → slice_get g.roots i ≡ Some v → (r : Root) × (slice_get rl i ≡ Some r)
-  root_there i v e =
-      let b : i < length rl = omega (arith, slice_get_within g.roots i v e, all_roots) in
-      (_, slice_get-get_or rl i (record { of = 0; param = None; vars = []; is_pipe = false }) b)
-
-  values : (xs : List Referent) → AllByRecursion (λ x. node_count (more x.val none) < 2 ^ 32) xs → AllByRecursion (λ t. node_count (more t none) < 2 ^ 32) (map (λ c. c.val) xs)
-  values [] a = tt
-  values (x ∷ xs) a = (a.0, values xs a.1)
-
-  pub few_nodes : AllByRecursion (λ t. node_count (more t none) < 2 ^ 32) (g.roots ++ map (λ c. c.val) g.cells)
-  few_nodes =
-      all_append (λ t. node_count (more t none) < 2 ^ 32) g.roots (map (λ c. c.val) g.cells)
-      (by_index (λ t. node_count (more t none) < 2 ^ 32) g.roots (λ i v e. (let (r, f) = root_there i v e in (root_good i r v f e).few)))
-      (values g.cells (by_index (λ x. node_count (more x.val none) < 2 ^ 32) g.cells (λ i x e. (cell_good (suc i) x e).few)))
+  pub stream_few : AllByRecursion (λ t. node_count (more t none) < 2 ^ 32) (g.roots ++ map (λ c. c.val) g.cells)
+  stream_few = few_nodes w side g typed made all_roots cells_made reached steps deferral steps_pass tests_pass pipes_pass

@@ -4,8 +4,7 @@ use Rattle.std.specs.Prelude.{map, flat_map}
 use Rattle.std.specs.List.{AllByRecursion, slice_get}
 use Rattle.std.proofs.lemmas.Option.{same_Some}
 use Rattle.nd_types.specs.declared.types.TypeDef.{TypeDef}
-use Rattle.nd_types.specs.declared.types.TypeDef.TheVariants as def
-use Rattle.nd_types.specs.declared.types.Class.TheVariants.{Ref, Unique, Full}
+use Rattle.nd_types.specs.declared.types.Class.TheVariants.{Ref}
 use Rattle.nd_types.specs.Table.{Table, type_at}
 use Rattle.nd_types.specs.Roots.{Root}
 use Rattle.nd_value.specs.declared.value.Graph.{Graph}
@@ -32,13 +31,7 @@ use Rattle.nd_grammar.proofs.conforming.Passed.{PassedAll, left_passed, right_pa
 use Rattle.nd_grammar.proofs.conforming.PassedTrees.{tests_agree}
 use Rattle.nd_grammar.proofs.Placed.{own, among_split, one_among, none_some, closed_at, placed, all_placed, Covers, before_step, of_root, home_is}
 use Rattle.nd_grammar.specs.ReaderState.{RootsMade}
-
-unread_no_null : (d : Option TypeDef) → is_no_null_ref d tree.Unread ≡ true
-unread_no_null (Some (def.Pointer Ref to)) = refl
-unread_no_null (Some (def.Pointer Unique to)) = refl
-unread_no_null (Some (def.Pointer Full to)) = refl
-unread_no_null None = refl
-unread_no_null (Some _) = refl
+use Rattle.nd_value.proofs.NodeFacts.{unread_no_null}
 
 pub made_no_null : (table : Table) (d : Option TypeDef) (l : Label) (ks : Trees) → MadeNode table d l ks → is_no_null_ref d l ≡ true
 made_no_null table d l ks (inl e) = ap (is_no_null_ref d) e ∙ unread_no_null d

@@ -1,8 +1,8 @@
 -- In a legal interface no pipe stands inside another value.
-use Rattle.std.proofs.Common.{◌≡◌, ℕ, ◌+◌, ◌<◌, zero, suc, Bool, true, false, ◌&&◌, List, [], ◌∷◌, ◌++◌, Option, Some, None, refl, ap, sym, ◌∙◌, inl, inr, arith, subst}
-use Rattle.std.specs.Prelude.{not, ◌||◌, eqb, filter, cond}
+use Rattle.std.proofs.Common.{◌≡◌, ℕ, ◌+◌, ◌<◌, zero, suc, Bool, true, false, ◌&&◌, List, [], ◌∷◌, ◌++◌, Option, Some, None, refl, ap, sym, ◌∙◌, inl, inr, arith}
+use Rattle.std.specs.Prelude.{not, eqb, filter, cond}
 use Rattle.std.specs.List.{AllByRecursion, list_all, slice_get}
-use Rattle.std.proofs.lemmas.Bool.{and_parts, not-true}
+use Rattle.std.proofs.lemmas.Bool.{and_parts, not-true, or_parts as either_false}
 use Rattle.std.proofs.lemmas.Option.{same_Some}
 use Rattle.nd_types.specs.declared.types.TypeDef.{TypeDef}
 use Rattle.nd_types.specs.declared.types.TypeId.{TypeId}
@@ -30,10 +30,7 @@ use Rattle.nd_grammar.specs.LegalSide.{IsLegalSide}
 use Rattle.nd_grammar.proofs.next.Mapped.{in_parts}
 use Rattle.nd_grammar.proofs.conforming.GoodEntries.{HoldsNoPipe}
 use Rattle.nd_grammar.specs.ReaderState.{IsNoPipe}
-
-either_false : (x y : Bool) → (x || y) ≡ false → (x ≡ false) × (y ≡ false)
-either_false true y h = cc
-either_false false y h = (refl, h)
+use Rattle.nd_lemmas.proofs.Lists.{all_at}
 
 alone : (table : Table) (t : ℕ) → not (is_or_refers is_pipe table t) ≡ true → IsNoPipe table t
 alone table t h =
@@ -163,11 +160,6 @@ before_is_plain (q ∷ rs) i r e h = go q.is_pipe refl i e h (before_is_plain rs
     go true f i e h k = absurd (omega arith)
     go false f zero e h k = ap (λ u. u.is_pipe) (sym (same_Some _ _ e)) ∙ f
     go false f (suc i) e h k = k i r e (omega arith)
-
-pub all_at : {X : Type 0} (P : X → Type 0) (xs : List X) (i : ℕ) (x : X) → AllByRecursion P xs → slice_get xs i ≡ Some x → P x
-all_at P [] i x a e = cc
-all_at P (y ∷ ys) zero x a e = subst P (same_Some _ _ e) a.0
-all_at P (y ∷ ys) (suc i) x a e = all_at P ys i x a.1 e
 
 pub plain_before : (w : Setting) (side : IsLegalSide w) (i : ℕ) (r : Root) → slice_get (root_list w) i ≡ Some r → i < before_pipes (root_list w) → IsNoPipe w.table r.of
 plain_before w side i r e h =

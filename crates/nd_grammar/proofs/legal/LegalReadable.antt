@@ -1,6 +1,6 @@
 -- In a legal interface each type that holds no pipe can be read in its place, and so can what its pointers point to.
-use Rattle.std.proofs.Common.{◌≡◌, ℕ, ◌<◌, zero, suc, true, false, List, [], ◌∷◌, ◌++◌, length, Option, Some, None, refl, ap, arith, subst}
-use Rattle.std.specs.List.{AllByRecursion, list_all, slice_get}
+use Rattle.std.proofs.Common.{◌≡◌, ℕ, zero, suc, true, false, List, [], ◌∷◌, ◌++◌, length, Option, Some, None, refl, ap, subst}
+use Rattle.std.specs.List.{AllByRecursion, list_all}
 use Rattle.std.proofs.lemmas.Bool.{and_parts, ltb-true}
 use Rattle.nd_types.specs.declared.types.TypeDef.{TypeDef}
 use Rattle.nd_types.specs.declared.types.TypeDef.TheVariants as def
@@ -19,11 +19,7 @@ use Rattle.nd_value.proofs.Apart.{all_left, all_weaker}
 use Rattle.nd_grammar.specs.ReaderState.{IsNoPipe, Known}
 use Rattle.nd_grammar.proofs.legal.LegalPipes.{parts_alone}
 use Rattle.nd_grammar.proofs.reader.ReaderInPlace.{Fine, Readable}
-
-in_table : {X : Type 0} (xs : List X) (t : ℕ) → t < length xs → (x : X) × (slice_get xs t ≡ Some x)
-in_table [] t h = absurd (omega arith)
-in_table (x ∷ xs) zero h = (x, refl)
-in_table (x ∷ xs) (suc t) h = in_table xs t (omega arith)
+use Rattle.nd_lemmas.proofs.Lists.{item_at as in_table}
 
 carried : (d : Option TypeDef) → is_switch_type d ≡ true → (p : Primitive) × (carrier d ≡ Some p)
 carried (Some (def.Prim p)) h = (p, refl)

@@ -29,7 +29,8 @@ use Rattle.nd_value.proofs.Apart.{all_append, all_left}
 use Rattle.nd_grammar.specs.LegalSide.{IsLegalSide}
 use Rattle.nd_grammar.proofs.next.Mapped.{in_parts}
 use Rattle.nd_grammar.specs.ReaderState.{IsNoPipe, Known, Usable, UsablePointer}
-use Rattle.nd_grammar.proofs.legal.LegalPipes.{parts_alone, holds_no_pipe, plain_before, all_at}
+use Rattle.nd_grammar.proofs.legal.LegalPipes.{parts_alone, holds_no_pipe, plain_before}
+use Rattle.nd_lemmas.proofs.Lists.{all_at}
 use Rattle.nd_grammar.proofs.legal.LegalReadable.{named_known, legal_readable}
 use Rattle.nd_grammar.proofs.reader.ReaderInPlace.{Readable}
 use Rattle.nd_grammar.proofs.reader.ReaderMakes.{IsSmall, SmallBound, SmallBounds}

@@ -9,7 +9,7 @@ use Rattle.nd_types.specs.Table.{Table, type_at}
 use Rattle.nd_value.specs.declared.value.Graph.{Graph}
 use Rattle.nd_value.specs.declared.item.Home.{Home}
 use Rattle.nd_value.specs.Tree as tree
-use Rattle.nd_value.specs.Tree.{Tree, Trees, node, none, more, count, node_count, Label, Referent, is_pointer, cell_in}
+use Rattle.nd_value.specs.Tree.{Trees, node, none, more, count, node_count, Label, is_pointer, cell_in}
 use Rattle.nd_value.specs.Agreement.{Agreement}
 use Rattle.nd_value.specs.Setting.{Among}
 use Rattle.nd_value.specs.Misfit.{has_shape, has_counts}
@@ -53,7 +53,7 @@ no_cell : (l : Label) → is_pointer l ≡ false → cell_in l ≡ None
 no_cell (tree.Ptr c) e = cc
 no_cell _ e = refl
 
-a_pointer : (l : Label) → is_pointer l ≡ true → l ≡ tree.Ptr (cell_in l)
+pub a_pointer : (l : Label) → is_pointer l ≡ true → l ≡ tree.Ptr (cell_in l)
 a_pointer (tree.Ptr c) e = refl
 a_pointer _ e = cc
 

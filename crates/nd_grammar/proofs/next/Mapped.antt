@@ -26,7 +26,7 @@ use Rattle.nd_value.proofs.Waiting.{not_equal}
 use Rattle.nd_grammar.proofs.next.Next.{Pair, IsApart, OneToOne}
 use Rattle.nd_grammar.proofs.next.Matching.{bare, class_of, Match, Matched, through, pointer_bare}
 use Rattle.nd_grammar.proofs.next.NextPending.{AllPointers}
-use Rattle.nd_grammar.proofs.next.Carried.{InMap}
+use Rattle.nd_grammar.proofs.next.Carried.{InMap, a_pointer as pointer_label}
 use Rattle.nd_grammar.proofs.next.NextStream.{FitsPipes}
 use Rattle.nd_grammar.proofs.LegalSides.{in_selected}
 
@@ -68,10 +68,6 @@ plain_label : (m : ℕ → ℕ) (l : Label) → is_pointer l ≡ false → renum
 plain_label m (tree.Ptr c) e = cc
 plain_label m (tree.Num z) e = refl
 plain_label m _ e = refl
-
-pointer_label : (l : Label) → is_pointer l ≡ true → l ≡ tree.Ptr (cell_in l)
-pointer_label (tree.Ptr c) e = refl
-pointer_label _ e = cc
 
 module _ (ys : List Pair) (one : OneToOne ys) where
   cell_image : (k : Class) (o o' : Option ℕ) → InMap ys k o o' → renumbered_label (image ys) (tree.Ptr o) ≡ tree.Ptr o'

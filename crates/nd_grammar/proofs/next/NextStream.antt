@@ -5,7 +5,6 @@ use Rattle.std.specs.Prelude.{flat_map}
 use Rattle.std.specs.List.{AllByRecursion, slice_get}
 use Rattle.std.proofs.lemmas.List.{append-nil}
 use Rattle.std.proofs.lemmas.Bool.{cases_lt}
-use Rattle.std.proofs.lemmas.Option.{same_Some}
 use Rattle.nd_types.specs.declared.types.TypeId.{TypeId}
 use Rattle.nd_types.specs.declared.types.TypeDef.TheVariants as def
 use Rattle.nd_types.specs.Table.{Table, type_at}
@@ -33,6 +32,7 @@ use Rattle.nd_grammar.proofs.next.NextPipes.{PipesKnown, PipesMatch, pipes_next,
 use Rattle.nd_grammar.proofs.next.HoistedMaxes.{HoistsLast, maxes_hoisted}
 use Rattle.nd_grammar.proofs.next.KnownNodes.{known_cells, known_roots}
 use Rattle.nd_grammar.proofs.next.RootsMeeting.{roots_meet}
+use Rattle.nd_lemmas.proofs.Lists.{all_at}
 
 -- A pipe among the roots: its type is a pipe, and it has no attributes.
 pub record IsPipeRoot (table : Table) (r : Root) : Type 0 where
@@ -56,11 +56,6 @@ drop_at (suc n) [] j = refl
 drop_at (suc n) (x ∷ xs) j =
     let e : suc (n + j) ≡ suc n + j = omega arith in
     drop_at n xs j ∙ ap (λ u. slice_get (x ∷ xs) u) e
-
-pub all_at : {X : Type 0} (P : X → Type 0) (xs : List X) (i : ℕ) (x : X) → AllByRecursion P xs → slice_get xs i ≡ Some x → P x
-all_at P [] i x a e = cc
-all_at P (y ∷ ys) zero x a e = subst P (same_Some _ _ e) a.0
-all_at P (y ∷ ys) (suc i) x a e = all_at P ys i x a.1 e
 
 module _ (two : Readings) (w : Setting) (g g' : Graph) where
   abbrev n : ℕ

@@ -7,7 +7,7 @@ use Rattle.nd_types.specs.Layout.{hoists}
 use Rattle.nd_value.specs.declared.value.Graph.{Graph}
 use Rattle.nd_value.specs.declared.item.Home.{Home}
 use Rattle.nd_value.specs.Tree as tree
-use Rattle.nd_value.specs.Tree.{Tree, Trees, node, none, more, count, node_count, Label, Referent, is_pointer, cell_in}
+use Rattle.nd_value.specs.Tree.{Tree, Trees, node, none, more, Label}
 use Rattle.nd_value.specs.Nodes.{child_types, child_agreements}
 use Rattle.nd_grammar.specs.Entry.{Entry, Align, Max, Unread}
 use Rattle.nd_grammar.specs.InPlace.{before_children, entries, in_place, child_tests, hoisted, hoisted_max, whole_value}
@@ -20,7 +20,7 @@ unread_or tree.Unread = inl refl
 unread_or (tree.Num z) = inr (λ m. refl)
 unread_or _ = inr (λ m. refl)
 
-before_unread : (table : Table) (t : ℕ) (d : Option TypeDef) (ks : Trees) → before_children table t d tree.Unread ks ≡ Unread ∷ []
+pub before_unread : (table : Table) (t : ℕ) (d : Option TypeDef) (ks : Trees) → before_children table t d tree.Unread ks ≡ Unread ∷ []
 before_unread table t None ks = refl
 before_unread table t (Some (def.Prim p)) ks = refl
 before_unread table t (Some _) ks = refl

@@ -11,7 +11,7 @@ use Rattle.nd_value.specs.declared.value.Graph.{Graph}
 use Rattle.nd_value.specs.declared.item.Home.{Home}
 use Rattle.nd_value.specs.declared.item.Home.TheVariants as home
 use Rattle.nd_value.specs.Tree as tree
-use Rattle.nd_value.specs.Tree.{Tree, Trees, node, none, more, Label, Referent, trees}
+use Rattle.nd_value.specs.Tree.{Tree, Trees, node, none, more, Referent, trees}
 use Rattle.nd_value.specs.Setting.{Setting, Among, root_list, root_at, or_unread, cell_at, cell_tree, cell_of_number, cell_home}
 use Rattle.nd_value.specs.Deferral.{home_pointers, before_pipes, root_type}
 use Rattle.nd_value.specs.Homes.{root_pointers}
@@ -29,6 +29,8 @@ use Rattle.nd_grammar.proofs.next.NextStream.{AreMapped, IsLaidOut, IsPipeRoot, 
 use Rattle.nd_grammar.proofs.next.KnownNodes.{known_roots}
 use Rattle.nd_grammar.proofs.next.Mapped.{image, image_at, image_elsewhere, one_left, renumber, left_in, right_in, pipe_pointers}
 use Rattle.nd_grammar.proofs.next.Counting.{Distinct, no_longer, down, length_down, among_down, down_distinct}
+use Rattle.nd_grammar.proofs.FewItemsLaw.{down_in}
+use Rattle.nd_lemmas.proofs.Lists.{length_map as mapped_length}
 
 abbrev first_of_trees : Trees → Tree
 first_of_trees none = node tree.Unread none
@@ -56,10 +58,6 @@ lefts ys = map (λ z. z.left) ys
 
 abbrev rights : List Pair → List ℕ
 rights ys = map (λ z. z.right) ys
-
-mapped_length : {X Y : Type 0} (f : X → Y) (xs : List X) → length (map f xs) ≡ length xs
-mapped_length f [] = refl
-mapped_length f (x ∷ xs) = ap suc (mapped_length f xs)
 
 apart_lefts : (z : Pair) (ys : List Pair) → AllByRecursion (IsApart z) ys → AllByRecursion (λ c. z.left ≡ c → ⊥) (lefts ys)
 apart_lefts z [] a = tt
@@ -91,11 +89,6 @@ mapped_among f (y ∷ ys) c (inr a) = let (z, b, e) = mapped_among f ys c a in (
 in_cells : (g : Graph) (c : ℕ) (x : Referent) → cell_of_number g c ≡ Some x → (0 < c) × (c ≤ length g.cells)
 in_cells g zero x e = cc
 in_cells g (suc i) x e = let h = slice_get_within g.cells i x e in (omega arith, omega arith)
-
-down_in : (n c : ℕ) → Among (down n) c → (0 < c) × (c ≤ n)
-down_in zero c m = absurd m
-down_in (suc n) c (inl e) = (omega arith, omega arith)
-down_in (suc n) c (inr m) = let (a, b) = down_in n c m in (a, omega arith)
 
 -- the cells of a graph are the members of a list without repetition
 as_many : (g : Graph) (xs : List ℕ) → Distinct xs → ((c : ℕ) → Among xs c → (0 < c) × (c ≤ length g.cells))

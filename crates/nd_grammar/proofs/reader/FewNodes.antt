@@ -9,10 +9,8 @@ use Rattle.nd_types.specs.declared.types.TypeId.{TypeId}
 use Rattle.nd_types.specs.declared.types.Arm.{Arm}
 use Rattle.nd_types.specs.declared.types.Field.{Field}
 use Rattle.nd_types.specs.declared.types.TypeDef.TheVariants as def
-use Rattle.nd_types.specs.declared.types.Primitive.{Primitive}
-use Rattle.nd_types.specs.declared.types.Primitive.TheVariants.{Boolean, Char, Byte, Small, UnsignedSmall, Short, UnsignedShort, Long, UnsignedLong, Hyper, UnsignedHyper}
 use Rattle.nd_types.specs.declared.types.Operation.{Operation}
-use Rattle.nd_types.specs.Table.{Table, type_at, width, selected}
+use Rattle.nd_types.specs.Table.{Table, type_at, selected}
 use Rattle.nd_types.specs.Layout.{parts, hoists, hoists_by}
 use Rattle.nd_types.specs.Legal.{IsLegal, has_member, has_small_bound}
 use Rattle.nd_types.proofs.LegalLaws.{passes_at}
@@ -31,32 +29,13 @@ use Rattle.nd_grammar.specs.MadeTrees.{MadeNode, MadeTrees, MadeTree}
 use Rattle.nd_grammar.proofs.conforming.Passed.{HasPassed, Passed, least, least_append}
 use Rattle.nd_grammar.proofs.conforming.PassedTrees.{passed_kinds, unread_entry}
 use Rattle.nd_grammar.proofs.reader.ReaderInPlace.{Readable, node_entries, value_then_others}
+use Rattle.nd_grammar.proofs.ItemSizes.{width_low as some_width}
+use Rattle.nd_lemmas.proofs.Numbers.{times_more}
 
 -- 1 where a type hoists: its maximum count pays for its outermost node
 abbrev pub one : Bool → ℕ
 one true = 1
 one false = 0
-
-some_width : (p : Primitive) → 1 ≤ width p
-some_width Boolean = omega arith
-some_width Char = omega arith
-some_width Byte = omega arith
-some_width Small = omega arith
-some_width UnsignedSmall = omega arith
-some_width Short = omega arith
-some_width UnsignedShort = omega arith
-some_width Long = omega arith
-some_width UnsignedLong = omega arith
-some_width Hyper = omega arith
-some_width UnsignedHyper = omega arith
-
-pub times_more : (d x y : ℕ) → x ≤ y → d * x ≤ d * y
-times_more zero x y h = omega arith
-times_more (suc d) x y h =
-    let a : d * x ≤ d * y = times_more d x y h in
-    let e : suc d * x ≡ x + d * x = omega arith in
-    let f : suc d * y ≡ y + d * y = omega arith in
-    omega arith
 
 pub times_sum : (d x y : ℕ) → d * (x + y) ≡ d * x + d * y
 times_sum zero x y = omega arith

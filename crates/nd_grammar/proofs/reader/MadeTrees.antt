@@ -1,8 +1,8 @@
 -- What is known of trees that the reader makes: the nodes of a partial graph.
 use Rattle.std.proofs.Common.{◌≡◌, ℕ, ◌+◌, ◌^◌, ◌<◌, zero, suc, true, false, List, [], ◌∷◌, ◌++◌, length, Option, Some, None, refl, ap, sym, ◌∙◌, inl, inr, arith, subst}
-use Rattle.std.specs.Prelude.{Bool, eqb, leb, not, ◌&&◌, ◌||◌, flat_map}
+use Rattle.std.specs.Prelude.{eqb, leb, not, ◌&&◌, flat_map}
 use Rattle.std.specs.List.{AllByRecursion, slice_get}
-use Rattle.std.proofs.lemmas.Bool.{and_from, eq-eqb, le-leb, lt-ltb}
+use Rattle.std.proofs.lemmas.Bool.{and_from, eq-eqb, le-leb, lt-ltb, or_left, or_right}
 use Rattle.std.proofs.lemmas.Option.{slice_get_within}
 use Rattle.nd_types.specs.declared.types.TypeDef.{TypeDef}
 use Rattle.nd_types.specs.declared.types.TypeDef.TheVariants as def
@@ -18,6 +18,7 @@ use Rattle.nd_value.specs.Misfit.{has_shape, has_machine_values, names_cell, nam
 use Rattle.nd_value.proofs.Apart.{all_append, all_left, all_right}
 use Rattle.nd_value.proofs.Waiting.{not_equal}
 use Rattle.nd_grammar.specs.MadeTrees.{has_own_values, MadeNode, MadeTrees, MadeTree}
+use Rattle.nd_grammar.proofs.next.HoistedMaxes.{no_children as unread_types}
 
 pub one_made : (table : Table) (t : ℕ) (v : Tree) → MadeTree table (type_at table t) v → MadeTrees table (t ∷ []) (more v none)
 one_made table t (node l ks) m = (m.0, m.1, tt)
@@ -31,14 +32,6 @@ made_count table [] none m = refl
 made_count table [] (more t ts) m = absurd m
 made_count table (t ∷ types) none m = absurd m
 made_count table (t ∷ types) (more (node l ks) ts) m = ap suc (made_count table types ts m.2)
-
-unread_types : (d : Option TypeDef) (ks : Trees) → child_types d tree.Unread ks ≡ []
-unread_types (Some (def.Struct ms)) ks = refl
-unread_types (Some (def.Array e b v)) ks = refl
-unread_types (Some (def.Union tag enc arms default)) ks = refl
-unread_types (Some (def.Pipe e)) ks = refl
-unread_types None ks = refl
-unread_types (Some _) ks = refl
 
 -- an unread value is made, of any type
 pub unread_made : (table : Table) (d : Option TypeDef) → MadeTree table d (node tree.Unread none)
@@ -55,14 +48,6 @@ pub record CellOf (cells : List Referent) (to c : ℕ) : Type 0 where
 
 abbrev pub CellFits : List Referent → Pending → Type 0
 CellFits cells p = (c : ℕ) → p.cell ≡ Some c → CellOf cells p.to c
-
-or_left : (x y : Bool) → x ≡ true → (x || y) ≡ true
-or_left true y e = refl
-or_left false y e = cc
-
-or_right : (x y : Bool) → y ≡ true → (x || y) ≡ true
-or_right true y e = refl
-or_right false y e = e
 
 -- the cell of a pointer that has the form of its type
 pub record CellKnown (g : Graph) (d : Option TypeDef) (l : Label) : Type 0 where

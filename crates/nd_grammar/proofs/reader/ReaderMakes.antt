@@ -40,6 +40,7 @@ use Rattle.nd_grammar.proofs.reader.ReaderMoves.{Moves, stays_there, moves_twice
 use Rattle.nd_grammar.specs.ReaderState.{paid, NumbersOk}
 use Rattle.nd_grammar.proofs.reader.MadeTrees.{made_more, made_count, unread_made}
 use Rattle.nd_grammar.specs.MadeTrees.{FitsAlone, MadeTrees, MadeTree}
+use Rattle.nd_lemmas.proofs.Lists.{length_map as mapped_length}
 
 -- a fixed bound is a number of 32 bits
 abbrev pub IsSmall : Option ℕ → Type 0
@@ -62,10 +63,6 @@ bound_small (Some n) m a h = a
 bound_is : (b : Option ℕ) (m : ℕ) → is_bound b (bound_or b m) ≡ true
 bound_is None m = refl
 bound_is (Some n) m = eq-eqb n n refl
-
-mapped_length : {X Y : Type 0} (f : X → Y) (xs : List X) → length (map f xs) ≡ length xs
-mapped_length f [] = refl
-mapped_length f (x ∷ xs) = ap suc (mapped_length f xs)
 
 arm_made : (o : Option Arm) (ks : Trees) → count ks ≡ length (selected_types o) → arm_fits o ks ≡ true
 arm_made None ks e = refl

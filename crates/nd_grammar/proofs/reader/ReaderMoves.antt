@@ -77,7 +77,7 @@ pub record NamedMakes (s : Names) (it : Named) : Type 0 where
   pub covered : (c : ℕ) → length s.cells < c → c ≤ length it.names.cells → it.cell ≡ Some c
   pub numbers : NumbersOk s → NumbersOk it.names
 
-one_more : (to : ℕ) (s : Names) → length (with_cell to s).cells ≡ length s.cells + 1
+pub one_more : (to : ℕ) (s : Names) → length (with_cell to s).cells ≡ length s.cells + 1
 one_more to s = length-append s.cells _ ∙ omega arith
 
 fresh_covers : (to : ℕ) (s : Names) (n : ℕ) → n ≡ length s.cells + 1 → (c : ℕ) → length s.cells < c → c ≤ n → Some (fresh to s) ≡ Some c

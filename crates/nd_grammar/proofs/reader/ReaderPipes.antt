@@ -49,7 +49,7 @@ use Rattle.nd_grammar.proofs.reader.ReaderStates.{Numbered}
 use Rattle.nd_grammar.specs.ReaderState.{RootsMade}
 
 -- names that grow by no cell do not change
-same_names : (s s' : Names) → Extends s s' → length s'.cells ≤ length s.cells → s' ≡ s
+pub same_names : (s s' : Names) → Extends s s' → length s'.cells ≤ length s.cells → s' ≡ s
 same_names s s' e h =
     let l : length s'.cells ≡ length s.cells + length e.new = ap length e.cells ∙ length-append s.cells e.new in
     let n : e.new ≡ [] = empty e.new (omega arith) in
@@ -66,7 +66,7 @@ same_names s s' e h =
     no_numbers [] a = refl
     no_numbers (x ∷ xs) a = absurd (omega (arith, h, a.0.0, a.0.1))
 
-joined_count : (ts us : Trees) → count (joined ts us) ≡ count ts + count us
+pub joined_count : (ts us : Trees) → count (joined ts us) ≡ count ts + count us
 joined_count none us = omega arith
 joined_count (more t ts) us = ap suc (joined_count ts us) ∙ omega arith
 

@@ -1,20 +1,17 @@
 -- What a whole stream that is read says: its graph is a partial one, its entries are a stream of it, and reading goes over them.
-use Rattle.std.proofs.Common.{◌≡◌, ℕ, ◌+◌, ◌^◌, ◌<◌, ◌≤◌, zero, suc, Bool, true, false, List, [], ◌∷◌, ◌++◌, length, Option, Some, None, refl, ap, ap₂, sym, ◌∙◌, inl, inr, arith, subst, replicate}
-use Rattle.std.proofs.Common.{drop, append_assoc, length-append}
-use Rattle.std.specs.Prelude.{map, flat_map, filter, cond, not, ◌&&◌, nat_le, eqb}
+use Rattle.std.proofs.Common.{◌≡◌, ℕ, ◌+◌, ◌^◌, ◌<◌, ◌≤◌, zero, suc, Bool, true, false, List, [], ◌∷◌, ◌++◌, length, Some, refl, ap, ap₂, sym, ◌∙◌, inl, inr, arith, subst, replicate, drop}
+use Rattle.std.proofs.Common.{append_assoc, length-append}
+use Rattle.std.specs.Prelude.{map, flat_map, filter, cond, not, nat_le}
 use Rattle.std.specs.List.{AllByRecursion, slice_get, list_all}
 use Rattle.std.proofs.lemmas.List.{append-nil, length-replicate}
 use Rattle.std.proofs.lemmas.Bool.{and_from, and_parts, leb-true}
 use Rattle.nd_base.specs.declared.octets.Order.{Order}
 use Rattle.nd_base.specs.declared.TheConstants.{STREAM_LIMIT}
-use Rattle.nd_types.specs.declared.types.Param.{Param}
-use Rattle.nd_types.specs.declared.types.TypeId.{TypeId}
-use Rattle.nd_types.specs.declared.types.Side.{Side}
 use Rattle.nd_types.specs.declared.types.Side.TheVariants as side
 use Rattle.nd_types.specs.declared.types.Operation.{Operation}
-use Rattle.nd_types.specs.declared.TheConstants.{PARAM_LIMIT, HANDLE}
+use Rattle.nd_types.specs.declared.TheConstants.{PARAM_LIMIT}
 use Rattle.nd_types.specs.Table.{Table}
-use Rattle.nd_types.specs.Roots.{Root, roots_of, params_from, root_of, result_root, travels}
+use Rattle.nd_types.specs.Roots.{Root, roots_of, params_from, result_root}
 use Rattle.nd_types.specs.Number.{AreOctets}
 use Rattle.nd_value.specs.declared.value.Graph.{Graph}
 use Rattle.nd_value.specs.declared.item.Home.{Home}
@@ -52,19 +49,11 @@ use Rattle.nd_grammar.proofs.reader.ReaderRoots.{Done, due_done, few_before, sto
 use Rattle.nd_grammar.proofs.reader.ReaderPipes.{PipesRead, pipes_read}
 use Rattle.nd_grammar.proofs.reader.ReaderTests.{Top, SameTop, root_tests_are, tests_follow, tests_fine, tests_same}
 use Rattle.nd_grammar.proofs.reader.ReaderNumbering.{number_of_cell, numbers_agree, is_numbering}
+use Rattle.nd_lemmas.proofs.Lists.{drop_length as drop_all}
+use Rattle.nd_value.proofs.FewRoots.{few_params as params_few, few_results as result_few}
 
 abbrev one_more : Bool → Root → List Root → List Root
 one_more b r rs = elim b [ true ↦ r ∷ rs | false ↦ rs ]
-
--- the roots of a side are few
-params_few : (table : Table) (s : Side) (i : ℕ) (ps : List Param) → length (params_from table s i ps) ≤ length ps
-params_few table s i [] = omega arith
-params_few table s i (p ∷ ps) = go (travels s p.way && not (eqb p.field.of.0 HANDLE.0)) (params_few table s (i + 1) ps)
-  where
-    go : (b : Bool) → length (params_from table s (i + 1) ps) ≤ length ps
-        → length (one_more b (root_of table i p) (params_from table s (i + 1) ps)) ≤ suc (length ps)
-    go true h = omega arith
-    go false h = omega arith
 
 filter_few : (f : Root → Bool) (rs : List Root) → length (filter f rs) ≤ length rs
 filter_few f [] = omega arith
@@ -73,12 +62,6 @@ filter_few f (r ∷ rs) = go (f r) (filter_few f rs)
     go : (b : Bool) → length (filter f rs) ≤ length rs → length (cond b (r ∷ filter f rs) (filter f rs)) ≤ suc (length rs)
     go true h = omega arith
     go false h = omega arith
-
-result_few : (s : Side) (t : Option TypeId) → length (result_root s t) ≤ 1
-result_few side.Out (Some t) = omega arith
-result_few side.Out None = omega arith
-result_few side.In (Some t) = omega arith
-result_few side.In None = omega arith
 
 of_operation : (test : Operation → Bool) (os : List Operation) → list_all test os ≡ true → (o : Operation) → Among os o → test o ≡ true
 of_operation test [] h o a = absurd a
@@ -122,7 +105,7 @@ made_parts table [] (u ∷ us) vs a b = absurd a
 made_parts table (r ∷ rs) (u ∷ us) vs a b = (a.0, made_parts table rs us vs a.1 b)
 
 -- two lists of roots that differ in their last part alone
-same_tops : (us vs vs' : List Tree) → length vs ≡ length vs' → AllByRecursion Top vs → AllByRecursion Top vs' → (i : ℕ)
+pub same_tops : (us vs vs' : List Tree) → length vs ≡ length vs' → AllByRecursion Top vs → AllByRecursion Top vs' → (i : ℕ)
     → SameTop (or_unread (slice_get (us ++ vs) i)) (or_unread (slice_get (us ++ vs') i))
 same_tops [] [] [] e a b i = inl refl
 same_tops [] [] (v ∷ vs') e a b i = cc
@@ -135,11 +118,6 @@ same_tops (u ∷ us) vs vs' e a b (suc i) = same_tops us vs vs' e a b i
 all_unread : (n : ℕ) → AllByRecursion Top (replicate n unread)
 all_unread zero = tt
 all_unread (suc n) = (inl refl, all_unread n)
-
-drop_all : {X : Type 0} (n : ℕ) (xs : List X) → n ≤ length xs → n + length (drop n xs) ≡ length xs
-drop_all zero xs h = omega arith
-drop_all (suc n) [] h = absurd (omega arith)
-drop_all (suc n) (x ∷ xs) h = let e = drop_all n xs (omega arith) in omega arith
 
 -- the nodes of a graph whose trees were made, and whose pointers' cells are there
 module _ (w : Setting) (g : Graph) where

@@ -30,7 +30,7 @@ use Rattle.nd_grammar.proofs.reader.ReaderCells.{set, set_same, set_other}
 use Rattle.nd_grammar.proofs.reader.EntriesFine.{Fine, fine_tests}
 use Rattle.nd_grammar.proofs.reader.ReaderStates.{Numbered, WholeRead, referent_state, referent_paid, read_so, cell_then}
 
-stands_true : (done : Placed_cells) (c : ℕ) → stands_among done c ≡ true → IsPlaced done c
+pub stands_true : (done : Placed_cells) (c : ℕ) → stands_among done c ≡ true → IsPlaced done c
 stands_true [] c e = cc
 stands_true (d ∷ ds) c e = go (eqb c d.1) refl e (stands_true ds c)
   where

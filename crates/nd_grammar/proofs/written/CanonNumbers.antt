@@ -38,7 +38,7 @@ apart_from (x ∷ xs) d n = ((λ e. n (inl e)), apart_from xs d (λ m. n (inr m)
 abbrev by : Bool → Bool → ℕ → List ℕ → ℕ → List ℕ → ℕ → ℕ
 by b e n seen d ds c = elim b [ true ↦ number_from n seen ds c | false ↦ elim e [ true ↦ n | false ↦ number_from (n + 1) (d ∷ seen) ds c ] ]
 
-others : (d : ℕ) (ds : List ℕ) (c : ℕ) → Among (d ∷ ds) c → (c ≡ d → ⊥) → Among ds c
+pub others : (d : ℕ) (ds : List ℕ) (c : ℕ) → Among (d ∷ ds) c → (c ≡ d → ⊥) → Among ds c
 others d ds c (inl e) n = absurd (n e)
 others d ds c (inr m) n = m
 

@@ -57,11 +57,11 @@ writable_trees table g (t ∷ types) ags n (more (node l ks) ts) e a =
       writable_trees table g types (rest_agreements ags) (n + 1 + node_count ks) ts (omega arith) (all_right (WritableNode table g) kids rest a.1),
     )
 
-count_below : (n : ℕ) → is_count n ≡ true → n < 2 ^ 32
+pub count_below : (n : ℕ) → is_count n ≡ true → n < 2 ^ 32
 count_below n h = ltb-true n (2 ^ 32) h
 
 -- maximum counts are of 32 bits
-own_below : (l : Label) (m : ℕ) → has_machine_values l ≡ true → m < 2 ^ 32 → own_max l m < 2 ^ 32
+pub own_below : (l : Label) (m : ℕ) → has_machine_values l ≡ true → m < 2 ^ 32 → own_max l m < 2 ^ 32
 own_below (tree.Arr mx o) m h b = count_below mx (and_parts _ _ h).0
 own_below (tree.Text mx os) m h b = count_below mx (and_parts _ _ h).0
 own_below (tree.Num z) m h b = b
@@ -72,7 +72,7 @@ own_below (tree.Context a i) m h b = b
 own_below tree.Pipe m h b = b
 own_below tree.Unread m h b = b
 
-max_below : (table : Table) (g : Graph) (types : List ℕ) (m : ℕ) (ts : Trees) → WritableTrees table g types ts → m < 2 ^ 32 → hoisted_max m ts < 2 ^ 32
+pub max_below : (table : Table) (g : Graph) (types : List ℕ) (m : ℕ) (ts : Trees) → WritableTrees table g types ts → m < 2 ^ 32 → hoisted_max m ts < 2 ^ 32
 max_below table g [] m none a b = b
 max_below table g [] m (more t ts) a b = absurd a
 max_below table g (t ∷ types) m none a b = absurd a

@@ -25,18 +25,16 @@ use Rattle.nd_grammar.specs.StreamReader.{ReadPipe, graph_of, read_pipes, read_s
 use Rattle.ndr_decoder_laws.specs.reader.Around.{going, stopped}
 use Rattle.ndr_decoder_laws.proofs.reader.Continuing.{passed, refused}
 use Rattle.ndr_decoder_laws.proofs.reader.Fetched.{cut_refused, long_refused}
-use Rattle.ndr_decoder_laws.proofs.reader.FlatNodes.{joined_none}
+use Rattle.nd_flat.proofs.Forests.{joined-none as joined_none}
 use Rattle.ndr_decoder_laws.specs.steps.Good.{Told}
-use Rattle.ndr_decoder_laws.proofs.steps.Passing.{items_it, judged, lies_it, no_less, silent, taken_it, told_passed, tested_passed}
+use Rattle.ndr_decoder_laws.proofs.steps.Passing.{items_it, judged, lies_it, silent, taken_it, told_passed, tested_passed}
+use Rattle.std.proofs.lemmas.Bool.{le-ltb as no_less, lt-ltb as is_less}
 use Rattle.ndr_decoder_laws.specs.stream.Added.{Goes}
 use Rattle.ndr_decoder_laws.proofs.stream.Needing.{NeededAfter}
 use Rattle.ndr_decoder_laws.specs.pipes.Reading.{Reads, chosen, count_then, elements_then, of_pipe}
 use Rattle.ndr_decoder_laws.specs.pipes.Pipes.{Position, Stands, InPipe, InPipes, ReadsPipes, at_count, at_elements, count_item, past_count}
 use Rattle.ndr_decoder_laws.proofs.pipes.PipeEntries.{both_octets, stands_on}
 use Rattle.ndr_decoder_laws.proofs.pipes.Staying.{count_goes, reads_go, reads_stop}
-
-is_less : (a b : ℕ) → a < b → ltb a b ≡ true
-is_less a b l = grind (arith, nat_tests)
 
 not_zero : (n : ℕ) → eqb (suc n) 0 ≡ false
 not_zero n = grind (arith, nat_tests)

@@ -26,7 +26,7 @@ use Rattle.ndr_code.specs.declared.instr.Instr.{Instr}
 use Rattle.ndr_code.specs.declared.lists.EnumList.{EnumList}
 use Rattle.ndr_code.specs.Code.{place_at}
 use Rattle.ndr_decoder_laws.specs.reader.Around.{going, pointers, stopped}
-use Rattle.ndr_decoder_laws.proofs.reader.FlatNodes.{length_flat}
+use Rattle.nd_grammar.proofs.agreements.EntriesTell.{flat_length as length_flat}
 use Rattle.ndr_decoder_laws.specs.steps.Chunks.{chunk_read}
 use Rattle.ndr_decoder_laws.specs.steps.Good.{Good, Told, owed}
 use Rattle.ndr_decoder_laws.specs.steps.Spots.{IsFine, IsPlanned}

@@ -23,7 +23,7 @@ use Rattle.nd_grammar.specs.Reader.{Names, Progress, Read, ReadAll, read_list, r
 use Rattle.nd_grammar.specs.StreamReader.{ReadPipe, ReadPipes, graph_of, read_chunks, read_pipes}
 use Rattle.nd_grammar.specs.MadeTrees.{MadeTree, MadeTrees}
 use Rattle.ndr_decoder_laws.specs.reader.Around.{going}
-use Rattle.ndr_decoder_laws.proofs.reader.FlatNodes.{length_flat}
+use Rattle.nd_grammar.proofs.agreements.EntriesTell.{flat_length as length_flat}
 use Rattle.ndr_decoder_laws.specs.declared.first.First.{First}
 use Rattle.ndr_decoder_laws.specs.steps.Chunks.{chunk_read}
 use Rattle.ndr_decoder_laws.specs.steps.Good.{Kept as IsKept, Told, Whole}
@@ -38,10 +38,7 @@ use Rattle.ndr_decoder_laws.specs.pipes.Reading.{Reads}
 use Rattle.ndr_decoder_laws.specs.pipes.Pipes.{Position, InPipe, at_chunk, at_elements, kids_of, read_to}
 use Rattle.ndr_decoder_laws.proofs.pipes.PipeEntries.{both_octets, stands_on}
 use Rattle.ndr_decoder_laws.proofs.pipes.Elements.{elements_refused}
-
-joined_nodes : (xs ys : Trees) → node_count (joined xs ys) ≡ node_count xs + node_count ys
-joined_nodes none ys = omega arith
-joined_nodes (more (node l ks) xs) ys = let e : node_count (joined xs ys) ≡ node_count xs + node_count ys = joined_nodes xs ys in omega (arith, e)
+use Rattle.ndr_decoder_laws.proofs.steps.PointSteps.{nodes_joined as joined_nodes}
 
 joined_assoc : (xs ys zs : Trees) → joined xs (joined ys zs) ≡ joined (joined xs ys) zs
 joined_assoc none ys zs = refl

@@ -10,7 +10,7 @@ use Rattle.nd_value.specs.Agreement.{number_of, number_in, found_in, offset_of, 
 use Rattle.nd_grammar.specs.Reader.{tree_nodes}
 use Rattle.std.specs.Prelude.{pos, ◌-ℤ◌}
 use Rattle.ndr_decoder_laws.specs.reader.ChildNodes.{first_nodes, tree_at, top, top_of, flat_number, flat_actual, flat_found}
-use Rattle.ndr_decoder_laws.proofs.reader.FlatNodes.{length_flat}
+use Rattle.nd_grammar.proofs.agreements.EntriesTell.{flat_length as length_flat}
 
 at_end : (zs : List Flat) (x : Flat) (rest : List Flat) → slice_get (zs ++ (x ∷ rest)) (length zs) ≡ Some x
 at_end [] x rest = refl

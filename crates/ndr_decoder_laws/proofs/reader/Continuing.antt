@@ -67,7 +67,7 @@ module _ (order : Order) (octets : List ℕ) (table : Table) (h : Home) where
   in_halves read m t (Some (def.Pipe elem)) n p s = refl
   in_halves read m t None n p s = refl
 
-joined_more : (xs : Trees) (x : Tree) (ys : Trees) → joined (joined xs (more x none)) ys ≡ joined xs (more x ys)
+pub joined_more : (xs : Trees) (x : Tree) (ys : Trees) → joined (joined xs (more x none)) ys ≡ joined xs (more x ys)
 joined_more none x ys = refl
 joined_more (more t ts) x ys = ap (more t) (joined_more ts x ys)
 

@@ -6,8 +6,7 @@ use Rattle.std.specs.Prelude.{ltb, eqb, ◌||◌}
 use Rattle.std.specs.List.{AllByRecursion}
 use Rattle.std.proofs.Math.Seq.{drop-append-add}
 use Rattle.std.proofs.lemmas.List.{take-append-le, take_all}
-use Rattle.std.proofs.lemmas.Bool.{le-ltb}
-use Rattle.std.proofs.lemmas.Bool.Decides.{nat_tests}
+use Rattle.std.proofs.lemmas.Bool.{le-ltb, lt-ltb as is_less}
 use Rattle.nd_base.specs.declared.octets.Order.{Order}
 use Rattle.nd_base.specs.declared.TheConstants.{STREAM_LIMIT}
 use Rattle.nd_types.specs.Number.{unsigned}
@@ -18,9 +17,6 @@ use Rattle.nd_grammar.specs.Refusal.{refusal, kind_refusal, refused_if, is_long,
 use Rattle.nd_grammar.specs.Reader.{taken, taken_by}
 use Rattle.nd_grammar.proofs.next.Spelt.{piece_left}
 use Rattle.ndr_decoder_laws.specs.reader.Around.{going}
-
-is_less : (a b : ℕ) → a < b → ltb a b ≡ true
-is_less a b h = grind (arith, nat_tests)
 
 -- the octets that were fetched last are those at the place where the others end
 pub cut_fetched : (fetched os more : List ℕ) → take (length os) (drop (length fetched) ((fetched ++ os) ++ more)) ≡ os

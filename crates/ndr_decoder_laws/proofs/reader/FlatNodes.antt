@@ -1,26 +1,12 @@
 -- Nodes in a flat list while a value is being read.
-use Rattle.std.proofs.Common.{◌≡◌, ℕ, ◌+◌, suc, List, ◌∷◌, ◌++◌, length, refl, ap, ap₂, sym, ◌∙◌, arith, append_assoc, length-append}
+use Rattle.std.proofs.Common.{◌≡◌, ℕ, ◌+◌, suc, List, ◌∷◌, ◌++◌, length, ap, ap₂, sym, ◌∙◌, arith, append_assoc, length-append}
 use Rattle.std.proofs.lemmas.List.{append-nil}
-use Rattle.nd_value.specs.Tree.{Tree, Trees, node, none, more, joined, Label, Flat, flat, count, node_count}
+use Rattle.nd_value.specs.Tree.{Tree, Trees, node, none, more, joined, Label, Flat, flat, count}
 use Rattle.nd_grammar.specs.Reader.{tree_nodes}
 use Rattle.ndr_decoder_laws.specs.reader.Around.{Around, nodes_around}
-
-pub joined_none : (ts : Trees) → joined ts none ≡ ts
-joined_none none = refl
-joined_none (more t ts) = ap (more t) (joined_none ts)
-
-pub count_joined : (xs ys : Trees) → count (joined xs ys) ≡ count xs + count ys
-count_joined none ys = omega arith
-count_joined (more t ts) ys = let h : count (joined ts ys) ≡ count ts + count ys = count_joined ts ys in omega (arith, h)
-
-pub flat_joined : (xs ys : Trees) → flat (joined xs ys) ≡ flat xs ++ flat ys
-flat_joined none ys = refl
-flat_joined (more (node l ks) ts) ys =
-    ap (λ zs. (l, count ks) ∷ (flat ks ++ zs)) (flat_joined ts ys) ∙ ap (λ zs. (l, count ks) ∷ zs) (sym (append_assoc (flat ks) (flat ts) (flat ys)))
-
-pub length_flat : (ts : Trees) → length (flat ts) ≡ node_count ts
-length_flat none = refl
-length_flat (more (node l ks) ts) = ap suc (length-append (flat ks) (flat ts) ∙ ap₂ (λ a b. a + b) (length_flat ks) (length_flat ts))
+use Rattle.nd_flat.proofs.Forests.{flat-joined as flat_joined}
+use Rattle.nd_grammar.proofs.agreements.EntriesTell.{flat_length as length_flat}
+use Rattle.nd_grammar.proofs.reader.ReaderPipes.{joined_count as count_joined}
 
 -- a child that was read comes after those before it
 pub nodes_moved : (f : Around) (fs : List Around) (v : Tree) (n : ℕ) → nodes_around fs ++ ((f.label, count (joined f.done (more v none)) + n) ∷ flat (joined f.done (more v none)))

@@ -20,7 +20,7 @@ use Rattle.ndr_decoder_laws.specs.reader.Halves.{gap_of, past_gap, tagged_after,
 use Rattle.ndr_decoder_laws.specs.reader.Around.{Around, going, with_left, continue, closed, tests_of}
 use Rattle.ndr_decoder_laws.specs.reader.Points.{Point, TagForm, IsTagForm, due, opened, offset_read, text_offset, text_counted, tagged, between, checking, has, read_at, tag_taken}
 use Rattle.ndr_decoder_laws.proofs.reader.Continuing.{passed, in_halves}
-use Rattle.ndr_decoder_laws.proofs.reader.FlatNodes.{joined_none}
+use Rattle.nd_flat.proofs.Forests.{joined-none as joined_none}
 
 module _ (order : Order) (octets : List ℕ) (table : Table) (h : Home) where
   -- an agreement that holds has no octets

@@ -22,7 +22,7 @@ use Rattle.nd_grammar.specs.MadeTrees.{MadeTree, MadeTrees}
 use Rattle.nd_grammar.proofs.reader.ReaderMakes.{AllMake, Make, list_makes, in_place_makes}
 use Rattle.ndr_code.specs.declared.instr.Instr.{Instr}
 use Rattle.ndr_code.specs.declared.lists.EnumList.{EnumList}
-use Rattle.ndr_decoder_laws.proofs.reader.FlatNodes.{count_joined}
+use Rattle.nd_grammar.proofs.reader.ReaderPipes.{joined_count as count_joined}
 use Rattle.ndr_decoder_laws.specs.steps.Chunks.{chunk_read}
 use Rattle.ndr_decoder_laws.specs.steps.Spots.{IsFine, IsPlanned}
 use Rattle.ndr_decoder_laws.specs.steps.Steps.{State}

@@ -1,5 +1,5 @@
 -- Where a run ends the plain reader says the same: a whole value, a refusal, or octets that are cut short; and each octet was needed.
-use Rattle.std.proofs.Common.{◌≡◌, ◌<◌, ◌⊎◌, inl, inr, ℕ, ◌+◌, suc, List, [], ◌∷◌, ◌++◌, length, Some, refl, ap, ap₂, sym, ◌∙◌, subst, arith, append_assoc, length-append}
+use Rattle.std.proofs.Common.{◌≡◌, ◌<◌, ◌⊎◌, inl, inr, ℕ, ◌+◌, List, [], ◌∷◌, ◌++◌, length, Some, refl, ap, sym, ◌∙◌, subst, arith, append_assoc, length-append}
 use Rattle.std.specs.Prelude.{slice_get}
 use Rattle.std.proofs.lemmas.List.{append-nil}
 use Rattle.nd_base.specs.declared.octets.Order.{Order}
@@ -24,26 +24,9 @@ use Rattle.ndr_decoder_laws.proofs.steps.PointSteps.{step_right}
 use Rattle.ndr_decoder_laws.specs.runs.Reaching.{Reaches, begins, steps_to}
 use Rattle.ndr_decoder_laws.specs.runs.Refusals.{IsRefusedHere, IsShort}
 use Rattle.ndr_decoder_laws.proofs.runs.GoodRuns.{along}
+use Rattle.nd_lemmas.proofs.Lists.{no_last, same_before_last as without_last}
 
 -- ## Lists
-
-no_last : (part : List ℕ) (last : ℕ) → [] ≡ part ++ last ∷ [] → ⊥
-no_last part last e =
-    let n : 0 ≡ length (part ++ last ∷ []) = ap length e in
-    let m : length (part ++ last ∷ []) ≡ length part + 1 = length-append part (last ∷ []) in absurd (omega (arith, n, m))
-
-without_last : (xs ys : List ℕ) (x y : ℕ) → xs ++ x ∷ [] ≡ ys ++ y ∷ [] → xs ≡ ys
-without_last [] [] x y e = refl
-without_last [] (b ∷ ys) x y e =
-    let n : 1 ≡ suc (length (ys ++ y ∷ [])) = ap length e in
-    let m : length (ys ++ y ∷ []) ≡ length ys + 1 = length-append ys (y ∷ []) in absurd (omega (arith, n, m))
-without_last (a ∷ xs) [] x y e =
-    let n : suc (length (xs ++ x ∷ [])) ≡ 1 = ap length e in
-    let m : length (xs ++ x ∷ []) ≡ length xs + 1 = length-append xs (x ∷ []) in absurd (omega (arith, n, m))
-without_last (a ∷ xs) (b ∷ ys) x y e =
-    let first : a ≡ b = cc in
-    let others : xs ++ x ∷ [] ≡ ys ++ y ∷ [] = cc in
-    ap₂ (λ u us. u ∷ us) first (without_last xs ys x y others)
 
 abbrev HasLast : List ℕ → Type 0
 HasLast os = (os ≡ []) ⊎ ((mid : List ℕ) × ((o : ℕ) × (os ≡ mid ++ o ∷ [])))

@@ -13,7 +13,8 @@ use Rattle.nd_grammar.specs.Reader.{Progress, Names, Read, ReadAll, read_list, r
 use Rattle.nd_grammar.specs.MadeTrees.{MadeTrees, MadeTree}
 use Rattle.ndr_decoder_laws.specs.reader.Around.{Around, go_on, finish, nodes_around}
 use Rattle.ndr_decoder_laws.specs.reader.Points.{Point, hoisting, counting, called, due, opened, offset_read, text_offset, text_counted, tagged, between, checking, has, read_at, below, nodes_at}
-use Rattle.ndr_decoder_laws.proofs.reader.FlatNodes.{joined_none, length_flat}
+use Rattle.nd_flat.proofs.Forests.{joined-none as joined_none}
+use Rattle.nd_grammar.proofs.agreements.EntriesTell.{flat_length as length_flat}
 use Rattle.ndr_decoder_laws.specs.runs.Paid.{label_paid, paid, IsRead, AllRead}
 use Rattle.ndr_decoder_laws.proofs.runs.PaidSteps.{paid_append}
 use Rattle.ndr_decoder_laws.proofs.runs.TreeNodes.{trees_paid, TreesRead, flat_paid, flat_read, made_first, few_first}

@@ -6,7 +6,7 @@ use Rattle.nd_base.specs.declared.octets.Order.{Order}
 use Rattle.nd_types.specs.declared.types.Class.{Class}
 use Rattle.nd_types.specs.declared.types.Class.TheVariants.{Ref, Unique, Full}
 use Rattle.nd_types.specs.declared.types.Primitive.{Primitive}
-use Rattle.nd_types.specs.declared.types.Primitive.TheVariants.{Boolean, Char, Byte, Small, UnsignedSmall, Short, UnsignedShort, Long, UnsignedLong, Hyper, UnsignedHyper}
+use Rattle.nd_types.specs.declared.types.Primitive.TheVariants.{Short}
 use Rattle.nd_types.specs.declared.types.Attr.{Attr}
 use Rattle.nd_types.specs.declared.types.TypeId.{TypeId}
 use Rattle.nd_types.specs.Number.{unsigned, value_of_octets}
@@ -40,19 +40,7 @@ use Rattle.ndr_code.specs.Fields.{prim_of}
 use Rattle.ndr_decoder_laws.specs.steps.Good.{HasOctets}
 use Rattle.ndr_decoder_laws.specs.runs.Reaching.{Reaches, begins, steps_to}
 use Rattle.ndr_decoder_laws.specs.runs.Paid.{array_paid, label_paid, paid, IsRead, AllRead, IsPaid}
-
-some_width : (p : Primitive) → 1 ≤ width p
-some_width Boolean = omega arith
-some_width Char = omega arith
-some_width Byte = omega arith
-some_width Small = omega arith
-some_width UnsignedSmall = omega arith
-some_width Short = omega arith
-some_width UnsignedShort = omega arith
-some_width Long = omega arith
-some_width UnsignedLong = omega arith
-some_width Hyper = omega arith
-some_width UnsignedHyper = omega arith
+use Rattle.nd_grammar.proofs.ItemSizes.{width_low as some_width}
 
 all_there : (n : ℕ) → array_paid n n ≡ 0
 all_there zero = refl

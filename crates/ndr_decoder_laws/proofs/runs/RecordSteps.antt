@@ -3,7 +3,7 @@
 use Rattle.std.proofs.Common.{◌≡◌, ◌≤◌, ◌<◌, ◌⊎◌, inl, inr, ℕ, ◌+◌, zero, suc, List, [], ◌∷◌, ◌++◌, length, Some, None, refl, ap, ap₂, sym, ◌∙◌, subst, arith, append_assoc, length-append}
 use Rattle.std.specs.Prelude.{ℤ, Bool, true, false, ltb, if◌then◌else◌, take, drop, slice_get}
 use Rattle.std.proofs.lemmas.Bool.{ltb-true, ltb-false, le-ltb}
-use Rattle.std.proofs.lemmas.List.{append-nil}
+use Rattle.std.proofs.lemmas.List.{append-nil, length-take-le as length_taken, take-append-drop as taken_and_left, take_all as all_in}
 use Rattle.nd_base.specs.declared.octets.Order.{Order}
 use Rattle.nd_base.specs.declared.TheConstants.{STREAM_LIMIT}
 use Rattle.nd_types.specs.declared.types.Primitive.{Primitive}
@@ -30,11 +30,8 @@ use Rattle.ndr_decoder_laws.specs.steps.StepItems.{gap_items, item_here, step_it
 use Rattle.ndr_decoder_laws.specs.runs.Reaching.{Reaches, steps_to}
 use Rattle.ndr_decoder_laws.specs.runs.Records.{Slot, IsNumberAt, IsSlotRun, AreSlots, IsNumberRecord, IsAmongElements, slots_len, slot_octets, after_slot, slot_flats, slot_items, record_read}
 use Rattle.ndr_decoder_laws.specs.runs.Records.{records_read, IsRecordRun, next_place, records_len, record_flats, record_items, EndsWithin, slots_came, records_came}
-use Rattle.ndr_decoder_laws.proofs.runs.RowSteps.{length_taken, length_left, taken_and_left}
-
-no_octets_at : (os : List ℕ) → length os ≡ 0 → os ≡ []
-no_octets_at [] e = refl
-no_octets_at (o ∷ os) e = absurd (omega (arith, e))
+use Rattle.ndr_decoder_laws.proofs.runs.RowSteps.{length_left}
+use Rattle.nd_lemmas.proofs.Lists.{none_of_none as no_octets_at}
 
 -- the front of a list, by its length
 pub front_taken : {A : Type 0} (n : ℕ) (xs ys : List A) → length xs ≡ n → take n (xs ++ ys) ≡ xs
@@ -43,13 +40,6 @@ front_taken zero [] (y ∷ ys) e = refl
 front_taken zero (x ∷ xs) ys e = absurd (omega (arith, e))
 front_taken (suc n) [] ys e = absurd (omega (arith, e))
 front_taken (suc n) (x ∷ xs) ys e = ap (λ l. x ∷ l) (front_taken n xs ys (omega (arith, e)))
-
--- the whole of a list that is no longer
-all_in : (n : ℕ) (os : List ℕ) → length os ≤ n → take n os ≡ os
-all_in zero [] e = refl
-all_in zero (o ∷ os) e = absurd (omega (arith, e))
-all_in (suc n) [] e = refl
-all_in (suc n) (o ∷ os) e = ap (λ l. o ∷ l) (all_in n os (omega (arith, e)))
 
 as_many_in : (order : Order) (fs : List Slot) (at : ℕ) (os : List ℕ) → length (slot_flats order at fs os) ≡ length fs
 as_many_in order [] at os = refl

@@ -2,7 +2,7 @@
 -- `w` is the width of a number, `more` how many elements are left after the row.
 use Rattle.std.proofs.Common.{◌≡◌, ◌≤◌, ◌⊎◌, inl, inr, ℕ, ◌+◌, ◌*◌, zero, suc, List, [], ◌∷◌, ◌++◌, length, Some, None, refl, ap, ap₂, sym, ◌∙◌, subst, arith, append_assoc, length-append}
 use Rattle.std.specs.Prelude.{◌-◌, ◌%◌, take, drop, slice_get}
-use Rattle.std.proofs.lemmas.List.{append-nil}
+use Rattle.std.proofs.lemmas.List.{append-nil, length-take-le as length_taken, take-append-drop as taken_and_left}
 use Rattle.nd_base.specs.declared.octets.Order.{Order}
 use Rattle.nd_base.specs.declared.TheConstants.{STREAM_LIMIT}
 use Rattle.nd_types.specs.declared.types.Primitive.{Primitive}
@@ -31,23 +31,11 @@ use Rattle.ndr_decoder_laws.specs.runs.Rows.{with_row, with_fewer, row_read, row
 
 -- ## Octets
 
-pub length_taken : (n : ℕ) (os : List ℕ) → n ≤ length os → length (take n os) ≡ n
-length_taken zero [] e = refl
-length_taken zero (o ∷ os) e = refl
-length_taken (suc n) [] e = absurd (omega (arith, e))
-length_taken (suc n) (o ∷ os) e = ap suc (length_taken n os (omega (arith, e)))
-
 pub length_left : (n : ℕ) (os : List ℕ) → n ≤ length os → n + length (drop n os) ≡ length os
 length_left zero [] e = refl
 length_left zero (o ∷ os) e = omega arith
 length_left (suc n) [] e = absurd (omega (arith, e))
 length_left (suc n) (o ∷ os) e = let h : n + length (drop n os) ≡ length os = length_left n os (omega (arith, e)) in omega (arith, h)
-
-pub taken_and_left : (n : ℕ) (os : List ℕ) → take n os ++ drop n os ≡ os
-taken_and_left zero [] = refl
-taken_and_left zero (o ∷ os) = refl
-taken_and_left (suc n) [] = refl
-taken_and_left (suc n) (o ∷ os) = ap (λ xs. o ∷ xs) (taken_and_left n os)
 
 all_taken : (n : ℕ) (os : List ℕ) → length os ≡ n → take n os ≡ os
 all_taken zero [] e = refl

@@ -28,6 +28,8 @@ use Rattle.nd_grammar.specs.MadeTrees.{MadeNode, MadeTrees, MadeTree}
 use Rattle.nd_grammar.proofs.reader.ReaderInPlace.{Fine, Readable}
 use Rattle.ndr_decoder_laws.specs.runs.Paid.{array_paid, label_paid, paid, IsRead, AllRead}
 use Rattle.ndr_decoder_laws.proofs.runs.PaidSteps.{paid_append}
+use Rattle.nd_grammar.proofs.conforming.StreamConforms.{one_few as one_at_most}
+use Rattle.nd_lemmas.proofs.Lists.{length_map as mapped}
 
 -- what trees take, and that they were read
 abbrev pub trees_paid : Trees → ℕ
@@ -59,14 +61,6 @@ flat_read (more (node l ks) ts) r = (
   flat_read ks (all_left (λ (x : Flat). IsRead x.0) (flat ks) (flat ts) r.1),
   flat_read ts (all_right (λ (x : Flat). IsRead x.0) (flat ks) (flat ts) r.1),
 )
-
-mapped : {X Y : Type 0} (f : X → Y) (xs : List X) → length (map f xs) ≡ length xs
-mapped f [] = refl
-mapped f (x ∷ xs) = ap suc (mapped f xs)
-
-one_at_most : (b : Bool) → one b ≤ 1
-one_at_most true = omega arith
-one_at_most false = omega arith
 
 -- an array with a bound is paid by itself, or by its elements
 by_count : (m c y : ℕ) → 1 ≤ m → (1 ≤ c → 1 ≤ y) → 1 ≤ array_paid m c + y

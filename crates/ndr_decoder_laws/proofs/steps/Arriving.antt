@@ -2,7 +2,7 @@
 use Rattle.std.proofs.Common.{◌≡◌, ◌≤◌, ◌<◌, ◌⊎◌, inl, inr, ℕ, ◌+◌, zero, suc, Bool, true, false, List, [], ◌∷◌, ◌++◌, length, Option, Some, None, refl, ap, sym, ◌∙◌, subst, arith, length-append, map}
 use Rattle.std.specs.Prelude.{eqb, ℤ}
 use Rattle.std.specs.List.{slice_get}
-use Rattle.std.proofs.lemmas.Bool.{eqb-true}
+use Rattle.std.proofs.lemmas.Bool.{eqb-true, le-ltb as no_less}
 use Rattle.std.proofs.lemmas.List.{append-nil}
 use Rattle.std.proofs.lemmas.Option.{slice_get_within}
 use Rattle.nd_base.specs.declared.octets.Order.{Order}
@@ -35,7 +35,7 @@ use Rattle.ndr_decoder_laws.specs.declared.frame.Frame.{Frame}
 use Rattle.ndr_decoder_laws.specs.steps.Spots.{IsFine, IsDue, IsFormed, IsPlanned, Inside, Fits, Spot, body_run}
 use Rattle.ndr_decoder_laws.specs.steps.Steps.{State, Owed, begun}
 use Rattle.ndr_decoder_laws.specs.steps.Good.{Told, Kept, Good, OwnIn, Begin, HasRegisters, Holds, members_around, owed, due_member, half_at, phase_at}
-use Rattle.ndr_decoder_laws.proofs.steps.Passing.{items_it, told_passed, kept_passed, own_map, silent, speaks, no_less, Lies}
+use Rattle.ndr_decoder_laws.proofs.steps.Passing.{items_it, told_passed, kept_passed, own_map, silent, speaks, Lies}
 
 -- what of a state does not change while octets of one value are passed
 pub record Parts : Type 0 where

@@ -5,7 +5,7 @@ use Rattle.std.specs.Prelude.{ℤ, cond, option_map, if◌then◌else◌}
 use Rattle.std.specs.List.{AllByRecursion, slice_get}
 use Rattle.std.specs.Ordering.{int_eq}
 use Rattle.std.proofs.lemmas.List.{append-nil, length-map, map-append}
-use Rattle.std.proofs.lemmas.Option.{same_Some, slice_get_within}
+use Rattle.std.proofs.lemmas.Option.{same_Some, slice_get_within, slice_get_past as past_end}
 use Rattle.nd_base.specs.declared.octets.Order.{Order}
 use Rattle.nd_types.specs.declared.types.Attr.{Attr}
 use Rattle.nd_types.specs.declared.types.AttrVar.{AttrVar}
@@ -44,8 +44,8 @@ use Rattle.ndr_decoder_laws.specs.steps.Good.{Told, Kept, Good, IsRight, owed, B
 use Rattle.ndr_decoder_laws.proofs.steps.Passing.{told_passed, kept_passed, silent, judged, Lies}
 use Rattle.ndr_decoder_laws.proofs.steps.Arriving.{KeptAll, KeptOwn}
 use Rattle.ndr_decoder_laws.proofs.steps.Adding.{stop_by}
-use Rattle.ndr_decoder_laws.proofs.steps.MemberChecks.{first_number_is, owing_is, SameFound, found_is, get_behind, past_end, at_end, there, number_past, tree_there, member_at, member_is, other_joins}
-use Rattle.ndr_decoder_laws.proofs.steps.MemberChecks.{pointer_joins}
+use Rattle.ndr_decoder_laws.proofs.steps.MemberChecks.{first_number_is, owing_is, SameFound, found_is, get_behind, number_past, tree_there, member_at, member_is, other_joins, pointer_joins}
+use Rattle.nd_lemmas.proofs.Lists.{past_end as at_end, item_at as there}
 
 -- a struct all of whose members were read
 pub record AllRead (noted : List Item) (direct : ℕ) (order : Order) (fetched : List ℕ) (code : List Instr) (table : Table) (h : Home) (own limit : ℕ) (k : ℕ) (fs : List Around) (f : Around)

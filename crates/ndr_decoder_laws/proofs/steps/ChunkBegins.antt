@@ -1,5 +1,5 @@
 -- The beginning of a chunk's elements: the state at the first of them means what the plain reader has to read of the chunk.
-use Rattle.std.proofs.Common.{◌≡◌, ℕ, ◌+◌, zero, suc, Bool, true, false, List, [], ◌∷◌, ◌++◌, length, Some, None, refl, ap, ap₂, sym, ◌∙◌, subst, arith, replicate}
+use Rattle.std.proofs.Common.{◌≡◌, ℕ, ◌+◌, zero, suc, List, [], ◌∷◌, ◌++◌, length, Some, None, refl, ap, ap₂, sym, ◌∙◌, subst, arith, replicate}
 use Rattle.std.specs.List.{AllByRecursion, slice_get}
 use Rattle.std.proofs.lemmas.List.{length-replicate}
 use Rattle.nd_base.specs.declared.octets.Order.{Order}
@@ -9,9 +9,8 @@ use Rattle.nd_types.specs.Table.{Table, type_at}
 use Rattle.nd_value.specs.declared.item.Home.{Home}
 use Rattle.nd_value.specs.declared.item.Item.{Item}
 use Rattle.nd_value.specs.Tree as tree
-use Rattle.nd_value.specs.Tree.{Tree, Trees, node, none, more, flat, count, node_count, joined, is_pointer}
+use Rattle.nd_value.specs.Tree.{Trees, node, more, flat, count, node_count, joined}
 use Rattle.nd_grammar.specs.Entry.{EntryAt}
-use Rattle.nd_grammar.specs.InPlace.{child_tests, own_tests}
 use Rattle.nd_grammar.specs.Reader.{Names, Read, ReadAll, pass_all, read_list, read_in_place, tree_nodes}
 use Rattle.ndr_code.specs.declared.instr.Instr.{Instr}
 use Rattle.ndr_code.specs.declared.instr.Instr.TheVariants as op
@@ -19,7 +18,7 @@ use Rattle.ndr_code.specs.declared.lists.EnumList.{EnumList}
 use Rattle.ndr_code.specs.Code.{place_at}
 use Rattle.ndr_code.proofs.Runs.{next_at}
 use Rattle.ndr_decoder_laws.specs.reader.Around.{Around, going, finish, nodes_around}
-use Rattle.ndr_decoder_laws.proofs.reader.FlatNodes.{length_flat}
+use Rattle.nd_grammar.proofs.agreements.EntriesTell.{flat_length as length_flat}
 use Rattle.ndr_decoder_laws.specs.declared.frame.Frame.TheVariants as frame
 use Rattle.ndr_decoder_laws.specs.declared.first.First.{First}
 use Rattle.ndr_decoder_laws.specs.declared.first.First.TheVariants as first
@@ -29,14 +28,7 @@ use Rattle.ndr_decoder_laws.specs.steps.Steps.{State}
 use Rattle.ndr_decoder_laws.specs.steps.Good.{Kept, Good, Begin, due_member}
 use Rattle.ndr_decoder_laws.specs.steps.Chunks.{in_chunk, chunk_read, IsChunkBegun}
 use Rattle.ndr_decoder_laws.proofs.steps.Arriving.{Within, parts_of, arrives}
-
-no_own_tests : (b : Bool) (h : Home) (n : ℕ) (t : Tree) → own_tests b h n t [] ≡ []
-no_own_tests true h n t = refl
-no_own_tests false h n t = refl
-
-no_tests : (h : Home) (n : ℕ) (ts : Trees) → child_tests h [] n ts ≡ []
-no_tests h n none = refl
-no_tests h n (more (node l ks) ts) = ap₂ (λ xs ys. xs ++ ys) (no_own_tests (is_pointer l) h n (node l ks)) (no_tests h (n + 1 + node_count ks) ts)
+use Rattle.nd_grammar.proofs.PlainStreams.{no_tests_below as no_tests}
 
 all_alike : (P : ℕ → Type 0) (t n : ℕ) → P t → AllByRecursion P (replicate n t)
 all_alike P t zero a = tt

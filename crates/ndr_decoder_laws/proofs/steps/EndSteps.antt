@@ -1,5 +1,5 @@
 -- The end of a value: the next member of its struct, the next element, the end of its array, union or pipe, or that of the home.
-use Rattle.std.proofs.Common.{◌≡◌, ℕ, ◌+◌, zero, suc, Bool, true, false, List, [], ◌∷◌, ◌++◌, length, Some, refl, ap, ap₂, sym, ◌∙◌, subst, arith, append_assoc, length-append, map, flat_map}
+use Rattle.std.proofs.Common.{◌≡◌, ℕ, ◌+◌, zero, suc, false, List, [], ◌∷◌, ◌++◌, length, Some, refl, ap, ap₂, sym, ◌∙◌, subst, arith, append_assoc, length-append, map, flat_map}
 use Rattle.std.specs.Prelude.{replicate}
 use Rattle.std.specs.List.{AllByRecursion}
 use Rattle.std.proofs.lemmas.List.{append-nil, length-replicate}
@@ -14,7 +14,7 @@ use Rattle.nd_value.specs.Deferral.{pointer, home_pointers}
 use Rattle.nd_value.specs.Tree as tree
 use Rattle.nd_value.specs.Tree.{Tree, Trees, node, none, more, joined, Label, flat, count, node_count, is_pointer}
 use Rattle.nd_grammar.specs.Entry.{EntryAt}
-use Rattle.nd_grammar.specs.InPlace.{child_tests, own_tests}
+use Rattle.nd_grammar.specs.InPlace.{child_tests}
 use Rattle.nd_grammar.specs.Reader.{Names, Read, read_in_place, tree_nodes, pass_all}
 use Rattle.ndr_code.specs.declared.instr.Instr.{Instr}
 use Rattle.ndr_code.specs.declared.instr.Instr.TheVariants as op
@@ -24,7 +24,9 @@ use Rattle.ndr_code.specs.Runs.{IsRunAt}
 use Rattle.ndr_decoder_laws.specs.reader.Around.{Around, going, finish, go_on, nodes_around, nodes_between, pointers, pointers_around, Numbered, Tied, moved, with_left}
 use Rattle.ndr_decoder_laws.specs.reader.Points.{between, has}
 use Rattle.ndr_decoder_laws.proofs.reader.Continuing.{moves, goes_on}
-use Rattle.ndr_decoder_laws.proofs.reader.FlatNodes.{length_flat, count_joined, nodes_moved, node_closed, length_more}
+use Rattle.ndr_decoder_laws.proofs.reader.FlatNodes.{nodes_moved, node_closed, length_more}
+use Rattle.nd_grammar.proofs.agreements.EntriesTell.{flat_length as length_flat}
+use Rattle.nd_grammar.proofs.reader.ReaderPipes.{joined_count as count_joined}
 use Rattle.ndr_decoder_laws.proofs.reader.HomePointers.{nodes_joined, pointers_moved, pointers_node, of_array, of_union}
 use Rattle.ndr_decoder_laws.specs.declared.frame.Frame.{Frame}
 use Rattle.ndr_decoder_laws.specs.declared.frame.Frame.TheVariants as frame
@@ -34,15 +36,7 @@ use Rattle.ndr_decoder_laws.specs.steps.Good.{Told, IsRight, owed, Begin, Begins
 use Rattle.ndr_decoder_laws.proofs.steps.Arriving.{KeptAll, KeptOwn, arrives}
 use Rattle.ndr_decoder_laws.proofs.steps.Adding.{no_pointer}
 use Rattle.ndr_decoder_laws.proofs.steps.StructSteps.{deeper}
-
--- a node whose children have no agreements has no tests
-own_none : (b : Bool) (h : Home) (n : ℕ) (t : Tree) → own_tests b h n t [] ≡ []
-own_none true h n t = refl
-own_none false h n t = refl
-
-pub no_tests : (h : Home) (n : ℕ) (ks : Trees) → child_tests h [] n ks ≡ []
-no_tests h n none = refl
-no_tests h n (more (node l ks) ts) = ap₂ (λ xs ys. xs ++ ys) (own_none (is_pointer l) h n (node l ks)) (no_tests h (n + 1 + node_count ks) ts)
+use Rattle.nd_grammar.proofs.PlainStreams.{no_tests_below as no_tests}
 
 snoc : (n t : ℕ) → replicate n t ++ t ∷ [] ≡ replicate (suc n) t
 snoc zero t = refl

@@ -33,8 +33,10 @@ use Rattle.ndr_decoder_laws.specs.steps.Steps.{State, Outcome, goes, gap_read, p
 use Rattle.ndr_decoder_laws.specs.steps.Good.{Told, IsRight, place_at as place_of_node}
 use Rattle.ndr_decoder_laws.specs.steps.StepItems.{item_here, gap_items, count_items}
 use Rattle.ndr_decoder_laws.proofs.steps.CountedCells.{none_named}
-use Rattle.ndr_decoder_laws.proofs.steps.Passing.{items_it, gap_noted, noted_joined, onward, no_less, silent, told_passed, known_joined, lie_joined, lie_longer, judged, taken_it, lies_it, same_homes}
-use Rattle.ndr_decoder_laws.proofs.steps.Passing.{tested_now, tested_passed}
+use Rattle.ndr_decoder_laws.proofs.steps.Passing.{items_it, gap_noted, noted_joined, onward, silent, told_passed, known_joined, lie_joined, lie_longer, judged, taken_it, lies_it, tested_now}
+use Rattle.ndr_decoder_laws.proofs.steps.Passing.{tested_passed}
+use Rattle.std.proofs.lemmas.Bool.{le-ltb as no_less}
+use Rattle.nd_grammar.proofs.agreements.TestedAt.{same_home_self as same_homes}
 use Rattle.ndr_decoder_laws.proofs.steps.Arriving.{Within, parts_of, within_passed, arrives}
 use Rattle.ndr_decoder_laws.proofs.steps.Adding.{stop_by, Stops}
 

@@ -4,7 +4,6 @@ use Rattle.std.specs.Prelude.{pos, ltb, replicate}
 use Rattle.std.specs.List.{slice_get}
 use Rattle.std.proofs.lemmas.List.{length-replicate, append-nil}
 use Rattle.std.proofs.lemmas.Option.{same_Some}
-use Rattle.std.proofs.lemmas.Bool.Decides.{nat_tests}
 use Rattle.nd_base.specs.declared.octets.Order.{Order}
 use Rattle.nd_base.specs.declared.TheConstants.{STREAM_LIMIT}
 use Rattle.nd_types.specs.declared.types.Arm.{Arm}
@@ -35,7 +34,7 @@ use Rattle.ndr_decoder_laws.specs.steps.Spots.{IsFine, IsFormed, IsPlanned, Spot
 use Rattle.ndr_decoder_laws.specs.steps.Steps.{State, begun, gap_read, Want, no_octets, gap_of, item_of, wants, hoist_want, text_want}
 use Rattle.ndr_code.specs.Fields.{prim_of}
 use Rattle.ndr_decoder_laws.specs.steps.Good.{Good, IsCut, IsTooLong, phase_at}
-use Rattle.ndr_decoder_laws.proofs.steps.Passing.{no_less}
+use Rattle.std.proofs.lemmas.Bool.{le-ltb as no_less, lt-ltb as less_is}
 use Rattle.ndr_decoder_laws.proofs.steps.Adding.{Stops}
 use Rattle.ndr_decoder_laws.proofs.steps.NumberSteps.{prim_back, gap_next, number_next, context_next}
 use Rattle.ndr_decoder_laws.proofs.steps.VarySteps.{offset_next, count_next, text_offset_next, text_count_next, text_next}
@@ -58,7 +57,7 @@ Next order fetched seen at target (item_of n) = Wanted order fetched seen at tar
 abbrev zeros : ℕ → List ℕ
 zeros c = replicate c 0
 
-no_frames : (f : Around) (fs : List Around) → (f ∷ fs) ≡ [] → ⊥
+pub no_frames : (f : Around) (fs : List Around) → (f ∷ fs) ≡ [] → ⊥
 no_frames f fs e = cc
 
 module _ (order : Order) (fetched : List ℕ) (code : List Instr) (values : List EnumList) (table : Table) (h : Home) (target : List ℕ → Read) (planned : IsPlanned code values table)
@@ -293,9 +292,6 @@ wanting order fetched code values table h own limit noted direct target s i g at
     by_point (between f) depth spot r = inr (omega (arith, r))
     by_point (checking f so_far tests) depth spot r = inr (omega (arith, r))
     by_point (has t v) depth spot r = inr (omega (arith, r))
-
-less_is : (a b : ℕ) → a < b → ltb a b ≡ true
-less_is a b l = grind (arith, nat_tests)
 
 module _ (order : Order) (fetched : List ℕ) (code : List Instr) (values : List EnumList) (table : Table) (h : Home) (own limit : ℕ) (noted : List Item) (direct : ℕ) (target : List ℕ → Read)
     (planned : IsPlanned code values table)

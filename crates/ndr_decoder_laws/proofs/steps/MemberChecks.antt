@@ -1,6 +1,6 @@
 -- The agreements of a struct's members: those of a pointer join its pending referent, those of any other are tried in its first node.
 -- `x` is the member that is governed, `xs` and `ys` are those before and after it, `w` is what is kept of its first node.
-use Rattle.std.proofs.Common.{◌≡◌, ◌≤◌, ◌<◌, ◌⊎◌, inl, inr, ℕ, ◌+◌, zero, suc, Bool, true, false, List, [], ◌∷◌, ◌++◌, length, Option, Some, None, refl, ap, ap₂, sym, ◌∙◌, subst, arith, append_assoc}
+use Rattle.std.proofs.Common.{◌≡◌, ◌⊎◌, inl, inr, ℕ, ◌+◌, zero, suc, Bool, true, false, List, [], ◌∷◌, ◌++◌, length, Option, Some, None, refl, ap, ap₂, sym, ◌∙◌, subst, arith, append_assoc}
 use Rattle.std.proofs.Common.{length-append, map, flat_map}
 use Rattle.std.specs.List.{slice_get}
 use Rattle.std.proofs.lemmas.Grind.{flat_map-append}
@@ -118,22 +118,6 @@ found_is max_at attr.Last (tree.Unread, c) place = inr refl
 pub get_behind : {X : Type 0} (xs ys : List X) (j : ℕ) → slice_get (xs ++ ys) (length xs + j) ≡ slice_get ys j
 get_behind [] ys j = let z : 0 + j ≡ j = omega arith in ap (slice_get ys) z
 get_behind (x ∷ xs) ys j = let z : suc (length xs) + j ≡ suc (length xs + j) = omega arith in ap (slice_get (x ∷ (xs ++ ys))) z ∙ get_behind xs ys j
-
-pub past_end : {X : Type 0} (xs : List X) (i : ℕ) → length xs ≤ i → slice_get xs i ≡ None
-past_end [] zero l = refl
-past_end [] (suc i) l = refl
-past_end (x ∷ xs) zero l = absurd (omega (arith, l))
-past_end (x ∷ xs) (suc i) l = past_end xs i (omega (arith, l))
-
-pub at_end : {X : Type 0} (xs : List X) (i : ℕ) → slice_get xs i ≡ None → length xs ≤ i
-at_end [] i e = omega arith
-at_end (x ∷ xs) zero e = cc
-at_end (x ∷ xs) (suc i) e = let l : length xs ≤ i = at_end xs i e in omega (arith, l)
-
-pub there : {X : Type 0} (xs : List X) (i : ℕ) → i < length xs → (x : X) × (slice_get xs i ≡ Some x)
-there [] i l = absurd (omega (arith, l))
-there (x ∷ xs) zero l = (x, refl)
-there (x ∷ xs) (suc i) l = there xs i (omega (arith, l))
 
 pub number_past : (ts : Trees) (i : ℕ) → tree_at ts i ≡ None → number_in ts i ≡ None
 number_past none i e = refl

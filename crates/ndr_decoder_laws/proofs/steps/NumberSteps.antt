@@ -36,7 +36,8 @@ use Rattle.ndr_decoder_laws.specs.steps.Steps.{State, Outcome, goes, refused, do
 use Rattle.ndr_code.specs.Fields.{prim_of}
 use Rattle.ndr_decoder_laws.specs.steps.Good.{Told, IsRight, owed}
 use Rattle.ndr_decoder_laws.specs.steps.StepItems.{item_here, next_item, gap_items, number_items}
-use Rattle.ndr_decoder_laws.proofs.steps.Passing.{items_it, gap_noted, onward, no_less, silent, told_passed, judged, taken_it, lies_it}
+use Rattle.ndr_decoder_laws.proofs.steps.Passing.{items_it, gap_noted, onward, silent, told_passed, judged, taken_it, lies_it}
+use Rattle.std.proofs.lemmas.Bool.{le-ltb as no_less}
 use Rattle.ndr_decoder_laws.proofs.steps.Arriving.{Within, parts_of, within_passed, plain_good}
 use Rattle.ndr_decoder_laws.proofs.steps.Adding.{leaf_good, none_found, no_pointer, stop_by, Stops}
 

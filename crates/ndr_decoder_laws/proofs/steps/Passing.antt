@@ -2,7 +2,7 @@
 -- `x` is the entry at its place, `os` are the octets that were fetched for it, `y` is a node, `h` the home, `a` an attribute.
 use Rattle.std.proofs.Common.{◌≡◌, ◌≤◌, ◌<◌, ◌⊎◌, inl, inr, ℕ, ◌+◌, zero, suc, Bool, true, false, ◌&&◌, List, [], ◌∷◌, ◌++◌, length, Option, Some, None, refl, ap, ap₂, sym, ◌∙◌, subst, arith}
 use Rattle.std.proofs.Common.{append_assoc, length-append}
-use Rattle.std.specs.Prelude.{pos, cond, eqb, ltb, ◌||◌}
+use Rattle.std.specs.Prelude.{pos, cond, eqb, ◌||◌}
 use Rattle.std.specs.List.{AllByRecursion}
 use Rattle.std.proofs.lemmas.List.{append-nil}
 use Rattle.std.proofs.lemmas.Bool.Decides.{nat_tests}
@@ -22,7 +22,7 @@ use Rattle.nd_grammar.specs.Items.{items, item_at, item_of as item_in}
 use Rattle.nd_grammar.specs.Represents.{piece}
 use Rattle.nd_grammar.specs.Reader.{Names, taken}
 use Rattle.nd_grammar.specs.Refusal.{is_other, tested_at, kind_agrees, same_home, is_max, other_pointee, refusal, kind_refusal, is_long}
-use Rattle.ndr_code.proofs.Runs.{item_before}
+use Rattle.nd_grammar.proofs.reader.ReaderNames.{get_left as item_before}
 use Rattle.ndr_refs.specs.declared.referents.Known.{Known}
 use Rattle.ndr_decoder_laws.specs.reader.Around.{going, Around}
 use Rattle.nd_grammar.proofs.next.Spelt.{piece_left}
@@ -32,26 +32,18 @@ use Rattle.ndr_decoder_laws.specs.steps.Steps.{Place, no_place, place_of}
 use Rattle.ndr_decoder_laws.specs.steps.StepItems.{item_here, gap_items}
 use Rattle.ndr_decoder_laws.proofs.steps.CountedCells.{none_named}
 use Rattle.ndr_decoder_laws.specs.steps.Good.{Told, Kept, IsKnownAs, OwnIn, place_at}
+use Rattle.nd_grammar.proofs.agreements.TestedAt.{same_home_self as same_homes}
+use Rattle.std.proofs.lemmas.Bool.{eq-eqb as same_eqb}
 
 -- what holds of all octets that begin with those fetched holds of all that begin with a step's octets too
 pub onward : (fetched os : List ℕ) (P : List ℕ → Type 0) → ((later : List ℕ) → P (fetched ++ later)) → (later : List ℕ) → P ((fetched ++ os) ++ later)
 onward fetched os P f later = subst P (sym (append_assoc fetched os later)) (f (os ++ later))
-
-pub same_eqb : (m n : ℕ) → m ≡ n → eqb m n ≡ true
-same_eqb m n e = grind (arith, nat_tests)
 
 pub other_eqb : (m n : ℕ) → m < n → eqb m n ≡ false
 other_eqb m n e = grind (arith, nat_tests)
 
 pub other_eqb' : (m n : ℕ) → n < m → eqb m n ≡ false
 other_eqb' m n e = grind (arith, nat_tests)
-
-pub no_less : (m n : ℕ) → n ≤ m → ltb m n ≡ false
-no_less m n e = grind (arith, nat_tests)
-
-pub same_homes : (h : Home) → same_home h h ≡ true
-same_homes (home.Root i) = same_eqb i i refl
-same_homes (home.Cell c) = same_eqb c.0 c.0 refl
 
 -- ## Numbers of full pointers
 

@@ -36,7 +36,7 @@ use Rattle.ndr_decoder_laws.specs.reader.Points.{Point, TagForm, IsTagForm, hois
 use Rattle.ndr_decoder_laws.specs.reader.Points.{has, read_at, held, nodes_at, pointers_at, NumberedAt, TiedAt}
 use Rattle.ndr_decoder_laws.proofs.reader.FromPoint.{members_read}
 use Rattle.ndr_decoder_laws.proofs.reader.HomePointers.{of_number, of_enumerated}
-use Rattle.ndr_decoder_laws.proofs.reader.FlatNodes.{count_joined}
+use Rattle.nd_grammar.proofs.reader.ReaderPipes.{joined_count as count_joined}
 use Rattle.ndr_decoder_laws.specs.steps.Spots.{IsFine, IsFormed, IsPlanned, IsStruct, InsideAt, Spot, FitsAt, ChecksLeft, no_check, at_member, own_tests_of, AtEnd, at_ret, at_void, rest_run, body_run}
 use Rattle.ndr_decoder_laws.specs.steps.Steps.{State, Outcome, offset_read, count_read, wants, item_of, text_want, hoist_want, hoist_by, step, number_step, vary_by, text_by, limit_of, tag_step}
 use Rattle.ndr_code.specs.Fields.{prim_of}
@@ -47,13 +47,16 @@ use Rattle.ndr_decoder_laws.proofs.steps.Adding.{none_found}
 use Rattle.ndr_decoder_laws.proofs.steps.NumberSteps.{prim_back, gap_right, number_right, context_right}
 use Rattle.ndr_decoder_laws.proofs.steps.StructSteps.{struct_right, call_right, close_right, shallower}
 use Rattle.ndr_decoder_laws.proofs.steps.ArraySteps.{elements_right}
-use Rattle.ndr_decoder_laws.proofs.steps.EndSteps.{end_right, back_right, no_tests}
+use Rattle.ndr_decoder_laws.proofs.steps.EndSteps.{end_right, back_right}
+use Rattle.nd_grammar.proofs.PlainStreams.{no_tests_below as no_tests, own_none as no_agreement}
 use Rattle.ndr_decoder_laws.proofs.steps.VarySteps.{offset_right, count_right, text_offset_right, text_count_right, text_right, not_none}
 use Rattle.ndr_decoder_laws.proofs.steps.HoistSteps.{hoist_gap_right, hoist_count_right, jump_right}
 use Rattle.ndr_decoder_laws.proofs.steps.UnionSteps.{form_is, tag_right, arm_right, other_right, noarm_right}
 use Rattle.ndr_decoder_laws.proofs.steps.PointerSteps.{ref_right, unique_right, full_right}
 use Rattle.ndr_decoder_laws.proofs.steps.MemberChecks.{governed_longer}
 use Rattle.ndr_decoder_laws.proofs.steps.CheckSteps.{AllRead, check_right}
+use Rattle.ndr_decoder_laws.proofs.reader.Continuing.{joined_more as joined_after}
+use Rattle.ndr_decoder_laws.proofs.steps.Lacking.{no_frames}
 
 -- the facts of a state at this point
 pub record At (order : Order) (fetched : List ℕ) (code : List Instr) (table : Table) (h : Home) (own limit : ℕ) (noted : List Item) (direct : ℕ) (target : List ℕ → Read) (s : State)
@@ -80,20 +83,9 @@ pub record At (order : Order) (fetched : List ℕ) (code : List Instr) (table : 
       → finish order (fetched ++ later) table h s.max depth fs (read_at order (fetched ++ later) table h s.max depth point (length (nodes_around fs)) (going s.at seen) names)
       ≡ target (fetched ++ later)
 
-no_frames : (f : Around) (fs : List Around) → (f ∷ fs) ≡ [] → ⊥
-no_frames f fs e = cc
-
-joined_after : (xs : Trees) (x : Tree) (ys : Trees) → joined (joined xs (more x none)) ys ≡ joined xs (more x ys)
-joined_after none x ys = refl
-joined_after (more t ts) x ys = ap (more t) (joined_after ts x ys)
-
-nodes_joined : (xs ys : Trees) → node_count (joined xs ys) ≡ node_count xs + node_count ys
+pub nodes_joined : (xs ys : Trees) → node_count (joined xs ys) ≡ node_count xs + node_count ys
 nodes_joined none ys = omega arith
 nodes_joined (more (node l ks) ts) ys = let h : node_count (joined ts ys) ≡ node_count ts + node_count ys = nodes_joined ts ys in omega (arith, h)
-
-no_agreement : (b : Bool) (h : Home) (n : ℕ) (t : Tree) → own_tests b h n t [] ≡ []
-no_agreement true h n t = refl
-no_agreement false h n t = refl
 
 module _ (order : Order) (fetched os : List ℕ) (code : List Instr) (values : List EnumList) (table : Table) (h : Home) (own limit : ℕ) (noted : List Item) (direct : ℕ) (target : List ℕ → Read)
     (planned : IsPlanned code values table)

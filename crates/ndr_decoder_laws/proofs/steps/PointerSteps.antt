@@ -2,7 +2,7 @@
 -- `v` is the number, `to` the type of the referent, `c` the cell.
 use Rattle.std.proofs.Common.{◌≡◌, ◌≤◌, ◌<◌, ℕ, ◌+◌, Bool, true, false, ◌&&◌, List, [], ◌∷◌, ◌++◌, length, Option, Some, None, refl, ap, ap₂, sym, ◌∙◌, subst, arith, append_assoc, length-append, map}
 use Rattle.std.specs.Prelude.{pos, cond, eqb, not, nat_eq, if◌then◌else◌, ◌||◌}
-use Rattle.std.proofs.lemmas.Bool.{eqb-true}
+use Rattle.std.proofs.lemmas.Bool.{eqb-true, le-ltb as no_less, eq-eqb as same_eqb}
 use Rattle.std.proofs.lemmas.Bool.Decides.{nat_tests}
 use Rattle.std.proofs.lemmas.List.{append-nil, map-append, length-map}
 use Rattle.nd_base.specs.declared.octets.Order.{Order}
@@ -43,7 +43,7 @@ use Rattle.ndr_decoder_laws.specs.steps.Good.{HasCells, Told, Good, IsRight, IsK
 use Rattle.nd_grammar.specs.Items.{items}
 use Rattle.ndr_decoder_laws.specs.steps.StepItems.{item_here, count_items}
 use Rattle.ndr_decoder_laws.proofs.steps.CountedCells.{none_named, known_named, next_named, first_named}
-use Rattle.ndr_decoder_laws.proofs.steps.Passing.{items_it, noted_joined, onward, no_less, silent, known_joined, lie_joined, lie_longer, tested_passed, judged, taken_it, lies_it, same_eqb}
+use Rattle.ndr_decoder_laws.proofs.steps.Passing.{items_it, noted_joined, onward, silent, known_joined, lie_joined, lie_longer, tested_passed, judged, taken_it, lies_it}
 use Rattle.ndr_decoder_laws.proofs.steps.Arriving.{Within, parts_of, within_passed}
 use Rattle.ndr_decoder_laws.proofs.steps.Adding.{leaf_good, after_leaf, none_found, stop_by, Stops}
 

@@ -46,7 +46,8 @@ use Rattle.ndr_decoder_laws.specs.steps.Steps.{State, Outcome, goes, refused, be
 use Rattle.ndr_code.specs.Fields.{prim_of}
 use Rattle.ndr_decoder_laws.specs.steps.Good.{Told, Good, HeldTag, IsRight, owed, members_around}
 use Rattle.ndr_decoder_laws.specs.steps.StepItems.{item_here, tag_items, arm_items}
-use Rattle.ndr_decoder_laws.proofs.steps.Passing.{items_it, own_items, onward, no_less, later_node, told_counted, told_longer, judged, taken_it, other_eqb', Change, Lies}
+use Rattle.ndr_decoder_laws.proofs.steps.Passing.{items_it, own_items, onward, later_node, told_counted, told_longer, judged, taken_it, other_eqb', Change, Lies}
+use Rattle.std.proofs.lemmas.Bool.{le-ltb as no_less}
 use Rattle.ndr_decoder_laws.proofs.steps.Arriving.{Within, parts_of, within_passed, plain_good, arrives}
 use Rattle.ndr_decoder_laws.proofs.steps.Adding.{added, leaf_good, none_found, told_node, no_pointer, stop_by, Stops}
 use Rattle.ndr_decoder_laws.proofs.steps.NumberSteps.{prim_back}

@@ -38,7 +38,8 @@ use Rattle.ndr_decoder_laws.specs.steps.Steps.{State, Outcome, goes, refused, be
 use Rattle.ndr_decoder_laws.specs.steps.Steps.{counts_at}
 use Rattle.ndr_decoder_laws.specs.steps.Good.{Told, IsRight, owed}
 use Rattle.ndr_decoder_laws.specs.steps.StepItems.{item_here, next_item, count_items}
-use Rattle.ndr_decoder_laws.proofs.steps.Passing.{items_it, onward, no_less, later_node, told_counted, told_passed, silent, judged, taken_it, lies_it, Change}
+use Rattle.ndr_decoder_laws.proofs.steps.Passing.{items_it, onward, later_node, told_counted, told_passed, silent, judged, taken_it, lies_it, Change}
+use Rattle.std.proofs.lemmas.Bool.{le-ltb as no_less}
 use Rattle.ndr_decoder_laws.proofs.steps.Arriving.{Within, parts_of, within_passed, plain_good}
 use Rattle.ndr_decoder_laws.proofs.steps.Adding.{leaf_good, none_found, no_pointer, stop_by, Stops}
 use Rattle.ndr_decoder_laws.proofs.steps.ArraySteps.{elements_right}

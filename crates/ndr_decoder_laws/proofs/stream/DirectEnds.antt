@@ -53,7 +53,7 @@ use Rattle.ndr_decoder_laws.proofs.stream.References.{one_if, count_more}
 one_cell : (to : ℕ) (s : Names) → Extends s (with_cell to s)
 one_cell to s = record { new = record { of = to; val = unread } ∷ []; cells = refl; blank = (refl, tt); more_numbers = []; numbers = refl; of_new = tt }
 
-zero_plus : (i : ℕ) → i ≡ 0 + i
+pub zero_plus : (i : ℕ) → i ≡ 0 + i
 zero_plus i = omega arith
 
 module _ (w : Setting) (side : IsLegalSide w) (order : Order) (fetched : List ℕ) (noted : List Item) (direct : ℕ) (b : Between) (s : Reading) (seen : List EntryAt) (n : ℕ)

@@ -7,12 +7,10 @@ use Rattle.nd_value.specs.Setting.{unread, cell_tree}
 use Rattle.nd_grammar.specs.Reader.{Names}
 use Rattle.nd_grammar.specs.StreamReader.{graph_of}
 use Rattle.nd_grammar.proofs.reader.ReaderNames.{Extends}
+use Rattle.nd_lemmas.proofs.Lists.{same_parts as same_first}
 
 abbrev pub value_at : List Referent → ℕ → Tree
 value_at xs i = cell_tree (slice_get xs i)
-
-same_first : (x y : ℕ) (xs ys : List ℕ) → x ∷ xs ≡ y ∷ ys → (x ≡ y) × (xs ≡ ys)
-same_first x y xs ys e = (cc, cc)
 
 pub same_cells : (xs ys : List Referent) → map (λ c. c.of) xs ≡ map (λ c. c.of) ys → ((i : ℕ) → value_at xs i ≡ value_at ys i) → xs ≡ ys
 same_cells [] [] e f = refl

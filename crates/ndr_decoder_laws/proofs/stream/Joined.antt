@@ -16,7 +16,7 @@ use Rattle.nd_grammar.specs.decoded.Verdict.{DecodingSeen, HasNoted, with_items}
 use Rattle.ndr_decoder_laws.specs.stream.Calls.{Follows, Took, TookPart, Refused, Unread, CutOff}
 use Rattle.ndr_decoder_laws.specs.stream.Report.{Extent, StreamRefused, StreamCut}
 
-gaps_apart : (xs ys : List Item) → length (but_gaps (xs ++ ys)) ≡ length (but_gaps xs) + length (but_gaps ys)
+pub gaps_apart : (xs ys : List Item) → length (but_gaps (xs ++ ys)) ≡ length (but_gaps xs) + length (but_gaps ys)
 gaps_apart [] ys = omega arith
 gaps_apart (x ∷ xs) ys = go (not (is_gap x.kind)) (gaps_apart xs ys)
   where
@@ -26,7 +26,7 @@ gaps_apart (x ∷ xs) ys = go (not (is_gap x.kind)) (gaps_apart xs ys)
     go false e = e
 
 -- a log with items, and others after them
-noted_twice : (xs ys : List Item) (g : Logged) → with_items ys (with_items xs g) ≡ with_items (xs ++ ys) g
+pub noted_twice : (xs ys : List Item) (g : Logged) → with_items ys (with_items xs g) ≡ with_items (xs ++ ys) g
 noted_twice xs ys g = go g.keeps
   where
     go : (b : Bool) → with_items ys (record { keeps = b; items = if b then g.items ++ xs else g.items }) ≡ record { keeps = b; items = if b then g.items ++ (xs ++ ys) else g.items }

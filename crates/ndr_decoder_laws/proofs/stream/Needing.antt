@@ -6,6 +6,7 @@ use Rattle.nd_value.specs.Setting.{Setting}
 use Rattle.nd_grammar.specs.declared.reason.Reason.TheVariants as reason
 use Rattle.nd_grammar.specs.StreamReader.{read_stream}
 use Rattle.nd_grammar.specs.decoded.Needed.{IsNeeded}
+use Rattle.nd_lemmas.proofs.Lists.{same_before_last}
 
 -- a list is empty, or has a last item
 pub last_of : (xs : List ℕ) → (xs ≡ []) ⊎ ((ys : List ℕ) × (y : ℕ) × (xs ≡ ys ++ y ∷ []))
@@ -15,19 +16,6 @@ last_of (x ∷ xs) = go (last_of xs)
     go : (xs ≡ []) ⊎ ((ys : List ℕ) × (y : ℕ) × (xs ≡ ys ++ y ∷ [])) → (x ∷ xs ≡ []) ⊎ ((ys : List ℕ) × (y : ℕ) × (x ∷ xs ≡ ys ++ y ∷ []))
     go (inl e) = inr ([], x, ap (λ u. x ∷ u) e)
     go (inr (ys, y, e)) = inr (x ∷ ys, y, ap (λ u. x ∷ u) e)
-
-same_rest : (x y : ℕ) (xs ys : List ℕ) → x ∷ xs ≡ y ∷ ys → (x ≡ y) × (xs ≡ ys)
-same_rest x y xs ys e = (cc, cc)
-
-pub same_before_last : (xs ys : List ℕ) (x y : ℕ) → xs ++ x ∷ [] ≡ ys ++ y ∷ [] → xs ≡ ys
-same_before_last [] [] x y e = refl
-same_before_last [] (b ∷ []) x y e = cc
-same_before_last [] (b ∷ c ∷ ys) x y e = cc
-same_before_last (a ∷ []) [] x y e = cc
-same_before_last (a ∷ c ∷ xs) [] x y e = cc
-same_before_last (a ∷ xs) (b ∷ ys) x y e =
-    let (h, t) = same_rest a b (xs ++ x ∷ []) (ys ++ y ∷ []) e in
-    ap (λ u. u ∷ xs) h ∙ ap (λ u. b ∷ u) (same_before_last xs ys x y t)
 
 -- the octets that were added are needed after these
 abbrev pub NeededAfter : Setting → Order → List ℕ → List ℕ → Type 0

@@ -29,7 +29,7 @@ use Rattle.ndr_decoder_laws.specs.stream.Tests.{disagreement, AllAgree, all_at}
 use Rattle.ndr_decoder_laws.specs.declared.kept.Kept.{Kept}
 use Rattle.ndr_decoder_laws.proofs.stream.Heads.{next_refused}
 use Rattle.ndr_decoder_laws.proofs.stream.Due.{pending_state}
-use Rattle.ndr_decoder_laws.proofs.stream.ReferentEnds.{among_placed}
+use Rattle.nd_grammar.proofs.reader.ReaderTurns.{stands_true as among_placed}
 use Rattle.ndr_decoder_laws.proofs.stream.Taken.{kept_taken}
 use Rattle.ndr_decoder_laws.proofs.stream.Tested.{tests_pass, tests_stop, keeps_tests}
 

@@ -3,7 +3,6 @@ use Rattle.std.proofs.Common.{◌≡◌, ◌<◌, ℕ, ◌+◌, suc, Bool, true,
 use Rattle.std.specs.Prelude.{◌&&◌, ◌||◌, eqb}
 use Rattle.std.specs.List.{AllByRecursion}
 use Rattle.std.proofs.lemmas.List.{append-nil}
-use Rattle.std.proofs.lemmas.Bool.{eqb-true}
 use Rattle.nd_base.specs.declared.octets.Order.{Order}
 use Rattle.nd_types.specs.declared.types.Attr.{Attr}
 use Rattle.nd_value.specs.declared.item.Home.{Home}
@@ -21,12 +20,7 @@ use Rattle.ndr_decoder_laws.proofs.steps.Passing.{speaks, tested_passed}
 use Rattle.ndr_decoder_laws.specs.declared.kept.Kept.{Kept}
 use Rattle.ndr_decoder_laws.specs.declared.kept.KeptRoot.{KeptRoot}
 use Rattle.ndr_decoder_laws.specs.stream.Between.{IsKeptOf, AreKept, pointer_cell}
-
-same_home_is : (h k : Home) → same_home h k ≡ true → h ≡ k
-same_home_is (home.Root i) (home.Root j) e = ap home.Root (eqb-true i j e)
-same_home_is (home.Root i) (home.Cell d) e = cc
-same_home_is (home.Cell c) (home.Root j) e = cc
-same_home_is (home.Cell c) (home.Cell d) e = ap (λ u. home.Cell (record { 0 = u })) (eqb-true c.0 d.0 e)
+use Rattle.nd_grammar.proofs.agreements.TestedAt.{same_home_is}
 
 none_said : (a b : Bool) → (a && false && b) ≡ false
 none_said true b = refl

@@ -46,7 +46,7 @@ use Rattle.ndr_decoder_laws.specs.declared.kept.Kept.{Kept}
 use Rattle.ndr_decoder_laws.specs.declared.kept.KeptRoot.{KeptRoot}
 use Rattle.ndr_decoder_laws.proofs.stream.Others.{tested_later}
 use Rattle.ndr_decoder_laws.proofs.stream.OtherTurns.{is_among}
-use Rattle.ndr_decoder_laws.proofs.stream.ReferentEnds.{among_placed}
+use Rattle.nd_grammar.proofs.reader.ReaderTurns.{stands_true as among_placed}
 use Rattle.ndr_decoder_laws.proofs.stream.Tested.{top_is, tests_pass, tests_stop, keeps_tests}
 
 -- ## What is kept of a home

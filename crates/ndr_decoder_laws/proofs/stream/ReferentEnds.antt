@@ -1,7 +1,5 @@
 -- The end of the referent of a pointer, and its agreements.
-use Rattle.std.proofs.Common.{◌≡◌, ◌≤◌, ◌<◌, ℕ, zero, suc, Bool, true, false, List, [], ◌∷◌, ◌++◌, length, Option, Some, None, refl, ap, sym, ◌∙◌, inl, inr, subst, append_assoc, arith, map}
-use Rattle.std.specs.Prelude.{eqb, ◌||◌}
-use Rattle.std.proofs.lemmas.Bool.{eqb-true}
+use Rattle.std.proofs.Common.{◌≡◌, ◌≤◌, ◌<◌, ℕ, Bool, true, false, List, [], ◌∷◌, ◌++◌, length, Option, Some, None, refl, ap, sym, ◌∙◌, subst, append_assoc, arith, map}
 use Rattle.nd_base.specs.declared.octets.Order.{Order}
 use Rattle.nd_types.specs.declared.types.Class.{Class}
 use Rattle.nd_types.specs.declared.types.Class.TheVariants.{Ref, Unique, Full}
@@ -12,7 +10,6 @@ use Rattle.nd_value.specs.Agreement.{Agreement}
 use Rattle.nd_value.specs.Conforms.{ShareOnlyIfFull}
 use Rattle.nd_value.specs.Setting.{Setting, cell_home}
 use Rattle.nd_value.specs.Deferral.{Pending, Due, due_referent, due_roots, IsPlaced, Placed_cells, home_pointers}
-use Rattle.nd_value.specs.Tree.{Referent}
 use Rattle.nd_value.proofs.Apart.{all_append, all_left, earlier_meets}
 use Rattle.nd_grammar.specs.declared.reason.Reason.{Reason}
 use Rattle.nd_grammar.specs.declared.reason.Reason.TheVariants as reason
@@ -21,10 +18,10 @@ use Rattle.nd_grammar.specs.InPlace.{tests}
 use Rattle.nd_grammar.specs.LegalSide.{IsLegalSide}
 use Rattle.nd_grammar.specs.Reader.{Progress, Read, pass_all, read_whole}
 use Rattle.nd_grammar.specs.StreamReader.{Reading, stands_among, stood, with_value, read_referent, read_pending, read_first, read_next}
-use Rattle.nd_grammar.specs.ReaderState.{Usable, no_names, PointerAt, cell_in}
+use Rattle.nd_grammar.specs.ReaderState.{Usable, no_names, PointerAt}
 use Rattle.nd_grammar.proofs.reader.ReaderNames.{longer}
 use Rattle.nd_grammar.proofs.reader.ReaderStates.{WholeRead, read_wholly, at_cell}
-use Rattle.nd_grammar.proofs.reader.ReaderTurns.{joined_due}
+use Rattle.nd_grammar.proofs.reader.ReaderTurns.{joined_due, stands_true as among_placed}
 use Rattle.ndr_decoder_laws.specs.reader.Around.{going, stopped}
 use Rattle.ndr_decoder_laws.proofs.reader.Continuing.{all_stay}
 use Rattle.ndr_decoder_laws.specs.steps.Good.{Told, Whole}
@@ -44,14 +41,7 @@ use Rattle.ndr_decoder_laws.proofs.stream.StreamGrows.{all_go, goes_twice, next_
 use Rattle.ndr_decoder_laws.specs.stream.Added.{Goes}
 use Rattle.ndr_decoder_laws.proofs.stream.Taken.{kept_taken}
 use Rattle.ndr_decoder_laws.proofs.stream.Tested.{tests_pass, tests_stop, told_tests, keeps_tests}
-
-pub among_placed : (done : Placed_cells) (c : ℕ) → stands_among done c ≡ true → IsPlaced done c
-among_placed [] c e = cc
-among_placed (d ∷ ds) c e = go (eqb c d.1) refl e (among_placed ds c)
-  where
-    go : (b : Bool) → eqb c d.1 ≡ b → (b || stands_among ds c) ≡ true → (stands_among ds c ≡ true → IsPlaced ds c) → IsPlaced (d ∷ ds) c
-    go true f h r = inl (eqb-true c d.1 f)
-    go false f h r = inr (r h)
+use Rattle.nd_grammar.proofs.reader.ReaderCells.{cell_positive as positive}
 
 pub not_stood : (k : Class) (done : Placed_cells) (c : ℕ) → ¬ IsPlaced done c → stood k done c ≡ false
 not_stood Ref done c n = refl
@@ -61,10 +51,6 @@ not_stood Full done c n = go (stands_among done c) refl
     go : (b : Bool) → stands_among done c ≡ b → stands_among done c ≡ false
     go true e = absurd (n (among_placed done c e))
     go false e = e
-
-positive : (cells : List Referent) (c : ℕ) (y : Referent) → cell_in cells c ≡ Some y → 0 < c
-positive cells zero y e = cc
-positive cells (suc i) y e = omega arith
 
 module _ (w : Setting) (side : IsLegalSide w) (order : Order) (fetched : List ℕ) (noted : List Item) (direct : ℕ) (b : Between) (s : Reading) (seen : List EntryAt) (p : Pending) (ps : List Pending)
     (n : ℕ)

@@ -42,9 +42,7 @@ use Rattle.ndr_decoder_laws.proofs.stream.Others.{root_more}
 use Rattle.ndr_decoder_laws.proofs.stream.StreamGrows.{next_then_head}
 use Rattle.ndr_decoder_laws.specs.stream.Added.{Goes}
 use Rattle.ndr_decoder_laws.proofs.stream.References.{one_if, count_more}
-
-zero_plus : (i : ℕ) → i ≡ 0 + i
-zero_plus i = omega arith
+use Rattle.ndr_decoder_laws.proofs.stream.DirectEnds.{zero_plus}
 
 module _ (w : Setting) (side : IsLegalSide w) (order : Order) (fetched : List ℕ) (noted : List Item) (direct : ℕ) (b : Between) (s : Reading) (seen : List EntryAt) (n : ℕ)
     (ag : Agrees w side order fetched noted direct b s seen [] (suc n)) (r : Root) (there : slice_get (root_list w) (length s.roots) ≡ Some r) (plain : is_direct (type_at w.table r.of) ≡ false) where

@@ -1,5 +1,5 @@
 -- The beginning of a stream.
-use Rattle.std.proofs.Common.{◌≡◌, ℕ, zero, suc, List, [], ◌∷◌, ◌++◌, Some, None, refl, ap, sym, ◌∙◌, subst, arith}
+use Rattle.std.proofs.Common.{◌≡◌, ℕ, zero, suc, List, [], ◌++◌, Some, None, refl, ap, sym, ◌∙◌, subst, arith}
 use Rattle.nd_base.specs.declared.octets.Order.{Order}
 use Rattle.nd_types.specs.declared.types.Attr.{Attr}
 use Rattle.nd_types.specs.declared.types.Attr.TheVariants as attr
@@ -20,6 +20,7 @@ use Rattle.ndr_decoder_laws.specs.steps.Steps.{place_of}
 use Rattle.ndr_decoder_laws.proofs.verdict.CellsSeen.{none_seen}
 use Rattle.ndr_decoder_laws.proofs.worklist.Turns.{begins}
 use Rattle.ndr_decoder_laws.specs.stream.Between.{Between, Begins, Agrees, AreKept, kept_at}
+use Rattle.nd_lemmas.proofs.Lists.{no_last as never_empty}
 
 nothing_found : (a : Attr) (j : ℕ) → None ≡ place_of a None (place_at [] j)
 nothing_found attr.Size j = refl
@@ -32,10 +33,6 @@ nothing_found attr.Switch j = refl
 none_kept : (c : ℕ) → kept_at [] c ≡ None
 none_kept zero = refl
 none_kept (suc i) = refl
-
-never_empty : (part : List ℕ) (last : ℕ) → [] ≡ part ++ last ∷ [] → ⊥
-never_empty [] last e = cc
-never_empty (x ∷ part) last e = cc
 
 module _ (w : Setting) (side : IsLegalSide w) (order : Order) where
   abbrev n : ℕ

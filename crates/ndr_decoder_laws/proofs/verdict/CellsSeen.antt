@@ -19,7 +19,7 @@ none_seen = record { each = tt; many = omega arith }
 cells_more : (seen : List EntryAt) (x : EntryAt) → cells_in (seen ++ x ∷ []) ≡ cells_in seen ++ target (named_cell x.entry.kind)
 cells_more seen x = flat_map-append (λ y. target (named_cell y.entry.kind)) seen (x ∷ []) ∙ ap (λ u. cells_in seen ++ u) (append-nil (target (named_cell x.entry.kind)))
 
-once_longer : (others cs ds : List ℕ) → length (once others cs) ≤ length (once others (cs ++ ds))
+pub once_longer : (others cs ds : List ℕ) → length (once others cs) ≤ length (once others (cs ++ ds))
 once_longer others [] ds = omega arith
 once_longer others (c ∷ cs) ds = go (has others c) (once_longer others cs ds) (once_longer (c ∷ others) cs ds)
   where

@@ -56,7 +56,7 @@ few_named at (m ∷ ms) = go m.kind (few_named (at + size_at at m.kind) ms)
     go Unread h = omega arith
 
 -- the first part of entries that lie end to end
-first_part : (at : ℕ) (ms : List Entry) (earlier later : List EntryAt) → end_to_end at ms ≡ earlier ++ later → (ns : List Entry) × (earlier ≡ end_to_end at ns)
+pub first_part : (at : ℕ) (ms : List Entry) (earlier later : List EntryAt) → end_to_end at ms ≡ earlier ++ later → (ns : List Entry) × (earlier ≡ end_to_end at ns)
 first_part at ms [] later e = ([], refl)
 first_part at [] (x ∷ xs) later e = cc
 first_part at (m ∷ ms) (x ∷ xs) later e =
@@ -65,7 +65,7 @@ first_part at (m ∷ ms) (x ∷ xs) later e =
     let (ns, h) = first_part (at + size_at at m.kind) ms xs later g in
     (m ∷ ns, ap (λ u. u ∷ xs) (sym f) ∙ ap (λ u. record { at = at; entry = m } ∷ u) h)
 
-ends_within : (n at : ℕ) (ms : List Entry) → at ≤ n → AllByRecursion (λ x. x.at + size_at x.at x.entry.kind ≤ n) (end_to_end at ms) → end_of at ms ≤ n
+pub ends_within : (n at : ℕ) (ms : List Entry) → at ≤ n → AllByRecursion (λ x. x.at + size_at x.at x.entry.kind ≤ n) (end_to_end at ms) → end_of at ms ≤ n
 ends_within n at [] h a = h
 ends_within n at (m ∷ ms) h a = ends_within n (at + size_at at m.kind) ms a.0 a.1
 

@@ -1,6 +1,5 @@
 -- The cells that the pointers of a value name, where the reader reads it: each for the first time as the next cell.
 use Rattle.std.proofs.Common.{◌≡◌, ℕ, ◌+◌, ◌-◌, ◌<◌, ◌≤◌, inl, inr, zero, suc, ℤ, Bool, true, false, List, [], ◌∷◌, ◌++◌, length, Option, Some, None, refl, ap, sym, ◌∙◌, subst, replicate, arith}
-use Rattle.std.proofs.Common.{length-append}
 use Rattle.std.specs.Prelude.{pos, map, flat_map, not, ◌&&◌, cond, eqb}
 use Rattle.std.specs.List.{AllByRecursion}
 use Rattle.std.proofs.lemmas.List.{length-replicate}
@@ -33,6 +32,7 @@ use Rattle.nd_grammar.proofs.reader.ReaderInPlace.{Readable, list_read, Reads, i
 use Rattle.nd_grammar.proofs.reader.ReaderLeaves.{value_pointers, after_value, first_value, no_pointer_unread}
 use Rattle.nd_grammar.proofs.reader.ReaderCells.{value_is}
 use Rattle.ndr_decoder_laws.proofs.verdict.CellNumbers.{Counts, counts_both}
+use Rattle.nd_grammar.proofs.reader.ReaderMoves.{one_more}
 
 -- the cells that pointers name
 abbrev pub cells_of : List Pending → List ℕ
@@ -58,9 +58,6 @@ no_names s a = record { there = a; counts = refl }
 
 both_named : (a b c : Names) (xs ys : List ℕ) → NamesSo a b xs → NamesSo b c ys → NamesSo a c (xs ++ ys)
 both_named a b c xs ys x y = record { there = y.there; counts = counts_both (length a.cells) (length b.cells) (length c.cells) xs ys x.counts y.counts }
-
-one_more : (to : ℕ) (s : Names) → length (with_cell to s).cells ≡ length s.cells + 1
-one_more to s = length-append s.cells (record { of = to; val = unread } ∷ []) ∙ omega arith
 
 pub cell_more : (to : ℕ) (s : Names) → AreThere s → NamesSo s (with_cell to s) (fresh to s ∷ [])
 cell_more to s a =

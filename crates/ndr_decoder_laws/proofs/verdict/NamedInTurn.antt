@@ -2,13 +2,12 @@
 use Rattle.std.proofs.Common.{◌≡◌, ℕ, ◌+◌, ◌*◌, ◌<◌, ◌≤◌, zero, suc, Bool, true, false, List, [], ◌∷◌, ◌++◌, length, Option, Some, None, refl, ap, ap₂, sym, ◌∙◌, inl, inr, arith, subst}
 use Rattle.std.specs.Prelude.{map, eqb, ◌||◌}
 use Rattle.std.specs.List.{AllByRecursion, slice_get}
-use Rattle.std.proofs.lemmas.Bool.{eqb-true, eq-eqb}
+use Rattle.std.proofs.lemmas.Bool.{eqb-true}
 use Rattle.std.proofs.lemmas.Option.{same_Some, slice_get-get_or}
 use Rattle.nd_base.specs.declared.octets.Order.{Order}
 use Rattle.nd_types.specs.declared.types.TypeDef.{TypeDef}
 use Rattle.nd_types.specs.declared.types.TypeId.{TypeId}
 use Rattle.nd_types.specs.declared.types.TypeDef.TheVariants as def
-use Rattle.nd_types.specs.declared.types.Class.{Class}
 use Rattle.nd_types.specs.declared.types.Class.TheVariants.{Ref, Unique, Full}
 use Rattle.nd_types.specs.Table.{type_at}
 use Rattle.nd_types.specs.Roots.{Root}
@@ -41,15 +40,8 @@ use Rattle.nd_grammar.proofs.legal.LegalUsable.{usable_readable, root_usable, po
 use Rattle.ndr_decoder_laws.specs.verdict.InOrder.{HasOwnNumbers}
 use Rattle.ndr_decoder_laws.proofs.verdict.CellNumbers.{Counts, counts_both, own_number}
 use Rattle.ndr_decoder_laws.proofs.verdict.NamedCells.{AreThere, NamesSo, cells_of, cell_more, whole_names}
-
-placed_stands : (done : Placed_cells) (c : ℕ) → IsPlaced done c → stands_among done c ≡ true
-placed_stands [] c h = absurd h
-placed_stands (d ∷ done) c (inl e) = ap (λ b. b || stands_among done c) (eq-eqb c d.1 e)
-placed_stands (d ∷ done) c (inr h) = go (eqb c d.1) (placed_stands done c h)
-  where
-    go : (b : Bool) → stands_among done c ≡ true → (b || stands_among done c) ≡ true
-    go true f = refl
-    go false f = f
+use Rattle.ndr_decoder_laws.proofs.stream.OtherTurns.{is_among as placed_stands}
+use Rattle.ndr_decoder_laws.proofs.stream.ReferentEnds.{not_stood as free_stood}
 
 free_stands : (done : Placed_cells) (c : ℕ) → ¬ IsPlaced done c → stands_among done c ≡ false
 free_stands [] c f = refl
@@ -58,11 +50,6 @@ free_stands (d ∷ done) c f = go (eqb c d.1) refl (free_stands done c (λ h. f 
     go : (b : Bool) → eqb c d.1 ≡ b → stands_among done c ≡ false → (b || stands_among done c) ≡ false
     go true e g = absurd (f (inl (eqb-true c d.1 e)))
     go false e g = g
-
-free_stood : (k : Class) (done : Placed_cells) (c : ℕ) → ¬ IsPlaced done c → stood k done c ≡ false
-free_stood Full done c f = free_stands done c f
-free_stood Ref done c f = refl
-free_stood Unique done c f = refl
 
 -- names with a value are the same names
 value_there : (c : ℕ) (v : Tree) (s : Names) → AreThere s → AreThere (with_value c v s)

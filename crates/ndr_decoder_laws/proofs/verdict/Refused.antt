@@ -1,9 +1,9 @@
 -- Octets that the reader refuses: where the refused entry ends, that they stay refused whatever follows, and that no graph is among them.
-use Rattle.std.proofs.Common.{◌≡◌, ◌⊎◌, inl, inr, ℕ, ◌+◌, ◌<◌, ◌≤◌, Bool, true, false, ◌&&◌, List, [], ◌∷◌, ◌++◌, length, length-append, Option, Some, None, refl, ap, sym, ◌∙◌, subst, arith}
+use Rattle.std.proofs.Common.{◌≡◌, ℕ, ◌+◌, ◌<◌, ◌≤◌, Bool, true, false, ◌&&◌, List, [], ◌∷◌, ◌++◌, length, length-append, Option, Some, None, refl, ap, sym, ◌∙◌, subst, arith}
 use Rattle.std.specs.Prelude.{ltb, not, eqb, cond, ℤ, option_map}
 use Rattle.std.specs.Ordering.{int_eq}
 use Rattle.std.specs.List.{AllByRecursion}
-use Rattle.std.proofs.lemmas.Bool.{ltb-false, cases_lt}
+use Rattle.std.proofs.lemmas.Bool.{ltb-false}
 use Rattle.std.proofs.lemmas.List.{append-nil}
 use Rattle.std.proofs.lemmas.Option.{same_Some}
 use Rattle.nd_base.specs.declared.octets.Order.{Order}
@@ -34,6 +34,8 @@ use Rattle.nd_grammar.specs.decoded.Verdict.{MayFollow, fetched_to}
 use Rattle.ndr_decoder_laws.specs.verdict.InOrder.{HasOwnNumbers}
 use Rattle.ndr_decoder_laws.proofs.verdict.NamedInTurn.{reader_numbered}
 use Rattle.ndr_decoder_laws.proofs.verdict.ReadThrough.{stream_gone}
+use Rattle.nd_lemmas.proofs.Lists.{last_of}
+use Rattle.nd_lemmas.proofs.Numbers.{no_less as exactly}
 
 -- ## An entry is judged alike by octets that end later
 
@@ -114,7 +116,7 @@ module _ (order : Order) (octets : List ℕ) where
   kind_of_kind seen at m Unread os = none_of_kind
 
 -- where octets end that are refused for their own kind
-ends_of_kind : (why : Reason) (n : ℕ) (x : EntryAt) → (why ≡ reason.TooLong → ⊥) → (why ≡ reason.Truncated → ⊥) → fetched_to why n x ≡ x.at + size_at x.at x.entry.kind
+pub ends_of_kind : (why : Reason) (n : ℕ) (x : EntryAt) → (why ≡ reason.TooLong → ⊥) → (why ≡ reason.Truncated → ⊥) → fetched_to why n x ≡ x.at + size_at x.at x.entry.kind
 ends_of_kind reason.TooLong n x a b = absurd (a refl)
 ends_of_kind reason.Truncated n x a b = absurd (b refl)
 ends_of_kind reason.EnumValue n x a b = refl
@@ -129,7 +131,7 @@ ends_of_kind (reason.Disagrees v u) n x a b = refl
 
 -- ## Entries end where later ones begin
 
-ends_before : (at : ℕ) (ms : List Entry) (earlier : List EntryAt) (there : EntryAt) (later : List EntryAt) → end_to_end at ms ≡ earlier ++ there ∷ later
+pub ends_before : (at : ℕ) (ms : List Entry) (earlier : List EntryAt) (there : EntryAt) (later : List EntryAt) → end_to_end at ms ≡ earlier ++ there ∷ later
     → (at ≤ there.at) × AllByRecursion (λ x. x.at + size_at x.at x.entry.kind ≤ there.at) earlier
 ends_before at [] [] there later e = cc
 ends_before at [] (x ∷ xs) there later e = cc
@@ -143,19 +145,6 @@ ends_before at (m ∷ ms) (x ∷ xs) there later e =
     let (a, b) = ends_before (at + size_at at m.kind) ms xs there later g in
     let h : at + size_at at m.kind ≡ x.at + size_at x.at x.entry.kind = ap (λ u. u.at + size_at u.at u.entry.kind) f in
     (omega (arith, a), (omega (arith, a, h), b))
-
--- a list without its last
-last_of : (xs : List ℕ) → 0 < length xs → (part : List ℕ) × (last : ℕ) × (xs ≡ part ++ last ∷ [])
-last_of [] h = absurd (omega arith)
-last_of (x ∷ []) h = ([], x, refl)
-last_of (x ∷ y ∷ ys) h = let (part, last, e) = last_of (y ∷ ys) (omega arith) in (x ∷ part, last, ap (λ u. x ∷ u) e)
-
-exactly : (n m : ℕ) → m ≤ n → ¬ (m < n) → n ≡ m
-exactly n m l k = by_case (cases_lt m n)
-  where
-    by_case : (m < n) ⊎ (n ≤ m) → n ≡ m
-    by_case (inl x) = absurd (k x)
-    by_case (inr x) = omega arith
 
 -- ## The refusal
 

@@ -3,7 +3,7 @@
 use Rattle.std.proofs.Common.{◌≡◌, ℕ, ◌+◌, ◌<◌, ◌≤◌, zero, suc, true, List, [], ◌∷◌, ◌++◌, length, Option, Some, None, refl, ap, ap₂, sym, ◌∙◌, inl, inr, arith, subst, replicate, drop, append_assoc}
 use Rattle.std.proofs.Common.{length-append}
 use Rattle.std.specs.Prelude.{map, flat_map}
-use Rattle.std.specs.List.{AllByRecursion, slice_get, list_all}
+use Rattle.std.specs.List.{AllByRecursion, list_all}
 use Rattle.std.proofs.lemmas.List.{append-nil, length-replicate}
 use Rattle.std.proofs.lemmas.Bool.{and_from}
 use Rattle.nd_base.specs.declared.octets.Order.{Order}
@@ -18,7 +18,7 @@ use Rattle.nd_value.specs.declared.item.Home.{Home}
 use Rattle.nd_value.specs.declared.item.Home.TheVariants as home
 use Rattle.nd_value.specs.Tree.{Tree, none, more, Referent}
 use Rattle.nd_value.specs.Canon.{IsCanon}
-use Rattle.nd_value.specs.Setting.{Setting, root_list, or_unread, unread, cell_home, cell_at, cell_tree}
+use Rattle.nd_value.specs.Setting.{Setting, root_list, unread, cell_home, cell_at, cell_tree}
 use Rattle.nd_value.specs.Nodes.{TypedNode, governed_nodes, home_nodes}
 use Rattle.nd_value.specs.Deferral.{Pending, due_roots, before_pipes, home_pointers, Step, Deferral, none_due}
 use Rattle.nd_value.specs.Variables.{root_agreements}
@@ -52,7 +52,7 @@ use Rattle.nd_grammar.proofs.reader.ReaderRoots.{Done}
 use Rattle.nd_grammar.proofs.reader.ReaderStates.{Numbered}
 use Rattle.nd_grammar.proofs.reader.ReaderSteps.{Follows, follows_append}
 use Rattle.nd_grammar.proofs.reader.ReaderStream as stream
-use Rattle.nd_grammar.proofs.reader.ReaderTests.{Top, SameTop, root_tests_are, tests_follow, tests_fine, tests_same}
+use Rattle.nd_grammar.proofs.reader.ReaderTests.{Top, root_tests_are, tests_follow, tests_fine, tests_same}
 use Rattle.nd_grammar.proofs.reader.ReaderTurns.{More, Settled}
 use Rattle.nd_grammar.proofs.reader.ReaderVerdict.{AllTaken, all_taken, start}
 use Rattle.ndr_decoder_laws.proofs.verdict.ReadThrough.{Gone, gone}
@@ -60,32 +60,19 @@ use Rattle.ndr_drain_laws.specs.parts.Parts.{BadHead, HasEmptyPipes, IsHead, emp
 use Rattle.ndr_drain_laws.proofs.parts.Spelt.{ends_append, full_append}
 use Rattle.ndr_drain_laws.specs.heads.Heads.{HeadRead, HeadThrough}
 use Rattle.ndr_drain_laws.proofs.heads.Canonical.{canonical_pipes, empty_still, take_first}
-use Rattle.ndr_drain_laws.proofs.heads.HeadConforming as conforming
+use Rattle.nd_grammar.proofs.conforming.StreamConforming as conforming
+use Rattle.ndr_drain_laws.proofs.heads.EmptyPipes.{empty_passes}
+use Rattle.nd_grammar.proofs.reader.ReaderStream.{same_tops}
+use Rattle.nd_lemmas.proofs.Lists.{drop_length as drop_all}
 
 made_parts : (table : Table) (rs : List Root) (us vs : List Tree) → RootsMade table rs us → RootsMade table (drop (length us) rs) vs → RootsMade table rs (us ++ vs)
 made_parts table rs [] vs a b = b
 made_parts table [] (u ∷ us) vs a b = absurd a
 made_parts table (r ∷ rs) (u ∷ us) vs a b = (a.0, made_parts table rs us vs a.1 b)
 
--- two lists of roots that differ in their last part alone
-same_tops : (us vs vs' : List Tree) → length vs ≡ length vs' → AllByRecursion Top vs → AllByRecursion Top vs' → (i : ℕ)
-    → SameTop (or_unread (slice_get (us ++ vs) i)) (or_unread (slice_get (us ++ vs') i))
-same_tops [] [] [] e a b i = inl refl
-same_tops [] [] (v ∷ vs') e a b i = cc
-same_tops [] (v ∷ vs) [] e a b i = cc
-same_tops [] (v ∷ vs) (v' ∷ vs') e a b zero = inr (a.0, b.0)
-same_tops [] (v ∷ vs) (v' ∷ vs') e a b (suc i) = same_tops [] vs vs' (omega arith) a.1 b.1 i
-same_tops (u ∷ us) vs vs' e a b zero = inl refl
-same_tops (u ∷ us) vs vs' e a b (suc i) = same_tops us vs vs' e a b i
-
 all_unread : (n : ℕ) → AllByRecursion Top (replicate n unread)
 all_unread zero = tt
 all_unread (suc n) = (inl refl, all_unread n)
-
-drop_all : {X : Type 0} (n : ℕ) (xs : List X) → n ≤ length xs → n + length (drop n xs) ≡ length xs
-drop_all zero xs h = omega arith
-drop_all (suc n) [] h = absurd (omega arith)
-drop_all (suc n) (x ∷ xs) h = let e = drop_all n xs (omega arith) in omega arith
 
 -- the nodes of a graph whose trees were made, and whose pointers' cells are there
 module _ (w : Setting) (g : Graph) where
@@ -156,7 +143,7 @@ no_numbers table i (r ∷ rs) (suc k) (suc m) =
     let others : List Entry = pipes_entries table (i + 1) rs (replicate k empty_pipe) (replicate m []) in
     full_append first others ∙ ap₂ (λ u v. u ++ v) (no_number table (home.Root i) (type_at table r.of)) (no_numbers table (i + 1) rs k m)
 
-as_many_ends : (at : ℕ) (ms : List Entry) → length (end_to_end at ms) ≡ length ms
+pub as_many_ends : (at : ℕ) (ms : List Entry) → length (end_to_end at ms) ≡ length ms
 as_many_ends at [] = refl
 as_many_ends at (m ∷ ms) = ap suc (as_many_ends (at + size_at at m.kind) ms)
 
@@ -484,11 +471,10 @@ module _ (w : Setting) (side : IsLegalSide w) (order : Order) (octets : List ℕ
     empty = subst (AllByRecursion (λ v. v ≡ empty_pipe)) (sym pipes_at) (are_empty (length (drop n rl)))
 
     abbrev Node : HomeNode → Type 0
-    Node x =
-        conforming.NodeGood w side K cells_fit all_made all_roots done.state.cells_made reached steps steps_then.deferral empty light (all_right Passed F T' ms_passed) x.typed
+    Node x = conforming.NodeGood w K x.typed
 
     nodes : AllByRecursion Node (all_nodes w K)
-    nodes = conforming.all_good w side K cells_fit all_made all_roots done.state.cells_made reached steps steps_then.deferral empty light (all_right Passed F T' ms_passed)
+    nodes = conforming.all_good w side K cells_fit all_made all_roots done.state.cells_made reached steps steps_then.deferral light (all_right Passed F T' ms_passed) (empty_passes w side K empty)
 
     conforms : Conforms w K
     conforms = record {
@@ -499,7 +485,8 @@ module _ (w : Setting) (side : IsLegalSide w) (order : Order) (octets : List ℕ
       reached = reached;
       agreed = all_weaker Node (λ x. AgreesAt K x.typed) (λ x k. k.agrees) (all_nodes w K) nodes;
       few_cells = stream.few_cells w side order octets all;
-      few_nodes = conforming.few_nodes w side K cells_fit all_made all_roots done.state.cells_made reached steps steps_then.deferral empty light (all_right Passed F T' ms_passed);
+      few_nodes =
+          conforming.few_nodes w side K cells_fit all_made all_roots done.state.cells_made reached steps steps_then.deferral light (all_right Passed F T' ms_passed) (empty_passes w side K empty);
     }
 
     canonical : IsCanon w K K

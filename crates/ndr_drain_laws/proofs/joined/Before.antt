@@ -3,7 +3,7 @@ use Rattle.std.proofs.Common.{◌≡◌, ◌≤◌, ◌∙◌, ap, ap₂, sym, s
 use Rattle.std.specs.Prelude.{cond, eqb, ltb, not, option_map, ◌||◌}
 use Rattle.std.specs.List.{AllByRecursion}
 use Rattle.std.specs.Ordering.{int_eq}
-use Rattle.std.proofs.lemmas.Bool.{and_right, eq-eqb}
+use Rattle.std.proofs.lemmas.Bool.{and_right, eq-eqb, or_right as or_true}
 use Rattle.nd_base.specs.declared.octets.Order.{Order}
 use Rattle.nd_base.specs.declared.TheConstants.{STREAM_LIMIT}
 use Rattle.nd_types.specs.declared.types.Attr.{Attr}
@@ -43,10 +43,6 @@ unmet a r low n h x (inr (p, b)) =
     (ap₂ (λ u v. u || v) p (not_equal x.entry.node n (λ e. omega (arith, e, b, h))))
 
 -- ## One entry
-
-or_true : (x y : Bool) → y ≡ true → (x || y) ≡ true
-or_true true y e = refl
-or_true false y e = e
 
 inner : (b : Bool) (r : ℕ × Reason) (o o' s : Option (ℕ × Reason)) → (o ≡ s → o' ≡ s) → refused_if b r o ≡ s → refused_if b r o' ≡ s
 inner true r o o' s f e = e

@@ -29,7 +29,8 @@ use Rattle.nd_grammar.proofs.conforming.GoodStream.{good_stream}
 use Rattle.nd_grammar.proofs.conforming.GoodTrees.{GoodTrees, IsGoodNode, good_trees}
 use Rattle.nd_grammar.proofs.conforming.StreamConforms.{le_or}
 use Rattle.nd_grammar.proofs.legal.LegalPipes.{holds_no_pipe, plain_before}
-use Rattle.nd_grammar.proofs.next.NextStream.{IsPipeRoot, all_at, drop_at}
+use Rattle.nd_grammar.proofs.next.NextStream.{IsPipeRoot, drop_at}
+use Rattle.nd_lemmas.proofs.Lists.{all_at}
 use Rattle.nd_grammar.proofs.next.Spelt.{all_spelt_carried, carried_low, carried_on, carried_one, cells_in, spelt_in_more}
 use Rattle.ndr_drain_laws.specs.parts.Parts.{AreParts, AreReadTo, IsElement, Part, Spot, after, after_all, elem_at, elem_by, empty_pipe, first_spot, octets_of, part_entries}
 use Rattle.ndr_drain_laws.proofs.parts.Chunks.{count_trees, parts_entries}

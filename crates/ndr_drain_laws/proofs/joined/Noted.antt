@@ -7,7 +7,7 @@ use Rattle.std.proofs.lemmas.List.{append-nil}
 use Rattle.nd_base.specs.declared.octets.Order.{Order}
 use Rattle.nd_value.specs.declared.item.Item.{Item}
 use Rattle.nd_value.specs.declared.value.Graph.{Graph}
-use Rattle.nd_value.specs.Canon.{has, target}
+use Rattle.nd_value.specs.Canon.{target}
 use Rattle.nd_value.specs.Setting.{Setting}
 use Rattle.nd_grammar.specs.Entry.{EntryAt, size_at, end_to_end}
 use Rattle.nd_grammar.specs.Items.{item_at, item_of, items}
@@ -19,6 +19,7 @@ use Rattle.nd_grammar.specs.decoded.Verdict.{cells_named, once}
 use Rattle.ndr_drain_laws.specs.parts.Parts.{AreParts, AreReadTo, Part, Spot, after, first_spot, octets_of, part_entries}
 use Rattle.ndr_drain_laws.proofs.parts.Spelt.{place_after}
 use Rattle.ndr_drain_laws.specs.joined.Entries.{entries_to, parts_at, parts_items}
+use Rattle.ndr_decoder_laws.proofs.verdict.CellsSeen.{once_longer as once_more}
 
 -- ## Items
 
@@ -84,11 +85,6 @@ longer : (b : Bool) (c : ℕ) (xs ys xs' ys' : List ℕ) → length xs ≤ lengt
     → length (if b then xs else c ∷ ys) ≤ length (if b then xs' else c ∷ ys')
 longer true c xs ys xs' ys' h k = h
 longer false c xs ys xs' ys' h k = omega (arith, k)
-
-once_more : (others cs ds : List ℕ) → length (once others cs) ≤ length (once others (cs ++ ds))
-once_more others [] ds = omega arith
-once_more others (c ∷ cs) ds =
-    longer (has others c) c (once others cs) (once (c ∷ others) cs) (once others (cs ++ ds)) (once (c ∷ others) (cs ++ ds)) (once_more others cs ds) (once_more (c ∷ others) cs ds)
 
 -- later entries name no fewer cells
 pub named_more : (xs ys : List EntryAt) → length (cells_named xs) ≤ length (cells_named (xs ++ ys))

@@ -38,12 +38,14 @@ use Rattle.nd_grammar.proofs.next.KnownNodes.{SoundNode, known_nodes}
 use Rattle.nd_grammar.proofs.next.Matching.{Known}
 use Rattle.nd_grammar.proofs.next.Next.{Next, OneToOne, Pair, Readings}
 use Rattle.nd_grammar.proofs.next.NextInPlace.{in_place_next}
-use Rattle.nd_grammar.proofs.next.NextStream.{IsPipeRoot, all_at, drop_at, heads_next}
+use Rattle.nd_grammar.proofs.next.NextStream.{IsPipeRoot, drop_at, heads_next}
+use Rattle.nd_lemmas.proofs.Lists.{all_at}
 use Rattle.nd_grammar.proofs.next.Spelt.{all_spelt_carried, carried_low, carried_on, carried_one, cells_in, spelt_in_more}
 use Rattle.nd_grammar.proofs.next.Standings.{IsMap}
 use Rattle.ndr_drain_laws.specs.parts.Parts.{AreReadTo, BadHead, BadPart, IsElement, IsPart, Part, Spot, elem_at, elem_by, no_graph, part_entries}
 use Rattle.ndr_drain_laws.proofs.parts.Spelt.{ends_append}
 use Rattle.ndr_drain_laws.proofs.joined.Front.{good_elements, head_good}
+use Rattle.ndr_drain_laws.proofs.heads.HeadReads.{as_many_ends as as_many_places}
 
 -- what is at the end of two lists of entries that follow each other: nothing is asked of the map
 abbrev Ends : List Pair → Type 0
@@ -235,10 +237,6 @@ cut_first (x ∷ xs) ys (z ∷ zs) h ws e l =
     let others : xs ++ ys ≡ zs ++ h ∷ ws = cc in
     let (vs, f) = cut_first xs ys zs h ws others (omega (arith, l)) in
     (vs, ap₂ (λ u us. u ∷ us) same f)
-
-as_many_places : (at : ℕ) (ms : List Entry) → length (end_to_end at ms) ≡ length ms
-as_many_places at [] = refl
-as_many_places at (m ∷ ms) = ap suc (as_many_places (at + size_at at m.kind) ms)
 
 module _ (w : Setting) (side : IsLegalSide w) (order : Order) where
   head_refused : (octets : List ℕ) (place : ℕ) (why : Reason) (b : BadHead w order octets place why)

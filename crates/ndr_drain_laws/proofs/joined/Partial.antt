@@ -1,9 +1,9 @@
 -- The graph of a stream of which a chunk was begun is a partial graph.
-use Rattle.std.proofs.Common.{◌≡◌, ◌∙◌, ap, ap₂, sym, subst, refl, ℕ, ◌+◌, zero, suc, Bool, true, false, ◌&&◌, List, [], ◌∷◌, ◌++◌, length, length-append, take, map, replicate, Option, Some, None}
-use Rattle.std.proofs.Common.{inl, inr, ◌⊎◌, arith}
+use Rattle.std.proofs.Common.{◌≡◌, ◌∙◌, ap, ap₂, sym, subst, refl, ℕ, ◌+◌, zero, suc, Bool, true, ◌&&◌, List, [], ◌∷◌, ◌++◌, length, length-append, take, map, replicate, Option, Some, None, inl, inr}
+use Rattle.std.proofs.Common.{◌⊎◌, arith}
 use Rattle.std.specs.Prelude.{eqb, ◌||◌}
 use Rattle.std.specs.List.{AllByRecursion, list_all, slice_get}
-use Rattle.std.proofs.lemmas.Bool.{and_from, and_parts, eq-eqb}
+use Rattle.std.proofs.lemmas.Bool.{and_from, and_parts, eq-eqb, or_right}
 use Rattle.std.proofs.lemmas.List.{length-replicate}
 use Rattle.nd_base.specs.declared.octets.Order.{Order}
 use Rattle.nd_types.specs.declared.types.Operation.{Operation}
@@ -36,6 +36,7 @@ use Rattle.ndr_drain_laws.proofs.parts.Conforming.{each, pointers, same_cell}
 use Rattle.ndr_drain_laws.proofs.parts.Elements.{NamesNone, cell_alike, cell_same, in_pipe, names_none_by, pointee_alike, pointee_same}
 use Rattle.ndr_drain_laws.proofs.parts.Streams.{Same}
 use Rattle.ndr_drain_laws.proofs.joined.Begun.{last_pipes, pipes_then}
+use Rattle.nd_lemmas.proofs.Lists.{list_all_from as list_of_all}
 
 -- ## Nodes that may be unread
 
@@ -83,10 +84,6 @@ pub part_elements : (table : Table) (t : ℕ) (vs : List Tree) → AllByRecursio
     → AllByRecursion (λ v. list_all (λ x. has_machine_values x.label) (home_nodes table t v) ≡ true) vs → AllByRecursion (IsPartElement table t) vs
 part_elements table t [] a b = tt
 part_elements table t (v ∷ vs) a b = (part_nodes table (home_nodes table t v) b.0 a.0, part_elements table t vs a.1 b.1)
-
-or_right : (x y : Bool) → y ≡ true → (x || y) ≡ true
-or_right true y e = refl
-or_right false y e = e
 
 module _ (table : Table) (operations : List Operation) (legal : IsLegal table operations) where
   -- a node that fits is no unread one
@@ -187,10 +184,6 @@ module _ (w : Setting) where
       (pipes_nodes k (i + 1) rs vs a.1 (λ j q f. ap (slice_get (root_list w)) (omega arith) ∙ e (suc j) q f) g.1)
 
 -- ## The graph
-
-list_of_all : {X : Type 0} (f : X → Bool) (xs : List X) → AllByRecursion (λ x. f x ≡ true) xs → list_all f xs ≡ true
-list_of_all f [] a = refl
-list_of_all f (x ∷ xs) a = and_from (f x) (list_all f xs) a.0 (list_of_all f xs a.1)
 
 -- A graph that conforms, with other pipes, some of whose nodes may be unread, is a partial graph.
 pub partial_graph : (w : Setting) → IsLegalSide w → (g : Graph) → Conforms w g → (pipes : List Tree) → Same w g (with_pipes w g pipes)

@@ -21,9 +21,7 @@ use Rattle.ndr_drain_laws.proofs.parts.Streams.{all_joined, first_entries, first
 use Rattle.ndr_drain_laws.specs.joined.Entries.{entries_to}
 use Rattle.ndr_drain_laws.proofs.joined.Front.{front_accepted, front_is}
 use Rattle.ndr_drain_laws.proofs.joined.Through as through
-
-pub place_after : (w : Setting) (head : List ℕ) (parts : List Part) → (after_all (first_spot w head) parts).place ≡ length (head ++ octets_of parts)
-place_after w head parts = through.place_after w head parts
+use Rattle.ndr_drain_laws.proofs.joined.Through.{place_after}
 
 pub refused_chunk : (w : Setting) → IsLegalSide w → (order : Order) (head : List ℕ) (g : Graph) (parts : List Part) → (it : AreReadTo w order head g parts)
     → (octets : List ℕ) (place : ℕ) (why : Reason) → (bad : BadPart w order (after_all (first_spot w head) parts) octets place why)

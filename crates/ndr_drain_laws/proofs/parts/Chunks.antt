@@ -20,7 +20,8 @@ use Rattle.nd_grammar.specs.Stream.{chunk_entries, chunks, pipe_entries, pipes_e
 use Rattle.nd_grammar.proofs.LegalSides.{laid_out}
 use Rattle.nd_grammar.proofs.conforming.StreamConforms.{le_or}
 use Rattle.nd_grammar.proofs.next.NextPipes.{sum_first}
-use Rattle.nd_grammar.proofs.next.NextStream.{IsPipeRoot, all_at, drop_at}
+use Rattle.nd_grammar.proofs.next.NextStream.{IsPipeRoot, drop_at}
+use Rattle.nd_lemmas.proofs.Lists.{all_at}
 use Rattle.ndr_drain_laws.specs.parts.Parts.{Part, Spot, AreParts, after, after_all, elem_at, elem_by, part_entries, pipes_by, pipes_of, spot_after}
 
 -- ## Lists of trees

@@ -1,5 +1,5 @@
 -- The nodes of the elements of a pipe, in the pipe and by themselves.
-use Rattle.std.proofs.Common.{◌≡◌, ◌≤◌, ◌∙◌, ap, ap₂, subst, refl, ℕ, ◌+◌, zero, suc, Bool, true, false, ◌&&◌, List, [], ◌∷◌, length, replicate, Option, Some, None, arith}
+use Rattle.std.proofs.Common.{◌≡◌, ◌≤◌, ◌∙◌, ap, ap₂, subst, refl, ℕ, ◌+◌, zero, suc, Bool, true, ◌&&◌, List, [], ◌∷◌, length, replicate, Option, Some, None, arith}
 use Rattle.std.specs.Prelude.{not, eqb, leb}
 use Rattle.std.specs.List.{AllByRecursion, list_all}
 use Rattle.nd_types.specs.declared.types.TypeDef.{TypeDef}
@@ -19,13 +19,9 @@ use Rattle.nd_value.specs.Setting.{cell_of_number, cell_tree}
 use Rattle.nd_value.proofs.Apart.{all_append, all_left, all_right}
 use Rattle.std.proofs.lemmas.Bool.{and_parts, leb-true}
 use Rattle.ndr_drain_laws.specs.parts.Parts.{IsElement, no_graph}
+use Rattle.nd_value.proofs.NodeFacts.{unless_none as if_true}
 
 -- ## A node in a graph with cells
-
--- a node without cells fits in every graph: it names none
-if_true : (b : Bool) (r : MisfitReason) (o : Option MisfitReason) → unless b r o ≡ None → (b ≡ true) × (o ≡ None)
-if_true true r o e = (refl, e)
-if_true false r o e = cc
 
 abbrev pub NamesNone : Label → Type 0
 NamesNone l = (c : ℕ) → l ≡ tree.Ptr (Some c) → ⊥

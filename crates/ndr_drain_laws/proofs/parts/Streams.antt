@@ -29,6 +29,10 @@ use Rattle.ndr_drain_laws.specs.parts.Parts.{AreParts, AreReadTo, HasEmptyPipes,
 use Rattle.ndr_drain_laws.proofs.parts.Chunks.{Joins, joins, count_trees, parts_entries, pipes_open}
 use Rattle.ndr_drain_laws.proofs.parts.Heads.{IsEarly, early_roots, same_deferral, same_steps}
 use Rattle.ndr_drain_laws.proofs.parts.Spelt.{AreAllSpelt, all_spelt, both_spelt, end_append, full_append, no_cells, place_after}
+use Rattle.nd_grammar.proofs.conforming.StreamConforming.{some_before}
+use Rattle.nd_grammar.proofs.reader.ReaderStream.{same_tops}
+use Rattle.nd_lemmas.proofs.Lists.{drop_length as length_drop}
+use Rattle.std.proofs.Math.Seq.{drop-append_seam as drop_first}
 
 -- ## Lists
 
@@ -42,38 +46,10 @@ length_take zero xs h = refl
 length_take (suc n) [] h = absurd (omega (arith, h))
 length_take (suc n) (x ∷ xs) h = ap (λ k. suc k) (length_take n xs (omega (arith, h)))
 
-length_drop : {X : Type 0} (n : ℕ) (xs : List X) → n ≤ length xs → n + length (drop n xs) ≡ length xs
-length_drop zero xs h = omega arith
-length_drop (suc n) [] h = absurd (omega (arith, h))
-length_drop (suc n) (x ∷ xs) h = let e = length_drop n xs (omega (arith, h)) in omega (arith, e)
-
-drop_first : {X : Type 0} (us vs : List X) → drop (length us) (us ++ vs) ≡ vs
-drop_first [] vs = refl
-drop_first (u ∷ us) vs = drop_first us vs
-
 early_at : (us vs vs' : List Tree) (i : ℕ) → i < length us → slice_get (us ++ vs) i ≡ slice_get (us ++ vs') i
 early_at [] vs vs' i h = absurd (omega (arith, h))
 early_at (u ∷ us) vs vs' zero h = refl
 early_at (u ∷ us) vs vs' (suc i) h = early_at us vs vs' i (omega (arith, h))
-
-some_before : (rs : List Root) → before_pipes rs ≤ length rs
-some_before [] = omega arith
-some_before (r ∷ rs) = go r.is_pipe (some_before rs)
-  where
-    go : (b : Bool) → before_pipes rs ≤ length rs → elim b [ true ↦ 0 | false ↦ suc (before_pipes rs) ] ≤ suc (length rs)
-    go true h = omega arith
-    go false h = omega arith
-
--- two lists of roots that differ in their pipes alone
-same_tops : (us vs vs' : List Tree) → length vs ≡ length vs' → AllByRecursion Top vs → AllByRecursion Top vs' → (i : ℕ)
-    → SameTop (or_unread (slice_get (us ++ vs) i)) (or_unread (slice_get (us ++ vs') i))
-same_tops [] [] [] e a b i = inl refl
-same_tops [] [] (v ∷ vs') e a b i = cc
-same_tops [] (v ∷ vs) [] e a b i = cc
-same_tops [] (v ∷ vs) (v' ∷ vs') e a b zero = inr (a.0, b.0)
-same_tops [] (v ∷ vs) (v' ∷ vs') e a b (suc i) = same_tops [] vs vs' (omega (arith, e)) a.1 b.1 i
-same_tops (u ∷ us) vs vs' e a b zero = inl refl
-same_tops (u ∷ us) vs vs' e a b (suc i) = same_tops us vs vs' e a b i
 
 pub pipe_tops : (ps : List Part) (vs : List Tree) → AllByRecursion Top (pipes_of vs ps)
 pipe_tops [] vs = tt

@@ -60,6 +60,7 @@ use Rattle.ndr_drain_laws.proofs.reader.Refused.{IsNeededPart, refused_part}
 use Rattle.ndr_drain_laws.proofs.reader.Renumbered.{own_entries}
 use Rattle.ndr_drain_laws.proofs.reader.Through.{cut_here, gone_by}
 use Rattle.ndr_drain_laws.proofs.reader.Wholes.{whole_part}
+use Rattle.nd_lemmas.proofs.Lists.{last_of as last_one, same_before_last as snoc_first}
 
 -- ## Entries that name no cell
 
@@ -76,23 +77,6 @@ none_named (x ∷ xs) a = ap₂ (λ o ys. target o ++ ys) a.0 (none_named xs a.1
 
 no_cell : (n : ℕ) → n ≤ 0 → n ≡ 0
 no_cell n l = omega (arith, l)
-
-snoc_first : (xs ys : List ℕ) (a b : ℕ) → xs ++ a ∷ [] ≡ ys ++ b ∷ [] → xs ≡ ys
-snoc_first [] [] a b e = refl
-snoc_first [] (y ∷ []) a b e = cc
-snoc_first [] (y ∷ z ∷ ys) a b e = cc
-snoc_first (x ∷ []) [] a b e = cc
-snoc_first (x ∷ z ∷ xs) [] a b e = cc
-snoc_first (x ∷ xs) (y ∷ ys) a b e =
-    let t : xs ++ a ∷ [] ≡ ys ++ b ∷ [] = cc in
-    let h : x ≡ y = cc in
-    let r = snoc_first xs ys a b t in
-    cc
-
-last_one : (xs : List ℕ) → 0 < length xs → (part : List ℕ) × (last : ℕ) × (xs ≡ part ++ last ∷ [])
-last_one [] h = absurd (omega arith)
-last_one (x ∷ []) h = ([], x, refl)
-last_one (x ∷ y ∷ ys) h = let (part, last, e) = last_one (y ∷ ys) (omega arith) in (x ∷ part, last, ap (λ u. x ∷ u) e)
 
 -- the gap and the count of a chunk have no count or tag of a node
 silent_header : (s : Spot) (k : ℕ) (a : Attr) → tested_at (header_seen s k) a (home.Root s.root) 0 ≡ place_of a None no_place

@@ -1,10 +1,9 @@
 -- Elements that are read by themselves: their trees are made, reading goes over their entries, and none of these names a cell.
-use Rattle.std.proofs.Common.{◌≡◌, ◌≤◌, ◌<◌, ℕ, ◌+◌, ◌-◌, zero, suc, Bool, true, false, List, [], ◌∷◌, ◌++◌, length, length-append, Option, Some, None, refl, ap, ap₂, sym, ◌∙◌, inl, inr, subst, arith}
-use Rattle.std.proofs.Common.{replicate}
+use Rattle.std.proofs.Common.{◌≡◌, ◌≤◌, ℕ, ◌+◌, ◌-◌, zero, suc, Bool, true, false, List, [], ◌∷◌, ◌++◌, length, Option, Some, None, refl, ap, sym, ◌∙◌, inl, inr, subst, arith, replicate}
 use Rattle.std.specs.Prelude.{flat_map, drop}
 use Rattle.std.specs.List.{AllByRecursion, slice_get}
 use Rattle.std.proofs.lemmas.Bool.{and_parts}
-use Rattle.std.proofs.lemmas.List.{append-nil, length-replicate}
+use Rattle.std.proofs.lemmas.List.{length-replicate}
 use Rattle.std.proofs.lemmas.Option.{slice_get-get_or}
 use Rattle.nd_base.specs.declared.octets.Order.{Order}
 use Rattle.nd_types.specs.declared.types.TypeDef.{TypeDef}
@@ -20,7 +19,7 @@ use Rattle.nd_value.specs.Agreement.{Agreement}
 use Rattle.nd_value.specs.Deferral.{before_pipes, pointer, pointer_by, root_type}
 use Rattle.nd_value.specs.Nodes.{child_types, child_agreements, first_agreements, rest_agreements, nodes_of}
 use Rattle.nd_value.specs.Setting.{Setting, root_list}
-use Rattle.nd_value.specs.Tree.{Tree, Trees, node, none, more, Label, Referent, count, node_count, is_pointer, cell_in, items, trees}
+use Rattle.nd_value.specs.Tree.{Tree, Trees, node, none, more, Label, count, node_count, is_pointer, cell_in, items, trees}
 use Rattle.nd_value.proofs.Apart.{all_append, all_weaker}
 use Rattle.nd_value.proofs.NodeFacts.{all_of_list}
 use Rattle.nd_grammar.specs.Entry.{Kind, Entry, Align, Chunk}
@@ -32,7 +31,8 @@ use Rattle.nd_grammar.proofs.LegalSides.{laid_out}
 use Rattle.nd_grammar.proofs.legal.LegalUsable.{small_bounds, usable_readable, element_usable}
 use Rattle.nd_grammar.proofs.next.Mapped.{in_parts, no_pointers}
 use Rattle.nd_grammar.proofs.next.NextInPlace.{View, view, v_prim, v_enum, v_struct, v_array, v_text, v_union, v_pointer, v_context, v_unread}
-use Rattle.nd_grammar.proofs.next.NextStream.{FitsPipes, IsPipeRoot, all_at, drop_at}
+use Rattle.nd_grammar.proofs.next.NextStream.{FitsPipes, IsPipeRoot, drop_at}
+use Rattle.nd_lemmas.proofs.Lists.{all_at}
 use Rattle.nd_grammar.proofs.reader.EntriesFine.{Fine, FullOk, fine_in_place}
 use Rattle.nd_grammar.proofs.reader.MadeTrees.{made_count}
 use Rattle.nd_grammar.specs.MadeTrees.{MadeTrees}
@@ -40,13 +40,13 @@ use Rattle.nd_grammar.proofs.reader.ReaderInPlace.{Readable, Reads, AreRead, in_
 use Rattle.nd_grammar.proofs.reader.ReaderLeaves.{Leave, AllLeave, in_place_leaves, list_leaves}
 use Rattle.nd_grammar.proofs.reader.ReaderMakes.{Make, AllMake, in_place_makes, list_makes}
 use Rattle.nd_grammar.proofs.reader.ReaderMoves.{Moves, moves_twice, pass_moves}
-use Rattle.nd_grammar.proofs.reader.ReaderNames.{Extends}
 use Rattle.nd_grammar.proofs.reader.ReaderNodes.{Agree}
 use Rattle.nd_grammar.proofs.reader.ReaderSteps.{Follows, follows_append, same_taken}
 use Rattle.ndr_drain_laws.specs.parts.Parts.{Spot, elem_at, elem_by}
 use Rattle.ndr_decoder_laws.specs.reader.Around.{going}
 use Rattle.ndr_drain_laws.specs.reader.PartReader.{IsAtPipe, type_of_root, of_pipe, no_names, past_gap, count_of, past_count, read_part}
 use Rattle.ndr_drain_laws.proofs.reader.Renumbered.{own_entries}
+use Rattle.nd_grammar.proofs.reader.ReaderPipes.{same_names}
 
 pub many : (P : ℕ → Type 0) (t k : ℕ) → P t → AllByRecursion P (replicate k t)
 many P t zero a = tt
@@ -166,24 +166,6 @@ module _ (table : Table) (h : Home) where
       inside t l ks f = in_parts (FitsPipes table) (type_at table t) l ks (deeper t f)
 
 -- ## Reading
-
--- names that grow by no cell do not change
-same_names : (s s' : Names) → Extends s s' → length s'.cells ≤ length s.cells → s' ≡ s
-same_names s s' e h =
-    let l : length s'.cells ≡ length s.cells + length e.new = ap length e.cells ∙ length-append s.cells e.new in
-    let n : e.new ≡ [] = empty e.new (omega arith) in
-    let m : e.more_numbers ≡ [] = no_numbers e.more_numbers e.of_new in
-    let c : s'.cells ≡ s.cells = e.cells ∙ ap (λ u. s.cells ++ u) n ∙ append-nil s.cells in
-    let d : s'.numbers ≡ s.numbers = e.numbers ∙ ap (λ u. u ++ s.numbers) m in
-    ap₂ (λ u v. record { cells = u; numbers = v }) c d
-  where
-    empty : (xs : List Referent) → length xs ≡ 0 → xs ≡ []
-    empty [] e = refl
-    empty (x ∷ xs) e = absurd (omega arith)
-
-    no_numbers : (xs : List (ℕ × ℕ)) → AllByRecursion (λ x. (length s.cells < x.1) × (x.1 ≤ length s'.cells)) xs → xs ≡ []
-    no_numbers [] a = refl
-    no_numbers (x ∷ xs) a = absurd (omega (arith, h, a.0.0, a.0.1))
 
 module _ (w : Setting) (side : IsLegalSide w) (order : Order) (s : Spot) (at_pipe : IsAtPipe w s) (octets : List ℕ) (all : AreOctets octets) where
   abbrev h : Home

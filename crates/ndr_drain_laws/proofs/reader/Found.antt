@@ -26,7 +26,7 @@ use Rattle.nd_grammar.specs.Refusal.{tested_at}
 use Rattle.nd_grammar.specs.Represents.{IsRendered}
 use Rattle.nd_grammar.specs.Tested.{HoldsFound, IsSpokenOf}
 use Rattle.nd_grammar.proofs.LegalSides.{laid_out}
-use Rattle.nd_grammar.proofs.agreements.EntriesTell.{node_at, actual_by, home_tree, Tells, TellsAt}
+use Rattle.nd_grammar.proofs.agreements.EntriesTell.{node_at, actual_by, home_tree, Tells, TellsAt, flat_length, node_here}
 use Rattle.nd_grammar.proofs.agreements.LegalSubjects.{has_subjects}
 use Rattle.nd_grammar.proofs.agreements.TestedAt.{found_first}
 use Rattle.nd_grammar.proofs.agreements.TestsFind.{Found, Finds, Spoken, behind, onto, kinds_find, in_place_find}
@@ -39,14 +39,6 @@ use Rattle.ndr_drain_laws.specs.parts.Parts.{Spot, elem_at}
 use Rattle.ndr_drain_laws.proofs.reader.Renumbered.{own_entries}
 
 -- ## Counts and tags say what their nodes say
-
-node_here : (pre rest : List Flat) (f : Flat) → node_at (pre ++ (f ∷ rest)) (length pre) ≡ f
-node_here [] rest f = refl
-node_here (p ∷ pre) rest f = node_here pre rest f
-
-flat_length : (ts : Trees) → length (flat ts) ≡ node_count ts
-flat_length none = refl
-flat_length (more (node l ks) ts) = let a = flat_length ks in let b = flat_length ts in omega (arith, a, b, length-append (flat ks) (flat ts))
 
 module _ (g : Graph) (h : Home) where
   abbrev nodes : List Flat

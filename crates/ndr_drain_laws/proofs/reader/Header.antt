@@ -2,7 +2,6 @@
 -- `before` are the octets before the place, `g` those of the gap, `os` those of the count, `later` any octets after them.
 use Rattle.std.proofs.Common.{◌≡◌, ◌≤◌, ◌<◌, ℕ, ◌+◌, true, false, List, [], ◌∷◌, ◌++◌, length, length-append, append_assoc, Some, None, refl, ap, ap₂, sym, ◌∙◌, subst, arith, replicate}
 use Rattle.std.specs.Prelude.{ltb}
-use Rattle.std.proofs.lemmas.Bool.Decides.{nat_tests}
 use Rattle.std.proofs.lemmas.List.{append-nil}
 use Rattle.nd_base.specs.declared.octets.Order.{Order}
 use Rattle.nd_base.specs.declared.TheConstants.{STREAM_LIMIT}
@@ -26,14 +25,12 @@ use Rattle.ndr_decoder_laws.proofs.reader.Fetched.{cut_refused, long_refused}
 use Rattle.ndr_decoder_laws.specs.steps.Good.{Told, place_at}
 use Rattle.ndr_decoder_laws.specs.steps.StepItems.{gap_items}
 use Rattle.ndr_decoder_laws.specs.steps.Steps.{place_of}
-use Rattle.ndr_decoder_laws.proofs.steps.Passing.{gap_noted, items_it, items_stay, judged, lies_it, no_less, taken_it, told_passed}
+use Rattle.ndr_decoder_laws.proofs.steps.Passing.{gap_noted, items_it, items_stay, judged, lies_it, taken_it, told_passed}
+use Rattle.std.proofs.lemmas.Bool.{le-ltb as no_less, lt-ltb as is_less}
 use Rattle.ndr_decoder_laws.specs.stream.Added.{Added}
 use Rattle.ndr_decoder_laws.proofs.stream.Growing.{added_twice, in_place_adds, list_adds, pass_adds}
 use Rattle.ndr_decoder_laws.proofs.verdict.CellsSeen.{none_seen}
 use Rattle.ndr_drain_laws.specs.reader.PartReader.{after_count, gap_seen, header_items, header_seen, no_names, of_pipe, past_gap, read_part}
-
-is_less : (a b : ℕ) → a < b → ltb a b ≡ true
-is_less a b l = grind (arith, nat_tests)
 
 -- nothing ahead has a count or tag
 nothing_ahead : (h : Home) (a : Attr) (j : ℕ) → tested_at [] a h (1 + j) ≡ place_of a None (place_at [] j)

@@ -1,9 +1,9 @@
 -- Refusals of entries: by octets that end earlier or later, and what each kind is refused for.
-use Rattle.std.proofs.Common.{◌≡◌, ◌⊎◌, inl, inr, ℕ, ◌+◌, ◌<◌, ◌≤◌, Bool, true, false, ◌&&◌, List, [], ◌∷◌, ◌++◌, length, Option, Some, None, refl, ap, sym, ◌∙◌, subst, arith}
+use Rattle.std.proofs.Common.{◌≡◌, ℕ, ◌+◌, ◌≤◌, Bool, true, false, ◌&&◌, List, [], ◌∷◌, ◌++◌, length, Option, Some, None, refl, ap, sym, ◌∙◌, subst}
 use Rattle.std.specs.Prelude.{ltb, not, eqb, cond, ℤ, option_map}
 use Rattle.std.specs.Ordering.{int_eq}
 use Rattle.std.specs.List.{AllByRecursion}
-use Rattle.std.proofs.lemmas.Bool.{ltb-false, cases_lt}
+use Rattle.std.proofs.lemmas.Bool.{ltb-false}
 use Rattle.std.proofs.lemmas.Option.{same_Some}
 use Rattle.nd_base.specs.declared.octets.Order.{Order}
 use Rattle.nd_base.specs.declared.TheConstants.{STREAM_LIMIT}
@@ -13,12 +13,11 @@ use Rattle.nd_types.specs.Table.{selected}
 use Rattle.nd_value.proofs.Apart.{all_append}
 use Rattle.nd_grammar.specs.declared.reason.Reason.{Reason}
 use Rattle.nd_grammar.specs.declared.reason.Reason.TheVariants as reason
-use Rattle.nd_grammar.specs.Entry.{Kind, Entry, Align, Max, Offset, Actual, Chunk, Number, Num, Tag, Text, Context, Test, Unread, size_at, EntryAt, end_to_end}
+use Rattle.nd_grammar.specs.Entry.{Kind, Entry, Align, Max, Offset, Actual, Chunk, Number, Num, Tag, Text, Context, Test, Unread, size_at, EntryAt}
 use Rattle.nd_grammar.specs.Represents.{piece, Spells, IsRendered}
 use Rattle.nd_grammar.specs.Refusal.{refusal, kind_refusal, refused_if, text_refusal, is_enumerator, is_selected, is_long, is_other, tested_at, Accepts}
 use Rattle.nd_grammar.proofs.StaysBad.{judged_alike}
 use Rattle.nd_grammar.proofs.next.Spelt.{piece_left}
-use Rattle.nd_grammar.specs.decoded.Verdict.{fetched_to}
 
 -- ## An entry is judged alike by octets that end later
 
@@ -127,46 +126,4 @@ module _ (order : Order) (octets : List ℕ) where
   kind_of_kind seen at m (Context a id) os = none_of_kind
   kind_of_kind seen at m Unread os = none_of_kind
 
--- where octets end that are refused for their own kind
-pub ends_of_kind : (why : Reason) (n : ℕ) (x : EntryAt) → (why ≡ reason.TooLong → ⊥) → (why ≡ reason.Truncated → ⊥) → fetched_to why n x ≡ x.at + size_at x.at x.entry.kind
-ends_of_kind reason.TooLong n x a b = absurd (a refl)
-ends_of_kind reason.Truncated n x a b = absurd (b refl)
-ends_of_kind reason.EnumValue n x a b = refl
-ends_of_kind reason.PastBound n x a b = refl
-ends_of_kind reason.TextOffset n x a b = refl
-ends_of_kind reason.TextEmpty n x a b = refl
-ends_of_kind reason.TextUnended n x a b = refl
-ends_of_kind reason.TextZero n x a b = refl
-ends_of_kind reason.NoArm n x a b = refl
-ends_of_kind reason.OtherType n x a b = refl
-ends_of_kind (reason.Disagrees v u) n x a b = refl
-
 -- ## Entries end where later ones begin
-
-pub ends_before : (at : ℕ) (ms : List Entry) (earlier : List EntryAt) (there : EntryAt) (later : List EntryAt) → end_to_end at ms ≡ earlier ++ there ∷ later
-    → (at ≤ there.at) × AllByRecursion (λ x. x.at + size_at x.at x.entry.kind ≤ there.at) earlier
-ends_before at [] [] there later e = cc
-ends_before at [] (x ∷ xs) there later e = cc
-ends_before at (m ∷ ms) [] there later e =
-    let f : record { at = at; entry = m } ≡ there = cc in
-    let g : at ≡ there.at = ap (λ u. u.at) f in
-    (omega (arith, g), tt)
-ends_before at (m ∷ ms) (x ∷ xs) there later e =
-    let f : record { at = at; entry = m } ≡ x = cc in
-    let g : end_to_end (at + size_at at m.kind) ms ≡ xs ++ there ∷ later = cc in
-    let (a, b) = ends_before (at + size_at at m.kind) ms xs there later g in
-    let h : at + size_at at m.kind ≡ x.at + size_at x.at x.entry.kind = ap (λ u. u.at + size_at u.at u.entry.kind) f in
-    (omega (arith, a), (omega (arith, a, h), b))
-
--- a list without its last
-pub last_of : (xs : List ℕ) → 0 < length xs → (part : List ℕ) × (last : ℕ) × (xs ≡ part ++ last ∷ [])
-last_of [] h = absurd (omega arith)
-last_of (x ∷ []) h = ([], x, refl)
-last_of (x ∷ y ∷ ys) h = let (part, last, e) = last_of (y ∷ ys) (omega arith) in (x ∷ part, last, ap (λ u. x ∷ u) e)
-
-pub exactly : (n m : ℕ) → m ≤ n → ¬ (m < n) → n ≡ m
-exactly n m l k = by_case (cases_lt m n)
-  where
-    by_case : (m < n) ⊎ (n ≤ m) → n ≡ m
-    by_case (inl x) = absurd (k x)
-    by_case (inr x) = omega arith

@@ -32,7 +32,10 @@ use Rattle.ndr_drain_laws.specs.reader.PartReader.{IsAtPipe, count_of, read_part
 use Rattle.ndr_drain_laws.specs.reader.Outcomes.{PartRefused}
 use Rattle.ndr_drain_laws.proofs.reader.Elsewhere.{From, all_from, refused_elsewhere}
 use Rattle.ndr_drain_laws.proofs.reader.Known.{AnyMap, chunks_next, two_readings}
-use Rattle.ndr_drain_laws.proofs.reader.Refusals.{Within, accepted_before, accepts_stay, ends_before, ends_of_kind, exactly, kind_of_kind, last_of, refused_alike, spelt_before}
+use Rattle.ndr_drain_laws.proofs.reader.Refusals.{Within, accepted_before, accepts_stay, kind_of_kind, refused_alike, spelt_before}
+use Rattle.ndr_decoder_laws.proofs.verdict.Refused.{ends_before, ends_of_kind}
+use Rattle.nd_lemmas.proofs.Numbers.{no_less as exactly}
+use Rattle.nd_lemmas.proofs.Lists.{last_of}
 use Rattle.ndr_drain_laws.proofs.reader.Renumbered.{moved_at, own_entries, refused_moved}
 use Rattle.ndr_drain_laws.proofs.reader.Through.{chunk_gone, few_items, from_here, from_moved, gone_by, items_then, through_here}
 

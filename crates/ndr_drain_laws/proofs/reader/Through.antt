@@ -37,6 +37,7 @@ use Rattle.ndr_drain_laws.specs.reader.Outcomes.{PartCut}
 use Rattle.ndr_drain_laws.proofs.reader.Elements.{PartGone, as_many_items, back_again, fits, part_gone}
 use Rattle.ndr_drain_laws.proofs.reader.Elsewhere.{From, all_from, accepts_elsewhere, items_elsewhere, rendered_elsewhere}
 use Rattle.ndr_drain_laws.proofs.reader.Renumbered.{accepts_moved, ends_moved, items_moved, moved_at, moved_entry, own_entries, part_moved, rendered_moved}
+use Rattle.ndr_decoder_laws.proofs.verdict.Counted.{ends_within, first_part}
 
 -- ## Lists of entries
 
@@ -47,20 +48,6 @@ accepts_first order octets seen (x ∷ xs) ys a = (a.0, accepts_first order octe
 pub from_moved : (place k : ℕ) (xs : List EntryAt) → AllByRecursion (From place) xs → AllByRecursion (From place) (map (moved_at k) xs)
 from_moved place k [] a = tt
 from_moved place k (x ∷ xs) a = (a.0, from_moved place k xs a.1)
-
--- the first part of entries that lie end to end
-pub first_part : (at : ℕ) (ms : List Entry) (earlier later : List EntryAt) → end_to_end at ms ≡ earlier ++ later → (ns : List Entry) × (earlier ≡ end_to_end at ns)
-first_part at ms [] later e = ([], refl)
-first_part at [] (x ∷ xs) later e = cc
-first_part at (m ∷ ms) (x ∷ xs) later e =
-    let f : record { at = at; entry = m } ≡ x = cc in
-    let g : end_to_end (at + size_at at m.kind) ms ≡ xs ++ later = cc in
-    let (ns, h) = first_part (at + size_at at m.kind) ms xs later g in
-    (m ∷ ns, ap (λ u. u ∷ xs) (sym f) ∙ ap (λ u. record { at = at; entry = m } ∷ u) h)
-
-ends_within : (n at : ℕ) (ms : List Entry) → at ≤ n → AllByRecursion (λ x. x.at + size_at x.at x.entry.kind ≤ n) (end_to_end at ms) → end_of at ms ≤ n
-ends_within n at [] h a = h
-ends_within n at (m ∷ ms) h a = ends_within n (at + size_at at m.kind) ms a.0 a.1
 
 -- ## Elements that may be unread in part
 

@@ -1,7 +1,6 @@
 -- What the runs of all homes write is the stream.
-use Rattle.std.proofs.Common.{◌≡◌, ℕ, ◌+◌, ◌-◌, ◌*◌, ◌^◌, ◌<◌, ◌≤◌, zero, suc, List, [], ◌∷◌, ◌++◌, length, map, drop, get_or, Option, Some, None, refl, ap, ap₂, sym, ◌∙◌, subst, arith, append_assoc}
-use Rattle.std.proofs.Common.{length-drop}
-use Rattle.std.specs.List.{AllByRecursion, slice_get, flat_map}
+use Rattle.std.proofs.Common.{◌≡◌, ℕ, ◌+◌, ◌-◌, ◌*◌, ◌^◌, ◌<◌, ◌≤◌, zero, suc, List, [], ◌∷◌, ◌++◌, length, map, drop, get_or, Option, Some, None, refl, ap, ap₂, sym, ◌∙◌, subst, arith, length-drop}
+use Rattle.std.specs.List.{AllByRecursion, slice_get}
 use mathlib.Core.Path.{fun_ext}
 use Rattle.nd_base.specs.declared.octets.Order.{Order}
 use Rattle.nd_types.specs.Table.{type_at}
@@ -41,20 +40,17 @@ use Rattle.ndr_encoder_laws.proofs.shaped.Homes.{homes_shaped, pipes_shaped}
 use Rattle.ndr_encoder_laws.specs.turns.Turned.{STEPS}
 use Rattle.ndr_encoder_laws.specs.turns.Roots.{home_turns}
 use Rattle.ndr_encoder_laws.specs.chosen.Written.{value_at, turn_pieces, turns_pieces, pipe_turns, all_turns}
+use Rattle.std.proofs.lemmas.Grind.{flat_map-append as flat_joined}
 
-few_of : (vs : List Tree) (i : ℕ) → FewNodes vs → node_count (more (or_unread (slice_get vs i)) none) < 2 ^ 32
+pub few_of : (vs : List Tree) (i : ℕ) → FewNodes vs → node_count (more (or_unread (slice_get vs i)) none) < 2 ^ 32
 few_of [] i h = omega arith
 few_of (v ∷ vs) zero h = h.0
 few_of (v ∷ vs) (suc i) h = few_of vs i h.1
 
-few_cells : (xs : List Referent) (i : ℕ) → FewNodes (map (λ (c : Referent). c.val) xs) → node_count (more (cell_tree (slice_get xs i)) none) < 2 ^ 32
+pub few_cells : (xs : List Referent) (i : ℕ) → FewNodes (map (λ (c : Referent). c.val) xs) → node_count (more (cell_tree (slice_get xs i)) none) < 2 ^ 32
 few_cells [] i h = omega arith
 few_cells (x ∷ xs) zero h = h.0
 few_cells (x ∷ xs) (suc i) h = few_cells xs i h.1
-
-flat_joined : {X Y : Type 0} (f : X → List Y) (xs ys : List X) → flat_map f (xs ++ ys) ≡ flat_map f xs ++ flat_map f ys
-flat_joined f [] ys = refl
-flat_joined f (x ∷ xs) ys = ap (λ l. f x ++ l) (flat_joined f xs ys) ∙ sym (append_assoc (f x) (flat_map f xs) (flat_map f ys))
 
 module _ (w : Setting) (side : IsLegalSide w) (g : Graph) (c : Conforms w g) where
   abbrev C : List Instr

@@ -16,7 +16,7 @@ use Rattle.nd_types.specs.Legal.{IsLegal}
 use Rattle.nd_types.specs.Table.{Table, type_at, carrier, selected}
 use Rattle.nd_types.specs.Layout.{parts}
 use Rattle.nd_types.proofs.LegalLaws.{passes_at, prim_at}
-use Rattle.nd_types.proofs.LayoutLaws.{left_true, right_true}
+use Rattle.nd_lemmas.proofs.Booleans.{first_true as left_true, second_true as right_true}
 use Rattle.nd_value.specs.declared.value.Graph.{Graph}
 use Rattle.nd_value.specs.Tree as tree
 use Rattle.nd_value.specs.Tree.{Trees, node, none, more, Label}

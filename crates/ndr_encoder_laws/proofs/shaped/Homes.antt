@@ -22,7 +22,8 @@ use Rattle.nd_value.proofs.Apart.{all_append}
 use Rattle.nd_value.proofs.DeferralBridge.{some_before}
 use Rattle.nd_grammar.specs.LegalSide.{IsLegalSide}
 use Rattle.nd_grammar.proofs.LegalSides.{laid_out}
-use Rattle.nd_grammar.proofs.next.NextStream.{IsPipeRoot, drop_at, all_at}
+use Rattle.nd_grammar.proofs.next.NextStream.{IsPipeRoot, drop_at}
+use Rattle.nd_lemmas.proofs.Lists.{all_at}
 use Rattle.nd_grammar.proofs.conforming.GoodEntries.{HoldsNoPipe}
 use Rattle.nd_grammar.proofs.conforming.GoodTrees.{GoodTrees, good_roots}
 use Rattle.nd_grammar.proofs.conforming.GoodStream.{StandsGood, DueGood, standing_due, pending_cell, root_good, roots_due}

@@ -21,20 +21,21 @@ use Rattle.ndr_encoder_laws.specs.pieces.Shown.{kinds_pieces, values_pieces}
 use Rattle.ndr_encoder_laws.specs.written.Shaped.{Form, form_num, form_enum, form_struct, form_array, form_text, form_union, form_pointer, form_context, Shaped}
 use Rattle.ndr_encoder_laws.proofs.written.Runs.{home_written}
 use Rattle.ndr_encoder_laws.specs.turns.Turned.{STEPS, names_of, cells_of}
+use Rattle.std.proofs.lemmas.Grind.{flat_map-append as flat_joined}
 
 -- what a pointer names, with the address of the run of its referent
 abbrev pub name_of : Table → Pending → List (ℕ × ℕ)
 name_of table p = named_cell p.cell (whole_at table p.to)
 
-names_joined : (xs ys : List Piece) → pieces_names (xs ++ ys) ≡ pieces_names xs ++ pieces_names ys
+pub names_joined : (xs ys : List Piece) → pieces_names (xs ++ ys) ≡ pieces_names xs ++ pieces_names ys
 names_joined [] ys = refl
 names_joined (x ∷ xs) ys = ap (λ l. piece_names x ++ l) (names_joined xs ys) ∙ sym (append_assoc (piece_names x) (pieces_names xs) (pieces_names ys))
 
-gap_names : (b : Bool) (n : ℕ) → pieces_names (elim b [ true ↦ [] | false ↦ Gap n ∷ [] ]) ≡ []
+pub gap_names : (b : Bool) (n : ℕ) → pieces_names (elim b [ true ↦ [] | false ↦ Gap n ∷ [] ]) ≡ []
 gap_names true n = refl
 gap_names false n = refl
 
-counts_names : (table : Table) (varying : Bool) (max offset n : ℕ) → pieces_names (kinds_pieces table (counts varying max offset n)) ≡ []
+pub counts_names : (table : Table) (varying : Bool) (max offset n : ℕ) → pieces_names (kinds_pieces table (counts varying max offset n)) ≡ []
 counts_names table true max offset n = refl
 counts_names table false max offset n = refl
 
@@ -69,10 +70,6 @@ own_names table h n given (form_pointer {t = t} {class = class} {to = to} {c = c
     subst (λ D. pieces_names (kinds_pieces table (before_children table t D (tree.Ptr c) none)) ≡ flat_map (name_of table) (pointer_by D true c h n given)) (sym is) refl
 own_names table h n given (form_context {t = t} {attributes = attributes} {id = os} is) =
     subst (λ D. pieces_names (kinds_pieces table (before_children table t D (tree.Context attributes os) none)) ≡ flat_map (name_of table) (pointer_by D false None h n given)) (sym is) refl
-
-flat_joined : {X Y : Type 0} (f : X → List Y) (xs ys : List X) → flat_map f (xs ++ ys) ≡ flat_map f xs ++ flat_map f ys
-flat_joined f [] ys = refl
-flat_joined f (x ∷ xs) ys = ap (λ l. f x ++ l) (flat_joined f xs ys) ∙ sym (append_assoc (f x) (flat_map f xs) (flat_map f ys))
 
 -- What the pieces of values name is what their pointers name, in their order.
 values_names : (d : ℕ) (table : Table) (h : Home) (types : List ℕ) (given : List (List Agreement)) (n : ℕ) (ts : Trees) → Shaped d table types ts

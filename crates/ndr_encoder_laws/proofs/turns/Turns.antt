@@ -13,13 +13,13 @@ use Rattle.nd_value.specs.declared.item.Home.{Home}
 use Rattle.nd_value.specs.declared.item.Home.TheVariants as home
 use Rattle.nd_value.specs.Tree as tree
 use Rattle.nd_value.specs.Tree.{Tree, Trees, node, none, more, node_count, Label, Referent}
-use Rattle.nd_value.specs.Setting.{Setting, Among, root_list, root_at, or_unread, cell_at, cell_tree, cell_home}
+use Rattle.nd_value.specs.Setting.{Setting, Among, root_list, root_at, cell_at, cell_home}
 use Rattle.nd_value.specs.Misfit.{has_shape, is_no_null_ref}
 use Rattle.nd_value.specs.Variables.{root_agreements}
 use Rattle.nd_value.specs.Canon.{named, own_cell, named_cells}
 use Rattle.nd_value.specs.Deferral.{Pending, home_pointers, Step, Due, due_root, due_referent, due_roots, before_pipes, Deferral, none_due, at_root, at_null, at_standing, at_referent, Placed_cells}
 use Rattle.nd_value.specs.Deferral.{IsPlaced, Standing, standing_root, standing_by, standing_cell, root_type, direct, due_of, root_cell, AreFree}
-use Rattle.nd_value.specs.Conforms.{Conforms, FewNodes}
+use Rattle.nd_value.specs.Conforms.{Conforms}
 use Rattle.nd_value.proofs.Apart.{all_append, all_left, all_right}
 use Rattle.nd_value.proofs.DeferralBridge.{some_before}
 use Rattle.nd_value.proofs.DeferralExists.{direct_is}
@@ -36,18 +36,9 @@ use Rattle.ndr_encoder_laws.proofs.shaped.Homes.{no_pipes, standing_shaped}
 use Rattle.ndr_encoder_laws.specs.turns.Turned.{Item, root_due, direct_due, cell_due, Turned, none_left, root_turn, direct_turn, cell_turn, cell_stands, names_of, cells_due, cells_of}
 use Rattle.ndr_encoder_laws.specs.turns.Roots.{root_item, root_items, home_turns}
 use Rattle.ndr_encoder_laws.proofs.turns.Names.{name_of, names_are, cells_are}
+use Rattle.ndr_encoder_laws.proofs.chosen.Written.{few_cells, few_of}
 
-few_of : (vs : List Tree) (i : ℕ) → FewNodes vs → node_count (more (or_unread (slice_get vs i)) none) < 2 ^ 32
-few_of [] i h = omega arith
-few_of (v ∷ vs) zero h = h.0
-few_of (v ∷ vs) (suc i) h = few_of vs i h.1
-
-few_cells : (xs : List Referent) (i : ℕ) → FewNodes (map (λ (c : Referent). c.val) xs) → node_count (more (cell_tree (slice_get xs i)) none) < 2 ^ 32
-few_cells [] i h = omega arith
-few_cells (x ∷ xs) zero h = h.0
-few_cells (x ∷ xs) (suc i) h = few_cells xs i h.1
-
-due_joined : (xs ys : List (ℕ × ℕ)) → cells_due (xs ++ ys) ≡ cells_due xs ++ cells_due ys
+pub due_joined : (xs ys : List (ℕ × ℕ)) → cells_due (xs ++ ys) ≡ cells_due xs ++ cells_due ys
 due_joined [] ys = refl
 due_joined (x ∷ xs) ys = ap (λ l. cell_due x.0 x.1 ∷ l) (due_joined xs ys)
 

@@ -28,15 +28,9 @@ use Rattle.ndr_encoder_laws.specs.written.Shaped.{Shaped}
 use Rattle.ndr_encoder_laws.proofs.written.Steps.{run_step}
 use Rattle.ndr_encoder_laws.proofs.written.Rows.{row_forms}
 use Rattle.ndr_encoder_laws.proofs.written.Runs.{AllRun, pushed_room, all_run, values_split}
+use Rattle.nd_grammar.proofs.agreements.EntriesTell.{flat_cut as flat_parted}
 
--- the first k trees and the others: their nodes
-flat_parted : (k : ℕ) (ts : Trees) → flat ts ≡ flat (take_trees k ts) ++ flat (drop_trees k ts)
-flat_parted zero ts = refl
-flat_parted (suc k) none = refl
-flat_parted (suc k) (more (node l ks) ts) =
-    ap (λ l2. (l, count ks) ∷ l2) (ap (λ q. flat ks ++ q) (flat_parted k ts) ∙ sym (append_assoc (flat ks) (flat (take_trees k ts)) (flat (drop_trees k ts))))
-
-nodes_parted : (k : ℕ) (ts : Trees) → node_count ts ≡ node_count (take_trees k ts) + node_count (drop_trees k ts)
+pub nodes_parted : (k : ℕ) (ts : Trees) → node_count ts ≡ node_count (take_trees k ts) + node_count (drop_trees k ts)
 nodes_parted zero ts = omega arith
 nodes_parted (suc k) none = omega arith
 nodes_parted (suc k) (more (node l ks) ts) = let e = nodes_parted k ts in omega (arith, e)
@@ -56,7 +50,7 @@ dropped_all none = refl
 dropped_all (more t ts) = dropped_all ts
 
 -- there are at least as many nodes as trees
-nodes_of_count : (ts : Trees) → count ts ≤ node_count ts
+pub nodes_of_count : (ts : Trees) → count ts ≤ node_count ts
 nodes_of_count none = omega arith
 nodes_of_count (more (node l ks) ts) = let h = nodes_of_count ts in omega (arith, h)
 

@@ -4,7 +4,8 @@ use Rattle.std.specs.List.{slice_get}
 use Rattle.nd_base.specs.Over.{source_seen}
 use Rattle.nd_value.specs.Fitting.{setting_beside}
 use Rattle.ndr_pipe.specs.Ends.{ends_over}
-use Rattle.command_drain.proofs.Steps.{printed_is, no_end, no_text, not_taken, text_is}
+use Rattle.command_drain.proofs.Steps.{printed_is, no_end, no_text, not_taken}
+use Rattle.command_decode.proofs.Steps.{text_is}
 use Rattle.command_drain.proofs.draining.drain_octets.Goals as goal
 
 pub returns-in_err-plan-clause-refused : goal.returns-in_err-plan-clause-refused

@@ -1,5 +1,5 @@
 use Rattle.nd_value.specs.Fitting.{setting_beside}
-use Rattle.dceidl.proofs.Sides.{legal_side_beside}
+use Rattle.ndr_drain.proofs.Begun.{legal_side as legal_side_beside}
 use Rattle.dceidl.proofs.RoundTrip.{represented, same_graph, same_text, same_migration}
 use Rattle.dceidl.proofs.laws.decode_undoes_encode.Goals as goal
 

@@ -1,5 +1,5 @@
 use Rattle.nd_value.specs.Fitting.{setting_beside}
-use Rattle.dceidl.proofs.Sides.{legal_side_beside}
+use Rattle.ndr_drain.proofs.Begun.{legal_side as legal_side_beside}
 use Rattle.dceidl.proofs.RoundTrip.{reads_back, chosen_again, represented_again, octets_back}
 use Rattle.dceidl.proofs.laws.encode_undoes_decode.Goals as goal
 

@@ -1,6 +1,7 @@
 use Rattle.std.proofs.Common.{◌≡◌, ◌≢◌, ◌∙◌, sym}
 use Rattle.idl_scope.specs.Seen.{seen_file, seen_files}
-use Rattle.idl_names.proofs.Spelled.{item_at, first_is, first_is_not}
+use Rattle.idl_names.proofs.Spelled.{first_is, first_is_not}
+use Rattle.nd_lemmas.proofs.Lists.{drop_next as item_at}
 use Rattle.idl_names.proofs.resolving.has_ended.Goals as goal
 
 pub returns-then-from-number : goal.returns-then-from-number

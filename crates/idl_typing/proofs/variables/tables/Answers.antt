@@ -6,7 +6,7 @@ use Rattle.idl_constructs.specs.declared.nodes.Declared.{Declared}
 use Rattle.idl_constructs.specs.SeenNodes.{seen_declared}
 use Rattle.idl_rule_definitions.specs.VariableRules.{listed_from}
 use Rattle.idl_typing.specs.Lookups.{AreTables}
-use Rattle.idl_type_numbers.proofs.Fronts.{take_next}
+use Rattle.nd_lemmas.proofs.Lists.{take_next}
 use Rattle.idl_typing.proofs.LookupSteps.{index_of, tables_push}
 use Rattle.idl_typing.proofs.variables.tables.Goals as goal
 

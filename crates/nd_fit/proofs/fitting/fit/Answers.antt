@@ -1,5 +1,5 @@
 use Rattle.nd_value.specs.Fitting.{setting_beside}
-use Rattle.nd_value.proofs.FewRoots.{item_at}
+use Rattle.nd_lemmas.proofs.Lists.{item_at}
 use Rattle.nd_fit.proofs.Inputs.{given_request}
 use Rattle.nd_fit.proofs.Told.{told_no_fit, fits_of}
 use Rattle.nd_fit.proofs.fitting.fit.Goals as goal

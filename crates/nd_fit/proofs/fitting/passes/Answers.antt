@@ -6,7 +6,7 @@ use Rattle.nd_value.specs.Conforms.{HasFewNodes}
 use Rattle.nd_value.specs.Fitting.{setting_beside}
 use Rattle.nd_value.specs.FirstMisfit.{first_local}
 use Rattle.nd_value.specs.Passes.{AreReached}
-use Rattle.nd_value.proofs.FewRoots.{item_at}
+use Rattle.nd_lemmas.proofs.Lists.{item_at}
 use Rattle.nd_value.proofs.Misfits.{passed_conforms}
 use Rattle.nd_misfits.specs.Numbers.{are_small_roots}
 use Rattle.nd_fit.proofs.Told.{told_local, told_shared, told_unreached_in, told_disagreeing, told_memory}

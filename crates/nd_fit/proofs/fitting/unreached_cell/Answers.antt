@@ -1,6 +1,6 @@
 use Rattle.std.proofs.Common.{None, Some, subst, refl}
 use Rattle.nd_value.specs.Fitting.{setting_beside}
-use Rattle.nd_value.proofs.FewRoots.{item_at}
+use Rattle.nd_lemmas.proofs.Lists.{item_at}
 use Rattle.nd_fit.specs.Reach.{TellsReach}
 use Rattle.nd_fit.proofs.Passed.{passed_few, passed_names, passed_reached, passed_unreached}
 use Rattle.nd_fit.proofs.fitting.unreached_cell.Goals as goal

@@ -11,7 +11,9 @@ use Rattle.nd_value.specs.Tree.{more, none, trees, count, node_count}
 use Rattle.nd_value.specs.Seen.{tree_of}
 use Rattle.nd_flat.specs.FlatForm.{armed_count}
 use Rattle.nd_flat.specs.Built.{Adds}
-use Rattle.nd_fit.proofs.Flattening.{then_kids, count_of, few_values, keepable_at, smaller_at, added_on}
+use Rattle.nd_fit.proofs.Flattening.{then_kids, few_values, keepable_at, added_on}
+use Rattle.nd_misfits.proofs.NodeTests.{count_trees as count_of}
+use Rattle.nd_misfits.proofs.FormWalk.{next_smaller as smaller_at}
 use Rattle.nd_fit.proofs.values.+values.Goals as goal
 
 pub add_value-overflow_cast-len : goal.add_value-overflow_cast-len

@@ -2,7 +2,7 @@ use Rattle.std.proofs.Common.{◌+◌, ◌++◌, ◌∙◌, drop, map, refl, ap,
 use Rattle.std.proofs.lemmas.List.{append-nil}
 use Rattle.nd_value.specs.Seen.{cell_of}
 use Rattle.nd_misfits.specs.HomeList.{home_tree, cell_homes}
-use Rattle.nd_value.proofs.LocalPass.{drop-past}
+use Rattle.nd_lemmas.proofs.Lists.{drop_past as drop-past}
 use Rattle.nd_misfits.proofs.HomeWalk.{home_pushed, cell_more}
 use Rattle.nd_misfits.proofs.homes.homes.Goals as goal
 

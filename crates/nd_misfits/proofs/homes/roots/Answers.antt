@@ -4,7 +4,8 @@ use Rattle.std.proofs.lemmas.Iterator.Consumers.{YieldsList-from_first, YieldsLi
 use Rattle.nd_types.specs.Walk.{named_roots, root_value}
 use Rattle.nd_value.specs.Seen.{tree_of}
 use Rattle.nd_misfits.specs.HomeList.{home_tree, root_homes}
-use Rattle.nd_value.proofs.FewRoots.{few_named_roots, item_at, past_end}
+use Rattle.nd_value.proofs.FewRoots.{few_named_roots}
+use Rattle.nd_lemmas.proofs.Lists.{item_at, past_end}
 use Rattle.nd_value.proofs.LocalPass.{given_root}
 use Rattle.nd_misfits.proofs.HomeWalk.{home_pushed, root_more, root_none, root_past}
 use Rattle.nd_misfits.proofs.homes.roots.Goals as goal

@@ -8,7 +8,8 @@ use Rattle.nd_value.specs.Tree.{Referent}
 use Rattle.nd_value.specs.Seen.{tree_of, cell_of}
 use Rattle.nd_misfits.proofs.NodeWalk.{few_at, machine_next, machine_end}
 use Rattle.nd_value.specs.Passes.{first_in_cells}
-use Rattle.nd_value.proofs.LocalPass.{cell_next, tells_first, later_left, drop-past}
+use Rattle.nd_value.proofs.LocalPass.{cell_next, tells_first, later_left}
+use Rattle.nd_lemmas.proofs.Lists.{drop_past as drop-past}
 use Rattle.nd_misfits.proofs.local.cells.Goals as goal
 
 pub home-requires : goal.home-requires

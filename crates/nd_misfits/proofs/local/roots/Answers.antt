@@ -4,7 +4,8 @@ use Rattle.std.proofs.lemmas.Result.{err_from_is_err_and}
 use Rattle.std.proofs.lemmas.Iterator.Consumers.{YieldsList-from_first, YieldsList-turn, YieldsList-end}
 use Rattle.nd_types.specs.Walk.{named_roots, root_value}
 use Rattle.nd_value.specs.Seen.{tree_of}
-use Rattle.nd_value.proofs.FewRoots.{few_named_roots, item_at, past_end}
+use Rattle.nd_value.proofs.FewRoots.{few_named_roots}
+use Rattle.nd_lemmas.proofs.Lists.{item_at, past_end}
 use Rattle.nd_value.proofs.LocalPass.{root_next, root_missing, root_surplus, roots_end, given_root, tells_first, told_shape, later_left}
 use Rattle.nd_misfits.proofs.NodeWalk.{machine_next, machine_end}
 use Rattle.nd_misfits.proofs.local.roots.Goals as goal

@@ -4,8 +4,9 @@ use mir.Val.{SFits, of_z, to_z}
 use mir.Syntax.{w128}
 use Rattle.std.specs.List.{list_any}
 use Rattle.std.specs.Ordering.{int_eq}
-use Rattle.nd_value.proofs.LocalPass.{drop-past}
-use Rattle.nd_misfits.proofs.NodeTests.{same_number, other_number, any_found, any_next}
+use Rattle.nd_lemmas.proofs.Lists.{drop_past as drop-past}
+use Rattle.nd_misfits.proofs.NodeTests.{any_found, any_next}
+use Rattle.nd_lemmas.proofs.Integers.{equal_from as same_number, other_from as other_number}
 use Rattle.nd_misfits.proofs.node.contains.Goals as goal
 
 pub returns-then-number-value : goal.returns-then-number-value

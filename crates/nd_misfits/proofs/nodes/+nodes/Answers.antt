@@ -4,7 +4,7 @@ use Rattle.std.proofs.lemmas.Result.{err_from_is_err_and}
 use Rattle.nd_types.specs.declared.types.Field.{Field}
 use Rattle.nd_value.specs.Tree.{trees, count}
 use Rattle.nd_value.specs.Seen.{tree_of}
-use Rattle.nd_value.proofs.FewRoots.{past_end}
+use Rattle.nd_lemmas.proofs.Lists.{past_end}
 use Rattle.nd_misfits.proofs.NodeTests.{count_trees}
 use Rattle.nd_misfits.proofs.NodeWalk.{get_replicate, get_field, walk_few, walk_smaller, walk_on, walk_stop}
 use Rattle.nd_misfits.proofs.nodes.+nodes.Goals as goal

@@ -3,7 +3,7 @@ use Rattle.nd_misfits.specs.declared.shared.Naming.TheVariants.{NotYet}
 use Rattle.std.proofs.lemmas.Result.{err_from_is_err_and, IfErr-weaker, on_ok_weaker}
 use Rattle.nd_misfits.specs.HomeList.{home_tree}
 use Rattle.nd_value.specs.Fitting.{setting_beside}
-use Rattle.nd_value.proofs.FewRoots.{item_at}
+use Rattle.nd_lemmas.proofs.Lists.{item_at}
 use Rattle.nd_misfits.proofs.Walkable.{walkable}
 use Rattle.nd_misfits.proofs.Sharing.{tells_same, tells_memory, homes_walkable, clash_is_shared}
 use Rattle.nd_misfits.proofs.shared.shared_cell.Goals as goal

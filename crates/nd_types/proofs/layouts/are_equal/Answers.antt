@@ -2,7 +2,7 @@ use Rattle.std.proofs.Common.{◌≡◌, ◌∙◌, sym, true, List, [], ◌∷�
 use Rattle.std.specs.Cmp.Lexicographic.{pointwise}
 use Rattle.nd_types.specs.declared.layouts.Layout.{Layout}
 use Rattle.nd_types.specs.contracts.layouts.LayoutPartialEq.TheImpl.{eq-value}
-use Rattle.nd_types.proofs.LayoutLaws.{left_true, right_true}
+use Rattle.nd_lemmas.proofs.Booleans.{first_true as left_true, second_true as right_true}
 use Rattle.nd_types.proofs.layouts.are_equal.Goals as goal
 
 same : (x y : Layout) → eq-value.it x y ≡ true → x ≡ y

@@ -2,7 +2,7 @@ use Rattle.std.proofs.Common.{◌≡◌, Some, refl, option_map}
 use Rattle.std.specs.List.{slice_get}
 use Rattle.nd_base.specs.Over.{count, source_seen}
 use Rattle.nd_types.specs.declared.types.Operation.{Operation}
-use Rattle.nd_value.proofs.FewRoots.{item_at}
+use Rattle.nd_lemmas.proofs.Lists.{item_at}
 use Rattle.nd_value.specs.Fitting.{setting_beside}
 use Rattle.ndr_decoder_state.specs.declared.fault.DecodeFault.TheVariants as fault
 use Rattle.nd_grammar.specs.decoded.Verdict.{decoding_seen}

@@ -1,6 +1,6 @@
 use Rattle.std.proofs.Common.{◌≡◌, [], None, Err, refl, sym, subst, drop, option_map}
 use Rattle.nd_base.specs.Over.{source_seen}
-use Rattle.nd_value.proofs.FewRoots.{item_at}
+use Rattle.nd_lemmas.proofs.Lists.{item_at}
 use Rattle.nd_value.specs.Fitting.{setting_beside}
 use Rattle.ndr_decoder_value.specs.Parts.{IsTried}
 use Rattle.ndr_decoder_agreements.specs.Trials.{checks_fail}

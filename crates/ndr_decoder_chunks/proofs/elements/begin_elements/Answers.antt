@@ -2,7 +2,8 @@ use Rattle.std.proofs.Common.{ap, sym, ◌∙◌, ◌+◌, ◌≤◌, length}
 use Rattle.nd_flat.specs.Building.{Building}
 use Rattle.ndr_decoder_state.specs.declared.machine.Owed.{Owed}
 use Rattle.ndr_decoder_state.specs.Small.{IsSmall}
-use Rattle.ndr_decoder_chunks.proofs.Opening.{all_of_none, raised_length}
+use Rattle.ndr_decoder_chunks.proofs.Opening.{raised_length}
+use Rattle.nd_lemmas.proofs.Lists.{all_of_none}
 use Rattle.ndr_decoder_chunks.proofs.elements.begin_elements.Goals as goal
 
 pub invariant_of-machine-2 : goal.invariant_of-machine-2

@@ -3,7 +3,8 @@ use Rattle.ndr_code.specs.declared.instr.Instr.TheVariants as op
 use Rattle.ndr_decoder_laws.specs.runs.Reaching.{begins, IsSafe}
 use Rattle.ndr_decoder_state.specs.Seen.{state_of}
 use Rattle.ndr_decoder_laws.specs.steps.Steps.{State}
-use Rattle.ndr_decoder_fast.proofs.StringSteps.{string_leapt, string_failed, address_fits, few_more}
+use Rattle.ndr_decoder_fast.proofs.StringSteps.{string_leapt, string_failed, few_more}
+use Rattle.ndr_decoder_fast.proofs.ElementsTaken.{address_fits}
 use Rattle.ndr_decoder_fast.proofs.strings.leap_string.Goals as goal
 
 pub string_ahead-requires-clause-within : goal.string_ahead-requires-clause-within

@@ -5,7 +5,8 @@ use Rattle.ndr_decoder_laws.specs.steps.Steps.{State}
 use Rattle.ndr_decoder_state.specs.Seen.{state_of}
 use Rattle.ndr_code.specs.Lengths.{field_len, form_width}
 use Rattle.ndr_decoder_fast.specs.Structs.{at_address}
-use Rattle.ndr_decoder_fast.proofs.StructReading.{address_short, field_fits, field_on, field_stopped, memory_stops, pc_here, reading_begun, reading_over, safe_first, some_field, stopped_first}
+use Rattle.ndr_decoder_fast.proofs.StructReading.{field_fits, field_on, field_stopped, memory_stops, pc_here, reading_begun, reading_over, safe_first, some_field, stopped_first}
+use Rattle.ndr_decoder_fast.proofs.ElementsTaken.{address_fits as address_short}
 use Rattle.ndr_decoder_fast.proofs.structs.read_struct.Goals as goal
 
 pub add_node-requires-clause-few : goal.add_node-requires-clause-few

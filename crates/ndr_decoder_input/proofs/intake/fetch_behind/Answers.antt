@@ -1,5 +1,6 @@
 use Rattle.std.proofs.Common.{◌≡◌, ◌≤◌, ◌+◌, ◌-◌, length, take, arith, rules}
-use Rattle.ndr_decoder_input.proofs.Taken.{came_behind, came_long}
+use Rattle.ndr_decoder_input.proofs.Taken.{came_behind}
+use Rattle.std.proofs.lemmas.List.{length-take-le as came_long}
 use Rattle.ndr_decoder_input.proofs.intake.fetch_behind.Goals as goal
 
 pub returns-in-Ok-clause-came : goal.returns-in-Ok-clause-came

@@ -4,7 +4,9 @@ use mir.Val.{SFits, of_z, to_z}
 use mir.Syntax.{w128}
 use Rattle.std.specs.List.{list_any}
 use Rattle.std.specs.Ordering.{int_eq}
-use Rattle.ndr_decoder_value.proofs.Searches.{drop-past, same_number, other_number, any_found, any_next}
+use Rattle.ndr_decoder_value.proofs.Searches.{any_found, any_next}
+use Rattle.nd_lemmas.proofs.Lists.{drop_past as drop-past}
+use Rattle.nd_lemmas.proofs.Integers.{equal_from as same_number, other_from as other_number}
 use Rattle.ndr_decoder_value.proofs.enumerators.contains.Goals as goal
 
 pub returns-then-number-value : goal.returns-then-number-value

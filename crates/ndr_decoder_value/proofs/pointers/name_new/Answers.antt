@@ -10,7 +10,8 @@ use Rattle.ndr_decoder_state.specs.declared.fault.DecodeFault.TheVariants as fau
 use Rattle.ndr_decoder_state.specs.Seen.{state_of}
 use Rattle.ndr_decoder_value.proofs.Noting.{goes_memory}
 use Rattle.ndr_decoder_value.proofs.Owing.{with_builder, reserved_is, new_is}
-use Rattle.ndr_decoder_value.proofs.Reserving.{stopped_at_cell, one_with_cell, next_cell, cells_after, one_cell_more, outside_stays}
+use Rattle.ndr_decoder_value.proofs.Reserving.{stopped_at_cell, one_with_cell, cells_after, one_cell_more, outside_stays}
+use Rattle.ndr_decoder_fast.proofs.Owing.{next_cell}
 use Rattle.ndr_decoder_value.proofs.pointers.name_new.Goals as goal
 
 pub returns-clause-does : goal.returns-clause-does

@@ -5,7 +5,8 @@ use Rattle.nd_base.specs.declared.TheConstants.{STREAM_LIMIT}
 use Rattle.nd_base.specs.Over.{source_seen}
 use Rattle.ndr_decoder_laws.specs.runs.Reaching.{IsSafe, begins}
 use Rattle.ndr_decoder_state.specs.Seen.{state_of}
-use Rattle.ndr_decoder_value.proofs.Taking.{address_fits, count_fits}
+use Rattle.ndr_decoder_value.proofs.Taking.{count_fits}
+use Rattle.ndr_decoder_fast.proofs.ElementsTaken.{address_fits}
 use Rattle.ndr_decoder_value.proofs.Flowing.{flow_stopped, flow_taken}
 use Rattle.ndr_decoder_value.proofs.running.take_next.Goals as goal
 

@@ -6,7 +6,8 @@ use Rattle.ndr_decoder_laws.specs.steps.StepItems.{step_items}
 use Rattle.ndr_decoder_laws.specs.runs.Reaching.{IsSafe, begins}
 use Rattle.ndr_decoder_state.specs.Seen.{state_of, Comes}
 use Rattle.ndr_decoder_state.specs.Notes.{Noted, notes_seen}
-use Rattle.ndr_decoder_value.proofs.Taking.{inner_here, address_fits, count_fits, cells_fit}
+use Rattle.ndr_decoder_value.proofs.Taking.{inner_here, count_fits, cells_fit}
+use Rattle.ndr_decoder_fast.proofs.ElementsTaken.{address_fits}
 use Rattle.ndr_decoder_value.proofs.OneTurn.{one_stopped, one_taken}
 use Rattle.ndr_decoder_value.proofs.running.take_one.Goals as goal
 

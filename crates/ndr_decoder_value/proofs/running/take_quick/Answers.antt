@@ -4,7 +4,7 @@ use Rattle.nd_base.specs.declared.TheConstants.{STREAM_LIMIT}
 use Rattle.nd_base.specs.Over.{source_seen}
 use Rattle.ndr_decoder_laws.specs.runs.Reaching.{IsSafe, begins}
 use Rattle.ndr_decoder_state.specs.Seen.{state_of}
-use Rattle.ndr_decoder_value.proofs.Taking.{address_fits}
+use Rattle.ndr_decoder_fast.proofs.ElementsTaken.{address_fits}
 use Rattle.ndr_decoder_value.proofs.Flowing.{flow_taken, quick_flows}
 use Rattle.ndr_decoder_value.proofs.running.take_quick.Goals as goal
 

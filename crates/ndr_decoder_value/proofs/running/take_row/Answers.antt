@@ -11,7 +11,8 @@ use Rattle.ndr_decoder_state.specs.Seen.{state_of, Does}
 use Rattle.ndr_decoder_state.specs.Notes.{notes_seen}
 use Rattle.ndr_decoder_value.specs.Notes.{RowNoted}
 use Rattle.ndr_decoder_value.specs.Reaching.{Fetches}
-use Rattle.ndr_decoder_value.proofs.Taking.{address_fits, count_fits}
+use Rattle.ndr_decoder_value.proofs.Taking.{count_fits}
+use Rattle.ndr_decoder_fast.proofs.ElementsTaken.{address_fits}
 use Rattle.ndr_decoder_value.proofs.RowTaken.{row_came, row_fewer, row_size, few_numbers, row_cut, row_cut_memory, row_memory, row_taken}
 use Rattle.ndr_decoder_value.proofs.running.take_row.Goals as goal
 

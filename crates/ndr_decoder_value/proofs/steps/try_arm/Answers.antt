@@ -9,7 +9,7 @@ use Rattle.ndr_decoder_laws.specs.steps.Steps.{State}
 use Rattle.ndr_decoder_state.specs.Seen.{state_of}
 use Rattle.ndr_decoder_state.specs.Notes.{all_noted, ticks}
 use Rattle.ndr_decoder_value.proofs.Noting.{same_cells}
-use Rattle.ndr_decoder_value.proofs.Searches.{other_number}
+use Rattle.nd_lemmas.proofs.Integers.{other_from as other_number}
 use Rattle.ndr_decoder_value.proofs.steps.try_arm.Goals as goal
 
 pub returns-then-label-machine-clause-noted : goal.returns-then-label-machine-clause-noted

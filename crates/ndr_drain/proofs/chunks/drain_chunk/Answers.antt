@@ -1,6 +1,6 @@
 use Rattle.std.proofs.Common.{ap, subst}
 use Rattle.nd_base.specs.Over.{source_seen}
-use Rattle.nd_value.proofs.FewRoots.{item_at}
+use Rattle.nd_lemmas.proofs.Lists.{item_at}
 use Rattle.nd_grammar.specs.decoded.Verdict.{decoding_seen}
 use Rattle.ndr_pipe.specs.Seen.{ends_seen}
 use Rattle.ndr_drain_reader.specs.Calls.{IsAnswered}

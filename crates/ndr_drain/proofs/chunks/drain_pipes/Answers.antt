@@ -3,7 +3,7 @@ use Rattle.std.proofs.lemmas.Result.{err_from_is_err_and}
 use Rattle.nd_base.specs.Over.{source_seen}
 use Rattle.nd_value.specs.Deferral.{before_pipes}
 use Rattle.nd_value.specs.Setting.{root_list}
-use Rattle.nd_value.proofs.FewRoots.{item_at}
+use Rattle.nd_lemmas.proofs.Lists.{item_at}
 use Rattle.nd_grammar.specs.decoded.Verdict.{decoding_seen}
 use Rattle.ndr_drain_laws.specs.parts.Parts.{elem_at}
 use Rattle.ndr_pipe.specs.Ends.{ends_over}
@@ -13,7 +13,7 @@ use Rattle.ndr_drain.specs.Given.{end_of_root}
 use Rattle.ndr_drain.specs.Turns.{HasPassed, IsStepCause}
 use Rattle.ndr_drain.proofs.Begun.{of_first, of_moved}
 use Rattle.ndr_drain.proofs.ElementTypes.{as_many, element_at}
-use Rattle.ndr_drain.proofs.Pipes.{few_before}
+use Rattle.nd_grammar.proofs.conforming.StreamConforming.{some_before as few_before}
 use Rattle.ndr_drain.proofs.UnderWay.{at_first, turn, turn_less, turn_is, stops, open_now, at_end, at_root, below_all}
 use Rattle.ndr_drain.proofs.chunks.drain_pipes.Goals as goal
 

@@ -1,5 +1,5 @@
 use Rattle.std.proofs.Common.{◌∙◌, ap}
-use Rattle.nd_value.proofs.FewRoots.{item_at}
+use Rattle.nd_lemmas.proofs.Lists.{item_at}
 use Rattle.ndr_drain_reader.specs.Seen.{intake_seen}
 use Rattle.ndr_drain.proofs.draining.drain_rest.Goals as goal
 

@@ -2,7 +2,7 @@ use Rattle.std.proofs.Common.{◌≡◌, Some, refl, ap, ◌∙◌, length, opti
 use Rattle.std.specs.List.{slice_get}
 use Rattle.nd_base.specs.Over.{source_seen}
 use Rattle.nd_types.specs.declared.types.Operation.{Operation}
-use Rattle.nd_value.proofs.FewRoots.{item_at}
+use Rattle.nd_lemmas.proofs.Lists.{item_at}
 use Rattle.nd_value.specs.Fitting.{setting_beside}
 use Rattle.nd_value.specs.declared.value.Graph.{Graph}
 use Rattle.nd_flat.specs.Building.{closed}

@@ -5,7 +5,8 @@ use Rattle.nd_grammar.specs.InPlace.{hoisted_max}
 use Rattle.ndr_encoder_laws.specs.maximum.LastPart.{last_max}
 use Rattle.ndr_encoder_laws.specs.chosen.Written.{value_at}
 use Rattle.ndr_encoder_homes.specs.Turns.{is_hoist}
-use Rattle.ndr_encoder_homes.proofs.LastMaxima.{flat_length, value_max}
+use Rattle.ndr_encoder_homes.proofs.LastMaxima.{value_max}
+use Rattle.nd_grammar.proofs.agreements.EntriesTell.{flat_length}
 use Rattle.ndr_encoder_homes.proofs.Maxima.{few_at}
 use Rattle.ndr_encoder_homes.proofs.homes.max_before.Goals as goal
 

@@ -1,6 +1,7 @@
 use Rattle.std.proofs.Common.{◌++◌, codes, ap, sym, ◌∙◌}
 use Rattle.ndr_explain.specs.Explained.{item_head, node_shown}
-use Rattle.ndr_explain.proofs.Lines.{four, other_rest}
+use Rattle.ndr_explain.proofs.Lines.{other_rest}
+use Rattle.nd_lemmas.proofs.Lists.{four_parts as four}
 use Rattle.ndr_explain.proofs.explaining.append_item.Goals as goal
 
 pub returns : goal.returns

@@ -3,7 +3,9 @@ use Rattle.nd_value.specs.Fitting.{setting_of}
 use Rattle.text_grammar.specs.declared.TheConstants.{TEXT_LIMIT}
 use Rattle.text_grammar.specs.Dues.{nothing_read}
 use Rattle.text_grammar.specs.Reads.{IsFault}
-use Rattle.text_parser.proofs.TextAnswers.{legal_side, left_within, is_refused, only_graph, only_memory, item_there}
+use Rattle.text_parser.proofs.TextAnswers.{left_within, is_refused, only_graph, only_memory}
+use Rattle.nd_grammar.proofs.LegalSides.{interface_side as legal_side}
+use Rattle.nd_lemmas.proofs.Lists.{item_at as item_there}
 use Rattle.text_parser.proofs.texts.read_text.Goals as goal
 
 pub fault_of-requires-clause-within : goal.fault_of-requires-clause-within

@@ -9,7 +9,9 @@ use Rattle.nd_value.specs.Fitting.{setting_of}
 use Rattle.nd_value.specs.Seen.{tree_of}
 use Rattle.text_parser.specs.Lines.{AreRoots}
 use Rattle.text_parser.proofs.LineParts.{no_roots, root_next, roots_stop}
-use Rattle.text_parser.proofs.TextAnswers.{legal_side, root_known, item_there}
+use Rattle.text_parser.proofs.TextAnswers.{root_known}
+use Rattle.nd_grammar.proofs.LegalSides.{interface_side as legal_side}
+use Rattle.nd_lemmas.proofs.Lists.{item_at as item_there}
 use Rattle.text_parser.proofs.texts.roots.Goals as goal
 
 pub loop-root-init : goal.loop-root-init

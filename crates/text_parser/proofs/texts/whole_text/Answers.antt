@@ -8,7 +8,9 @@ use Rattle.text_grammar.specs.Written.{side_word}
 use Rattle.text_parser.specs.Passing.{Named, Halts}
 use Rattle.text_parser.specs.Lines.{HasHead, HeadHalts, AreRoots, lines_due}
 use Rattle.text_parser.proofs.WholeTexts.{head_refuses, roots_refuse, cells_refuse, whole, roots_known}
-use Rattle.text_parser.proofs.TextAnswers.{legal_side, few_nodes, item_there}
+use Rattle.text_parser.proofs.TextAnswers.{few_nodes}
+use Rattle.nd_grammar.proofs.LegalSides.{interface_side as legal_side}
+use Rattle.nd_lemmas.proofs.Lists.{item_at as item_there}
 use Rattle.text_parser.proofs.texts.whole_text.Goals as goal
 
 pub returns-in_err-version-clause-err : goal.returns-in_err-version-clause-err

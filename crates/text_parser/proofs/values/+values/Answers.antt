@@ -11,7 +11,7 @@ use Rattle.nd_value.specs.Tree as tree
 use Rattle.nd_value.specs.Tree.{Tree, node, trees, more, none}
 use Rattle.nd_value.specs.Seen.{tree_of}
 use Rattle.nd_value.specs.Nodes.{selected_types}
-use Rattle.nd_value.proofs.FewRoots.{past_end}
+use Rattle.nd_lemmas.proofs.Lists.{past_end}
 use Rattle.nd_types.specs.declared.types.TypeId.{TypeId}
 use Rattle.text_grammar.specs.Tokens.{Mark}
 use Rattle.text_grammar.specs.Written.{Name, equals}

@@ -3,9 +3,10 @@ use Rattle.std.proofs.lemmas.List.{length_push}
 use Rattle.std.proofs.lemmas.Iterator.Consumers.{YieldsList-from_first, YieldsList-turn, YieldsList-end}
 use Rattle.std.specs.List.{slice_get}
 use Rattle.nd_types.specs.Walk.{named_roots, root_value}
-use Rattle.nd_value.proofs.FewRoots.{few_named_roots, item_at}
+use Rattle.nd_value.proofs.FewRoots.{few_named_roots}
+use Rattle.nd_lemmas.proofs.Lists.{item_at}
 use Rattle.nd_value.proofs.LocalPass.{given_root}
-use Rattle.text_paths.proofs.Nodes.{get_past}
+use Rattle.std.proofs.lemmas.Option.{slice_get_past as get_past}
 use Rattle.text_paths.proofs.paths.root_at.Goals as goal
 
 pub returns-then-place-at : goal.returns-then-place-at

@@ -1,7 +1,7 @@
 use Rattle.std.proofs.Common.{◌+◌, drop, sym, ap, ◌∙◌, arith}
 use Rattle.nd_value.specs.Tree.{more, none}
 use Rattle.nd_value.specs.Setting.{cell_tree}
-use Rattle.nd_value.proofs.FewRoots.{item_at}
+use Rattle.nd_lemmas.proofs.Lists.{item_at}
 use Rattle.nd_flat.specs.Building.{referent_type}
 use Rattle.text_printer.specs.Texts.{cell_text, cells_text}
 use Rattle.text_printer.proofs.Listing.{comes_on, comes_all}

@@ -1,7 +1,7 @@
 use Rattle.std.proofs.Common.{codes}
 use Rattle.std.proofs.lemmas.Result.{on_ok_weaker}
 use Rattle.text_printer.specs.Texts.{text_of}
-use Rattle.text_printer.proofs.Identifiers.{four}
+use Rattle.nd_lemmas.proofs.Lists.{four_parts as four}
 use Rattle.text_printer.proofs.Lines.{value_written}
 use Rattle.text_printer.proofs.graphs.append_root.Goals as goal
 

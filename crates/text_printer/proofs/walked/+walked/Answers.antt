@@ -9,7 +9,7 @@ use Rattle.nd_types.specs.Table.{type_at}
 use Rattle.nd_value.specs.Tree as tree
 use Rattle.nd_value.specs.Tree.{none, take_trees}
 use Rattle.nd_value.specs.Nodes.{child_types}
-use Rattle.nd_value.proofs.LocalPass.{drop-get, drop-past}
+use Rattle.nd_lemmas.proofs.Lists.{drop_next as drop-get, drop_past as drop-past}
 use Rattle.nd_flat.specs.FlatForm.{flat_seen, armed_count}
 use Rattle.text_printer.specs.Texts.{separator, listed, member_texts, arm_text}
 use Rattle.text_printer.specs.Walks.{Writes}

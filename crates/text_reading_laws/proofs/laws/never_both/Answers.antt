@@ -1,4 +1,4 @@
-use Rattle.text_reading_laws.proofs.Stated.{never_both}
+use Rattle.text_reading_laws.proofs.OneText.{never_both}
 use Rattle.text_reading_laws.proofs.laws.never_both.Goals as goal
 
 pub returns : goal.returns

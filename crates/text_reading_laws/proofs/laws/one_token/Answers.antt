@@ -1,4 +1,4 @@
-use Rattle.text_reading_laws.proofs.Stated.{one_token}
+use Rattle.text_reading_laws.proofs.OneText.{one_cut as one_token}
 use Rattle.text_reading_laws.proofs.laws.one_token.Goals as goal
 
 pub returns : goal.returns

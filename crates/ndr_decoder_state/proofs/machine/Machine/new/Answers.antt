@@ -1,7 +1,7 @@
 use Rattle.std.proofs.Common.{rules, ap, sym, ◌+◌, ◌≤◌, length}
 use Rattle.ndr_decoder_state.specs.declared.machine.Owed.{Owed}
 use Rattle.ndr_decoder_state.specs.Small.{IsSmall}
-use Rattle.ndr_decoder_state.proofs.Empty.{all_of_none}
+use Rattle.nd_lemmas.proofs.Lists.{all_of_none}
 use Rattle.ndr_decoder_state.proofs.machine.Machine.new.Goals as goal
 
 pub invariant_of-result : goal.invariant_of-result

@@ -1,4 +1,5 @@
-use Rattle.ndr_drain_laws.proofs.joined.Stopped.{place_after, refused_chunk}
+use Rattle.ndr_drain_laws.proofs.joined.Stopped.{refused_chunk}
+use Rattle.ndr_drain_laws.proofs.joined.Through.{place_after}
 use Rattle.ndr_drain_laws.proofs.laws.joined.refused_chunk.Goals as goal
 
 pub returns-clause-refuse : goal.returns-clause-refuse

@@ -1,6 +1,6 @@
 use Rattle.std.proofs.Common.{Err, refl, option_map}
 use Rattle.nd_base.specs.Over.{source_seen}
-use Rattle.nd_value.proofs.FewRoots.{item_at}
+use Rattle.nd_lemmas.proofs.Lists.{item_at}
 use Rattle.nd_value.specs.Fitting.{setting_beside}
 use Rattle.ndr_decoder_state.specs.declared.fault.DecodeFault.TheVariants.{ReadFault}
 use Rattle.nd_grammar.specs.decoded.Verdict.{decoding_seen}
