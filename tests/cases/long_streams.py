@@ -54,7 +54,7 @@ WAYS = [
         lambda k: pack("<i", -k), lambda k: str(-k)),
     Way("structs that end with a pointer", "typedef struct { long v; [unique] long *p; } e;", 0, lambda k: pack("<iI", k, k), lambda k: f"{{v = {k}, p = @{k}}}",
         lambda k: pack("<i", -k), lambda k: str(-k)),
-    Way("strings", "typedef [string] char *e;", 0, lambda k: pack("<I", k), lambda k: f"@{k}", lambda k: pack("<III2s2x", 2, 0, 2, b"x"), lambda k: '"x"'),
+    Way("strings", "typedef [string] char *e;", 0, lambda k: pack("<I", k), lambda k: f"@{k}", lambda k: pack("<III2s2x", 2, 0, 2, b"x"), lambda k: '2:"x"'),
     Way("pointers to arrays of their own length", "typedef struct { unsigned long n; [unique, size_is(n)] long *p; } e;", 0, lambda k: pack("<II", 1, k),
         lambda k: f"{{n = 1, p = @{k}}}", lambda k: pack("<Ii", 1, k), lambda k: f"[{k}]"),
 ]
