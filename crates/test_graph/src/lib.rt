@@ -1,8 +1,6 @@
-//! Tests of the public calls of graphs on worked rows: which graphs fit, which misfit is the first, `canonical`, `same`, the builder.
+//! Tests of the public calls of graphs on worked rows: which graphs fit, which misfit is the first, `canonical`, `same`.
 #![tactic(auto)]
 
-#[cfg(test)]
-mod builder;
 #[cfg(test)]
 mod graphs;
 #[cfg(test)]
