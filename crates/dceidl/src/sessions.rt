@@ -89,6 +89,26 @@ pub fn run_with<F: Files, S: Source, K: Sink, N: Sink>(
     if words.is_session() {
         session(alloc, input, out, notes, stock)
     } else {
-        run(alloc, words, files, input, out, notes, ends)
+        run_line(alloc, words, files, input, out, notes, ends)
     }
+}
+
+// `run`, with all that it promises as one record.
+fn run_line<F: Files, S: Source, K: Sink, N: Sink>(
+    alloc: Global,
+    words: &Words,
+    files: &mut F,
+    input: &mut S,
+    out: &mut K,
+    notes: &mut N,
+    ends: &mut PipeEnds,
+) -> Status
+    requires open { AreOpen (ends_seen seen ends.old) }
+    ensures { IsRun words.now
+        (seen_over (files_seen F.held F.absences F.faults F.asked files.old files.new) (source_seen S.left S.ended S.faults input.old input.new)
+        (ends_over seen ends.old ends.new))
+        (sink_seen K.written K.faults out.old out.new)
+        (sink_seen N.written N.faults notes.old notes.new) result }
+{
+    run(alloc, words, files, input, out, notes, ends)
 }
