@@ -31,8 +31,10 @@ use Rattle.command_text.proofs.OneText.{good_cause, fault_cause, misfit_cause}
 use Rattle.dceidl.specs.Causes.{IsMade, IsCause}
 use Rattle.dceidl.specs.Encode.{IsLabelledEncoding, IsLongEncoding, IsEncodingCause, IsMigration}
 use Rattle.dceidl.specs.Input.{OfText, IsMadeOf, IsTaskCause, IsInputTextCause, IsInputEncodingCause}
-use Rattle.dceidl.specs.Rows.{IsSound, AreAccepted, IsInput, AreGiven, AreGivenIn, IsRefusedAt, HasEnds, CanBeMade, MustBeUnready, MustBeNoRequest, MustBeNoLabel, MustBeNoOctets, MustBeNoText}
-use Rattle.dceidl.specs.Rows.{MustBeNoEncoding, MustBeNoInput, CanBeDone, MustBeRefused, IsCompleted, Refuses}
+use Rattle.dceidl.specs.Rows.{IsSound, AreAccepted, AreGivenIn, IsRefusedAt, HasEnds, CanBeMade, MustBeUnready, MustBeNoRequest, MustBeNoLabel, MustBeNoOctets, MustBeNoText}
+use Rattle.command_streams.specs.Input.{IsInput, AreGiven}
+use Rattle.dceidl.specs.Rows.{MustBeNoEncoding, MustBeNoInput, CanBeDone, MustBeRefused, Refuses}
+use Rattle.command_streams.specs.Delivery.{IsCompleted}
 use Rattle.dceidl.specs.Seen.{Seen}
 use Rattle.command_line.specs.Words.{Command, Subject, Values, Compile, Plan, Call, Wrap, Sample, Help, Version, idl_of, op_of, order_in}
 use Rattle.nd_types.specs.Meant.{Meant, meant_by}
@@ -47,7 +49,7 @@ use Rattle.dceidl.specs.declared.TheConstants.{WRAP_CHUNK}
 use Rattle.dceidl.proofs.Calls.{cause_over, called_over, refused_calls, refused_unmade, good_call, bad_stub, bad_unmade}
 use Rattle.dceidl.proofs.HeldFiles.{compiled_cause, no_idl, no_idl_cause, same_number, one_meaning, means_here, one_setting}
 use Rattle.dceidl.proofs.HeldFiles.{accepted_cause, unready, unready_cause}
-use Rattle.dceidl.proofs.OneInput.{same_octets}
+use Rattle.command_streams.proofs.OneInput.{same_octets}
 use Rattle.dceidl.proofs.Labels.{given_after, one_order, never_unopened, bad_opened, bad_cause, short_opened, short_cause}
 use Rattle.dceidl.proofs.HeldRequests.{legal_all, all_one, all_cause, all_unready, all_unready_cause, no_request, no_request_cause}
 use Rattle.dceidl.proofs.OneReading.{IsOctetsCause, read_causes, whole_here, decoded_cause, refused_value, refused_cause}

@@ -3,7 +3,6 @@ pub mod Encodings
 pub mod Requests
 pub mod Rows
 pub mod Sides
-pub mod OneInput
 pub mod Labels
 pub mod OneReading
 pub mod Drains

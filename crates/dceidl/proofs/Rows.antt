@@ -3,8 +3,8 @@ use Rattle.std.proofs.Common.{◌≡◌, ◌∙◌, ℕ, List, [], ◌∷◌, Op
 use Rattle.std.specs.Prelude.{◌≢◌, Bool, true, false, codes}
 use Rattle.nd_base.specs.Outside.{IsMissing}
 use Rattle.nd_base.specs.Over.{FilesSeen, SourceSeen, SinkSeen, HasRisen, Got}
-use Rattle.dceidl.specs.declared.outcome.Outcome.{Outcome}
-use Rattle.dceidl.specs.declared.outcome.Outcome.TheVariants.{Done, Refused, Wanting}
+use Rattle.command_streams.specs.declared.outcome.Outcome.{Outcome}
+use Rattle.command_streams.specs.declared.outcome.Outcome.TheVariants.{Done, Refused, Reported, Wanting}
 use Rattle.command_refusals.specs.declared.refusal.Refusal.{Refusal}
 use Rattle.command_refusals.specs.declared.refusal.Refusal.TheVariants.{Memory, Absent, FileFailed, BadIdl, NoOperation, ReadFault, BadOctets, BadText, BadValue, TooLong, BadRequest, BadLabel}
 use Rattle.command_refusals.specs.declared.refusal.Refusal.TheVariants.{ShortLabel, TooFewEnds, EndFailed}
@@ -27,8 +27,9 @@ use Rattle.command_line.specs.declared.command.OrderWord.{OrderWord}
 use Rattle.command_line.specs.declared.command.OrderWord.TheVariants.{Fixed, Label}
 use Rattle.command_line.specs.declared.command.Task.{Task}
 use Rattle.command_line.specs.declared.command.Task.TheVariants.{Read, Encode, Migrate}
-use Rattle.dceidl.specs.Rows.{IsOneOf, IsDone, IsRefusedWith, ReadsInput, IsDueOf, IsDueRequest, IsDueAndMissing, IsDueAndReported, EndRose, IsEndReported, HasNotFailed}
-use Rattle.dceidl.specs.Run.{HasRun, IsOutcome, IsCommandOutcome, IsDelivered}
+use Rattle.dceidl.specs.Rows.{IsDone, IsRefusedWith, ReadsInput, IsDueOf, IsDueRequest, IsDueAndMissing, IsDueAndReported, EndRose, IsEndReported, HasNotFailed}
+use Rattle.command_streams.specs.Delivery.{IsOneOf, IsDelivered}
+use Rattle.dceidl.specs.Run.{HasRun, IsOutcome, IsCommandOutcome}
 use Rattle.dceidl.specs.Seen.{Seen}
 use Rattle.nd_value.specs.Setting.{Setting}
 use Rattle.command_line.specs.Words.{Command, Subject, Values, Compile, Plan, Call, Wrap, Sample, Help, Version, command, idl_of, op_of}
@@ -73,6 +74,7 @@ module _ (x : Seen) (out notes : SinkSeen) (c : Command) (status : ℕ) where
   by_outcome (Refused own line) r (before, inl (is, told)) =
       ended_refused (record { refusal = r.refusal; cause = r.cause; own_status = is ∙ r.status_is; line = subst (Got notes) r.line_is told; nothing_given = before })
   by_outcome (Refused own line) r (before, inr (is, rose, some)) = ended_unreported is rose
+  by_outcome (Reported text own line) never d = absurd never
   by_outcome Wanting caused (before, inl (is, told)) = ended_wanting is
   by_outcome Wanting caused (before, inr (is, rose, some)) = ended_unreported is rose
 
@@ -275,6 +277,8 @@ idle x out notes status words is run = by run.outcome (subst (λ o. IsOutcome x 
     by (Refused own line) (inl e) (before, inl (is, told)) = let two : own ≡ 2 = cc in idle_two (is ∙ two)
     by (Refused own line) (inl e) (before, inr (is, rose, some)) = idle_four is
     by (Refused own line) (inr e) d = cc
+    by (Reported text own line) (inl e) d = cc
+    by (Reported text own line) (inr e) d = cc
     by Wanting e (before, inl (is, told)) = idle_five is
     by Wanting e (before, inr (is, rose, some)) = idle_four is
 
@@ -791,6 +795,8 @@ module _ (x : Seen) (out notes : SinkSeen) (status : ℕ) (nothing : HasNotFaile
   by_words words (Refused own line) (inl e) (before, inl (is, told)) = let two : own ≡ 2 = cc in inr (inr (inl (is ∙ two)))
   by_words words (Refused own line) (inl e) (before, inr (is, rose, some)) = absurd (nothing.reports rose)
   by_words words (Refused own line) (inr e) d = cc
+  by_words words (Reported text own line) (inl e) d = cc
+  by_words words (Reported text own line) (inr e) d = cc
   by_words words Wanting e (before, inl (is, told)) = inr (inr (inr (inl is)))
   by_words words Wanting e (before, inr (is, rose, some)) = absurd (nothing.reports rose)
 
@@ -874,6 +880,8 @@ module _ (x : Seen) (out notes : SinkSeen) (status : ℕ) (words : List (List �
       by (Refused own line) (inl is) (before, inl (same, told)) = let text : line ≡ codes "words refused\n" = cc in subst (Got notes) text told
       by (Refused own line) (inl is) (before, inr (four, rose, some)) = absurd (apart status 4 2 four e (λ h. cc))
       by (Refused own line) (inr is) d = cc
+      by (Reported text own row) (inl is) d = cc
+      by (Reported text own row) (inr is) d = cc
       by Wanting is (before, inl (five, told)) = absurd (apart status 5 2 five e (λ h. cc))
       by Wanting is (before, inr (four, rose, some)) = absurd (apart status 4 2 four e (λ h. cc))
 
@@ -894,6 +902,8 @@ module _ (x : Seen) (out notes : SinkSeen) (status : ℕ) (words : List (List �
       by_outcome (Refused own line) (inl is) (before, inl (same, told)) = let two : own ≡ 2 = cc in absurd (apart status 2 4 (same ∙ two) e (λ h. cc))
       by_outcome (Refused own line) (inl is) (before, inr (four, rose, some)) = inr rose
       by_outcome (Refused own line) (inr is) d = cc
+      by_outcome (Reported text own row) (inl is) d = cc
+      by_outcome (Reported text own row) (inr is) d = cc
       by_outcome Wanting is (before, inl (five, told)) = absurd (apart status 5 4 five e (λ h. cc))
       by_outcome Wanting is (before, inr (four, rose, some)) = inr rose
 
@@ -932,10 +942,13 @@ module _ (x : Seen) (out notes : SinkSeen) (status : ℕ) (words : List (List �
 
   -- nothing is given with another status than 0 and 4
   pub nothing_given : status ≢ 0 → status ≢ 4 → out.written_now ≡ out.written
-  nothing_given zero four = by run.outcome run.delivered
+  nothing_given zero four = by (command words) run.outcome run.caused run.delivered
     where
-      by : (outcome : Outcome) → IsDelivered out notes outcome status → out.written_now ≡ out.written
-      by (Done made) (inl (is, given, quiet)) = absurd (zero is)
-      by (Done made) (inr (is, rose, some, warned)) = absurd (four is)
-      by (Refused own line) (before, told) = before.written
-      by Wanting (before, told) = before.written
+      by : (o : Option Command) (outcome : Outcome) → IsOutcome x o outcome → IsDelivered out notes outcome status → out.written_now ≡ out.written
+      by o (Done made) caused (inl (is, given, quiet)) = absurd (zero is)
+      by o (Done made) caused (inr (is, rose, some, warned)) = absurd (four is)
+      by o (Refused own line) caused (before, told) = before.written
+      by None (Reported text own line) (inl e) d = cc
+      by None (Reported text own line) (inr e) d = cc
+      by (Some c) (Reported text own line) never d = absurd never
+      by o Wanting caused (before, told) = before.written

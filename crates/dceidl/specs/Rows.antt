@@ -23,6 +23,7 @@ use Rattle.nd_base.specs.Text.{joined}
 use Rattle.dceidl.specs.Causes.{IsMade, IsCause}
 use Rattle.dceidl.specs.Asked.{IsRequestDue, asks_files, asks_input}
 use Rattle.dceidl.specs.Input.{IsLabel}
+use Rattle.command_streams.specs.Input.{AreGiven, IsInput}
 use Rattle.command_text.specs.Fitted.{IsMisfitAt}
 use Rattle.command_text.specs.Request.{beside, IsRequestText, IsRequestFault}
 use Rattle.command_compile.specs.Idl.{Means, IsIdlFault, IsDueFile}
@@ -58,11 +59,6 @@ use Rattle.command_refusals.specs.declared.refusal.FragmentsFault.TheVariants as
 use Rattle.command_refusals.specs.declared.refusal.OctetsFault.{OctetsFault}
 use Rattle.command_refusals.specs.declared.refusal.OctetsFault.TheVariants.{Refused, Trailing}
 use Rattle.command_refusals.specs.declared.refusal.RequestFault.{RequestFault}
-
--- a status is one of these
-abbrev pub IsOneOf : List ℕ → ℕ → Type 0
-IsOneOf [] status = ⊥
-IsOneOf (s ∷ ss) status = (status ≡ s) ⊎ IsOneOf ss status
 
 -- ## What a status says
 
@@ -166,18 +162,6 @@ pub record IsAcceptedBeside (f : FilesSeen) (of : Subject) (name : List ℕ) (w 
 abbrev pub AreAccepted : FilesSeen → Subject → Option (List ℕ) → Setting → Type 0
 AreAccepted f of None w = IsAccepted f of w
 AreAccepted f of (Some name) w = IsAcceptedBeside f of name w
-
--- The octets of the input are known, and are these. No fetch failed.
-pub record AreGiven (s : SourceSeen) (octets : List ℕ) : Type 0 where
-  pub left : s.left ≡ Some octets
-  pub reads : HasRisen s.faults → ⊥
-
--- The octets of the input are known, and these count under a limit: all of them, or one more than the limit. No fetch failed.
-pub record IsInput (s : SourceSeen) (limit : ℕ) (octets : List ℕ) : Type 0 where
-  pub all : List ℕ
-  pub left : s.left ≡ Some all
-  pub counted : octets ≡ take (limit + 1) all
-  pub reads : HasRisen s.faults → ⊥
 
 -- The octets before a place are a stream of a graph that conforms, and an octet follows.
 pub record IsTrailing (w : Setting) (order : Order) (octets : List ℕ) (place : ℕ) : Type 0 where
@@ -359,10 +343,6 @@ MustBeRefused x (Plan idl acf) r = MustBeNoIdl x.files idl acf r
 MustBeRefused x (Sample seed count) r = ⊥
 MustBeRefused x Help r = ⊥
 MustBeRefused x Version r = ⊥
-
--- a command is completed: it is done, or it ran out of memory, or out failed
-abbrev pub IsCompleted : SinkSeen → ℕ → Type 0
-IsCompleted out status = (status ≡ 0) ⊎ ((status ≡ 5) ⊎ ((status ≡ 4) × HasRisen out.faults))
 
 -- a command is refused in this way, or it ran out of memory
 abbrev pub Refuses : Command → SinkSeen → ℕ → Refusal → Type 0

@@ -3,9 +3,7 @@
 
 mod call;
 mod encode;
-mod input;
 pub mod laws;
-mod outcome;
 mod perform;
 mod reading;
 mod ready;
@@ -14,7 +12,7 @@ mod wrap;
 
 pub use command_line::{CHUNK_LIMIT, Words};
 pub use command_refusals::{IdlReason, OctetsFault, Refusal, Status};
-pub use outcome::Outcome;
+pub use command_streams::Outcome;
 pub use top::run;
 
 /// How many elements a chunk of a pipe has in what `wrap` writes.

@@ -18,7 +18,6 @@ ghost use Rattle.command_line.specs.Words.{Values};
 
 use crate::call::call;
 use crate::encode::{encode, migrate};
-use crate::input::read_input;
 use crate::reading::read_octets;
 use crate::ready::{Ready, make_ready};
 use crate::wrap::wrap;
@@ -27,6 +26,7 @@ use command_compile::{list, list_plan};
 use command_line::{Command, OrderWord, Subject, Task};
 use command_refusals::Refusal;
 use command_sample::sample;
+use command_streams::read_input;
 use command_text::load_request;
 use nd_base::{Files, Octets, Source};
 use nd_graph::Fit;

@@ -10,31 +10,23 @@ ghost use Rattle.dceidl.specs.Asked.{Asks};
 ghost use Rattle.dceidl.specs.Causes.{statuses_of};
 ghost use Rattle.command_line.specs.Commands.{command_of};
 ghost use Rattle.command_refusals.specs.Lines.{status_of, line_of};
-ghost use Rattle.dceidl.specs.Rows.{IsOneOf, IsDone, IsRefusedWith, ReadsInput, IsDueAndMissing, IsDueAndReported, IsEndReported, HasNotFailed};
-ghost use Rattle.dceidl.specs.Rows.{IsSound, CanBeDone, MustBeRefused, IsCompleted, Refuses};
-ghost use Rattle.dceidl.specs.Run.{IsOutcome, IsDelivered, HasRun, IsReported};
+ghost use Rattle.dceidl.specs.Rows.{IsDone, IsRefusedWith, ReadsInput, IsDueAndMissing, IsDueAndReported, IsEndReported, HasNotFailed};
+ghost use Rattle.command_streams.specs.Delivery.{IsOneOf, IsCompleted};
+ghost use Rattle.dceidl.specs.Rows.{IsSound, CanBeDone, MustBeRefused, Refuses};
+ghost use Rattle.dceidl.specs.Run.{IsOutcome, HasRun};
 ghost use Rattle.dceidl.specs.Seen.{seen_over};
 ghost use Rattle.command_line.specs.Words.{Command as Wanted, command, idl_of, op_of};
 
-use crate::outcome::Outcome;
 use crate::perform::perform;
 use command_line::{Command, Words};
 use command_refusals::{Refusal, Status, line, status};
+use command_streams::{Outcome, deliver};
 use nd_base::{Files, Memory, Octets, Sink, Source};
 use ndr_pipe::{Ends, PipeEnd, PipeEnds};
 use std::alloc::Global;
 
-/// A command is done.
-pub(crate) const DONE: Status = 0;
-
 /// The command line is not valid.
 pub(crate) const WORDS_REFUSED: Status = 2;
-
-/// Standard output or standard error failed.
-pub(crate) const WRITE_FAILED: Status = 4;
-
-/// Out of memory.
-pub(crate) const OUT_OF_MEMORY: Status = 5;
 
 /// Runs a command line and returns the exit status.
 ///
@@ -221,41 +213,5 @@ fn command_line(alloc: Global, command: Command<'_>, refusal: &Refusal) -> Resul
         Command::Sample { .. } => line(alloc, "", "", refusal),
         Command::Help => line(alloc, "", "", refusal),
         Command::Version => line(alloc, "", "", refusal),
-    }
-}
-
-// Writes what a run came to, and answers the status.
-fn deliver<K: Sink, N: Sink>(outcome: &Outcome, out: &mut K, notes: &mut N) -> Status
-    ensures { IsDelivered
-        (sink_seen K.written K.faults out.old out.new)
-        (sink_seen N.written N.faults notes.old notes.new) outcome.now result }
-{
-    match outcome {
-        Outcome::Done(text) => give(text.as_slice(), out, notes),
-        Outcome::Refused { status, line } => report(*status, line.as_slice(), notes),
-        Outcome::Wanting => report(OUT_OF_MEMORY, b"want of memory\n", notes),
-    }
-}
-
-fn give<K: Sink, N: Sink>(text: &[u8], out: &mut K, notes: &mut N) -> Status
-    ensures { IsDelivered
-        (sink_seen K.written K.faults out.old out.new)
-        (sink_seen N.written N.faults notes.old notes.new) (Outcome.Done text.now) result }
-{
-    match out.put(text) {
-        Ok(()) => DONE,
-        Err(_) => {
-            let _ = notes.put(b"write fault\n");
-            WRITE_FAILED
-        }
-    }
-}
-
-fn report<N: Sink>(status: Status, line: &[u8], notes: &mut N) -> Status
-    ensures { IsReported (sink_seen N.written N.faults notes.old notes.new) line.now status result }
-{
-    match notes.put(line) {
-        Ok(()) => status,
-        Err(_) => WRITE_FAILED,
     }
 }
