@@ -3,7 +3,7 @@ use Rattle.std.specs.Prelude.{◌≡◌, ◌⊎◌, ℕ, List, Option, None, Som
 use Rattle.nd_base.specs.Over.{SinkSeen}
 use Rattle.command_streams.specs.Delivery.{IsDelivered}
 use Rattle.dceidl.specs.Asked.{Asks}
-use Rattle.dceidl.specs.Causes.{IsMade, IsCause}
+use Rattle.dceidl.specs.Causes.{IsMade, IsCause, IsUnexplained}
 use Rattle.command_refusals.specs.Lines.{line_of, status_of}
 use Rattle.dceidl.specs.Seen.{Seen}
 use Rattle.command_line.specs.Words.{Command, command, idl_of, op_of}
@@ -22,7 +22,7 @@ pub record IsRefusal (x : Seen) (c : Command) (status : ℕ) (line : List ℕ) :
 abbrev pub IsCommandOutcome : Seen → Command → Outcome → Type 0
 IsCommandOutcome x c (Done made) = IsMade x c made
 IsCommandOutcome x c (Refused status line) = IsRefusal x c status line
-IsCommandOutcome x c (Reported text status line) = ⊥
+IsCommandOutcome x c (Reported text status line) = IsUnexplained c text × (status ≡ 2) × (line ≡ codes "words refused\n")
 IsCommandOutcome x c Wanting = (refusal : Refusal) × IsCause x c refusal
 
 -- what words come to; None is words that are no command
