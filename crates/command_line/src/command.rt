@@ -14,6 +14,8 @@ pub enum Reading {
     Explain,
     /// The elements of their pipes go to ends, and the text of the values is written with empty pipes.
     Drain,
+    /// A line for each item of their stream is written, and if they are refused, for each item before the place and one line of the place itself.
+    Trace,
 }
 
 /// The order of octets that a command names.
@@ -95,6 +97,19 @@ pub enum Command<'a> {
         call: u32,
         /// How many octets a fragment has at most: at least 1,024.
         max: u16,
+    },
+    /// Two versions of an interface are compared.
+    Compat {
+        old: &'a str,
+        old_acf: Option<&'a str>,
+        new: &'a str,
+        new_acf: Option<&'a str>,
+        /// Whether the first place where they differ is written, if they do.
+        why: bool,
+    },
+    /// What words of a refusal mean is written.
+    Why {
+        words: &'a [String],
     },
     /// A sample of so many cells, made from a seed, is encoded and decoded.
     Sample {

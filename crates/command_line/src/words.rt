@@ -1,9 +1,9 @@
 // The words of a command line, and the command that they are.
 ghost use Rattle.std.specs.Prelude.{◌≡◌, ◌≤◌, ◌<◌, [], ◌∷◌, ◌++◌, length, map, OnOk, OnErr, IfSome, option_map};
 ghost use Rattle.std.specs.String.{string_bytes};
-ghost use Rattle.command_line.specs.Words.{command, acf_of, order_of, side_of, reading_of, read as read_of, read_beside as read_beside_of};
+ghost use Rattle.command_line.specs.Words.{command, counted_command as counted_command_of, acf_of, order_of, side_of, reading_of, read as read_of, read_beside as read_beside_of};
 ghost use Rattle.command_line.specs.Words.{encode as encode_of, encode_beside as encode_beside_of, migrate as migrate_of, sample as sample_of};
-ghost use Rattle.command_line.specs.Words.{listing as listing_of, subject as subject_by};
+ghost use Rattle.command_line.specs.Words.{listing as listing_of, subject as subject_by, compat_why as compat_why_of};
 ghost use Rattle.command_line.specs.Words.{is_session as is_session_of, operation_of, fixed_order_of, wrap as wrap_of};
 ghost use Rattle.command_line.specs.Words.{read_beside_words as read_beside_words_of};
 ghost use Rattle.command_line.specs.declared.TheConstants.{COUNT_LIMIT, LEAST_MAX};
@@ -70,12 +70,30 @@ impl Words {
         ensures command { option_map command_of result ≡ command self.now }
         ensures formed { IfSome result IsWellFormed }
     {
-        let words = self.items.as_slice();
-        match words.len() {
-            0..=5 => command_of_few(words),
-            6 | 7 => command_of_more(words),
-            _ => command_of_most(words),
-        }
+        command_of_words(self.items.as_slice())
+    }
+}
+
+// The command that words are.
+fn command_of_words(words: &[String]) -> Option<Command<'_>>
+    ensures command { option_map command_of result ≡ command (map string_bytes words.now) }
+    ensures formed { IfSome result IsWellFormed }
+{
+    match words {
+        [verb, rest @ ..] if verb.as_str() == "why" => Some(Command::Why { words: rest }),
+        _ => counted_command(words),
+    }
+}
+
+// The command that words are by their number.
+fn counted_command(words: &[String]) -> Option<Command<'_>>
+    ensures command { option_map command_of result ≡ counted_command_of (map string_bytes words.now) }
+    ensures formed { IfSome result IsWellFormed }
+{
+    match words.len() {
+        0..=5 => command_of_few(words),
+        6 | 7 => command_of_more(words),
+        _ => command_of_most(words),
     }
 }
 
@@ -83,26 +101,26 @@ impl Words {
 #[tactic(auto, using(crate::proofs::FewWords::two_words))]
 fn command_of_few(words: &[String]) -> Option<Command<'_>>
     requires { length words.now ≤ 5 }
-    ensures command { option_map command_of result ≡ command (map string_bytes words.now) }
+    ensures command { option_map command_of result ≡ counted_command_of (map string_bytes words.now) }
     ensures formed { IfSome result IsWellFormed }
 {
     match words {
         [] => Some(Command::Sample { seed: 1, count: 2 }),
         [word] => short_command(word.as_str()),
         [verb, first, second] => three_words(verb.as_str(), first.as_str(), second.as_str()),
-        [verb, idl, acf, op] => four_words(verb.as_str(), idl.as_str(), acf.as_str(), op.as_str()),
-        [verb, idl, acf, op, side] => {
-            if verb.as_str() == "migrate" {
-                migrate_command(
-                    idl.as_str(),
-                    acf.as_str(),
-                    op.as_str(),
-                    side_named(side.as_str()),
-                )
-            } else {
-                None
-            }
-        }
+        [verb, first, second, third] => four_words(
+            verb.as_str(),
+            first.as_str(),
+            second.as_str(),
+            third.as_str(),
+        ),
+        [verb, first, second, third, fourth] => five_words(
+            verb.as_str(),
+            first.as_str(),
+            second.as_str(),
+            third.as_str(),
+            fourth.as_str(),
+        ),
         _ => None,
     }
 }
@@ -111,17 +129,17 @@ fn command_of_few(words: &[String]) -> Option<Command<'_>>
 fn command_of_more(words: &[String]) -> Option<Command<'_>>
     requires least { 6 ≤ length words.now }
     requires most { length words.now ≤ 7 }
-    ensures command { option_map command_of result ≡ command (map string_bytes words.now) }
+    ensures command { option_map command_of result ≡ counted_command_of (map string_bytes words.now) }
     ensures formed { IfSome result IsWellFormed }
 {
     match words {
-        [verb, idl, acf, op, side, order] => read_command(
-            reading_named(verb.as_str()),
-            idl.as_str(),
-            acf.as_str(),
-            op.as_str(),
-            side_named(side.as_str()),
-            order_named(order.as_str()),
+        [verb, first, second, third, fourth, fifth] => six_words(
+            verb.as_str(),
+            first.as_str(),
+            second.as_str(),
+            third.as_str(),
+            fourth.as_str(),
+            fifth.as_str(),
         ),
         [verb, idl, acf, op, side, order, chunk] => {
             if verb.as_str() == "encode" {
@@ -145,7 +163,7 @@ fn command_of_more(words: &[String]) -> Option<Command<'_>>
 #[tactic(auto, using(crate::proofs::FewWords::many_words))]
 fn command_of_most(words: &[String]) -> Option<Command<'_>>
     requires { 8 ≤ length words.now }
-    ensures command { option_map command_of result ≡ command (map string_bytes words.now) }
+    ensures command { option_map command_of result ≡ counted_command_of (map string_bytes words.now) }
     ensures formed { IfSome result IsWellFormed }
 {
     match words {
@@ -175,7 +193,7 @@ fn command_of_most(words: &[String]) -> Option<Command<'_>>
 }
 
 fn short_command(word: &str) -> Option<Command<'_>>
-    ensures command { option_map command_of result ≡ command (word.now ∷ []) }
+    ensures command { option_map command_of result ≡ counted_command_of (word.now ∷ []) }
     ensures formed { IfSome result IsWellFormed }
 {
     if word == "--help" {
@@ -189,7 +207,7 @@ fn short_command(word: &str) -> Option<Command<'_>>
 
 // The command that three words are: one that lists, or `sample`.
 fn three_words<'a>(verb: &str, first: &'a str, second: &'a str) -> Option<Command<'a>>
-    ensures command { option_map command_of result ≡ command (verb.now ∷ first.now ∷ second.now ∷ []) }
+    ensures command { option_map command_of result ≡ counted_command_of (verb.now ∷ first.now ∷ second.now ∷ []) }
     ensures formed { IfSome result IsWellFormed }
 {
     if verb == "sample" {
@@ -203,15 +221,97 @@ fn three_words<'a>(verb: &str, first: &'a str, second: &'a str) -> Option<Comman
 }
 
 // The command that four words are: `call`.
-fn four_words<'a>(verb: &str, idl: &'a str, acf: &'a str, op: &'a str) -> Option<Command<'a>>
-    ensures command { option_map command_of result ≡ command (verb.now ∷ idl.now ∷ acf.now ∷ op.now ∷ []) }
+fn four_words<'a>(
+    verb: &str,
+    first: &'a str,
+    second: &'a str,
+    third: &'a str,
+) -> Option<Command<'a>>
+    ensures command { option_map command_of result ≡ counted_command_of (verb.now ∷ first.now ∷ second.now ∷ third.now ∷ []) }
     ensures formed { IfSome result IsWellFormed }
 {
     if verb == "call" {
         Some(Command::Call {
-            idl,
-            acf: acf_named(acf),
-            op: operation_named(op),
+            idl: first,
+            acf: acf_named(second),
+            op: operation_named(third),
+        })
+    } else {
+        None
+    }
+}
+
+// The command that five words are: `migrate` or `compat`.
+fn five_words<'a>(
+    verb: &str,
+    first: &'a str,
+    second: &'a str,
+    third: &'a str,
+    fourth: &'a str,
+) -> Option<Command<'a>>
+    ensures command { option_map command_of result ≡ counted_command_of (verb.now ∷ first.now ∷ second.now ∷ third.now ∷ fourth.now ∷ []) }
+    ensures formed { IfSome result IsWellFormed }
+{
+    if verb == "migrate" {
+        migrate_command(first, second, third, side_named(fourth))
+    } else if verb == "compat" {
+        Some(Command::Compat {
+            old: first,
+            old_acf: acf_named(second),
+            new: third,
+            new_acf: acf_named(fourth),
+            why: false,
+        })
+    } else {
+        None
+    }
+}
+
+// The command that six words are: `compat` with its last word, or one that reads octets.
+fn six_words<'a>(
+    verb: &str,
+    first: &'a str,
+    second: &'a str,
+    third: &'a str,
+    fourth: &'a str,
+    fifth: &str,
+) -> Option<Command<'a>>
+    ensures command { option_map command_of result
+        ≡ counted_command_of (verb.now ∷ first.now ∷ second.now ∷ third.now ∷ fourth.now ∷ fifth.now ∷ []) }
+    ensures formed { IfSome result IsWellFormed }
+{
+    if verb == "compat" {
+        compat_why_command(first, second, third, fourth, fifth)
+    } else {
+        read_command(
+            reading_named(verb),
+            first,
+            second,
+            third,
+            side_named(fourth),
+            order_named(fifth),
+        )
+    }
+}
+
+// `compat` beside why the interfaces differ, if its last word asks for this.
+fn compat_why_command<'a>(
+    old: &'a str,
+    old_acf: &'a str,
+    new: &'a str,
+    new_acf: &'a str,
+    last: &str,
+) -> Option<Command<'a>>
+    ensures command { option_map command_of result ≡ compat_why_of old.now old_acf.now new.now new_acf.now last.now }
+    ensures formed { IfSome result IsWellFormed }
+{
+    if last == "why" {
+        Some(Command::Compat {
+            old,
+            old_acf: acf_named(old_acf),
+            new,
+            new_acf: acf_named(new_acf),
+            why: true,
         })
     } else {
         None
@@ -230,7 +330,7 @@ fn eight_words<'a>(
     eighth: &'a str,
 ) -> Option<Command<'a>>
     ensures command { option_map command_of result
-        ≡ command (verb.now ∷ idl.now ∷ acf.now ∷ op.now ∷ side.now ∷ order.now ∷ seventh.now ∷ eighth.now ∷ []) }
+        ≡ counted_command_of (verb.now ∷ idl.now ∷ acf.now ∷ op.now ∷ side.now ∷ order.now ∷ seventh.now ∷ eighth.now ∷ []) }
     ensures formed { IfSome result IsWellFormed }
 {
     if verb == "wrap" {
@@ -417,7 +517,7 @@ fn encode_beside_words<'a>(
     text: &'a str,
 ) -> Option<Command<'a>>
     ensures command { option_map command_of result
-        ≡ command (verb.now ∷ idl.now ∷ acf.now ∷ op.now ∷ side.now ∷ order.now ∷ chunk.now ∷ given.now ∷ text.now ∷ []) }
+        ≡ counted_command_of (verb.now ∷ idl.now ∷ acf.now ∷ op.now ∷ side.now ∷ order.now ∷ chunk.now ∷ given.now ∷ text.now ∷ []) }
     ensures formed { IfSome result IsWellFormed }
 {
     if verb == "encode" && given == "given" {
@@ -535,6 +635,7 @@ fn reading_named(word: &str) -> Option<Reading>
         "decode" => Some(Reading::Decode),
         "explain" => Some(Reading::Explain),
         "drain" => Some(Reading::Drain),
+        "trace" => Some(Reading::Trace),
         _ => None,
     }
 }
