@@ -1,9 +1,9 @@
 -- The rows of a run, each for all commands at once: what a status says by itself, and what comes where nothing fails.
-use Rattle.std.specs.Prelude.{◌≡◌, ◌⊎◌, ℕ, ◌+◌, ◌<◌, ◌++◌, Err, length, true, false, List, [], ◌∷◌, codes, decimal, take, option_map, Option, None}
+use Rattle.std.specs.Prelude.{◌≡◌, ◌⊎◌, ℕ, ◌+◌, ◌<◌, ◌++◌, Err, length, true, false, List, [], ◌∷◌, codes, decimal, take, Option, None}
 use Rattle.std.specs.Prelude.{Some, ⊤}
 use Rattle.std.specs.List.{slice_get}
 use Rattle.nd_base.specs.declared.octets.Order.{Order}
-use Rattle.nd_base.specs.Outside.{IsMissing, loaded}
+use Rattle.nd_base.specs.Outside.{IsMissing}
 use Rattle.nd_base.specs.Over.{FilesSeen, SourceSeen, SinkSeen, HasRisen, Got, IsAsBefore}
 use Rattle.nd_types.specs.declared.interface.Interface.{Interface}
 use Rattle.nd_types.specs.declared.types.Operation.{Operation}
@@ -22,11 +22,12 @@ use Rattle.text_grammar.specs.Reads.{ReadsAs, IsTextFault}
 use Rattle.nd_base.specs.Text.{joined}
 use Rattle.dceidl.specs.Causes.{IsMade, IsCause}
 use Rattle.dceidl.specs.Asked.{IsRequestDue, asks_files, asks_input}
+use Rattle.dceidl.specs.Held.{IsHeld, MustBeNoIdl}
 use Rattle.dceidl.specs.Input.{IsLabel}
 use Rattle.command_streams.specs.Input.{AreGiven, IsInput}
 use Rattle.command_text.specs.Fitted.{IsMisfitAt}
 use Rattle.command_text.specs.Request.{beside, IsRequestText, IsRequestFault}
-use Rattle.command_compile.specs.Idl.{Means, IsIdlFault, IsDueFile}
+use Rattle.command_compile.specs.Idl.{Means, IsDueFile}
 use Rattle.command_refusals.specs.Lines.{status_of, line_of}
 use Rattle.rpc_pdu.specs.declared.pdu.Wanted.{Wanted}
 use Rattle.rpc_pdu.specs.Fragments.{Fragments}
@@ -133,10 +134,6 @@ pub record IsSound (x : Seen) (notes : SinkSeen) : Type 0 where
   pub loads : HasRisen x.files.faults → ⊥
   pub reports : HasRisen notes.faults → ⊥
 
--- the contents of files are known, and under this name this content is held, as far as a load gives it
-abbrev pub IsHeld : FilesSeen → List ℕ → List ℕ → Type 0
-IsHeld f name file = (held : List ℕ → Option (List ℕ)) × (f.held ≡ Some held) × (option_map loaded (held name) ≡ Some file)
-
 -- The main file is held, the files mean this interface, it has the operation, and this is its setting.
 pub record IsAccepted (f : FilesSeen) (of : Subject) (w : Setting) : Type 0 where
   pub file : List ℕ
@@ -225,12 +222,6 @@ CanBeDone x (Plan idl acf) = (text : List ℕ) × (i : Interface) × IsHeld x.fi
 CanBeDone x (Sample seed count) = ⊤
 CanBeDone x Help = ⊤
 CanBeDone x Version = ⊤
-
--- the files are refused in this way
-abbrev pub MustBeNoIdl : FilesSeen → List ℕ → Option (List ℕ) → Refusal → Type 0
-MustBeNoIdl f idl acf (BadIdl file line column why) =
-    (text : List ℕ) × IsHeld f idl text × IsIdlFault f.held idl text acf (BadIdl file line column why)
-MustBeNoIdl f idl acf _ = ⊥
 
 -- what a command on values speaks of is refused in this way
 abbrev pub MustBeUnready : FilesSeen → Subject → Refusal → Type 0
