@@ -14,3 +14,4 @@ pub mod Compats
 pub mod Calls
 pub mod Calling
 pub mod Exact
+pub mod Explanations
