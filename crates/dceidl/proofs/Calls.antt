@@ -37,7 +37,7 @@ use Rattle.dceidl.specs.Rows.{IsRefusedAt, IsRefusedCall, IsTrailedCall, IsCallO
 use Rattle.command_streams.specs.Input.{AreGiven}
 use Rattle.command_streams.proofs.OneInput.{split_input}
 use Rattle.dceidl.proofs.OneReading.{IsOctetsCause, read_causes, decoded_cause, refused_value, refused_cause}
-use Rattle.dceidl.proofs.Sides.{legal_side_of}
+use Rattle.nd_grammar.proofs.LegalSides.{interface_side as legal_side_of}
 
 -- ## Two interfaces of one meaning
 

@@ -10,6 +10,8 @@ pub mod OneWriting
 pub mod RoundTrip
 pub mod HeldFiles
 pub mod HeldRequests
+pub mod Compats
 pub mod Calls
 pub mod Calling
 pub mod Exact
+pub mod Explanations

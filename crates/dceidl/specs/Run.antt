@@ -1,10 +1,12 @@
 -- What a run comes to, and how it is written. Nothing here speaks of one command.
-use Rattle.std.specs.Prelude.{◌≡◌, ◌⊎◌, ℕ, List, Option, None, Some, codes}
+use Rattle.std.specs.Prelude.{◌≡◌, ◌⊎◌, ℕ, List, Option, None, Some, codes, ⊤}
 use Rattle.nd_base.specs.Over.{SinkSeen}
 use Rattle.command_streams.specs.Delivery.{IsDelivered}
 use Rattle.dceidl.specs.Asked.{Asks}
-use Rattle.dceidl.specs.Causes.{IsMade, IsCause}
+use Rattle.dceidl.specs.Causes.{IsMade, IsCause, IsUnexplained}
 use Rattle.command_refusals.specs.Lines.{line_of, status_of}
+use Rattle.command_why.specs.Explained.{explained}
+use Rattle.command_why.specs.declared.lookup.Explained.TheVariants.{Found, Nearest}
 use Rattle.dceidl.specs.Seen.{Seen}
 use Rattle.command_line.specs.Words.{Command, command, idl_of, op_of}
 use Rattle.command_refusals.specs.declared.refusal.Refusal.{Refusal}
@@ -22,8 +24,15 @@ pub record IsRefusal (x : Seen) (c : Command) (status : ℕ) (line : List ℕ) :
 abbrev pub IsCommandOutcome : Seen → Command → Outcome → Type 0
 IsCommandOutcome x c (Done made) = IsMade x c made
 IsCommandOutcome x c (Refused status line) = IsRefusal x c status line
-IsCommandOutcome x c (Reported text status line) = ⊥
+IsCommandOutcome x c (Reported text status line) = IsUnexplained c text × (status ≡ 2) × (line ≡ codes "words refused\n")
 IsCommandOutcome x c Wanting = (refusal : Refusal) × IsCause x c refusal
+
+-- what words of `why` come to
+abbrev pub IsExplanation : List (List ℕ) → Outcome → Type 0
+IsExplanation words (Done made) = explained words ≡ Found made
+IsExplanation words (Refused status line) = ⊥
+IsExplanation words (Reported text status line) = (explained words ≡ Nearest text) × (status ≡ 2) × (line ≡ codes "words refused\n")
+IsExplanation words Wanting = ⊤
 
 -- what words come to; None is words that are no command
 abbrev pub IsOutcome : Seen → Option Command → Outcome → Type 0
