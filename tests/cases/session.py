@@ -1,6 +1,6 @@
 """The command `session`: a script over the resources res0.out to res7.out."""
 
-from case import CLOSED, FOLDER, FULL, Case, Folder, OneAtATime, Sparse, lines
+from case import CLOSED, FOLDER, FULL, Case, Folder, OneAtATime, Sparse, commands, lines
 
 ID = "00112233-4455-6677-8899-aabbccddeeff"
 OTHER = "00112233-4455-6677-8899-aabbccddee00"
@@ -60,4 +60,5 @@ CASES = [
     session("full notes", b"x", notes=FULL, status=4),
     session("closed notes", b"", notes=CLOSED),
     Case("session: with a word more", ["session", "x"], notes=lines("words refused"), status=2),
+    *commands("docs/SESSION.md"),
 ]

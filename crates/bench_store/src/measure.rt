@@ -28,16 +28,24 @@ pub(crate) fn measured(rt: &HostRuntime, count: u32) -> io::Result<()>
     let start = Instant::now(rt)?;
     let done = use_many(&mut store, count);
     let spent = start.elapsed(rt)?;
-    println!(rt; "{count} handles: {done} uses, {} ns a use", spent.as_nanos() / u128::from(USES))?;
+    println!(rt;
+        "{count} handles: {done} uses, {} ns a use",
+        spent.as_nanos() / u128::from(USES)
+    )?;
     let start = Instant::now(rt)?;
     let done = reopen_many(&mut store, count);
     let spent = start.elapsed(rt)?;
-    println!(rt; "{count} handles: {done} closes, {} ns a close with an open", spent.as_nanos() / u128::from(REOPENINGS))
+    println!(rt;
+        "{count} handles: {done} closes, {} ns a close with an open",
+        spent.as_nanos() / u128::from(REOPENINGS)
+    )
 }
 
 // The identifier of this number, none of which is nil.
 fn identifier(number: u32) -> Uuid {
-    Uuid::from_u128((u128::from(number) + 1).wrapping_mul(0x9e37_79b9_7f4a_7c15_f39c_c060_5ced_c835))
+    Uuid::from_u128(
+        (u128::from(number) + 1).wrapping_mul(0x9e37_79b9_7f4a_7c15_f39c_c060_5ced_c835),
+    )
 }
 
 // A number below a count, scattered over all of them.
@@ -69,7 +77,10 @@ fn use_many(store: &mut StoreOf<Counter>, count: u32) -> u32
 {
     let mut done = 0u32;
     for at in 0..USES {
-        if store.apply(identifier(scattered(at, count)), b"line").is_ok() {
+        if store
+            .apply(identifier(scattered(at, count)), b"line")
+            .is_ok()
+        {
             done = done.saturating_add(1);
         }
     }

@@ -113,11 +113,7 @@ fn perform<S: Source, R: Resource>(
 }
 
 // Runs a script.
-fn run<R: Resource>(
-    alloc: Global,
-    script: &[u8],
-    stock: &mut StockOf<R>,
-) -> Result<Octets, Refusal>
+fn run<R: Resource>(alloc: Global, script: &[u8], stock: &mut StockOf<R>) -> Result<Octets, Refusal>
     requires fresh { AreFresh (fresh_seen R.shows stock.old) }
     ensures { MatchResult result
         (IsDone script.now (stock_over R.shows stock.old stock.new))

@@ -6,7 +6,8 @@ use Rattle.command_refusals.specs.declared.refusal.Refusal.{Refusal}
 use Rattle.command_streams.specs.Delivery.{IsOneOf, IsCompleted}
 use Rattle.dceidl.specs.Asked.{Asks}
 use Rattle.dceidl.specs.Causes.{statuses_of}
-use Rattle.dceidl.specs.Rows.{IsDone, IsRefused, AreUnknown, tells_refused, ReadsInput, IsDueAndMissing, IsDueAndReported, IsEndReported, HasNotFailed}
+use Rattle.dceidl.specs.Rows.{IsDone, IsRefused, AreUnknown, tells_refused, ReadsInput, IsDueAndMissing, IsDueAndReported, IsEndReported}
+use Rattle.dceidl.specs.Rows.{HasNotFailed}
 use Rattle.dceidl.specs.Rows.{IsSound, CanBeDone, MustBeRefused, Refuses}
 use Rattle.dceidl.specs.Run.{HasRun}
 use Rattle.dceidl.specs.Seen.{Seen}

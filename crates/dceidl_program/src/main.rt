@@ -49,11 +49,7 @@ fn start(rt: HostRuntime) -> Result<Status, Memory> {
 }
 
 // A run over the real streams and files.
-fn run_over(
-    rt: &HostRuntime,
-    ends: &mut PipeEnds,
-    stock: &mut Stock,
-) -> Result<Status, Memory>
+fn run_over(rt: &HostRuntime, ends: &mut PipeEnds, stock: &mut Stock) -> Result<Status, Memory>
     requires open { AreOpen (ends_seen seen ends.old) }
     requires fresh { AreFresh (fresh_seen shows stock.old) }
 {
@@ -100,10 +96,7 @@ fn add(ends: &mut PipeEnds, end: Box<dyn PipeEnd>) -> Result<(), Memory>
 }
 
 // A resource that appends to the file of this name. The file is made when the first line is applied.
-fn file_resource(
-    rt: HostRuntime,
-    name: &str,
-) -> Result<Box<FileResource<HostRuntime>>, Memory>
+fn file_resource(rt: HostRuntime, name: &str) -> Result<Box<FileResource<HostRuntime>>, Memory>
     ensures { IfOk result (λ b. (⟦<FileResource<HostRuntime> as Resource>⟧.shows b.value).ended ≡ false) }
 {
     let name = String::from_str(rt.alloc(), name)?;

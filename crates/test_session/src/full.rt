@@ -19,7 +19,10 @@ fn open_many(store: &mut StoreOf<MemResource>, alloc: Global, count: u32) -> Res
 {
     for at in 0..count {
         let resource = MemResource::new(alloc, 0, &[])?;
-        if store.open(1, Uuid::from_u128(at as u128 + 1), resource).is_err() {
+        if store
+            .open(1, Uuid::from_u128(at as u128 + 1), resource)
+            .is_err()
+        {
             return Err(Memory);
         }
     }

@@ -70,10 +70,7 @@ pub(crate) fn run_session(alloc: Global, script: &[u8], failing: &Failing) -> Re
 }
 
 // One more fresh resource.
-pub(crate) fn supply(
-    stock: &mut StockOf<MemResource>,
-    resource: MemResource,
-) -> Result<(), Memory>
+pub(crate) fn supply(stock: &mut StockOf<MemResource>, resource: MemResource) -> Result<(), Memory>
     requires all { AreFresh (fresh_seen mem_resource_seen stock.old) }
     requires one { was_ended resource ≡ false }
     ensures { IfOk result (λ _. AreFresh (fresh_seen mem_resource_seen stock.new)) }

@@ -46,7 +46,14 @@ fn expect(rt: &impl Abort, alloc: Global, script: &[u8], failing: &Failing, want
 }
 
 // A session that is done, with the calls of resources that fail.
-fn done(rt: &impl Abort, alloc: Global, script: &[u8], resources: [u32; 3], out: &[u8], spent: &[&[u8]]) {
+fn done(
+    rt: &impl Abort,
+    alloc: Global,
+    script: &[u8],
+    resources: [u32; 3],
+    out: &[u8],
+    spent: &[&[u8]],
+) {
     let failing = Failing { resources, ..NONE };
     let wanted = Wanted {
         status: 0,
@@ -77,7 +84,14 @@ open 1 00112233-4455-6677-8899-aabbccddeeff\n\
 use 00112233-4455-6677-8899-aabbccddeeff hi\n\
 down 1\n\
 close 00112233-4455-6677-8899-aabbccddeeff\n";
-    done(&rt, rt.alloc(), script, [0, 0, 0], b"ok\ntwice\nok\nended 1\nunknown\n", &[b"hi\n"]);
+    done(
+        &rt,
+        rt.alloc(),
+        script,
+        [0, 0, 0],
+        b"ok\ntwice\nok\nended 1\nunknown\n",
+        &[b"hi\n"],
+    );
 }
 
 #[test]
@@ -101,18 +115,67 @@ fn no_line_is_a_script(rt: HostRuntime) {
 #[test]
 fn each_call_of_a_resource_fails(rt: HostRuntime) {
     let alloc = rt.alloc();
-    done(&rt, alloc, TWO, [0, 0, 0], b"ok\nok\nok\nok\nok\nok\nended 1\n", &[b"x\n\n", b"y\n"]);
-    done(&rt, alloc, TWO, [1, 0, 0], b"ok\nok\nfailed\nok\nok\nok\nended 1\n", &[b"\n", b"y\n"]);
-    done(&rt, alloc, TWO, [2, 0, 0], b"ok\nok\nok\nok\nfailed\nok\nended 1\n", &[b"x\n", b"y\n"]);
-    done(&rt, alloc, TWO, [3, 0, 0], b"ok\nok\nok\nok\nok\nfailed\nended 1\n", &[b"x\n\n", b"y\n"]);
-    done(&rt, alloc, TWO, [0, 1, 0], b"ok\nok\nok\nfailed\nok\nok\nended 1\n", &[b"x\n\n", b""]);
-    done(&rt, alloc, TWO, [0, 2, 0], b"ok\nok\nok\nok\nok\nok\nended 1\n", &[b"x\n\n", b"y\n"]);
+    done(
+        &rt,
+        alloc,
+        TWO,
+        [0, 0, 0],
+        b"ok\nok\nok\nok\nok\nok\nended 1\n",
+        &[b"x\n\n", b"y\n"],
+    );
+    done(
+        &rt,
+        alloc,
+        TWO,
+        [1, 0, 0],
+        b"ok\nok\nfailed\nok\nok\nok\nended 1\n",
+        &[b"\n", b"y\n"],
+    );
+    done(
+        &rt,
+        alloc,
+        TWO,
+        [2, 0, 0],
+        b"ok\nok\nok\nok\nfailed\nok\nended 1\n",
+        &[b"x\n", b"y\n"],
+    );
+    done(
+        &rt,
+        alloc,
+        TWO,
+        [3, 0, 0],
+        b"ok\nok\nok\nok\nok\nfailed\nended 1\n",
+        &[b"x\n\n", b"y\n"],
+    );
+    done(
+        &rt,
+        alloc,
+        TWO,
+        [0, 1, 0],
+        b"ok\nok\nok\nfailed\nok\nok\nended 1\n",
+        &[b"x\n\n", b""],
+    );
+    done(
+        &rt,
+        alloc,
+        TWO,
+        [0, 2, 0],
+        b"ok\nok\nok\nok\nok\nok\nended 1\n",
+        &[b"x\n\n", b"y\n"],
+    );
 }
 
 #[test]
 fn what_is_live_is_ended_client_by_client(rt: HostRuntime) {
     let out = b"ok\nok\nok\nnone\nok\nok\nok\n";
-    done(&rt, rt.alloc(), OPEN, [0, 0, 0], out, &[b"x\n", b"z\n", b"y\n"]);
+    done(
+        &rt,
+        rt.alloc(),
+        OPEN,
+        [0, 0, 0],
+        out,
+        &[b"x\n", b"z\n", b"y\n"],
+    );
 }
 
 #[test]
@@ -120,18 +183,45 @@ fn a_line_past_the_room_is_a_failure(rt: HostRuntime) {
     let script = b"open 1 00112233-4455-6677-8899-aabbccddeeff\n\
 use 00112233-4455-6677-8899-aabbccddeeff 0123456789abcdef\n\
 use 00112233-4455-6677-8899-aabbccddeeff 0123456789abcde\n";
-    done(&rt, rt.alloc(), script, [0, 0, 0], b"ok\nfailed\nok\n", &[b"0123456789abcde\n"]);
+    done(
+        &rt,
+        rt.alloc(),
+        script,
+        [0, 0, 0],
+        b"ok\nfailed\nok\n",
+        &[b"0123456789abcde\n"],
+    );
 }
 
 #[test]
 fn the_first_line_that_is_none_is_named(rt: HostRuntime) {
     let alloc = rt.alloc();
-    refused(&rt, alloc, b"open 01 00112233-4455-6677-8899-aabbccddeeff\n", b"refused: script 1\n");
+    refused(
+        &rt,
+        alloc,
+        b"open 01 00112233-4455-6677-8899-aabbccddeeff\n",
+        b"refused: script 1\n",
+    );
     refused(&rt, alloc, b"down 1", b"refused: script 1\n");
     refused(&rt, alloc, b"down 1\n\n", b"refused: script 2\n");
-    refused(&rt, alloc, b"down 0\ndown 4294967295\ndown 4294967296\n", b"refused: script 3\n");
-    refused(&rt, alloc, b"use 00112233-4455-6677-8899-aabbccddeeff\n", b"refused: script 1\n");
-    refused(&rt, alloc, b"close 00112233-4455-6677-8899-aabbccddeeff \n", b"refused: script 1\n");
+    refused(
+        &rt,
+        alloc,
+        b"down 0\ndown 4294967295\ndown 4294967296\n",
+        b"refused: script 3\n",
+    );
+    refused(
+        &rt,
+        alloc,
+        b"use 00112233-4455-6677-8899-aabbccddeeff\n",
+        b"refused: script 1\n",
+    );
+    refused(
+        &rt,
+        alloc,
+        b"close 00112233-4455-6677-8899-aabbccddeeff \n",
+        b"refused: script 1\n",
+    );
 }
 
 #[test]
@@ -144,7 +234,13 @@ fn each_fetch_fails(rt: HostRuntime) {
         spent: &[],
     };
     for fetch in 1..5u32 {
-        expect(&rt, rt.alloc(), b"down 1\ndown 2\ndown 3\n", &Failing { fetch, ..NONE }, &wanted);
+        expect(
+            &rt,
+            rt.alloc(),
+            b"down 1\ndown 2\ndown 3\n",
+            &Failing { fetch, ..NONE },
+            &wanted,
+        );
     }
 }
 
@@ -163,7 +259,17 @@ fn the_output_fails(rt: HostRuntime) {
         notes: b"write",
         ..wanted
     };
-    expect(&rt, rt.alloc(), TWO, &Failing { out_room: 4, notes_room: 5, ..NONE }, &cut);
+    expect(
+        &rt,
+        rt.alloc(),
+        TWO,
+        &Failing {
+            out_room: 4,
+            notes_room: 5,
+            ..NONE
+        },
+        &cut,
+    );
 }
 
 #[test]
@@ -175,6 +281,24 @@ fn the_notes_fail(rt: HostRuntime) {
         fresh: 3,
         spent: &[],
     };
-    expect(&rt, rt.alloc(), b"x", &Failing { notes_room: 9, ..NONE }, &wanted);
-    expect(&rt, rt.alloc(), b"x", &Failing { note: 1, ..NONE }, &Wanted { notes: b"", ..wanted });
+    expect(
+        &rt,
+        rt.alloc(),
+        b"x",
+        &Failing {
+            notes_room: 9,
+            ..NONE
+        },
+        &wanted,
+    );
+    expect(
+        &rt,
+        rt.alloc(),
+        b"x",
+        &Failing { note: 1, ..NONE },
+        &Wanted {
+            notes: b"",
+            ..wanted
+        },
+    );
 }
