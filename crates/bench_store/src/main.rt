@@ -1,4 +1,5 @@
-//! Measures a store of resources: so many are live, and it says how many nanoseconds a use takes, and a close with an open. Each resource only counts its lines.
+//! Measures a store of resources: so many are live, and it says how many nanoseconds a use takes, and a close with an open. Each resource only counts
+//! its lines.
 #![tactic(auto)]
 
 mod counter;

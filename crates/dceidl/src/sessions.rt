@@ -27,8 +27,8 @@ use std::alloc::Global;
 
 /// Runs a command line with a stock of resources, and returns the exit status.
 ///
-/// The one word `session` runs the script on the input over the stock, as [`session`](command_session::session) says: no file is asked for, and the ends
-/// are as before. With all other words it does what [`run`](crate::run) does, and the stock is as before.
+/// The one word `session` runs the script on the input over the stock, as [`session`](command_session::session) says: no file is asked for, and the
+/// ends are as before. With all other words it does what [`run`](crate::run) does, and the stock is as before.
 ///
 /// No end may be finished before, and no fresh resource ended.
 pub fn run_with<F: Files, S: Source, K: Sink, N: Sink>(
