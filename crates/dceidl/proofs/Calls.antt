@@ -33,8 +33,9 @@ use Rattle.command_refusals.specs.declared.refusal.Refusal.{Refusal}
 use Rattle.command_refusals.specs.declared.refusal.Refusal.TheVariants.{Memory, Absent, FileFailed, BadIdl, NoOperation, ReadFault, BadOctets, BadText, BadValue}
 use Rattle.command_refusals.specs.declared.refusal.Refusal.TheVariants.{TooLong, BadRequest, BadLabel, ShortLabel, TooFewEnds, EndFailed}
 use Rattle.command_refusals.specs.declared.refusal.Refusal.TheVariants.{BadPdu, NotCompatible, BadScript, LongScript}
-use Rattle.dceidl.specs.Rows.{AreGiven, IsRefusedAt, IsRefusedCall, IsTrailedCall, IsCallOfNone}
-use Rattle.dceidl.proofs.OneInput.{split_input}
+use Rattle.dceidl.specs.Rows.{IsRefusedAt, IsRefusedCall, IsTrailedCall, IsCallOfNone}
+use Rattle.command_streams.specs.Input.{AreGiven}
+use Rattle.command_streams.proofs.OneInput.{split_input}
 use Rattle.dceidl.proofs.OneReading.{IsOctetsCause, read_causes, decoded_cause, refused_value, refused_cause}
 use Rattle.nd_grammar.proofs.LegalSides.{interface_side as legal_side_of}
 
