@@ -111,7 +111,7 @@ pub fn encode_undoes_decode()
 /// What `wrap` writes is what `call` reads: the fragments of one call, with the order and the call id that it was given, the operation of the interface,
 /// and as stub data the octets that were encoded.
 pub fn call_undoes_wrap()
-    ensures is_call { (f : FilesSeen) (s : SourceSeen) (of : Subject) (order : Order) (call max : ℕ) (made : List ℕ)
+    ensures { (f : FilesSeen) (s : SourceSeen) (of : Subject) (order : Order) (call max : ℕ) (made : List ℕ)
         → call < 2 ^ 32 → LEAST_MAX ≤ max → max < 2 ^ 16 → (h : IsWrapped f s of order call max made)
         → IsCall h.interface (stated_for of.side h.number) made order call h.operation h.stub }
 {
