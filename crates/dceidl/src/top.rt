@@ -31,9 +31,6 @@ use std::alloc::Global;
 /// The command line is not valid.
 pub(crate) const WORDS_REFUSED: Status = 2;
 
-// The line of a command line that is not valid.
-const WORDS_LINE: &[u8] = b"words refused\n";
-
 /// Runs a command line and returns the exit status.
 ///
 /// `--help` and `--version` write their text to `out`, and `sample` the summary of a sample, as no words do. The other commands load the interface
@@ -184,7 +181,7 @@ fn explanation(alloc: Global, words: &[String]) -> Outcome
     match explain(alloc, words) {
         Ok(Explained::Found(text)) => Outcome::Done(text),
         Ok(Explained::Nearest(text)) => {
-            let Ok(line) = Octets::copy(alloc, WORDS_LINE) else {
+            let Ok(line) = Octets::copy(alloc, b"words refused\n") else {
                 return Outcome::Wanting;
             };
             Outcome::Reported {
@@ -214,7 +211,7 @@ fn performed<F: Files, S: Source, E: PipeEnd>(
         (ends_over E.seen ends.old ends.new)) (counted_command words.now) result }
 {
     match words.command() {
-        None => refused(alloc, WORDS_REFUSED, WORDS_LINE),
+        None => refused(alloc, WORDS_REFUSED, b"words refused\n"),
         Some(command) => match perform(alloc, command, files, input, ends) {
             Ok(made) => Outcome::Done(made),
             Err(refusal) => refused_command(alloc, command, &refusal),
