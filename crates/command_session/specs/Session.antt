@@ -22,8 +22,8 @@ pub record SessionSeen : Type 0 where
 abbrev pub session_over : SourceSeen → StockSeen → SessionSeen
 session_over s k = record { input = s; stock = k }
 
--- The input was read to its end and is a script. Its lines were done one after the other with these answers, and then all that was live was ended. Each
--- resource of the stock is accounted for. The text is the answers, a line each.
+-- The input was read to its end and is a script. Its lines were done one after the other with these answers, and then all that was live was ended.
+-- Each resource of the stock is accounted for. The text is the answers, a line each.
 pub record IsSessionDone (x : SessionSeen) (made : List ℕ) : Type 0 where
   pub script : List ℕ
   pub taken : Consumes x.input.left x.input.left_now script

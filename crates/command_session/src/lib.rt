@@ -1,6 +1,6 @@
 //! The command `session`: a script on the input opens, uses and ends the resources of a stock, under the identifiers of context handles.
 #![tactic(auto)]
 
-mod session;
+mod running;
 
-pub use session::session;
+pub use running::session;

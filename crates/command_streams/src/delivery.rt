@@ -18,8 +18,8 @@ pub const WRITE_FAILED: Status = 4;
 /// Out of memory.
 pub const OUT_OF_MEMORY: Status = 5;
 
-/// A refusal with its status and line, `idl` and `op` as [`line`](command_refusals::line) has them. Takes memory for the line; without it the outcome is
-/// `Wanting`.
+/// A refusal with its status and line, `idl` and `op` as [`line`](command_refusals::line) has them. Takes memory for the line; without it the outcome
+/// is `Wanting`.
 pub fn refusal_outcome(alloc: Global, idl: &str, op: &str, refusal: &Refusal) -> Outcome
     ensures { (result ≡ Outcome.Refused (status_of refusal.now) (line_of idl.now op.now refusal.now)) ⊎ (result ≡ Outcome.Wanting) }
 {

@@ -5,7 +5,7 @@ use Rattle.command_streams.specs.Input.{AreRead}
 use Rattle.ctx_session.specs.declared.TheConstants.{SCRIPT_LIMIT}
 use Rattle.ctx_session.specs.Outcome.{stock_over}
 use Rattle.command_session.proofs.Ends.{unread, ran}
-use Rattle.command_session.proofs.session.perform.Goals as goal
+use Rattle.command_session.proofs.running.perform.Goals as goal
 
 pub returns-in_err-script : goal.returns-in_err-script
 returns-in_err-script g c =
