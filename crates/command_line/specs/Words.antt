@@ -1,5 +1,5 @@
 -- The commands that the words of a command line are.
-use Rattle.std.specs.Prelude.{ℕ, Bool, true, false, ◌&&◌, nat_le, List, [], ◌∷◌, Option, None, Some, if◌then◌else◌, nat_eq, codes, decimal}
+use Rattle.std.specs.Prelude.{ℕ, Bool, false, ◌&&◌, nat_le, List, [], ◌∷◌, Option, None, Some, if◌then◌else◌, nat_eq, codes, decimal}
 use Rattle.std.specs.Cmp.Lexicographic.{pointwise}
 use Rattle.std.specs.Str.Parse.{digits_value}
 use Rattle.nd_base.specs.declared.octets.Order.{Order}
@@ -8,7 +8,7 @@ use Rattle.nd_types.specs.declared.types.Side.{Side}
 use Rattle.nd_types.specs.declared.types.Side.TheVariants.{In, Out}
 use Rattle.command_line.specs.declared.TheConstants.{CHUNK_LIMIT, COUNT_LIMIT, LEAST_MAX}
 use Rattle.command_line.specs.declared.command.Reading.{Reading}
-use Rattle.command_line.specs.declared.command.Reading.TheVariants.{Decode, Explain, Drain, Trace}
+use Rattle.command_line.specs.declared.command.Reading.TheVariants.{Decode, Explain, Drain}
 use Rattle.command_line.specs.declared.command.OrderWord.{OrderWord}
 use Rattle.command_line.specs.declared.command.OrderWord.TheVariants.{Fixed, Label}
 use Rattle.command_line.specs.declared.command.Task.{Task}
@@ -33,8 +33,8 @@ pub data Command : Type 0 where
   Call : (idl : List ℕ) (acf : Option (List ℕ)) (op : Option (List ℕ)) → Command
   -- the input's text is read, and its octets are written as the stub data of fragments, with a call id and so many octets each at most
   Wrap : (of : Subject) (order : Order) (call max : ℕ) → Command
-  -- two versions of an interface are compared, and if asked why they are not compatible, the first place where they differ is written
-  Compat : (old : List ℕ) (old_acf : Option (List ℕ)) (new : List ℕ) (new_acf : Option (List ℕ)) (why : Bool) → Command
+  -- two versions of an interface are compared
+  Compat : (old : List ℕ) (old_acf : Option (List ℕ)) (new : List ℕ) (new_acf : Option (List ℕ)) → Command
   -- what these words of a refusal mean is written
   Why : (words : List (List ℕ)) → Command
   -- a graph of so many cells, made from a seed, is encoded and decoded
@@ -51,9 +51,14 @@ idl_of (Call idl acf op) = idl
 idl_of (Wrap of order call max) = of.idl
 idl_of _ = []
 
+-- a name, or nothing if there is none
+abbrev pub name_in : Option (List ℕ) → List ℕ
+name_in None = []
+name_in (Some name) = name
+
 abbrev pub op_of : Command → List ℕ
 op_of (Values task of given) = of.op
-op_of (Call idl acf (Some op)) = op
+op_of (Call idl acf op) = name_in op
 op_of (Wrap of order call max) = of.op
 op_of _ = []
 
@@ -94,8 +99,7 @@ abbrev pub reading_of : List ℕ → Option Reading
 reading_of word =
     if is_word word (codes "decode") then Some Decode
     else if is_word word (codes "explain") then Some Explain
-    else if is_word word (codes "drain") then Some Drain
-    else if is_word word (codes "trace") then Some Trace else None
+    else if is_word word (codes "drain") then Some Drain else None
 
 -- the side that a word names
 abbrev pub side_of : List ℕ → Option Side
@@ -173,19 +177,14 @@ listing verb idl acf =
     if is_word verb (codes "compile") then Some (Compile idl (acf_of acf))
     else if is_word verb (codes "plan") then Some (Plan idl (acf_of acf)) else None
 
--- `compat` beside why the interfaces differ, if its last word asks for this
-abbrev pub compat_why : List ℕ → List ℕ → List ℕ → List ℕ → List ℕ → Option Command
-compat_why old old_acf new new_acf last =
-    if is_word last (codes "why") then Some (Compat old (acf_of old_acf) new (acf_of new_acf) true) else None
-
 -- `sample`, if its words are a seed and a count
 abbrev pub sample : Option ℕ → Option ℕ → Option Command
 sample (Some seed) (Some count) = Some (Sample seed count)
 sample _ _ = None
 
--- The command that words are by their number, if they are one: `compile IDL ACF`, `plan IDL ACF`, `sample SEED COUNT`, `call IDL ACF OP` or `call IDL ACF -`,
--- `migrate IDL ACF OP SIDE`, `compat OLD OLDACF NEW NEWACF`, the same with `why` as its last word, `decode IDL ACF OP SIDE ORDER`,
--- `decode IDL ACF OP out ORDER given TEXT`, the same of `explain`, `drain` and `trace`, `encode IDL ACF OP SIDE ORDER CHUNK`,
+-- The command that words are by their number, if they are one: `compile IDL ACF`, `plan IDL ACF`, `sample SEED COUNT`,
+-- `call IDL ACF OP` or `call IDL ACF -`, `migrate IDL ACF OP SIDE`, `compat OLD OLDACF NEW NEWACF`, `decode IDL ACF OP SIDE ORDER`,
+-- `decode IDL ACF OP out ORDER given TEXT`, the same of `explain` and `drain`, `encode IDL ACF OP SIDE ORDER CHUNK`,
 -- `encode IDL ACF OP out ORDER CHUNK given TEXT`, `wrap IDL ACF OP SIDE ORDER CALL MAX`, `--help` or `--version`.
 -- No words are `sample 1 2`.
 abbrev pub counted_command : List (List ℕ) → Option Command
@@ -199,10 +198,8 @@ counted_command (verb ∷ first ∷ second ∷ third ∷ []) =
     if is_word verb (codes "call") then Some (Call first (acf_of second) (operation_of third)) else None
 counted_command (verb ∷ first ∷ second ∷ third ∷ fourth ∷ []) =
     if is_word verb (codes "migrate") then migrate first second third (side_of fourth)
-    else if is_word verb (codes "compat") then Some (Compat first (acf_of second) third (acf_of fourth) false) else None
-counted_command (verb ∷ first ∷ second ∷ third ∷ fourth ∷ fifth ∷ []) =
-    if is_word verb (codes "compat") then compat_why first second third fourth fifth
-    else read (reading_of verb) first second third (side_of fourth) (order_of fifth)
+    else if is_word verb (codes "compat") then Some (Compat first (acf_of second) third (acf_of fourth)) else None
+counted_command (how ∷ idl ∷ acf ∷ op ∷ side ∷ order ∷ []) = read (reading_of how) idl acf op (side_of side) (order_of order)
 counted_command (verb ∷ idl ∷ acf ∷ op ∷ side ∷ order ∷ chunk ∷ []) =
     if is_word verb (codes "encode") then encode idl acf op (side_of side) (order_of order) (chunk_of chunk) else None
 counted_command (verb ∷ idl ∷ acf ∷ op ∷ side ∷ order ∷ seventh ∷ eighth ∷ []) =
@@ -213,10 +210,18 @@ counted_command (verb ∷ idl ∷ acf ∷ op ∷ side ∷ order ∷ chunk ∷ gi
     then encode_beside idl acf op (side_of side) (order_of order) (chunk_of chunk) text else None
 counted_command _ = None
 
+-- the words after `why`, if it is the first
+abbrev pub why_words : List (List ℕ) → Option (List (List ℕ))
+why_words [] = None
+why_words (verb ∷ rest) = if is_word verb (codes "why") then Some rest else None
+
+abbrev pub command_or_why : Option (List (List ℕ)) → List (List ℕ) → Option Command
+command_or_why (Some words) all = Some (Why words)
+command_or_why None all = counted_command all
+
 -- The command that words are, if they are one: `why WORD ..`, or else the command by their number.
 abbrev pub command : List (List ℕ) → Option Command
-command [] = counted_command []
-command (verb ∷ rest) = if is_word verb (codes "why") then Some (Why rest) else counted_command (verb ∷ rest)
+command words = command_or_why (why_words words) words
 
 -- the one word that runs a script over resources, and is no command
 abbrev pub is_session : List (List ℕ) → Bool

@@ -14,8 +14,6 @@ pub enum Reading {
     Explain,
     /// The elements of their pipes go to ends, and the text of the values is written with empty pipes.
     Drain,
-    /// A line for each item of their stream is written, and if they are refused, for each item before the place and one line of the place itself.
-    Trace,
 }
 
 /// The order of octets that a command names.
@@ -62,7 +60,7 @@ pub struct Subject<'a> {
     pub side: Side,
 }
 
-/// What a command line asks for.
+/// What a command line asks for, unless it is `why`.
 #[derive(Clone, Copy)]
 pub enum Command<'a> {
     /// Something is done with the values of the input.
@@ -104,12 +102,6 @@ pub enum Command<'a> {
         old_acf: Option<&'a str>,
         new: &'a str,
         new_acf: Option<&'a str>,
-        /// Whether the first place where they differ is written, if they do.
-        why: bool,
-    },
-    /// What words of a refusal mean is written.
-    Why {
-        words: &'a [String],
     },
     /// A sample of so many cells, made from a seed, is encoded and decoded.
     Sample {

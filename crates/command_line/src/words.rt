@@ -1,9 +1,10 @@
 // The words of a command line, and the command that they are.
 ghost use Rattle.std.specs.Prelude.{◌≡◌, ◌≤◌, ◌<◌, [], ◌∷◌, ◌++◌, length, map, OnOk, OnErr, IfSome, option_map};
 ghost use Rattle.std.specs.String.{string_bytes};
-ghost use Rattle.command_line.specs.Words.{command, counted_command as counted_command_of, acf_of, order_of, side_of, reading_of, read as read_of, read_beside as read_beside_of};
+ghost use Rattle.command_line.specs.Words.{counted_command, why_words, acf_of, order_of, side_of, reading_of};
+ghost use Rattle.command_line.specs.Words.{read as read_of, read_beside as read_beside_of};
 ghost use Rattle.command_line.specs.Words.{encode as encode_of, encode_beside as encode_beside_of, migrate as migrate_of, sample as sample_of};
-ghost use Rattle.command_line.specs.Words.{listing as listing_of, subject as subject_by, compat_why as compat_why_of};
+ghost use Rattle.command_line.specs.Words.{listing as listing_of, subject as subject_by};
 ghost use Rattle.command_line.specs.Words.{is_session as is_session_of, operation_of, fixed_order_of, wrap as wrap_of};
 ghost use Rattle.command_line.specs.Words.{read_beside_words as read_beside_words_of};
 ghost use Rattle.command_line.specs.declared.TheConstants.{COUNT_LIMIT, LEAST_MAX};
@@ -65,35 +66,40 @@ impl Words {
         }
     }
 
-    /// The command that the words are, or None if they are none. Takes no memory.
+    /// The words after `why`, or None if it is not the first word. Takes no memory.
+    pub fn why(&self) -> Option<&[String]>
+        ensures { option_map (λ words. map string_bytes words.now) result ≡ why_words self.now }
+    {
+        words_after_why(self.items.as_slice())
+    }
+
+    /// The command that the words are by their number, or None if they are none. Takes no memory.
     pub fn command(&self) -> Option<Command<'_>>
-        ensures command { option_map command_of result ≡ command self.now }
+        ensures command { option_map command_of result ≡ counted_command self.now }
         ensures formed { IfSome result IsWellFormed }
     {
-        command_of_words(self.items.as_slice())
+        let words = self.items.as_slice();
+        match words.len() {
+            0..=5 => command_of_few(words),
+            6 | 7 => command_of_more(words),
+            _ => command_of_most(words),
+        }
     }
 }
 
-// The command that words are.
-fn command_of_words(words: &[String]) -> Option<Command<'_>>
-    ensures command { option_map command_of result ≡ command (map string_bytes words.now) }
-    ensures formed { IfSome result IsWellFormed }
+// The words after `why`, if it is the first.
+fn words_after_why(words: &[String]) -> Option<&[String]>
+    ensures { option_map (λ rest. map string_bytes rest.now) result ≡ why_words (map string_bytes words.now) }
 {
     match words {
-        [verb, rest @ ..] if verb.as_str() == "why" => Some(Command::Why { words: rest }),
-        _ => counted_command(words),
-    }
-}
-
-// The command that words are by their number.
-fn counted_command(words: &[String]) -> Option<Command<'_>>
-    ensures command { option_map command_of result ≡ counted_command_of (map string_bytes words.now) }
-    ensures formed { IfSome result IsWellFormed }
-{
-    match words.len() {
-        0..=5 => command_of_few(words),
-        6 | 7 => command_of_more(words),
-        _ => command_of_most(words),
+        [verb, rest @ ..] => {
+            if verb.as_str() == "why" {
+                Some(rest)
+            } else {
+                None
+            }
+        }
+        [] => None,
     }
 }
 
@@ -101,7 +107,7 @@ fn counted_command(words: &[String]) -> Option<Command<'_>>
 #[tactic(auto, using(crate::proofs::FewWords::two_words))]
 fn command_of_few(words: &[String]) -> Option<Command<'_>>
     requires { length words.now ≤ 5 }
-    ensures command { option_map command_of result ≡ counted_command_of (map string_bytes words.now) }
+    ensures command { option_map command_of result ≡ counted_command (map string_bytes words.now) }
     ensures formed { IfSome result IsWellFormed }
 {
     match words {
@@ -129,17 +135,17 @@ fn command_of_few(words: &[String]) -> Option<Command<'_>>
 fn command_of_more(words: &[String]) -> Option<Command<'_>>
     requires least { 6 ≤ length words.now }
     requires most { length words.now ≤ 7 }
-    ensures command { option_map command_of result ≡ counted_command_of (map string_bytes words.now) }
+    ensures command { option_map command_of result ≡ counted_command (map string_bytes words.now) }
     ensures formed { IfSome result IsWellFormed }
 {
     match words {
-        [verb, first, second, third, fourth, fifth] => six_words(
-            verb.as_str(),
-            first.as_str(),
-            second.as_str(),
-            third.as_str(),
-            fourth.as_str(),
-            fifth.as_str(),
+        [verb, idl, acf, op, side, order] => read_command(
+            reading_named(verb.as_str()),
+            idl.as_str(),
+            acf.as_str(),
+            op.as_str(),
+            side_named(side.as_str()),
+            order_named(order.as_str()),
         ),
         [verb, idl, acf, op, side, order, chunk] => {
             if verb.as_str() == "encode" {
@@ -163,7 +169,7 @@ fn command_of_more(words: &[String]) -> Option<Command<'_>>
 #[tactic(auto, using(crate::proofs::FewWords::many_words))]
 fn command_of_most(words: &[String]) -> Option<Command<'_>>
     requires { 8 ≤ length words.now }
-    ensures command { option_map command_of result ≡ counted_command_of (map string_bytes words.now) }
+    ensures command { option_map command_of result ≡ counted_command (map string_bytes words.now) }
     ensures formed { IfSome result IsWellFormed }
 {
     match words {
@@ -193,7 +199,7 @@ fn command_of_most(words: &[String]) -> Option<Command<'_>>
 }
 
 fn short_command(word: &str) -> Option<Command<'_>>
-    ensures command { option_map command_of result ≡ counted_command_of (word.now ∷ []) }
+    ensures command { option_map command_of result ≡ counted_command (word.now ∷ []) }
     ensures formed { IfSome result IsWellFormed }
 {
     if word == "--help" {
@@ -207,7 +213,7 @@ fn short_command(word: &str) -> Option<Command<'_>>
 
 // The command that three words are: one that lists, or `sample`.
 fn three_words<'a>(verb: &str, first: &'a str, second: &'a str) -> Option<Command<'a>>
-    ensures command { option_map command_of result ≡ counted_command_of (verb.now ∷ first.now ∷ second.now ∷ []) }
+    ensures command { option_map command_of result ≡ counted_command (verb.now ∷ first.now ∷ second.now ∷ []) }
     ensures formed { IfSome result IsWellFormed }
 {
     if verb == "sample" {
@@ -227,7 +233,7 @@ fn four_words<'a>(
     second: &'a str,
     third: &'a str,
 ) -> Option<Command<'a>>
-    ensures command { option_map command_of result ≡ counted_command_of (verb.now ∷ first.now ∷ second.now ∷ third.now ∷ []) }
+    ensures command { option_map command_of result ≡ counted_command (verb.now ∷ first.now ∷ second.now ∷ third.now ∷ []) }
     ensures formed { IfSome result IsWellFormed }
 {
     if verb == "call" {
@@ -249,7 +255,7 @@ fn five_words<'a>(
     third: &'a str,
     fourth: &'a str,
 ) -> Option<Command<'a>>
-    ensures command { option_map command_of result ≡ counted_command_of (verb.now ∷ first.now ∷ second.now ∷ third.now ∷ fourth.now ∷ []) }
+    ensures command { option_map command_of result ≡ counted_command (verb.now ∷ first.now ∷ second.now ∷ third.now ∷ fourth.now ∷ []) }
     ensures formed { IfSome result IsWellFormed }
 {
     if verb == "migrate" {
@@ -260,58 +266,6 @@ fn five_words<'a>(
             old_acf: acf_named(second),
             new: third,
             new_acf: acf_named(fourth),
-            why: false,
-        })
-    } else {
-        None
-    }
-}
-
-// The command that six words are: `compat` with its last word, or one that reads octets.
-fn six_words<'a>(
-    verb: &str,
-    first: &'a str,
-    second: &'a str,
-    third: &'a str,
-    fourth: &'a str,
-    fifth: &str,
-) -> Option<Command<'a>>
-    ensures command { option_map command_of result
-        ≡ counted_command_of (verb.now ∷ first.now ∷ second.now ∷ third.now ∷ fourth.now ∷ fifth.now ∷ []) }
-    ensures formed { IfSome result IsWellFormed }
-{
-    if verb == "compat" {
-        compat_why_command(first, second, third, fourth, fifth)
-    } else {
-        read_command(
-            reading_named(verb),
-            first,
-            second,
-            third,
-            side_named(fourth),
-            order_named(fifth),
-        )
-    }
-}
-
-// `compat` beside why the interfaces differ, if its last word asks for this.
-fn compat_why_command<'a>(
-    old: &'a str,
-    old_acf: &'a str,
-    new: &'a str,
-    new_acf: &'a str,
-    last: &str,
-) -> Option<Command<'a>>
-    ensures command { option_map command_of result ≡ compat_why_of old.now old_acf.now new.now new_acf.now last.now }
-    ensures formed { IfSome result IsWellFormed }
-{
-    if last == "why" {
-        Some(Command::Compat {
-            old,
-            old_acf: acf_named(old_acf),
-            new,
-            new_acf: acf_named(new_acf),
-            why: true,
         })
     } else {
         None
@@ -330,7 +284,7 @@ fn eight_words<'a>(
     eighth: &'a str,
 ) -> Option<Command<'a>>
     ensures command { option_map command_of result
-        ≡ counted_command_of (verb.now ∷ idl.now ∷ acf.now ∷ op.now ∷ side.now ∷ order.now ∷ seventh.now ∷ eighth.now ∷ []) }
+        ≡ counted_command (verb.now ∷ idl.now ∷ acf.now ∷ op.now ∷ side.now ∷ order.now ∷ seventh.now ∷ eighth.now ∷ []) }
     ensures formed { IfSome result IsWellFormed }
 {
     if verb == "wrap" {
@@ -517,7 +471,7 @@ fn encode_beside_words<'a>(
     text: &'a str,
 ) -> Option<Command<'a>>
     ensures command { option_map command_of result
-        ≡ counted_command_of (verb.now ∷ idl.now ∷ acf.now ∷ op.now ∷ side.now ∷ order.now ∷ chunk.now ∷ given.now ∷ text.now ∷ []) }
+        ≡ counted_command (verb.now ∷ idl.now ∷ acf.now ∷ op.now ∷ side.now ∷ order.now ∷ chunk.now ∷ given.now ∷ text.now ∷ []) }
     ensures formed { IfSome result IsWellFormed }
 {
     if verb == "encode" && given == "given" {
@@ -635,7 +589,6 @@ fn reading_named(word: &str) -> Option<Reading>
         "decode" => Some(Reading::Decode),
         "explain" => Some(Reading::Explain),
         "drain" => Some(Reading::Drain),
-        "trace" => Some(Reading::Trace),
         _ => None,
     }
 }

@@ -23,7 +23,8 @@ use Rattle.command_compile.proofs.OneInterface.{one_interface}
 use Rattle.command_compat.specs.Compat.{first_part, second_part, AfterFirst, IsFilesCause, IsDifferent, IsCompatible, IsNotCompatible, IsCompatCause, fault_of}
 use Rattle.dceidl.specs.Held.{IsHeld, IsHeldInterface, MustBeNoIdl}
 use Rattle.dceidl.specs.Compat.{CanBeCompared, AreHeld, MustBeIncomparable, IsDueSecond}
-use Rattle.dceidl.specs.Rows.{IsOneOf, IsDueOf}
+use Rattle.command_streams.specs.Delivery.{IsOneOf}
+use Rattle.dceidl.specs.Rows.{IsDueOf}
 use Rattle.dceidl.proofs.HeldFiles.{compiled_cause, no_idl, no_idl_cause, means_here}
 
 abbrev Contents : Type 0
@@ -183,8 +184,8 @@ compiled_is f p same named i j h c =
     let (held, told, there) = h.held in
     let own : IsHeld p named.idl h.file = (held, same ∙ told, there) in
     one_interface held named.idl h.file named.acf j i
-        (subst (λ (k : Contents). Means k named.idl h.file named.acf j) (same ∙ told) (means_here p named.idl h.file named.acf own j c))
-        (subst (λ (k : Contents). Means k named.idl h.file named.acf i) told h.means)
+    (subst (λ (k : Contents). Means k named.idl h.file named.acf j) (same ∙ told) (means_here p named.idl h.file named.acf own j c))
+    (subst (λ (k : Contents). Means k named.idl h.file named.acf i) told h.means)
 
 module _ (f : FilesSeen) (old new : FileNames) where
   -- the causes: memory, the files, and the comparison

@@ -3,7 +3,6 @@ pub mod Encodings
 pub mod Requests
 pub mod Rows
 pub mod Sides
-pub mod OneInput
 pub mod Labels
 pub mod OneReading
 pub mod Drains
@@ -15,3 +14,5 @@ pub mod Compats
 pub mod Calls
 pub mod Calling
 pub mod Exact
+pub mod Explanations
+pub mod WrappedCalls

@@ -6,8 +6,7 @@ use Rattle.std.proofs.lemmas.Bool.{leb-true, leb-false}
 use Rattle.std.specs.Prelude.{leb, Bool, true, false}
 use Rattle.std.specs.Io.KnownBytes.{Consumes, IsAtEnd}
 use Rattle.nd_base.specs.Over.{SourceSeen}
-use Rattle.dceidl.specs.Input.{AreRead}
-use Rattle.dceidl.specs.Rows.{IsInput, AreGiven}
+use Rattle.command_streams.specs.Input.{AreRead, IsInput, AreGiven}
 use Rattle.nd_lemmas.proofs.Lists.{take_front}
 
 -- the octets that were read are those of the input that count
