@@ -260,10 +260,10 @@ def needs_program(case: AnyCase) -> bool:
 
 
 def build(program: str) -> Optional[str]:
-    """Has bin/dceidl build the program; what it said if it could not."""
+    """Has bin/dceidl build the program, which says on standard error how far it is; what to report if it could not."""
     print("building the program if it is older than its sources ..", flush=True)
-    built = subprocess.run([program, "--version"], stdin=subprocess.DEVNULL, capture_output=True)
-    return None if built.returncode == 0 else built.stderr.decode("utf-8", "backslashreplace")
+    built = subprocess.run([program, "--version"], stdin=subprocess.DEVNULL, stdout=subprocess.DEVNULL)
+    return None if built.returncode == 0 else f"its status was {built.returncode}; what it said is above"
 
 
 def main() -> int:

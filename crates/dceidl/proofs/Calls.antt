@@ -203,7 +203,7 @@ module _ (i : Interface) (number : Option ℕ) (octets : List ℕ) where
 
 module _ (s : SourceSeen) (octets : List ℕ) (given : AreGiven s octets) (i : Interface) (number : Option ℕ) where
   -- all octets that were read are those of the input
-  own_is : (own : List ℕ) → IsWhole s own → own ≡ octets
+  pub own_is : (own : List ℕ) → IsWhole s own → own ≡ octets
   own_is own whole =
       let (rest, now, all) = split_input s octets own given whole.taken in
       let none : rest ≡ [] = subst IsAtEnd now whole.none_left in

@@ -15,3 +15,4 @@ pub mod Calls
 pub mod Calling
 pub mod Exact
 pub mod Explanations
+pub mod WrappedCalls

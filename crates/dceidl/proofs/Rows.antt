@@ -80,7 +80,7 @@ module _ (x : Seen) (out notes : SinkSeen) (c : Command) (status : ℕ) where
   by_outcome (Reported text own line) (nearest, two, same) (inl (given, inl (is, told))) =
       ended_unknown (is ∙ two) text nearest given (subst (Got notes) same told)
   by_outcome (Reported text own line) r (inl (given, inr (is, rose, some))) = ended_unreported is rose
-  by_outcome (Reported text own line) (nearest, two, same) (inr (is, rose, some)) = ended_untold is rose text nearest
+  by_outcome (Reported text own line) (nearest, two, same) (inr (is, rose, some, warned)) = ended_untold is rose text nearest
   by_outcome Wanting caused (before, inl (is, told)) = ended_wanting is
   by_outcome Wanting caused (before, inr (is, rose, some)) = ended_unreported is rose
 

@@ -122,7 +122,8 @@ IsDueRequest held _ name = ⊥
 
 -- a file that is due only once files mean an interface: the text of a request, or a file of a second interface
 abbrev pub IsDueNext : Option (List ℕ → Option (List ℕ)) → Command → List ℕ → Type 0
-IsDueNext held (Compat old old_acf new new_acf) name = IsDueSecond held (record { idl = old; acf = old_acf }) (record { idl = new; acf = new_acf }) name
+IsDueNext held (Compat old old_acf new new_acf) name =
+    IsDueSecond held (record { idl = old; acf = old_acf }) (record { idl = new; acf = new_acf }) name
 IsDueNext held c name = IsDueRequest held c name
 
 abbrev pub IsDue : Option Command → Option (List ℕ → Option (List ℕ)) → List ℕ → Type 0
@@ -365,7 +366,8 @@ MustBeRefused x (Values task of given) (BadRequest why) = MustBeNoRequest x.file
 MustBeRefused x (Values task of given) r = (w : Setting) × AreAccepted x.files of given w × MustBeNoInput x.input x.ends task w r
 MustBeRefused x (Compile idl acf) r = MustBeNoIdl x.files idl acf r
 MustBeRefused x (Plan idl acf) r = MustBeNoIdl x.files idl acf r
-MustBeRefused x (Compat old old_acf new new_acf) r = MustBeIncomparable x.files (record { idl = old; acf = old_acf }) (record { idl = new; acf = new_acf }) r
+MustBeRefused x (Compat old old_acf new new_acf) r =
+    MustBeIncomparable x.files (record { idl = old; acf = old_acf }) (record { idl = new; acf = new_acf }) r
 MustBeRefused x (Why words) r = ⊥
 MustBeRefused x (Sample seed count) r = ⊥
 MustBeRefused x Help r = ⊥

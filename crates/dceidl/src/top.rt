@@ -11,7 +11,8 @@ ghost use Rattle.dceidl.specs.Asked.{Asks};
 ghost use Rattle.dceidl.specs.Causes.{statuses_of};
 ghost use Rattle.command_line.specs.Commands.{command_of};
 ghost use Rattle.command_refusals.specs.Lines.{status_of, line_of};
-ghost use Rattle.dceidl.specs.Rows.{IsDone, IsRefused, AreUnknown, tells_refused, ReadsInput, IsDueAndMissing, IsDueAndReported, IsEndReported, HasNotFailed};
+ghost use Rattle.dceidl.specs.Rows.{IsDone, IsRefused, AreUnknown, tells_refused};
+ghost use Rattle.dceidl.specs.Rows.{ReadsInput, IsDueAndMissing, IsDueAndReported, IsEndReported, HasNotFailed};
 ghost use Rattle.command_streams.specs.Delivery.{IsOneOf, IsCompleted};
 ghost use Rattle.dceidl.specs.Rows.{IsSound, CanBeDone, MustBeRefused, Refuses};
 ghost use Rattle.dceidl.specs.Run.{IsOutcome, IsExplanation, HasRun};
@@ -30,9 +31,6 @@ use std::alloc::Global;
 /// The command line is not valid.
 pub(crate) const WORDS_REFUSED: Status = 2;
 
-// The line of a command line that is not valid.
-const WORDS_LINE: &[u8] = b"words refused\n";
-
 /// Runs a command line and returns the exit status.
 ///
 /// `--help` and `--version` write their text to `out`, and `sample` the summary of a sample, as no words do. The other commands load the interface
@@ -44,8 +42,8 @@ const WORDS_LINE: &[u8] = b"words refused\n";
 /// state their order. `encode` and `migrate` read such a text to its end, or to one octet past its limit, [`TEXT_LIMIT`](value_text::TEXT_LIMIT)
 /// octets. `encode` writes the octets of its values, at most [`STREAM_LIMIT`](nd_base::STREAM_LIMIT), after a label if one is asked for, and
 /// `migrate` writes it as it is printed. `call` reads the fragments of a request or response (C706, section 12.6), and writes the call id and the
-/// values of their stub data; `wrap` reads a text and writes such fragments. `compat` compares the interfaces of two files. `why` writes what words of
-/// a refusal mean.
+/// values of their stub data; `wrap` reads a text and writes such fragments. `compat` compares the interfaces of two files. `why` writes what words
+/// of a refusal mean.
 ///
 /// Nothing is requested before it is needed, and no file more than once: no file for an invalid command line, `--help` or
 /// `--version`, an import when its declaration is reached, the attribute configuration file when all names are resolved (it is loaded
@@ -183,7 +181,7 @@ fn explanation(alloc: Global, words: &[String]) -> Outcome
     match explain(alloc, words) {
         Ok(Explained::Found(text)) => Outcome::Done(text),
         Ok(Explained::Nearest(text)) => {
-            let Ok(line) = Octets::copy(alloc, WORDS_LINE) else {
+            let Ok(line) = Octets::copy(alloc, b"words refused\n") else {
                 return Outcome::Wanting;
             };
             Outcome::Reported {
@@ -213,7 +211,7 @@ fn performed<F: Files, S: Source, E: PipeEnd>(
         (ends_over E.seen ends.old ends.new)) (counted_command words.now) result }
 {
     match words.command() {
-        None => refused(alloc, WORDS_REFUSED, WORDS_LINE),
+        None => refused(alloc, WORDS_REFUSED, b"words refused\n"),
         Some(command) => match perform(alloc, command, files, input, ends) {
             Ok(made) => Outcome::Done(made),
             Err(refusal) => refused_command(alloc, command, &refusal),
