@@ -26,8 +26,8 @@ pub(crate) struct Versions {
 }
 
 /// The line `compatible` with the number of operations of the interface of the file `old`, if that of the file `new` is a later version with the same
-/// ones. Then, by the pairs of their types, octets represent a graph that conforms to a side of an operation of the older one exactly if they represent
-/// the same graph, and it conforms, under the newer one.
+/// ones. Then, by the pairs of their types, octets represent a graph that conforms to a side of an operation of the older one exactly if they
+/// represent the same graph, and it conforms, under the newer one.
 ///
 /// The file `old` is compiled with its imports and its attribute configuration file `old_acf`, as by [`compile`], and after it `new` in the same way.
 /// A file that both of them need is loaded for each.
