@@ -19,5 +19,5 @@ returns-clause-refused c =
       | in-Fewer w ↦ rw w.result-is (answered i j d compared _ (ap (fault_of i) w.in-Fewer.is))
       | in-Differs w ↦ rw w.result-is (
           difference_refused i j w.in-Differs.op (subst (IsCompared i j) w.in-Differs.is compared) w.difference.result w.difference.ensures
-      )
+          )
     ]
