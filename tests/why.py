@@ -9,8 +9,7 @@ from typing import Dict, List, Tuple
 from case import ROOT
 
 SOURCES = ROOT / "crates" / "command_why" / "src"
-CONSTANT = re.compile(r'^pub\(crate\) const ([A-Z_0-9]+): &str = "\\\n(.*?)^";$', re.MULTILINE | re.DOTALL)
-LISTED = re.compile(r"^    ([a-z]+)::([A-Z_0-9]+),$", re.MULTILINE)
+CONSTANT = re.compile(r'^pub const ENTRIES: &str = "\\\n(.*?)^";$', re.MULTILINE | re.DOTALL)
 
 
 @dataclass(frozen=True)
@@ -25,18 +24,16 @@ class Part:
 
 
 def text_of(literal: str) -> str:
-    """The text that a literal spells."""
-    return re.sub(r"\\(.)", r"\1", literal)
+    """The text that a literal of the sources spells."""
+    joined = re.sub(r"\\\n\s*", "", literal)
+    return re.sub(r"\\(x..|.)", lambda found: chr(int(found[1][1:], 16)) if len(found[1]) > 1 else found[1], joined)
 
 
 def entries() -> Dict[str, str]:
-    """The text of each entry by its name, in the order of the table."""
-    texts: Dict[Tuple[str, str], str] = {}
-    for path in SOURCES.glob("*.rt"):
-        for name, literal in CONSTANT.findall(path.read_text(encoding="utf-8")):
-            texts[path.stem, name] = text_of(literal)
-    listed = LISTED.findall((SOURCES / "table.rt").read_text(encoding="utf-8"))
-    return {texts[key].split("\n", 1)[0]: texts[key] for key in listed}
+    """The text of each entry by its name, in the order in which they are listed."""
+    literal = CONSTANT.search((SOURCES / "entries.rt").read_text(encoding="utf-8"))
+    texts = text_of(literal[1]).split("\f")[:-1]
+    return {text.split("\n", 1)[0]: text for text in texts}
 
 
 def part_of(block: str) -> Part:

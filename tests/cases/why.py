@@ -82,6 +82,9 @@ def of_idl():
 
 def of_pages():
     """The tables of the other pages."""
+    for reason, when in table(section(page("docs/IDL.md"), "13."), "Answer", "When"):
+        word = reason.strip("`").split()[0]
+        yield from differs(f"docs/IDL.md, {word}", when, word, "refused: compat")
     for reason, when, _ in table(section(page("docs/NDR.md"), "17."), "Reason", "Exactly if", "Place"):
         yield from differs(f"docs/NDR.md, {reason}", when, reason, "refused: octets")
     text = page("docs/TEXT.md")
@@ -122,7 +125,7 @@ CASES = [
     Check("why: each word has an entry", without_entry),
     Check("why: each entry has its parts", lambda: list(unlike())),
     Check("why: docs/IDL.md has the words of the entries", lambda: list(of_idl())),
-    Check("why: docs/NDR.md and docs/TEXT.md have the words of the entries", lambda: list(of_pages())),
+    Check("why: the tables of compat, docs/NDR.md and docs/TEXT.md have the words of the entries", lambda: list(of_pages())),
     Check("why: README.md has the words of the entries", lambda: list(of_readme())),
     of(),
     *(of(*name.split()) for name in ENTRIES),

@@ -1,2 +1,2 @@
-mod Pages
-mod Sums
+mod FirstEntry
+mod Shares

@@ -30,5 +30,5 @@ explained_by table [] = Found (names table)
 explained_by table (word ∷ words) = name_explained table (spelled (word ∷ words))
 
 -- what the entries of the program say of words
-pub explained : List (List ℕ) → Explained
+unfoldable pub explained : List (List ℕ) → Explained
 explained words = explained_by (entries ENTRIES.now) words

@@ -1161,7 +1161,7 @@ refused: compat: REASON
 \x0c\
 OtherUuid
 refused: compat: OtherUuid
-  The UUIDs differ, or one interface has none.
+  The UUIDs differ, or a file has none.
     $ echo '[version(1.0), uuid(11111111-2222-3333-4444-555555555555)] interface t { void f(); }' > old.idl
     $ echo '[version(1.0), local] interface t { void f(); }' > new.idl
     $ dceidl compat old.idl - new.idl -
@@ -1180,7 +1180,7 @@ refused: compat: OtherMajor OLD NEW
 \x0c\
 OlderMinor
 refused: compat: OlderMinor OLD NEW
-  The new minor version is less than the old one.
+  The minor version of the newer file is less.
     $ echo '[version(1.5), uuid(11111111-2222-3333-4444-555555555555)] interface t { void f(); }' > old.idl
     $ echo '[version(1.2), uuid(11111111-2222-3333-4444-555555555555)] interface t { void f(); }' > new.idl
     $ dceidl compat old.idl - new.idl -
@@ -1189,7 +1189,7 @@ refused: compat: OlderMinor OLD NEW
 \x0c\
 Fewer
 refused: compat: Fewer OLD NEW
-  The new interface has fewer operations.
+  The newer file has fewer operations.
     $ echo '[version(1.0), uuid(11111111-2222-3333-4444-555555555555)] interface t { void f(); void g(); }' > old.idl
     $ echo '[version(1.1), uuid(11111111-2222-3333-4444-555555555555)] interface t { void f(); }' > new.idl
     $ dceidl compat old.idl - new.idl -
@@ -1198,9 +1198,10 @@ refused: compat: Fewer OLD NEW
   at the end.
 \x0c\
 Differs
-refused: compat: Differs OP
-  The operation OP of the old interface is the first that differs from that of
-  the same number in the new one.
+refused: compat: Differs NAME
+  This operation of the older file is the first for which no pairing of types
+  makes it, and those before it, the same as the newer ones of the same
+  numbers.
     $ echo '[version(1.0), uuid(11111111-2222-3333-4444-555555555555)] interface t { void f([in] long x); }' > old.idl
     $ echo '[version(1.1), uuid(11111111-2222-3333-4444-555555555555)] interface t { void f([in] hyper x); }' > new.idl
     $ dceidl compat old.idl - new.idl -
@@ -1209,11 +1210,12 @@ refused: compat: Differs OP
 \x0c\
 script
 refused: script LINE
-  A line of the script is none of `open CLIENT ID`, `use ID TEXT`, `close ID`
-  and `down CLIENT`. Lines count from 1, and each ends with a line feed.
+  A line of the script is none of `open CLIENT UUID`, `use UUID TEXT`, `close
+  UUID` and `down CLIENT`, or has no line feed. Lines count from 1.
     $ printf 'begin\\n' | dceidl session
     refused: script 1
-  Write CLIENT as a decimal number and ID as a UUID of 36 letters. Status 1.
+  Write CLIENT as a decimal number, UUID with its hyphens, and one space
+  between words. Status 1.
 \x0c\
 status 0
 (no line)

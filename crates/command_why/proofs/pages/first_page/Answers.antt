@@ -1,6 +1,6 @@
-use Rattle.std.proofs.Common.{◌≡◌, ◌∙◌, ◌∷◌, ap, ap₂, sym, List, ℕ}
+use Rattle.std.proofs.Common.{◌∙◌, ◌∷◌, ap, ap₂, sym, List, ℕ}
 use Rattle.command_why.specs.Entries.{entries}
-use Rattle.command_why.proofs.Pages.{entry_before, entry_whole}
+use Rattle.command_why.proofs.FirstEntry.{entry_before, entry_whole}
 use Rattle.command_why.proofs.pages.first_page.Goals as goal
 
 pub returns-in-Some-clause-first : goal.returns-in-Some-clause-first

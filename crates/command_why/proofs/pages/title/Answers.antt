@@ -1,5 +1,5 @@
-use Rattle.std.proofs.Common.{◌≡◌, ◌∙◌, sym}
-use Rattle.command_why.proofs.Pages.{named_before, named_whole}
+use Rattle.std.proofs.Common.{◌∙◌, sym}
+use Rattle.command_why.proofs.FirstEntry.{named_before, named_whole}
 use Rattle.command_why.proofs.pages.title.Goals as goal
 
 pub returns-in-Some : goal.returns-in-Some

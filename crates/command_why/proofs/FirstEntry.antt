@@ -1,5 +1,6 @@
 -- The first entry of a text by the place of its end.
-use Rattle.std.proofs.Common.{◌≡◌, ◌∙◌, ℕ, zero, suc, ◌+◌, ◌<◌, ◌≤◌, Bool, true, false, not, cond, nat_lt, List, [], ◌∷◌, length, take, drop, position, Option, None, Some, refl, sym, ap, ap₂, subst, arith}
+use Rattle.std.proofs.Common.{◌≡◌, ◌∙◌, ℕ, suc, ◌+◌, ◌<◌, ◌≤◌, Bool, true, false, not, cond, nat_lt, refl, sym, ap, ap₂, subst, arith}
+use Rattle.std.proofs.Common.{List, [], ◌∷◌, length, take, drop, position, None, Some}
 use Rattle.std.specs.Prelude.{◌==◌, if◌then◌else◌}
 use Rattle.std.specs.List.{position_or_len}
 use Rattle.std.proofs.lemmas.Bool.{ltb-false}
@@ -19,9 +20,6 @@ module _ (p : ℕ → Bool) (xs : List ℕ) where
 
   pub found_at : (at : ℕ) → position p xs ≡ Some at → n ≡ at
   found_at at is = (cond_some (nat_lt n (length xs)) n at is).1
-
-  pub found_within : (at : ℕ) → position p xs ≡ Some at → at < length xs
-  found_within at is = subst (λ i. i < length xs) (found_at at is) (let below = (cond_some (nat_lt n (length xs)) n at is).0 in grind (arith, nat_tests))
 
   pub found_nowhere : position p xs ≡ None → length xs ≤ n
   found_nowhere is = ltb-false n (length xs) (cond_none (nat_lt n (length xs)) n is)
@@ -51,21 +49,26 @@ take_more n m c text is = subst (λ k. take k (c ∷ text) ≡ c ∷ take n text
 drop_one_more : (n m c : ℕ) (text : List ℕ) → m ≡ suc n → drop m (c ∷ text) ≡ drop n text
 drop_one_more n m c text is = subst (λ k. drop k (c ∷ text) ≡ drop n text) (sym is) refl
 
-mutual
-  -- the first octet ends the first entry, or it is in it
-  by_first : (text : List ℕ) (c : ℕ) (b : Bool)
-      → (if b then [] ∷ entries text else onto c (entries text))
-      ≡ take (cond (not b) (1 + end_of text) 0) (c ∷ text) ∷ entries (drop (1 + cond (not b) (1 + end_of text) 0) (c ∷ text))
-  by_first text c true = refl
-  by_first [] c false = refl
-  by_first (d ∷ text) c false =
-      ap (onto c) (parted text d)
-      ∙ sym (ap₂ (λ (x : List ℕ) (ys : List (List ℕ)). x ∷ ys) (take_more (end_of (d ∷ text)) (1 + end_of (d ∷ text)) c (d ∷ text) (omega arith))
-      (ap entries (drop_one_more (1 + end_of (d ∷ text)) (1 + (1 + end_of (d ∷ text))) c (d ∷ text) (omega arith))))
+-- the first entry is what is before the first place that ends one
+abbrev IsParted : List ℕ → ℕ → Bool → Type 0
+IsParted text c b =
+    (if b then [] ∷ entries text else onto c (entries text))
+    ≡ take (cond (not b) (1 + end_of text) 0) (c ∷ text) ∷ entries (drop (1 + cond (not b) (1 + end_of text) 0) (c ∷ text))
 
-  parted : (text : List ℕ) (c : ℕ)
-      → entries (c ∷ text) ≡ take (end_of (c ∷ text)) (c ∷ text) ∷ entries (drop (1 + end_of (c ∷ text)) (c ∷ text))
-  parted text c = by_first text c (ends c)
+last : (c : ℕ) (b : Bool) → IsParted [] c b
+last c true = refl
+last c false = refl
+
+more : (text : List ℕ) (d : ℕ) → IsParted text d (ends d) → (c : ℕ) (b : Bool) → IsParted (d ∷ text) c b
+more text d parted c true = refl
+more text d parted c false =
+    ap (onto c) parted
+    ∙ sym (ap₂ (λ (x : List ℕ) (ys : List (List ℕ)). x ∷ ys) (take_more (end_of (d ∷ text)) (1 + end_of (d ∷ text)) c (d ∷ text) (omega arith))
+    (ap entries (drop_one_more (1 + end_of (d ∷ text)) (1 + (1 + end_of (d ∷ text))) c (d ∷ text) (omega arith))))
+
+parted : (text : List ℕ) (c : ℕ) → IsParted text c (ends c)
+parted [] c = last c (ends c)
+parted (d ∷ text) c = more text d (parted text d) c (ends c)
 
 first_and_rest : (text : List ℕ) → 0 < length text → entries text ≡ take (end_of text) text ∷ entries (drop (1 + end_of text) text)
 first_and_rest [] some = absurd (omega (arith, some))
