@@ -42,8 +42,7 @@ refused: given: text 1:1: TooLong
 
 refused: TooLong LENGTH
   The values take LENGTH octets, more than the 67,108,864 of a stream.
-  Send less at a time, or use a pipe of several requests. There is no small
-  example.
+  Send the values in several calls. There is no small example.
 
 refused: script TooLong
   The script has more than 1,048,576 octets.
@@ -935,7 +934,7 @@ refused: pdu at PLACE: EmptyPiece
 StubLong
 refused: pdu at PLACE: StubLong
   The stub data would have more than the 67,108,864 octets of a stream.
-  There is no small example. Use a pipe of several requests.
+  Send the values in several calls. There is no small example.
 \x0c\
 text
 refused: text LINE:COLUMN: REASON
@@ -1133,10 +1132,10 @@ write fault
 want of memory
 want of memory
   Out of memory; there is no line if there was not even enough memory to store
-  the command line and to set up the ends of pipes.
+  the command line and to set up the ends of pipes and the resources.
     $ ulimit -v 40000; dceidl sample 1 1000000
     want of memory
-  Give the program more memory: values take some ten times their octets.
+  Give the program more memory. `drain` reads long pipes chunk by chunk.
   Status 5.
 \x0c\
 pipe end
