@@ -34,6 +34,7 @@ usage: dceidl compile IDL ACF
        dceidl wrap IDL ACF OP SIDE ORDER CALL MAX
        dceidl session
        dceidl sample SEED COUNT
+       dceidl why [WORD ..]
        dceidl --help
        dceidl --version
 
@@ -65,6 +66,8 @@ session  reads a script of lines, `open CLIENT UUID`, `use UUID TEXT`,
          client. It writes a line for each, and ends what is open.
 sample   makes a graph of COUNT cells from SEED, encodes and decodes it, and
          writes a summary. Without words it is `sample 1 2`.
+why      writes what a word of an error's line means, with an example and what to
+         do, as for `why Rule 30` or `why status 5`. Without words it lists all.
 
 IDL      the path of a file of IDL
 ACF      the path of an attribute configuration file, or `-` for none
@@ -102,6 +105,8 @@ Examples:
   dceidl compile examples/shop.idl examples/shop.acf
   dceidl decode examples/add.idl - add in little < examples/add-1-2-3.octets
   dceidl encode examples/add.idl - add in little 1 < examples/add-1-2-3.text
+
+dceidl why WORD explains a refusal
 ";
 
 /// What `--version` prints.
