@@ -32,6 +32,7 @@ usage: dceidl compile IDL ACF
        dceidl migrate IDL ACF OP SIDE
        dceidl call IDL ACF OP
        dceidl wrap IDL ACF OP SIDE ORDER CALL MAX
+       dceidl compat OLD OLDACF NEW NEWACF
        dceidl session
        dceidl sample SEED COUNT
        dceidl --help
@@ -58,6 +59,9 @@ call     reads the PDUs of one request (OP `-`) or of one response to OP (C706,
          values as `decode` does. A request states its operation.
 wrap     reads such a text, and writes the PDUs of a request or response with its
          values, at most MAX octets each, with the call id CALL.
+compat   compares two versions of an interface, and writes how many operations
+         the file OLD has if each of them has the same octets for the same
+         values in the file NEW.
 session  reads a script of lines, `open CLIENT UUID`, `use UUID TEXT`,
          `close UUID` and `down CLIENT`, and does what they say with the files
          res0.out to res7.out of the current folder: opens the next one under the
@@ -68,6 +72,7 @@ sample   makes a graph of COUNT cells from SEED, encodes and decodes it, and
 
 IDL      the path of a file of IDL
 ACF      the path of an attribute configuration file, or `-` for none
+OLD, NEW the paths of two files of IDL; OLDACF and NEWACF are as ACF
 OP       the name of an operation
 SIDE     `in` for the [in] parameters, `out` for the [out] parameters and the
          result
@@ -86,8 +91,8 @@ Input is read from standard input, and output is written to standard output. An
 error is one line on standard error. The exit status is
 
 0  success
-1  bad octets, PDUs, text, script or values, or too many octets to write or
-   pipes to drain
+1  bad octets, PDUs, text, script or values, too many octets to write or
+   pipes to drain, or versions that are not compatible
 2  bad command line
 3  input error
 4  output error
