@@ -57,16 +57,16 @@ migrate  reads such a text, in either version, and writes it as `decode` does.
 call     reads the PDUs of one request (OP `-`) or of one response to OP (C706,
          chapter 12), joins their stub data, and writes the call id and then the
          values as `decode` does. A request states its operation.
-wrap     reads such a text, and writes the PDUs of a request or response with its
-         values, at most MAX octets each, with the call id CALL.
+wrap     reads such a text, and writes the PDUs of a request or response with
+         its values, at most MAX octets each, with the call id CALL.
 compat   compares two versions of an interface, and writes how many operations
          the file OLD has if each of them has the same octets for the same
          values in the file NEW.
 session  reads a script of lines, `open CLIENT UUID`, `use UUID TEXT`,
          `close UUID` and `down CLIENT`, and does what they say with the files
-         res0.out to res7.out of the current folder: opens the next one under the
-         UUID of a context handle, appends a line to it, ends it, ends all of a
-         client. It writes a line for each, and ends what is open.
+         res0.out to res7.out of the current folder: opens the next one under
+         the UUID of a context handle, appends a line to it, ends it, ends all of
+         a client. It writes a line for each, and ends what is open.
 sample   makes a graph of COUNT cells from SEED, encodes and decodes it, and
          writes a summary. Without words it is `sample 1 2`.
 
