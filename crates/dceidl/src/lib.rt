@@ -65,8 +65,8 @@ compat   compares two versions of an interface, and writes how many operations
 session  reads a script of lines, `open CLIENT UUID`, `use UUID TEXT`,
          `close UUID` and `down CLIENT`, and does what they say with the files
          res0.out to res7.out of the current folder: opens the next one under
-         the UUID of a context handle, appends a line to it, ends it, ends all of
-         a client. It writes a line for each, and ends what is open.
+         the UUID of a context handle, appends a line to it, ends it, ends all
+         of a client. It writes a line for each, and ends what is open.
 sample   makes a graph of COUNT cells from SEED, encodes and decodes it, and
          writes a summary. Without words it is `sample 1 2`.
 
