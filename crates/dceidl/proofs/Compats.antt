@@ -1,6 +1,6 @@
 -- What `compat` answers, from what its files mean: its statuses, the files that are due, and what must come where no load fails.
 use Rattle.std.proofs.Common.{◌≡◌, ◌∙◌, ℕ, List, [], ◌∷◌, Option, Some, None, refl, sym, ap, ap₂, subst, inl, inr, ◌⊎◌}
-use Rattle.nd_base.specs.Outside.{IsContent, IsMissing}
+use Rattle.nd_base.specs.Outside.{IsMissing}
 use Rattle.nd_base.specs.Over.{FilesSeen, HasRisen}
 use Rattle.nd_types.specs.declared.interface.Interface.{Interface}
 use Rattle.idl_compat.specs.declared.pairs.TypePair.{TypePair}
