@@ -1,7 +1,7 @@
 use crate::runs::{Failing, NONE, Ran, has_stock, run_session};
 use nd_base::Memory;
 use std::alloc::Global;
-use std::test::Abort;
+use std::process::Abort;
 
 // A resource of client 1 under two identifiers, and one of client 2.
 const TWO: &[u8] = b"open 1 00112233-4455-6677-8899-aabbccddeeff\n\
