@@ -515,28 +515,26 @@ def measure_plan(bench: Bench, nothing: Path, start: Measured) -> None:
 
 
 def measure_comparison(bench: Bench, nothing: Path, start: Measured) -> None:
-    """The comparison of as many types as there may be with themselves, beyond reading the file twice, and that of a quarter of them."""
+    """The comparison of as many types as there may be with themselves, beyond that of two files whose UUIDs differ, and that of a quarter of them."""
     runs = []
     for part in (4, 1):
         types, members = TYPE_LIMIT // part, PLANNED_MEMBERS // part
-        file = bench.write(f"compared.{types}.idl", compared_interface(types, members))
+        text = compared_interface(types, members)
+        file = bench.write(f"compared.{types}.idl", text)
+        other = bench.write(f"other.{types}.idl", text.replace(b"(11111111-", b"(11111112-", 1))
         check_listing(bench, file, types)
         told = f"{types:,} types, {members:,} members"
         operations = (types - BASIC_TYPES + 3) // 4
-        runs.append(Run(f"one file, {told}", bench.decode(file, "none", "little"), nothing, 6, b""))
+        runs.append(Run(f"two UUIDs, {told}", [bench.program, "compat", str(file), "-", str(other), "-"], nothing, 1, b""))
         runs.append(Run(f"compat, {told}", [bench.program, "compat", str(file), "-", str(file), "-"], nothing, 0, b"compatible %d\n" % operations))
     small_base, small, large_base, large = bench.measure(runs, max(3, bench.runs // 10))
-    of_small = tell_comparison(small, small_base, start)
-    of_large = tell_comparison(large, large_base, start)
+    tell(small_base, start)
+    of_small = tell(small, small_base)
+    tell(large_base, start)
+    of_large = tell(large, large_base)
     check_growth(bench, "the comparison", of_small, of_large, times="four times", most=MOST_TIMES_OF_FOUR)
     if of_large > MOST_SECONDS_OF_A_COMPARISON:
         bench.fail(f"the comparison of the most types takes {of_large * 1000:.1f} ms")
-
-
-def tell_comparison(compared: Measured, base: Measured, start: Measured) -> float:
-    """The lines of a comparison and of reading one of its files. Gives the time beyond reading both."""
-    net = tell(base, start)
-    return tell(compared, base) - net
 
 
 def has_plan(bench: Bench, idl: Path, nothing: Path) -> bool:

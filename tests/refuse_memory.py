@@ -7,8 +7,8 @@ is refused, and it is one that the program can do without, the run may also end 
     tests/refuse_memory.py --most N           at most N growths of each command, spread over all of them (default: all)
 
 The commands are an encoding and a decoding, the directory interface's compile, encode, decode and explain, a drain, a response beside its request, a
-session and the sample. In the run of number N the Nth call of `malloc` or `realloc` is refused; then all calls from the Nth on are. The gate does not run this. It
-needs a C compiler, `cc`, for what refuses, and a program that is linked with the C library as a shared object.
+call, a wrap, a comparison, a session and the sample. In the run of number N the Nth call of `malloc` or `realloc` is refused; then all calls from the
+Nth on are. The gate does not run this. It needs a C compiler, `cc`, for what refuses, and a program that is linked with the C library as a shared object.
 
 The status is 1 if a run ends in another way, or if the sample has fewer than ten growths.
 """
@@ -29,6 +29,7 @@ sys.path.append(str(Path(__file__).resolve().parent))
 
 from case import ROOT, interface, lines, octets  # noqa: E402
 from explain import ACF, BASE, DIRECTORY, PUT, PUT_LINES  # noqa: E402
+from fragments import pdu  # noqa: E402
 
 LEAST_OF_SAMPLE = 10
 WANTING = b"want of memory\n"
@@ -96,6 +97,7 @@ LISTING = lines(
     "member next 17", "type 15 text 1 16 align 4", "type 16 ptr 14 align 4", "type 17 unique 14 align 4", "type 18 conftext 1 align 4 hoists",
     "type 19 ref 18 align 4", "type 20 ref 14 align 4", "type 21 conf 2 align 1 hoists", "op 0 list", "in path 19", "out first 20", "out return 8",
     "op 1 put", "in e 17", "in n 8", "in data 21 size_is n")
+PDUS = pdu(PUT[:40], flags=1, number=1, hint=len(PUT)) + pdu(PUT[40:], flags=2, number=1, hint=len(PUT))
 PIPES = {"t.idl": interface("typedef pipe long lp;", "void feed([in] lp d);")}
 PIPE_OCTETS = octets("02000000 01000000 02000000 01000000 03000000 00000000")
 BESIDE = {"t.idl": interface("void r([in] unsigned long n, [out, size_is(n)] byte a[*]);"), "request.txt": lines("values 2", "op r in", "n = 2")}
@@ -118,6 +120,9 @@ COMMANDS = [
             {"pipe0.out": lines("1", "2", "3")}),
     Command("response", ["decode", "t.idl", "-", "r", "out", "little", "given", "request.txt"], BESIDE, octets("02000000 ABCD"),
             lines("values 2", "op r out", 'a = x"abcd"')),
+    Command("call", ["call", "dir.idl", "dir.acf", "-"], DIRECTORY_FILES, PDUS, lines("call 7") + PUT_TEXT),
+    Command("wrap", directory("wrap", "7", "1024"), DIRECTORY_FILES, PUT_TEXT, pdu(PUT, number=1)),
+    Command("compat", ["compat", "dir.idl", "dir.acf", "dir.idl", "-"], DIRECTORY_FILES, b"", lines("compatible 2")),
     Command("session", ["session"], {}, SCRIPT, lines("ok", "ok", "ended 1"), {"res0.out": lines("hi")}),
     Command("sample", ["sample", "1", "2"], {}, b"", SAMPLED, least=LEAST_OF_SAMPLE),
     Command("no words", [], {}, b"", SAMPLED, least=LEAST_OF_SAMPLE),

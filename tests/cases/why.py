@@ -53,7 +53,7 @@ def section(text, heading):
 
 def plain(text):
     """The words of a text: without marks of the page, and without references in brackets."""
-    text = re.sub(r" \((section \d+|docs/[A-Z.a-z]+|`docs/[A-Z.a-z]+`|\*\*ours\*\*)\)", "", text)
+    text = re.sub(r" \((section \d+|docs/[A-Z.a-z]+|`docs/[A-Z.a-z]+`|\*\*ours\*\*|`PointerRules`[^)]*)\)", "", text)
     return re.findall(r"[\w']+|[-+@^/\\]", text.replace("`", "").replace("*", "").replace("(ours: ", "(").lower())
 
 
@@ -74,9 +74,9 @@ def of_idl():
         if word != "Rule":
             yield from differs(f"docs/IDL.md, {word}", when, word, "idl FILE")
     for header in (("N", "Name", "Rule", "Its place"), ("N", "Name", "Rule")):
-        for number, _, rule, *_ in table(text, *header):
+        for number, name, rule, *_ in table(text, *header):
             said = PARTS.get(f"Rule {number}", [])
-            if len(said) != 1 or plain(said[0].wrong) != plain(rule):
+            if len(said) != 1 or plain(said[0].wrong) != plain(f"{name} {rule}"):
                 yield f"docs/IDL.md, rule {number}: the page has '{rule}', and the entry '{said and said[0].wrong}'"
 
 

@@ -201,7 +201,8 @@ refused: pdu at 22: NoOperation N
 \x0c\
 Rule 1
 idl FILE:LINE:COLUMN: Rule 1
-  An attribute is only at a place where the table of places allows it.
+  Attributes in place: an attribute is only at a place where the table of
+  places allows it.
     $ echo '[local] interface t { [in]struct s{long a;}; }' > t.idl
     $ dceidl compile t.idl -
     idl t.idl:1:24: Rule 1
@@ -211,7 +212,7 @@ idl FILE:LINE:COLUMN: Rule 1
 \x0c\
 Rule 2
 idl FILE:LINE:COLUMN: Rule 2
-  No attribute word occurs twice in one list.
+  No word twice: no attribute word occurs twice in one list.
     $ echo '[local] interface t { void f([in,out,in]long*a); }' > t.idl
     $ dceidl compile t.idl -
     idl t.idl:1:38: Rule 2
@@ -219,7 +220,7 @@ idl FILE:LINE:COLUMN: Rule 2
 \x0c\
 Rule 3
 idl FILE:LINE:COLUMN: Rule 3
-  The header of the main file has `uuid` or `local`.
+  Uuid or local: the header of the main file has `uuid` or `local`.
     $ echo '[version(1)] interface t { }' > t.idl
     $ dceidl compile t.idl -
     idl t.idl:1:1: Rule 3
@@ -228,7 +229,7 @@ idl FILE:LINE:COLUMN: Rule 3
 \x0c\
 Rule 4
 idl FILE:LINE:COLUMN: Rule 4
-  Both numbers of a version are at most 65,535.
+  Version numbers: both numbers of a version are at most 65,535.
     $ echo '[local, version(1.65536)] interface t { }' > t.idl
     $ dceidl compile t.idl -
     idl t.idl:1:9: Rule 4
@@ -237,8 +238,8 @@ idl FILE:LINE:COLUMN: Rule 4
 \x0c\
 Rule 5
 idl FILE:LINE:COLUMN: Rule 5
-  A declaration that ends after its type is that of a struct, union or enum
-  with its body.
+  A body: a declaration that ends after its type is that of a struct, union or
+  enum with its body.
     $ echo '[local] interface t { long; }' > t.idl
     $ dceidl compile t.idl -
     idl t.idl:1:23: Rule 5
@@ -247,9 +248,9 @@ idl FILE:LINE:COLUMN: Rule 5
 \x0c\
 Rule 6
 idl FILE:LINE:COLUMN: Rule 6
-  It is only an operation's result, the empty list of parameters, the pointee
-  of a context handle, or the type of a `NULL` constant. So a typedef that
-  names it breaks the rule.
+  `void`: it is only an operation's result, the empty list of parameters, the
+  pointee of a context handle, or the type of a `NULL` constant. So a typedef
+  that names it breaks the rule.
     $ echo '[local] interface t { typedef void v; }' > t.idl
     $ dceidl compile t.idl -
     idl t.idl:1:23: Rule 6
@@ -258,8 +259,8 @@ idl FILE:LINE:COLUMN: Rule 6
 \x0c\
 Rule 7
 idl FILE:LINE:COLUMN: Rule 7
-  It is only the type of a parameter that is only [in], without pointer or
-  bound. So a typedef that names it breaks the rule.
+  `handle_t`: it is only the type of a parameter that is only [in], without
+  pointer or bound. So a typedef that names it breaks the rule.
     $ echo '[local] interface t { typedef handle_t h; }' > t.idl
     $ dceidl compile t.idl -
     idl t.idl:1:23: Rule 7
@@ -269,9 +270,9 @@ idl FILE:LINE:COLUMN: Rule 7
 \x0c\
 Rule 8
 idl FILE:LINE:COLUMN: Rule 8
-  A pipe is only a parameter's type, or what a reference pointer that is a
-  parameter points to. A typedef may name either, and is checked where it is
-  used.
+  Pipes: a pipe is only a parameter's type, or what a reference pointer that
+  is a parameter points to. A typedef may name either, and is checked where it
+  is used.
     $ echo '[local] interface t { typedef pipe long p; struct s{p a;}; }' > t.idl
     $ dceidl compile t.idl -
     idl t.idl:1:53: Rule 8
@@ -280,8 +281,8 @@ idl FILE:LINE:COLUMN: Rule 8
 \x0c\
 Rule 9
 idl FILE:LINE:COLUMN: Rule 9
-  What has this attribute is a context handle: one `*` to `void`, or a name
-  for one without `*`.
+  `context_handle`: what has this attribute is a context handle: one `*` to
+  `void`, or a name for one without `*`.
     $ echo '[local] interface t { typedef[context_handle]long*c; }' > t.idl
     $ dceidl compile t.idl -
     idl t.idl:1:23: Rule 9
@@ -290,7 +291,7 @@ idl FILE:LINE:COLUMN: Rule 9
 \x0c\
 Rule 10
 idl FILE:LINE:COLUMN: Rule 10
-  The same as rule 8, for context handles.
+  Context handles: the same as rule 8, for context handles.
     $ echo '[local] interface t { typedef [context_handle] void *c; struct s{c a;}; }' > t.idl
     $ dceidl compile t.idl -
     idl t.idl:1:66: Rule 10
@@ -300,8 +301,9 @@ idl FILE:LINE:COLUMN: Rule 10
 \x0c\
 Rule 11
 idl FILE:LINE:COLUMN: Rule 11
-  No struct or union contains itself in place, through members, arms and
-  elements; it may contain a pointer to itself. Reported at its body.
+  No type in itself: no struct or union contains itself in place, through
+  members, arms and elements; it may contain a pointer to itself. Reported at
+  its body.
     $ echo '[local] interface t { struct s{struct s a;}; }' > t.idl
     $ dceidl compile t.idl -
     idl t.idl:1:23: Rule 11
@@ -310,11 +312,11 @@ idl FILE:LINE:COLUMN: Rule 11
 \x0c\
 Rule 12
 idl FILE:LINE:COLUMN: Rule 12
-  A path from a type down through members, arms and elements has at most 32
-  types, including that type. Each dimension counts; a text and its char count
-  as two, and so do a pipe and its element; a union's tag does not count, and
-  after a pointer the count begins again. A struct or union is reported at its
-  body, an array, text or pipe at its declarator.
+  Nesting: a path from a type down through members, arms and elements has at
+  most 32 types, including that type. Each dimension counts; a text and its
+  char count as two, and so do a pipe and its element; a union's tag does not
+  count, and after a pointer the count begins again. A struct or union is
+  reported at its body, an array, text or pipe at its declarator.
     $ echo \"[local] interface t { typedef long a$(printf '[1]%.0s' $(seq 32)); }\" > t.idl
     $ dceidl compile t.idl -
     idl t.idl:1:23: Rule 12
@@ -322,8 +324,8 @@ idl FILE:LINE:COLUMN: Rule 12
 \x0c\
 Rule 13
 idl FILE:LINE:COLUMN: Rule 13
-  The values of enumerators are 0 to 32,767; equal ones are allowed. Reported
-  at the enumerator.
+  Enumerators: the values of enumerators are 0 to 32,767; equal ones are
+  allowed. Reported at the enumerator.
     $ echo '[local] interface t { enum{A=32768}; }' > t.idl
     $ dceidl compile t.idl -
     idl t.idl:1:28: Rule 13
@@ -332,9 +334,9 @@ idl FILE:LINE:COLUMN: Rule 13
 \x0c\
 Rule 14
 idl FILE:LINE:COLUMN: Rule 14
-  A fixed dimension, also that of a text, has 1 to 16,777,216 elements. If all
-  dimensions of an array are fixed, their product is in the same range, also
-  for an array that is an element.
+  Elements: a fixed dimension, also that of a text, has 1 to 16,777,216
+  elements. If all dimensions of an array are fixed, their product is in the
+  same range, also for an array that is an element.
     $ echo '[local] interface t { typedef long a[0]; }' > t.idl
     $ dceidl compile t.idl -
     idl t.idl:1:23: Rule 14
@@ -343,7 +345,7 @@ idl FILE:LINE:COLUMN: Rule 14
 \x0c\
 Rule 15
 idl FILE:LINE:COLUMN: Rule 15
-  A lower bound is 0.
+  Lower bounds: a lower bound is 0.
     $ echo '[local] interface t { typedef long a[1..2]; }' > t.idl
     $ dceidl compile t.idl -
     idl t.idl:1:23: Rule 15
@@ -351,9 +353,9 @@ idl FILE:LINE:COLUMN: Rule 15
 \x0c\
 Rule 16
 idl FILE:LINE:COLUMN: Rule 16
-  If an array has more than one dimension, each is fixed, and the array has no
-  `length_is`, `first_is`, `last_is` or `string`. So `size_is` or `max_is` on
-  a pointer to a fixed array breaks the rule.
+  Several dimensions: if an array has more than one dimension, each is fixed,
+  and the array has no `length_is`, `first_is`, `last_is` or `string`. So
+  `size_is` or `max_is` on a pointer to a fixed array breaks the rule.
     $ echo '[local] interface t { typedef long a[2][*]; }' > t.idl
     $ dceidl compile t.idl -
     idl t.idl:1:23: Rule 16
@@ -362,36 +364,40 @@ idl FILE:LINE:COLUMN: Rule 16
 \x0c\
 Rule 17
 idl FILE:LINE:COLUMN: Rule 17
-  An element does not hoist, and is neither a varying array nor a text.
+  Elements of arrays: an element does not hoist, and is neither a varying
+  array nor a text.
     $ echo '[local] interface t { struct s{long a[*];};typedef struct s t[2]; }' > t.idl
     $ dceidl compile t.idl -
     idl t.idl:1:44: Rule 17
-  Give the elements a fixed size, or make them pointers. This breaks no rule:
-  `struct s{long a[4];};typedef struct s t[2];`
+  A type hoists if it is a conformant array or string, or a struct that ends
+  with one. Give the elements a fixed size, or make them pointers. This breaks
+  no rule: `struct s{long a[4];};typedef struct s t[2];`
 \x0c\
 Rule 18
 idl FILE:LINE:COLUMN: Rule 18
-  A member that hoists is the last of its struct.
+  Members that hoist: a member that hoists is the last of its struct.
     $ echo '[local] interface t { struct s{long n;[size_is(n)]long a[*];long b;}; }' > t.idl
     $ dceidl compile t.idl -
     idl t.idl:1:39: Rule 18
-  Move the conformant array to the end of its struct, or put a pointer to it
-  in its place. This breaks no rule: `struct s{long n;[size_is(n)]long
-  a[*];};`
+  A member hoists if it is a conformant array or string, or a struct that ends
+  with one. Move the conformant array to the end of its struct, or put a
+  pointer to it in its place. This breaks no rule: `struct s{long
+  n;[size_is(n)]long a[*];};`
 \x0c\
 Rule 19
 idl FILE:LINE:COLUMN: Rule 19
-  No arm hoists.
+  Arms that hoist: no arm hoists.
     $ echo '[local] interface t { union u switch(long k){default:long a[*];}; }' > t.idl
     $ dceidl compile t.idl -
     idl t.idl:1:54: Rule 19
-  Give the arm a fixed bound, or make it a pointer to the array. This breaks
-  no rule: `union u switch(long k){default:long a[4];};`
+  An arm hoists if it is a conformant array or string, or a struct that ends
+  with one. Give the arm a fixed bound, or make it a pointer to the array.
+  This breaks no rule: `union u switch(long k){default:long a[4];};`
 \x0c\
 Rule 20
 idl FILE:LINE:COLUMN: Rule 20
-  An element is not, and does not contain, a pointer, a conformant or varying
-  array, a text, a context handle or a pipe.
+  Elements of pipes: an element is not, and does not contain, a pointer, a
+  conformant or varying array, a text, a context handle or a pipe.
     $ echo '[local] interface t { typedef pipe struct{[ptr]long*a;}p; }' > t.idl
     $ dceidl compile t.idl -
     idl t.idl:1:23: Rule 20
@@ -400,8 +406,9 @@ idl FILE:LINE:COLUMN: Rule 20
 \x0c\
 Rule 21
 idl FILE:LINE:COLUMN: Rule 21
-  A switch type is an integer, `char`, `boolean` or an enumerated type.
-  Reported at the union's body, or at the declaration with the `switch_type`.
+  Switch types: a switch type is an integer, `char`, `boolean` or an
+  enumerated type. Reported at the union's body, or at the declaration with
+  the `switch_type`.
     $ echo '[local] interface t { union u switch(byte k){default:;}; }' > t.idl
     $ dceidl compile t.idl -
     idl t.idl:1:23: Rule 21
@@ -410,11 +417,11 @@ idl FILE:LINE:COLUMN: Rule 21
 \x0c\
 Rule 22
 idl FILE:LINE:COLUMN: Rule 22
-  A label is in the range of the switch type, or one of its enumerators'
-  values if that is an enumerated type; the labels of a union are distinct,
-  and `default` occurs at most once. If a union has no switch type (rule 23)
-  only the second half is tried. Reported at the label, or at the attribute
-  that has it; if two labels are equal, at the later one.
+  Labels: a label is in the range of the switch type, or one of its
+  enumerators' values if that is an enumerated type; the labels of a union are
+  distinct, and `default` occurs at most once. If a union has no switch type
+  (rule 23) only the second half is tried. Reported at the label, or at the
+  attribute that has it; if two labels are equal, at the later one.
     $ echo '[local] interface t { union u switch(boolean k){case 2:;}; }' > t.idl
     $ dceidl compile t.idl -
     idl t.idl:1:49: Rule 22
@@ -423,9 +430,10 @@ idl FILE:LINE:COLUMN: Rule 22
 \x0c\
 Rule 23
 idl FILE:LINE:COLUMN: Rule 23
-  The union has `switch_type` where its body is, in a typedef or a declaration
-  of its own, and each of its arms has `case` or `default`, but not both. The
-  first part is reported at the body, the second at the arm.
+  Cases of a non-encapsulated union: the union has `switch_type` where its
+  body is, in a typedef or a declaration of its own, and each of its arms has
+  `case` or `default`, but not both. The first part is reported at the body,
+  the second at the arm.
     $ echo '[local] interface t { union u{[default];}; }' > t.idl
     $ dceidl compile t.idl -
     idl t.idl:1:23: Rule 23
@@ -435,11 +443,11 @@ idl FILE:LINE:COLUMN: Rule 23
 \x0c\
 Rule 24
 idl FILE:LINE:COLUMN: Rule 24
-  A non-encapsulated union is used only by a member or parameter that has
-  `switch_is`: as its type, or as what its outermost pointer points to. A
-  typedef may name either, and is checked where it is used. So such a union
-  cannot be the type of an array's or pipe's elements, of an arm or a result,
-  or of what a second pointer points to.
+  Uses of non-encapsulated unions: a non-encapsulated union is used only by a
+  member or parameter that has `switch_is`: as its type, or as what its
+  outermost pointer points to. A typedef may name either, and is checked where
+  it is used. So such a union cannot be the type of an array's or pipe's
+  elements, of an arm or a result, or of what a second pointer points to.
     $ echo '[local] interface t { typedef [switch_type(long)] union { [default]; } u; void f([in]u a); }' > t.idl
     $ dceidl compile t.idl -
     idl t.idl:1:82: Rule 24
@@ -450,9 +458,9 @@ idl FILE:LINE:COLUMN: Rule 24
 \x0c\
 Rule 25
 idl FILE:LINE:COLUMN: Rule 25
-  It is only on a member or parameter whose type is, or points to, a
-  non-encapsulated union (rule 24); an encapsulated union has a tag of its own
-  and takes none. Its variable, if that is in the list of members or
+  `switch_is`: it is only on a member or parameter whose type is, or points
+  to, a non-encapsulated union (rule 24); an encapsulated union has a tag of
+  its own and takes none. Its variable, if that is in the list of members or
   parameters, is an integer, `char`, `boolean` or enumerated type, or, with
   `*`, a parameter that is a reference pointer to one of these.
     $ echo '[local] interface t { struct s{long k;[switch_is(k)]long a;}; }' > t.idl
@@ -465,10 +473,10 @@ idl FILE:LINE:COLUMN: Rule 25
 \x0c\
 Rule 26
 idl FILE:LINE:COLUMN: Rule 26
-  At most one class (`ref`, `unique`, `ptr`) is in a list, and only on a
-  pointer that is not a context handle. On an array of pointers the class
-  applies to the array, and so is refused; an empty arm has no class
-  (`PointerRules` and `DeclarationRules` too).
+  Classes on pointers: at most one class (`ref`, `unique`, `ptr`) is in a
+  list, and only on a pointer that is not a context handle. On an array of
+  pointers the class applies to the array, and so is refused; an empty arm has
+  no class.
     $ echo '[local] interface t { typedef[ref]long a; }' > t.idl
     $ dceidl compile t.idl -
     idl t.idl:1:23: Rule 26
@@ -477,10 +485,10 @@ idl FILE:LINE:COLUMN: Rule 26
 \x0c\
 Rule 27
 idl FILE:LINE:COLUMN: Rule 27
-  A pointer without a class has the pointer_default of the file in which its
-  `*` is written (if there is none it is refused), unless it is the outermost
-  `*` of a parameter's own type, a context handle, or the `*` of a constant. A
-  `*` in an array parameter is no exception.
+  A class for each pointer: a pointer without a class has the pointer_default
+  of the file in which its `*` is written (if there is none it is refused),
+  unless it is the outermost `*` of a parameter's own type, a context handle,
+  or the `*` of a constant. A `*` in an array parameter is no exception.
     $ echo '[local] interface t { typedef long*a; }' > t.idl
     $ dceidl compile t.idl -
     idl t.idl:1:23: Rule 27
@@ -490,7 +498,7 @@ idl FILE:LINE:COLUMN: Rule 27
 \x0c\
 Rule 28
 idl FILE:LINE:COLUMN: Rule 28
-  No pointer points to a reference pointer.
+  No pointer to a reference pointer: no pointer points to a reference pointer.
     $ echo '[local] interface t { typedef[ref]long*a;typedef[ptr]a*b; }' > t.idl
     $ dceidl compile t.idl -
     idl t.idl:1:42: Rule 28
@@ -499,8 +507,8 @@ idl FILE:LINE:COLUMN: Rule 28
 \x0c\
 Rule 29
 idl FILE:LINE:COLUMN: Rule 29
-  A pointer parameter that is only [out] is a reference pointer; context
-  handles are not pointers here.
+  [out] pointers: a pointer parameter that is only [out] is a reference
+  pointer; context handles are not pointers here.
     $ echo '[local] interface t { void f([out,ptr]long*a); }' > t.idl
     $ dceidl compile t.idl -
     idl t.idl:1:30: Rule 29
@@ -510,7 +518,7 @@ idl FILE:LINE:COLUMN: Rule 29
 \x0c\
 Rule 30
 idl FILE:LINE:COLUMN: Rule 30
-  Each parameter has `in` or `out`, or both.
+  Directions: each parameter has `in` or `out`, or both.
     $ echo '[local] interface t { void f(long a); }' > t.idl
     $ dceidl compile t.idl -
     idl t.idl:1:30: Rule 30
@@ -519,8 +527,8 @@ idl FILE:LINE:COLUMN: Rule 30
 \x0c\
 Rule 31
 idl FILE:LINE:COLUMN: Rule 31
-  An [out] or [in, out] parameter is an array, a text, a pipe, or a pointer
-  that is not a context handle.
+  [out] parameters: an [out] or [in, out] parameter is an array, a text, a
+  pipe, or a pointer that is not a context handle.
     $ echo '[local] interface t { void f([out]long a); }' > t.idl
     $ dceidl compile t.idl -
     idl t.idl:1:30: Rule 31
@@ -529,7 +537,7 @@ idl FILE:LINE:COLUMN: Rule 31
 \x0c\
 Rule 32
 idl FILE:LINE:COLUMN: Rule 32
-  An operation's result is `void`, a primitive or an enumerated type.
+  Results: an operation's result is `void`, a primitive or an enumerated type.
     $ echo '[local] interface t { typedef long a[2];a f(); }' > t.idl
     $ dceidl compile t.idl -
     idl t.idl:1:41: Rule 32
@@ -538,10 +546,11 @@ idl FILE:LINE:COLUMN: Rule 32
 \x0c\
 Rule 33
 idl FILE:LINE:COLUMN: Rule 33
-  It is only on an array of `char` or `byte` or on a pointer to `char` or
-  `byte`, without `length_is`, `first_is` or `last_is`. On a text, and on a
-  pointer to a conformant text, it changes nothing; a pointer to an array or
-  to a text with a fixed bound breaks the rule. An empty arm has no `string`.
+  `string`: it is only on an array of `char` or `byte` or on a pointer to
+  `char` or `byte`, without `length_is`, `first_is` or `last_is`. On a text,
+  and on a pointer to a conformant text, it changes nothing; a pointer to an
+  array or to a text with a fixed bound breaks the rule. An empty arm has no
+  `string`.
     $ echo '[local] interface t { typedef[string]long a[2]; }' > t.idl
     $ dceidl compile t.idl -
     idl t.idl:1:23: Rule 33
@@ -551,9 +560,10 @@ idl FILE:LINE:COLUMN: Rule 33
 \x0c\
 Rule 34
 idl FILE:LINE:COLUMN: Rule 34
-  They are only on a conformant array or text, or on a pointer that is not a
-  context handle, and not both on one. A member or parameter whose own type is
-  a conformant array has one of them; a conformant text needs neither.
+  `size_is`, `max_is`: they are only on a conformant array or text, or on a
+  pointer that is not a context handle, and not both on one. A member or
+  parameter whose own type is a conformant array has one of them; a conformant
+  text needs neither.
     $ echo '[local] interface t { void f([in]long a[*]); }' > t.idl
     $ dceidl compile t.idl -
     idl t.idl:1:30: Rule 34
@@ -563,9 +573,9 @@ idl FILE:LINE:COLUMN: Rule 34
 \x0c\
 Rule 35
 idl FILE:LINE:COLUMN: Rule 35
-  They are only on an array that is not a text, or on a pointer with `size_is`
-  or `max_is` that does not point to a text; `length_is` and `last_is` are not
-  both there.
+  `length_is`, `first_is`, `last_is`: they are only on an array that is not a
+  text, or on a pointer with `size_is` or `max_is` that does not point to a
+  text; `length_is` and `last_is` are not both there.
     $ echo '[local] interface t { struct s{long n;[length_is(n)]long a;}; }' > t.idl
     $ dceidl compile t.idl -
     idl t.idl:1:39: Rule 35
@@ -574,9 +584,9 @@ idl FILE:LINE:COLUMN: Rule 35
 \x0c\
 Rule 36
 idl FILE:LINE:COLUMN: Rule 36
-  The variable of `size_is`, `max_is`, `length_is`, `first_is`, `last_is` and
-  `switch_is` is another member of the struct, or another parameter of the
-  operation.
+  Variables: the variable of `size_is`, `max_is`, `length_is`, `first_is`,
+  `last_is` and `switch_is` is another member of the struct, or another
+  parameter of the operation.
     $ echo '[local] interface t { struct s{[size_is(n)]long a[*];}; }' > t.idl
     $ dceidl compile t.idl -
     idl t.idl:1:32: Rule 36
@@ -586,10 +596,10 @@ idl FILE:LINE:COLUMN: Rule 36
 \x0c\
 Rule 37
 idl FILE:LINE:COLUMN: Rule 37
-  The variable of `size_is`, `max_is`, `first_is`, `length_is` and `last_is`,
-  if that is in the list of members or parameters, is an integer (`small` to
-  `hyper`, signed or not), or, with `*`, a parameter that is a reference
-  pointer to an integer.
+  Integer variables: the variable of `size_is`, `max_is`, `first_is`,
+  `length_is` and `last_is`, if that is in the list of members or parameters,
+  is an integer (`small` to `hyper`, signed or not), or, with `*`, a parameter
+  that is a reference pointer to an integer.
     $ echo '[local] interface t { struct s{char n;[size_is(n)]long a[*];}; }' > t.idl
     $ dceidl compile t.idl -
     idl t.idl:1:39: Rule 37
@@ -599,9 +609,9 @@ idl FILE:LINE:COLUMN: Rule 37
 \x0c\
 Rule 38
 idl FILE:LINE:COLUMN: Rule 38
-  A constant without `*` is a number in the range of its type (0 and 1 for
-  `boolean`, 0 to 255 for `char` and `byte`); one with `*` is a String of type
-  `char *`, or `NULL` of type `void *`.
+  Constants: a constant without `*` is a number in the range of its type (0
+  and 1 for `boolean`, 0 to 255 for `char` and `byte`); one with `*` is a
+  String of type `char *`, or `NULL` of type `void *`.
     $ echo '[local] interface t { const char A=256; }' > t.idl
     $ dceidl compile t.idl -
     idl t.idl:1:23: Rule 38
@@ -610,7 +620,7 @@ idl FILE:LINE:COLUMN: Rule 38
 \x0c\
 Rule 39
 idl FILE:LINE:COLUMN: Rule 39
-  At most 4,096 types (numbers 0 to 11 included, used or not), 1,024
+  Counts: at most 4,096 types (numbers 0 to 11 included, used or not), 1,024
   operations, 256 parameters of one operation, and 67,108,864 members of
   structs and arms of unions in all; each label, and each `default`, counts as
   an arm. Reported at the construct with the first one that exceeds the limit:
@@ -625,10 +635,10 @@ idl FILE:LINE:COLUMN: Rule 39
 \x0c\
 Rule 40
 idl FILE:LINE:COLUMN: Rule 40
-  The interface, types, operations and parameters that the attribute
-  configuration file names are those of the IDL, and its attributes are where
-  they are allowed. Reported under that file's name; `docs/ACF.md` has the
-  places.
+  Attribute files: the interface, types, operations and parameters that the
+  attribute configuration file names are those of the IDL, and its attributes
+  are where they are allowed. Reported under that file's name; `docs/ACF.md`
+  has the places.
     $ echo '[local] interface t { }' > t.idl
     $ echo 'interface u { }' > t.acf
     $ dceidl compile t.idl t.acf

@@ -70,8 +70,9 @@ session  reads a script of lines, `open CLIENT UUID`, `use UUID TEXT`,
          of a client. It writes a line for each, and ends what is open.
 sample   makes a graph of COUNT cells from SEED, encodes and decodes it, and
          writes a summary. Without words it is `sample 1 2`.
-why      writes what a word of an error's line means, with an example and what to
-         do, as for `why Rule 30` or `why status 5`. Without words it lists all.
+why      writes what a word of an error's line means, with an example and what
+         to do, as for `why Rule 30` or `why status 5`. Without words it lists
+         all.
 
 IDL      the path of a file of IDL
 ACF      the path of an attribute configuration file, or `-` for none
