@@ -3,18 +3,19 @@
 
 mod call;
 mod encode;
-mod input;
 pub mod laws;
-mod outcome;
 mod perform;
 mod reading;
 mod ready;
+mod sessions;
 mod top;
 mod wrap;
 
 pub use command_line::{CHUNK_LIMIT, Words};
 pub use command_refusals::{IdlReason, OctetsFault, Refusal, Status};
-pub use outcome::Outcome;
+pub use command_streams::Outcome;
+pub use ctx_session::Stock;
+pub use sessions::run_with;
 pub use top::run;
 
 /// How many elements a chunk of a pipe has in what `wrap` writes.
@@ -31,6 +32,7 @@ usage: dceidl compile IDL ACF
        dceidl migrate IDL ACF OP SIDE
        dceidl call IDL ACF OP
        dceidl wrap IDL ACF OP SIDE ORDER CALL MAX
+       dceidl session
        dceidl sample SEED COUNT
        dceidl --help
        dceidl --version
@@ -56,6 +58,11 @@ call     reads the PDUs of one request (OP `-`) or of one response to OP (C706,
          values as `decode` does. A request states its operation.
 wrap     reads such a text, and writes the PDUs of a request or response with its
          values, at most MAX octets each, with the call id CALL.
+session  reads a script of lines, `open CLIENT UUID`, `use UUID TEXT`,
+         `close UUID` and `down CLIENT`, and does what they say with the files
+         res0.out to res7.out of the current folder: opens the next one under the
+         UUID of a context handle, appends a line to it, ends it, ends all of a
+         client. It writes a line for each, and ends what is open.
 sample   makes a graph of COUNT cells from SEED, encodes and decodes it, and
          writes a summary. Without words it is `sample 1 2`.
 
@@ -79,8 +86,8 @@ Input is read from standard input, and output is written to standard output. An
 error is one line on standard error. The exit status is
 
 0  success
-1  bad octets, PDUs, text or values, or too many octets to write or pipes to
-   drain
+1  bad octets, PDUs, text, script or values, or too many octets to write or
+   pipes to drain
 2  bad command line
 3  input error
 4  output error
