@@ -3,9 +3,9 @@
 
     tests/library.py [--prefix FOLDER] [--copies COUNT] [examples|streams ..]
 
-`examples` runs the program of README.md and those of examples/c and examples/python, and compares what they print. `streams` decodes the octets of tests/outside and mutated
-copies of them (tests/library/streams.c): COUNT copies of each under AddressSanitizer, 800 if it is left out, and a twentieth of these under valgrind. The
-library is built and installed in a folder of its own, or taken from FOLDER, as bin/dceidl-lib fills it.
+`examples` runs the program of README.md and those of examples/c, examples/python and examples/rust, and compares what they print. `streams` decodes the
+octets of tests/outside and mutated copies of them (tests/library/streams.c): COUNT copies of each under AddressSanitizer, 800 if it is left out, and a
+twentieth of these under valgrind. The library is built and installed in a folder of its own, or taken from FOLDER, as bin/dceidl-lib fills it.
 
 It needs `cc`; what is missing besides is named and left out. The last line is `N passed, M failed, K left out`, and the status is 1 if one failed.
 """
@@ -79,6 +79,14 @@ def examples(run: Run) -> None:
     made = run.compile(ROOT / "examples" / "c" / "greet.c", "greet")
     if made:
         run.expect("examples/c/greet.c", [str(made)], GREET)
+    if shutil.which("rustc"):
+        made = run.folder / "greet-rust"
+        words = ["rustc", "--edition", "2021", str(ROOT / "examples/rust/greet.rs"), "-L", f"{run.prefix}/lib", "-o", str(made)]
+        ran = subprocess.run(words, capture_output=True, text=True)
+        run.note("rustc greet.rs", [ran.stderr] if ran.returncode or ran.stderr else [])
+        run.expect("examples/rust/greet.rs", [str(made)], GREET)
+    else:
+        run.leave_out("examples/rust/greet.rs", "rustc")
     run.expect("examples/python/greet.py", [sys.executable, str(ROOT / "examples/python/greet.py"), f"{run.prefix}/lib/libdceidl.so.0"], GREET)
 
 
