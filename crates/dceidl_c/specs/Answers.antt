@@ -1,7 +1,6 @@
 -- What handles hold, and what numbers mean.
-use Rattle.std.specs.Prelude.{ℕ, Bool, List, Option, Some, None, ◌==◌, if◌then◌else◌}
+use Rattle.std.specs.Prelude.{ℕ, Option, Some, None, ◌==◌, if◌then◌else◌}
 use Rattle.std.specs.Arc.{arc_value}
-use Rattle.std.specs.List.{list_any}
 use Rattle.nd_base.specs.declared.octets.Order.{Order}
 use Rattle.nd_base.specs.declared.octets.Order.TheVariants.{Big, Little}
 use Rattle.nd_types.specs.declared.interface.Interface.{Interface}
@@ -11,10 +10,6 @@ use Rattle.nd_value.specs.Fitting.{Fitting}
 use Rattle.command_refusals.specs.declared.refusal.Refusal.{Refusal}
 use Rattle.library_handles.specs.declared.held.Held.{Held}
 use Rattle.library_handles.specs.declared.held.Held.TheVariants as kept
-
--- the number is one of these
-abbrev pub one_of : List ℕ → ℕ → Bool
-one_of numbers n = list_any (λ k. k == n) numbers
 
 -- the interface that a handle holds
 abbrev pub interface_in : Option Held → Option Interface

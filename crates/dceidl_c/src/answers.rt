@@ -1,8 +1,6 @@
 // What calls answer, and what they fill.
-ghost use Rattle.std.specs.Prelude.{◌≡◌, ◌≤◌, ◌<◌, [], ◌∷◌, length, take, Some, true};
+ghost use Rattle.std.specs.Prelude.{◌≡◌, ◌≤◌, ◌<◌, length, take, Some};
 ghost use Rattle.library_handles.specs.declared.held.Held.TheVariants as kept;
-ghost use Rattle.command_refusals.specs.declared.refusal.Refusal.TheVariants as refusals;
-ghost use Rattle.dceidl_c.specs.Answers.{one_of};
 
 use command_refusals::Refusal;
 use library_handles::{Handle, Held};
@@ -31,7 +29,8 @@ pub(crate) const ABSENT: u32 = 6;
 
 // Fills a handle.
 pub(crate) fn fill(alloc: Global, handle: &mut Handle, held: Held) -> u32
-    ensures known { one_of (OK ∷ MEMORY ∷ []) result ≡ true }
+    ensures known { result ≤ ABSENT }
+    ensures not_empty { result ≡ EMPTY → ⊥ }
     ensures filled { result ≡ OK → handle.new.value ≡ Some held }
     ensures kept { (result ≡ OK → ⊥) → handle.new.value ≡ handle.old.value }
 {
@@ -46,33 +45,28 @@ pub(crate) fn fill(alloc: Global, handle: &mut Handle, held: Held) -> u32
 
 // Fills the handle of a fault. That memory was refused is no fault.
 pub(crate) fn refuse(alloc: Global, fault: &mut Handle, refusal: Refusal) -> u32
-    ensures known { one_of (MEMORY ∷ REFUSED ∷ []) result ≡ true }
+    ensures known { result ≤ ABSENT }
+    ensures not_empty { result ≡ EMPTY → ⊥ }
+    ensures not_ok { result ≡ OK → ⊥ }
     ensures refused { result ≡ REFUSED → fault.new.value ≡ Some (kept.Refusal refusal) }
-    ensures why { result ≡ REFUSED → refusal ≡ refusals.Memory → ⊥ }
     ensures kept { (result ≡ REFUSED → ⊥) → fault.new.value ≡ fault.old.value }
 {
-    if is_memory(&refusal) {
-        return MEMORY;
-    }
-    match fill(alloc, fault, Held::Refusal(refusal)) {
-        OK => REFUSED,
-        _ => MEMORY,
-    }
-}
-
-// Whether memory was refused.
-fn is_memory(refusal: &Refusal) -> bool
-    ensures { refusal.now ≡ refusals.Memory → result ≡ true }
-{
     match refusal {
-        Refusal::Memory => true,
-        _ => false,
+        Refusal::Memory => MEMORY,
+        other => match Box::new(alloc, Held::Refusal(other)) {
+            Ok(held) => {
+                fault.put(alloc, held);
+                REFUSED
+            }
+            Err(_) => MEMORY,
+        },
     }
 }
 
 // Lays out octets at the front of a buffer, if it has room for them, and says how many they are.
 pub(crate) fn lay_out(octets: &[u8], out: &mut [u8], len: &mut usize) -> u32
-    ensures known { one_of (OK ∷ SHORT ∷ []) result ≡ true }
+    ensures known { result ≤ ABSENT }
+    ensures not_empty { result ≡ EMPTY → ⊥ }
     ensures len { len.new ≡ length octets.now }
     ensures done { result ≡ OK → take len.new out.new ≡ octets.now }
     ensures short { result ≡ SHORT → length out.old < len.new }

@@ -1,10 +1,10 @@
 // Faults.
-ghost use Rattle.std.specs.Prelude.{◌≡◌, ◌<◌, [], ◌∷◌, length, take, Some, None, true, IfSome};
+ghost use Rattle.std.specs.Prelude.{◌≡◌, ◌≤◌, ◌<◌, [], length, take, None, IfSome};
 ghost use Rattle.command_refusals.specs.Lines.{line_of};
-ghost use Rattle.dceidl_c.specs.Answers.{one_of, refusal_in};
+ghost use Rattle.dceidl_c.specs.Answers.{refusal_in};
 ghost use Rattle.dceidl_c.specs.Places.{place_of, line_number_of, column_of};
 
-use crate::answers::{EMPTY, MEMORY, OK, SHORT, lay_out};
+use crate::answers::{ABSENT, EMPTY, MEMORY, OK, SHORT, lay_out};
 use crate::interfaces::free;
 use command_refusals::{Refusal, line};
 use library_handles::{Handle, Held};
@@ -18,7 +18,7 @@ pub extern "C" fn dceidl_fault_line(
     out: &mut [u8],
     len: &mut usize,
 ) -> u32
-    ensures known { one_of (OK ∷ EMPTY ∷ MEMORY ∷ SHORT ∷ []) result ≡ true }
+    ensures known { result ≤ ABSENT }
     ensures same { fault.new.value ≡ fault.old.value }
     ensures written { result ≡ OK → IfSome (refusal_in fault.old.value) (λ r. take len.new out.new ≡ line_of [] [] r) }
     ensures short { result ≡ SHORT → length out.old < len.new }
@@ -38,7 +38,8 @@ pub extern "C" fn dceidl_fault_line(
 
 // Writes the line that reports a refusal.
 fn write_line(alloc: Global, refusal: &Refusal, out: &mut [u8], len: &mut usize) -> u32
-    ensures known { one_of (OK ∷ MEMORY ∷ SHORT ∷ []) result ≡ true }
+    ensures known { result ≤ ABSENT }
+    ensures not_empty { result ≡ EMPTY → ⊥ }
     ensures written { result ≡ OK → take len.new out.new ≡ line_of [] [] refusal.now }
     ensures short { result ≡ SHORT → length out.old < len.new }
     ensures kept { (result ≡ OK → ⊥) → out.new ≡ out.old }
@@ -58,7 +59,7 @@ pub extern "C" fn dceidl_fault_place(
     line: &mut u64,
     column: &mut u64,
 ) -> u32
-    ensures known { one_of (OK ∷ EMPTY ∷ []) result ≡ true }
+    ensures known { result ≤ ABSENT }
     ensures same { fault.new.value ≡ fault.old.value }
     ensures place { result ≡ OK → IfSome (refusal_in fault.old.value)
         (λ r. (place.new ≡ place_of r) × (line.new ≡ line_number_of r) × (column.new ≡ column_of r)) }
@@ -91,7 +92,22 @@ fn place_in(refusal: &Refusal) -> (u64, u64, u64)
         Refusal::BadOctets { place, .. } => (u64::from(*place), 0, 0),
         Refusal::BadIdl { line, column, .. } => (0, *line, *column),
         Refusal::BadText { line, column, .. } => (0, u64::from(*line), u64::from(*column)),
-        _ => (0, 0, 0),
+        Refusal::Memory
+        | Refusal::Absent { .. }
+        | Refusal::FileFailed { .. }
+        | Refusal::NoOperation
+        | Refusal::ReadFault
+        | Refusal::BadValue { .. }
+        | Refusal::TooLong { .. }
+        | Refusal::BadRequest(_)
+        | Refusal::BadLabel(_)
+        | Refusal::ShortLabel
+        | Refusal::TooFewEnds { .. }
+        | Refusal::EndFailed { .. }
+        | Refusal::BadPdu { .. }
+        | Refusal::NotCompatible(_)
+        | Refusal::BadScript { .. }
+        | Refusal::LongScript => (0, 0, 0),
     }
 }
 

@@ -1,9 +1,9 @@
 // Interfaces.
-ghost use Rattle.std.specs.Prelude.{◌≡◌, ◌<◌, [], ◌∷◌, length, take, Some, None, true, IfSome, IsUtf8};
+ghost use Rattle.std.specs.Prelude.{◌≡◌, ◌≤◌, ◌<◌, length, take, Some, None, true, is_some, IfSome, IsUtf8};
 ghost use Rattle.std.specs.Arc.{arc_value};
 ghost use Rattle.std.specs.List.{slice_get};
 ghost use Rattle.nd_types.specs.Operations.{operation_named};
-ghost use Rattle.dceidl_c.specs.Answers.{one_of, interface_in};
+ghost use Rattle.dceidl_c.specs.Answers.{interface_in};
 
 use crate::answers::{ABSENT, ARGUMENT, EMPTY, MEMORY, OK, REFUSED, SHORT, fill, lay_out, refuse};
 use lent_files::File;
@@ -30,8 +30,9 @@ pub extern "C" fn dceidl_compile(
     interface: &mut Handle,
     fault: &mut Handle,
 ) -> u32
-    ensures known { one_of (OK ∷ ARGUMENT ∷ MEMORY ∷ REFUSED ∷ []) result ≡ true }
-    ensures filled { result ≡ OK → interface_in interface.new.value ≡ None → ⊥ }
+    ensures known { result ≤ ABSENT }
+    ensures not_empty { result ≡ EMPTY → ⊥ }
+    ensures filled { result ≡ OK → is_some (interface_in interface.new.value) ≡ true }
     ensures interface_kept { (result ≡ OK → ⊥) → interface.new.value ≡ interface.old.value }
     ensures fault_kept { (result ≡ REFUSED → ⊥) → fault.new.value ≡ fault.old.value }
 {
@@ -62,8 +63,9 @@ fn compile(
     interface: &mut Handle,
     fault: &mut Handle,
 ) -> u32
-    ensures known { one_of (OK ∷ ARGUMENT ∷ MEMORY ∷ REFUSED ∷ []) result ≡ true }
-    ensures filled { result ≡ OK → interface_in interface.new.value ≡ None → ⊥ }
+    ensures known { result ≤ ABSENT }
+    ensures not_empty { result ≡ EMPTY → ⊥ }
+    ensures filled { result ≡ OK → is_some (interface_in interface.new.value) ≡ true }
     ensures interface_kept { (result ≡ OK → ⊥) → interface.new.value ≡ interface.old.value }
     ensures fault_kept { (result ≡ REFUSED → ⊥) → fault.new.value ≡ fault.old.value }
 {
@@ -84,7 +86,7 @@ pub extern "C" fn dceidl_interface_again(
     interface: &mut Handle,
     again: &mut Handle,
 ) -> u32
-    ensures known { one_of (OK ∷ EMPTY ∷ MEMORY ∷ []) result ≡ true }
+    ensures known { result ≤ ABSENT }
     ensures same { interface.new.value ≡ interface.old.value }
     ensures filled { result ≡ OK → interface_in again.new.value ≡ interface_in interface.old.value }
     ensures empty { result ≡ EMPTY → interface_in interface.old.value ≡ None }
@@ -103,7 +105,8 @@ pub extern "C" fn dceidl_interface_again(
 
 // Fills a handle with an interface that others have too.
 fn share(alloc: Global, compiled: &Arc<Compiled>, again: &mut Handle) -> u32
-    ensures known { one_of (OK ∷ MEMORY ∷ []) result ≡ true }
+    ensures known { result ≤ ABSENT }
+    ensures not_empty { result ≡ EMPTY → ⊥ }
     ensures filled { result ≡ OK → interface_in again.new.value ≡ Some (arc_value compiled.now) }
     ensures kept { (result ≡ OK → ⊥) → again.new.value ≡ again.old.value }
 {
@@ -137,7 +140,7 @@ pub extern "C" fn dceidl_operation_count(
     interface: &mut Handle,
     count: &mut usize,
 ) -> u32
-    ensures known { one_of (OK ∷ EMPTY ∷ []) result ≡ true }
+    ensures known { result ≤ ABSENT }
     ensures same { interface.new.value ≡ interface.old.value }
     ensures count { result ≡ OK → IfSome (interface_in interface.old.value) (λ i. count.new ≡ length i.operations) }
     ensures empty { result ≡ EMPTY → interface_in interface.old.value ≡ None }
@@ -164,7 +167,7 @@ pub extern "C" fn dceidl_operation_number(
     name: &[u8],
     operation: &mut u32,
 ) -> u32
-    ensures known { one_of (OK ∷ EMPTY ∷ ARGUMENT ∷ ABSENT ∷ []) result ≡ true }
+    ensures known { result ≤ ABSENT }
     ensures same { interface.new.value ≡ interface.old.value }
     ensures found { result ≡ OK → IfSome (interface_in interface.old.value) (λ i. operation_named i.operations name.now ≡ Some operation.new) }
     ensures absent { result ≡ ABSENT → IfSome (interface_in interface.old.value) (λ i. operation_named i.operations name.now ≡ None) }
@@ -184,7 +187,8 @@ pub extern "C" fn dceidl_operation_number(
 
 // The number of the operation of a name.
 fn number(compiled: &Compiled, name: &[u8], operation: &mut u32) -> u32
-    ensures known { one_of (OK ∷ ARGUMENT ∷ ABSENT ∷ []) result ≡ true }
+    ensures known { result ≤ ABSENT }
+    ensures not_empty { result ≡ EMPTY → ⊥ }
     ensures found { result ≡ OK → operation_named compiled.now.operations name.now ≡ Some operation.new }
     ensures absent { result ≡ ABSENT → operation_named compiled.now.operations name.now ≡ None }
     ensures argument { result ≡ ARGUMENT → IsUtf8 name.now → ⊥ }
@@ -211,7 +215,7 @@ pub extern "C" fn dceidl_operation_name(
     out: &mut [u8],
     length: &mut usize,
 ) -> u32
-    ensures known { one_of (OK ∷ EMPTY ∷ ARGUMENT ∷ SHORT ∷ []) result ≡ true }
+    ensures known { result ≤ ABSENT }
     ensures same { interface.new.value ≡ interface.old.value }
     ensures empty { result ≡ EMPTY → interface_in interface.old.value ≡ None }
     ensures kept { (result ≡ OK → ⊥) → out.new ≡ out.old }
@@ -229,7 +233,8 @@ pub extern "C" fn dceidl_operation_name(
 
 // Writes the name of an operation.
 fn name(compiled: &Compiled, operation: u32, out: &mut [u8], len: &mut usize) -> u32
-    ensures known { one_of (OK ∷ ARGUMENT ∷ SHORT ∷ []) result ≡ true }
+    ensures known { result ≤ ABSENT }
+    ensures not_empty { result ≡ EMPTY → ⊥ }
     ensures written { result ≡ OK → IfSome (slice_get compiled.now.operations operation) (λ o. take len.new out.new ≡ o.name) }
     ensures argument { result ≡ ARGUMENT → slice_get compiled.now.operations operation ≡ None }
     ensures short { result ≡ SHORT → length out.old < len.new }

@@ -9,10 +9,12 @@ use nd_types::Side;
 pub(crate) fn side_of(number: u32) -> Option<Side>
     ensures { result ≡ side_numbered number }
 {
-    match number {
-        0 => Some(Side::In),
-        1 => Some(Side::Out),
-        _ => None,
+    if number == 0 {
+        Some(Side::In)
+    } else if number == 1 {
+        Some(Side::Out)
+    } else {
+        None
     }
 }
 
@@ -30,9 +32,11 @@ pub(crate) fn number_of(side: Side) -> u32
 pub(crate) fn order_of(number: u32) -> Option<Order>
     ensures { result ≡ order_numbered number }
 {
-    match number {
-        0 => Some(Order::Little),
-        1 => Some(Order::Big),
-        _ => None,
+    if number == 0 {
+        Some(Order::Little)
+    } else if number == 1 {
+        Some(Order::Big)
+    } else {
+        None
     }
 }

@@ -1,10 +1,9 @@
 // Values of octets and of texts.
-ghost use Rattle.std.specs.Prelude.{◌≡◌, ◌≤◌, ◌<◌, [], ◌∷◌, length, Some, None, true};
-ghost use Rattle.std.specs.Arc.{arc_value};
+ghost use Rattle.std.specs.Prelude.{◌≡◌, ◌≤◌, Some, None, true, is_some};
 ghost use Rattle.nd_types.specs.declared.types.Side.TheVariants.{In};
-ghost use Rattle.dceidl_c.specs.Answers.{one_of, interface_in, values_in};
+ghost use Rattle.dceidl_c.specs.Answers.{interface_in, values_in};
 
-use crate::answers::{ARGUMENT, EMPTY, MEMORY, OK, REFUSED, fill, refuse};
+use crate::answers::{ABSENT, ARGUMENT, EMPTY, OK, REFUSED, fill, refuse};
 use crate::numbers::{order_of, side_of};
 use library_handles::{Handle, Held};
 use library_interface::Compiled;
@@ -26,9 +25,9 @@ pub extern "C" fn dceidl_decode(
     taken: &mut usize,
     fault: &mut Handle,
 ) -> u32
-    ensures known { one_of (OK ∷ EMPTY ∷ ARGUMENT ∷ MEMORY ∷ REFUSED ∷ []) result ≡ true }
+    ensures known { result ≤ ABSENT }
     ensures same { interface.new.value ≡ interface.old.value }
-    ensures filled { result ≡ OK → values_in values.new.value ≡ None → ⊥ }
+    ensures filled { result ≡ OK → is_some (values_in values.new.value) ≡ true }
     ensures empty { result ≡ EMPTY → interface_in interface.old.value ≡ None }
     ensures values_kept { (result ≡ OK → ⊥) → values.new.value ≡ values.old.value }
     ensures fault_kept { (result ≡ REFUSED → ⊥) → fault.new.value ≡ fault.old.value }
@@ -58,8 +57,9 @@ fn decode(
     taken: &mut usize,
     fault: &mut Handle,
 ) -> u32
-    ensures known { one_of (OK ∷ ARGUMENT ∷ MEMORY ∷ REFUSED ∷ []) result ≡ true }
-    ensures filled { result ≡ OK → values_in values.new.value ≡ None → ⊥ }
+    ensures known { result ≤ ABSENT }
+    ensures not_empty { result ≡ EMPTY → ⊥ }
+    ensures filled { result ≡ OK → is_some (values_in values.new.value) ≡ true }
     ensures values_kept { (result ≡ OK → ⊥) → values.new.value ≡ values.old.value }
     ensures fault_kept { (result ≡ REFUSED → ⊥) → fault.new.value ≡ fault.old.value }
 {
@@ -86,7 +86,8 @@ fn fill_taken(
     values: &mut Handle,
     taken: &mut usize,
 ) -> u32
-    ensures known { one_of (OK ∷ MEMORY ∷ []) result ≡ true }
+    ensures known { result ≤ ABSENT }
+    ensures not_empty { result ≡ EMPTY → ⊥ }
     ensures filled { result ≡ OK → values_in values.new.value ≡ Some made }
     ensures taken { taken.new ≡ count }
     ensures kept { (result ≡ OK → ⊥) → values.new.value ≡ values.old.value }
@@ -106,9 +107,9 @@ pub extern "C" fn dceidl_decode_response(
     taken: &mut usize,
     fault: &mut Handle,
 ) -> u32
-    ensures known { one_of (OK ∷ EMPTY ∷ ARGUMENT ∷ MEMORY ∷ REFUSED ∷ []) result ≡ true }
+    ensures known { result ≤ ABSENT }
     ensures same { request.new.value ≡ request.old.value }
-    ensures filled { result ≡ OK → values_in values.new.value ≡ None → ⊥ }
+    ensures filled { result ≡ OK → is_some (values_in values.new.value) ≡ true }
     ensures empty { result ≡ EMPTY → values_in request.old.value ≡ None }
     ensures values_kept { (result ≡ OK → ⊥) → values.new.value ≡ values.old.value }
     ensures fault_kept { (result ≡ REFUSED → ⊥) → fault.new.value ≡ fault.old.value }
@@ -136,8 +137,9 @@ fn decode_response(
     taken: &mut usize,
     fault: &mut Handle,
 ) -> u32
-    ensures known { one_of (OK ∷ ARGUMENT ∷ MEMORY ∷ REFUSED ∷ []) result ≡ true }
-    ensures filled { result ≡ OK → values_in values.new.value ≡ None → ⊥ }
+    ensures known { result ≤ ABSENT }
+    ensures not_empty { result ≡ EMPTY → ⊥ }
+    ensures filled { result ≡ OK → is_some (values_in values.new.value) ≡ true }
     ensures values_kept { (result ≡ OK → ⊥) → values.new.value ≡ values.old.value }
     ensures fault_kept { (result ≡ REFUSED → ⊥) → fault.new.value ≡ fault.old.value }
 {
@@ -174,9 +176,9 @@ pub extern "C" fn dceidl_read(
     values: &mut Handle,
     fault: &mut Handle,
 ) -> u32
-    ensures known { one_of (OK ∷ EMPTY ∷ ARGUMENT ∷ MEMORY ∷ REFUSED ∷ []) result ≡ true }
+    ensures known { result ≤ ABSENT }
     ensures same { interface.new.value ≡ interface.old.value }
-    ensures filled { result ≡ OK → values_in values.new.value ≡ None → ⊥ }
+    ensures filled { result ≡ OK → is_some (values_in values.new.value) ≡ true }
     ensures empty { result ≡ EMPTY → interface_in interface.old.value ≡ None }
     ensures values_kept { (result ≡ OK → ⊥) → values.new.value ≡ values.old.value }
     ensures fault_kept { (result ≡ REFUSED → ⊥) → fault.new.value ≡ fault.old.value }
@@ -204,8 +206,9 @@ fn read(
     values: &mut Handle,
     fault: &mut Handle,
 ) -> u32
-    ensures known { one_of (OK ∷ ARGUMENT ∷ MEMORY ∷ REFUSED ∷ []) result ≡ true }
-    ensures filled { result ≡ OK → values_in values.new.value ≡ None → ⊥ }
+    ensures known { result ≤ ABSENT }
+    ensures not_empty { result ≡ EMPTY → ⊥ }
+    ensures filled { result ≡ OK → is_some (values_in values.new.value) ≡ true }
     ensures values_kept { (result ≡ OK → ⊥) → values.new.value ≡ values.old.value }
     ensures fault_kept { (result ≡ REFUSED → ⊥) → fault.new.value ≡ fault.old.value }
 {
@@ -230,9 +233,9 @@ pub extern "C" fn dceidl_read_response(
     values: &mut Handle,
     fault: &mut Handle,
 ) -> u32
-    ensures known { one_of (OK ∷ EMPTY ∷ ARGUMENT ∷ MEMORY ∷ REFUSED ∷ []) result ≡ true }
+    ensures known { result ≤ ABSENT }
     ensures same { request.new.value ≡ request.old.value }
-    ensures filled { result ≡ OK → values_in values.new.value ≡ None → ⊥ }
+    ensures filled { result ≡ OK → is_some (values_in values.new.value) ≡ true }
     ensures empty { result ≡ EMPTY → values_in request.old.value ≡ None }
     ensures values_kept { (result ≡ OK → ⊥) → values.new.value ≡ values.old.value }
     ensures fault_kept { (result ≡ REFUSED → ⊥) → fault.new.value ≡ fault.old.value }
@@ -256,8 +259,9 @@ fn read_response(
     values: &mut Handle,
     fault: &mut Handle,
 ) -> u32
-    ensures known { one_of (OK ∷ ARGUMENT ∷ MEMORY ∷ REFUSED ∷ []) result ≡ true }
-    ensures filled { result ≡ OK → values_in values.new.value ≡ None → ⊥ }
+    ensures known { result ≤ ABSENT }
+    ensures not_empty { result ≡ EMPTY → ⊥ }
+    ensures filled { result ≡ OK → is_some (values_in values.new.value) ≡ true }
     ensures values_kept { (result ≡ OK → ⊥) → values.new.value ≡ values.old.value }
     ensures fault_kept { (result ≡ REFUSED → ⊥) → fault.new.value ≡ fault.old.value }
 {

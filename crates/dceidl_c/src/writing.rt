@@ -1,8 +1,8 @@
 // Values as a text and as octets.
-ghost use Rattle.std.specs.Prelude.{◌≡◌, ◌≤◌, ◌<◌, [], ◌∷◌, length, None, true, IfSome};
-ghost use Rattle.dceidl_c.specs.Answers.{one_of, values_in, number_of_side};
+ghost use Rattle.std.specs.Prelude.{◌≡◌, ◌≤◌, ◌<◌, length, None, IfSome};
+ghost use Rattle.dceidl_c.specs.Answers.{values_in, number_of_side};
 
-use crate::answers::{ARGUMENT, EMPTY, MEMORY, OK, REFUSED, SHORT, lay_out, refuse};
+use crate::answers::{ABSENT, ARGUMENT, EMPTY, MEMORY, OK, REFUSED, SHORT, lay_out, refuse};
 use crate::interfaces::free;
 use crate::numbers::{number_of, order_of};
 use library_handles::{Handle, Held};
@@ -17,7 +17,7 @@ pub extern "C" fn dceidl_values_of(
     operation: &mut u32,
     side: &mut u32,
 ) -> u32
-    ensures known { one_of (OK ∷ EMPTY ∷ []) result ≡ true }
+    ensures known { result ≤ ABSENT }
     ensures same { values.new.value ≡ values.old.value }
     ensures of { result ≡ OK → IfSome (values_in values.old.value) (λ v. (operation.new ≡ v.op) × (side.new ≡ number_of_side v.side)) }
     ensures empty { result ≡ EMPTY → values_in values.old.value ≡ None }
@@ -45,7 +45,7 @@ pub extern "C" fn dceidl_text(
     out: &mut [u8],
     len: &mut usize,
 ) -> u32
-    ensures known { one_of (OK ∷ EMPTY ∷ MEMORY ∷ SHORT ∷ []) result ≡ true }
+    ensures known { result ≤ ABSENT }
     ensures same { values.new.value ≡ values.old.value }
     ensures short { result ≡ SHORT → length out.old < len.new }
     ensures empty { result ≡ EMPTY → values_in values.old.value ≡ None }
@@ -64,7 +64,8 @@ pub extern "C" fn dceidl_text(
 
 // Writes the text of values.
 fn text(alloc: Global, values: &Values, out: &mut [u8], len: &mut usize) -> u32
-    ensures known { one_of (OK ∷ MEMORY ∷ SHORT ∷ []) result ≡ true }
+    ensures known { result ≤ ABSENT }
+    ensures not_empty { result ≡ EMPTY → ⊥ }
     ensures short { result ≡ SHORT → length out.old < len.new }
     ensures kept { (result ≡ OK → ⊥) → out.new ≡ out.old }
 {
@@ -85,9 +86,8 @@ pub extern "C" fn dceidl_encode(
     len: &mut usize,
     fault: &mut Handle,
 ) -> u32
-    ensures known { one_of (OK ∷ EMPTY ∷ ARGUMENT ∷ MEMORY ∷ SHORT ∷ REFUSED ∷ []) result ≡ true }
+    ensures known { result ≤ ABSENT }
     ensures same { values.new.value ≡ values.old.value }
-    ensures short { result ≡ SHORT → length out.old < len.new }
     ensures empty { result ≡ EMPTY → values_in values.old.value ≡ None }
     ensures fault_kept { (result ≡ REFUSED → ⊥) → fault.new.value ≡ fault.old.value }
 {
@@ -114,8 +114,8 @@ fn encode(
     len: &mut usize,
     fault: &mut Handle,
 ) -> u32
-    ensures known { one_of (OK ∷ ARGUMENT ∷ MEMORY ∷ SHORT ∷ REFUSED ∷ []) result ≡ true }
-    ensures short { result ≡ SHORT → length out.old < len.new }
+    ensures known { result ≤ ABSENT }
+    ensures not_empty { result ≡ EMPTY → ⊥ }
     ensures fault_kept { (result ≡ REFUSED → ⊥) → fault.new.value ≡ fault.old.value }
 {
     let Some(order) = order_of(order) else {
