@@ -72,7 +72,6 @@ impl Values {
 }
 
 // The values of the response to a request.
-#[tactic(auto, using(crate::proofs::Requests::request_is))]
 fn decode_given(
     alloc: Global,
     compiled: &Arc<Compiled>,

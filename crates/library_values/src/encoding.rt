@@ -1,5 +1,5 @@
 // The values of a fit are written to a buffer.
-ghost use Rattle.std.specs.Prelude.{◌≡◌, ◌≤◌, length, IfOk, IfErr};
+ghost use Rattle.std.specs.Prelude.{◌≡◌, ◌≤◌, length, IfOk, IfErr, OnErr};
 ghost use Rattle.ndr_encode.specs.Work.{HasLength, IsWorkFor};
 ghost use Rattle.library_values.specs.Encoded.{IsEncoded, IsEncodeCause};
 
@@ -32,6 +32,7 @@ pub(crate) fn encode_fit(
     requires some { 1 ≤ chunk }
     ensures encoded { IfOk result (IsEncoded fit.now order chunk out.old out.new) }
     ensures refused { IfErr result (IsEncodeCause fit.now chunk) }
+    ensures kept { OnErr result (out.new ≡ out.old) }
     ensures wide { length out.new ≡ length out.old }
 {
     match Work::for_graph(alloc, plan, fit, chunk) {

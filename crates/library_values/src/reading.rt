@@ -66,7 +66,6 @@ impl Values {
 }
 
 // The values of the response to a request.
-#[tactic(auto, using(crate::proofs::Requests::request_is))]
 fn read_given(
     alloc: Global,
     compiled: &Arc<Compiled>,

@@ -1,5 +1,5 @@
 // Values with their interface.
-ghost use Rattle.std.specs.Prelude.{◌≡◌, ◌≤◌, length, Some, IfOk, IfErr};
+ghost use Rattle.std.specs.Prelude.{◌≡◌, ◌≤◌, length, Some, IfOk, IfErr, OnErr};
 ghost use Rattle.std.specs.Arc.{arc_value};
 ghost use Rattle.std.specs.List.{slice_get};
 ghost use Rattle.nd_types.specs.declared.types.Operation.{Operation};
@@ -95,6 +95,7 @@ impl Values {
         requires some { 1 ≤ chunk }
         ensures encoded { IfOk result (IsEncoded self.now order chunk out.old out.new) }
         ensures refused { IfErr result (IsEncodeCause self.now chunk) }
+        ensures kept { OnErr result (out.new ≡ out.old) }
         ensures wide { length out.new ≡ length out.old }
     {
         encode_fit(alloc, plan_of(&self.compiled), &self.fit, order, chunk, out)

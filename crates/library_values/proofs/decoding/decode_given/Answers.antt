@@ -5,7 +5,11 @@ use Rattle.nd_types.specs.declared.interface.Interface.{Interface}
 use Rattle.nd_types.specs.declared.types.Side.TheVariants.{Out}
 use Rattle.nd_value.specs.Fitting.{setting_beside}
 use Rattle.library_values.specs.Decoded.{IsDecodedOf, IsOctetsCause, IsOf}
+use Rattle.library_values.proofs.Requests.{request_is}
 use Rattle.library_values.proofs.decoding.decode_given.Goals as goal
+
+pub decode_beside-requires-clause-request : goal.decode_beside-requires-clause-request
+decode_beside-requires-clause-request c = request_is (arc_value c.args.compiled.now) c.op-op.result c.args.request.now (sym c.requires.tied) (sym c.op-op.ensures) c.requires.request
 
 pub returns-clause-decoded : goal.returns-clause-decoded
 returns-clause-decoded c o there =

@@ -7,7 +7,11 @@ use Rattle.nd_value.specs.Fitting.{setting_beside}
 use Rattle.text_grammar.specs.Reads.{ReadsAs}
 use Rattle.command_text.specs.Fitted.{IsTextCause}
 use Rattle.library_values.specs.Decoded.{IsOf}
+use Rattle.library_values.proofs.Requests.{request_is}
 use Rattle.library_values.proofs.reading.read_given.Goals as goal
+
+pub read_beside-requires-clause-request : goal.read_beside-requires-clause-request
+read_beside-requires-clause-request c = request_is (arc_value c.args.compiled.now) c.op-op.result c.args.request.now (sym c.requires.tied) (sym c.op-op.ensures) c.requires.request
 
 pub returns-clause-read : goal.returns-clause-read
 returns-clause-read c o there =
