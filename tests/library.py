@@ -23,7 +23,7 @@ from typing import Dict, List, Optional, Sequence
 ROOT = Path(__file__).resolve().parent.parent
 OUTSIDE = ROOT / "tests" / "outside"
 ADD = "values 2\nop add in\na = 1\nb = 2\n"
-GREET = 'values 2\nop greet in\nname = "Ada"\n03000000\n'
+GREET = 'values 2\nop greet in\nname = @1\n@1 = 4:"Ada"\n03000000\n'
 SANITIZED = ["-g", "-O1", "-fsanitize=address,undefined", "-fno-sanitize-recover=all"]
 VALGRIND = ["valgrind", "-q", "--leak-check=full", "--show-leak-kinds=all", "--error-exitcode=9"]
 
