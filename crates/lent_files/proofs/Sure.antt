@@ -58,7 +58,8 @@ pub bad_later : {A : Type 0} (files : List File) (i : ℕ) (name text : List ℕ
 bad_later files i name text (Ok x) e named written same bad failed = absurd same
 bad_later files i name text (Err y) e named written same bad failed =
     let f = found_as (slice_get files i) name text named written in
-    record { place = i; file = f.0; there = f.1; not_text = λ utf8. bad cc (subst (λ (n : List ℕ). IsUtf8 n) f.2 utf8) }
+    let that : e ≡ BadName = cc in
+    record { place = i; file = f.0; there = f.1; not_text = λ utf8. bad that (subst (λ (n : List ℕ). IsUtf8 n) f.2 utf8) }
 
 -- what is held after all files were added, where nothing was held before
 pub held_of : (files : List File) (before after : List ℕ → Option (List ℕ)) → ((name : List ℕ) → before name ≡ None)
