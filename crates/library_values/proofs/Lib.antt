@@ -1,3 +1,3 @@
-pub mod Decoding
-pub mod Encoding
+pub mod Decodes
+pub mod Encodes
 pub mod Requests

@@ -43,7 +43,7 @@ pub(crate) fn encode_fit(
 }
 
 // Writes the octets of a fit by its work, if they have room.
-#[tactic(auto, using(crate::proofs::Encoding::written_is, crate::proofs::Encoding::short_is))]
+#[tactic(auto, using(crate::proofs::Encodes::written_is, crate::proofs::Encodes::short_is))]
 fn write(
     mut work: Work,
     plan: &Plan,

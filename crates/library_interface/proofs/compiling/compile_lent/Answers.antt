@@ -13,5 +13,5 @@ pub returns-in-Ok-clause-refused : goal.returns-in-Ok-clause-refused
 returns-in-Ok-clause-refused c files held same =
     same_err c.with_plan.result (Refused refusal.Memory) (IsCompileFault files held c.args.idl.now (option_map (λ a. a.now) c.args.acf)) c.with_plan.ensures.err tt
 
-pub returns-in-Err-clause-refused : goal.returns-in-Err-clause-refused
-returns-in-Err-clause-refused c files held same = c.in-Err.ensures.refused held same
+pub returns-clause-refused : goal.returns-clause-refused
+returns-clause-refused c files held same = c.in-Err.ensures.refused held same

@@ -4,7 +4,7 @@ use Rattle.nd_types.specs.declared.interface.Interface.{Interface}
 use Rattle.nd_value.specs.Fitting.{setting_beside}
 use Rattle.nd_grammar.specs.Bad.{Bad}
 use Rattle.library_values.specs.Decoded.{IsDecodedOf}
-use Rattle.library_values.proofs.Decoding.{decoded_is, fault_is}
+use Rattle.library_values.proofs.Decodes.{decoded_is, fault_is}
 use Rattle.library_values.proofs.decoding.decode_lent.Goals as goal
 
 pub returns-in-Ok-clause-decoded : goal.returns-in-Ok-clause-decoded
