@@ -1,0 +1,5 @@
+mod Worked
+pub mod Untested
+pub mod Due
+pub mod Numbers
+pub mod Gaps

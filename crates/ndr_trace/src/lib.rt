@@ -1,0 +1,15 @@
+//! Octets that are refused, traced: a line for each item before the fault, and the path of what is refused.
+#![tactic(auto)]
+
+pub mod examples;
+mod homes;
+mod members;
+mod nodes;
+mod parameters;
+mod sought;
+mod tracer;
+#[cfg(test)]
+mod tests;
+mod tracing;
+
+pub use tracing::{Traced, trace};
