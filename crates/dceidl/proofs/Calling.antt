@@ -20,7 +20,8 @@ use Rattle.dceidl.specs.Input.{OfText}
 use Rattle.dceidl.specs.Ready.{IsFound, IsNamed, IsNumbered, IsNotNumbered, IsCallReady, IsCallUnready}
 use Rattle.dceidl.specs.Wrapped.{HasCalled, IsNoCall, IsWrapped, head_for}
 use Rattle.dceidl.specs.declared.TheConstants.{WRAP_CHUNK}
-use Rattle.dceidl.proofs.Causes.{idl_refused, not_found, item_at}
+use Rattle.nd_lemmas.proofs.Lists.{item_at}
+use Rattle.dceidl.proofs.Causes.{idl_refused, not_found}
 
 -- ## `call`
 

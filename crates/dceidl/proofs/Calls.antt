@@ -36,7 +36,7 @@ use Rattle.command_refusals.specs.declared.refusal.Refusal.TheVariants.{BadPdu, 
 use Rattle.dceidl.specs.Rows.{AreGiven, IsRefusedAt, IsRefusedCall, IsTrailedCall, IsCallOfNone}
 use Rattle.dceidl.proofs.OneInput.{split_input}
 use Rattle.dceidl.proofs.OneReading.{IsOctetsCause, read_causes, decoded_cause, refused_value, refused_cause}
-use Rattle.dceidl.proofs.Sides.{legal_side_of}
+use Rattle.nd_grammar.proofs.LegalSides.{interface_side as legal_side_of}
 
 -- ## Two interfaces of one meaning
 

@@ -75,8 +75,7 @@ impl Parser<'_> {
     }
 
     /// A width, as `small`, `short`, `long` or `hyper`.
-    #[tactic(auto, using(crate::proofs::Basics::one_of_found, crate::proofs::Basics::one_of_none, crate::proofs::Basics::found_within),
-        unfolding(idl_grammar::specs::Reading::width_read))]
+    #[tactic(auto, using(crate::proofs::Basics::one_of_found, crate::proofs::Basics::one_of_none, crate::proofs::Basics::found_within), unfolding(idl_grammar::specs::Reading::width_read))]
     fn width(&self, at: usize) -> Result<(Width, usize), Refusal>
         requires { at ≤ length self.now }
         ensures gives { Gives (λ x. x) result (width_read self.now at) }

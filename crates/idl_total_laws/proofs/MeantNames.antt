@@ -4,7 +4,7 @@ use Rattle.std.specs.List.{list_all, flat_map}
 use Rattle.std.specs.Cmp.Derive.{both_true}
 use Rattle.std.proofs.lemmas.List.Concat.{flat_map-cons}
 use Rattle.std.proofs.lemmas.List.Folds.{list_all-map}
-use Rattle.grammar_phrases.proofs.Sequences.{both}
+use Rattle.std.proofs.lemmas.Bool.{and_parts as both}
 use Rattle.nd_base.specs.Text.{is_identifier}
 use Rattle.nd_types.specs.declared.types.Arm as arm
 use Rattle.nd_types.specs.declared.types.Field.{Field}

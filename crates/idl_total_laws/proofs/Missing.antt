@@ -9,7 +9,7 @@ use Rattle.idl_names.specs.Walk.{State, Due, Ending, Done, Stopped, Walk, start,
 use Rattle.idl_names.proofs.Once.{one_ending}
 use Rattle.command_compile.specs.Idl.{main_file, name_in, AreResolved, IsDueImport, IsDueAfter}
 use Rattle.command_compile.proofs.Compiled.{last_name}
-use Rattle.command_compile.proofs.OneFile.{one_tree}
+use Rattle.idl_names.proofs.Once.{one_tree}
 use Rattle.command_compile.proofs.Walks.{passed_fault}
 
 abbrev absent_name : Ending → List ℕ

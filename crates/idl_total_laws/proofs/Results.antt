@@ -4,7 +4,7 @@ use Rattle.std.proofs.Common.{◌≡◌, ◌∙◌, ℕ, Bool, true, false, ◌&
 use Rattle.std.specs.List.{list_all}
 use Rattle.std.specs.Cmp.Derive.{both_true}
 use Rattle.grammar_phrases.proofs.Parts.{clash}
-use Rattle.grammar_phrases.proofs.Sequences.{both}
+use Rattle.std.proofs.lemmas.Bool.{and_parts as both}
 use Rattle.nd_base.specs.declared.octets.Place.{Place}
 use Rattle.nd_base.specs.Outside.{IsContent, IsMissing, loaded}
 use Rattle.nd_base.specs.Text.{is_identifier, position_of}

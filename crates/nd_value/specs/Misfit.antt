@@ -131,7 +131,7 @@ is_partial_node table g x =
     let d = type_at table x.of in
     is_unread x.label x.kids
     || has_shape d x.label x.kids && eqb (count x.kids) (length (child_types d x.label x.kids)) && has_range fits_octets table d x.label
-        && is_no_null_ref d x.label
+    && is_no_null_ref d x.label
     && names_cell g x.label && names_pointee g d x.label && has_counts d x.label x.kids
 
 -- a number of 8 bits

@@ -150,10 +150,10 @@ label_code =
     code_by
     (ℤ ⊎ (Unit {0} ⊎ ((ℕ × ℕ) ⊎ ((ℕ × List ℕ) ⊎ (ℤ ⊎ (Option ℕ ⊎ ((ℕ × List ℕ) ⊎ (Unit {0} ⊎ Unit {0}))))))))
     (coded⊎ coded_ℤ
-        (coded⊎ coded_unit
-        (coded⊎ (coded× coded_ℕ coded_ℕ)
-        (coded⊎ (coded× coded_ℕ (coded_list coded_ℕ))
-        (coded⊎ coded_ℤ (coded⊎ (coded_option coded_ℕ) (coded⊎ (coded× coded_ℕ (coded_list coded_ℕ)) (coded⊎ coded_unit coded_unit))))))))
+    (coded⊎ coded_unit
+    (coded⊎ (coded× coded_ℕ coded_ℕ)
+    (coded⊎ (coded× coded_ℕ (coded_list coded_ℕ))
+    (coded⊎ coded_ℤ (coded⊎ (coded_option coded_ℕ) (coded⊎ (coded× coded_ℕ (coded_list coded_ℕ)) (coded⊎ coded_unit coded_unit))))))))
     split join join-split
 
 -- the first of trees
