@@ -1,5 +1,1 @@
 mod Worked
-pub mod Untested
-pub mod Due
-pub mod Numbers
-pub mod Gaps

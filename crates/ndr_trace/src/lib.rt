@@ -7,9 +7,9 @@ mod members;
 mod nodes;
 mod parameters;
 mod sought;
-mod tracer;
 #[cfg(test)]
 mod tests;
+mod tracer;
 mod tracing;
 
 pub use tracing::{Traced, trace};

@@ -1,11 +1,11 @@
 // The members of structs and what their attributes state, where an agreement is sought.
-use crate::sought::{same_home, speaks_of, stated_by};
+use crate::sought::{Sought, speaks_of, stated_by};
 use crate::tracer::{Halt, Spot, Stated, Tracer, append_path};
 use nd_base::{Memory, Name, Octets};
 use nd_flat::Seen;
-use nd_types::{AttrVar, Fields, TypeDef, TypeId};
+use nd_types::{AttrVar, Fields, NESTING_LIMIT, TypeDef, TypeId};
 use nd_value::{Home, ItemKind};
-use ndr_explain::{Level, append_home, append_outer};
+use ndr_explain::{Level, append_home, append_outer, type_of};
 
 /// A struct that is open, by how many levels are around its members, with the numbers of its members.
 #[derive(Drop)]
@@ -20,20 +20,18 @@ pub(crate) struct Open<'a> {
 }
 
 impl<'a> Tracer<'a> {
-    /// Notes that a node is reached: a struct begins with its first member, and the value that disagrees may be this one.
-    pub(crate) fn reach(&mut self, of: TypeId, spot: &Spot<'_, 'a>) -> Result<(), Halt> {
+    /// Notes that a node is reached: a struct begins with its first member.
+    pub(crate) fn reach(&mut self, spot: &Spot<'_, 'a>) -> Result<(), Halt> {
         if self.sought.is_none() {
             return Ok(());
         }
-        if let Level::Members { members, at } = spot.top {
-            self.reach_member(members, at, spot)?;
-        } else {
-            self.close(spot.below.len())?;
+        if self.next >= self.items.len() {
+            return Err(Halt::Here);
         }
-        if self.is_sought(of, spot) {
-            self.find(spot)?;
+        match spot.top {
+            Level::Members { members, at } => self.reach_member(members, at, spot),
+            _ => self.close(spot.below.len()),
         }
-        Ok(())
     }
 
     // Notes that a member is reached.
@@ -64,46 +62,47 @@ impl<'a> Tracer<'a> {
         Ok(())
     }
 
-    // Whether the value of a node is the one that disagrees.
-    fn is_sought(&self, of: TypeId, spot: &Spot<'_, 'a>) -> bool {
-        let Some(sought) = self.sought else {
-            return false;
-        };
-        if !same_home(sought.home, spot.home) {
-            return false;
-        }
+    /// Keeps the path of the value whose count or tag is the item of a node, and the path of the variable of the member that it is, if it is one.
+    pub(crate) fn find(&mut self, sought: Sought, spot: &Spot<'_, 'a>) -> Result<(), Halt> {
+        append_path(&mut self.path, spot)?;
         if sought.kind == ItemKind::Max {
-            return is_conformant(self.interface.types.get(of.0 as usize));
+            return self.find_last(sought, type_of(spot.top));
         }
-        sought.node == spot.node
-    }
-
-    // Keeps the path of the value that disagrees, and that of the variable of the member that it is.
-    fn find(&mut self, spot: &Spot<'_, 'a>) -> Result<(), Halt> {
-        let mut path = Octets::new(self.alloc);
-        append_path(&mut path, spot)?;
-        self.path = path;
         let Level::Members { members, at } = spot.top else {
-            return Ok(());
-        };
-        let Some(sought) = self.sought else {
             return Ok(());
         };
         let Some(by) = attribute(members, at, sought.kind) else {
             return Ok(());
         };
-        let variable = self.variable_path(members, by.var as usize)?;
+        let mut variable = Octets::new(self.alloc);
+        append_home(&mut variable, spot.name)?;
+        append_outer(&mut variable, spot.below)?;
+        append_member(&mut variable, members, by.var as usize)?;
         self.state(sought.wanted, variable)
     }
 
-    // The path of a member of the innermost struct that is open.
-    fn variable_path(&self, members: &Fields, at: usize) -> Result<Octets, Memory> {
-        let mut path = Octets::new(self.alloc);
-        if let Some(open) = self.open.last() {
-            path.append(open.path.as_slice())?;
+    // The same of a maximum count in front of a home's value of this type: it is that of the last member, and of its last member.
+    fn find_last(&mut self, sought: Sought, of: TypeId) -> Result<(), Halt> {
+        let mut of = of;
+        for _level in 0..NESTING_LIMIT {
+            let Some(TypeDef::Struct { members }) = self.interface.types.get(of.0 as usize) else {
+                return Ok(());
+            };
+            let Some(at) = members.len().checked_sub(1) else {
+                return Ok(());
+            };
+            if let Some(by) = attribute(members, at, sought.kind) {
+                let mut variable = Octets::copy(self.alloc, self.path.as_slice())?;
+                append_member(&mut variable, members, by.var as usize)?;
+                self.state(sought.wanted, variable)?;
+            }
+            append_member(&mut self.path, members, at)?;
+            let Some(last) = members.get(at) else {
+                return Ok(());
+            };
+            of = last.of;
         }
-        append_member(&mut path, members, at)?;
-        Ok(path)
+        Ok(())
     }
 
     /// Keeps what a variable states.
@@ -225,15 +224,6 @@ fn append_member(text: &mut Octets, members: &Fields, at: usize) -> Result<(), M
 fn append_name(text: &mut Octets, name: &Name) -> Result<(), Memory> {
     text.append(b".")?;
     text.append(name.as_slice())
-}
-
-// Whether the maximum count in front of a home is that of a value of this type.
-fn is_conformant(of: Option<&TypeDef>) -> bool {
-    match of {
-        Some(TypeDef::Array { bound, .. }) => bound.is_none(),
-        Some(TypeDef::Text { bound, .. }) => bound.is_none(),
-        _ => false,
-    }
 }
 
 /// The number that a node is, if it is one.

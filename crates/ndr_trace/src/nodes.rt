@@ -45,7 +45,7 @@ impl<'a> Tracer<'a> {
 
     // Passes what a node has before its children, and gives what it says.
     fn visit(&mut self, of: TypeId, spot: &Spot<'_, 'a>) -> Result<Seen<'a>, Halt> {
-        self.reach(of, spot)?;
+        self.reach(spot)?;
         let seen = self.own_items(of, spot)?;
         self.seen(spot, &seen)?;
         Ok(seen)

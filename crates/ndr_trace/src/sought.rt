@@ -6,6 +6,8 @@ use nd_value::{Home, Item, ItemKind, ItemLog};
 /// The count or tag that an agreement finds other than it is stated, and the number that is stated.
 #[derive(Clone, Copy, Drop)]
 pub(crate) struct Sought {
+    /// The item's place in the log.
+    pub(crate) item: usize,
     pub(crate) kind: ItemKind,
     pub(crate) home: Home,
     pub(crate) node: u32,
@@ -13,7 +15,7 @@ pub(crate) struct Sought {
 }
 
 /// What a refusal at a place seeks: at a failed agreement the count or tag at that place.
-pub(crate) fn sought(items: &ItemLog, place: u32, why: Reason) -> Option<Sought> {
+pub(crate) fn find_agreement(items: &ItemLog, place: u32, why: Reason) -> Option<Sought> {
     let Reason::Disagrees { wanted, .. } = why else {
         return None;
     };
@@ -22,6 +24,7 @@ pub(crate) fn sought(items: &ItemLog, place: u32, why: Reason) -> Option<Sought>
             && is_at(item, place)
         {
             return Some(Sought {
+                item: at,
                 kind: item.kind,
                 home: item.home,
                 node: item.node,
@@ -55,9 +58,4 @@ pub(crate) fn stated_by(attr: Attr, value: i128) -> i128 {
         Attr::Max => value.saturating_add(1),
         _ => value,
     }
-}
-
-/// Whether two homes are one.
-pub(crate) fn same_home(first: Home, second: Home) -> bool {
-    first == second
 }

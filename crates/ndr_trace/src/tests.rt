@@ -3,8 +3,8 @@ use crate::trace;
 use nd_base::{Memory, Name, Octets, Order, Steps, Uncounted};
 use nd_grammar::Reason;
 use nd_types::{
-    Arm, Arms, Attr, AttrVar, AttrVars, Class, Field, Fields, Interface, Operation, Operations, Param, Params,
-    Side, TypeDef, TypeId, Types, Way,
+    Arm, Arms, Attr, AttrVar, AttrVars, Class, Field, Fields, Interface, Operation, Operations,
+    Param, Params, Side, TypeDef, TypeId, Types, Way,
 };
 use nd_value::{CellId, Home, Item, ItemKind, ItemLog};
 use std::alloc::Global;
@@ -13,7 +13,14 @@ use std::test::Fail;
 fn vars(alloc: Global, attr: Option<Attr>) -> Result<AttrVars, Memory> {
     let mut vars = AttrVars::new(alloc);
     if let Some(attr) = attr {
-        if vars.push(AttrVar { attr, var: 0, star: false }).is_err() {
+        if vars
+            .push(AttrVar {
+                attr,
+                var: 0,
+                star: false,
+            })
+            .is_err()
+        {
             return Err(Memory);
         }
     }
@@ -60,7 +67,10 @@ fn interface(alloc: Global, types: Types, params: Params) -> Result<Interface, M
 
 fn one_param(alloc: Global, name: &[u8], of: u32) -> Result<Params, Memory> {
     let mut params = Params::new(alloc);
-    let param = Param { field: field(alloc, name, of, None)?, way: Way::In };
+    let param = Param {
+        field: field(alloc, name, of, None)?,
+        way: Way::In,
+    };
     if params.push(param).is_err() {
         return Err(Memory);
     }
@@ -75,16 +85,33 @@ fn counted(alloc: Global) -> Result<Interface, Memory> {
         field(alloc, b"n", 5, None)?,
         field(alloc, b"a", 12, Some(Attr::Size))?,
     )?;
-    let array = TypeDef::Array { elem: TypeId(7), bound: None, varying: false };
-    let pointer = TypeDef::Pointer { class: Class::Ref, to: TypeId(13) };
-    if types.push(array).is_err() || types.push(TypeDef::Struct { members }).is_err() || types.push(pointer).is_err() {
+    let array = TypeDef::Array {
+        elem: TypeId(7),
+        bound: None,
+        varying: false,
+    };
+    let pointer = TypeDef::Pointer {
+        class: Class::Ref,
+        to: TypeId(13),
+    };
+    if types.push(array).is_err()
+        || types.push(TypeDef::Struct { members }).is_err()
+        || types.push(pointer).is_err()
+    {
         return Err(Memory);
     }
     interface(alloc, types, one_param(alloc, b"p", 14)?)
 }
 
 fn item(at: u32, len: u32, kind: ItemKind, home: Home, node: u32, value: i128) -> Item {
-    Item { at, len, kind, home, node, value }
+    Item {
+        at,
+        len,
+        kind,
+        home,
+        node,
+        value,
+    }
 }
 
 fn traced(
@@ -100,7 +127,18 @@ fn traced(
     for at in 0..log.len() {
         items.note(log[at], &mut steps)?;
     }
-    let traced = trace(alloc, interface, 0, Side::In, None, Order::Little, octets, &items, place, why)?;
+    let traced = trace(
+        alloc,
+        interface,
+        0,
+        Side::In,
+        None,
+        Order::Little,
+        octets,
+        &items,
+        place,
+        why,
+    )?;
     let mut all = Octets::copy(alloc, traced.lines.as_slice())?;
     all.append(traced.path.as_slice())?;
     Ok(all)
@@ -125,7 +163,10 @@ fn an_array_is_cut_short(rt: HostRuntime) -> Result<(), Fail> {
         14,
         Reason::Truncated,
     )?;
-    assert_eq!(rt; all.as_slice(), b"0 4 max @1 2\n4 2 num @1.n 2\n6 2 gap\n8 4 num @1.a[0] 5\n@1.a[1]".as_slice());
+    assert_eq!(rt;
+        all.as_slice(),
+        b"0 4 max @1 2\n4 2 num @1.n 2\n6 2 gap\n8 4 num @1.a[0] 5\n@1.a[1]".as_slice()
+    );
     Ok(())
 }
 
@@ -145,9 +186,15 @@ fn a_count_is_wrong(rt: HostRuntime) -> Result<(), Fail> {
         b"\x02\0\0\0\x03\0\0\0\x05\0\0\0\x06\0\0\0",
         &log,
         0,
-        Reason::Disagrees { wanted: 3, found: 2 },
+        Reason::Disagrees {
+            wanted: 3,
+            found: 2,
+        },
     )?;
-    assert_eq!(rt; all.as_slice(), b"0 4 max @1 2\n4 2 num @1.n 3\n6 2 gap\n8 4 num @1.a[0] 5\n12 4 num @1.a[1] 6\n@1.a @1.n".as_slice());
+    assert_eq!(rt;
+        all.as_slice(),
+        b"0 4 max @1 2\n4 2 num @1.n 3\n6 2 gap\n8 4 num @1.a[0] 5\n12 4 num @1.a[1] 6\n@1.a @1.n".as_slice()
+    );
     Ok(())
 }
 
@@ -155,13 +202,22 @@ fn a_count_is_wrong(rt: HostRuntime) -> Result<(), Fail> {
 #[test]
 fn a_number_has_another_type(rt: HostRuntime) -> Result<(), Fail> {
     let mut types = Types::basic(rt.alloc())?;
-    let first = TypeDef::Pointer { class: Class::Full, to: TypeId(7) };
-    let second = TypeDef::Pointer { class: Class::Full, to: TypeId(5) };
+    let first = TypeDef::Pointer {
+        class: Class::Full,
+        to: TypeId(7),
+    };
+    let second = TypeDef::Pointer {
+        class: Class::Full,
+        to: TypeId(5),
+    };
     if types.push(first).is_err() || types.push(second).is_err() {
         return Ok(());
     }
     let mut params = one_param(rt.alloc(), b"p", 12)?;
-    let param = Param { field: field(rt.alloc(), b"q", 13, None)?, way: Way::In };
+    let param = Param {
+        field: field(rt.alloc(), b"q", 13, None)?,
+        way: Way::In,
+    };
     if params.push(param).is_err() {
         return Ok(());
     }
@@ -170,8 +226,18 @@ fn a_number_has_another_type(rt: HostRuntime) -> Result<(), Fail> {
         item(0, 4, ItemKind::Number, Home::Root(0), 0, 2),
         item(4, 4, ItemKind::Num, CELL, 0, 7),
     ];
-    let all = traced(rt.alloc(), &interface, b"\x02\0\0\0\x07\0\0\0\x02\0\0\0", &log, 8, Reason::OtherType)?;
-    assert_eq!(rt; all.as_slice(), b"0 4 number p 2\n4 4 num @1 7\nq".as_slice());
+    let all = traced(
+        rt.alloc(),
+        &interface,
+        b"\x02\0\0\0\x07\0\0\0\x02\0\0\0",
+        &log,
+        8,
+        Reason::OtherType,
+    )?;
+    assert_eq!(rt;
+        all.as_slice(),
+        b"0 4 number p 2\n4 4 num @1 7\nq".as_slice()
+    );
     Ok(())
 }
 
@@ -198,7 +264,10 @@ fn a_chunk_is_cut_short(rt: HostRuntime) -> Result<(), Fail> {
         18,
         Reason::Truncated,
     )?;
-    assert_eq!(rt; all.as_slice(), b"0 4 chunk d 2\n4 4 num d[0] 1\n8 4 num d[1] 2\n12 4 chunk d 1\nd[2]".as_slice());
+    assert_eq!(rt;
+        all.as_slice(),
+        b"0 4 chunk d 2\n4 4 num d[0] 1\n8 4 num d[1] 2\n12 4 chunk d 1\nd[2]".as_slice()
+    );
     Ok(())
 }
 
@@ -208,19 +277,39 @@ fn a_tag_has_no_arm(rt: HostRuntime) -> Result<(), Fail> {
     let alloc = rt.alloc();
     let mut types = Types::basic(alloc)?;
     let mut arms = Arms::new(alloc);
-    let first = Arm { label: 1, name: Some(Name::copy(alloc, b"x")?), of: Some(TypeId(7)) };
-    let second = Arm { label: 2, name: None, of: None };
+    let first = Arm {
+        label: 1,
+        name: Some(Name::copy(alloc, b"x")?),
+        of: Some(TypeId(7)),
+    };
+    let second = Arm {
+        label: 2,
+        name: None,
+        of: None,
+    };
     if arms.push(first).is_err() || arms.push(second).is_err() {
         return Ok(());
     }
-    let union = TypeDef::Union { tag: TypeId(5), encapsulated: false, arms, default: None };
+    let union = TypeDef::Union {
+        tag: TypeId(5),
+        encapsulated: false,
+        arms,
+        default: None,
+    };
     let members = fields(
         alloc,
         field(alloc, b"k", 5, None)?,
         field(alloc, b"v", 12, Some(Attr::Switch))?,
     )?;
-    let array = TypeDef::Array { elem: TypeId(13), bound: Some(2), varying: false };
-    if types.push(union).is_err() || types.push(TypeDef::Struct { members }).is_err() || types.push(array).is_err() {
+    let array = TypeDef::Array {
+        elem: TypeId(13),
+        bound: Some(2),
+        varying: false,
+    };
+    if types.push(union).is_err()
+        || types.push(TypeDef::Struct { members }).is_err()
+        || types.push(array).is_err()
+    {
         return Ok(());
     }
     let interface = interface(alloc, types, one_param(alloc, b"a", 14)?)?;
@@ -233,6 +322,9 @@ fn a_tag_has_no_arm(rt: HostRuntime) -> Result<(), Fail> {
     ];
     let octets = b"\x01\0\x01\0\x07\0\0\0\x03\0\x03\0";
     let all = traced(alloc, &interface, octets, &log, 10, Reason::NoArm)?;
-    assert_eq!(rt; all.as_slice(), b"0 2 num a[0].k 1\n2 2 tag a[0].v 1\n4 4 num a[0].v.x 7\n8 2 num a[1].k 3\na[1].v".as_slice());
+    assert_eq!(rt;
+        all.as_slice(),
+        b"0 2 num a[0].k 1\n2 2 tag a[0].v 1\n4 4 num a[0].v.x 7\n8 2 num a[1].k 3\na[1].v".as_slice()
+    );
     Ok(())
 }

@@ -115,6 +115,11 @@ impl<'a> Tracer<'a> {
         self.lines.append(b" ")?;
         self.append_value(item)?;
         self.lines.append(b"\n")?;
+        if let Some(sought) = self.sought
+            && sought.item == self.next
+        {
+            self.find(sought, spot)?;
+        }
         self.passed(item);
         Ok(item.value)
     }

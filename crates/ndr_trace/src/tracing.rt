@@ -12,7 +12,7 @@ ghost use Rattle.ndr_decoder_laws.specs.verdict.InOrder.{HasOwnNumbers};
 ghost use Rattle.ndr_trace.specs.Traces.{IsTraceOf};
 
 use crate::homes::trace_side;
-use crate::sought::sought;
+use crate::sought::find_agreement;
 use crate::tracer::{Halt, Tracer};
 use nd_base::{Memory, Octets, Order};
 use nd_flat::Fit;
@@ -72,7 +72,7 @@ pub fn trace(
         cells: 0,
         numbers: ndr_refs::Referents::new(alloc),
         pending: Vec::new(alloc),
-        sought: sought(items, place, why),
+        sought: find_agreement(items, place, why),
         open: Vec::new(alloc),
         stated: Vec::new(alloc),
         roots: Vec::new(alloc),

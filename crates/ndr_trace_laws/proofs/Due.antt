@@ -15,31 +15,9 @@ use Rattle.nd_grammar.specs.Entry.{Actual, Align, Chunk, Context, Entry, EntryAt
 use Rattle.nd_grammar.specs.Items.{item_at, item_of, items}
 use Rattle.nd_grammar.specs.Refusal.{refusal, refused_if}
 use Rattle.nd_grammar.specs.Represents.{IsRendered, Spells, piece}
-use Rattle.ndr_trace.proofs.Untested.{is_test, kept_if, untested, untested_at, untested_all, untested_at_append, untested_ends, untested_items}
-
--- the kind and value of the item that an entry is, if it is one
-abbrev pub its_item : Order → List ℕ → EntryAt → Option (ItemKind × ℤ)
-its_item order octets x = item_of order x.entry.kind (piece octets x.at x.entry.kind)
-
--- reading stops neither at an empty gap nor at an unread value
-abbrev pub CanStop : ℕ → Kind → Type 0
-CanStop at (Align n) = 0 < gap at n
-CanStop at Unread = ⊥
-CanStop at _ = Unit {0}
-
--- the log ends before these entries: before the one at which reading stopped, or it stopped at an agreement
-abbrev pub EndsBefore : EntryAt → List EntryAt → Type 0
-EndsBefore here later =
-    (is_test here.entry.kind ≡ true) ⊎ ((rest : List EntryAt) × (later ≡ here ∷ rest) × CanStop here.at here.entry.kind)
-
--- The items that are left are those of the first of these entries, which the octets spell; then the log ends.
-pub record Stops (order : Order) (octets : List ℕ) (numbering : ℕ → ℕ) (here : EntryAt) (xs : List EntryAt) (log : List Item) : Type 0 where
-  pub passed : List EntryAt
-  pub later : List EntryAt
-  pub split : xs ≡ passed ++ later
-  pub rendered : AllByRecursion (IsRendered order numbering octets) passed
-  pub log_is : log ≡ items order octets passed
-  pub ends : EndsBefore here later
+use Rattle.ndr_trace_laws.specs.Due.{CanStop, EndsBefore, NextDue, Stopped, Stops, Went}
+use Rattle.ndr_trace_laws.specs.Untested.{is_test, kept_if, untested, untested_at}
+use Rattle.ndr_trace_laws.proofs.Untested.{untested_all, untested_at_append, untested_ends, untested_items}
 
 module _ (order : Order) (octets : List ℕ) (nums : ℕ → ℕ) where
   -- the entry after those that are spelt begins within the octets
@@ -103,10 +81,12 @@ bad_stops w order octets place why bad = record {
     go : (b : Bool) → is_test bad.here.entry.kind ≡ b → EndsBefore bad.here (untested_at (bad.here ∷ bad.later))
     go true e = inl e
     go false e =
-        inr
-        (untested_at bad.later, ap (λ b. kept_if b bad.here (untested_at bad.later)) e,
-        can_stop order octets bad.numbering bad.earlier bad.here.at bad.here.entry bad.here.entry.kind (place, why) refl bad.refused
-        (begins_within order octets bad.numbering 0 bad.entries bad.earlier bad.here bad.later bad.split bad.rendered (omega arith)))
+        inr (
+          untested_at bad.later,
+          ap (λ b. kept_if b bad.here (untested_at bad.later)) e,
+          can_stop order octets bad.numbering bad.earlier bad.here.at bad.here.entry bad.here.entry.kind (place, why) refl bad.refused
+              (begins_within order octets bad.numbering 0 bad.entries bad.earlier bad.here bad.later bad.split bad.rendered (omega arith)),
+        )
 
 -- ## The entry that is due next
 
@@ -114,19 +94,7 @@ module _ (order : Order) (octets : List ℕ) (nums : ℕ → ℕ) (here : EntryA
   abbrev pub S : List EntryAt → List Item → Type 0
   S xs log = Stops order octets nums here xs log
 
-  -- the next entry was read, and the log goes on with its item if it is one; or the log is at its end, and the entry is that at which reading stopped, unless
-  -- it stopped at an agreement
-  pub record Went (x : EntryAt) (xs : List EntryAt) (log : List Item) : Type 0 where
-    pub rest : List Item
-    pub rendered : IsRendered order nums octets x
-    pub log_is : log ≡ item_at x (its_item order octets x) ++ rest
-    pub goes_on : S xs rest
-
-  pub record Stopped (x : EntryAt) (log : List Item) : Type 0 where
-    pub none_left : log ≡ []
-    pub there : (is_test here.entry.kind ≡ true) ⊎ ((x ≡ here) × CanStop here.at here.entry.kind)
-
-  pub next_due : (x : EntryAt) (xs : List EntryAt) (log : List Item) → S (x ∷ xs) log → Went x xs log ⊎ Stopped x log
+  pub next_due : (x : EntryAt) (xs : List EntryAt) (log : List Item) → S (x ∷ xs) log → NextDue order octets nums here x xs log
   next_due x xs log s = go s.passed s.split s.rendered s.log_is
     where
       at_end : x ∷ xs ≡ s.later → EndsBefore here s.later → (is_test here.entry.kind ≡ true) ⊎ ((x ≡ here) × CanStop here.at here.entry.kind)
@@ -134,7 +102,7 @@ module _ (order : Order) (octets : List ℕ) (nums : ℕ → ℕ) (here : EntryA
       at_end e (inr (rest, k, can)) = let h : x ≡ here = cc in inr (h, can)
 
       go : (passed : List EntryAt) → x ∷ xs ≡ passed ++ s.later → AllByRecursion (IsRendered order nums octets) passed → log ≡ items order octets passed
-          → Went x xs log ⊎ Stopped x log
+          → NextDue order octets nums here x xs log
       go [] e r l = inr (record { none_left = l; there = at_end e s.ends })
       go (y ∷ ys) e r l =
           let h : x ≡ y = cc in
@@ -143,7 +111,7 @@ module _ (order : Order) (octets : List ℕ) (nums : ℕ → ℕ) (here : EntryA
           (record {
             rest = items order octets ys;
             rendered = subst (IsRendered order nums octets) (sym h) r.0;
-            log_is = subst (λ u. log ≡ item_at u (its_item order octets u) ++ items order octets ys) (sym h) l;
+            log_is = subst (λ u. log ≡ item_at u (item_of order u.entry.kind (piece octets u.at u.entry.kind)) ++ items order octets ys) (sym h) l;
             goes_on = record { passed = ys; later = s.later; split = t; rendered = r.1; log_is = refl; ends = s.ends };
           })
 
@@ -154,7 +122,7 @@ module _ (order : Order) (octets : List ℕ) (nums : ℕ → ℕ) (here : EntryA
   pub never_unread : (x : EntryAt) (xs : List EntryAt) (log : List Item) → S (x ∷ xs) log → is_test here.entry.kind ≡ false → x.entry.kind ≡ Unread → ⊥
   never_unread x xs log s plain e = go (next_due x xs log s)
     where
-      go : Went x xs log ⊎ Stopped x log → ⊥
+      go : NextDue order octets nums here x xs log → ⊥
       go (inl a) = not_spelt x.entry.kind (piece octets x.at x.entry.kind) e a.rendered.1
       go (inr b) = by_end b.there
         where

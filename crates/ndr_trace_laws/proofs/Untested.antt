@@ -13,23 +13,7 @@ use Rattle.nd_grammar.specs.Entry.{Actual, Align, Chunk, Context, Entry, EntryAt
 use Rattle.nd_grammar.specs.InPlace.{before_children, child_tests, entries, in_place, own_tests, tests}
 use Rattle.nd_grammar.specs.Items.{item_at, item_of, items}
 use Rattle.nd_grammar.specs.Represents.{piece}
-
-abbrev pub is_test : Kind → Bool
-is_test (Test a wanted found) = true
-is_test _ = false
-
-abbrev pub kept_if : {X : Type 0} → Bool → X → List X → List X
-kept_if true x xs = xs
-kept_if false x xs = x ∷ xs
-
--- entries without agreements, and the same where they stand
-abbrev pub untested : List Entry → List Entry
-untested [] = []
-untested (m ∷ ms) = kept_if (is_test m.kind) m (untested ms)
-
-abbrev pub untested_at : List EntryAt → List EntryAt
-untested_at [] = []
-untested_at (x ∷ xs) = kept_if (is_test x.entry.kind) x (untested_at xs)
+use Rattle.ndr_trace_laws.specs.Untested.{is_test, kept_if, plain, untested, untested_at}
 
 kept_append : {X : Type 0} (b : Bool) (x : X) (xs ys : List X) → kept_if b x (xs ++ ys) ≡ kept_if b x xs ++ ys
 kept_append true x xs ys = refl
@@ -95,14 +79,6 @@ untested_all R (x ∷ xs) r = go (is_test x.entry.kind)
     go false = (r.0, untested_all R xs r.1)
 
 -- ## Values
-
--- the entries of values of these types without the agreements of members: node after node, depth first
-abbrev pub plain : Table → Home → List ℕ → ℕ → Trees → List Entry
-plain table h types n none = []
-plain table h [] n (more t ts) = []
-plain table h (t ∷ types) n (more (node l ks) ts) =
-    untested (entries h n (before_children table t (type_at table t) l ks))
-    ++ (plain table h (child_types (type_at table t) l ks) (n + 1) ks ++ plain table h types (n + 1 + node_count ks) ts)
 
 pub untested_tests : (h : Home) (n : ℕ) (t : Tree) (as : List Agreement) → untested (tests h n t as) ≡ []
 untested_tests h n t [] = refl

@@ -1,0 +1,4 @@
+pub mod Untested
+pub mod Due
+pub mod Numbers
+pub mod Gaps
