@@ -1,5 +1,5 @@
 // Octets are decoded, and their items are written in words up to the first fault.
-ghost use Rattle.std.specs.Prelude.{◌≡◌, ◌<◌, ◌++◌, true, length, Some, option_map, IfOk, OnOk, decimal};
+ghost use Rattle.std.specs.Prelude.{◌≡◌, ◌<◌, ◌++◌, length, Some, option_map, IfOk, OnOk};
 ghost use Rattle.std.specs.List.{slice_get};
 ghost use Rattle.nd_types.specs.declared.types.Operation.{Operation};
 ghost use Rattle.nd_value.specs.Fitting.{setting_beside};
@@ -22,8 +22,8 @@ use text_grammar::append_count;
 pub enum TracedOctets {
     /// They are accepted: a line for each item.
     Whole(Octets),
-    /// They are refused at a place: a line for each item before it, and the line `PLACE fault REASON PATH`, in which PATH is that of the value that is refused
-    /// or lacks octets. At a failed agreement the path of the variable follows. An octet after the values is `PLACE fault Trailing`.
+    /// They are refused at a place: a line for each item before it, and the line `PLACE fault REASON PATH`, in which PATH is that of the value that is
+    /// refused or lacks octets. At a failed agreement the path of the variable follows. An octet after the values is `PLACE fault Trailing`.
     Refused {
         lines: Octets,
         place: u32,
@@ -31,12 +31,12 @@ pub enum TracedOctets {
     },
 }
 
-/// The items of the values of a side of an operation, in words, a line for each, of octets in NDR (C706, chapter 14), up to the first fault. `op` must be the
-/// number of an operation of the interface. A request that is given must be one of that operation, and then the side is that of its outputs: the
-/// values are judged beside it.
+/// The items of the values of a side of an operation, in words, a line for each, of octets in NDR (C706, chapter 14), up to the first fault. `op` must
+/// be the number of an operation of the interface. A request that is given must be one of that operation, and then the side is that of its outputs:
+/// the values are judged beside it.
 ///
-/// Takes memory for the plan of the interface, the values, the items and the text; out of memory is the only error. The time is in proportion to these and the
-/// octets.
+/// Takes memory for the plan of the interface, the values, the items and the text; out of memory is the only error. The time is in proportion to these
+/// and the octets.
 pub fn trace_octets(
     alloc: Global,
     interface: &Interface,

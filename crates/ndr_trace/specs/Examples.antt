@@ -15,7 +15,7 @@ use Rattle.nd_value.specs.declared.item.Home.TheVariants as home
 use Rattle.nd_value.specs.declared.value.Graph.{Graph}
 use Rattle.nd_value.specs.Setting.{Setting, cell_home}
 use Rattle.nd_value.specs.Tree as tree
-use Rattle.nd_value.specs.Tree.{Tree, Trees, more, node, none}
+use Rattle.nd_value.specs.Tree.{Tree, Trees, node, none}
 use Rattle.nd_grammar.specs.declared.reason.Reason.{Reason}
 use Rattle.nd_grammar.specs.Entry.{Entry, EntryAt, Test, end_to_end}
 use Rattle.nd_grammar.specs.ExampleParts.{attribute, cell, four, id, null, num, one, pointer_to, request, struct_of, three, two}
@@ -52,7 +52,9 @@ traced w g octets es k q = explanation w g (items Little octets (take k es)) ++ 
 -- typedef struct { short n; [size_is(n)] long a[*]; } s; void put([in] s *p);
 abbrev pub counted : Setting
 counted =
-    request (def.Array (id 7) None false ∷ def.Struct (called (codes "n") 5 [] ∷ called (codes "a") 12 (attribute attr.Size 0) ∷ []) ∷ def.Pointer Ref (id 13) ∷ [])
+    request
+    (def.Array (id 7) None false ∷ def.Struct (called (codes "n") 5 [] ∷ called (codes "a") 12 (attribute attr.Size 0) ∷ [])
+    ∷ def.Pointer Ref (id 13) ∷ [])
     (input (codes "p") 14 ∷ [])
 
 abbrev pub counted_value : ℕ → Trees → Tree
@@ -75,18 +77,21 @@ miscount = record { home = cell_home 1; node = 2; kind = Test attr.Size (pos 3) 
 abbrev pub miscounted_octets : List ℕ
 miscounted_octets = four 2 (3 ∷ 0 ∷ 0 ∷ 0 ∷ four 5 (four 6 []))
 
--- typedef [switch_type(short)] union { [case(1)] long x; [case(2)] ; } u; typedef struct { short k; [switch_is(k)] u v; } e; void put([in] e a[2]);
+-- typedef [switch_type(short)] union { [case(1)] long x; [case(2)] ; } u;
+-- typedef struct { short k; [switch_is(k)] u v; } e; void put([in] e a[2]);
 abbrev pub armed : Setting
 armed =
     request
-    (def.Union (id 5) false (record { label = pos 1; name = Some (codes "x"); of = Some (id 7) } ∷ record { label = pos 2; name = None; of = None } ∷ []) None
+    (def.Union (id 5) false
+    (record { label = pos 1; name = Some (codes "x"); of = Some (id 7) } ∷ record { label = pos 2; name = None; of = None } ∷ []) None
     ∷ def.Struct (called (codes "k") 5 [] ∷ called (codes "v") 12 (attribute attr.Switch 0) ∷ []) ∷ def.Array (id 13) (Some 2) false ∷ [])
     (input (codes "a") 14 ∷ [])
 
 abbrev pub armed_value : Tree
 armed_value =
     node (tree.Arr 2 0)
-    (two (struct_of (two (num (pos 1)) (node (tree.Union (pos 1)) (one (num (pos 7)))))) (struct_of (two (num (pos 3)) (node (tree.Union (pos 3)) none))))
+    (two (struct_of (two (num (pos 1)) (node (tree.Union (pos 1)) (one (num (pos 7))))))
+    (struct_of (two (num (pos 3)) (node (tree.Union (pos 3)) none))))
 
 abbrev pub armed_graph : Graph
 armed_graph = record { roots = armed_value ∷ []; cells = [] }
@@ -107,7 +112,8 @@ shared_graph = record { roots = pointer_to 1 ∷ null ∷ []; cells = cell 7 (nu
 abbrev pub shared_entries : List EntryAt
 shared_entries =
     end_to_end 0
-    (whole_value shared.table (home.Root 0) 12 (pointer_to 1) ++ (whole_value shared.table (cell_home 1) 7 (num (pos 7)) ++ whole_value shared.table (home.Root 1) 13 null))
+    (whole_value shared.table (home.Root 0) 12 (pointer_to 1)
+    ++ (whole_value shared.table (cell_home 1) 7 (num (pos 7)) ++ whole_value shared.table (home.Root 1) 13 null))
 
 abbrev pub one_number : List ℕ
 one_number = four 2 (four 7 (four 2 []))
@@ -128,3 +134,45 @@ piped_entries = end_to_end 0 (pipe_entries piped.table (home.Root 0) (type_at pi
 -- the element of the second chunk lacks two octets
 abbrev pub second_chunk : List ℕ
 second_chunk = four 2 (four 1 (four 2 (four 1 (3 ∷ 0 ∷ []))))
+
+-- ## Their traces
+
+-- the second element lacks two octets; 7 octets of the same end in a gap, and 4 of them between two items
+abbrev pub cut_refusal : Option (ℕ × Reason)
+cut_refusal = refused_in cut_octets (counted_entries 2 (two (num (pos 5)) (num (pos 0)))) 8
+
+abbrev pub cut_trace : List ℕ
+cut_trace =
+    traced counted (counted_graph 2 (two (num (pos 5)) (num (pos 0)))) cut_octets (counted_entries 2 (two (num (pos 5)) (num (pos 0)))) 8 []
+
+abbrev pub in_gap_trace : List ℕ
+in_gap_trace =
+    traced counted (counted_graph 2 (two (num (pos 0)) (num (pos 0)))) (take 7 cut_octets)
+    (counted_entries 2 (two (num (pos 0)) (num (pos 0)))) 5 []
+
+abbrev pub between_trace : List ℕ
+between_trace =
+    traced counted (counted_graph 0 (two (num (pos 0)) (num (pos 0)))) (take 4 cut_octets)
+    (counted_entries 0 (two (num (pos 0)) (num (pos 0)))) 4 []
+
+-- the count says 3 of two elements
+abbrev pub miscounted_graph : Graph
+miscounted_graph = counted_graph 3 (two (num (pos 5)) (num (pos 6)))
+
+abbrev pub miscounted_entries : List EntryAt
+miscounted_entries = counted_entries 3 (two (num (pos 5)) (num (pos 6)))
+
+abbrev pub miscounted_refusal : Option (ℕ × Reason)
+miscounted_refusal = refused_in miscounted_octets miscounted_entries 9
+
+abbrev pub miscounted_trace : List ℕ
+miscounted_trace = traced counted miscounted_graph miscounted_octets miscounted_entries 9 (codes "@1.n")
+
+abbrev pub armless_trace : List ℕ
+armless_trace = traced armed armed_graph armless_octets armed_entries 12 []
+
+abbrev pub shared_trace : List ℕ
+shared_trace = traced shared shared_graph one_number shared_entries 5 []
+
+abbrev pub piped_trace : List ℕ
+piped_trace = traced piped piped_graph second_chunk piped_entries 9 []

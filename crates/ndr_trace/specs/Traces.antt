@@ -1,8 +1,8 @@
--- What the trace of refused octets says: the lines of the items before the fault, as an explanation has them, and the line of the fault, with the path of the
--- entry that is refused or lacks octets.
--- `w` is a setting, `g` a partial graph, `m` an entry, `h` a home, `n` a node's number, `p` the path of a struct, `x` a member where it stands, `v` an attribute
--- with its variable, `z` the variable's value, `q` the variable's path.
-use Rattle.std.specs.Prelude.{◌≡◌, ◌⊎◌, ℕ, ◌+◌, ◌<◌, ◌≤◌, ℤ, false, List, [], ◌∷◌, ◌++◌, length, Option, Some, None, codes, decimal}
+-- What the trace of refused octets says: the lines of the items before the fault, as an explanation has them, and the path of the entry that is
+-- refused or lacks octets.
+-- `w` is a setting, `g` a partial graph, `m` an entry, `h` a home, `n` a node's number, `p` the path of a struct, `x` a member where it stands,
+-- `a` an attribute, `q` the path of its variable.
+use Rattle.std.specs.Prelude.{◌≡◌, ◌⊎◌, ℕ, ◌+◌, ℤ, false, List, [], ◌∷◌, ◌++◌, Option, Some, None, codes}
 use Rattle.std.specs.List.{slice_get}
 use Rattle.nd_base.specs.declared.octets.Order.{Order}
 use Rattle.nd_types.specs.declared.types.Attr.{Attr}
@@ -133,14 +133,15 @@ abbrev pub fault_path : Setting → Graph → Entry → List ℕ → List ℕ
 fault_path w g m q = entry_path w g m ++ variable_shown m.kind q
 
 -- The octets are refused, and this is their trace, by a partial graph: a line for each item before the fault, and the path of what is refused.
-pub record IsTraceOf (w : Setting) (order : Order) (octets : List ℕ) (place : ℕ) (why : Reason) (bad : Bad w order octets place why) (lines path : List ℕ)
-    : Type 0 where
+pub record IsTraceOf (w : Setting) (order : Order) (octets : List ℕ) (place : ℕ) (why : Reason) (bad : Bad w order octets place why)
+    (lines path : List ℕ) : Type 0 where
   pub lines_are : lines ≡ explanation w bad.partial (items order octets bad.earlier)
   pub variable : List ℕ
   pub named : IsVariable w bad.partial bad.here.entry bad.here.entry.kind variable
   pub path_is : path ≡ fault_path w bad.partial bad.here.entry variable
 
--- The octets are refused at this place and for this reason, and this is their trace: by a partial graph whose cells are numbered in the order of the stream.
+-- The octets are refused at this place and for this reason, and this is their trace: by a partial graph whose cells are numbered in the order of
+-- the stream.
 pub record IsTrace (w : Setting) (order : Order) (octets : List ℕ) (place : ℕ) (why : Reason) (lines path : List ℕ) : Type 0 where
   pub bad : Bad w order octets place why
   pub numbered : HasOwnNumbers bad.partial bad.entries

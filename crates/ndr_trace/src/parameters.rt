@@ -1,10 +1,10 @@
 // The variables of parameters, where an agreement is sought.
 use crate::members::number_of;
-use crate::sought::{Sought, speaks_of, stated_by};
-use crate::tracer::{Halt, Tracer};
+use crate::progress::{Ground, Halt};
+use crate::search::{Search, Sought, speaks_of, stated_by};
 use nd_base::{Memory, Octets};
-use nd_flat::{Fit, FlatGraph, Seen, Walk};
-use nd_types::{AttrVar, Param};
+use nd_flat::{FlatGraph, Seen, Walk};
+use nd_types::{AttrVar, Param, Side};
 use nd_value::{CellId, Home};
 
 /// A root that was read: its parameter, the number that it is, and the cell that it names.
@@ -15,107 +15,133 @@ pub(crate) struct RootSeen {
     pub(crate) cell: Option<CellId>,
 }
 
-impl<'a> Tracer<'a> {
-    /// Notes what the own value of a home says.
-    pub(crate) fn seen_home(&mut self, home: Home, seen: &Seen<'a>) {
-        match home {
-            Home::Root(_) => {
-                if let Some(root) = self.roots.last_mut() {
-                    root.number = number_of(seen);
-                    root.cell = seen.named_cell();
-                }
-            }
-            Home::Cell(cell) => {
-                let at = cell.0 as usize;
-                if at > 0
-                    && let Some(number) = self.cell_numbers.get_mut(at - 1)
-                {
-                    *number = number_of(seen);
-                }
-            }
+impl RootSeen {
+    /// A root of this parameter, of which nothing is known yet.
+    pub(crate) fn of(param: Option<u32>) -> RootSeen {
+        RootSeen {
+            param,
+            number: None,
+            cell: None,
         }
     }
+}
 
-    /// At a failed agreement adds the path of the variable that states the number.
-    pub(crate) fn end_at_agreement(&mut self) -> Result<(), Memory> {
-        let Some(sought) = self.sought else {
-            return Ok(());
+/// Notes what the own value of a home says.
+pub(crate) fn seen_home(search: &mut Search<'_>, home: Home, seen: &Seen<'_>) -> Result<(), Halt> {
+    match home {
+        Home::Root(_) => {
+            if let Some(root) = search.roots.last_mut() {
+                root.number = number_of(seen);
+                root.cell = seen.named_cell();
+            }
+            Ok(())
+        }
+        Home::Cell(cell) => seen_cell(search, cell, number_of(seen)),
+    }
+}
+
+// Notes the number that a cell is.
+fn seen_cell(search: &mut Search<'_>, cell: CellId, number: Option<i128>) -> Result<(), Halt> {
+    let at = cell.0 as usize;
+    while search.cell_numbers.len() < at {
+        let Ok(()) = search.cell_numbers.push(None) else {
+            return Err(Halt::Memory);
         };
-        self.path.append(b" ")?;
-        for stated in self.stated.as_slice() {
-            if stated.wanted == sought.wanted {
-                return self.path.append(stated.variable.as_slice());
-            }
-        }
-        self.append_parameter(sought)
     }
+    if at > 0
+        && let Some(place) = search.cell_numbers.get_mut(at - 1)
+    {
+        *place = number;
+    }
+    Ok(())
+}
 
-    // Adds the name of the parameter that states the number.
-    fn append_parameter(&mut self, sought: Sought) -> Result<(), Memory> {
-        let interface = self.interface;
-        let Some(operation) = interface.operations.get(self.op as usize) else {
-            return Ok(());
-        };
-        for at in 0..self.roots.len() {
-            let root = self.roots[at];
-            if is_subject(at, root, sought)
-                && let Some(param) = root.param
-                && let Some(by) = attribute(operation.params.get(param as usize), sought)
-                && self.states(by, sought)
-                && let Some(variable) = operation.params.get(by.var as usize)
-            {
-                return self.path.append(variable.field.name.as_slice());
-            }
+/// Adds the path of the value that disagrees, and that of the variable that states the number.
+pub(crate) fn append_agreement(
+    ground: &Ground<'_>,
+    search: &Search<'_>,
+    sought: Sought,
+    text: &mut Octets,
+) -> Result<(), Memory> {
+    text.append(search.path.as_slice())?;
+    text.append(b" ")?;
+    for stated in search.stated.as_slice() {
+        if stated.wanted == sought.wanted {
+            return text.append(stated.variable.as_slice());
         }
-        Ok(())
     }
+    append_parameter(ground, search, sought, text)
+}
 
-    // Whether a variable states the number.
-    fn states(&self, by: AttrVar, sought: Sought) -> bool {
-        match self.value(by) {
-            Some(value) => stated_by(by.attr, value) == sought.wanted,
-            None => false,
+// Adds the name of the parameter that states the number.
+fn append_parameter(
+    ground: &Ground<'_>,
+    search: &Search<'_>,
+    sought: Sought,
+    text: &mut Octets,
+) -> Result<(), Memory> {
+    let Some(operation) = ground.interface.operations.get(ground.op as usize) else {
+        return Ok(());
+    };
+    for at in 0..search.roots.len() {
+        let root = search.roots[at];
+        if is_subject(at, root, sought)
+            && let Some(param) = root.param
+            && let Some(by) = attribute(operation.params.get(param as usize), sought)
+            && states(ground, search, by, sought)
+            && let Some(variable) = operation.params.get(by.var as usize)
+        {
+            return text.append(variable.field.name.as_slice());
         }
     }
+    Ok(())
+}
 
-    // The value of a variable.
-    fn value(&self, by: AttrVar) -> Option<i128> {
-        for root in self.roots.as_slice() {
-            if root.param == Some(by.var) {
-                return self.root_value(*root, by.star);
-            }
-        }
-        self.given_value(by)
+// Whether a variable states the number.
+fn states(ground: &Ground<'_>, search: &Search<'_>, by: AttrVar, sought: Sought) -> bool {
+    match value(ground, search, by) {
+        Some(value) => stated_by(by.attr, value) == sought.wanted,
+        None => false,
     }
+}
 
-    // The number that a root is, or with a star that in the cell that it names.
-    fn root_value(&self, root: RootSeen, star: bool) -> Option<i128> {
-        if !star {
-            return root.number;
-        }
-        let Some(cell) = root.cell else {
-            return None;
-        };
-        match self.cell_numbers.get((cell.0 as usize).saturating_sub(1)) {
-            Some(number) => *number,
-            None => None,
+// The value of a variable.
+fn value(ground: &Ground<'_>, search: &Search<'_>, by: AttrVar) -> Option<i128> {
+    for root in search.roots.as_slice() {
+        if root.param == Some(by.var) {
+            return root_value(search, *root, by.star);
         }
     }
+    given_value(ground, by)
+}
 
-    // The value of a variable that travels in the request alone.
-    fn given_value(&self, by: AttrVar) -> Option<i128> {
-        let Some(fit) = self.given else {
-            return None;
-        };
-        let mut at = 0;
-        for root in self.interface.params(self.op, nd_types::Side::In) {
-            if root.param == Some(by.var) {
-                return number_in(fit.flat(), at, by.star);
-            }
-            at += 1;
-        }
-        None
+// The number that a root is, or with a star that in the cell that it names.
+fn root_value(search: &Search<'_>, root: RootSeen, star: bool) -> Option<i128> {
+    if !star {
+        return root.number;
     }
+    let Some(cell) = root.cell else {
+        return None;
+    };
+    match search.cell_numbers.get((cell.0 as usize).saturating_sub(1)) {
+        Some(number) => *number,
+        None => None,
+    }
+}
+
+// The value of a variable that travels in the request alone.
+fn given_value(ground: &Ground<'_>, by: AttrVar) -> Option<i128> {
+    let Some(fit) = ground.given else {
+        return None;
+    };
+    let mut at = 0;
+    for root in ground.interface.params(ground.op, Side::In) {
+        if root.param == Some(by.var) {
+            return number_in(fit.flat(), at, by.star);
+        }
+        at += 1;
+    }
+    None
 }
 
 // Whether a root, or the cell that it names, is what is sought.

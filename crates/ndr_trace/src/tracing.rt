@@ -11,14 +11,18 @@ ghost use Rattle.nd_grammar.specs.LegalSide.{IsLegalSide};
 ghost use Rattle.ndr_decoder_laws.specs.verdict.InOrder.{HasOwnNumbers};
 ghost use Rattle.ndr_trace.specs.Traces.{IsTraceOf};
 
-use crate::homes::trace_side;
-use crate::sought::find_agreement;
-use crate::tracer::{Halt, Tracer};
+use crate::cells::Cells;
+use crate::homes::walk_side;
+use crate::nodes::Walker;
+use crate::parameters::append_agreement;
+use crate::progress::{Ground, Halt, Progress};
+use crate::search::{Search, find_agreement};
 use nd_base::{Memory, Octets, Order};
 use nd_flat::Fit;
 use nd_grammar::Reason;
 use nd_types::{Interface, Side};
 use nd_value::ItemLog;
+use ndr_refs::Referents;
 use std::alloc::Global;
 
 /// The trace of octets that are refused.
@@ -55,7 +59,7 @@ pub fn trace(
         → (fetched more : List ℕ) → octets.now ≡ fetched ++ more → (bad : Bad w order fetched place why) → HasOwnNumbers bad.partial bad.entries
         → items.now.items ≡ items_of order fetched bad.earlier → IsTraceOf w order fetched place why bad t.lines t.path) }
 {
-    let mut tracer = Tracer {
+    let ground = Ground {
         alloc,
         interface,
         op,
@@ -64,30 +68,50 @@ pub fn trace(
         order,
         octets,
         items,
-        next: 0,
-        at: 0,
-        lines: Octets::new(alloc),
-        path: Octets::new(alloc),
-        max: 0,
-        cells: 0,
-        numbers: ndr_refs::Referents::new(alloc),
-        pending: Vec::new(alloc),
         sought: find_agreement(items, place, why),
-        open: Vec::new(alloc),
-        stated: Vec::new(alloc),
-        roots: Vec::new(alloc),
-        cell_numbers: Vec::new(alloc),
     };
-    match trace_side(&mut tracer) {
+    let mut walker = begin(alloc);
+    match walk_side(&ground, &mut walker) {
         Err(Halt::Memory) => Err(Memory),
-        _ => finish(tracer),
+        _ => finish(&ground, walker),
     }
 }
 
-// The lines and the path at which the walk ended.
-fn finish(tracer: Tracer<'_>) -> Result<Traced, Memory> {
-    let mut tracer = tracer;
-    tracer.end_at_agreement()?;
-    let Tracer { lines, path, .. } = tracer;
+// A walk at its beginning.
+fn begin<'a>(alloc: Global) -> Walker<'a> {
+    Walker {
+        progress: Progress {
+            next: 0,
+            at: 0,
+            lines: Octets::new(alloc),
+            path: Octets::new(alloc),
+        },
+        cells: Cells {
+            count: 0,
+            numbers: Referents::new(alloc),
+            pending: Vec::new(alloc),
+        },
+        search: Search {
+            path: Octets::new(alloc),
+            stated: Vec::new(alloc),
+            open: Vec::new(alloc),
+            roots: Vec::new(alloc),
+            cell_numbers: Vec::new(alloc),
+        },
+    }
+}
+
+// The lines, and the path at which the walk ended or that of the agreement that fails.
+fn finish<'a>(ground: &Ground<'a>, walker: Walker<'a>) -> Result<Traced, Memory> {
+    let Walker {
+        progress,
+        search,
+        ..
+    } = walker;
+    let Progress { lines, path, .. } = progress;
+    let mut path = path;
+    if let Some(sought) = ground.sought {
+        append_agreement(ground, &search, sought, &mut path)?;
+    }
     Ok(Traced { lines, path })
 }

@@ -1,12 +1,11 @@
 -- Which entries are due while the items of a log are gone through, and at which of them the log ends.
 -- `xs` are the entries that are due, none of them an agreement; `log` the items that are left, `here` is the entry at which reading stopped.
-use Rattle.std.proofs.Common.{◌≡◌, ◌⊎◌, inl, inr, ◌∙◌, ◌<◌, ◌≤◌, ◌+◌, ℕ, zero, suc, ℤ, Bool, true, false, List, [], ◌∷◌, ◌++◌, length, Option, Some, None, refl, sym, ap, subst, arith}
+use Rattle.std.proofs.Common.{◌≡◌, ◌⊎◌, inl, inr, ◌∙◌, ◌<◌, ◌≤◌, ◌+◌, ℕ, zero, suc, Bool, true, false, List, [], ◌∷◌, ◌++◌, length, Some, None, refl, sym, ap, subst, arith}
 use Rattle.std.specs.Prelude.{ltb}
 use Rattle.std.specs.List.{AllByRecursion}
 use Rattle.std.proofs.lemmas.Bool.{ltb-true}
 use Rattle.nd_base.specs.declared.octets.Order.{Order}
 use Rattle.nd_value.specs.declared.item.Item.{Item}
-use Rattle.nd_value.specs.declared.item.ItemKind.{ItemKind}
 use Rattle.nd_value.specs.Setting.{Setting}
 use Rattle.nd_grammar.specs.declared.reason.Reason.{Reason}
 use Rattle.nd_grammar.specs.declared.reason.Reason.TheVariants as reason
@@ -15,7 +14,7 @@ use Rattle.nd_grammar.specs.Entry.{Actual, Align, Chunk, Context, Entry, EntryAt
 use Rattle.nd_grammar.specs.Items.{item_at, item_of, items}
 use Rattle.nd_grammar.specs.Refusal.{refusal, refused_if}
 use Rattle.nd_grammar.specs.Represents.{IsRendered, Spells, piece}
-use Rattle.ndr_trace_laws.specs.Due.{CanStop, EndsBefore, NextDue, Stopped, Stops, Went}
+use Rattle.ndr_trace_laws.specs.Due.{CanStop, EndsBefore, NextDue, Stops}
 use Rattle.ndr_trace_laws.specs.Untested.{is_test, kept_if, untested, untested_at}
 use Rattle.ndr_trace_laws.proofs.Untested.{untested_all, untested_at_append, untested_ends, untested_items}
 
@@ -50,7 +49,10 @@ module _ (order : Order) (octets : List ℕ) (nums : ℕ → ℕ) where
       as_gap = subst (λ k. refusal order octets earlier (record { at = at; entry = record { home = m.home; node = m.node; kind = k } }) ≡ Some r) e f
 
       positive : (g : ℕ) → gap at n ≡ g → 0 < gap at n
-      positive zero h = absurd (never_short (length octets) at (length octets, reason.Truncated) r l (subst (λ g. refused_if (ltb (length octets) (at + g)) (length octets, reason.Truncated) None ≡ Some r) h as_gap))
+      positive zero h =
+          absurd
+          (never_short (length octets) at (length octets, reason.Truncated) r l
+          (subst (λ g. refused_if (ltb (length octets) (at + g)) (length octets, reason.Truncated) None ≡ Some r) h as_gap))
       positive (suc g) h = omega (arith, h)
   can_stop earlier at m Unread r e f l =
       never_short (length octets) at (length octets, reason.Truncated) r l

@@ -1,11 +1,10 @@
 -- Entries without agreements. These have no octets, and so neither a place nor an item of their own: the items of entries are those of the others.
-use Rattle.std.proofs.Common.{◌≡◌, ◌∙◌, ℕ, ◌+◌, ℤ, Bool, true, false, List, [], ◌∷◌, ◌++◌, Option, None, refl, sym, ap, subst, append_assoc, add-zero}
+use Rattle.std.proofs.Common.{◌≡◌, ◌∙◌, ℕ, ◌+◌, Bool, true, false, List, [], ◌∷◌, ◌++◌, None, refl, sym, ap, add-zero}
 use Rattle.std.specs.List.{AllByRecursion}
 use Rattle.nd_base.specs.declared.octets.Order.{Order}
 use Rattle.nd_base.specs.declared.octets.Order.TheVariants.{Little}
 use Rattle.nd_types.specs.Table.{Table, type_at}
 use Rattle.nd_value.specs.declared.item.Home.{Home}
-use Rattle.nd_value.specs.declared.item.ItemKind.{ItemKind}
 use Rattle.nd_value.specs.Agreement.{Agreement}
 use Rattle.nd_value.specs.Nodes.{child_agreements, child_types, first_agreements, rest_agreements}
 use Rattle.nd_value.specs.Tree.{Tree, Trees, is_pointer, more, node, node_count, none}
@@ -61,11 +60,9 @@ pub untested_items : (order : Order) (octets : List ℕ) (xs : List EntryAt) →
 untested_items order octets [] = refl
 untested_items order octets (x ∷ xs) = go (is_test x.entry.kind) refl
   where
-    abbrev own : Option (ItemKind × ℤ)
-    own = item_of order x.entry.kind (piece octets x.at x.entry.kind)
-
-    go : (b : Bool) → is_test x.entry.kind ≡ b → items order octets (kept_if b x (untested_at xs)) ≡ item_at x own ++ items order octets xs
-    go false e = ap (λ zs. item_at x own ++ zs) (untested_items order octets xs)
+    go : (b : Bool) → is_test x.entry.kind ≡ b
+        → items order octets (kept_if b x (untested_at xs)) ≡ item_at x (item_of order x.entry.kind (piece octets x.at x.entry.kind)) ++ items order octets xs
+    go false e = ap (λ zs. item_at x (item_of order x.entry.kind (piece octets x.at x.entry.kind)) ++ zs) (untested_items order octets xs)
     go true e =
         untested_items order octets xs
         ∙ sym (ap (λ o. item_at x o ++ items order octets xs) ((test_empty order x.at x.entry.kind e).1 (piece octets x.at x.entry.kind)))
@@ -80,40 +77,39 @@ untested_all R (x ∷ xs) r = go (is_test x.entry.kind)
 
 -- ## Values
 
-pub untested_tests : (h : Home) (n : ℕ) (t : Tree) (as : List Agreement) → untested (tests h n t as) ≡ []
+untested_tests : (h : Home) (n : ℕ) (t : Tree) (xs : List Agreement) → untested (tests h n t xs) ≡ []
 untested_tests h n t [] = refl
-untested_tests h n t (a ∷ as) = untested_tests h n t as
+untested_tests h n t (x ∷ xs) = untested_tests h n t xs
 
-untested_own : (b : Bool) (h : Home) (n : ℕ) (t : Tree) (as : List Agreement) → untested (own_tests b h n t as) ≡ []
-untested_own true h n t as = refl
-untested_own false h n t as = untested_tests h n t as
+untested_own : (b : Bool) (h : Home) (n : ℕ) (t : Tree) (xs : List Agreement) → untested (own_tests b h n t xs) ≡ []
+untested_own true h n t xs = refl
+untested_own false h n t xs = untested_tests h n t xs
 
-untested_children : (h : Home) (ass : List (List Agreement)) (n : ℕ) (ts : Trees) → untested (child_tests h ass n ts) ≡ []
-untested_children h ass n none = refl
-untested_children h ass n (more (node l ks) ts) =
-    untested_append (own_tests (is_pointer l) h n (node l ks) (first_agreements ass)) (child_tests h (rest_agreements ass) (n + 1 + node_count ks) ts)
-    ∙ ap (λ xs. xs ++ untested (child_tests h (rest_agreements ass) (n + 1 + node_count ks) ts)) (untested_own (is_pointer l) h n (node l ks) (first_agreements ass))
-    ∙ untested_children h (rest_agreements ass) (n + 1 + node_count ks) ts
+untested_children : (h : Home) (xss : List (List Agreement)) (n : ℕ) (ts : Trees) → untested (child_tests h xss n ts) ≡ []
+untested_children h xss n none = refl
+untested_children h xss n (more (node l ks) ts) =
+    let own = own_tests (is_pointer l) h n (node l ks) (first_agreements xss) in
+    let others = child_tests h (rest_agreements xss) (n + 1 + node_count ks) ts in
+    untested_append own others
+    ∙ ap (λ xs. xs ++ untested others) (untested_own (is_pointer l) h n (node l ks) (first_agreements xss))
+    ∙ untested_children h (rest_agreements xss) (n + 1 + node_count ks) ts
+
+four_parts : (own inner tested later : List Entry) → untested tested ≡ []
+    → untested (own ++ (inner ++ (tested ++ later))) ≡ untested own ++ (untested inner ++ untested later)
+four_parts own inner tested later e =
+    untested_append own (inner ++ (tested ++ later))
+    ∙ ap (λ xs. untested own ++ xs)
+    (untested_append inner (tested ++ later)
+    ∙ ap (λ xs. untested inner ++ xs) (untested_append tested later ∙ ap (λ xs. xs ++ untested later) e))
 
 pub untested_values : (table : Table) (h : Home) (types : List ℕ) (n : ℕ) (ts : Trees) → untested (in_place table h types n ts) ≡ plain table h types n ts
 untested_values table h types n none = refl
 untested_values table h [] n (more t ts) = refl
 untested_values table h (t ∷ types) n (more (node l ks) ts) =
-    untested_append own (inner ++ (tested ++ later))
-    ∙ ap (λ xs. untested own ++ xs)
-    (untested_append inner (tested ++ later)
-    ∙ ap (λ xs. untested inner ++ xs) (untested_append tested later ∙ ap (λ xs. xs ++ untested later) (untested_children h (child_agreements (type_at table t) ks) (n + 1) ks))
-    ∙ ap (λ xs. xs ++ untested later) (untested_values table h (child_types (type_at table t) l ks) (n + 1) ks)
-    ∙ ap (λ xs. plain table h (child_types (type_at table t) l ks) (n + 1) ks ++ xs) (untested_values table h types (n + 1 + node_count ks) ts))
-  where
-    abbrev own : List Entry
-    own = entries h n (before_children table t (type_at table t) l ks)
-
-    abbrev inner : List Entry
-    inner = in_place table h (child_types (type_at table t) l ks) (n + 1) ks
-
-    abbrev tested : List Entry
-    tested = child_tests h (child_agreements (type_at table t) ks) (n + 1) ks
-
-    abbrev later : List Entry
-    later = in_place table h types (n + 1 + node_count ks) ts
+    let own = entries h n (before_children table t (type_at table t) l ks) in
+    let inner = in_place table h (child_types (type_at table t) l ks) (n + 1) ks in
+    let tested = child_tests h (child_agreements (type_at table t) ks) (n + 1) ks in
+    let later = in_place table h types (n + 1 + node_count ks) ts in
+    four_parts own inner tested later (untested_children h (child_agreements (type_at table t) ks) (n + 1) ks)
+    ∙ ap (λ xs. untested own ++ (xs ++ untested later)) (untested_values table h (child_types (type_at table t) l ks) (n + 1) ks)
+    ∙ ap (λ xs. untested own ++ (plain table h (child_types (type_at table t) l ks) (n + 1) ks ++ xs)) (untested_values table h types (n + 1 + node_count ks) ts)

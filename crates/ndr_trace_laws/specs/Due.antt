@@ -5,8 +5,8 @@ use Rattle.std.specs.List.{AllByRecursion}
 use Rattle.nd_base.specs.declared.octets.Order.{Order}
 use Rattle.nd_value.specs.declared.item.Item.{Item}
 use Rattle.nd_value.specs.declared.item.ItemKind.{ItemKind}
-use Rattle.nd_grammar.specs.Entry.{Align, EntryAt, Kind, Unread, gap}
-use Rattle.nd_grammar.specs.Items.{item_at, item_of, items}
+use Rattle.nd_grammar.specs.Entry.{Align, EntryAt, Kind, Unread, gap, size_at}
+use Rattle.nd_grammar.specs.Items.{item_at, item_node, item_of, items}
 use Rattle.nd_grammar.specs.Represents.{IsRendered, piece}
 use Rattle.ndr_trace_laws.specs.Untested.{is_test}
 
@@ -35,7 +35,7 @@ pub record Stops (order : Order) (octets : List ℕ) (numbering : ℕ → ℕ) (
   pub ends : EndsBefore here later
 
 -- The next entry was read, and the log goes on with its item if it is one.
-pub record Went (order : Order) (octets : List ℕ) (numbering : ℕ → ℕ) (here : EntryAt) (x : EntryAt) (xs : List EntryAt) (log : List Item) : Type 0 where
+pub record Went (order : Order) (octets : List ℕ) (numbering : ℕ → ℕ) (here x : EntryAt) (xs : List EntryAt) (log : List Item) : Type 0 where
   pub rest : List Item
   pub rendered : IsRendered order numbering octets x
   pub log_is : log ≡ item_at x (its_item order octets x) ++ rest
@@ -49,3 +49,18 @@ pub record Stopped (here : EntryAt) (x : EntryAt) (log : List Item) : Type 0 whe
 -- the next entry that is due
 abbrev pub NextDue : Order → List ℕ → (ℕ → ℕ) → EntryAt → EntryAt → List EntryAt → List Item → Type 0
 NextDue order octets numbering here x xs log = Went order octets numbering here x xs log ⊎ Stopped here x log
+
+-- The next item of the log is that of the next entry, of this kind and value.
+pub record Took (order : Order) (octets : List ℕ) (numbering : ℕ → ℕ) (here x : EntryAt) (xs : List EntryAt) (k : ItemKind × ℤ) (i : Item)
+    (log : List Item) : Type 0 where
+  pub rendered : IsRendered order numbering octets x
+  pub is_item : i
+      ≡ record {
+        at = x.at;
+        len = size_at x.at x.entry.kind;
+        kind = k.0;
+        home = x.entry.home;
+        node = item_node x.entry.kind x.entry.node;
+        value = k.1;
+      }
+  pub goes_on : Stops order octets numbering here xs log

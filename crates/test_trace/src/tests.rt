@@ -103,7 +103,8 @@ fn octets_end_between_items(rt: HostRuntime) -> Result<(), Fail> {
 fn a_tag_has_no_arm(rt: HostRuntime) -> Result<(), Fail> {
     let all = traced(
         rt.alloc(),
-        b"typedef [switch_type(short)] union { [case(1)] long x; [case(2)] ; } u; typedef struct { short k; [switch_is(k)] u v; } e; void put([in] e a[2]);",
+        b"typedef [switch_type(short)] union { [case(1)] long x; [case(2)] ; } u;
+          typedef struct { short k; [switch_is(k)] u v; } e; void put([in] e a[2]);",
         b"\x01\0\x01\0\x07\0\0\0\x03\0\x03\0",
     )?;
     assert_eq!(rt;

@@ -1,4 +1,7 @@
-// The agreement that fails, if one does.
+// What is kept for the variable of an agreement that fails.
+use crate::members::Open;
+use crate::parameters::RootSeen;
+use nd_base::Octets;
 use nd_grammar::Reason;
 use nd_types::Attr;
 use nd_value::{Home, Item, ItemKind, ItemLog};
@@ -12,6 +15,27 @@ pub(crate) struct Sought {
     pub(crate) home: Home,
     pub(crate) node: u32,
     pub(crate) wanted: i128,
+}
+
+/// A number that a variable states of the value that is sought.
+#[derive(Drop)]
+pub(crate) struct Stated {
+    pub(crate) wanted: i128,
+    /// The path of the variable.
+    pub(crate) variable: Octets,
+}
+
+/// What is kept while an agreement is sought; else it stays empty, but for the roots.
+#[derive(Drop)]
+pub(crate) struct Search<'a> {
+    /// The path of the value that is sought, once it was met.
+    pub(crate) path: Octets,
+    pub(crate) stated: Vec<Stated>,
+    /// The structs that are open.
+    pub(crate) open: Vec<Open<'a>>,
+    pub(crate) roots: Vec<RootSeen>,
+    /// The numbers that cells are.
+    pub(crate) cell_numbers: Vec<Option<i128>>,
 }
 
 /// What a refusal at a place seeks: at a failed agreement the count or tag at that place.
