@@ -22,7 +22,7 @@ use text_grammar::append_count;
 pub enum TracedOctets {
     /// They are accepted: a line for each item.
     Whole(Octets),
-    /// They are refused at a place: a line for each item before it, and the line `PLACE fault REASON PATH`, in which PATH is that of the value that is
+    /// They are refused at a place: a line for each item before it, and the line `PLACE fault REASON PATH`, where PATH is that of the value that is
     /// refused or lacks octets. At a failed agreement the path of the variable follows. An octet after the values is `PLACE fault Trailing`.
     Refused {
         lines: Octets,
@@ -31,12 +31,12 @@ pub enum TracedOctets {
     },
 }
 
-/// The items of the values of a side of an operation, in words, a line for each, of octets in NDR (C706, chapter 14), up to the first fault. `op` must
-/// be the number of an operation of the interface. A request that is given must be one of that operation, and then the side is that of its outputs:
+/// The items of the values of a side of an operation, in words, a line for each, of octets in NDR (C706, chapter 14), up to the first fault. `op`
+/// must be the number of an operation of the interface. A request that is given must be one of that operation, and then the side is that of its outputs:
 /// the values are judged beside it.
 ///
-/// Takes memory for the plan of the interface, the values, the items and the text; out of memory is the only error. The time is in proportion to these
-/// and the octets.
+/// Takes memory for the plan of the interface, the values, the items and the text; out of memory is the only error. The time is in proportion to
+/// these and the octets.
 pub fn trace_octets(
     alloc: Global,
     interface: &Interface,
