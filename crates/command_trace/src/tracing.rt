@@ -32,8 +32,8 @@ pub enum TracedOctets {
 }
 
 /// The items of the values of a side of an operation, in words, a line for each, of octets in NDR (C706, chapter 14), up to the first fault. `op`
-/// must be the number of an operation of the interface. A request that is given must be one of that operation, and then the side is that of its outputs:
-/// the values are judged beside it.
+/// must be the number of an operation of the interface. A request that is given must be one of that operation, and then the side is that of its
+/// outputs: the values are judged beside it.
 ///
 /// Takes memory for the plan of the interface, the values, the items and the text; out of memory is the only error. The time is in proportion to
 /// these and the octets.

@@ -1,9 +1,9 @@
 // How far the items of a log are traced.
-ghost use Rattle.std.specs.Prelude.{◌≡◌, ◌<◌, ◌+◌, ◌-◌, ◌^◌, ◌++◌, ℕ, List, ◌∷◌, IfOk, IsErr, IsErrOf, None, OnOk, min, reverse};
-ghost use Rattle.nd_grammar.specs.Entry.{Align, Entry};
+ghost use Rattle.std.specs.Prelude.{◌≡◌, ◌<◌, ◌+◌, ◌-◌, ◌^◌, ◌++◌, List, ◌∷◌, pos, IfOk, IsErr, IsErrOf, None, OnOk, min, reverse};
+ghost use Rattle.nd_grammar.specs.Entry.{Align, Entry, Kind};
 ghost use Rattle.ndr_explain.specs.Cursors.{name_text, path_to};
 ghost use Rattle.ndr_trace.specs.declared.progress.Halt.TheVariants as halts;
-ghost use Rattle.ndr_trace.specs.Tracing.{Known, IsEnded, IsGround, IsSpot, IsTracing, entry_at};
+ghost use Rattle.ndr_trace.specs.Tracing.{Known, Holds, HasLabel, IsCount, IsEnded, IsGround, IsItem, IsSpot, IsTracing, entry_at};
 
 use crate::search::Sought;
 use nd_base::{Memory, Octets, Order};
@@ -106,7 +106,14 @@ pub(crate) fn item(
     ground: &Ground<'_>,
     progress: &mut Progress,
     spot: &Spot<'_, '_>,
-) -> Result<i128, Halt> {
+) -> Result<i128, Halt>
+    ensures goes { (k : Known) → IsGround k ground.now → IsSpot k spot.now → (x : Kind) → IsItem x → HasLabel k spot.now x
+        → (rest : List Entry) → IsTracing k progress.old (entry_at spot.now x ∷ rest)
+        → IfOk result (λ z. IsTracing k progress.new rest × Holds k x z) }
+    ensures ends { (k : Known) → IsGround k ground.now → IsSpot k spot.now → (x : Kind) → IsItem x
+        → (rest : List Entry) → IsTracing k progress.old (entry_at spot.now x ∷ rest)
+        → IsErrOf result halts.Here → IsEnded k progress.new }
+{
     if progress.next >= ground.items.len() {
         end(ground, progress, spot)?;
         return Ok(0);
@@ -129,7 +136,14 @@ pub(crate) fn count(
     ground: &Ground<'_>,
     progress: &mut Progress,
     spot: &Spot<'_, '_>,
-) -> Result<u32, Halt> {
+) -> Result<u32, Halt>
+    ensures goes { (k : Known) → IsGround k ground.now → IsSpot k spot.now → (x : Kind) → IsCount x
+        → (rest : List Entry) → IsTracing k progress.old (entry_at spot.now x ∷ rest)
+        → IfOk result (λ n. IsTracing k progress.new rest × Holds k x (pos n)) }
+    ensures ends { (k : Known) → IsGround k ground.now → IsSpot k spot.now → (x : Kind) → IsCount x
+        → (rest : List Entry) → IsTracing k progress.old (entry_at spot.now x ∷ rest)
+        → IsErrOf result halts.Here → IsEnded k progress.new }
+{
     let value = item(ground, progress, spot)?;
     Ok(u32::try_from(value).unwrap_or(0))
 }

@@ -45,13 +45,17 @@ test_empty order at (Text os) e = cc
 test_empty order at (Context a id) e = cc
 test_empty order at Unread e = cc
 
+abbrev placed : ℕ → Entry → EntryAt
+placed at m = record { at = at; entry = m }
+
 pub untested_ends : (at : ℕ) (ms : List Entry) → untested_at (end_to_end at ms) ≡ end_to_end at (untested ms)
 untested_ends at [] = refl
 untested_ends at (m ∷ ms) = go (is_test m.kind) refl
   where
     go : (b : Bool) → is_test m.kind ≡ b
-        → kept_if b (record { at = at; entry = m }) (untested_at (end_to_end (at + size_at at m.kind) ms)) ≡ end_to_end at (kept_if b m (untested ms))
-    go false e = ap (λ xs. record { at = at; entry = m } ∷ xs) (untested_ends (at + size_at at m.kind) ms)
+        → kept_if b (placed at m) (untested_at (end_to_end (at + size_at at m.kind) ms)) ≡ end_to_end at (kept_if b m (untested ms))
+    go false e =
+        ap (λ xs. placed at m ∷ xs) (untested_ends (at + size_at at m.kind) ms)
     go true e =
         let z : at + size_at at m.kind ≡ at = ap (λ n. at + n) (test_empty Little at m.kind e).0 ∙ add-zero at in
         untested_ends (at + size_at at m.kind) ms ∙ ap (λ n. end_to_end n (untested ms)) z
