@@ -36,6 +36,7 @@ MOST_TIMES = 16.0  # the time that ten times the input may take
 MOST_TIMES_OF_FOUR = 6.0  # the time that four times an interface file may take
 MOST_TIMES_OF_A_PLAN = 4.6  # the time that the plan of four times as many types may take
 MOST_SECONDS_OF_A_PLAN = 1.0  # the time that the plan of the most types may take, with its listing
+MOST_SECONDS_OF_A_COMPARISON = 0.01  # the time that the comparison of two interfaces of the most types may take
 MOST_OCTETS = 100  # the memory for each octet of an interface file
 PLANNED_MEMBERS = 60_000
 NOISE = 0.001  # seconds; a difference below them is not told from none
@@ -275,6 +276,20 @@ def planned_interface(types: int, members: int) -> bytes:
     return "".join(f"{line}\n" for line in [*lines, "}"]).encode()
 
 
+def compared_interface(types: int, members: int) -> bytes:
+    """An interface with so many types, the basic ones among them: structs with so many members in all, each of which an operation takes."""
+    lines = ["[uuid(11111111-2222-3333-4444-555555555555), version(1.0)] interface t {"]
+    structs = types - BASIC_TYPES
+    each, more = divmod(members, structs)
+    for number in range(structs):
+        names = ", ".join(f"m{member}" for member in range(each + (number < more) - 2))
+        lines.append(f"typedef struct {{ long n; short {names}; hyper a; }} s{number};")
+    for first in range(0, structs, 4):
+        taken = ", ".join(f"[in] s{number} p{number}" for number in range(first, min(first + 4, structs)))
+        lines.append(f"void f{first}({taken});")
+    return "".join(f"{line}\n" for line in [*lines, "}"]).encode()
+
+
 def numbers(seed: int) -> List[int]:
     chance = random.Random(seed)
     return [chance.randrange(-(2**63), 2**63) for _ in range(PARAMETERS)]
@@ -499,6 +514,31 @@ def measure_plan(bench: Bench, nothing: Path, start: Measured) -> None:
         bench.fail(f"the plan of the most types takes {of_large:.2f} seconds")
 
 
+def measure_comparison(bench: Bench, nothing: Path, start: Measured) -> None:
+    """The comparison of as many types as there may be with themselves, beyond reading the file twice, and that of a quarter of them."""
+    runs = []
+    for part in (4, 1):
+        types, members = TYPE_LIMIT // part, PLANNED_MEMBERS // part
+        file = bench.write(f"compared.{types}.idl", compared_interface(types, members))
+        check_listing(bench, file, types)
+        told = f"{types:,} types, {members:,} members"
+        operations = (types - BASIC_TYPES + 3) // 4
+        runs.append(Run(f"one file, {told}", bench.decode(file, "none", "little"), nothing, 6, b""))
+        runs.append(Run(f"compat, {told}", [bench.program, "compat", str(file), "-", str(file), "-"], nothing, 0, b"compatible %d\n" % operations))
+    small_base, small, large_base, large = bench.measure(runs, max(3, bench.runs // 10))
+    of_small = tell_comparison(small, small_base, start)
+    of_large = tell_comparison(large, large_base, start)
+    check_growth(bench, "the comparison", of_small, of_large, times="four times", most=MOST_TIMES_OF_FOUR)
+    if of_large > MOST_SECONDS_OF_A_COMPARISON:
+        bench.fail(f"the comparison of the most types takes {of_large * 1000:.1f} ms")
+
+
+def tell_comparison(compared: Measured, base: Measured, start: Measured) -> float:
+    """The lines of a comparison and of reading one of its files. Gives the time beyond reading both."""
+    net = tell(base, start)
+    return tell(compared, base) - net
+
+
 def has_plan(bench: Bench, idl: Path, nothing: Path) -> bool:
     """Whether the program has the command: where it has not, it ends with status 2 before all else."""
     with open(nothing, "rb") as stdin:
@@ -527,6 +567,7 @@ def measure(bench: Bench, size: int) -> None:
     measure_listing(bench, nothing, start)
     if has_plan(bench, idl, nothing):
         measure_plan(bench, nothing, start)
+        measure_comparison(bench, nothing, start)
     else:
         print("The program has no command `plan`: it is not measured.")
 

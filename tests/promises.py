@@ -269,7 +269,7 @@ def faults(root: Path = ROOT) -> List[str]:
     rows, wrong = read_rows(text)
     for row in rows:
         wrong += faults_of_row(crates, row)
-    words = len(text.split())
+    words = len([word for word in text.split() if word not in ("|", "-")])  # the borders of cells are none
     return wrong + ([f"the page has {words} words, more than {MOST_WORDS}"] if words > MOST_WORDS else [])
 
 

@@ -149,8 +149,8 @@ def output_of(wanted: Union[bytes, Begins, Stream]) -> int:
 
 
 def ends_of(folder: str, case: Case) -> Mapping[str, bytes]:
-    """The ends of pipes that are files after a run, each with its content; of those that were there before it only what the case names."""
-    names = [name for name in sorted(os.listdir(folder)) if name.startswith("pipe") and (name not in case.files or name in case.ends)]
+    """The ends of pipes, and the resources, that are files after a run, each with its content; of those that were there before only what the case names."""
+    names = [name for name in sorted(os.listdir(folder)) if name.startswith(("pipe", "res")) and (name not in case.files or name in case.ends)]
     return {name: Path(folder, name).read_bytes() for name in names}
 
 
@@ -231,7 +231,7 @@ def difference(what: str, wanted: Union[bytes, Begins, Stream], found: bytes) ->
 
 
 def ends_differ(wanted: Mapping[str, bytes], found: Mapping[str, bytes]) -> List[str]:
-    """What is wrong with the ends of pipes."""
+    """What is wrong with the ends of pipes and the resources."""
     wrong = [f"  {name}: not there" for name in wanted if name not in found]
     wrong += [f"  {name}: there" for name in found if name not in wanted]
     return wrong + [line for name in wanted if name in found for line in difference(name, wanted[name], found[name])]
@@ -260,10 +260,10 @@ def needs_program(case: AnyCase) -> bool:
 
 
 def build(program: str) -> Optional[str]:
-    """Has bin/dceidl build the program; what it said if it could not."""
+    """Has bin/dceidl build the program, which says on standard error how far it is; what to report if it could not."""
     print("building the program if it is older than its sources ..", flush=True)
-    built = subprocess.run([program, "--version"], stdin=subprocess.DEVNULL, capture_output=True)
-    return None if built.returncode == 0 else built.stderr.decode("utf-8", "backslashreplace")
+    built = subprocess.run([program, "--version"], stdin=subprocess.DEVNULL, stdout=subprocess.DEVNULL)
+    return None if built.returncode == 0 else f"its status was {built.returncode}; what it said is above"
 
 
 def main() -> int:

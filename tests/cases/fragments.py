@@ -1,6 +1,6 @@
 """The commands `call` and `wrap`: the fragments of a request or response (C706, section 12.6)."""
 
-from case import CLOSED, Case, OneAtATime, interface, lines, octets
+from case import CLOSED, Case, OneAtATime, example, interface, lines, octets
 
 FILE = interface("void add([in] long a, [in] short b, [in] hyper c);", "void ping();", "long sum([in] short n);")
 ADD = lines("values 2", "op add in", "a = 1", "b = 2", "c = 3")
@@ -100,4 +100,22 @@ WRAPPED = [
     wrap("a text that is refused", "add in little 7 1024", b"values 3\n", status=1, notes=lines("refused: text 1:8: Expected")),
 ]
 
-CASES = READ + REFUSED + WRAPPED
+LIST = lines("values 2", "op list in", "path = @1", '@1 = 2:"/"')
+LISTED = lines("values 2", "op list out", "first = @1", "return = 2", "@1 = {kind = 5, detail = 5:@2, name = @3, next = @4}", '@2 = 5:"here"', '@3 = 4:"etc"',
+               "@4 = {kind = 0, detail = 0:1024, name = @5, next = null}", '@5 = 2:"a"')
+
+
+def outside(order, line, op, made):
+    """A line of an example: PDUs whose headers scapy wrote, around stub data that Samba wrote."""
+    return Case(f"call: {order}, PDUs of scapy with stub data of Samba, line {line}", ["call", "directory.idl", "-", op],
+                {"directory.idl": example("directory.idl")}, bytes.fromhex(example(f"list-pdus-{order}.hex").split()[line - 1].decode()), lines("call 1") + made)
+
+
+OUTSIDE = [outside(order, line, op, made) for order in ("little", "big") for line, op, made in ((1, "-", LIST), (2, "list", LISTED))]
+
+# three fragments, cut after each octet
+THREE = pdu(STUB[:5], flags=1, hint=16) + pdu(STUB[5:8], flags=0, hint=16) + pdu(STUB[8:], flags=2, hint=16)
+CUT = [call("three fragments", THREE, lines("call 7") + ADD),
+       *(refused(f"three fragments cut after {n} octets", THREE[:n], n, "Short") for n in range(len(THREE)))]
+
+CASES = READ + REFUSED + WRAPPED + OUTSIDE + CUT

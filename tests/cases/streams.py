@@ -23,6 +23,17 @@ INPUT = [
     Case("streams: closed input of encode", ENCODE, PLAIN, CLOSED, notes=lines("read fault"), status=3),
 ]
 
+BLOCKS = [
+    Case("streams: a file is taken as far as its value and an octet more", DECODE, PLAIN, ONE + bytes(300_000),
+         notes=lines("refused: octets at 1: Trailing"), status=1, left=bytes(299_999)),
+    Case("streams: a value of more than a block", DECODE, {"t.idl": interface("void f([in] byte d[300000]);")}, bytes(300_000) + b"abc",
+         notes=lines("refused: octets at 300000: Trailing"), status=1, left=b"bc"),
+    Case("streams: a value of more than a block, to the end of the file", DECODE, {"t.idl": interface("void f([in] byte d[300000]);")}, bytes(300_000),
+         lines("values 2", "op f in", 'd = x"' + "00" * 300_000 + '"'), left=b""),
+    Case("streams: nothing of a file is taken before the words are a command", ["decode"], PLAIN, ONE + bytes(300_000),
+         notes=lines("words refused"), status=2, left=ONE + bytes(300_000)),
+]
+
 OUT = [
     Case("streams: full out", DECODE, PLAIN, ONE, out=FULL, notes=lines("write fault"), status=4),
     Case("streams: closed out", DECODE, PLAIN, ONE, out=CLOSED, notes=lines("write fault"), status=4),
@@ -53,4 +64,4 @@ NOTES = [
     Case("streams: all closed", DECODE, PLAIN, CLOSED, out=CLOSED, notes=CLOSED, status=4),
 ]
 
-CASES = INPUT + OUT + NOTES
+CASES = INPUT + BLOCKS + OUT + NOTES

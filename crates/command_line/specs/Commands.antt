@@ -1,4 +1,4 @@
--- A command of the code as the command that it is.
+-- A command of the code as the command that it is. `why` is none of the code: its words are taken before.
 use Rattle.std.specs.Prelude.{◌≡◌, ◌≤◌, Option, None, Some, option_map, ⊤}
 use Rattle.nd_types.specs.declared.types.Side.{Side}
 use Rattle.nd_types.specs.declared.types.Side.TheVariants.{Out}
@@ -8,7 +8,7 @@ use Rattle.command_line.specs.declared.command.Subject.{Subject}
 use Rattle.command_line.specs.declared.command.Command.{Command}
 use Rattle.command_line.specs.declared.command.Task.{Task}
 use Rattle.command_line.specs.declared.command.Task.TheVariants.{Read, Encode, Migrate}
-use Rattle.command_line.specs.declared.command.Command.TheVariants.{Values, Compile, Plan, Call, Wrap, Sample, Help, Version}
+use Rattle.command_line.specs.declared.command.Command.TheVariants.{Values, Compile, Plan, Call, Wrap, Compat, Sample, Help, Version}
 
 abbrev pub subject_of : Subject → words.Subject
 subject_of of = record { idl = of.idl.now; acf = option_map (λ a. a.now) of.acf; op = of.op.now; side = of.side }
@@ -19,6 +19,7 @@ command_of (Compile idl acf) = words.Compile idl.now (option_map (λ a. a.now) a
 command_of (Plan idl acf) = words.Plan idl.now (option_map (λ a. a.now) acf)
 command_of (Call idl acf op) = words.Call idl.now (option_map (λ a. a.now) acf) (option_map (λ a. a.now) op)
 command_of (Wrap of order call max) = words.Wrap (subject_of of) order call max
+command_of (Compat old old_acf new new_acf) = words.Compat old.now (option_map (λ a. a.now) old_acf) new.now (option_map (λ a. a.now) new_acf)
 command_of (Sample seed count) = words.Sample seed count
 command_of Help = words.Help
 command_of Version = words.Version

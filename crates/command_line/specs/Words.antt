@@ -33,6 +33,10 @@ pub data Command : Type 0 where
   Call : (idl : List ℕ) (acf : Option (List ℕ)) (op : Option (List ℕ)) → Command
   -- the input's text is read, and its octets are written as the stub data of fragments, with a call id and so many octets each at most
   Wrap : (of : Subject) (order : Order) (call max : ℕ) → Command
+  -- two versions of an interface are compared
+  Compat : (old : List ℕ) (old_acf : Option (List ℕ)) (new : List ℕ) (new_acf : Option (List ℕ)) → Command
+  -- what these words of a refusal mean is written
+  Why : (words : List (List ℕ)) → Command
   -- a graph of so many cells, made from a seed, is encoded and decoded
   Sample : (seed count : ℕ) → Command
   Help : Command
@@ -47,9 +51,14 @@ idl_of (Call idl acf op) = idl
 idl_of (Wrap of order call max) = of.idl
 idl_of _ = []
 
+-- a name, or nothing if there is none
+abbrev pub name_in : Option (List ℕ) → List ℕ
+name_in None = []
+name_in (Some name) = name
+
 abbrev pub op_of : Command → List ℕ
 op_of (Values task of given) = of.op
-op_of (Call idl acf (Some op)) = op
+op_of (Call idl acf op) = name_in op
 op_of (Wrap of order call max) = of.op
 op_of _ = []
 
@@ -173,31 +182,46 @@ abbrev pub sample : Option ℕ → Option ℕ → Option Command
 sample (Some seed) (Some count) = Some (Sample seed count)
 sample _ _ = None
 
--- The command that words are, if they are one: `compile IDL ACF`, `plan IDL ACF`, `sample SEED COUNT`, `call IDL ACF OP` or `call IDL ACF -`,
--- `migrate IDL ACF OP SIDE`, `decode IDL ACF OP SIDE ORDER`,
+-- The command that words are by their number, if they are one: `compile IDL ACF`, `plan IDL ACF`, `sample SEED COUNT`,
+-- `call IDL ACF OP` or `call IDL ACF -`, `migrate IDL ACF OP SIDE`, `compat OLD OLDACF NEW NEWACF`, `decode IDL ACF OP SIDE ORDER`,
 -- `decode IDL ACF OP out ORDER given TEXT`, the same of `explain` and `drain`, `encode IDL ACF OP SIDE ORDER CHUNK`,
--- `encode IDL ACF OP out ORDER CHUNK given TEXT`, `wrap IDL ACF OP SIDE ORDER CALL MAX`, `--help` or `--version`. No words are `sample 1 2`.
-abbrev pub command : List (List ℕ) → Option Command
-command [] = Some (Sample 1 2)
-command (word ∷ []) =
+-- `encode IDL ACF OP out ORDER CHUNK given TEXT`, `wrap IDL ACF OP SIDE ORDER CALL MAX`, `--help` or `--version`.
+-- No words are `sample 1 2`.
+abbrev pub counted_command : List (List ℕ) → Option Command
+counted_command [] = Some (Sample 1 2)
+counted_command (word ∷ []) =
     if is_word word (codes "--help") then Some Help
     else if is_word word (codes "--version") then Some Version else None
-command (verb ∷ first ∷ second ∷ []) =
+counted_command (verb ∷ first ∷ second ∷ []) =
     if is_word verb (codes "sample") then sample (seed_of first) (count_of second) else listing verb first second
-command (verb ∷ idl ∷ acf ∷ op ∷ []) =
-    if is_word verb (codes "call") then Some (Call idl (acf_of acf) (operation_of op)) else None
-command (verb ∷ idl ∷ acf ∷ op ∷ side ∷ []) =
-    if is_word verb (codes "migrate") then migrate idl acf op (side_of side) else None
-command (how ∷ idl ∷ acf ∷ op ∷ side ∷ order ∷ []) = read (reading_of how) idl acf op (side_of side) (order_of order)
-command (verb ∷ idl ∷ acf ∷ op ∷ side ∷ order ∷ chunk ∷ []) =
+counted_command (verb ∷ first ∷ second ∷ third ∷ []) =
+    if is_word verb (codes "call") then Some (Call first (acf_of second) (operation_of third)) else None
+counted_command (verb ∷ first ∷ second ∷ third ∷ fourth ∷ []) =
+    if is_word verb (codes "migrate") then migrate first second third (side_of fourth)
+    else if is_word verb (codes "compat") then Some (Compat first (acf_of second) third (acf_of fourth)) else None
+counted_command (how ∷ idl ∷ acf ∷ op ∷ side ∷ order ∷ []) = read (reading_of how) idl acf op (side_of side) (order_of order)
+counted_command (verb ∷ idl ∷ acf ∷ op ∷ side ∷ order ∷ chunk ∷ []) =
     if is_word verb (codes "encode") then encode idl acf op (side_of side) (order_of order) (chunk_of chunk) else None
-command (verb ∷ idl ∷ acf ∷ op ∷ side ∷ order ∷ seventh ∷ eighth ∷ []) =
+counted_command (verb ∷ idl ∷ acf ∷ op ∷ side ∷ order ∷ seventh ∷ eighth ∷ []) =
     if is_word verb (codes "wrap") then wrap idl acf op (side_of side) (fixed_order_of order) (call_id_of seventh) (max_of eighth)
     else read_beside_words verb idl acf op side order seventh eighth
-command (verb ∷ idl ∷ acf ∷ op ∷ side ∷ order ∷ chunk ∷ given ∷ text ∷ []) =
+counted_command (verb ∷ idl ∷ acf ∷ op ∷ side ∷ order ∷ chunk ∷ given ∷ text ∷ []) =
     if is_word verb (codes "encode") && is_word given (codes "given")
     then encode_beside idl acf op (side_of side) (order_of order) (chunk_of chunk) text else None
-command _ = None
+counted_command _ = None
+
+-- the words after `why`, if it is the first
+abbrev pub why_words : List (List ℕ) → Option (List (List ℕ))
+why_words [] = None
+why_words (verb ∷ rest) = if is_word verb (codes "why") then Some rest else None
+
+abbrev pub command_or_why : Option (List (List ℕ)) → List (List ℕ) → Option Command
+command_or_why (Some words) all = Some (Why words)
+command_or_why None all = counted_command all
+
+-- The command that words are, if they are one: `why WORD ..`, or else the command by their number.
+abbrev pub command : List (List ℕ) → Option Command
+command words = command_or_why (why_words words) words
 
 -- the one word that runs a script over resources, and is no command
 abbrev pub is_session : List (List ℕ) → Bool

@@ -60,7 +60,7 @@ pub struct Subject<'a> {
     pub side: Side,
 }
 
-/// What a command line asks for.
+/// What a command line asks for, unless it is `why`.
 #[derive(Clone, Copy)]
 pub enum Command<'a> {
     /// Something is done with the values of the input.
@@ -95,6 +95,13 @@ pub enum Command<'a> {
         call: u32,
         /// How many octets a fragment has at most: at least 1,024.
         max: u16,
+    },
+    /// Two versions of an interface are compared.
+    Compat {
+        old: &'a str,
+        old_acf: Option<&'a str>,
+        new: &'a str,
+        new_acf: Option<&'a str>,
     },
     /// A sample of so many cells, made from a seed, is encoded and decoded.
     Sample {

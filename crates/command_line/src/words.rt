@@ -1,7 +1,8 @@
 // The words of a command line, and the command that they are.
 ghost use Rattle.std.specs.Prelude.{◌≡◌, ◌≤◌, ◌<◌, [], ◌∷◌, ◌++◌, length, map, OnOk, OnErr, IfSome, option_map};
 ghost use Rattle.std.specs.String.{string_bytes};
-ghost use Rattle.command_line.specs.Words.{command, acf_of, order_of, side_of, reading_of, read as read_of, read_beside as read_beside_of};
+ghost use Rattle.command_line.specs.Words.{counted_command, why_words, acf_of, order_of, side_of, reading_of};
+ghost use Rattle.command_line.specs.Words.{read as read_of, read_beside as read_beside_of};
 ghost use Rattle.command_line.specs.Words.{encode as encode_of, encode_beside as encode_beside_of, migrate as migrate_of, sample as sample_of};
 ghost use Rattle.command_line.specs.Words.{listing as listing_of, subject as subject_by};
 ghost use Rattle.command_line.specs.Words.{is_session as is_session_of, operation_of, fixed_order_of, wrap as wrap_of};
@@ -65,9 +66,16 @@ impl Words {
         }
     }
 
-    /// The command that the words are, or None if they are none. Takes no memory.
+    /// The words after `why`, or None if it is not the first word. Takes no memory.
+    pub fn why(&self) -> Option<&[String]>
+        ensures { option_map (λ words. map string_bytes words.now) result ≡ why_words self.now }
+    {
+        words_after_why(self.items.as_slice())
+    }
+
+    /// The command that the words are by their number, or None if they are none. Takes no memory.
     pub fn command(&self) -> Option<Command<'_>>
-        ensures command { option_map command_of result ≡ command self.now }
+        ensures command { option_map command_of result ≡ counted_command self.now }
         ensures formed { IfSome result IsWellFormed }
     {
         let words = self.items.as_slice();
@@ -79,30 +87,46 @@ impl Words {
     }
 }
 
+// The words after `why`, if it is the first.
+fn words_after_why(words: &[String]) -> Option<&[String]>
+    ensures { option_map (λ rest. map string_bytes rest.now) result ≡ why_words (map string_bytes words.now) }
+{
+    match words {
+        [verb, rest @ ..] => {
+            if verb.as_str() == "why" {
+                Some(rest)
+            } else {
+                None
+            }
+        }
+        [] => None,
+    }
+}
+
 // The command that at most five words are.
 #[tactic(auto, using(crate::proofs::FewWords::two_words))]
 fn command_of_few(words: &[String]) -> Option<Command<'_>>
     requires { length words.now ≤ 5 }
-    ensures command { option_map command_of result ≡ command (map string_bytes words.now) }
+    ensures command { option_map command_of result ≡ counted_command (map string_bytes words.now) }
     ensures formed { IfSome result IsWellFormed }
 {
     match words {
         [] => Some(Command::Sample { seed: 1, count: 2 }),
         [word] => short_command(word.as_str()),
         [verb, first, second] => three_words(verb.as_str(), first.as_str(), second.as_str()),
-        [verb, idl, acf, op] => four_words(verb.as_str(), idl.as_str(), acf.as_str(), op.as_str()),
-        [verb, idl, acf, op, side] => {
-            if verb.as_str() == "migrate" {
-                migrate_command(
-                    idl.as_str(),
-                    acf.as_str(),
-                    op.as_str(),
-                    side_named(side.as_str()),
-                )
-            } else {
-                None
-            }
-        }
+        [verb, first, second, third] => four_words(
+            verb.as_str(),
+            first.as_str(),
+            second.as_str(),
+            third.as_str(),
+        ),
+        [verb, first, second, third, fourth] => five_words(
+            verb.as_str(),
+            first.as_str(),
+            second.as_str(),
+            third.as_str(),
+            fourth.as_str(),
+        ),
         _ => None,
     }
 }
@@ -111,7 +135,7 @@ fn command_of_few(words: &[String]) -> Option<Command<'_>>
 fn command_of_more(words: &[String]) -> Option<Command<'_>>
     requires least { 6 ≤ length words.now }
     requires most { length words.now ≤ 7 }
-    ensures command { option_map command_of result ≡ command (map string_bytes words.now) }
+    ensures command { option_map command_of result ≡ counted_command (map string_bytes words.now) }
     ensures formed { IfSome result IsWellFormed }
 {
     match words {
@@ -145,7 +169,7 @@ fn command_of_more(words: &[String]) -> Option<Command<'_>>
 #[tactic(auto, using(crate::proofs::FewWords::many_words))]
 fn command_of_most(words: &[String]) -> Option<Command<'_>>
     requires { 8 ≤ length words.now }
-    ensures command { option_map command_of result ≡ command (map string_bytes words.now) }
+    ensures command { option_map command_of result ≡ counted_command (map string_bytes words.now) }
     ensures formed { IfSome result IsWellFormed }
 {
     match words {
@@ -175,7 +199,7 @@ fn command_of_most(words: &[String]) -> Option<Command<'_>>
 }
 
 fn short_command(word: &str) -> Option<Command<'_>>
-    ensures command { option_map command_of result ≡ command (word.now ∷ []) }
+    ensures command { option_map command_of result ≡ counted_command (word.now ∷ []) }
     ensures formed { IfSome result IsWellFormed }
 {
     if word == "--help" {
@@ -189,7 +213,7 @@ fn short_command(word: &str) -> Option<Command<'_>>
 
 // The command that three words are: one that lists, or `sample`.
 fn three_words<'a>(verb: &str, first: &'a str, second: &'a str) -> Option<Command<'a>>
-    ensures command { option_map command_of result ≡ command (verb.now ∷ first.now ∷ second.now ∷ []) }
+    ensures command { option_map command_of result ≡ counted_command (verb.now ∷ first.now ∷ second.now ∷ []) }
     ensures formed { IfSome result IsWellFormed }
 {
     if verb == "sample" {
@@ -203,15 +227,45 @@ fn three_words<'a>(verb: &str, first: &'a str, second: &'a str) -> Option<Comman
 }
 
 // The command that four words are: `call`.
-fn four_words<'a>(verb: &str, idl: &'a str, acf: &'a str, op: &'a str) -> Option<Command<'a>>
-    ensures command { option_map command_of result ≡ command (verb.now ∷ idl.now ∷ acf.now ∷ op.now ∷ []) }
+fn four_words<'a>(
+    verb: &str,
+    first: &'a str,
+    second: &'a str,
+    third: &'a str,
+) -> Option<Command<'a>>
+    ensures command { option_map command_of result ≡ counted_command (verb.now ∷ first.now ∷ second.now ∷ third.now ∷ []) }
     ensures formed { IfSome result IsWellFormed }
 {
     if verb == "call" {
         Some(Command::Call {
-            idl,
-            acf: acf_named(acf),
-            op: operation_named(op),
+            idl: first,
+            acf: acf_named(second),
+            op: operation_named(third),
+        })
+    } else {
+        None
+    }
+}
+
+// The command that five words are: `migrate` or `compat`.
+fn five_words<'a>(
+    verb: &str,
+    first: &'a str,
+    second: &'a str,
+    third: &'a str,
+    fourth: &'a str,
+) -> Option<Command<'a>>
+    ensures command { option_map command_of result ≡ counted_command (verb.now ∷ first.now ∷ second.now ∷ third.now ∷ fourth.now ∷ []) }
+    ensures formed { IfSome result IsWellFormed }
+{
+    if verb == "migrate" {
+        migrate_command(first, second, third, side_named(fourth))
+    } else if verb == "compat" {
+        Some(Command::Compat {
+            old: first,
+            old_acf: acf_named(second),
+            new: third,
+            new_acf: acf_named(fourth),
         })
     } else {
         None
@@ -230,7 +284,7 @@ fn eight_words<'a>(
     eighth: &'a str,
 ) -> Option<Command<'a>>
     ensures command { option_map command_of result
-        ≡ command (verb.now ∷ idl.now ∷ acf.now ∷ op.now ∷ side.now ∷ order.now ∷ seventh.now ∷ eighth.now ∷ []) }
+        ≡ counted_command (verb.now ∷ idl.now ∷ acf.now ∷ op.now ∷ side.now ∷ order.now ∷ seventh.now ∷ eighth.now ∷ []) }
     ensures formed { IfSome result IsWellFormed }
 {
     if verb == "wrap" {
@@ -417,7 +471,7 @@ fn encode_beside_words<'a>(
     text: &'a str,
 ) -> Option<Command<'a>>
     ensures command { option_map command_of result
-        ≡ command (verb.now ∷ idl.now ∷ acf.now ∷ op.now ∷ side.now ∷ order.now ∷ chunk.now ∷ given.now ∷ text.now ∷ []) }
+        ≡ counted_command (verb.now ∷ idl.now ∷ acf.now ∷ op.now ∷ side.now ∷ order.now ∷ chunk.now ∷ given.now ∷ text.now ∷ []) }
     ensures formed { IfSome result IsWellFormed }
 {
     if verb == "encode" && given == "given" {

@@ -33,8 +33,9 @@ use Rattle.command_refusals.specs.declared.refusal.Refusal.{Refusal}
 use Rattle.command_refusals.specs.declared.refusal.Refusal.TheVariants.{Memory, Absent, FileFailed, BadIdl, NoOperation, ReadFault, BadOctets, BadText, BadValue}
 use Rattle.command_refusals.specs.declared.refusal.Refusal.TheVariants.{TooLong, BadRequest, BadLabel, ShortLabel, TooFewEnds, EndFailed}
 use Rattle.command_refusals.specs.declared.refusal.Refusal.TheVariants.{BadPdu, NotCompatible, BadScript, LongScript}
-use Rattle.dceidl.specs.Rows.{AreGiven, IsRefusedAt, IsRefusedCall, IsTrailedCall, IsCallOfNone}
-use Rattle.dceidl.proofs.OneInput.{split_input}
+use Rattle.dceidl.specs.Rows.{IsRefusedAt, IsRefusedCall, IsTrailedCall, IsCallOfNone}
+use Rattle.command_streams.specs.Input.{AreGiven}
+use Rattle.command_streams.proofs.OneInput.{split_input}
 use Rattle.dceidl.proofs.OneReading.{IsOctetsCause, read_causes, decoded_cause, refused_value, refused_cause}
 use Rattle.nd_grammar.proofs.LegalSides.{interface_side as legal_side_of}
 
@@ -202,7 +203,7 @@ module _ (i : Interface) (number : Option ℕ) (octets : List ℕ) where
 
 module _ (s : SourceSeen) (octets : List ℕ) (given : AreGiven s octets) (i : Interface) (number : Option ℕ) where
   -- all octets that were read are those of the input
-  own_is : (own : List ℕ) → IsWhole s own → own ≡ octets
+  pub own_is : (own : List ℕ) → IsWhole s own → own ≡ octets
   own_is own whole =
       let (rest, now, all) = split_input s octets own given whole.taken in
       let none : rest ≡ [] = subst IsAtEnd now whole.none_left in

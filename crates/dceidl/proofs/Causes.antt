@@ -25,7 +25,8 @@ use Rattle.command_refusals.specs.declared.refusal.Refusal.TheVariants.{BadPdu, 
 use Rattle.nd_base.specs.Over.{FilesSeen, SourceSeen}
 use Rattle.dceidl.specs.Ready.{IsFound, IsReady, IsReadyCause, IsNotFound}
 use Rattle.command_compile.specs.Compiled.{IsCompiled, IsIdlCause}
-use Rattle.dceidl.specs.Input.{AreRead, OfText, IsMadeOf, IsTaskCause, IsInputTextCause, IsInputEncodingCause}
+use Rattle.dceidl.specs.Input.{OfText, IsMadeOf, IsTaskCause, IsInputTextCause, IsInputEncodingCause}
+use Rattle.command_streams.specs.Input.{AreRead}
 use Rattle.nd_lemmas.proofs.Lists.{item_at}
 
 -- an interface that files mean, and its operation, are ready

@@ -18,7 +18,8 @@ use Rattle.command_refusals.specs.declared.refusal.Refusal.TheVariants.{Memory, 
 use Rattle.command_refusals.specs.declared.refusal.Refusal.TheVariants.{ShortLabel, TooFewEnds, EndFailed}
 use Rattle.command_refusals.specs.declared.refusal.Refusal.TheVariants.{BadPdu, NotCompatible, BadScript, LongScript}
 use Rattle.command_refusals.specs.declared.refusal.OctetsFault.TheVariants.{Refused, Trailing}
-use Rattle.dceidl.specs.Rows.{AreGiven, AreSound, EndRose}
+use Rattle.dceidl.specs.Rows.{AreSound, EndRose}
+use Rattle.command_streams.specs.Input.{AreGiven}
 use Rattle.dceidl.proofs.OneReading.{IsOctetsCause, refused_here, trailing_here}
 
 -- ## Counts of ends

@@ -28,13 +28,18 @@ use Rattle.command_explain.specs.Explanations.{IsExplained}
 use Rattle.command_decode.specs.Printed.{IsPrinted, IsInputCause}
 use Rattle.command_text.specs.Fitted.{IsTextCause}
 use Rattle.command_text.proofs.OneText.{good_cause, fault_cause, misfit_cause}
-use Rattle.dceidl.specs.Causes.{IsMade, IsCause}
+use Rattle.dceidl.specs.Causes.{IsMade, IsCause, IsUnexplained}
+use Rattle.command_why.specs.declared.lookup.Explained.TheVariants.{Found, Nearest}
+use Rattle.dceidl.proofs.Compats.{compat_done, compat_settled}
 use Rattle.dceidl.specs.Encode.{IsLabelledEncoding, IsLongEncoding, IsEncodingCause, IsMigration}
 use Rattle.dceidl.specs.Input.{OfText, IsMadeOf, IsTaskCause, IsInputTextCause, IsInputEncodingCause}
-use Rattle.dceidl.specs.Rows.{IsSound, AreAccepted, IsInput, AreGiven, AreGivenIn, IsRefusedAt, HasEnds, CanBeMade, MustBeUnready, MustBeNoRequest, MustBeNoLabel, MustBeNoOctets, MustBeNoText}
-use Rattle.dceidl.specs.Rows.{MustBeNoEncoding, MustBeNoInput, CanBeDone, MustBeRefused, IsCompleted, Refuses}
+use Rattle.dceidl.specs.Rows.{IsSound, AreAccepted, AreGivenIn, IsRefusedAt, HasEnds, CanBeMade, MustBeUnready, MustBeNoRequest, MustBeNoLabel, MustBeNoOctets, MustBeNoText}
+use Rattle.command_streams.specs.Input.{IsInput, AreGiven}
+use Rattle.dceidl.specs.Rows.{MustBeNoEncoding, MustBeNoInput, CanBeDone, MustBeRefused, Refuses}
+use Rattle.command_streams.specs.Delivery.{IsCompleted}
 use Rattle.dceidl.specs.Seen.{Seen}
-use Rattle.command_line.specs.Words.{Command, Subject, Values, Compile, Plan, Call, Wrap, Sample, Help, Version, idl_of, op_of, order_in}
+use Rattle.command_line.specs.Words.{Command, Subject, Values, Compile, Plan, Call, Wrap, Compat, Why, Sample, Help, Version}
+use Rattle.command_line.specs.Words.{idl_of, op_of, order_in}
 use Rattle.nd_types.specs.Meant.{Meant, meant_by}
 use Rattle.nd_types.specs.declared.interface.Interface.{Interface}
 use Rattle.nd_types.specs.declared.types.Side.TheVariants.{Out}
@@ -47,13 +52,13 @@ use Rattle.dceidl.specs.declared.TheConstants.{WRAP_CHUNK}
 use Rattle.dceidl.proofs.Calls.{cause_over, called_over, refused_calls, refused_unmade, good_call, bad_stub, bad_unmade}
 use Rattle.dceidl.proofs.HeldFiles.{compiled_cause, no_idl, no_idl_cause, same_number, one_meaning, means_here, one_setting}
 use Rattle.dceidl.proofs.HeldFiles.{accepted_cause, unready, unready_cause}
-use Rattle.dceidl.proofs.OneInput.{same_octets}
+use Rattle.command_streams.proofs.OneInput.{same_octets}
 use Rattle.dceidl.proofs.Labels.{given_after, one_order, never_unopened, bad_opened, bad_cause, short_opened, short_cause}
 use Rattle.dceidl.proofs.HeldRequests.{legal_all, all_one, all_cause, all_unready, all_unready_cause, no_request, no_request_cause}
 use Rattle.dceidl.proofs.OneReading.{IsOctetsCause, read_causes, whole_here, decoded_cause, refused_value, refused_cause}
 use Rattle.dceidl.proofs.Drains.{drain_causes, few_made, few_cause}
 use Rattle.dceidl.proofs.OneWriting.{IsGood, migrated_good, fault_good, misfit_good, encodes_cause, text_cause, long_cause, labelled_good, long_labelled}
-use Rattle.dceidl.proofs.Rows.{Ended, ended_done, ended_refused, ended_wanting, ended_unwritten, ended_unreported}
+use Rattle.dceidl.proofs.Rows.{Ended, ended_done, ended_refused, ended_unknown, ended_untold, ended_wanting, ended_unwritten, ended_unreported}
 
 -- ## The input, by what its octets come to
 
@@ -505,6 +510,8 @@ module _ (x : Seen) (loads : HasRisen x.files.faults → ⊥) where
       (good_call x.input given.octets given.given i number order given.call operation stub given.is_call g represents conforms) r cause
   not_refused (Wrap of order call max) (w, a, can) r cause =
       of_wrap of order w a (λ q. q ≡ Memory) refl (made_cause x.input x.ends w (legal_all x.files of None w a) (wrap_task order) can) r cause
+  not_refused (Compat old old_acf new new_acf) can r cause = compat_done x.files (record { idl = old; acf = old_acf }) (record { idl = new; acf = new_acf }) loads can r cause
+  not_refused (Why words) can r cause = cause
   not_refused (Sample seed count) can r cause = cause
   not_refused Help can r cause = cause
   not_refused Version can r cause = cause
@@ -574,11 +581,39 @@ module _ (x : Seen) (loads : HasRisen x.files.faults → ⊥) where
   settled (Wrap of order call max) (NotCompatible differing) (w, a, must) = wrap_no_input of order call max (NotCompatible differing) w a must
   settled (Wrap of order call max) (BadScript row) (w, a, must) = wrap_no_input of order call max (BadScript row) w a must
   settled (Wrap of order call max) LongScript (w, a, must) = wrap_no_input of order call max LongScript w a must
+  settled (Compat old old_acf new new_acf) r must = compat_settled x.files (record { idl = old; acf = old_acf }) (record { idl = new; acf = new_acf }) loads r must
+  settled (Why words) r must = absurd must
   settled (Sample seed count) r must = absurd must
   settled Help r must = absurd must
   settled Version r must = absurd must
 
 -- ## Rows
+
+-- words that have an entry are not told the nearest
+explained_once : (x : Seen) (c : Command) → CanBeDone x c → (text : List ℕ) → IsUnexplained c text → ⊥
+explained_once x (Why words) (found, is) text nearest = let never : Found found ≡ Nearest text = sym is ∙ nearest in cc
+explained_once x (Values task of given) can text nearest = nearest
+explained_once x (Compile idl acf) can text nearest = nearest
+explained_once x (Plan idl acf) can text nearest = nearest
+explained_once x (Call idl acf op) can text nearest = nearest
+explained_once x (Wrap of order call max) can text nearest = nearest
+explained_once x (Compat old old_acf new new_acf) can text nearest = nearest
+explained_once x (Sample seed count) can text nearest = nearest
+explained_once x Help can text nearest = nearest
+explained_once x Version can text nearest = nearest
+
+-- nor is a command that must be refused for a cause
+caused_once : (x : Seen) (c : Command) (r : Refusal) → MustBeRefused x c r → (text : List ℕ) → IsUnexplained c text → ⊥
+caused_once x (Why words) r must text nearest = must
+caused_once x (Values task of given) r must text nearest = nearest
+caused_once x (Compile idl acf) r must text nearest = nearest
+caused_once x (Plan idl acf) r must text nearest = nearest
+caused_once x (Call idl acf op) r must text nearest = nearest
+caused_once x (Wrap of order call max) r must text nearest = nearest
+caused_once x (Compat old old_acf new new_acf) r must text nearest = nearest
+caused_once x (Sample seed count) r must text nearest = nearest
+caused_once x Help r must text nearest = nearest
+caused_once x Version r must text nearest = nearest
 
 module _ (x : Seen) (out notes : SinkSeen) (c : Command) (status : ℕ) (sound : IsSound x notes) (end : Ended x out notes c status) where
   pub complete : CanBeDone x c → IsCompleted out status
@@ -587,6 +622,8 @@ module _ (x : Seen) (out notes : SinkSeen) (c : Command) (status : ℕ) (sound :
       by : Ended x out notes c status → IsCompleted out status
       by (ended_done is d) = inl is
       by (ended_refused r) = inr (inl (r.own_status ∙ ap status_of (not_refused x sound.loads c can r.refusal r.cause)))
+      by (ended_unknown is text nearest given told) = absurd (explained_once x c can text nearest)
+      by (ended_untold is rose text nearest) = inr (inr (is, rose))
       by (ended_wanting is) = inr (inl is)
       by (ended_unwritten is rose made is_made) = inr (inr (is, rose))
       by (ended_unreported is rose) = absurd (sound.reports rose)
@@ -601,6 +638,8 @@ module _ (x : Seen) (out notes : SinkSeen) (c : Command) (status : ℕ) (sound :
       by : Ended x out notes c status → Refuses c notes status r
       by (ended_done is d) = absurd ((settled x sound.loads c r must).0 d.made d.is_made)
       by (ended_refused q) = by_cause q.refusal q.own_status q.line ((settled x sound.loads c r must).1 q.refusal q.cause)
+      by (ended_unknown is text nearest given told) = absurd (caused_once x c r must text nearest)
+      by (ended_untold is rose text nearest) = absurd (caused_once x c r must text nearest)
       by (ended_wanting is) = inr is
       by (ended_unwritten is rose made is_made) = absurd ((settled x sound.loads c r must).0 made is_made)
       by (ended_unreported is rose) = absurd (sound.reports rose)

@@ -22,7 +22,8 @@ use Rattle.command_line.specs.Words.{Subject}
 use Rattle.command_compile.specs.Idl.{Means, IsIdlFault, IsDueAfter, IsDueFile}
 use Rattle.dceidl.specs.Ready.{IsNamed, IsReady, IsReadyCause}
 use Rattle.command_compile.specs.Compiled.{IsCompiled, IsIdlCause}
-use Rattle.dceidl.specs.Rows.{IsHeld, IsAccepted, MustBeNoIdl, MustBeUnready}
+use Rattle.dceidl.specs.Held.{IsHeld, MustBeNoIdl}
+use Rattle.dceidl.specs.Rows.{IsAccepted, MustBeUnready}
 use Rattle.command_compile.proofs.OneMeaning.{IsBad, means_one, never_both, one_bad, absent_or_means, absent_or_bad}
 
 abbrev Contents : Type 0

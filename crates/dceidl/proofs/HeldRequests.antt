@@ -12,7 +12,8 @@ use Rattle.command_refusals.specs.declared.refusal.RequestFault.{RequestFault}
 use Rattle.command_text.specs.Request.{inputs, beside, IsRequestText, IsRequestFault, HoldsRequest, HoldsNoRequest}
 use Rattle.command_text.proofs.OneText.{request_or_fault, one_request, one_request_fault}
 use Rattle.dceidl.specs.Ready.{IsReadyBeside, IsAllReady, IsUnready, HasAsked, up_to}
-use Rattle.dceidl.specs.Rows.{IsHeld, IsAccepted, IsAcceptedBeside, AreAccepted, MustBeUnready, MustBeNoRequest}
+use Rattle.dceidl.specs.Held.{IsHeld}
+use Rattle.dceidl.specs.Rows.{IsAccepted, IsAcceptedBeside, AreAccepted, MustBeUnready, MustBeNoRequest}
 use Rattle.command_line.specs.Words.{Subject}
 use Rattle.dceidl.proofs.HeldFiles.{held_only, held_there, one_setting, accepted_cause, unready, unready_cause}
 use Rattle.nd_grammar.proofs.LegalSides.{interface_side as legal_side_of}

@@ -20,8 +20,9 @@ use Rattle.command_line.specs.declared.command.OrderWord.{OrderWord}
 use Rattle.command_line.specs.declared.command.OrderWord.TheVariants.{Fixed, Label}
 use Rattle.command_line.specs.declared.command.Task.TheVariants.{Read}
 use Rattle.dceidl.specs.Input.{IsAfterLabel, IsOpened, IsUnopened, IsMadeReading, IsReadingCause, IsMadeOf, IsTaskCause}
-use Rattle.dceidl.specs.Rows.{AreGiven, AreGivenIn}
-use Rattle.dceidl.proofs.OneInput.{split_by}
+use Rattle.dceidl.specs.Rows.{AreGivenIn}
+use Rattle.command_streams.specs.Input.{AreGiven}
+use Rattle.command_streams.proofs.OneInput.{split_by}
 use Rattle.nd_lemmas.proofs.Lists.{take_front}
 
 -- a source over a call

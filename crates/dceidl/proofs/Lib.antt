@@ -3,7 +3,6 @@ pub mod Encodings
 pub mod Requests
 pub mod Rows
 pub mod Sides
-pub mod OneInput
 pub mod Labels
 pub mod OneReading
 pub mod Drains
@@ -11,6 +10,9 @@ pub mod OneWriting
 pub mod RoundTrip
 pub mod HeldFiles
 pub mod HeldRequests
+pub mod Compats
 pub mod Calls
 pub mod Calling
 pub mod Exact
+pub mod Explanations
+pub mod WrappedCalls

@@ -23,8 +23,9 @@ use Rattle.nd_grammar.specs.Bad.{Bad}
 use Rattle.nd_grammar.specs.decoded.Verdict.{MayFollow}
 use Rattle.std.specs.Io.KnownBytes.{IsAtEnd}
 use Rattle.command_decode.specs.Printed.{IsWhole, IsInputCause, IsRefusedInput, IsTrailedInput}
-use Rattle.dceidl.specs.Rows.{IsRefusedAt, IsTrailing, AreGiven}
-use Rattle.dceidl.proofs.OneInput.{split_input}
+use Rattle.dceidl.specs.Rows.{IsRefusedAt, IsTrailing}
+use Rattle.command_streams.specs.Input.{AreGiven}
+use Rattle.command_streams.proofs.OneInput.{split_input}
 use Rattle.nd_lemmas.proofs.Lists.{take_front}
 use Rattle.dceidl.proofs.Sides.{whole_begins}
 

@@ -3,13 +3,13 @@ use Rattle.std.proofs.Common.{◌≡◌, ◌∙◌, ℕ, List, [], ◌∷◌, Op
 use Rattle.std.specs.Prelude.{◌≢◌, Bool, true, false, codes}
 use Rattle.nd_base.specs.Outside.{IsMissing}
 use Rattle.nd_base.specs.Over.{FilesSeen, SourceSeen, SinkSeen, HasRisen, Got}
-use Rattle.dceidl.specs.declared.outcome.Outcome.{Outcome}
-use Rattle.dceidl.specs.declared.outcome.Outcome.TheVariants.{Done, Refused, Wanting}
+use Rattle.command_streams.specs.declared.outcome.Outcome.{Outcome}
+use Rattle.command_streams.specs.declared.outcome.Outcome.TheVariants.{Done, Refused, Reported, Wanting}
 use Rattle.command_refusals.specs.declared.refusal.Refusal.{Refusal}
 use Rattle.command_refusals.specs.declared.refusal.Refusal.TheVariants.{Memory, Absent, FileFailed, BadIdl, NoOperation, ReadFault, BadOctets, BadText, BadValue, TooLong, BadRequest, BadLabel}
 use Rattle.command_refusals.specs.declared.refusal.Refusal.TheVariants.{ShortLabel, TooFewEnds, EndFailed}
 use Rattle.command_refusals.specs.declared.refusal.Refusal.TheVariants.{BadPdu, NotCompatible, BadScript, LongScript}
-use Rattle.dceidl.specs.Causes.{IsMade, IsCause, statuses_of, values_statuses}
+use Rattle.dceidl.specs.Causes.{IsMade, IsCause, IsUnexplained, statuses_of, values_statuses, tells}
 use Rattle.dceidl.specs.Wrapped.{IsNoCall, IsNoWrap}
 use Rattle.command_refusals.specs.Lines.{status_of, line_of}
 use Rattle.command_compile.specs.Compiled.{IsIdlCause}
@@ -27,11 +27,13 @@ use Rattle.command_line.specs.declared.command.OrderWord.{OrderWord}
 use Rattle.command_line.specs.declared.command.OrderWord.TheVariants.{Fixed, Label}
 use Rattle.command_line.specs.declared.command.Task.{Task}
 use Rattle.command_line.specs.declared.command.Task.TheVariants.{Read, Encode, Migrate}
-use Rattle.dceidl.specs.Rows.{IsOneOf, IsDone, IsRefusedWith, ReadsInput, IsDueOf, IsDueRequest, IsDueAndMissing, IsDueAndReported, EndRose, IsEndReported, HasNotFailed}
-use Rattle.dceidl.specs.Run.{HasRun, IsOutcome, IsCommandOutcome, IsDelivered}
+use Rattle.dceidl.specs.Rows.{IsDone, IsRefusedWith, IsRefused, AreUnknown, tells_refused, ReadsInput, IsDueOf, IsDueNext, IsDueAndMissing, IsDueAndReported, EndRose, IsEndReported, HasNotFailed}
+use Rattle.command_streams.specs.Delivery.{IsOneOf, IsDelivered}
+use Rattle.dceidl.specs.Run.{HasRun, IsOutcome, IsCommandOutcome}
 use Rattle.dceidl.specs.Seen.{Seen}
 use Rattle.nd_value.specs.Setting.{Setting}
-use Rattle.command_line.specs.Words.{Command, Subject, Values, Compile, Plan, Call, Wrap, Sample, Help, Version, command, idl_of, op_of}
+use Rattle.command_line.specs.Words.{Command, Subject, Values, Compile, Plan, Call, Wrap, Compat, Why, Sample, Help, Version, command, idl_of, op_of}
+use Rattle.dceidl.proofs.Compats.{compat_status, compat_read, compat_end, compat_absent, compat_failed}
 
 -- a refusal has none of the statuses 0, 2 and 4
 pub not_zero : (r : Refusal) → status_of r ≡ 0 → ⊥
@@ -59,6 +61,8 @@ not_zero LongScript e = cc
 pub data Ended (x : Seen) (out notes : SinkSeen) (c : Command) (status : ℕ) : Type 0 where
   ended_done : status ≡ 0 → IsDone x out notes c → Ended x out notes c status
   ended_refused : IsRefusedWith x out notes c status → Ended x out notes c status
+  ended_unknown : status ≡ 2 → (text : List ℕ) → IsUnexplained c text → Got out text → Got notes (codes "words refused\n") → Ended x out notes c status
+  ended_untold : status ≡ 4 → HasRisen out.faults → (text : List ℕ) → IsUnexplained c text → Ended x out notes c status
   ended_wanting : status ≡ 5 → Ended x out notes c status
   ended_unwritten : status ≡ 4 → HasRisen out.faults → (made : List ℕ) → IsMade x c made → Ended x out notes c status
   ended_unreported : status ≡ 4 → HasRisen notes.faults → Ended x out notes c status
@@ -73,6 +77,10 @@ module _ (x : Seen) (out notes : SinkSeen) (c : Command) (status : ℕ) where
   by_outcome (Refused own line) r (before, inl (is, told)) =
       ended_refused (record { refusal = r.refusal; cause = r.cause; own_status = is ∙ r.status_is; line = subst (Got notes) r.line_is told; nothing_given = before })
   by_outcome (Refused own line) r (before, inr (is, rose, some)) = ended_unreported is rose
+  by_outcome (Reported text own line) (nearest, two, same) (inl (given, inl (is, told))) =
+      ended_unknown (is ∙ two) text nearest given (subst (Got notes) same told)
+  by_outcome (Reported text own line) r (inl (given, inr (is, rose, some))) = ended_unreported is rose
+  by_outcome (Reported text own line) (nearest, two, same) (inr (is, rose, some, warned)) = ended_untold is rose text nearest
   by_outcome Wanting caused (before, inl (is, told)) = ended_wanting is
   by_outcome Wanting caused (before, inr (is, rose, some)) = ended_unreported is rose
 
@@ -83,6 +91,14 @@ module _ (x : Seen) (out notes : SinkSeen) (c : Command) (status : ℕ) where
   pub done_is : End → status ≡ 0 → IsDone x out notes c
   done_is (ended_done is d) e = d
   done_is (ended_refused r) e = absurd (not_zero r.refusal (sym r.own_status ∙ e))
+  done_is (ended_unknown is text nearest given told) e = absurd (never is e)
+    where
+      never : status ≡ 2 → status ≡ 0 → ⊥
+      never a b = cc
+  done_is (ended_untold is rose text nearest) e = absurd (never is e)
+    where
+      never : status ≡ 4 → status ≡ 0 → ⊥
+      never a b = cc
   done_is (ended_wanting is) e = absurd (never is e)
     where
       never : status ≡ 5 → status ≡ 0 → ⊥
@@ -96,13 +112,57 @@ module _ (x : Seen) (out notes : SinkSeen) (c : Command) (status : ℕ) where
       never : status ≡ 4 → status ≡ 0 → ⊥
       never a b = cc
 
-  -- any other status than 0, 4 and 5 is a refusal
-  pub refused_is : End → status ≢ 0 → status ≢ 4 → status ≢ 5 → IsRefusedWith x out notes c status
-  refused_is (ended_done is d) zero four five = absurd (zero is)
-  refused_is (ended_refused r) zero four five = r
-  refused_is (ended_wanting is) zero four five = absurd (five is)
-  refused_is (ended_unwritten is rose made is_made) zero four five = absurd (four is)
-  refused_is (ended_unreported is rose) zero four five = absurd (four is)
+  -- any other status than 0, 2, 4 and 5 has a cause
+  pub has_cause : End → status ≢ 0 → status ≢ 2 → status ≢ 4 → status ≢ 5 → IsRefusedWith x out notes c status
+  has_cause (ended_done is d) zero two four five = absurd (zero is)
+  has_cause (ended_refused r) zero two four five = r
+  has_cause (ended_unknown is text nearest given told) zero two four five = absurd (two is)
+  has_cause (ended_untold is rose text nearest) zero two four five = absurd (four is)
+  has_cause (ended_wanting is) zero two four five = absurd (five is)
+  has_cause (ended_unwritten is rose made is_made) zero two four five = absurd (four is)
+  has_cause (ended_unreported is rose) zero two four five = absurd (four is)
+
+-- words that have an entry run out of memory alone
+memory_of_why : (x : Seen) (out notes : SinkSeen) (words : List (List ℕ)) (status : ℕ) → IsRefusedWith x out notes (Why words) status → status ≡ 5
+memory_of_why x out notes words status r = r.own_status ∙ ap status_of r.cause
+
+-- what a command that is refused says
+refused_as : (x : Seen) (out notes : SinkSeen) (c : Command) (status : ℕ) → status ≢ 5 → IsRefusedWith x out notes c status → IsRefused x out notes c status
+refused_as x out notes (Why words) status five r = absurd (five (memory_of_why x out notes words status r))
+refused_as x out notes (Values task of given) status five r = r
+refused_as x out notes (Compile idl acf) status five r = r
+refused_as x out notes (Plan idl acf) status five r = r
+refused_as x out notes (Call idl acf op) status five r = r
+refused_as x out notes (Wrap of order call max) status five r = r
+refused_as x out notes (Compat old old_acf new new_acf) status five r = r
+refused_as x out notes (Sample seed count) status five r = r
+refused_as x out notes Help status five r = r
+refused_as x out notes Version status five r = r
+
+nearest_as : (x : Seen) (out notes : SinkSeen) (c : Command) (status : ℕ) → status ≡ 2 → (text : List ℕ) → IsUnexplained c text → Got out text
+    → Got notes (codes "words refused\n") → IsRefused x out notes c status
+nearest_as x out notes (Why words) status is text nearest given told =
+    record { text = text; unexplained = nearest; own_status = is; line = told; given = given }
+nearest_as x out notes (Values task of given) status is text nearest gave told = absurd nearest
+nearest_as x out notes (Compile idl acf) status is text nearest given told = absurd nearest
+nearest_as x out notes (Plan idl acf) status is text nearest given told = absurd nearest
+nearest_as x out notes (Call idl acf op) status is text nearest given told = absurd nearest
+nearest_as x out notes (Wrap of order call max) status is text nearest given told = absurd nearest
+nearest_as x out notes (Compat old old_acf new new_acf) status is text nearest given told = absurd nearest
+nearest_as x out notes (Sample seed count) status is text nearest given told = absurd nearest
+nearest_as x out notes Help status is text nearest given told = absurd nearest
+nearest_as x out notes Version status is text nearest given told = absurd nearest
+
+-- any other status than 0, 4 and 5 is a refusal
+pub refused_is : (x : Seen) (out notes : SinkSeen) (c : Command) (status : ℕ) → Ended x out notes c status → status ≢ 0 → status ≢ 4 → status ≢ 5
+    → IsRefused x out notes c status
+refused_is x out notes c status (ended_done is d) zero four five = absurd (zero is)
+refused_is x out notes c status (ended_refused r) zero four five = refused_as x out notes c status five r
+refused_is x out notes c status (ended_unknown is text nearest given told) zero four five = nearest_as x out notes c status is text nearest given told
+refused_is x out notes c status (ended_untold is rose text nearest) zero four five = absurd (four is)
+refused_is x out notes c status (ended_wanting is) zero four five = absurd (five is)
+refused_is x out notes c status (ended_unwritten is rose made is_made) zero four five = absurd (four is)
+refused_is x out notes c status (ended_unreported is rose) zero four five = absurd (four is)
 
 -- ## Statuses
 
@@ -217,6 +277,8 @@ refused_status x (Call idl acf op) status r cause e =
     of_values false status r (λ which same. absurd (call_ends x idl acf op which (subst (IsCause x (Call idl acf op)) same cause))) e
 refused_status x (Wrap of order call max) status r cause e =
     of_values false status r (λ which same. absurd (wrap_ends x of which (subst (IsCause x (Wrap of order call max)) same cause))) e
+refused_status x (Compat old old_acf new new_acf) status r cause e = compat_status x.files (record { idl = old; acf = old_acf }) (record { idl = new; acf = new_acf }) status r cause e
+refused_status x (Why words) status r cause e = inr (inr (inr (inl (e ∙ ap status_of cause))))
 refused_status x (Sample seed count) status r cause e = inr (inr (inl (e ∙ ap status_of cause)))
 refused_status x Help status r cause e = inr (inr (inl (e ∙ ap status_of cause)))
 refused_status x Version status r cause e = inr (inr (inl (e ∙ ap status_of cause)))
@@ -227,6 +289,8 @@ zero_in (Compile idl acf) status e = inl e
 zero_in (Plan idl acf) status e = inl e
 zero_in (Call idl acf op) status e = zero_of_values false status e
 zero_in (Wrap of order call max) status e = zero_of_values false status e
+zero_in (Compat old old_acf new new_acf) status e = inl e
+zero_in (Why words) status e = inl e
 zero_in (Sample seed count) status e = inl e
 zero_in Help status e = inl e
 zero_in Version status e = inl e
@@ -237,6 +301,8 @@ four_in (Compile idl acf) status e = inr (inl e)
 four_in (Plan idl acf) status e = inr (inl e)
 four_in (Call idl acf op) status e = four_of_values false status e
 four_in (Wrap of order call max) status e = four_of_values false status e
+four_in (Compat old old_acf new new_acf) status e = inr (inr (inl e))
+four_in (Why words) status e = inr (inr (inl e))
 four_in (Sample seed count) status e = inr (inl e)
 four_in Help status e = inr (inl e)
 four_in Version status e = inr (inl e)
@@ -247,13 +313,30 @@ five_in (Compile idl acf) status e = inr (inr (inl e))
 five_in (Plan idl acf) status e = inr (inr (inl e))
 five_in (Call idl acf op) status e = five_of_values false status e
 five_in (Wrap of order call max) status e = five_of_values false status e
+five_in (Compat old old_acf new new_acf) status e = inr (inr (inr (inl e)))
+five_in (Why words) status e = inr (inr (inr (inl e)))
 five_in (Sample seed count) status e = inr (inr (inl e))
 five_in Help status e = inr (inr (inl e))
 five_in Version status e = inr (inr (inl e))
 
+-- only the words of `why` can have no entry
+two_in : (c : Command) (text : List ℕ) → IsUnexplained c text → (status : ℕ) → status ≡ 2 → IsOneOf (statuses_of c) status
+two_in (Why words) text nearest status e = inr (inl e)
+two_in (Values task of given) text nearest status e = absurd nearest
+two_in (Compile idl acf) text nearest status e = absurd nearest
+two_in (Plan idl acf) text nearest status e = absurd nearest
+two_in (Call idl acf op) text nearest status e = absurd nearest
+two_in (Wrap of order call max) text nearest status e = absurd nearest
+two_in (Compat old old_acf new new_acf) text nearest status e = absurd nearest
+two_in (Sample seed count) text nearest status e = absurd nearest
+two_in Help text nearest status e = absurd nearest
+two_in Version text nearest status e = absurd nearest
+
 pub status_in : (x : Seen) (out notes : SinkSeen) (c : Command) (status : ℕ) → Ended x out notes c status → IsOneOf (statuses_of c) status
 status_in x out notes c status (ended_done is d) = zero_in c status is
 status_in x out notes c status (ended_refused r) = refused_status x c status r.refusal r.cause r.own_status
+status_in x out notes c status (ended_unknown is text nearest given told) = two_in c text nearest status is
+status_in x out notes c status (ended_untold is rose text nearest) = four_in c status is
 status_in x out notes c status (ended_wanting is) = five_in c status is
 status_in x out notes c status (ended_unwritten is rose made is_made) = four_in c status is
 status_in x out notes c status (ended_unreported is rose) = four_in c status is
@@ -275,6 +358,8 @@ idle x out notes status words is run = by run.outcome (subst (λ o. IsOutcome x 
     by (Refused own line) (inl e) (before, inl (is, told)) = let two : own ≡ 2 = cc in idle_two (is ∙ two)
     by (Refused own line) (inl e) (before, inr (is, rose, some)) = idle_four is
     by (Refused own line) (inr e) d = cc
+    by (Reported text own line) (inl e) d = cc
+    by (Reported text own line) (inr e) d = cc
     by Wanting e (before, inl (is, told)) = idle_five is
     by Wanting e (before, inr (is, rose, some)) = idle_four is
 
@@ -304,7 +389,9 @@ of_refusal x out notes status words run n e (zero, two, four, five) = by (comman
         never (idle_four h) = four (sym e ∙ h)
         never (idle_five h) = five (sym e ∙ h)
     by (Some c) is =
-        let r = refused_is x out notes c status (ended x out notes c status words is run) (λ h. zero (sym e ∙ h)) (λ h. four (sym e ∙ h)) (λ h. five (sym e ∙ h)) in
+        let r =
+        has_cause x out notes c status (ended x out notes c status words is run) (λ h. zero (sym e ∙ h)) (λ h. two (sym e ∙ h)) (λ h. four (sym e ∙ h)) (λ h. five (sym e ∙ h))
+        in
         record { command_is = c; is = is; refusal = r.refusal; cause = r.cause; own = sym r.own_status; line = r.line }
 
 module _ (x : Seen) where
@@ -417,6 +504,8 @@ module _ (x : Seen) where
   read_fault (Plan idl acf) r cause e = absurd (idl_read idl acf r cause e)
   read_fault (Call idl acf op) r cause e = (call_read idl acf op r cause e, refl)
   read_fault (Wrap of order call max) r cause e = (wrap_read of r cause e, refl)
+  read_fault (Compat old old_acf new new_acf) r cause e = absurd (compat_read x.files (record { idl = old; acf = old_acf }) (record { idl = new; acf = new_acf }) r cause e)
+  read_fault (Why words) r cause e = let never : status_of Memory ≡ 3 = sym (ap status_of cause) ∙ e in cc
   read_fault (Sample seed count) r cause e = let never : status_of Memory ≡ 3 = sym (ap status_of cause) ∙ e in cc
   read_fault Help r cause e = let never : status_of Memory ≡ 3 = sym (ap status_of cause) ∙ e in cc
   read_fault Version r cause e = let never : status_of Memory ≡ 3 = sym (ap status_of cause) ∙ e in cc
@@ -492,7 +581,7 @@ module _ (x : Seen) where
   wrap_absent of LongScript cause e = cc
 
   abbrev IsDueFor : Command → List ℕ → Type 0
-  IsDueFor c file = IsDueOf x.files.held (asks_files c) file ⊎ IsDueRequest x.files.held c file
+  IsDueFor c file = IsDueOf x.files.held (asks_files c) file ⊎ IsDueNext x.files.held c file
 
   -- the request of a file is due once what the command speaks of is ready
   request_due : (of : Subject) (name : List ℕ) (w : Setting) → HasAsked x.files of name w → IsRequestDue x.files.held of
@@ -546,6 +635,8 @@ module _ (x : Seen) where
   absent_is (Plan idl acf) r cause e = let (rose, (file, same, due, missing)) = idl_absent idl acf r cause e in (rose, (file, same, inl due, missing))
   absent_is (Call idl acf op) r cause e = let (rose, (file, same, due, missing)) = call_absent idl acf op r cause e in (rose, (file, same, inl due, missing))
   absent_is (Wrap of order call max) r cause e = let (rose, (file, same, due, missing)) = wrap_absent of r cause e in (rose, (file, same, inl due, missing))
+  absent_is (Compat old old_acf new new_acf) r cause e = compat_absent x.files (record { idl = old; acf = old_acf }) (record { idl = new; acf = new_acf }) r cause e
+  absent_is (Why words) r cause e = let never : status_of Memory ≡ 7 = sym (ap status_of cause) ∙ e in cc
   absent_is (Sample seed count) r cause e = let never : status_of Memory ≡ 7 = sym (ap status_of cause) ∙ e in cc
   absent_is Help r cause e = let never : status_of Memory ≡ 7 = sym (ap status_of cause) ∙ e in cc
   absent_is Version r cause e = let never : status_of Memory ≡ 7 = sym (ap status_of cause) ∙ e in cc
@@ -660,6 +751,8 @@ module _ (x : Seen) where
   failed_is (Plan idl acf) r cause e = let (rose, (file, same, due)) = idl_failed idl acf r cause e in (rose, (file, same, inl due))
   failed_is (Call idl acf op) r cause e = let (rose, (file, same, due)) = call_failed idl acf op r cause e in (rose, (file, same, inl due))
   failed_is (Wrap of order call max) r cause e = let (rose, (file, same, due)) = wrap_failed of r cause e in (rose, (file, same, inl due))
+  failed_is (Compat old old_acf new new_acf) r cause e = compat_failed x.files (record { idl = old; acf = old_acf }) (record { idl = new; acf = new_acf }) r cause e
+  failed_is (Why words) r cause e = let never : status_of Memory ≡ 9 = sym (ap status_of cause) ∙ e in cc
   failed_is (Sample seed count) r cause e = let never : status_of Memory ≡ 9 = sym (ap status_of cause) ∙ e in cc
   failed_is Help r cause e = let never : status_of Memory ≡ 9 = sym (ap status_of cause) ∙ e in cc
   failed_is Version r cause e = let never : status_of Memory ≡ 9 = sym (ap status_of cause) ∙ e in cc
@@ -719,6 +812,8 @@ module _ (x : Seen) where
   end_failed (Plan idl acf) which cause = absurd cause
   end_failed (Call idl acf op) which cause = absurd (call_ends x idl acf op which cause)
   end_failed (Wrap of order call max) which cause = absurd (wrap_ends x of which cause)
+  end_failed (Compat old old_acf new new_acf) which cause = absurd (compat_end x.files (record { idl = old; acf = old_acf }) (record { idl = new; acf = new_acf }) which cause)
+  end_failed (Why words) which cause = let never : status_of (EndFailed which) ≡ status_of Memory = ap status_of cause in cc
   end_failed (Sample seed count) which cause = let never : status_of (EndFailed which) ≡ status_of Memory = ap status_of cause in cc
   end_failed Help which cause = let never : status_of (EndFailed which) ≡ status_of Memory = ap status_of cause in cc
   end_failed Version which cause = let never : status_of (EndFailed which) ≡ status_of Memory = ap status_of cause in cc
@@ -781,6 +876,8 @@ module _ (x : Seen) (out notes : SinkSeen) (status : ℕ) (nothing : HasNotFaile
   by_command : (c : Command) → Ended x out notes c status → Unfailed status
   by_command c (ended_done is d) = inl is
   by_command c (ended_refused r) = refused_unfailed c r.refusal r.cause r.own_status
+  by_command c (ended_unknown is text nearest given told) = inr (inr (inl is))
+  by_command c (ended_untold is rose text nearest) = absurd (nothing.writes rose)
   by_command c (ended_wanting is) = inr (inr (inr (inl is)))
   by_command c (ended_unwritten is rose made is_made) = absurd (nothing.writes rose)
   by_command c (ended_unreported is rose) = absurd (nothing.reports rose)
@@ -791,6 +888,8 @@ module _ (x : Seen) (out notes : SinkSeen) (status : ℕ) (nothing : HasNotFaile
   by_words words (Refused own line) (inl e) (before, inl (is, told)) = let two : own ≡ 2 = cc in inr (inr (inl (is ∙ two)))
   by_words words (Refused own line) (inl e) (before, inr (is, rose, some)) = absurd (nothing.reports rose)
   by_words words (Refused own line) (inr e) d = cc
+  by_words words (Reported text own line) (inl e) d = cc
+  by_words words (Reported text own line) (inr e) d = cc
   by_words words Wanting e (before, inl (is, told)) = inr (inr (inr (inl is)))
   by_words words Wanting e (before, inr (is, rose, some)) = absurd (nothing.reports rose)
 
@@ -849,33 +948,50 @@ apart : (n a b : ℕ) → n ≡ a → n ≡ b → (a ≡ b → ⊥) → ⊥
 apart n a b x y unlike = unlike (sym x ∙ y)
 
 module _ (x : Seen) (out notes : SinkSeen) (status : ℕ) (words : List (List ℕ)) (run : HasRun words x out notes status) where
-  -- status 2 comes only for words that are no command
-  pub no_command : status ≡ 2 → command words ≡ None
+  -- status 2 comes only for words that are no command, and for words of `why` that have no entry
+  pub no_command : status ≡ 2 → AreUnknown (command words)
   no_command e = by (command words) refl
     where
-      by_end : (c : Command) → Ended x out notes c status → ⊥
-      by_end c (ended_done is d) = apart status 0 2 is e (λ h. cc)
-      by_end c (ended_refused r) = not_two r.refusal (sym r.own_status ∙ e)
-      by_end c (ended_wanting is) = apart status 5 2 is e (λ h. cc)
-      by_end c (ended_unwritten is rose made is_made) = apart status 4 2 is e (λ h. cc)
-      by_end c (ended_unreported is rose) = apart status 4 2 is e (λ h. cc)
+      by_end : (c : Command) → Ended x out notes c status → (text : List ℕ) × IsUnexplained c text
+      by_end c (ended_done is d) = absurd (apart status 0 2 is e (λ h. cc))
+      by_end c (ended_refused r) = absurd (not_two r.refusal (sym r.own_status ∙ e))
+      by_end c (ended_unknown is text nearest given told) = (text, nearest)
+      by_end c (ended_untold is rose text nearest) = (text, nearest)
+      by_end c (ended_wanting is) = absurd (apart status 5 2 is e (λ h. cc))
+      by_end c (ended_unwritten is rose made is_made) = absurd (apart status 4 2 is e (λ h. cc))
+      by_end c (ended_unreported is rose) = absurd (apart status 4 2 is e (λ h. cc))
 
-      by : (o : Option Command) → command words ≡ o → command words ≡ None
-      by None is = is
-      by (Some c) is = absurd (by_end c (ended x out notes c status words is run))
+      by : (o : Option Command) → command words ≡ o → AreUnknown (command words)
+      by None is = subst AreUnknown (sym is) tt
+      by (Some c) is = subst AreUnknown (sym is) (by_end c (ended x out notes c status words is run))
 
   -- and its line is this
   pub refused_line : status ≡ 2 → Got notes (codes "words refused\n")
-  refused_line e = by run.outcome (subst (λ o. IsOutcome x o run.outcome) (no_command e) run.caused) run.delivered
+  refused_line e = by_words (command words) refl
     where
+      by_end : (c : Command) → Ended x out notes c status → Got notes (codes "words refused\n")
+      by_end c (ended_done is d) = absurd (apart status 0 2 is e (λ h. cc))
+      by_end c (ended_refused r) = absurd (not_two r.refusal (sym r.own_status ∙ e))
+      by_end c (ended_unknown is text nearest given told) = told
+      by_end c (ended_untold is rose text nearest) = absurd (apart status 4 2 is e (λ h. cc))
+      by_end c (ended_wanting is) = absurd (apart status 5 2 is e (λ h. cc))
+      by_end c (ended_unwritten is rose made is_made) = absurd (apart status 4 2 is e (λ h. cc))
+      by_end c (ended_unreported is rose) = absurd (apart status 4 2 is e (λ h. cc))
+
       by : (outcome : Outcome) → IsOutcome x None outcome → IsDelivered out notes outcome status → Got notes (codes "words refused\n")
       by (Done made) (inl is) d = cc
       by (Done made) (inr is) d = cc
       by (Refused own line) (inl is) (before, inl (same, told)) = let text : line ≡ codes "words refused\n" = cc in subst (Got notes) text told
       by (Refused own line) (inl is) (before, inr (four, rose, some)) = absurd (apart status 4 2 four e (λ h. cc))
       by (Refused own line) (inr is) d = cc
+      by (Reported text own row) (inl is) d = cc
+      by (Reported text own row) (inr is) d = cc
       by Wanting is (before, inl (five, told)) = absurd (apart status 5 2 five e (λ h. cc))
       by Wanting is (before, inr (four, rose, some)) = absurd (apart status 4 2 four e (λ h. cc))
+
+      by_words : (o : Option Command) → command words ≡ o → Got notes (codes "words refused\n")
+      by_words None is = by run.outcome (subst (λ o. IsOutcome x o run.outcome) is run.caused) run.delivered
+      by_words (Some c) is = by_end c (ended x out notes c status words is run)
 
   -- status 4 comes only if an output failed
   pub write_failed : status ≡ 4 → HasRisen out.faults ⊎ HasRisen notes.faults
@@ -884,6 +1000,8 @@ module _ (x : Seen) (out notes : SinkSeen) (status : ℕ) (words : List (List �
       by_end : (c : Command) → Ended x out notes c status → HasRisen out.faults ⊎ HasRisen notes.faults
       by_end c (ended_done is d) = absurd (apart status 0 4 is e (λ h. cc))
       by_end c (ended_refused r) = absurd (not_four r.refusal (sym r.own_status ∙ e))
+      by_end c (ended_unknown is text nearest given told) = absurd (apart status 2 4 is e (λ h. cc))
+      by_end c (ended_untold is rose text nearest) = inl rose
       by_end c (ended_wanting is) = absurd (apart status 5 4 is e (λ h. cc))
       by_end c (ended_unwritten is rose made is_made) = inl rose
       by_end c (ended_unreported is rose) = inr rose
@@ -894,6 +1012,8 @@ module _ (x : Seen) (out notes : SinkSeen) (status : ℕ) (words : List (List �
       by_outcome (Refused own line) (inl is) (before, inl (same, told)) = let two : own ≡ 2 = cc in absurd (apart status 2 4 (same ∙ two) e (λ h. cc))
       by_outcome (Refused own line) (inl is) (before, inr (four, rose, some)) = inr rose
       by_outcome (Refused own line) (inr is) d = cc
+      by_outcome (Reported text own row) (inl is) d = cc
+      by_outcome (Reported text own row) (inr is) d = cc
       by_outcome Wanting is (before, inl (five, told)) = absurd (apart status 5 4 five e (λ h. cc))
       by_outcome Wanting is (before, inr (four, rose, some)) = inr rose
 
@@ -908,6 +1028,8 @@ module _ (x : Seen) (out notes : SinkSeen) (status : ℕ) (words : List (List �
       by_end : (c : Command) → Ended x out notes c status → notes.written_now ≡ notes.written
       by_end c (ended_done is d) = d.quiet.written
       by_end c (ended_refused r) = absurd (not_zero r.refusal (sym r.own_status ∙ e))
+      by_end c (ended_unknown is text nearest given told) = absurd (apart status 2 0 is e (λ h. cc))
+      by_end c (ended_untold is rose text nearest) = absurd (apart status 4 0 is e (λ h. cc))
       by_end c (ended_wanting is) = absurd (apart status 5 0 is e (λ h. cc))
       by_end c (ended_unwritten is rose made is_made) = absurd (apart status 4 0 is e (λ h. cc))
       by_end c (ended_unreported is rose) = absurd (apart status 4 0 is e (λ h. cc))
@@ -930,12 +1052,28 @@ module _ (x : Seen) (out notes : SinkSeen) (status : ℕ) (words : List (List �
       by (idle_four h) = inr (inl h)
       by (idle_five h) = inr (inr (inl h))
 
-  -- nothing is given with another status than 0 and 4
-  pub nothing_given : status ≢ 0 → status ≢ 4 → out.written_now ≡ out.written
-  nothing_given zero four = by run.outcome run.delivered
+  -- nothing is given with another status than 0 and 4, unless words of `why` have no entry
+  pub nothing_given : tells_refused (command words) ≡ false → status ≢ 0 → status ≢ 4 → out.written_now ≡ out.written
+  nothing_given quiet zero four = by (command words) quiet run.outcome run.caused run.delivered
     where
-      by : (outcome : Outcome) → IsDelivered out notes outcome status → out.written_now ≡ out.written
-      by (Done made) (inl (is, given, quiet)) = absurd (zero is)
-      by (Done made) (inr (is, rose, some, warned)) = absurd (four is)
-      by (Refused own line) (before, told) = before.written
-      by Wanting (before, told) = before.written
+      silent : (c : Command) → tells c ≡ false → (text : List ℕ) → IsUnexplained c text → ⊥
+      silent (Why asked) never text nearest = cc
+      silent (Values task of given) never text nearest = nearest
+      silent (Compile idl acf) never text nearest = nearest
+      silent (Plan idl acf) never text nearest = nearest
+      silent (Call idl acf op) never text nearest = nearest
+      silent (Wrap of order call max) never text nearest = nearest
+      silent (Compat old old_acf new new_acf) never text nearest = nearest
+      silent (Sample seed count) never text nearest = nearest
+      silent Help never text nearest = nearest
+      silent Version never text nearest = nearest
+
+      by : (o : Option Command) → tells_refused o ≡ false → (outcome : Outcome) → IsOutcome x o outcome → IsDelivered out notes outcome status
+          → out.written_now ≡ out.written
+      by o never (Done made) caused (inl (is, given, noted)) = absurd (zero is)
+      by o never (Done made) caused (inr (is, rose, some, warned)) = absurd (four is)
+      by o never (Refused own line) caused (before, told) = before.written
+      by None never (Reported text own line) (inl e) d = cc
+      by None never (Reported text own line) (inr e) d = cc
+      by (Some c) never (Reported text own line) (nearest, two, same) d = absurd (silent c never text nearest)
+      by o never Wanting caused (before, told) = before.written

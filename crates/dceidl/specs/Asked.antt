@@ -6,21 +6,24 @@ use Rattle.nd_base.specs.Over.{FilesSeen, SourceSeen, AreUntouched, IsUntouched}
 use Rattle.nd_types.specs.declared.interface.Interface.{Interface}
 use Rattle.nd_types.specs.Operations.{operation_named}
 use Rattle.dceidl.specs.Seen.{Seen}
-use Rattle.command_line.specs.Words.{Command, Subject, Values, Compile, Plan, Call, Wrap, Sample, Help, Version}
+use Rattle.command_line.specs.Words.{Command, Subject, Values, Compile, Plan, Call, Wrap, Compat, Why, Sample, Help, Version}
 use Rattle.command_line.specs.declared.command.Reading.TheVariants.{Decode, Explain, Drain}
 use Rattle.command_line.specs.declared.command.Task.{Task}
 use Rattle.command_line.specs.declared.command.Task.TheVariants.{Read, Encode, Migrate}
 use Rattle.command_compile.specs.Asked.{AsksFiles, FileNames, AreAsked, all_due}
 use Rattle.ndr_pipe.specs.Ends.{EndsSeen, AreAsBefore}
 use Rattle.command_compile.specs.Idl.{Means}
+use Rattle.command_compat.specs.Compat.{AsksBoth}
 
--- the files that a command asks for, if it asks for any
+-- the files of the interface that a command asks for, or of the first if it asks for two
 abbrev pub asks_files : Command → Option FileNames
 asks_files (Values task of given) = Some (record { idl = of.idl; acf = of.acf })
 asks_files (Compile idl acf) = Some (record { idl = idl; acf = acf })
 asks_files (Plan idl acf) = Some (record { idl = idl; acf = acf })
 asks_files (Call idl acf op) = Some (record { idl = idl; acf = acf })
 asks_files (Wrap of order call max) = Some (record { idl = of.idl; acf = of.acf })
+asks_files (Compat old old_acf new new_acf) = Some (record { idl = old; acf = old_acf })
+asks_files (Why words) = None
 asks_files (Sample seed count) = None
 asks_files Help = None
 asks_files Version = None
@@ -61,9 +64,10 @@ pub record AsksRequest (f : FilesSeen) (of : Subject) (name : List ℕ) : Type 0
   pub each_due : AreAsked f.held of.idl of.acf earlier
   pub asked : f.asked_now ≡ (f.asked ++ earlier) ++ name ∷ []
 
--- the files that a command asks for: those of the interface, and after them the text of a request if one is named
+-- the files that a command asks for: those of the interface, and after them the text of a request or the files of a second interface
 abbrev pub AsksFilesOf : FilesSeen → Command → Type 0
 AsksFilesOf f (Values task of (Some name)) = AsksFiles f (Some (record { idl = of.idl; acf = of.acf })) ⊎ AsksRequest f of name
+AsksFilesOf f (Compat old old_acf new new_acf) = AsksBoth f (record { idl = old; acf = old_acf }) (record { idl = new; acf = new_acf })
 AsksFilesOf f c = AsksFiles f (asks_files c)
 
 -- the input is left as it is if a command does not read it

@@ -6,10 +6,13 @@ use Rattle.ndr_pipe.specs.Ends.{AreAsBefore}
 use Rattle.dceidl.specs.Asked.{drains}
 use Rattle.dceidl.specs.Input.{IsMadeOf, IsTaskCause}
 use Rattle.command_compile.specs.Compiled.{IsListed, IsPlanned, IsIdlCause}
+use Rattle.command_compat.specs.Compat.{IsCompatible, IsCompatCause}
+use Rattle.command_why.specs.Explained.{explained}
+use Rattle.command_why.specs.declared.lookup.Explained.TheVariants.{Found, Nearest}
 use Rattle.dceidl.specs.Ready.{IsAllReady, IsUnready}
 use Rattle.dceidl.specs.Wrapped.{HasCalled, IsNoCall, IsWrapped, IsNoWrap}
 use Rattle.dceidl.specs.Seen.{Seen}
-use Rattle.command_line.specs.Words.{Command, Values, Compile, Plan, Call, Wrap, Sample, Help, Version}
+use Rattle.command_line.specs.Words.{Command, Values, Compile, Plan, Call, Wrap, Compat, Why, Sample, Help, Version}
 use Rattle.command_sample.specs.Summary.{sample_lines}
 use Rattle.command_refusals.specs.declared.refusal.Refusal.{Refusal}
 use Rattle.command_refusals.specs.declared.refusal.Refusal.TheVariants.{Memory}
@@ -22,6 +25,8 @@ IsMade x (Compile idl acf) made = IsListed x.files idl acf made
 IsMade x (Plan idl acf) made = IsPlanned x.files idl acf made
 IsMade x (Call idl acf op) made = HasCalled x.files x.input idl acf op made
 IsMade x (Wrap of order call max) made = IsWrapped x.files x.input of order call max made
+IsMade x (Compat old old_acf new new_acf) made = IsCompatible x.files (record { idl = old; acf = old_acf }) (record { idl = new; acf = new_acf }) made
+IsMade x (Why words) made = explained words ≡ Found made
 IsMade x (Sample seed count) made = made ≡ sample_lines seed count
 IsMade x Help made = made ≡ HELP.now
 IsMade x Version made = made ≡ VERSION.now
@@ -36,9 +41,21 @@ IsCause x (Call idl acf op) r = IsNoCall x.files x.input idl acf op r
 IsCause x (Wrap of order call max) r = IsNoWrap x.files x.input of r
 IsCause x (Compile idl acf) r = IsIdlCause x.files idl acf r
 IsCause x (Plan idl acf) r = IsIdlCause x.files idl acf r
+IsCause x (Compat old old_acf new new_acf) r = IsCompatCause x.files (record { idl = old; acf = old_acf }) (record { idl = new; acf = new_acf }) r
+IsCause x (Why words) r = r ≡ Memory
 IsCause x (Sample seed count) r = r ≡ Memory
 IsCause x Help r = r ≡ Memory
 IsCause x Version r = r ≡ Memory
+
+-- Words of which there is no entry are no words of a refusal: the names that are nearest are written to out beside the line of refused words.
+abbrev pub IsUnexplained : Command → List ℕ → Type 0
+IsUnexplained (Why words) text = explained words ≡ Nearest text
+IsUnexplained _ text = ⊥
+
+-- whether a command can write to out although it is refused
+abbrev pub tells : Command → Bool
+tells (Why words) = true
+tells _ = false
 
 -- the statuses with which a command on values can end, and which drains if this is true
 abbrev pub values_statuses : Bool → List ℕ
@@ -52,6 +69,8 @@ statuses_of (Compile idl acf) = 0 ∷ 4 ∷ 5 ∷ 6 ∷ 7 ∷ 9 ∷ []
 statuses_of (Plan idl acf) = 0 ∷ 4 ∷ 5 ∷ 6 ∷ 7 ∷ 9 ∷ []
 statuses_of (Call idl acf op) = values_statuses false
 statuses_of (Wrap of order call max) = values_statuses false
+statuses_of (Compat old old_acf new new_acf) = 0 ∷ 1 ∷ 4 ∷ 5 ∷ 6 ∷ 7 ∷ 9 ∷ []
+statuses_of (Why words) = 0 ∷ 2 ∷ 4 ∷ 5 ∷ []
 statuses_of (Sample seed count) = 0 ∷ 4 ∷ 5 ∷ []
 statuses_of Help = 0 ∷ 4 ∷ 5 ∷ []
 statuses_of Version = 0 ∷ 4 ∷ 5 ∷ []

@@ -12,6 +12,7 @@ use Rattle.command_decode.specs.Printed.{IsPrinted, IsInputCause}
 use Rattle.command_text.specs.Fitted.{IsTextCause}
 use Rattle.command_text.specs.Request.{beside, HoldsRequest, HoldsNoRequest}
 use Rattle.command_label.specs.Label.{IsLabelCause}
+use Rattle.command_streams.specs.Input.{AreRead}
 use Rattle.ndr_prim.specs.Label.{order_of_label}
 use Rattle.ndr_pipe.specs.Ends.{EndsSeen, AreAsBefore}
 use Rattle.dceidl.specs.Encode.{IsLabelledEncoding, IsLongEncoding, IsMigration}
@@ -23,19 +24,6 @@ use Rattle.command_line.specs.declared.command.Task.{Task}
 use Rattle.command_line.specs.declared.command.Task.TheVariants.{Read, Encode, Migrate}
 use Rattle.command_refusals.specs.declared.refusal.Refusal.{Refusal}
 use Rattle.command_refusals.specs.declared.refusal.Refusal.TheVariants.{Memory, ReadFault, TooLong}
-
--- These octets were read: the whole input, or its first octets to one past a limit.
-pub record AreRead (s : SourceSeen) (limit : ℕ) (octets : List ℕ) : Type 0 where
-  pub taken : Consumes s.left s.left_now octets
-  pub few : length octets ≤ limit + 1
-  pub whole : length octets < limit + 1 → s.ended ≡ true
-  pub none_left : length octets < limit + 1 → IsAtEnd s.left_now
-
--- why the input was not read; of memory no more is said
-abbrev pub IsFetchCause : SourceSeen → Refusal → Type 0
-IsFetchCause s Memory = ⊤
-IsFetchCause s ReadFault = HasRisen s.faults
-IsFetchCause s _ = ⊥
 
 -- the text of the input was read to its end or to one octet past its limit, and this holds of it
 abbrev pub OfText : SourceSeen → (List ℕ → Type 0) → Type 0

@@ -65,11 +65,6 @@ abbrev pub IsCallUnready : FilesSeen → List ℕ → Option (List ℕ) → Opti
 IsCallUnready f idl acf None r = IsIdlCause f idl acf r
 IsCallUnready f idl acf (Some op) r = IsReadyCause f (record { idl = idl; acf = acf; op = op; side = Out }) r
 
--- the interface has no operation of the name
-abbrev pub IsNotNumbered : Interface → Option (List ℕ) → Refusal → Type 0
-IsNotNumbered i None r = ⊥
-IsNotNumbered i (Some name) r = IsNotFound i name r
-
 -- ## Beside a request
 
 -- files over a part of a call: up to where these names had been asked for

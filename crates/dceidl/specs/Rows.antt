@@ -1,9 +1,9 @@
 -- The rows of a run, each for all commands at once: what a status says by itself, and what comes where nothing fails.
-use Rattle.std.specs.Prelude.{◌≡◌, ◌⊎◌, ℕ, ◌+◌, ◌<◌, ◌++◌, Err, length, true, false, List, [], ◌∷◌, codes, decimal, take, option_map, Option, None}
+use Rattle.std.specs.Prelude.{◌≡◌, ◌⊎◌, ℕ, ◌+◌, ◌<◌, ◌++◌, Err, length, Bool, true, false, List, [], ◌∷◌, codes, decimal, take, Option, None}
 use Rattle.std.specs.Prelude.{Some, ⊤}
 use Rattle.std.specs.List.{slice_get}
 use Rattle.nd_base.specs.declared.octets.Order.{Order}
-use Rattle.nd_base.specs.Outside.{IsMissing, loaded}
+use Rattle.nd_base.specs.Outside.{IsMissing}
 use Rattle.nd_base.specs.Over.{FilesSeen, SourceSeen, SinkSeen, HasRisen, Got, IsAsBefore}
 use Rattle.nd_types.specs.declared.interface.Interface.{Interface}
 use Rattle.nd_types.specs.declared.types.Operation.{Operation}
@@ -20,12 +20,17 @@ use Rattle.command_encode.specs.Written.{IsWritten, IsLong}
 use Rattle.text_grammar.specs.declared.TheConstants.{TEXT_LIMIT}
 use Rattle.text_grammar.specs.Reads.{ReadsAs, IsTextFault}
 use Rattle.nd_base.specs.Text.{joined}
-use Rattle.dceidl.specs.Causes.{IsMade, IsCause}
+use Rattle.dceidl.specs.Causes.{IsMade, IsCause, IsUnexplained, tells}
+use Rattle.dceidl.specs.Compat.{CanBeCompared, MustBeIncomparable, IsDueSecond}
+use Rattle.command_why.specs.Explained.{explained}
+use Rattle.command_why.specs.declared.lookup.Explained.TheVariants.{Found}
 use Rattle.dceidl.specs.Asked.{IsRequestDue, asks_files, asks_input}
+use Rattle.dceidl.specs.Held.{IsHeld, MustBeNoIdl}
 use Rattle.dceidl.specs.Input.{IsLabel}
+use Rattle.command_streams.specs.Input.{AreGiven, IsInput}
 use Rattle.command_text.specs.Fitted.{IsMisfitAt}
 use Rattle.command_text.specs.Request.{beside, IsRequestText, IsRequestFault}
-use Rattle.command_compile.specs.Idl.{Means, IsIdlFault, IsDueFile}
+use Rattle.command_compile.specs.Idl.{Means, IsDueFile}
 use Rattle.command_refusals.specs.Lines.{status_of, line_of}
 use Rattle.rpc_pdu.specs.declared.pdu.Wanted.{Wanted}
 use Rattle.rpc_pdu.specs.Fragments.{Fragments}
@@ -35,7 +40,8 @@ use Rattle.command_call.specs.Called as called
 use Rattle.dceidl.specs.Ready.{IsNamed, IsNumbered}
 use Rattle.dceidl.specs.Wrapped.{wrap_task}
 use Rattle.dceidl.specs.Seen.{Seen}
-use Rattle.command_line.specs.Words.{Command, Subject, Values, Compile, Plan, Call, Wrap, Sample, Help, Version, idl_of, op_of, order_in}
+use Rattle.command_line.specs.Words.{Command, Subject, Values, Compile, Plan, Call, Wrap, Compat, Why, Sample, Help, Version}
+use Rattle.command_line.specs.Words.{idl_of, op_of, order_in}
 use Rattle.command_compile.specs.Asked.{FileNames}
 use Rattle.ndr_prim.specs.Label.{order_of_label}
 use Rattle.nd_base.specs.Counts.{Rose}
@@ -59,11 +65,6 @@ use Rattle.command_refusals.specs.declared.refusal.OctetsFault.{OctetsFault}
 use Rattle.command_refusals.specs.declared.refusal.OctetsFault.TheVariants.{Refused, Trailing}
 use Rattle.command_refusals.specs.declared.refusal.RequestFault.{RequestFault}
 
--- a status is one of these
-abbrev pub IsOneOf : List ℕ → ℕ → Type 0
-IsOneOf [] status = ⊥
-IsOneOf (s ∷ ss) status = (status ≡ s) ⊎ IsOneOf ss status
-
 -- ## What a status says
 
 -- A command was done: it made this text, out grew by it, and notes are as before.
@@ -81,6 +82,29 @@ pub record IsRefusedWith (x : Seen) (out notes : SinkSeen) (c : Command) (status
   pub line : Got notes (line_of (idl_of c) (op_of c) refusal)
   pub nothing_given : IsAsBefore out
 
+-- The words of `why` have no entry: the names that are nearest were given, and notes got the line of refused words.
+pub record IsAnsweredNearest (out notes : SinkSeen) (c : Command) (status : ℕ) : Type 0 where
+  pub text : List ℕ
+  pub unexplained : IsUnexplained c text
+  pub own_status : status ≡ 2
+  pub line : Got notes (codes "words refused\n")
+  pub given : Got out text
+
+-- what any other status than 0, 4 and 5 says of a command
+abbrev pub IsRefused : Seen → SinkSeen → SinkSeen → Command → ℕ → Type 0
+IsRefused x out notes (Why words) status = IsAnsweredNearest out notes (Why words) status
+IsRefused x out notes c status = IsRefusedWith x out notes c status
+
+-- the words are no command, or those of `why` have no entry
+abbrev pub AreUnknown : Option Command → Type 0
+AreUnknown None = ⊤
+AreUnknown (Some c) = (text : List ℕ) × IsUnexplained c text
+
+-- whether a run can write to out although its status is neither 0 nor 4
+abbrev pub tells_refused : Option Command → Bool
+tells_refused None = false
+tells_refused (Some c) = tells c
+
 -- the words are a command that reads the input
 abbrev pub ReadsInput : Option Command → Type 0
 ReadsInput None = ⊥
@@ -96,9 +120,15 @@ abbrev pub IsDueRequest : Option (List ℕ → Option (List ℕ)) → Command �
 IsDueRequest held (Values task of (Some text)) name = (name ≡ text) × IsRequestDue held of
 IsDueRequest held _ name = ⊥
 
+-- a file that is due only once files mean an interface: the text of a request, or a file of a second interface
+abbrev pub IsDueNext : Option (List ℕ → Option (List ℕ)) → Command → List ℕ → Type 0
+IsDueNext held (Compat old old_acf new new_acf) name =
+    IsDueSecond held (record { idl = old; acf = old_acf }) (record { idl = new; acf = new_acf }) name
+IsDueNext held c name = IsDueRequest held c name
+
 abbrev pub IsDue : Option Command → Option (List ℕ → Option (List ℕ)) → List ℕ → Type 0
 IsDue None held name = ⊥
-IsDue (Some c) held name = IsDueOf held (asks_files c) name ⊎ IsDueRequest held c name
+IsDue (Some c) held name = IsDueOf held (asks_files c) name ⊎ IsDueNext held c name
 
 -- the file of a line is due and, where the contents of files are known, not held
 abbrev pub IsDueAndMissing : Option Command → Option (List ℕ → Option (List ℕ)) → SinkSeen → Type 0
@@ -137,10 +167,6 @@ pub record IsSound (x : Seen) (notes : SinkSeen) : Type 0 where
   pub loads : HasRisen x.files.faults → ⊥
   pub reports : HasRisen notes.faults → ⊥
 
--- the contents of files are known, and under this name this content is held, as far as a load gives it
-abbrev pub IsHeld : FilesSeen → List ℕ → List ℕ → Type 0
-IsHeld f name file = (held : List ℕ → Option (List ℕ)) × (f.held ≡ Some held) × (option_map loaded (held name) ≡ Some file)
-
 -- The main file is held, the files mean this interface, it has the operation, and this is its setting.
 pub record IsAccepted (f : FilesSeen) (of : Subject) (w : Setting) : Type 0 where
   pub file : List ℕ
@@ -166,18 +192,6 @@ pub record IsAcceptedBeside (f : FilesSeen) (of : Subject) (name : List ℕ) (w 
 abbrev pub AreAccepted : FilesSeen → Subject → Option (List ℕ) → Setting → Type 0
 AreAccepted f of None w = IsAccepted f of w
 AreAccepted f of (Some name) w = IsAcceptedBeside f of name w
-
--- The octets of the input are known, and are these. No fetch failed.
-pub record AreGiven (s : SourceSeen) (octets : List ℕ) : Type 0 where
-  pub left : s.left ≡ Some octets
-  pub reads : HasRisen s.faults → ⊥
-
--- The octets of the input are known, and these count under a limit: all of them, or one more than the limit. No fetch failed.
-pub record IsInput (s : SourceSeen) (limit : ℕ) (octets : List ℕ) : Type 0 where
-  pub all : List ℕ
-  pub left : s.left ≡ Some all
-  pub counted : octets ≡ take (limit + 1) all
-  pub reads : HasRisen s.faults → ⊥
 
 -- The octets before a place are a stream of a graph that conforms, and an octet follows.
 pub record IsTrailing (w : Setting) (order : Order) (octets : List ℕ) (place : ℕ) : Type 0 where
@@ -238,15 +252,11 @@ CanBeDone x (Call idl acf op) = (i : Interface) × (number : Option ℕ) × IsCa
 CanBeDone x (Wrap of order call max) = (w : Setting) × IsAccepted x.files of w × CanBeMade x.input x.ends (wrap_task order) w
 CanBeDone x (Compile idl acf) = (text : List ℕ) × (i : Interface) × IsHeld x.files idl text × Means x.files.held idl text acf i
 CanBeDone x (Plan idl acf) = (text : List ℕ) × (i : Interface) × IsHeld x.files idl text × Means x.files.held idl text acf i
+CanBeDone x (Compat old old_acf new new_acf) = CanBeCompared x.files (record { idl = old; acf = old_acf }) (record { idl = new; acf = new_acf })
+CanBeDone x (Why words) = (text : List ℕ) × (explained words ≡ Found text)
 CanBeDone x (Sample seed count) = ⊤
 CanBeDone x Help = ⊤
 CanBeDone x Version = ⊤
-
--- the files are refused in this way
-abbrev pub MustBeNoIdl : FilesSeen → List ℕ → Option (List ℕ) → Refusal → Type 0
-MustBeNoIdl f idl acf (BadIdl file line column why) =
-    (text : List ℕ) × IsHeld f idl text × IsIdlFault f.held idl text acf (BadIdl file line column why)
-MustBeNoIdl f idl acf _ = ⊥
 
 -- what a command on values speaks of is refused in this way
 abbrev pub MustBeUnready : FilesSeen → Subject → Refusal → Type 0
@@ -356,13 +366,12 @@ MustBeRefused x (Values task of given) (BadRequest why) = MustBeNoRequest x.file
 MustBeRefused x (Values task of given) r = (w : Setting) × AreAccepted x.files of given w × MustBeNoInput x.input x.ends task w r
 MustBeRefused x (Compile idl acf) r = MustBeNoIdl x.files idl acf r
 MustBeRefused x (Plan idl acf) r = MustBeNoIdl x.files idl acf r
+MustBeRefused x (Compat old old_acf new new_acf) r =
+    MustBeIncomparable x.files (record { idl = old; acf = old_acf }) (record { idl = new; acf = new_acf }) r
+MustBeRefused x (Why words) r = ⊥
 MustBeRefused x (Sample seed count) r = ⊥
 MustBeRefused x Help r = ⊥
 MustBeRefused x Version r = ⊥
-
--- a command is completed: it is done, or it ran out of memory, or out failed
-abbrev pub IsCompleted : SinkSeen → ℕ → Type 0
-IsCompleted out status = (status ≡ 0) ⊎ ((status ≡ 5) ⊎ ((status ≡ 4) × HasRisen out.faults))
 
 -- a command is refused in this way, or it ran out of memory
 abbrev pub Refuses : Command → SinkSeen → ℕ → Refusal → Type 0

@@ -1,5 +1,5 @@
 -- What `call` and `wrap` make, and why they are refused. `f` are files over a run, `s` is the input.
-use Rattle.std.specs.Prelude.{◌≡◌, ◌⊎◌, ℕ, List, Option}
+use Rattle.std.specs.Prelude.{◌≡◌, ◌⊎◌, ℕ, List, Option, Some, None}
 use Rattle.nd_base.specs.declared.octets.Order.{Order}
 use Rattle.nd_base.specs.Over.{FilesSeen, SourceSeen, IsUntouched}
 use Rattle.nd_types.specs.declared.interface.Interface.{Interface}
@@ -44,6 +44,11 @@ wrap_task order = Encode (Fixed order) WRAP_CHUNK
 abbrev pub head_for : Side → ℕ → Head
 head_for In n = head.Request n
 head_for Out n = head.Response
+
+-- the operation by which `call` reads what was written for a side: a request states its own
+abbrev pub stated_for : Side → ℕ → Option ℕ
+stated_for In n = None
+stated_for Out n = Some n
 
 -- The octets of the values of the text are the stub data of the fragments that are written.
 pub record IsWrapped (f : FilesSeen) (s : SourceSeen) (of : Subject) (order : Order) (call max : ℕ) (made : List ℕ) : Type 0 where

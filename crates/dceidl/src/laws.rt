@@ -1,5 +1,5 @@
 //! Laws of what commands answer, each the contract of a function that does nothing.
-ghost use Rattle.std.specs.Prelude.{◌≡◌, ◌≤◌, ℕ, true, List, [], length, Option, None, Some, Ok};
+ghost use Rattle.std.specs.Prelude.{◌≡◌, ◌≤◌, ◌<◌, ◌^◌, ◌++◌, ℕ, true, List, [], length, Option, None, Some, Ok};
 ghost use Rattle.std.specs.List.{slice_get};
 ghost use Rattle.nd_base.specs.declared.octets.Order.{Order};
 ghost use Rattle.nd_types.specs.declared.interface.Interface.{Interface};
@@ -9,13 +9,18 @@ ghost use Rattle.nd_value.specs.declared.value.Graph.{Graph};
 ghost use Rattle.nd_value.specs.Same.{Same};
 ghost use Rattle.nd_grammar.specs.Chosen.{Chosen};
 ghost use Rattle.nd_grammar.specs.Represents.{Represents};
-ghost use Rattle.nd_value.specs.Fitting.{setting_beside};
+ghost use Rattle.nd_value.specs.Fitting.{setting_of, setting_beside};
 ghost use Rattle.text_grammar.specs.declared.TheConstants.{TEXT_LIMIT};
 ghost use Rattle.text_grammar.specs.Reads.{ReadsAs};
 ghost use Rattle.text_grammar.specs.Printed.{IsText};
 ghost use Rattle.command_decode.specs.Printed.{IsDecoding};
 ghost use Rattle.ndr_prim.specs.Label.{order_of_label};
-ghost use Rattle.command_line.specs.Words.{order_in};
+ghost use Rattle.command_line.specs.Words.{Subject, order_in};
+ghost use Rattle.command_line.specs.declared.TheConstants.{LEAST_MAX};
+ghost use Rattle.nd_base.specs.Over.{FilesSeen, SourceSeen};
+ghost use Rattle.command_call.specs.Called.{IsCall, IsCalled, call_line};
+ghost use Rattle.command_streams.specs.Input.{AreGiven};
+ghost use Rattle.dceidl.specs.Wrapped.{IsWrapped, stated_for};
 ghost use Rattle.command_line.specs.declared.command.OrderWord.TheVariants.{Label};
 ghost use Rattle.dceidl.specs.Encode.{IsEncoding, IsMigration, label_for};
 ghost use Rattle.idl_check.specs.AcfRules.{acf_breaches};
@@ -24,6 +29,7 @@ ghost use Rattle.command_compile.specs.Idl.{Means, IsIdlFault, resolved_world};
 ghost use Rattle.command_refusals.specs.declared.refusal.IdlReason.{IdlReason};
 ghost use Rattle.command_refusals.specs.declared.refusal.Refusal.TheVariants as refusal;
 
+use rpc_pdu::laws::pieces_are_fragments;
 use text_laws::laws::same_texts;
 
 /// Where the contents of files are known, a main file means one interface at most with those that it imports, with an attribute configuration file
@@ -102,6 +108,21 @@ pub fn encode_undoes_decode()
         → (d : IsDecoding (setting_beside i o s q) order octets text) → IsEncoding (setting_beside i o s q) order chunk text made
         → Chosen (setting_beside i o s q) order chunk d.graph octets → made ≡ octets }
 {}
+
+/// What `wrap` writes is what `call` reads: the fragments of one call, with the order and the call id that it was given, the operation of the
+/// interface, and as stub data the octets that were encoded; and what `call` writes of it is the call id and what `migrate` writes of the text.
+pub fn call_undoes_wrap()
+    ensures is_call { (f : FilesSeen) (s : SourceSeen) (of : Subject) (order : Order) (call max : ℕ) (made : List ℕ)
+        → call < 2 ^ 32 → LEAST_MAX ≤ max → max < 2 ^ 16 → (h : IsWrapped f s of order call max made)
+        → IsCall h.interface (stated_for of.side h.number) made order call h.operation h.stub }
+    ensures printed { (f : FilesSeen) (s : SourceSeen) (of : Subject) (order : Order) (call max : ℕ) (made : List ℕ)
+        → call < 2 ^ 32 → LEAST_MAX ≤ max → max < 2 ^ 16 → (h : IsWrapped f s of order call max made) → (t : SourceSeen) → AreGiven t made
+        → (printed other : List ℕ) → IsCalled t h.interface (stated_for of.side h.number) printed
+        → IsMigration (setting_of h.interface h.operation of.side) h.encoded.0 other → printed ≡ call_line call ++ other }
+{
+    pieces_are_fragments();
+    same_texts();
+}
 
 /// The format label that `encode` writes before octets states the order of these octets (C706, section 14.1).
 pub fn written_label()

@@ -18,15 +18,16 @@ ghost use Rattle.command_line.specs.Words.{Values};
 
 use crate::call::call;
 use crate::encode::{encode, migrate};
-use crate::input::read_input;
 use crate::reading::read_octets;
 use crate::ready::{Ready, make_ready};
 use crate::wrap::wrap;
 use crate::{HELP, VERSION};
+use command_compat::compat;
 use command_compile::{list, list_plan};
 use command_line::{Command, OrderWord, Subject, Task};
 use command_refusals::Refusal;
 use command_sample::sample;
+use command_streams::read_input;
 use command_text::load_request;
 use nd_base::{Files, Octets, Source};
 use nd_graph::Fit;
@@ -77,6 +78,12 @@ pub(crate) fn perform<F: Files, S: Source, E: PipeEnd>(
             call,
             max,
         } => wrap(alloc, of, order, call, max, files, input),
+        Command::Compat {
+            old,
+            old_acf,
+            new,
+            new_acf,
+        } => compat(alloc, old, old_acf, new, new_acf, files),
         Command::Sample { seed, count } => Ok(sample(alloc, seed, count)?),
         Command::Help => Ok(Octets::copy(alloc, HELP.as_bytes())?),
         Command::Version => Ok(Octets::copy(alloc, VERSION.as_bytes())?),

@@ -1,5 +1,6 @@
 // The top call: what the words ask for is done, and what it comes to is written.
-ghost use Rattle.std.specs.Prelude.{◌≡◌, ◌≢◌, ◌⊎◌, [], ◌∷◌, codes, Some, None, IfOk};
+ghost use Rattle.std.specs.Prelude.{◌≡◌, ◌≢◌, ◌⊎◌, [], ◌∷◌, codes, false, map, Some, None, IfOk, option_map};
+ghost use Rattle.std.specs.String.{string_bytes};
 ghost use Rattle.std.specs.Io.KnownBytes.{Appends};
 ghost use Rattle.nd_base.specs.Counts.{Rose};
 ghost use Rattle.nd_base.specs.Over.{files_seen, source_seen, sink_seen};
@@ -10,31 +11,25 @@ ghost use Rattle.dceidl.specs.Asked.{Asks};
 ghost use Rattle.dceidl.specs.Causes.{statuses_of};
 ghost use Rattle.command_line.specs.Commands.{command_of};
 ghost use Rattle.command_refusals.specs.Lines.{status_of, line_of};
-ghost use Rattle.dceidl.specs.Rows.{IsOneOf, IsDone, IsRefusedWith, ReadsInput, IsDueAndMissing, IsDueAndReported, IsEndReported, HasNotFailed};
-ghost use Rattle.dceidl.specs.Rows.{IsSound, CanBeDone, MustBeRefused, IsCompleted, Refuses};
-ghost use Rattle.dceidl.specs.Run.{IsOutcome, IsDelivered, HasRun, IsReported};
+ghost use Rattle.dceidl.specs.Rows.{IsDone, IsRefused, AreUnknown, tells_refused};
+ghost use Rattle.dceidl.specs.Rows.{ReadsInput, IsDueAndMissing, IsDueAndReported, IsEndReported, HasNotFailed};
+ghost use Rattle.command_streams.specs.Delivery.{IsOneOf, IsCompleted};
+ghost use Rattle.dceidl.specs.Rows.{IsSound, CanBeDone, MustBeRefused, Refuses};
+ghost use Rattle.dceidl.specs.Run.{IsOutcome, IsExplanation, HasRun};
 ghost use Rattle.dceidl.specs.Seen.{seen_over};
-ghost use Rattle.command_line.specs.Words.{Command as Wanted, command, idl_of, op_of};
+ghost use Rattle.command_line.specs.Words.{Command as Wanted, command, counted_command, idl_of, op_of, name_in as name_or_nothing};
 
-use crate::outcome::Outcome;
 use crate::perform::perform;
 use command_line::{Command, Words};
 use command_refusals::{Refusal, Status, line, status};
+use command_streams::{Outcome, deliver};
+use command_why::{Explained, explain};
 use nd_base::{Files, Memory, Octets, Sink, Source};
 use ndr_pipe::{Ends, PipeEnd, PipeEnds};
 use std::alloc::Global;
 
-/// A command is done.
-pub(crate) const DONE: Status = 0;
-
 /// The command line is not valid.
 pub(crate) const WORDS_REFUSED: Status = 2;
-
-/// Standard output or standard error failed.
-pub(crate) const WRITE_FAILED: Status = 4;
-
-/// Out of memory.
-pub(crate) const OUT_OF_MEMORY: Status = 5;
 
 /// Runs a command line and returns the exit status.
 ///
@@ -46,14 +41,17 @@ pub(crate) const OUT_OF_MEMORY: Status = 5;
 /// writes the text of the values with empty pipes. With ORDER `label` four octets, a format label (C706, section 14.1), are before the octets and
 /// state their order. `encode` and `migrate` read such a text to its end, or to one octet past its limit, [`TEXT_LIMIT`](value_text::TEXT_LIMIT)
 /// octets. `encode` writes the octets of its values, at most [`STREAM_LIMIT`](nd_base::STREAM_LIMIT), after a label if one is asked for, and
-/// `migrate` writes it as it is printed.
+/// `migrate` writes it as it is printed. `call` reads the fragments of a request or response (C706, section 12.6), and writes the call id and the
+/// values of their stub data; `wrap` reads a text and writes such fragments. `compat` compares the interfaces of two files, the second of which is
+/// loaded once the first means an interface; a file that both need is loaded for each. `why` writes what words of a refusal mean.
 ///
 /// Nothing is requested before it is needed, and no file more than once: no file for an invalid command line, `--help` or
 /// `--version`, an import when its declaration is reached, the attribute configuration file when all names are resolved (it is loaded
 /// again if it was loaded under the same name as an interface file), and no input before the files are loaded and checked and the
 /// operation is found.
 ///
-/// A successful run writes its text to `out` and nothing to `notes`. A refused run writes nothing to `out` and one line to `notes`; if
+/// A successful run writes its text to `out` and nothing to `notes`. A refused run writes nothing to `out` (but `why` the names that are nearest to
+/// words that have no entry) and one line to `notes`; if
 /// there are several reasons, the first in the order of work is reported. If `out` fails, it may have received a prefix of the text, a
 /// line on `notes` says so, and the status is 4; if `notes` fails, the status is 4 too.
 ///
@@ -84,7 +82,7 @@ pub fn run<F: Files, S: Source, K: Sink, N: Sink>(
         (ends_over seen ends.old ends.new)) (command words.now) }
     // What each status says.
     ensures statuses { (c : Wanted) → command words.now ≡ Some c → IsOneOf (statuses_of c) result }
-    ensures words { result ≡ 2 → command words.now ≡ None }
+    ensures words { result ≡ 2 → AreUnknown (command words.now) }
     ensures words_exactly { command words.now ≡ None → IsOneOf (2 ∷ 4 ∷ 5 ∷ []) result }
     ensures words_line { result ≡ 2 → Appends (N.written notes.old) (N.written notes.new) (codes "words refused\n") }
     ensures read { result ≡ 3 → Rose (S.faults input.old) (S.faults input.new) × ReadsInput (command words.now) }
@@ -95,7 +93,7 @@ pub fn run<F: Files, S: Source, K: Sink, N: Sink>(
         × IsDueAndReported (command words.now) (F.held files.old) (sink_seen N.written N.faults notes.old notes.new) }
     ensures end { result ≡ 8 → IsEndReported (ends_over seen ends.old ends.new) (sink_seen N.written N.faults notes.old notes.new) }
     ensures quiet { result ≡ 0 → N.written notes.new ≡ N.written notes.old }
-    ensures nothing_given { result ≢ 0 → result ≢ 4 → K.written out.new ≡ K.written out.old }
+    ensures nothing_given { tells_refused (command words.now) ≡ false → result ≢ 0 → result ≢ 4 → K.written out.new ≡ K.written out.old }
     ensures unfailed { HasNotFailed
         (seen_over (files_seen F.held F.absences F.faults F.asked files.old files.new) (source_seen S.left S.ended S.faults input.old input.new)
         (ends_over seen ends.old ends.new))
@@ -107,7 +105,7 @@ pub fn run<F: Files, S: Source, K: Sink, N: Sink>(
         (ends_over seen ends.old ends.new))
         (sink_seen K.written K.faults out.old out.new)
         (sink_seen N.written N.faults notes.old notes.new) c }
-    ensures refused { (c : Wanted) → command words.now ≡ Some c → result ≢ 0 → result ≢ 4 → result ≢ 5 → IsRefusedWith
+    ensures refused { (c : Wanted) → command words.now ≡ Some c → result ≢ 0 → result ≢ 4 → result ≢ 5 → IsRefused
         (seen_over (files_seen F.held F.absences F.faults F.asked files.old files.new) (source_seen S.left S.ended S.faults input.old input.new)
         (ends_over seen ends.old ends.new))
         (sink_seen K.written K.faults out.old out.new)
@@ -170,6 +168,48 @@ fn answer<F: Files, S: Source, E: PipeEnd>(
         (seen_over (files_seen F.held F.absences F.faults F.asked files.old files.new) (source_seen S.left S.ended S.faults input.old input.new)
         (ends_over E.seen ends.old ends.new)) (command words.now) result }
 {
+    match words.why() {
+        Some(asked) => explanation(alloc, asked),
+        None => performed(alloc, words, files, input, ends),
+    }
+}
+
+// What words of a refusal mean, or the names that are nearest if they have no entry.
+fn explanation(alloc: Global, words: &[String]) -> Outcome
+    ensures { IsExplanation (map string_bytes words.now) result }
+{
+    match explain(alloc, words) {
+        Ok(Explained::Found(text)) => Outcome::Done(text),
+        Ok(Explained::Nearest(text)) => {
+            let Ok(line) = Octets::copy(alloc, b"words refused\n") else {
+                return Outcome::Wanting;
+            };
+            Outcome::Reported {
+                text,
+                status: WORDS_REFUSED,
+                line,
+            }
+        }
+        Err(_) => Outcome::Wanting,
+    }
+}
+
+// What the command comes to that words are by their number.
+fn performed<F: Files, S: Source, E: PipeEnd>(
+    alloc: Global,
+    words: &Words,
+    files: &mut F,
+    input: &mut S,
+    ends: &mut Ends<E>,
+) -> Outcome
+    requires open { AreOpen (ends_seen E.seen ends.old) }
+    ensures asked { Asks
+        (seen_over (files_seen F.held F.absences F.faults F.asked files.old files.new) (source_seen S.left S.ended S.faults input.old input.new)
+        (ends_over E.seen ends.old ends.new)) (counted_command words.now) }
+    ensures outcome { IsOutcome
+        (seen_over (files_seen F.held F.absences F.faults F.asked files.old files.new) (source_seen S.left S.ended S.faults input.old input.new)
+        (ends_over E.seen ends.old ends.new)) (counted_command words.now) result }
+{
     match words.command() {
         None => refused(alloc, WORDS_REFUSED, b"words refused\n"),
         Some(command) => match perform(alloc, command, files, input, ends) {
@@ -211,51 +251,21 @@ fn command_line(alloc: Global, command: Command<'_>, refusal: &Refusal) -> Resul
         Command::Values { of, .. } => line(alloc, of.idl, of.op, refusal),
         Command::Compile { idl, .. } => line(alloc, idl, "", refusal),
         Command::Plan { idl, .. } => line(alloc, idl, "", refusal),
-        Command::Call {
-            idl,
-            op: Some(op),
-            ..
-        } => line(alloc, idl, op, refusal),
-        Command::Call { idl, op: None, .. } => line(alloc, idl, "", refusal),
+        Command::Call { idl, op, .. } => line(alloc, idl, name_in(op), refusal),
         Command::Wrap { of, .. } => line(alloc, of.idl, of.op, refusal),
+        Command::Compat { .. } => line(alloc, "", "", refusal),
         Command::Sample { .. } => line(alloc, "", "", refusal),
         Command::Help => line(alloc, "", "", refusal),
         Command::Version => line(alloc, "", "", refusal),
     }
 }
 
-// Writes what a run came to, and answers the status.
-fn deliver<K: Sink, N: Sink>(outcome: &Outcome, out: &mut K, notes: &mut N) -> Status
-    ensures { IsDelivered
-        (sink_seen K.written K.faults out.old out.new)
-        (sink_seen N.written N.faults notes.old notes.new) outcome.now result }
+// A name, or nothing if there is none.
+fn name_in(name: Option<&str>) -> &str
+    ensures { result.now ≡ name_or_nothing (option_map (λ a. a.now) name.entry) }
 {
-    match outcome {
-        Outcome::Done(text) => give(text.as_slice(), out, notes),
-        Outcome::Refused { status, line } => report(*status, line.as_slice(), notes),
-        Outcome::Wanting => report(OUT_OF_MEMORY, b"want of memory\n", notes),
-    }
-}
-
-fn give<K: Sink, N: Sink>(text: &[u8], out: &mut K, notes: &mut N) -> Status
-    ensures { IsDelivered
-        (sink_seen K.written K.faults out.old out.new)
-        (sink_seen N.written N.faults notes.old notes.new) (Outcome.Done text.now) result }
-{
-    match out.put(text) {
-        Ok(()) => DONE,
-        Err(_) => {
-            let _ = notes.put(b"write fault\n");
-            WRITE_FAILED
-        }
-    }
-}
-
-fn report<N: Sink>(status: Status, line: &[u8], notes: &mut N) -> Status
-    ensures { IsReported (sink_seen N.written N.faults notes.old notes.new) line.now status result }
-{
-    match notes.put(line) {
-        Ok(()) => status,
-        Err(_) => WRITE_FAILED,
+    match name {
+        Some(name) => name,
+        None => "",
     }
 }

@@ -1,12 +1,18 @@
-//! The program `dceidl`: the words of its command line are done over the standard streams, the files of the current folder and eight ends of pipes.
+//! The program `dceidl`: the words of its command line are done over the standard streams, the files of the current folder, eight ends of pipes and
+//! eight resources.
 #![tactic(auto)]
 
 ghost use Rattle.std.specs.Prelude.{◌≡◌, false, IfOk};
 ghost use Rattle.ndr_pipe.specs.Ends.{AreOpen};
 ghost use Rattle.ndr_pipe.specs.Seen.{ends_seen};
+ghost use Rattle.ctx_session.specs.Session.{AreFresh};
+ghost use Rattle.ctx_session.specs.Stocked.{fresh_seen};
 
-use dceidl::{Status, Words, run};
-use nd_base::{FolderFiles, InputSource, Memory, OutputSink};
+use ctx_session::Stock;
+use ctx_store::{FileResource, Resource};
+use dceidl::{Status, Words, run_with};
+use nd_base::{FolderFiles, Memory, OutputSink};
+use nd_blocks::StandardInput;
 use ndr_pipe::{FileEnd, PipeEnd, PipeEnds};
 use std::env;
 use std::io::ErrorKind;
@@ -19,8 +25,8 @@ fn main(rt: HostRuntime) -> ExitCode {
     }
 }
 
-// A run over the real streams and files, and over eight ends, which are files of the current folder. The boxes are made here: no function may make
-// them and hand them out.
+// A run over the real streams and files, and over eight ends and eight resources, which are files of the current folder. The boxes are made here: no
+// function may make them and hand them out.
 fn start(rt: HostRuntime) -> Result<Status, Memory> {
     let mut ends = PipeEnds::new(rt.alloc());
     add(&mut ends, file_end(rt, "pipe0.out")?)?;
@@ -31,19 +37,30 @@ fn start(rt: HostRuntime) -> Result<Status, Memory> {
     add(&mut ends, file_end(rt, "pipe5.out")?)?;
     add(&mut ends, file_end(rt, "pipe6.out")?)?;
     add(&mut ends, file_end(rt, "pipe7.out")?)?;
-    run_over(&rt, &mut ends)
+    let mut stock = Stock::new(rt.alloc());
+    supply(&mut stock, file_resource(rt, "res0.out")?)?;
+    supply(&mut stock, file_resource(rt, "res1.out")?)?;
+    supply(&mut stock, file_resource(rt, "res2.out")?)?;
+    supply(&mut stock, file_resource(rt, "res3.out")?)?;
+    supply(&mut stock, file_resource(rt, "res4.out")?)?;
+    supply(&mut stock, file_resource(rt, "res5.out")?)?;
+    supply(&mut stock, file_resource(rt, "res6.out")?)?;
+    supply(&mut stock, file_resource(rt, "res7.out")?)?;
+    run_over(&rt, &mut ends, &mut stock)
 }
 
-// A run over the real streams and files.
-fn run_over(rt: &HostRuntime, ends: &mut PipeEnds) -> Result<Status, Memory>
-    requires { AreOpen (ends_seen seen ends.old) }
+// A run over the real streams and files. At the end, whatever the status, the position of a file that is standard input is moved back to where the
+// octets that were taken end: `StandardInput` does that when it is dropped.
+fn run_over(rt: &HostRuntime, ends: &mut PipeEnds, stock: &mut Stock) -> Result<Status, Memory>
+    requires open { AreOpen (ends_seen seen ends.old) }
+    requires fresh { AreFresh (fresh_seen shows stock.old) }
 {
     let words = words_of(rt)?;
     let mut files = FolderFiles::new(rt);
-    let mut input = InputSource::new(rt.stdin());
+    let mut input = StandardInput::new(rt.stdin());
     let mut out = OutputSink::new(rt.stdout());
     let mut notes = OutputSink::new(rt.stderr());
-    Ok(run(
+    Ok(run_with(
         rt.alloc(),
         &words,
         &mut files,
@@ -51,6 +68,7 @@ fn run_over(rt: &HostRuntime, ends: &mut PipeEnds) -> Result<Status, Memory>
         &mut out,
         &mut notes,
         ends,
+        stock,
     ))
 }
 
@@ -74,6 +92,29 @@ fn add(ends: &mut PipeEnds, end: Box<dyn PipeEnd>) -> Result<(), Memory>
     ensures { IfOk result (λ _. AreOpen (ends_seen seen ends.new)) }
 {
     match ends.push(end) {
+        Ok(()) => Ok(()),
+        Err((memory, _)) => Err(memory),
+    }
+}
+
+// A resource that appends to the file of this name. The file is made when the first line is applied.
+fn file_resource(rt: HostRuntime, name: &str) -> Result<Box<FileResource<HostRuntime>>, Memory>
+    ensures { IfOk result (λ b. (⟦<FileResource<HostRuntime> as Resource>⟧.shows b.value).ended ≡ false) }
+{
+    let name = String::from_str(rt.alloc(), name)?;
+    match Box::new(rt.alloc(), FileResource::new(rt, name)) {
+        Ok(resource) => Ok(resource),
+        Err(_) => Err(Memory),
+    }
+}
+
+// One more resource that was not ended.
+fn supply(stock: &mut Stock, resource: Box<dyn Resource>) -> Result<(), Memory>
+    requires all { AreFresh (fresh_seen shows stock.old) }
+    requires one { (shows resource).ended ≡ false }
+    ensures { IfOk result (λ _. AreFresh (fresh_seen shows stock.new)) }
+{
+    match stock.push(resource) {
         Ok(()) => Ok(()),
         Err((memory, _)) => Err(memory),
     }

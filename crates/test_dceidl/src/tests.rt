@@ -183,6 +183,25 @@ fn commands_are_done(rt: HostRuntime) {
             out: b"\x10\0\0\0\x01\0\0\0\x02\0\0\0\x03\0\0\0\0\0\0\0",
             ..ENCODED
         },
+        Case {
+            name: "call",
+            words: &["call", "add.idl", "-", "-"],
+            input: b"\x05\0\0\x03\x10\0\0\0\x28\0\0\0\x07\0\0\0\x10\0\0\0\0\0\0\0\x01\0\0\0\x02\0\0\0\x03\0\0\0\0\0\0\0",
+            out: b"call 7\nvalues 2\nop add in\na = 1\nb = 2\nc = 3\n",
+            ..DECODED
+        },
+        Case {
+            name: "wrap",
+            words: &["wrap", "add.idl", "-", "add", "in", "little", "7", "1024"],
+            out: b"\x05\0\0\x03\x10\0\0\0\x28\0\0\0\x07\0\0\0\x10\0\0\0\0\0\0\0\x01\0\0\0\x02\0\0\0\x03\0\0\0\0\0\0\0",
+            ..ENCODED
+        },
+        Case {
+            name: "compat",
+            words: &["compat", "add.idl", "-", "add.idl", "add.acf"],
+            out: b"compatible 2\n",
+            ..DECODED
+        },
         SAMPLED,
         NO_COMMAND,
         Case {

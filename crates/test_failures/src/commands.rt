@@ -184,6 +184,48 @@ pub(crate) const EXPLAIN: Command = Command {
     ..DECODE
 };
 
+// The same values in the two fragments of a request.
+pub(crate) const CALL: Command = Command {
+    name: "call",
+    words: &["call", "dir.idl", "dir.acf", "-"],
+    input: b"\x05\0\0\x01\x10\0\0\0\x40\0\0\0\x07\0\0\0\x5a\0\0\0\0\0\x01\0\
+\x01\0\0\0\
+\x04\0\x04\0\0\0\0\0\x04\0\0\0etc\0\x02\0\0\0\x03\0\0\0\
+\x04\0\x04\0\0\0\0\0\x02\0\0\0\
+\x05\0\0\x02\x10\0\0\0\x4a\0\0\0\x07\0\0\0\x5a\0\0\0\0\0\x01\0\
+/\0\0\0\x02\0\0\0\0\0\0\0\
+\0\0\0\0\0\x04\0\0\0\0\0\0\x02\0\0\0a\0\0\0\x02\0\0\0\0\0\0\0\
+\x02\0\0\0\
+\x02\0\0\0\xab\xcd",
+    out: b"call 7
+values 2
+op put in
+e = @1
+n = 2
+data = x\"abcd\"
+@1 = {kind = 4, detail = 4:void, name = \"etc\", parent = @2, next = @3}
+@2 = {kind = 4, detail = 4:void, name = \"/\", parent = @2, next = null}
+@3 = {kind = 0, detail = 0:1024, name = \"a\", parent = @2, next = null}
+",
+    ..COMPILE
+};
+
+// The same values as the stub data of a request.
+pub(crate) const WRAP: Command = Command {
+    name: "wrap",
+    words: &[
+        "wrap", "dir.idl", "dir.acf", "put", "in", "little", "7", "1024",
+    ],
+    out: b"\x05\0\0\x03\x10\0\0\0\x72\0\0\0\x07\0\0\0\x5a\0\0\0\0\0\x01\0\
+\x01\0\0\0\
+\x04\0\x04\0\0\0\0\0\x04\0\0\0etc\0\x02\0\0\0\x03\0\0\0\
+\x04\0\x04\0\0\0\0\0\x02\0\0\0/\0\0\0\x02\0\0\0\0\0\0\0\
+\0\0\0\0\0\x04\0\0\0\0\0\0\x02\0\0\0a\0\0\0\x02\0\0\0\0\0\0\0\
+\x02\0\0\0\
+\x02\0\0\0\xab\xcd",
+    ..ENCODE
+};
+
 // The first nine octets of the same values: they end within the offset of a string.
 pub(crate) const DECODE_CUT: Command = Command {
     name: "decode of octets that are cut",

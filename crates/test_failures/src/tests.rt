@@ -1,8 +1,8 @@
 // Each call fails in turn, until a run makes no such call.
 use crate::commands::{
-    COMPILE, Call, Command, DECODE, DECODE_CUT, DECODE_RESPONSE, DRAIN, DRAIN_CUT, DRAIN_RESPONSE,
-    DRAIN_TRAILING, DRAIN_TWO, ENCODE, ENCODE_REFUSED, ENCODE_RESPONSE, EXPLAIN, EXPLAIN_RESPONSE,
-    NO_COMMAND, NO_WORDS,
+    CALL, COMPILE, Call, Command, DECODE, DECODE_CUT, DECODE_RESPONSE, DRAIN, DRAIN_CUT,
+    DRAIN_RESPONSE, DRAIN_TRAILING, DRAIN_TWO, ENCODE, ENCODE_REFUSED, ENCODE_RESPONSE, EXPLAIN,
+    EXPLAIN_RESPONSE, NO_COMMAND, NO_WORDS, WRAP,
 };
 use crate::runs::{
     AMPLE, Failing, NONE, Ran, call_of, call_past, calls_by, is_finished, lines_of, run_command,
@@ -16,7 +16,7 @@ use std::process::Abort;
 const MOST: u32 = 200;
 
 // How many commands there are.
-const COMMANDS: u32 = 16;
+const COMMANDS: u32 = 18;
 
 // A command by its number.
 fn command(number: u32) -> Command {
@@ -35,7 +35,9 @@ fn command(number: u32) -> Command {
         11 => ENCODE_RESPONSE,
         12 => EXPLAIN_RESPONSE,
         13 => DRAIN_RESPONSE,
-        14 => NO_COMMAND,
+        14 => CALL,
+        15 => WRAP,
+        16 => NO_COMMAND,
         _ => NO_WORDS,
     }
 }

@@ -1,6 +1,6 @@
 use Rattle.std.proofs.Common.{◌∙◌, ap}
 use Rattle.std.specs.String.{string_bytes}
-use Rattle.command_line.specs.Words.{command}
+use Rattle.command_line.specs.Words.{counted_command}
 use Rattle.command_line.proofs.TakenWords.{eight_words, nine_words}
 use Rattle.command_line.proofs.words.command_of_most.Goals as goal
 
@@ -15,7 +15,7 @@ returns-in-len8-clause-command c =
     c.as_str.ensures.value c.as_str-in-len8.ensures.value c.as_str-in-len8-2.ensures.value c.as_str-in-len8-3.ensures.value c.as_str-in-len8-4.ensures.value c.as_str-in-len8-5.ensures.value
     c.as_str-in-len8-6.ensures.value c.as_str-in-len8-7.ensures.value
     in
-    c.eight_words.ensures.command ∙ ap command words
+    c.eight_words.ensures.command ∙ ap counted_command words
 
 pub returns-in-len9-clause-command : goal.returns-in-len9-clause-command
 returns-in-len9-clause-command c =
@@ -30,4 +30,4 @@ returns-in-len9-clause-command c =
     c.as_str-in-len9.ensures.value c.as_str-in-len9-2.ensures.value c.as_str-in-len9-3.ensures.value c.as_str-in-len9-4.ensures.value c.as_str-in-len9-5.ensures.value c.as_str-in-len9-6.ensures.value
     c.as_str-in-len9-7.ensures.value c.as_str-in-len9-8.ensures.value c.as_str-in-len9-9.ensures.value
     in
-    c.encode_beside_words.ensures.command ∙ ap command words
+    c.encode_beside_words.ensures.command ∙ ap counted_command words

@@ -2,7 +2,7 @@ use Rattle.std.proofs.Common.{option_map, sym, subst}
 use Rattle.nd_base.specs.Over.{source_seen}
 use Rattle.nd_value.specs.Fitting.{setting_beside}
 use Rattle.text_grammar.specs.declared.TheConstants.{TEXT_LIMIT}
-use Rattle.dceidl.specs.Input.{AreRead}
+use Rattle.command_streams.specs.Input.{AreRead}
 use Rattle.dceidl.proofs.Causes.{migrated, text_refused}
 use Rattle.dceidl.proofs.perform.migrate_input.Goals as goal
 

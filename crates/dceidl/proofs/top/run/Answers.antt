@@ -66,4 +66,4 @@ pub returns-clause-words_exactly : goal.returns-clause-words_exactly
 returns-clause-words_exactly g c none = rows.no_command_status _ _ _ _ c.args.words.now c.run_over.ensures none
 
 pub returns-clause-nothing_given : goal.returns-clause-nothing_given
-returns-clause-nothing_given g c zero four = rows.nothing_given _ _ _ _ c.args.words.now c.run_over.ensures zero four
+returns-clause-nothing_given g c quiet zero four = rows.nothing_given _ _ _ _ c.args.words.now c.run_over.ensures quiet zero four

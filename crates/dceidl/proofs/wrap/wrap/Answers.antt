@@ -1,12 +1,14 @@
-use Rattle.std.proofs.Common.{◌≡◌, ◌∙◌, refl, inl, inr, ap, subst}
+use Rattle.std.proofs.Common.{◌≡◌, ◌∙◌, List, ℕ, ◌≤◌, length, refl, inl, inr, ap, sym, subst}
 use Rattle.std.proofs.lemmas.Result.{err_from_is_err_and}
 use Rattle.nd_base.specs.Over.{files_seen, source_seen}
 use Rattle.nd_value.specs.Fitting.{setting_of}
+use Rattle.nd_base.specs.declared.TheConstants.{STREAM_LIMIT}
 use Rattle.rpc_pdu.specs.Pieces.{Pieces}
 use Rattle.command_line.specs.Commands.{subject_of}
 use Rattle.dceidl.specs.Wrapped.{head_for}
+use Rattle.dceidl.specs.declared.TheConstants.{WRAP_CHUNK}
 use Rattle.dceidl.proofs.Causes.{ready_is}
-use Rattle.dceidl.proofs.Calling.{wrapped_is}
+use Rattle.dceidl.proofs.Calling.{few_numbers, short_stub, wrapped_is}
 use Rattle.dceidl.proofs.wrap.wrap.Goals as goal
 
 pub returns-in_err-ready-clause-refused : goal.returns-in_err-ready-clause-refused
@@ -43,3 +45,16 @@ returns-clause-done g c =
     wrapped_is f s (subject_of c.args.of) c.args.order c.args.call c.args.max r.interface r.number o r.side c.in_ok-stub.stub c.in_ok-octets.octets
     c.in_ok-ready.ensures.side found (c.in_ok-stub.ensures.done o found.named.is_there)
     (c.in_ok-octets.ensures ∙ ap (λ l. Pieces c.args.order (head_for r.side r.number) c.args.call c.args.max l) c.as_slice.ensures)
+
+pub fragments-requires-clause-few : goal.fragments-requires-clause-few
+fragments-requires-clause-few g c =
+    let r = c.in_ok-ready.ready in
+    few_numbers r.number (length r.interface.operations) c.in_ok-ready.ensures.known r.interface.legal.few_operations
+
+pub fragments-requires-clause-room : goal.fragments-requires-clause-room
+fragments-requires-clause-room g c =
+    let (o, found) = c.in_ok-ready.ensures.ready in
+    let s = source_seen g.S.Source.left g.S.Source.ended g.S.Source.faults c.args.input.now c.encode_input.new.input in
+    let r = c.in_ok-ready.ready in
+    subst (λ (l : List ℕ). length l ≤ STREAM_LIMIT) (sym c.as_slice.ensures)
+    (short_stub s (setting_of r.interface o r.side) c.args.order WRAP_CHUNK c.in_ok-stub.stub (c.in_ok-stub.ensures.done o found.named.is_there))
