@@ -87,16 +87,15 @@ fn has(elements: Option<Vals>, numbers: &[i128]) -> bool {
     }
     for (at, number) in numbers.iter().enumerate() {
         match elements.get(at) {
-            Some(Val::Num(found)) if *found == *number => {}
+            Some(Val::Num(found)) => {
+                if *found != *number {
+                    return false;
+                }
+            }
             _ => return false,
         }
     }
     true
-}
-
-// Whether the pipe has ended.
-fn has_ended(elements: Option<Vals>) -> bool {
-    elements.is_none()
 }
 
 // Each call fetches what it needs and no octet more. Each count and each element is a step.
@@ -111,7 +110,7 @@ fn streams_are_read_in_parts(rt: HostRuntime) -> Result<(), Fail> {
     assert!(rt; source.left().len() == 13);
     assert!(rt; has(chunk(&mut intake, &mut source, &mut steps)?, &[3]));
     assert!(rt; intake.pipes_left() == 1 && source.left().len() == 5);
-    assert!(rt; has_ended(chunk(&mut intake, &mut source, &mut steps)?));
+    assert!(rt; chunk(&mut intake, &mut source, &mut steps)?.is_none());
     assert!(rt; !intake.failed() && source.left() == b"\xff".as_slice());
     assert_eq!(rt; steps.ledger().count(), 6);
     if intake.pipes_left() != 0 {
