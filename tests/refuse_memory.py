@@ -6,8 +6,8 @@ is refused, and it is one that the program can do without, the run may also end 
     tests/refuse_memory.py --program PATH     runs another program
     tests/refuse_memory.py --most N           at most N growths of each command, spread over all of them (default: all)
 
-The commands are an encoding and a decoding, the directory interface's compile, encode, decode and explain, a drain, a response beside its request, and
-the sample. In the run of number N the Nth call of `malloc` or `realloc` is refused; then all calls from the Nth on are. The gate does not run this. It
+The commands are an encoding and a decoding, the directory interface's compile, encode, decode and explain, a drain, a response beside its request, a
+session and the sample. In the run of number N the Nth call of `malloc` or `realloc` is refused; then all calls from the Nth on are. The gate does not run this. It
 needs a C compiler, `cc`, for what refuses, and a program that is linked with the C library as a shared object.
 
 The status is 1 if a run ends in another way, or if the sample has fewer than ten growths.
@@ -99,6 +99,7 @@ LISTING = lines(
 PIPES = {"t.idl": interface("typedef pipe long lp;", "void feed([in] lp d);")}
 PIPE_OCTETS = octets("02000000 01000000 02000000 01000000 03000000 00000000")
 BESIDE = {"t.idl": interface("void r([in] unsigned long n, [out, size_is(n)] byte a[*]);"), "request.txt": lines("values 2", "op r in", "n = 2")}
+SCRIPT = lines("open 1 00112233-4455-6677-8899-aabbccddeeff", "use 00112233-4455-6677-8899-aabbccddeeff hi", "down 1")
 SAMPLED = lines("cells 2", "octets 28", "sum 178", "same yes")
 
 
@@ -117,6 +118,7 @@ COMMANDS = [
             {"pipe0.out": lines("1", "2", "3")}),
     Command("response", ["decode", "t.idl", "-", "r", "out", "little", "given", "request.txt"], BESIDE, octets("02000000 ABCD"),
             lines("values 2", "op r out", 'a = x"abcd"')),
+    Command("session", ["session"], {}, SCRIPT, lines("ok", "ok", "ended 1"), {"res0.out": lines("hi")}),
     Command("sample", ["sample", "1", "2"], {}, b"", SAMPLED, least=LEAST_OF_SAMPLE),
     Command("no words", [], {}, b"", SAMPLED, least=LEAST_OF_SAMPLE),
 ]
@@ -141,7 +143,7 @@ def run(program: str, refuser: Path, command: Command, first: Optional[int] = No
             (folder / file).write_bytes(content)
         around = {**os.environ, "LD_PRELOAD": str(refuser), "REFUSED_NOTE": str(note), "REFUSED_FROM": str(first or 0), "REFUSED_TO": str(last or 0)}
         ran = subprocess.run([program, *command.words], input=command.input, capture_output=True, cwd=folder, env=around, check=False)
-        ends = {end.name: end.read_bytes() for end in sorted(folder.glob("pipe*.out"))}
+        ends = {end.name: end.read_bytes() for end in sorted([*folder.glob("pipe*.out"), *folder.glob("res*.out")])}
         return Ran(ran.returncode, ran.stdout, ran.stderr, ends, int(note.read_text()))
 
 

@@ -20,7 +20,7 @@ def rows(section):
     """The rows of its tables: texts, what is reported of them, and what to write in their place."""
     for line in section.splitlines():
         cells = [SPAN.findall(cell) for cell in line.split(" | ")]
-        if line.startswith("| `") and len(cells) == 3:
+        if line.startswith("| `") and not line.startswith("| `[in") and len(cells) == 3:
             yield cells
 
 
@@ -66,9 +66,27 @@ def of_whole_files():
     return [refused("A whole file", first, "1:1: BadOctet"), accepted("A whole file", second)]
 
 
+def of_pointers():
+    """The table of top-level pointers: the octets of each."""
+    declared = "typedef struct { long v; } s, *ps;"
+    found = []
+    for line in sections()["Attributes and operations"].splitlines():
+        cells = [SPAN.findall(cell) for cell in line.split(" | ")]
+        if line.startswith("| `[in") and len(cells) == 3 and len(cells[1]) == 1:
+            parameter, octets = cells[0][0], bytes.fromhex(cells[1][0])
+            files = {"t.idl": f"{HEAD}{declared} void f({parameter});\n}}\n".encode()}
+            text = lines("values 2", "op f in", "x = @1", "@1 = {v = 7}")
+            found.append(Case(f"bringing, octets: {parameter}", ["encode", "t.idl", "-", "f", "in", "little", "1"], files, text, out=octets))
+            found.append(Case(f"bringing, values: {parameter}", ["decode", "t.idl", "-", "f", "in", "little"], files, octets, out=text))
+    return found
+
+
+POINTERS = of_pointers()
 TABLES = list(of_rows())
 CASES = [
     Check("bringing: the page was read", lambda: [] if len(TABLES) >= MANY else [f"it has {len(TABLES)} texts, not {MANY}"]),
+    Check("bringing: the table of pointers was read", lambda: [] if len(POINTERS) == 8 else [f"it has {len(POINTERS)} cases, not 8"]),
+    *POINTERS,
     *of_whole_files(),
     *TABLES,
 ]

@@ -1,5 +1,5 @@
 // A resource that counts its lines, and does no other work.
-ghost use Rattle.std.specs.Prelude.{◌≡◌, false, None};
+ghost use Rattle.std.specs.Prelude.{◌≡◌, false};
 
 use ctx_store::{Resource, ResourceFailed};
 
@@ -10,8 +10,10 @@ pub(crate) struct Counter {
 }
 
 impl Counter {
+    ghost use Rattle.bench_store.specs.Counter.{counter_seen};
+
     pub(crate) fn new() -> Counter
-        ensures { (⟦<Counter as Resource>⟧.shows result).ended ≡ false }
+        ensures { (counter_seen result).ended ≡ false }
     {
         Counter {
             lines: 0,
@@ -21,9 +23,9 @@ impl Counter {
 }
 
 impl Resource for Counter {
-    ghost use Rattle.ctx_store.specs.Resource.{ResourceSeen};
+    ghost use Rattle.bench_store.specs.Counter.{counter_seen};
 
-    ghost shows = { λ r. record { lines = None; ended = r.ended; faults = 0 } };
+    ghost shows = { counter_seen };
 
     fn apply(&mut self, _line: &[u8]) -> Result<(), ResourceFailed> {
         self.lines = self.lines.saturating_add(1);

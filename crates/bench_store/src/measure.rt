@@ -2,9 +2,10 @@
 ghost use Rattle.std.specs.Prelude.{◌≡◌, ◌<◌, ◌≤◌, ◌+◌, OnOk};
 ghost use Rattle.ctx_store.specs.Live.{AreLive};
 ghost use Rattle.ctx_store.specs.Seen.{store_seen, store_spare};
+ghost use Rattle.bench_store.specs.Counter.{counter_seen};
 
 use crate::counter::Counter;
-use ctx_store::{Resource, StoreOf};
+use ctx_store::StoreOf;
 use nd_base::Memory;
 use std::io;
 use std::time::Instant;
@@ -57,9 +58,9 @@ fn scattered(at: u32, count: u32) -> u32
 
 // Opens so many resources.
 fn open_many(store: &mut StoreOf<Counter>, count: u32) -> Result<(), Memory>
-    requires live { AreLive (store_seen ⟦<Counter as Resource>⟧.shows store.old) }
+    requires live { AreLive (store_seen counter_seen store.old) }
     requires room { count ≤ store_spare store.old }
-    ensures { OnOk result (AreLive (store_seen ⟦<Counter as Resource>⟧.shows store.new)) }
+    ensures { OnOk result (AreLive (store_seen counter_seen store.new)) }
 {
     for at in 0..count {
         if store.open(1, identifier(at), Counter::new()).is_err() {
@@ -71,9 +72,9 @@ fn open_many(store: &mut StoreOf<Counter>, count: u32) -> Result<(), Memory>
 
 // Uses the store, and counts the uses that were done.
 fn use_many(store: &mut StoreOf<Counter>, count: u32) -> u32
-    requires live { AreLive (store_seen ⟦<Counter as Resource>⟧.shows store.old) }
+    requires live { AreLive (store_seen counter_seen store.old) }
     requires least { 1 ≤ count }
-    ensures { AreLive (store_seen ⟦<Counter as Resource>⟧.shows store.new) }
+    ensures { AreLive (store_seen counter_seen store.new) }
 {
     let mut done = 0u32;
     for at in 0..USES {
@@ -89,7 +90,7 @@ fn use_many(store: &mut StoreOf<Counter>, count: u32) -> u32
 
 // Closes a resource and opens another under its identifier, again and again, and counts how often both were done.
 fn reopen_many(store: &mut StoreOf<Counter>, count: u32) -> u32
-    requires live { AreLive (store_seen ⟦<Counter as Resource>⟧.shows store.old) }
+    requires live { AreLive (store_seen counter_seen store.old) }
     requires least { 1 ≤ count }
 {
     let mut done = 0u32;

@@ -1,11 +1,12 @@
 -- What compiling two files answers, from what compiling each of them answers over its part of the call.
-use Rattle.std.proofs.Common.{◌≡◌, ◌∙◌, ℕ, ◌≤◌, List, ◌++◌, Option, Some, Result, Ok, Err, IfOk, IfErr, refl, sym, ap, subst, inl, inr, ◌⊎◌, arith}
+use Rattle.std.proofs.Common.{◌≡◌, ◌∙◌, ℕ, ◌≤◌, List, ◌++◌, Option, Some, Result, Ok, Err, IfOk, IfErr, refl, ap, subst, inl, inr}
 use Rattle.nd_base.proofs.Rising.{rose_later}
 use Rattle.nd_base.specs.Counts.{Rose}
 use Rattle.nd_base.specs.Outside.{IsContent, IsMissing}
-use Rattle.nd_base.specs.Over.{FilesSeen, HasRisen}
+use Rattle.nd_base.specs.Over.{FilesSeen}
 use Rattle.nd_types.specs.declared.interface.Interface.{Interface}
 use Rattle.idl_compat.specs.declared.compared.Compared.{Compared}
+use Rattle.idl_compat.specs.declared.compared.Compared.TheVariants.{Differs}
 use Rattle.idl_compat.specs.Comparison.{IsCompared}
 use Rattle.command_refusals.specs.declared.refusal.CompatFault.{CompatFault}
 use Rattle.command_refusals.specs.declared.refusal.Refusal.{Refusal}
@@ -15,7 +16,7 @@ use Rattle.command_refusals.specs.declared.refusal.Refusal.TheVariants.{BadPdu, 
 use Rattle.command_compile.specs.Idl.{IsIdlFault, IsDueFile}
 use Rattle.command_compile.specs.Asked.{AsksFiles, FileNames, AreAsked}
 use Rattle.command_compile.specs.Compiled.{IsCompiled, IsIdlCause}
-use Rattle.command_compat.specs.Compat.{first_part, second_part, AreCompiled, AfterFirst, AsksBoth, IsFilesCause, IsAnswer, IsRefusal, IsDifference, IsDifferent, IsCompatible, IsCompatCause, fault_of}
+use Rattle.command_compat.specs.Compat.{first_part, second_part, AreCompiled, AsksBoth, IsFilesCause, IsAnswer, IsRefusal, IsDifference, IsCompatible, IsCompatCause, fault_of}
 
 abbrev Contents : Type 0
 Contents = Option (List ℕ → Option (List ℕ))
@@ -110,29 +111,6 @@ module _ (f g : FilesSeen) (follows : Follows f g) where
 
 -- ## Causes
 
--- a refusal of the files is one of the command
-pub files_refused : (f : FilesSeen) (old new : FileNames) (r : Refusal) → IsFilesCause f old new r → IsCompatCause f old new r
-files_refused f old new Memory cause = tt
-files_refused f old new (NotCompatible why) (inl cause) = absurd cause
-files_refused f old new (NotCompatible why) (inr a) = absurd a.rest
-files_refused f old new (Absent file) cause = cause
-files_refused f old new (FileFailed file) cause = cause
-files_refused f old new (BadIdl file line column why) cause = cause
-files_refused f old new NoOperation cause = cause
-files_refused f old new (TooLong many) cause = cause
-files_refused f old new ReadFault cause = cause
-files_refused f old new (BadOctets place why) cause = cause
-files_refused f old new (BadText line column why) cause = cause
-files_refused f old new (BadValue path why) cause = cause
-files_refused f old new (BadRequest why) cause = cause
-files_refused f old new (BadLabel why) cause = cause
-files_refused f old new ShortLabel cause = cause
-files_refused f old new (TooFewEnds wanted found) cause = cause
-files_refused f old new (EndFailed which) cause = cause
-files_refused f old new (BadPdu place why) cause = cause
-files_refused f old new (BadScript line) cause = cause
-files_refused f old new LongScript cause = cause
-
 module _ (f : FilesSeen) (old new : FileNames) (i j : Interface) (compiled : AreCompiled f old new i j) where
   compared_cause : (r : Refusal) → IsRefusal i j r → IsCompatCause f old new r
   compared_cause Memory cause = tt
@@ -163,10 +141,14 @@ module _ (f : FilesSeen) (old new : FileNames) (i j : Interface) (compiled : Are
   compared_done (Ok made) answer = record { older = i; newer = j; compiled = compiled; answer = answer }
   compared_done (Err r) answer = tt
 
+-- the refusal for a reason of the comparison
+pub answered : (i j : Interface) (c : Compared) → IsCompared i j c → (why : CompatFault) → fault_of i c ≡ Some why → IsRefusal i j (NotCompatible why)
+answered i j c h why is = (c, h, is)
+
 -- the refusal of an operation that differs
-pub difference_refused : (i j : Interface) (k : ℕ) → IsCompared i j (Compared.Differs k) → (r : Refusal) → IsDifference i k r → IsRefusal i j r
+pub difference_refused : (i j : Interface) (k : ℕ) → IsCompared i j (Differs k) → (r : Refusal) → IsDifference i k r → IsRefusal i j r
 difference_refused i j k c Memory cause = tt
-difference_refused i j k c (NotCompatible why) is = (Compared.Differs k, c, is)
+difference_refused i j k c (NotCompatible why) is = (Differs k, c, is)
 difference_refused i j k c (Absent file) cause = absurd cause
 difference_refused i j k c (FileFailed file) cause = absurd cause
 difference_refused i j k c (BadIdl file line column why) cause = absurd cause

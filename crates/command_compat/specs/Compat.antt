@@ -1,6 +1,6 @@
 -- What the comparison of two versions of an interface makes of their files, and why it is refused.
--- `f` are files over a call, `old` and `new` the names of the files of the versions, `i` and `j` the interfaces, `mid` the names that had been asked for
--- between the two.
+-- `f` are files over a call, `old` and `new` the names of the files of the versions, `i` and `j` the interfaces, `mid` the names that had been asked
+-- for between the two.
 use Rattle.std.specs.Prelude.{◌≡◌, ◌⊎◌, ℕ, List, [], ◌∷◌, length, Option, Some, None, codes, decimal, option_map, ⊤}
 use Rattle.std.specs.List.{slice_get}
 use Rattle.nd_base.specs.Over.{FilesSeen}

@@ -25,9 +25,9 @@ pub(crate) struct Versions {
     pub(crate) newer: Interface,
 }
 
-/// The line `compatible` with the number of operations of the interface of the file `old`, if the interface of the file `new` is a later version of it:
-/// by the pairs of their types, octets represent a graph that conforms to a side of an operation of the older one exactly if they represent the same
-/// graph, and it conforms, under the newer one.
+/// The line `compatible` with the number of operations of the interface of the file `old`, if that of the file `new` is a later version with the same
+/// ones. Then, by the pairs of their types, octets represent a graph that conforms to a side of an operation of the older one exactly if they
+/// represent the same graph, and it conforms, under the newer one.
 ///
 /// The file `old` is compiled with its imports and its attribute configuration file `old_acf`, as by [`compile`], and after it `new` in the same way.
 /// A file that both of them need is loaded for each.
@@ -48,11 +48,14 @@ pub fn compat<F: Files>(
     files: &mut F,
 ) -> Result<Octets, Refusal>
     ensures asked { AsksBoth (files_seen F.held F.absences F.faults F.asked files.old files.new)
-        (record { idl = old.now; acf = option_map (λ a. a.now) old_acf.entry }) (record { idl = new.now; acf = option_map (λ a. a.now) new_acf.entry }) }
+        (record { idl = old.now; acf = option_map (λ a. a.now) old_acf.entry })
+        (record { idl = new.now; acf = option_map (λ a. a.now) new_acf.entry }) }
     ensures done { IfOk result (IsCompatible (files_seen F.held F.absences F.faults F.asked files.old files.new)
-        (record { idl = old.now; acf = option_map (λ a. a.now) old_acf.entry }) (record { idl = new.now; acf = option_map (λ a. a.now) new_acf.entry })) }
+        (record { idl = old.now; acf = option_map (λ a. a.now) old_acf.entry })
+        (record { idl = new.now; acf = option_map (λ a. a.now) new_acf.entry })) }
     ensures refused { IfErr result (IsCompatCause (files_seen F.held F.absences F.faults F.asked files.old files.new)
-        (record { idl = old.now; acf = option_map (λ a. a.now) old_acf.entry }) (record { idl = new.now; acf = option_map (λ a. a.now) new_acf.entry })) }
+        (record { idl = old.now; acf = option_map (λ a. a.now) old_acf.entry })
+        (record { idl = new.now; acf = option_map (λ a. a.now) new_acf.entry })) }
 {
     let versions = compile_both(alloc, old, old_acf, new, new_acf, files)?;
     answer(alloc, &versions.older, &versions.newer)
@@ -68,12 +71,15 @@ pub(crate) fn compile_both<F: Files>(
     files: &mut F,
 ) -> Result<Versions, Refusal>
     ensures asked { AsksBoth (files_seen F.held F.absences F.faults F.asked files.old files.new)
-        (record { idl = old.now; acf = option_map (λ a. a.now) old_acf.entry }) (record { idl = new.now; acf = option_map (λ a. a.now) new_acf.entry }) }
+        (record { idl = old.now; acf = option_map (λ a. a.now) old_acf.entry })
+        (record { idl = new.now; acf = option_map (λ a. a.now) new_acf.entry }) }
     ensures compiled { IfOk result (λ v. AreCompiled (files_seen F.held F.absences F.faults F.asked files.old files.new)
-        (record { idl = old.now; acf = option_map (λ a. a.now) old_acf.entry }) (record { idl = new.now; acf = option_map (λ a. a.now) new_acf.entry })
+        (record { idl = old.now; acf = option_map (λ a. a.now) old_acf.entry })
+        (record { idl = new.now; acf = option_map (λ a. a.now) new_acf.entry })
         v.older v.newer) }
     ensures refused { IfErr result (IsFilesCause (files_seen F.held F.absences F.faults F.asked files.old files.new)
-        (record { idl = old.now; acf = option_map (λ a. a.now) old_acf.entry }) (record { idl = new.now; acf = option_map (λ a. a.now) new_acf.entry })) }
+        (record { idl = old.now; acf = option_map (λ a. a.now) old_acf.entry })
+        (record { idl = new.now; acf = option_map (λ a. a.now) new_acf.entry })) }
 {
     let older = compile(alloc, old, old_acf, files)?;
     let newer = compile(alloc, new, new_acf, files)?;

@@ -1,15 +1,14 @@
 -- What a session comes to, from what was read and how the script ran.
-use Rattle.std.proofs.Common.{◌≡◌, ℕ, ◌+◌, ◌<◌, ◌≤◌, List, [], inl, inr, length, Result, Ok, Err, MatchResult, tt, arith}
+use Rattle.std.proofs.Common.{◌≡◌, ℕ, ◌+◌, ◌<◌, ◌≤◌, List, [], inl, inr, length, Result, Ok, Err, MatchResult, arith}
 use Rattle.nd_base.specs.Over.{SourceSeen, SinkSeen, HasRisen}
 use Rattle.command_refusals.specs.declared.refusal.Refusal.{Refusal}
 use Rattle.command_refusals.specs.declared.refusal.Refusal.TheVariants.{Memory, Absent, FileFailed, BadIdl, NoOperation, ReadFault, BadOctets, BadText, BadValue, TooLong, BadRequest}
 use Rattle.command_refusals.specs.declared.refusal.Refusal.TheVariants.{BadLabel, ShortLabel, TooFewEnds, EndFailed, BadPdu, NotCompatible, BadScript, LongScript}
 use Rattle.command_streams.specs.Input.{AreRead, IsFetchCause}
 use Rattle.command_streams.specs.Delivery.{IsGiven}
-use Rattle.ctx_session.specs.declared.TheConstants.{SCRIPT_LIMIT}
 use Rattle.ctx_session.specs.Outcome.{StockSeen, IsUntouched, IsDone}
 use Rattle.ctx_session.proofs.Accounts.{accounted}
-use Rattle.command_session.specs.Session.{SessionSeen, session_over, HasSession, IsSessionDone, IsSessionCause, IsSessionRefused, IsRefusalDelivered, IsNotRun}
+use Rattle.command_session.specs.Session.{script_limit, SessionSeen, session_over, HasSession, IsSessionDone, IsSessionCause, IsSessionRefused, IsRefusalDelivered, IsNotRun}
 
 -- the causes of a session, one by one
 pub by_cause : (P : Refusal → Type 0) (s : SourceSeen) → P Memory → (HasRisen s.faults → P ReadFault) → (IsSessionCause s LongScript → P LongScript)
@@ -37,7 +36,7 @@ by_cause P s memory read long bad (NotCompatible fault) h = absurd h
 -- ## From what was read
 
 module _ (s : SourceSeen) (stock : StockSeen) where
-  x : SessionSeen
+  abbrev x : SessionSeen
   x = session_over s stock
 
   -- a fetch failed, or there was no memory
@@ -62,10 +61,10 @@ module _ (s : SourceSeen) (stock : StockSeen) where
   unread (BadScript line) h same = absurd h
   unread LongScript h same = absurd h
 
-  module _ (script : List ℕ) (read : AreRead s SCRIPT_LIMIT script) where
+  module _ (script : List ℕ) (read : AreRead s script_limit script) where
     pub done : (made : List ℕ) → IsDone script stock made → IsSessionDone x made
     done made d =
-        let few : length script < SCRIPT_LIMIT + 1 = omega (arith, d.few) in record {
+        let few : length script < script_limit + 1 = omega (arith, d.few) in record {
           script = script;
           taken = read.taken;
           whole = read.whole few;

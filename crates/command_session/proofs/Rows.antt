@@ -8,10 +8,9 @@ use Rattle.command_refusals.specs.declared.refusal.Refusal.TheVariants.{BadLabel
 use Rattle.command_refusals.specs.Lines.{status_of, line_of}
 use Rattle.command_streams.specs.Input.{AreGiven}
 use Rattle.command_streams.specs.Delivery.{IsOneOf, IsCompleted}
-use Rattle.ctx_session.specs.declared.TheConstants.{SCRIPT_LIMIT}
 use Rattle.ctx_session.specs.Script.{AreLines, IsBadLine}
 use Rattle.ctx_session.proofs.OneScript.{never_both, one_bad_line}
-use Rattle.command_session.specs.Session.{SessionSeen, HasSession, IsSessionDone, IsSessionCause, IsLong, HasBadLine}
+use Rattle.command_session.specs.Session.{script_limit, SessionSeen, HasSession, IsSessionDone, IsSessionCause, IsLong, HasBadLine}
 use Rattle.command_session.specs.Rows.{IsAnswered, IsRefusedWith, IsCutShort, IsUnreported, HasNotFailed, IsScript, IsNoScript, Refuses}
 use Rattle.command_session.proofs.Known.{all_octets, many_octets, whole_octets}
 use Rattle.command_session.proofs.Ends.{by_cause}
@@ -30,6 +29,7 @@ module _ (x : SessionSeen) (out notes : SinkSeen) (status : ℕ) where
   refused_is k (inl a) e one three five = one (sym a ∙ e)
   refused_is k (inr (inl a)) e one three five = three (sym a ∙ e)
   refused_is k (inr (inr (inl a))) e one three five = five (sym a ∙ e)
+  refused_is k (inr (inr (inr never))) e one three five = absurd never
 
   pub statuses : HasSession x out notes status → IsOneOf (0 ∷ 1 ∷ 3 ∷ 4 ∷ 5 ∷ []) status
   statuses (inl (made, d, inl (is, given, quiet))) = inl is
@@ -41,6 +41,7 @@ module _ (x : SessionSeen) (out notes : SinkSeen) (status : ℕ) where
       by (inl e) = inr (inl e)
       by (inr (inl e)) = inr (inr (inl e))
       by (inr (inr (inl e))) = inr (inr (inr (inr (inl e))))
+      by (inr (inr (inr never))) = absurd never
 
   pub answered : HasSession x out notes status → status ≡ 0 → IsAnswered x out notes
   answered (inl (made, d, inl (is, given, quiet))) e = record { made = made; done = d; given = given; quiet = quiet }
@@ -76,31 +77,31 @@ module _ (x : SessionSeen) (out notes : SinkSeen) (status : ℕ) where
 
   module _ (octets : List ℕ) (given : AreGiven x.input octets) (sound : HasRisen notes.faults → ⊥) where
     -- what was done is not longer than it may be
-    done_few : (made : List ℕ) → IsSessionDone x made → length octets ≤ SCRIPT_LIMIT
-    done_few made d = subst (λ (l : List ℕ). length l ≤ SCRIPT_LIMIT) (whole_octets x.input octets given d.script d.taken d.none_left) d.few
+    done_few : (made : List ℕ) → IsSessionDone x made → length octets ≤ script_limit
+    done_few made d = subst (λ (l : List ℕ). length l ≤ script_limit) (whole_octets x.input octets given d.script d.taken d.none_left) d.few
 
     -- what was refused as too long is
-    long_many : IsLong x.input → length octets ≤ SCRIPT_LIMIT → ⊥
+    long_many : IsLong x.input → length octets ≤ script_limit → ⊥
     long_many h few =
         let many = h.many in
-        let same = subst (λ (l : List ℕ). SCRIPT_LIMIT < length l) (all_octets x.input octets given SCRIPT_LIMIT h.octets few h.read) many in
+        let same = subst (λ (l : List ℕ). script_limit < length l) (all_octets x.input octets given script_limit h.octets few h.read) many in
         omega (arith, few, same)
 
     -- what was refused for a line is not too long, and that line is none
-    bad_few : (line : ℕ) → HasBadLine x.input line → SCRIPT_LIMIT < length octets → ⊥
+    bad_few : (line : ℕ) → HasBadLine x.input line → script_limit < length octets → ⊥
     bad_few line h many =
-        let more = many_octets x.input octets given SCRIPT_LIMIT h.octets many h.read in
+        let more = many_octets x.input octets given script_limit h.octets many h.read in
         let few = h.few in
         omega (arith, more, few)
 
-    bad_here : (line : ℕ) → HasBadLine x.input line → length octets ≤ SCRIPT_LIMIT → IsBadLine octets line
-    bad_here line h few = subst (λ (l : List ℕ). IsBadLine l line) (all_octets x.input octets given SCRIPT_LIMIT h.octets few h.read) h.bad
+    bad_here : (line : ℕ) → HasBadLine x.input line → length octets ≤ script_limit → IsBadLine octets line
+    bad_here line h few = subst (λ (l : List ℕ). IsBadLine l line) (all_octets x.input octets given script_limit h.octets few h.read) h.bad
 
     pub complete : IsScript octets → HasSession x out notes status → IsCompleted out status
-    complete (few, lines, are) (inl (made, d, inl (is, told, quiet))) = inl is
-    complete (few, lines, are) (inl (made, d, inr (is, rose, some, warned))) = inr (inr (is, rose))
-    complete (few, lines, are) (inr (r, refused, before, inr (is, rose, some))) = absurd (sound rose)
-    complete (few, lines, are) (inr (r, refused, before, inl (is, told))) =
+    complete (few, (lines, are)) (inl (made, d, inl (is, told, quiet))) = inl is
+    complete (few, (lines, are)) (inl (made, d, inr (is, rose, some, warned))) = inr (inr (is, rose))
+    complete (few, (lines, are)) (inr (r, refused, before, inr (is, rose, some))) = absurd (sound rose)
+    complete (few, (lines, are)) (inr (r, refused, before, inl (is, told))) =
         by_cause (λ q. status ≡ status_of q → IsCompleted out status) x.input (λ e. inr (inl e)) (λ rose. absurd (given.reads rose)) (λ h. absurd (long_many h few))
         (λ line h. absurd (never_both octets lines line are (bad_here line h few))) r refused.cause is
 
@@ -159,6 +160,6 @@ module _ (x : SessionSeen) (out notes : SinkSeen) (status : ℕ) where
         inl (subst (λ (u : Refusal). status ≡ status_of u) e is, subst (λ (u : Refusal). Got notes (line_of [] [] u)) e told)
 
     pub exactly : (r : Refusal) → IsNoScript octets r → HasSession x out notes status → Refuses notes status r
-    exactly r no (inl (made, d, given)) = absurd (never_done r no made d)
-    exactly r no (inr (q, refused, before, inl (is, told))) = as_refused r q (same_refusal r no q refused.cause) is told
-    exactly r no (inr (q, refused, before, inr (is, rose, some))) = absurd (sound rose)
+    exactly r fault (inl (made, d, given)) = absurd (never_done r fault made d)
+    exactly r fault (inr (q, refused, before, inl (is, told))) = as_refused r q (same_refusal r fault q refused.cause) is told
+    exactly r fault (inr (q, refused, before, inr (is, rose, some))) = absurd (sound rose)

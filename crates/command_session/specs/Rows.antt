@@ -5,10 +5,9 @@ use Rattle.command_refusals.specs.declared.refusal.Refusal.{Refusal}
 use Rattle.command_refusals.specs.declared.refusal.Refusal.TheVariants.{BadScript, LongScript}
 use Rattle.command_refusals.specs.Lines.{status_of, line_of}
 use Rattle.command_streams.specs.Delivery.{IsWarned}
-use Rattle.ctx_session.specs.declared.TheConstants.{SCRIPT_LIMIT}
 use Rattle.ctx_session.specs.Script.{Line, AreLines, IsBadLine}
 use Rattle.ctx_session.specs.Outcome.{IsUntouched}
-use Rattle.command_session.specs.Session.{SessionSeen, IsSessionDone, IsSessionRefused}
+use Rattle.command_session.specs.Session.{script_limit, SessionSeen, IsSessionDone, IsSessionRefused}
 
 -- ## What a status says
 
@@ -53,12 +52,12 @@ pub record HasNotFailed (x : SessionSeen) (out notes : SinkSeen) : Type 0 where
 
 -- these octets are a script
 abbrev pub IsScript : List ℕ → Type 0
-IsScript octets = (length octets ≤ SCRIPT_LIMIT) × ((lines : List Line) × AreLines octets lines)
+IsScript octets = (length octets ≤ script_limit) × ((lines : List Line) × AreLines octets lines)
 
 -- these octets are refused as a script in this way
 abbrev pub IsNoScript : List ℕ → Refusal → Type 0
-IsNoScript octets LongScript = SCRIPT_LIMIT < length octets
-IsNoScript octets (BadScript line) = (length octets ≤ SCRIPT_LIMIT) × IsBadLine octets line
+IsNoScript octets LongScript = script_limit < length octets
+IsNoScript octets (BadScript line) = (length octets ≤ script_limit) × IsBadLine octets line
 IsNoScript octets _ = ⊥
 
 -- a session is refused in this way, or it ran out of memory

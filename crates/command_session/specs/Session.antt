@@ -7,12 +7,15 @@ use Rattle.command_refusals.specs.declared.refusal.Refusal.TheVariants.{Memory, 
 use Rattle.command_refusals.specs.Lines.{status_of, line_of}
 use Rattle.command_streams.specs.Input.{AreRead}
 use Rattle.command_streams.specs.Delivery.{IsGiven, IsReported}
-use Rattle.ctx_session.specs.declared.TheConstants.{SCRIPT_LIMIT}
 use Rattle.ctx_session.specs.declared.answer.Answer.{Answer}
 use Rattle.ctx_session.specs.Script.{Line, AreLines, IsBadLine}
 use Rattle.ctx_session.specs.Session.{IsSession, answer_lines}
 use Rattle.ctx_session.specs.Accounts.{IsAccounted}
 use Rattle.ctx_session.specs.Outcome.{StockSeen, IsUntouched}
+
+-- the most octets of a script
+abbrev pub script_limit : ℕ
+script_limit = 1048576
 
 -- input and stock over a session
 pub record SessionSeen : Type 0 where
@@ -29,7 +32,7 @@ pub record IsSessionDone (x : SessionSeen) (made : List ℕ) : Type 0 where
   pub taken : Consumes x.input.left x.input.left_now script
   pub whole : x.input.ended ≡ true
   pub none_left : IsAtEnd x.input.left_now
-  pub few : length script ≤ SCRIPT_LIMIT
+  pub few : length script ≤ script_limit
   pub lines : List Line
   pub answers : List Answer
   pub are_lines : AreLines script lines
@@ -40,14 +43,14 @@ pub record IsSessionDone (x : SessionSeen) (made : List ℕ) : Type 0 where
 -- The input has more octets than a script may have.
 pub record IsLong (s : SourceSeen) : Type 0 where
   pub octets : List ℕ
-  pub read : AreRead s SCRIPT_LIMIT octets
-  pub many : SCRIPT_LIMIT < length octets
+  pub read : AreRead s script_limit octets
+  pub many : script_limit < length octets
 
 -- The line of this number, from 1, is the first of the input that is none.
 pub record HasBadLine (s : SourceSeen) (line : ℕ) : Type 0 where
   pub octets : List ℕ
-  pub read : AreRead s SCRIPT_LIMIT octets
-  pub few : length octets ≤ SCRIPT_LIMIT
+  pub read : AreRead s script_limit octets
+  pub few : length octets ≤ script_limit
   pub bad : IsBadLine octets line
 
 -- why a session is refused; of memory no more is said
@@ -74,8 +77,8 @@ HasSession x out notes status =
 -- why a script is not run
 abbrev pub IsRunCause : List ℕ → Refusal → Type 0
 IsRunCause script Memory = ⊤
-IsRunCause script LongScript = SCRIPT_LIMIT < length script
-IsRunCause script (BadScript line) = (length script ≤ SCRIPT_LIMIT) × IsBadLine script line
+IsRunCause script LongScript = script_limit < length script
+IsRunCause script (BadScript line) = (length script ≤ script_limit) × IsBadLine script line
 IsRunCause script _ = ⊥
 
 -- A script was not run, for a cause, and the stock is as before.

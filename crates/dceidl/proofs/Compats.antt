@@ -1,6 +1,6 @@
 -- What `compat` answers, from what its files mean: its statuses, the files that are due, and what must come where no load fails.
 use Rattle.std.proofs.Common.{◌≡◌, ◌∙◌, ℕ, List, [], ◌∷◌, Option, Some, None, refl, sym, ap, ap₂, subst, inl, inr, ◌⊎◌}
-use Rattle.nd_base.specs.Outside.{IsContent, IsMissing}
+use Rattle.nd_base.specs.Outside.{IsMissing}
 use Rattle.nd_base.specs.Over.{FilesSeen, HasRisen}
 use Rattle.nd_types.specs.declared.interface.Interface.{Interface}
 use Rattle.idl_compat.specs.declared.pairs.TypePair.{TypePair}
@@ -97,6 +97,24 @@ pub compat_absent : (f : FilesSeen) (old new : FileNames) (r : Refusal) → IsCo
 compat_absent f old new (Absent file) (inl (rose, due, missing)) e = (rose, (file, refl, inl due, missing))
 compat_absent f old new (Absent file) (inr a) e =
     let (rose, due, missing) = a.rest in (rose, (file, refl, inr (due_second f old new a.mid a.interface file a.first due), missing))
+compat_absent f old new Memory cause e = cc
+compat_absent f old new (FileFailed file) cause e = cc
+compat_absent f old new (BadIdl file line column why) cause e = cc
+compat_absent f old new NoOperation cause e = cc
+compat_absent f old new ReadFault cause e = cc
+compat_absent f old new (BadOctets place why) cause e = cc
+compat_absent f old new (BadText line column why) cause e = cc
+compat_absent f old new (BadValue path why) cause e = cc
+compat_absent f old new (TooLong many) cause e = cc
+compat_absent f old new (BadRequest why) cause e = cc
+compat_absent f old new (BadLabel why) cause e = cc
+compat_absent f old new ShortLabel cause e = cc
+compat_absent f old new (TooFewEnds wanted found) cause e = cc
+compat_absent f old new (EndFailed which) cause e = cc
+compat_absent f old new (BadPdu place why) cause e = cc
+compat_absent f old new (NotCompatible why) cause e = cc
+compat_absent f old new (BadScript line) cause e = cc
+compat_absent f old new LongScript cause e = cc
 
 -- a file that was not read is due
 pub compat_failed : (f : FilesSeen) (old new : FileNames) (r : Refusal) → IsCompatCause f old new r → status_of r ≡ 9
@@ -104,6 +122,24 @@ pub compat_failed : (f : FilesSeen) (old new : FileNames) (r : Refusal) → IsCo
 compat_failed f old new (FileFailed file) (inl (rose, due)) e = (rose, (file, refl, inl due))
 compat_failed f old new (FileFailed file) (inr a) e =
     let (rose, due) = a.rest in (rose, (file, refl, inr (due_second f old new a.mid a.interface file a.first due)))
+compat_failed f old new Memory cause e = cc
+compat_failed f old new (Absent file) cause e = cc
+compat_failed f old new (BadIdl file line column why) cause e = cc
+compat_failed f old new NoOperation cause e = cc
+compat_failed f old new ReadFault cause e = cc
+compat_failed f old new (BadOctets place why) cause e = cc
+compat_failed f old new (BadText line column why) cause e = cc
+compat_failed f old new (BadValue path why) cause e = cc
+compat_failed f old new (TooLong many) cause e = cc
+compat_failed f old new (BadRequest why) cause e = cc
+compat_failed f old new (BadLabel why) cause e = cc
+compat_failed f old new ShortLabel cause e = cc
+compat_failed f old new (TooFewEnds wanted found) cause e = cc
+compat_failed f old new (EndFailed which) cause e = cc
+compat_failed f old new (BadPdu place why) cause e = cc
+compat_failed f old new (NotCompatible why) cause e = cc
+compat_failed f old new (BadScript line) cause e = cc
+compat_failed f old new LongScript cause e = cc
 
 -- ## Where no load fails
 
@@ -271,9 +307,9 @@ module _ (f : FilesSeen) (old new : FileNames) where
         never made m =
             let older : m.older ≡ i = compiled_is f (first_part f m.compiled.mid) refl old i m.older h.first m.compiled.first in
             let newer : m.newer ≡ j = compiled_is f (second_part f m.compiled.mid) refl new j m.newer h.second m.compiled.second in
-            let ((pairs, yes), is) = m.answer in
+            let ((pairs, alike), is) = m.answer in
             no_reason i j why different pairs
-            (subst (λ (k : Interface). IsCompared i k (compared.Yes pairs)) newer (subst (λ (k : Interface). IsCompared k m.newer (compared.Yes pairs)) older yes))
+            (subst (λ (k : Interface). IsCompared i k (compared.Yes pairs)) newer (subst (λ (k : Interface). IsCompared k m.newer (compared.Yes pairs)) older alike))
 
     pub compat_settled : (r : Refusal) → MustBeIncomparable f old new r → IsSettled r
     compat_settled Memory must = absurd must

@@ -109,8 +109,8 @@ pub fn encode_undoes_decode()
         → Chosen (setting_beside i o s q) order chunk d.graph octets → made ≡ octets }
 {}
 
-/// What `wrap` writes is what `call` reads: the fragments of one call, with the order and the call id that it was given, the operation of the interface,
-/// and as stub data the octets that were encoded; and what `call` writes of it is the call id and what `migrate` writes of the text.
+/// What `wrap` writes is what `call` reads: the fragments of one call, with the order and the call id that it was given, the operation of the
+/// interface, and as stub data the octets that were encoded; and what `call` writes of it is the call id and what `migrate` writes of the text.
 pub fn call_undoes_wrap()
     ensures is_call { (f : FilesSeen) (s : SourceSeen) (of : Subject) (order : Order) (call max : ℕ) (made : List ℕ)
         → call < 2 ^ 32 → LEAST_MAX ≤ max → max < 2 ^ 16 → (h : IsWrapped f s of order call max made)

@@ -32,8 +32,10 @@ usage: dceidl compile IDL ACF
        dceidl migrate IDL ACF OP SIDE
        dceidl call IDL ACF OP
        dceidl wrap IDL ACF OP SIDE ORDER CALL MAX
+       dceidl compat OLD OLDACF NEW NEWACF
        dceidl session
        dceidl sample SEED COUNT
+       dceidl why [WORD ..]
        dceidl --help
        dceidl --version
 
@@ -56,18 +58,24 @@ migrate  reads such a text, in either version, and writes it as `decode` does.
 call     reads the PDUs of one request (OP `-`) or of one response to OP (C706,
          chapter 12), joins their stub data, and writes the call id and then the
          values as `decode` does. A request states its operation.
-wrap     reads such a text, and writes the PDUs of a request or response with its
-         values, at most MAX octets each, with the call id CALL.
+wrap     reads such a text, and writes the PDUs of a request or response with
+         its values, at most MAX octets each, with the call id CALL.
+compat   compares two versions of an interface, and writes how many operations
+         the file OLD has if each of them has the same octets for the same
+         values in the file NEW.
 session  reads a script of lines, `open CLIENT UUID`, `use UUID TEXT`,
          `close UUID` and `down CLIENT`, and does what they say with the files
-         res0.out to res7.out of the current folder: opens the next one under the
-         UUID of a context handle, appends a line to it, ends it, ends all of a
-         client. It writes a line for each, and ends what is open.
+         res0.out to res7.out of the current folder: opens the next one under
+         the UUID of a context handle, appends a line to it, ends it, ends all
+         of a client. It writes a line for each, and ends what is open.
 sample   makes a graph of COUNT cells from SEED, encodes and decodes it, and
          writes a summary. Without words it is `sample 1 2`.
+why      writes what a word of an error's line means, with an example and what to
+         do, as for `why Rule 30` or `why status 5`. Without words it lists all.
 
 IDL      the path of a file of IDL
 ACF      the path of an attribute configuration file, or `-` for none
+OLD, NEW the paths of two files of IDL; OLDACF and NEWACF are as ACF
 OP       the name of an operation
 SIDE     `in` for the [in] parameters, `out` for the [out] parameters and the
          result
@@ -86,8 +94,8 @@ Input is read from standard input, and output is written to standard output. An
 error is one line on standard error. The exit status is
 
 0  success
-1  bad octets, PDUs, text, script or values, or too many octets to write or
-   pipes to drain
+1  bad octets, PDUs, text, script or values, too many octets to write or
+   pipes to drain, or versions that are not compatible
 2  bad command line
 3  input error
 4  output error
@@ -102,6 +110,8 @@ Examples:
   dceidl compile examples/shop.idl examples/shop.acf
   dceidl decode examples/add.idl - add in little < examples/add-1-2-3.octets
   dceidl encode examples/add.idl - add in little 1 < examples/add-1-2-3.text
+
+dceidl why WORD explains a refusal
 ";
 
 /// What `--version` prints.

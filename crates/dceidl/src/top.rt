@@ -42,8 +42,8 @@ pub(crate) const WORDS_REFUSED: Status = 2;
 /// state their order. `encode` and `migrate` read such a text to its end, or to one octet past its limit, [`TEXT_LIMIT`](value_text::TEXT_LIMIT)
 /// octets. `encode` writes the octets of its values, at most [`STREAM_LIMIT`](nd_base::STREAM_LIMIT), after a label if one is asked for, and
 /// `migrate` writes it as it is printed. `call` reads the fragments of a request or response (C706, section 12.6), and writes the call id and the
-/// values of their stub data; `wrap` reads a text and writes such fragments. `compat` compares the interfaces of two files. `why` writes what words
-/// of a refusal mean.
+/// values of their stub data; `wrap` reads a text and writes such fragments. `compat` compares the interfaces of two files, the second of which is
+/// loaded once the first means an interface; a file that both need is loaded for each. `why` writes what words of a refusal mean.
 ///
 /// Nothing is requested before it is needed, and no file more than once: no file for an invalid command line, `--help` or
 /// `--version`, an import when its declaration is reached, the attribute configuration file when all names are resolved (it is loaded

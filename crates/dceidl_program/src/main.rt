@@ -12,7 +12,7 @@ use ctx_session::Stock;
 use ctx_store::{FileResource, Resource};
 use dceidl::{Status, Words, run_with};
 use nd_base::{FolderFiles, Memory, OutputSink};
-use nd_blocks::{BLOCK, BlockSource, StandardInput};
+use nd_blocks::StandardInput;
 use ndr_pipe::{FileEnd, PipeEnd, PipeEnds};
 use std::env;
 use std::io::ErrorKind;
@@ -50,17 +50,17 @@ fn start(rt: HostRuntime) -> Result<Status, Memory> {
 }
 
 // A run over the real streams and files. At the end, whatever the status, the position of a file that is standard input is moved back to where the
-// octets that were taken end.
+// octets that were taken end: `StandardInput` does that when it is dropped.
 fn run_over(rt: &HostRuntime, ends: &mut PipeEnds, stock: &mut Stock) -> Result<Status, Memory>
     requires open { AreOpen (ends_seen seen ends.old) }
     requires fresh { AreFresh (fresh_seen shows stock.old) }
 {
     let words = words_of(rt)?;
     let mut files = FolderFiles::new(rt);
-    let mut input = input_of(rt)?;
+    let mut input = StandardInput::new(rt.stdin());
     let mut out = OutputSink::new(rt.stdout());
     let mut notes = OutputSink::new(rt.stderr());
-    let status = run_with(
+    Ok(run_with(
         rt.alloc(),
         &words,
         &mut files,
@@ -69,16 +69,7 @@ fn run_over(rt: &HostRuntime, ends: &mut PipeEnds, stock: &mut Stock) -> Result<
         &mut notes,
         ends,
         stock,
-    );
-    let _moved = input.settle();
-    Ok(status)
-}
-
-// Standard input. If it is a file, it is read in blocks; from a pipe or a terminal no more is taken than is asked for.
-fn input_of(rt: &HostRuntime) -> Result<BlockSource<StandardInput>, Memory> {
-    let reader = StandardInput::new(rt.stdin());
-    let block = if reader.has_position() { BLOCK } else { 0 };
-    BlockSource::new(rt.alloc(), reader, block)
+    ))
 }
 
 // An end that is the file of this name. The file is made when the end first writes to it.

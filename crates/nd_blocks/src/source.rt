@@ -1,72 +1,75 @@
-// A reader as a source that reads in blocks.
-ghost use Rattle.std.specs.Prelude.{◌≡◌, [], false, IfOk, IfErr, OnOk};
-ghost use Rattle.std.specs.Io.Seek.{StaysAt};
-ghost use Rattle.nd_blocks.specs.Blocks.{ahead_of, reader_of, position_of};
+// Standard input as a source. What the operating system does is trusted: its streams show nothing.
+ghost use Rattle.std.specs.Prelude.{◌≡◌, ◌≤◌, None, false, length, IfOk};
 
-use nd_base::{Memory, ReadFailed, Source};
-use std::alloc::Global;
-use std::io::{BufRead, BufReader, Read, Seek, SeekFrom};
+use nd_base::{ReadFailed, Source};
+use std::io;
+use std::io::{BufRead, Read, StdinLock};
+use std::rt::Stdin;
 
-/// A stream that is read in blocks. When it is asked for octets and has none at hand it reads as many as a block has; those that were not asked
-/// for are at hand until they are. With blocks of no octets it reads what it is asked for and no more. It shows the octets at hand and then what its
-/// reader has left, where the reader shows it, and nothing once the end was met. It fails where its reader does, at an interruption too.
+/// Standard input as a source. If the system can move its position, as that of a file, it is read in blocks of 4,096 octets, and the octets of a block
+/// that were not fetched are at hand; when the source is dropped, the position is moved back to where the octets that were fetched end. From a pipe or
+/// a terminal it takes no more than it is asked for. It shows nothing of what it has left, and fails where the system does, at an interruption too.
 #[derive(Drop)]
-pub struct BlockSource<R: Read + Drop> {
-    reader: BufReader<R>,
+pub struct StandardInput {
+    lock: StdinLock<'static>,
+    // whether it is read in blocks: until a block was of one octet, as each block of a pipe is
+    blocks: bool,
+    // how many octets of the last block were not fetched
+    ahead: usize,
     ended: bool,
     faults: u64,
 }
 
-impl<R: Read + Drop> BlockSource<R> {
-    /// A source over this reader, with blocks of so many octets. Takes memory for a block; out of memory is the only error.
-    pub fn new(alloc: Global, reader: R, block: usize) -> Result<BlockSource<R>, Memory>
-        ensures reader { IfOk result (λ s. reader_of s ≡ reader) }
-        ensures ahead { IfOk result (λ s. ahead_of s ≡ []) }
-        ensures faults { IfOk result (λ s. ⟦<BlockSource<R> as Source>⟧.faults s ≡ 0) }
-        ensures ended { IfOk result (λ s. ⟦<BlockSource<R> as Source>⟧.ended s ≡ false) }
+impl StandardInput {
+    /// The standard input of the runtime. Takes no memory.
+    pub fn new(stdin: Stdin) -> StandardInput
+        ensures faults { ⟦<StandardInput as Source>⟧.faults result ≡ 0 }
+        ensures ended { ⟦<StandardInput as Source>⟧.ended result ≡ false }
     {
-        match BufReader::with_capacity(alloc, block, reader) {
-            Ok(reader) => Ok(BlockSource {
-                reader,
-                ended: false,
-                faults: 0,
-            }),
-            Err(_) => Err(Memory),
+        StandardInput {
+            lock: stdin.lock(),
+            blocks: true,
+            ahead: 0,
+            ended: false,
+            faults: 0,
         }
+    }
+
+    // Moves the first octets of the block to the front of a buffer, of a new block where none is left of the last one, and says how many.
+    fn take(&mut self, buf: &mut [u8]) -> io::Result<usize>
+        ensures bound { IfOk result (λ count. count ≤ length buf.new) }
+        ensures wide { length buf.new ≡ length buf.old }
+        ensures ended { self.new.ended ≡ self.old.ended }
+        ensures faults { self.new.faults ≡ self.old.faults }
+    {
+        if !self.blocks {
+            return self.lock.read(buf);
+        }
+        let octets = self.lock.fill_buf()?;
+        let all = octets.len();
+        let count = all.min(buf.len());
+        buf[..count].copy_from_slice(&octets[..count]);
+        self.lock.consume(count);
+        self.blocks = all > 1;
+        self.ahead = all - count;
+        Ok(count)
     }
 }
 
-impl<R: Read + Seek + Drop> BlockSource<R> {
-    /// Moves the reader's position back to where the octets that were fetched end, and lets go of those at hand. Takes no memory. The error says
-    /// only that the position could not be moved.
-    pub fn settle(&mut self) -> Result<(), ReadFailed>
-        ensures position { OnOk result (StaysAt (position_of R.stream_position self.old) (position_of R.stream_position self.new)) }
-        ensures ahead { OnOk result (ahead_of self.new ≡ []) }
-    {
-        match self.reader.seek(SeekFrom::Current(0)) {
-            Ok(_) => Ok(()),
-            Err(_) => Err(ReadFailed),
-        }
-    }
-}
-
-impl<R: Read + Drop> Source for BlockSource<R> {
-    ghost use Rattle.nd_blocks.specs.Blocks.{left_of};
-
-    ghost left = { left_of R.remaining };
+impl Source for StandardInput {
+    ghost left = { λ _. None };
 
     ghost ended = { λ s. s.ended };
 
     ghost faults = { λ s. s.faults };
 
-    #[inline(always)]
     fn fetch(&mut self, buf: &mut [u8]) -> Result<usize, ReadFailed> {
-        if self.ended {
+        if self.ended || buf.is_empty() {
             return Ok(0);
         }
-        match self.reader.read(buf) {
+        match self.take(buf) {
             Ok(count) => {
-                self.ended = count == 0 && !buf.is_empty();
+                self.ended = count == 0;
                 Ok(count)
             }
             Err(_) => {
@@ -76,21 +79,25 @@ impl<R: Read + Drop> Source for BlockSource<R> {
         }
     }
 
-    #[tactic(auto, using(crate::proofs::Given::given))]
     #[inline(always)]
     fn fill(&mut self, buf: &mut [u8]) -> bool {
-        let octets = self.reader.buffer();
         let count = buf.len();
-        if self.ended || octets.len() < count {
+        if count == 0 || self.ahead < count {
+            return false;
+        }
+        let Ok(octets) = self.lock.fill_buf() else {
+            return false;
+        };
+        if octets.len() < count {
             return false;
         }
         buf.copy_from_slice(&octets[..count]);
-        self.reader.consume(count);
+        self.lock.consume(count);
+        self.ahead -= count;
         true
     }
 
-    #[inline(always)]
     fn ahead(&self) -> usize {
-        self.reader.buffer().len()
+        self.ahead
     }
 }

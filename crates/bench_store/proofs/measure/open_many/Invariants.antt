@@ -1,7 +1,8 @@
 use Rattle.std.proofs.Common.{◌+◌, ◌≤◌}
 use Rattle.ctx_store.specs.Live.{AreLive}
 use Rattle.ctx_store.specs.Seen.{store_seen, store_spare}
+use Rattle.bench_store.specs.Counter.{counter_seen}
 use Rattle.bench_store.proofs.measure.open_many.Given as goal
 
 abbrev pub invariant-loop-at : goal.invariant-loop-at
-invariant-loop-at l = AreLive (store_seen (λ r. record { lines = None; ended = r.ended; faults = 0 }) l.store) × (l.fn.count ≤ store_spare l.store + l.at)
+invariant-loop-at l = AreLive (store_seen counter_seen l.store) × (l.fn.count ≤ store_spare l.store + l.at)

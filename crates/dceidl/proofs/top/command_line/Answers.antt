@@ -6,6 +6,11 @@ use Rattle.command_refusals.specs.Lines.{line_of}
 use Rattle.command_line.specs.declared.command.Command as words
 use Rattle.dceidl.proofs.top.command_line.Goals as goal
 
+pub returns-in-Compat : goal.returns-in-Compat
+returns-in-Compat c =
+    let P : words.Command → Type 0 = λ k. IfOk c.line-in-Compat.result (λ l. l ≡ line_of (idl_of (command_of k)) (op_of (command_of k)) c.args.refusal.now) in
+    subst P (sym c.in-Compat.is) c.line-in-Compat.ensures
+
 pub returns-in-Help : goal.returns-in-Help
 returns-in-Help c =
     let P : words.Command → Type 0 = λ k. IfOk c.line-in-Help.result (λ l. l ≡ line_of (idl_of (command_of k)) (op_of (command_of k)) c.args.refusal.now) in
