@@ -20,7 +20,7 @@ pub struct StandardInput {
     // the block of the older lock comes first; each lock holds what of its block was not fetched, and gives it back when it is dropped
     older: StdinLock<'static>,
     newer: StdinLock<'static>,
-    // the octets at hand, from `start` to `end`, of which so many are the older block's
+    // the octets at hand are those from `start` to `end`, of which `first` are the older block's
     buffer: Vec<u8>,
     start: usize,
     end: usize,
@@ -62,10 +62,7 @@ impl StandardInput {
         ensures faults { self.new.faults ≡ self.old.faults }
     {
         self.begun = true;
-        if self.first == 0 {
-            mem::swap(&mut self.older, &mut self.newer);
-            self.first = self.end - self.start;
-        }
+        self.turn();
         if self.first < self.end - self.start {
             return Ok(());
         }
@@ -76,6 +73,17 @@ impl StandardInput {
         self.end += count;
         self.blocks = count > 1;
         Ok(())
+    }
+
+    // If the older block was fetched whole, the newer one takes its place.
+    fn turn(&mut self)
+        ensures ended { self.new.ended ≡ self.old.ended }
+        ensures faults { self.new.faults ≡ self.old.faults }
+    {
+        if self.first == 0 {
+            mem::swap(&mut self.older, &mut self.newer);
+            self.first = self.end - self.start;
+        }
     }
 
     // Moves the octets at hand to the front of the buffer.
@@ -115,13 +123,33 @@ impl StandardInput {
         ensures ended { self.new.ended ≡ self.old.ended }
         ensures faults { self.new.faults ≡ self.old.faults }
     {
-        if self.end == self.start {
-            if self.begun && !self.blocks {
-                return self.newer.read(buf);
-            }
-            self.read_block()?;
+        if self.begun && !self.blocks && self.end == self.start {
+            return self.newer.read(buf);
         }
+        self.see_to_some()?;
         Ok(self.give(buf))
+    }
+
+    // Reads a block if no octets are at hand.
+    fn see_to_some(&mut self) -> io::Result<()>
+        ensures ended { self.new.ended ≡ self.old.ended }
+        ensures faults { self.new.faults ≡ self.old.faults }
+    {
+        if self.start < self.end {
+            return Ok(());
+        }
+        self.read_block()
+    }
+
+    // Reads a block if fewer octets are at hand and it is read in blocks. That this fails is left to a later `fetch`.
+    #[inline(always)]
+    fn see_to(&mut self, count: usize)
+        ensures ended { self.new.ended ≡ self.old.ended }
+        ensures faults { self.new.faults ≡ self.old.faults }
+    {
+        if self.end - self.start < count && self.blocks {
+            let _read = self.read_block();
+        }
     }
 }
 
@@ -148,12 +176,10 @@ impl Source for StandardInput {
         }
     }
 
-    /// If too few octets are at hand and it is read in blocks, it reads one more. That this fails is left to a later `fetch`.
+    /// If fewer octets are at hand and it is read in blocks, a block is read first.
     #[inline(always)]
     fn fill(&mut self, buf: &mut [u8]) -> bool {
-        if self.end - self.start < buf.len() && self.blocks {
-            let _read = self.read_block();
-        }
+        self.see_to(buf.len());
         if self.end - self.start < buf.len() {
             return false;
         }
