@@ -1,0 +1,1 @@
+while sleep 5; do for p in $(pgrep -f 'rt ci'); do [ "$(ps -o ni= -p $p | tr -d ' ')" = "-15" ] || renice -n -15 -p $p >/dev/null 2>&1; for t in /proc/$p/task/*; do renice -n -15 -p $(basename $t) >/dev/null 2>&1; done; done; done
