@@ -185,7 +185,7 @@ pub(crate) const EXPLAIN: Command = Command {
 };
 
 // The same values in the two fragments of a request.
-pub(crate) const CALL: Command = Command {
+pub(crate) const CALL_REQUEST: Command = Command {
     name: "call",
     words: &["call", "dir.idl", "dir.acf", "-"],
     input: b"\x05\0\0\x01\x10\0\0\0\x40\0\0\0\x07\0\0\0\x5a\0\0\0\0\0\x01\0\

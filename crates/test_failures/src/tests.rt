@@ -1,6 +1,6 @@
 // Each call fails in turn, until a run makes no such call.
 use crate::commands::{
-    CALL, COMPILE, Call, Command, DECODE, DECODE_CUT, DECODE_RESPONSE, DRAIN, DRAIN_CUT,
+    CALL_REQUEST, COMPILE, Call, Command, DECODE, DECODE_CUT, DECODE_RESPONSE, DRAIN, DRAIN_CUT,
     DRAIN_RESPONSE, DRAIN_TRAILING, DRAIN_TWO, ENCODE, ENCODE_REFUSED, ENCODE_RESPONSE, EXPLAIN,
     EXPLAIN_RESPONSE, NO_COMMAND, NO_WORDS, WRAP,
 };
@@ -35,7 +35,7 @@ fn command(number: u32) -> Command {
         11 => ENCODE_RESPONSE,
         12 => EXPLAIN_RESPONSE,
         13 => DRAIN_RESPONSE,
-        14 => CALL,
+        14 => CALL_REQUEST,
         15 => WRAP,
         16 => NO_COMMAND,
         _ => NO_WORDS,
