@@ -30,7 +30,7 @@ fn files_of(alloc: Global, newer: &[u8], fails: &[u32]) -> Result<MemFiles, Memo
 fn is_compatible(alloc: Global, newer: &[u8]) -> Result<bool, Memory> {
     let mut files = files_of(alloc, newer, &[])?;
     match compat(alloc, "old.idl", None, "new.idl", None, &mut files) {
-        Ok(line) => Ok(line.as_slice() == b"compatible 1\n"),
+        Ok(line) => Ok(line.as_slice() == b"compatible 1\n".as_slice()),
         Err(_) => Ok(false),
     }
 }
@@ -39,7 +39,9 @@ fn is_compatible(alloc: Global, newer: &[u8]) -> Result<bool, Memory> {
 fn differs(alloc: Global, newer: &[u8]) -> Result<bool, Memory> {
     let mut files = files_of(alloc, newer, &[])?;
     match compat(alloc, "old.idl", None, "new.idl", None, &mut files) {
-        Err(Refusal::NotCompatible(CompatFault::Differs { name })) => Ok(name.as_slice() == b"f"),
+        Err(Refusal::NotCompatible(CompatFault::Differs { name })) => Ok(
+            name.as_slice() == b"f".as_slice(),
+        ),
         _ => Ok(false),
     }
 }

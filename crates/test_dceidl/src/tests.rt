@@ -57,7 +57,7 @@ const DECODED: Case = Case {
     failing_fetches: &[],
     failing_puts: &[],
     failing_notes: &[],
-    room: 4000,
+    room: 8000,
     status: 0,
     out: b"values 2\nop add in\na = 1\nb = 2\nc = 3\n",
     notes: "",
