@@ -51,6 +51,7 @@ pub(crate) fn refuse(alloc: Global, fault: &mut Handle, refusal: Refusal) -> u32
     ensures known { result ≤ ABSENT }
     ensures not_empty { result ≡ EMPTY → ⊥ }
     ensures not_argument { result ≡ ARGUMENT → ⊥ }
+    ensures not_short { result ≡ SHORT → ⊥ }
     ensures not_ok { result ≡ OK → ⊥ }
     ensures reason { result ≡ REFUSED → refusal ≡ Memory → ⊥ }
     ensures refused { result ≡ REFUSED → fault.new.value ≡ Some (kept.Refusal refusal) }

@@ -2,7 +2,7 @@
 ghost use Rattle.std.specs.Prelude.{◌≡◌, ◌≤◌, ◌<◌, [], length, take, None, IsSomeAnd};
 ghost use Rattle.command_refusals.specs.Lines.{line_of};
 ghost use Rattle.dceidl_c.specs.Answers.{refusal_in};
-ghost use Rattle.dceidl_c.specs.Places.{place_of, line_number_of, column_of};
+ghost use Rattle.dceidl_c.specs.Places.{kind_of, place_of, line_number_of, column_of};
 
 use crate::answers::{ABSENT, EMPTY, MEMORY, OK, SHORT, lay_out};
 use crate::interfaces::free;
@@ -51,17 +51,19 @@ fn write_line(alloc: Global, refusal: &Refusal, out: &mut [u8], len: &mut usize)
     }
 }
 
-/// Where a fault is.
+/// What is refused, and where.
 #[unsafe(no_mangle)]
 pub extern "C" fn dceidl_fault_place(
     alloc: Global,
     fault: &mut Handle,
+    kind: &mut u32,
     place: &mut u64,
     line: &mut u64,
     column: &mut u64,
 ) -> u32
     ensures known { result ≤ ABSENT }
     ensures same { fault.new.value ≡ fault.old.value }
+    ensures kind { result ≡ OK → IsSomeAnd (refusal_in fault.old.value) (λ r. kind.new ≡ kind_of r) }
     ensures place { result ≡ OK → IsSomeAnd (refusal_in fault.old.value)
         (λ r. (place.new ≡ place_of r) × (line.new ≡ line_number_of r) × (column.new ≡ column_of r)) }
     ensures empty { result ≡ EMPTY → refusal_in fault.old.value ≡ None }
@@ -72,6 +74,7 @@ pub extern "C" fn dceidl_fault_place(
     let status = match &*held {
         Held::Refusal(refusal) => {
             let (at, at_line, at_column) = place_in(refusal);
+            *kind = kind_in(refusal);
             *place = at;
             *line = at_line;
             *column = at_column;
@@ -81,6 +84,33 @@ pub extern "C" fn dceidl_fault_place(
     };
     fault.put(alloc, held);
     status
+}
+
+// The number of the kind of a refusal; 0 for one that no call answers.
+fn kind_in(refusal: &Refusal) -> u32
+    ensures { result ≡ kind_of refusal.now }
+{
+    match refusal {
+        Refusal::Absent { .. } => 1,
+        Refusal::BadIdl { .. } => 2,
+        Refusal::BadOctets { .. } => 3,
+        Refusal::BadText { .. } => 4,
+        Refusal::BadValue { .. } => 5,
+        Refusal::TooLong { .. } => 6,
+        Refusal::Memory
+        | Refusal::FileFailed { .. }
+        | Refusal::NoOperation
+        | Refusal::ReadFault
+        | Refusal::BadRequest(_)
+        | Refusal::BadLabel(_)
+        | Refusal::ShortLabel
+        | Refusal::TooFewEnds { .. }
+        | Refusal::EndFailed { .. }
+        | Refusal::BadPdu { .. }
+        | Refusal::NotCompatible(_)
+        | Refusal::BadScript { .. }
+        | Refusal::LongScript => 0,
+    }
 }
 
 // The place, the line and the column of a refusal; 0 for what it does not have.

@@ -91,12 +91,7 @@ fn decode(
 }
 
 // Fills a handle with values, and says how many octets they took.
-fn fill_taken(
-    alloc: Global,
-    made: (Values, u32),
-    values: &mut Handle,
-    taken: &mut usize,
-) -> u32
+fn fill_taken(alloc: Global, made: (Values, u32), values: &mut Handle, taken: &mut usize) -> u32
     ensures known { result ≤ ABSENT }
     ensures not_empty { result ≡ EMPTY → ⊥ }
     ensures not_argument { result ≡ ARGUMENT → ⊥ }
@@ -213,9 +208,7 @@ pub extern "C" fn dceidl_read(
         return EMPTY;
     };
     let status = match &*held {
-        Held::Interface(compiled) => {
-            read(alloc, compiled, operation, side, text, values, fault)
-        }
+        Held::Interface(compiled) => { read(alloc, compiled, operation, side, text, values, fault) }
         _ => EMPTY,
     };
     interface.put(alloc, held);
@@ -236,7 +229,8 @@ fn read(
     ensures known { result ≤ ABSENT }
     ensures not_empty { result ≡ EMPTY → ⊥ }
     ensures read { result ≡ OK → IsSomeAnd (values_in values.new.value) (λ v. IsRead (arc_value compiled.now) operation side text.now v) }
-    ensures refused { result ≡ REFUSED → IsSomeAnd (refusal_in fault.new.value) (λ e. IsReadRefusal (arc_value compiled.now) operation side text.now e) }
+    ensures refused { result ≡ REFUSED → IsSomeAnd (refusal_in fault.new.value)
+        (λ e. IsReadRefusal (arc_value compiled.now) operation side text.now e) }
     ensures argument { result ≡ ARGUMENT → is_side (arc_value compiled.now) operation side ≡ false }
     ensures values_kept { (result ≡ OK → ⊥) → values.new.value ≡ values.old.value }
     ensures fault_kept { (result ≡ REFUSED → ⊥) → fault.new.value ≡ fault.old.value }

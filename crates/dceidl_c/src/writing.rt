@@ -106,9 +106,7 @@ pub extern "C" fn dceidl_encode(
         return EMPTY;
     };
     let status = match &*held {
-        Held::Values(held_values) => {
-            encode(alloc, held_values, order, chunk, out, len, fault)
-        }
+        Held::Values(held_values) => { encode(alloc, held_values, order, chunk, out, len, fault) }
         _ => EMPTY,
     };
     values.put(alloc, held);

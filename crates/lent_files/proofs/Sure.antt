@@ -1,5 +1,6 @@
 -- Files that are added, and loads, none of which is to fail.
-use Rattle.std.proofs.Common.{◌≡◌, ◌∙◌, ℕ, zero, suc, ◌+◌, List, [], ◌∷◌, ◌↔◌, arith, drop, Option, None, Some, option_map, Result, Ok, Err, IsErrOf, IsErrAnd, IsTrue, IsUtf8, refl, ap, ap₂, sym, subst}
+use Rattle.std.proofs.Common.{◌≡◌, ◌∙◌, ℕ, zero, suc, ◌+◌, List, [], ◌∷◌, ◌↔◌, arith, drop}
+use Rattle.std.proofs.Common.{Option, None, Some, option_map, Result, Ok, Err, IsErrOf, IsErrAnd, IsTrue, IsUtf8, refl, ap, ap₂, sym, subst}
 use Rattle.std.proofs.lemmas.Option.{same_Some}
 use Rattle.std.specs.List.{slice_get}
 use Rattle.nd_base.specs.Calls.{failing_calls, fails_next, CallMade}

@@ -1,8 +1,10 @@
 // Handles.
 ghost use Rattle.std.specs.Prelude.{◌≡◌, ℕ};
+ghost use Rattle.std.specs.Coded.{coded_option};
 ghost use Rattle.std.specs.Option.{MatchOption};
 ghost use Rattle.std.specs.declared.option.Option.{Option};
 ghost use Rattle.std.specs.declared.option.Option.TheVariants.{None, Some};
+ghost use Rattle.library_handles.specs.contracts.held.Held.{the_row as held_row};
 ghost use Rattle.library_handles.specs.declared.held.Held.{Held as HeldValue};
 ghost use Rattle.library_handles.specs.Owned.{handle_owns};
 
@@ -18,7 +20,7 @@ use std::ptr::null_mut;
 pub struct Handle {
     at: *mut u8,
     full: usize,
-    pub ghost value: { Option HeldValue },
+    pub ghost value: { Option HeldValue } by { coded_option held_row.coded },
 }
 
 impl Model for Handle {

@@ -16,7 +16,7 @@ use Rattle.ndr_decoder_state.specs.declared.fault.DecodeFault.TheVariants as fau
 use Rattle.library_values.specs.Decoded.{IsDecodedOf}
 
 -- what follows the octets that were taken
-rest_of : Option (List ℕ) → List ℕ
+abbrev rest_of : Option (List ℕ) → List ℕ
 rest_of None = []
 rest_of (Some octets) = octets
 
