@@ -6,4 +6,4 @@ use Rattle.text_parser.proofs.names.Names.in_place.Goals as goal
 pub returns : goal.returns
 returns c =
     sym (c.self.invariant.0 c.args.cell ∙ ap (λ l. named_type l c.args.cell) c.self.view_is) ∙ ap (option_map (λ t. t.0))
-    (subst (λ (k : ℕ). get nat_eq c.self.inside.types k ≡ Some c.in-Some.to.now) (omega c.if-known.false) c.in-Some.ensures.value)
+    (subst (λ (k : ℕ). get nat_eq c.self.inside.types k ≡ Some c.in-Some.to.now) c.if-known-cell.false c.in-Some.ensures.value)
