@@ -20,6 +20,6 @@ invariant_of-self-2 c =
     let none : get nat_eq c.self.inside.types c.args.cell ≡ None = is_new es c.args.cell c.self.invariant.0 (ap (λ l. named_type l c.args.cell) c.self.view_is ∙ c.requires) in
     let entries = sym (c.in-Ok.ensures.entries ∙ insert_entry-new nat_eq c.self.inside.types c.args.cell c.args.to none) in (
       subst Agrees entries (agrees_more es c.args.cell c.args.to c.self.invariant.0 none),
-      subst (λ (l : List (ℕ × TypeId)). HasNoneAfter l c.greater.result) entries
-          (none_more es c.args.cell _ _ c.args.to c.self.invariant.1 c.greater.ensures.first c.greater.ensures.second),
+      subst (λ (l : List (ℕ × TypeId)). HasNoneAfter l c.greater-self-inside.result) entries
+          (none_more es c.args.cell _ _ c.args.to c.self.invariant.1 c.greater-self-inside.ensures.first c.greater-self-inside.ensures.second),
     )
