@@ -1,4 +1,4 @@
-use Rattle.std.proofs.Common.{◌∙◌, List, [], ◌∷◌, ◌++◌, ap}
+use Rattle.std.proofs.Common.{◌∙◌, List, [], ◌∷◌, ◌++◌, ap, arith}
 use Rattle.std.proofs.lemmas.Result.{err_from_is_err_and}
 use Rattle.nd_value.specs.Tree.{Tree}
 use Rattle.nd_value.specs.Seen.{tree_of}
@@ -30,3 +30,7 @@ loop-next-preserved c =
     λ ns. one_came c.args.under.version c.args.under.types.now c.args.elem.0 ns ns c.args.text.now c.loop-next.rest.now c.in-Some.next.now c.loop-next.vals
     (c.loop-next.invariant ns) c.in-Some.ensures.some ns c.in_ok-val-2.after.now c.push-in-Some.new.self
     (tree_of c.in_ok-val-2.val) (c.in_ok-val-2.ensures.ok c.args.elem.0 ns c.requires.numbers) c.in-Ok-push.ensures.ok
+
+pub loop-next-smaller : goal.loop-next-smaller
+loop-next-smaller c =
+    omega (arith, c.in-Some.ensures.less, (c.in_ok-val-2.ensures.ok c.args.elem.0 [] c.requires.numbers).few)
