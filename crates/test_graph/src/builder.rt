@@ -1,5 +1,5 @@
-// A graph that is built node by node: a pointer to a pair, whose first pointer is to a struct of two pointers to leaves 5 and 6, and whose second is to
-// the leaf 5 too.
+// A graph that is built node by node: a pointer to a pair, whose first pointer is to a struct of two pointers to leaves 5 and 6, and whose second is
+// to the leaf 5 too.
 ghost use Rattle.std.specs.Prelude.{◌≡◌, ℕ, ◌<◌, ◌≤◌, length, IfOk, OnOk};
 ghost use Rattle.nd_value.specs.Tree as tree;
 ghost use Rattle.nd_flat.specs.Building.{CanClose};
