@@ -11,7 +11,7 @@ use Rattle.dceidl.specs.Seen.{Seen}
 as_outcome : (x : Seen) (words : List (List ℕ)) (outcome : Outcome) → IsExplanation words outcome → IsCommandOutcome x (Why words) outcome
 as_outcome x words (Done made) h = h
 as_outcome x words (Refused status line) h = absurd h
-as_outcome x words (Reported text status line) h = h
+as_outcome x words (Reported text status line) h = inl h
 as_outcome x words Wanting h = (Memory, refl)
 
 module _ (x : Seen) (all words : List (List ℕ)) (is : Some words ≡ why_words all) where

@@ -2,6 +2,7 @@
 #![tactic(auto)]
 
 mod call;
+mod compared;
 mod encode;
 pub mod laws;
 mod perform;

@@ -7,18 +7,19 @@ ghost use Rattle.nd_base.specs.Over.{files_seen, source_seen, sink_seen};
 ghost use Rattle.command_refusals.specs.declared.refusal.Refusal.{Refusal as Why};
 ghost use Rattle.ndr_pipe.specs.Ends.{AreOpen, ends_over};
 ghost use Rattle.ndr_pipe.specs.Seen.{ends_seen};
-ghost use Rattle.dceidl.specs.Asked.{Asks};
-ghost use Rattle.dceidl.specs.Causes.{statuses_of};
-ghost use Rattle.command_line.specs.Commands.{command_of};
+ghost use Rattle.dceidl.specs.Asked.{Asks, AsksFor};
+ghost use Rattle.dceidl.specs.Causes.{statuses_of, tells};
+ghost use Rattle.command_line.specs.Commands.{command_of, IsWellFormed};
 ghost use Rattle.command_refusals.specs.Lines.{status_of, line_of};
 ghost use Rattle.dceidl.specs.Rows.{IsDone, IsRefused, AreUnknown, tells_refused};
 ghost use Rattle.dceidl.specs.Rows.{ReadsInput, IsDueAndMissing, IsDueAndReported, IsEndReported, HasNotFailed};
 ghost use Rattle.command_streams.specs.Delivery.{IsOneOf, IsCompleted};
 ghost use Rattle.dceidl.specs.Rows.{IsSound, CanBeDone, MustBeRefused, Refuses};
-ghost use Rattle.dceidl.specs.Run.{IsOutcome, IsExplanation, HasRun};
+ghost use Rattle.dceidl.specs.Run.{IsOutcome, IsCommandOutcome, IsExplanation, HasRun};
 ghost use Rattle.dceidl.specs.Seen.{seen_over};
 ghost use Rattle.command_line.specs.Words.{Command as Wanted, command, counted_command, idl_of, op_of, name_in as name_or_nothing};
 
+use crate::compared::{asked_versions, compared};
 use crate::perform::perform;
 use command_line::{Command, Words};
 use command_refusals::{Refusal, Status, line, status};
@@ -212,10 +213,34 @@ fn performed<F: Files, S: Source, E: PipeEnd>(
 {
     match words.command() {
         None => refused(alloc, WORDS_REFUSED, b"words refused\n"),
-        Some(command) => match perform(alloc, command, files, input, ends) {
-            Ok(made) => Outcome::Done(made),
-            Err(refusal) => refused_command(alloc, command, &refusal),
+        Some(command) => match asked_versions(command) {
+            Some(versions) => compared(alloc, versions, files),
+            None => performed_plainly(alloc, command, files, input, ends),
         },
+    }
+}
+
+// What a command comes to that writes nothing beside a refusal.
+fn performed_plainly<F: Files, S: Source, E: PipeEnd>(
+    alloc: Global,
+    command: Command<'_>,
+    files: &mut F,
+    input: &mut S,
+    ends: &mut Ends<E>,
+) -> Outcome
+    requires open { AreOpen (ends_seen E.seen ends.old) }
+    requires formed { IsWellFormed command }
+    requires plain { tells (command_of command.entry) ≡ false }
+    ensures asked { AsksFor
+        (seen_over (files_seen F.held F.absences F.faults F.asked files.old files.new) (source_seen S.left S.ended S.faults input.old input.new)
+        (ends_over E.seen ends.old ends.new)) (command_of command.entry) }
+    ensures outcome { IsCommandOutcome
+        (seen_over (files_seen F.held F.absences F.faults F.asked files.old files.new) (source_seen S.left S.ended S.faults input.old input.new)
+        (ends_over E.seen ends.old ends.new)) (command_of command.entry) result }
+{
+    match perform(alloc, command, files, input, ends) {
+        Ok(made) => Outcome::Done(made),
+        Err(refusal) => refused_command(alloc, command, &refusal),
     }
 }
 
