@@ -45,12 +45,14 @@ impl StandardInput {
         if !self.blocks {
             return self.lock.read(buf);
         }
+        let begun = self.ahead > 0;
         let octets = self.lock.fill_buf()?;
         let all = octets.len();
         let count = all.min(buf.len());
         buf[..count].copy_from_slice(&octets[..count]);
         self.lock.consume(count);
-        self.blocks = all > 1;
+        // What is left of a block that was begun may be one octet.
+        self.blocks = begun || all > 1;
         self.ahead = all - count;
         Ok(count)
     }

@@ -2,3 +2,4 @@ pub mod FirstTokens
 pub mod Scanning
 pub mod Shown
 pub mod OneStep
+pub mod Quick

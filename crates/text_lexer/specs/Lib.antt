@@ -1,2 +1,3 @@
 pub mod Lexemes
 pub mod Misses
+pub mod Quick

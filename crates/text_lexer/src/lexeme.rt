@@ -34,6 +34,7 @@ pub enum Lexeme<'a> {
 }
 
 /// A string, after its opening quote.
+#[inline(always)]
 fn quoted<'a>(text: &'a [u8], body: &'a [u8]) -> (Lexeme<'a>, &'a [u8])
     requires { text.now ≡ 34 ∷ body.now }
     ensures { ShowsPlain text.now result.0 result.1.now }
@@ -57,6 +58,7 @@ fn quoted_bytes<'a>(version: Version, text: &'a [u8], body: &'a [u8]) -> (Lexeme
 }
 
 /// The number of a cell, after `@`.
+#[inline(always)]
 fn cell<'a>(text: &'a [u8], digits: &'a [u8]) -> (Lexeme<'a>, &'a [u8])
     requires { text.now ≡ 64 ∷ digits.now }
     ensures { ShowsPlain text.now result.0 result.1.now }
@@ -71,6 +73,7 @@ fn cell<'a>(text: &'a [u8], digits: &'a [u8]) -> (Lexeme<'a>, &'a [u8])
 }
 
 /// A negative number, after `-`.
+#[inline(always)]
 fn negative<'a>(text: &'a [u8], digits: &'a [u8]) -> (Lexeme<'a>, &'a [u8])
     requires { text.now ≡ 45 ∷ digits.now }
     ensures { ShowsPlain text.now result.0 result.1.now }
@@ -85,6 +88,7 @@ fn negative<'a>(text: &'a [u8], digits: &'a [u8]) -> (Lexeme<'a>, &'a [u8])
 }
 
 /// A number without a sign, or what is no token: nothing else begins with this octet.
+#[inline(always)]
 fn number(text: &[u8]) -> (Lexeme<'_>, &[u8])
     requires { begins other text.now ≡ true }
     ensures { ShowsPlain text.now result.0 result.1.now }
@@ -96,6 +100,7 @@ fn number(text: &[u8]) -> (Lexeme<'_>, &[u8])
 }
 
 /// A word, of which the first letter comes first.
+#[inline(always)]
 fn word(text: &[u8]) -> (Lexeme<'_>, &[u8])
     requires { begins octets.is_letter text.now ≡ true }
     ensures { ShowsPlain text.now result.0 result.1.now }
@@ -105,6 +110,7 @@ fn word(text: &[u8]) -> (Lexeme<'_>, &[u8])
 }
 
 /// What comes first in a text without blanks at its front, where bytes do not.
+#[inline(always)]
 fn first_plain(text: &[u8]) -> (Lexeme<'_>, &[u8])
     ensures { ShowsPlain text.now result.0 result.1.now }
 {
@@ -120,6 +126,7 @@ fn first_plain(text: &[u8]) -> (Lexeme<'_>, &[u8])
 }
 
 /// What follows `x"` at the front of a text of version 2.
+#[inline(always)]
 fn bytes_body(version: Version, text: &[u8]) -> Option<&[u8]>
     ensures { MatchOption result ((is_two version && begins_bytes text.now) ≡ false)
         (λ body. (is_two version ≡ true) × (text.now ≡ 120 ∷ 34 ∷ body.now)) }
@@ -131,6 +138,7 @@ fn bytes_body(version: Version, text: &[u8]) -> Option<&[u8]>
 }
 
 /// What follows `x"` at the front of a text.
+#[inline(always)]
 fn after_opening(text: &[u8]) -> Option<&[u8]>
     ensures { MatchOption result (begins_bytes text.now ≡ false) (λ body. text.now ≡ 120 ∷ 34 ∷ body.now) }
 {
@@ -141,6 +149,7 @@ fn after_opening(text: &[u8]) -> Option<&[u8]>
 }
 
 /// What comes first in a text without blanks at its front, and what follows it. Where a UUID is due the caller tries that before.
+#[inline(always)]
 fn first(version: Version, text: &[u8]) -> (Lexeme<'_>, &[u8])
     ensures { Shows version text.now result.0 result.1.now }
 {
@@ -159,6 +168,7 @@ pub struct Scanned<'a> {
 }
 
 /// What comes next in a text of a version.
+#[inline(always)]
 pub fn scan(version: Version, text: &[u8]) -> Scanned<'_>
     ensures here { result.here.now ≡ skip text.now }
     ensures comes { Comes version text.now result.lexeme result.rest.now }

@@ -2,10 +2,12 @@
 ghost use Rattle.std.specs.Prelude.{◌≡◌, ◌≤◌, true, length, take, drop};
 ghost use Rattle.text_grammar.specs.Tokens as tokens;
 ghost use Rattle.text_grammar.specs.Runs.{run, after_run};
+ghost use Rattle.text_lexer.specs.Quick.{is_one_of_marks as marks};
 
 use nd_base::text::is_word_octet;
 
 /// Space, tab, carriage return or line feed.
+#[inline(always)]
 pub fn is_blank(octet: u8) -> bool
     ensures { result ≡ tokens.is_blank octet }
 {
@@ -13,13 +15,31 @@ pub fn is_blank(octet: u8) -> bool
 }
 
 /// One of the marks `= { } [ ] , : ( )`.
+#[inline(always)]
 pub fn is_mark(octet: u8) -> bool
     ensures { result ≡ tokens.is_mark octet }
 {
-    b"={}[],:()".iter().any(|mark| octet == *mark)
+    is_one_of_marks(octet)
+}
+
+/// The same, by one comparison after the other, which a compiler makes a look-up.
+#[inline(always)]
+fn is_one_of_marks(octet: u8) -> bool
+    ensures { result ≡ marks octet }
+{
+    octet == b'='
+        || octet == b'{'
+        || octet == b'}'
+        || octet == b'['
+        || octet == b']'
+        || octet == b','
+        || octet == b':'
+        || octet == b'('
+        || octet == b')'
 }
 
 /// The text without the blanks at its front.
+#[inline(always)]
 pub fn skip_blanks(text: &[u8]) -> &[u8]
     ensures { result.now ≡ tokens.skip text.now }
 {
@@ -34,6 +54,7 @@ pub fn skip_blanks(text: &[u8]) -> &[u8]
 }
 
 /// Where the letters, digits and `_` at the front of a text end.
+#[inline(always)]
 pub fn run_end(text: &[u8]) -> usize
     ensures within { result ≤ length text.now }
     ensures run { take result text.now ≡ run text.now }

@@ -1,7 +1,7 @@
 // One token of what is due at a time.
-ghost use Rattle.std.specs.Prelude.{◌≡◌, ◌<◌, ℕ, List, pos, true, codes, IfOk, IfErr, IfNone, IfSome, length, Some, None, option_map};
+ghost use Rattle.std.specs.Prelude.{◌≡◌, ◌∷◌, ◌<◌, ℕ, List, pos, true, codes, IfOk, IfErr, IfNone, IfSome, length, Some, None, option_map};
 ghost use Rattle.nd_value.specs.Misfit.{is_count};
-ghost use Rattle.text_grammar.specs.Tokens.{Word, Number, Mark, Str, Bytes, IsString, IsByteString, IsCut};
+ghost use Rattle.text_grammar.specs.Tokens.{Word, Number, Mark, Str, Bytes, IsString, IsByteString, IsCut, is_mark as is_mark_octet};
 ghost use Rattle.text_grammar.specs.declared.version.Version.TheVariants as versions;
 ghost use Rattle.text_grammar.specs.Written.{Name, Other, version_number};
 ghost use Rattle.text_grammar.specs.Dues.{This, AVersion, ANumber, ACount, AString, SomeBytes, APointer};
@@ -11,10 +11,12 @@ ghost use Rattle.text_lexer.specs.Lexemes.{plain, reference_token, reference_fit
 ghost use Rattle.text_lexer.specs.Misses.{Misses};
 
 use crate::lexeme::{Lexeme, Scanned, scan};
+use crate::octets;
 use crate::stop::Stop;
 use text_grammar::{TextReason, Version};
 
 /// Whether a lexeme is this mark.
+#[inline(always)]
 fn is_mark(lexeme: Lexeme<'_>, due: u8) -> bool
     ensures { result ≡ shown.is_this_mark lexeme.entry due }
 {
@@ -25,6 +27,7 @@ fn is_mark(lexeme: Lexeme<'_>, due: u8) -> bool
 }
 
 /// Whether a lexeme is this word.
+#[inline(always)]
 fn is_word(lexeme: Lexeme<'_>, due: &[u8]) -> bool
     ensures { result ≡ shown.is_this_word lexeme.entry due.now }
 {
@@ -35,6 +38,7 @@ fn is_word(lexeme: Lexeme<'_>, due: &[u8]) -> bool
 }
 
 /// The number that a lexeme is, if it is one.
+#[inline(always)]
 fn number_in(lexeme: Lexeme<'_>) -> Option<i128>
     ensures { result ≡ shown.number_shown lexeme.entry }
 {
@@ -45,6 +49,7 @@ fn number_in(lexeme: Lexeme<'_>) -> Option<i128>
 }
 
 /// The number of the cell that a lexeme is, if it is one.
+#[inline(always)]
 pub fn cell_in(lexeme: Lexeme<'_>) -> Option<u32>
     ensures { result ≡ shown.cell_shown lexeme.entry }
 {
@@ -55,6 +60,7 @@ pub fn cell_in(lexeme: Lexeme<'_>) -> Option<u32>
 }
 
 /// Whether a lexeme is the end of the text.
+#[inline(always)]
 pub fn is_end(lexeme: Lexeme<'_>) -> bool
     ensures { result ≡ shown.is_end lexeme.entry }
 {
@@ -65,6 +71,7 @@ pub fn is_end(lexeme: Lexeme<'_>) -> bool
 }
 
 /// The text after the opening quote of the string that a lexeme is, if it is one.
+#[inline(always)]
 fn string_in(lexeme: Lexeme<'_>) -> Option<&[u8]>
     ensures { option_map (λ body. body.now) result ≡ shown.string_shown lexeme.entry }
 {
@@ -75,6 +82,7 @@ fn string_in(lexeme: Lexeme<'_>) -> Option<&[u8]>
 }
 
 /// The text after the opening quote of the bytes that a lexeme is, if it is some.
+#[inline(always)]
 fn bytes_in(lexeme: Lexeme<'_>) -> Option<&[u8]>
     ensures { option_map (λ body. body.now) result ≡ shown.bytes_shown lexeme.entry }
 {
@@ -122,8 +130,20 @@ pub fn unexpected(next: &Scanned<'_>) -> Stop
     refused(next, why_other(next.lexeme))
 }
 
-/// A mark.
-pub fn mark<'a>(version: Version, text: &'a [u8], due: u8) -> Result<&'a [u8], Stop>
+/// What follows a mark that is the first octet of a text.
+#[inline(always)]
+fn after_octet(text: &[u8], due: u8) -> Option<&[u8]>
+    ensures is { IfSome result (λ rest. text.now ≡ due ∷ rest.now) }
+    ensures mark { IfSome result (λ rest. is_mark_octet due ≡ true) }
+{
+    match text {
+        [octet, rest @ ..] if *octet == due && octets::is_mark(due) => Some(rest),
+        _ => None,
+    }
+}
+
+/// A mark, which may be after blanks.
+fn scanned_mark<'a>(version: Version, text: &'a [u8], due: u8) -> Result<&'a [u8], Stop>
     ensures ok { IfOk result (λ rest. IsCut (plain version) text.now (Mark due) rest.now) }
     ensures less { IfOk result (λ rest. length rest.now < length text.now) }
     ensures err { IfErr result (λ e. Misses version (This (Other (Mark due))) text.now e) }
@@ -135,8 +155,21 @@ pub fn mark<'a>(version: Version, text: &'a [u8], due: u8) -> Result<&'a [u8], S
     Err(unexpected(&next))
 }
 
-/// What follows a mark, if it comes next.
-pub fn after_mark<'a>(version: Version, text: &'a [u8], due: u8) -> Option<&'a [u8]>
+/// A mark.
+#[inline(always)]
+pub fn mark<'a>(version: Version, text: &'a [u8], due: u8) -> Result<&'a [u8], Stop>
+    ensures ok { IfOk result (λ rest. IsCut (plain version) text.now (Mark due) rest.now) }
+    ensures less { IfOk result (λ rest. length rest.now < length text.now) }
+    ensures err { IfErr result (λ e. Misses version (This (Other (Mark due))) text.now e) }
+{
+    match after_octet(text, due) {
+        Some(rest) => Ok(rest),
+        None => scanned_mark(version, text, due),
+    }
+}
+
+/// What follows a mark, if it comes next, perhaps after blanks.
+fn after_scanned_mark<'a>(version: Version, text: &'a [u8], due: u8) -> Option<&'a [u8]>
     ensures some { IfSome result (λ rest. IsCut (plain version) text.now (Mark due) rest.now) }
     ensures less { IfSome result (λ rest. length rest.now < length text.now) }
     ensures none { IfNone result ((rest : List ℕ) → IsCut (plain version) text.now (Mark due) rest → ⊥) }
@@ -146,6 +179,19 @@ pub fn after_mark<'a>(version: Version, text: &'a [u8], due: u8) -> Option<&'a [
         return Some(next.rest);
     }
     None
+}
+
+/// What follows a mark, if it comes next.
+#[inline(always)]
+pub fn after_mark<'a>(version: Version, text: &'a [u8], due: u8) -> Option<&'a [u8]>
+    ensures some { IfSome result (λ rest. IsCut (plain version) text.now (Mark due) rest.now) }
+    ensures less { IfSome result (λ rest. length rest.now < length text.now) }
+    ensures none { IfNone result ((rest : List ℕ) → IsCut (plain version) text.now (Mark due) rest → ⊥) }
+{
+    match after_octet(text, due) {
+        Some(rest) => Some(rest),
+        None => after_scanned_mark(version, text, due),
+    }
 }
 
 /// A word of the grammar.
@@ -162,6 +208,7 @@ pub fn word<'a>(version: Version, text: &'a [u8], due: &[u8]) -> Result<&'a [u8]
 }
 
 /// The name of an operation, a side, a root or a member.
+#[inline(always)]
 pub fn name<'a>(version: Version, text: &'a [u8], due: &[u8]) -> Result<&'a [u8], Stop>
     ensures ok { IfOk result (λ rest. IsCut (plain version) text.now (Word due.now) rest.now) }
     ensures less { IfOk result (λ rest. length rest.now < length text.now) }
@@ -175,6 +222,7 @@ pub fn name<'a>(version: Version, text: &'a [u8], due: &[u8]) -> Result<&'a [u8]
 }
 
 /// A number.
+#[inline(always)]
 pub fn number(version: Version, text: &[u8]) -> Result<(i128, &[u8]), Stop>
     ensures ok { IfOk result (λ x. IsCut (plain version) text.now (Number x.0) x.1.now) }
     ensures less { IfOk result (λ x. length x.1.now < length text.now) }
@@ -188,6 +236,7 @@ pub fn number(version: Version, text: &[u8]) -> Result<(i128, &[u8]), Stop>
 }
 
 /// The count that a lexeme is, a number from 0 to 4,294,967,295, if it is one.
+#[inline(always)]
 fn count_in(lexeme: Lexeme<'_>) -> Option<u32>
     ensures { option_map (λ n. pos n) result ≡ shown.count_shown lexeme.entry }
 {
@@ -262,6 +311,7 @@ pub fn version(text: &[u8]) -> Result<(Version, &[u8]), Stop>
 }
 
 /// What a pointer is: null, or the number of a cell.
+#[inline(always)]
 pub fn reference(version: Version, text: &[u8]) -> Result<(Option<u32>, &[u8]), Stop>
     ensures ok { IfOk result (λ x. IsCut (plain version) text.now (reference_token x.0) x.1.now) }
     ensures range { IfOk result (λ x. reference_fits x.0 ≡ true) }

@@ -1,10 +1,10 @@
 -- The cells that pointers have named, as a map keeps them.
-use Rattle.std.proofs.Common.{◌≡◌, ℕ, Bool, true, false, eqb, cond, List, [], ◌∷◌, ◌++◌, Option, Some, None, option_map, refl, sym, ap, subst, ◌∙◌}
+use Rattle.std.proofs.Common.{◌≡◌, ◌≤◌, ◌<◌, ℕ, Bool, true, false, eqb, cond, List, [], ◌∷◌, ◌++◌, Option, Some, None, option_map, refl, sym, ap, subst, ◌∙◌, arith}
 use Rattle.std.proofs.lemmas.Bool.{eq-eqb, eqb-true, both_ways, false_from_ne_true}
 use Rattle.std.specs.Map.{lookup}
 use Rattle.nd_types.specs.declared.types.TypeId.{TypeId}
 use Rattle.text_grammar.specs.Dues.{named_type, with_name}
-use Rattle.text_parser.specs.NamedCells.{backwards, found, Agrees}
+use Rattle.text_parser.specs.NamedCells.{backwards, found, Agrees, HasNoneAfter}
 
 pub backwards_more : (es : List (ℕ × TypeId)) (c : ℕ) (t : TypeId) → backwards (es ++ (c, t) ∷ []) ≡ (c, t.0) ∷ backwards es
 backwards_more [] c t = refl
@@ -40,6 +40,11 @@ agrees_more es c t a n q = by (eqb c q) refl ∙ ap (λ (l : List (ℕ × ℕ)).
       let other : eqb q c ≡ false = false_from_ne_true (eqb q c) (λ k. both_ways (eqb c q) e (eq-eqb c q (sym (eqb-true q c k)))) in
       ap (option_map (λ (u : TypeId). u.0)) (lookup_old es c q t other) ∙ a q
       ∙ sym (ap (λ b. elim b [ true ↦ Some t.0 | false ↦ named_type (backwards es) q ]) e)
+
+pub none_more : (es : List (ℕ × TypeId)) (c m n : ℕ) (t : TypeId) → HasNoneAfter es m → m ≤ n → c ≤ n → HasNoneAfter (es ++ (c, t) ∷ []) n
+none_more es c m n t none more new = λ q after. ap (option_map (λ (u : TypeId). u.0)) (lookup_old es c q t (other q after)) ∙ none q (omega (arith, more, after)) where
+  other : (q : ℕ) → n < q → eqb q c ≡ false
+  other q after = false_from_ne_true (eqb q c) (λ k. omega (arith, eqb-true q c k, new, after))
 
 -- ## One pointer
 

@@ -7,6 +7,7 @@ ghost use Rattle.nd_value.specs.Nodes.{selected_types};
 ghost use Rattle.nd_value.specs.Seen.{cell_number};
 ghost use Rattle.text_grammar.specs.Written.{Name, equals, writes_octets};
 ghost use Rattle.text_grammar.specs.Dues.{This, count_due};
+ghost use Rattle.text_parser.specs.Known.{is_numeral};
 ghost use Rattle.text_parser.specs.Passing.{Named, Passes, Halts};
 ghost use Rattle.text_parser.specs.ValueParts.{comma_dues, comma_tokens, name_tokens, count_tokens, writes_maximum, written_dues, written_tokens};
 ghost use Rattle.text_parser.specs.ValueParts.{maximum_by, known_maximum, has_no_bound, bound_or, noted_reference};
@@ -20,6 +21,7 @@ use text_grammar::Version;
 use text_lexer::{Stop, count, mark, name};
 
 /// The comma before all members but the first.
+#[inline(always)]
 pub(crate) fn separator<'a>(version: Version, at: usize, text: &'a [u8]) -> Result<&'a [u8], Stop>
     ensures ok { IfOk result
         (λ rest. (table : Table) (ns : Named) → Passes version table (comma_dues at) ns text.now (comma_tokens at) [] ns rest.now) }
@@ -34,6 +36,7 @@ pub(crate) fn separator<'a>(version: Version, at: usize, text: &'a [u8]) -> Resu
 }
 
 /// A name and the mark `=`.
+#[inline(always)]
 pub(crate) fn named<'a>(version: Version, text: &'a [u8], due: &[u8]) -> Result<&'a [u8], Stop>
     ensures ok { IfOk result (λ rest. (table : Table) (ns : Named)
         → Passes version table (This (Name due.now) ∷ This equals ∷ []) ns text.now (name_tokens due.now) [] ns rest.now) }
@@ -46,6 +49,7 @@ pub(crate) fn named<'a>(version: Version, text: &'a [u8], due: &[u8]) -> Result<
 }
 
 /// A count and the mark `:`.
+#[inline(always)]
 pub(crate) fn count_colon(version: Version, text: &[u8]) -> Result<(u32, &[u8]), Stop>
     ensures ok { IfOk result (λ x. (table : Table) (ns : Named) → Passes version table count_due ns text.now (count_tokens x.0) [] ns x.1.now) }
     ensures fits { IfOk result (λ x. is_count x.0 ≡ true) }
@@ -58,6 +62,7 @@ pub(crate) fn count_colon(version: Version, text: &[u8]) -> Result<(u32, &[u8]),
 }
 
 /// A count, where it is written; 0 where it is not.
+#[inline(always)]
 pub(crate) fn written_count(
     version: Version,
     written: bool,
@@ -126,6 +131,7 @@ pub(crate) fn maximum_or(bound: Option<u32>, written: u32) -> u32
 }
 
 /// Whether elements of a type are written as octets: bytes in version 2.
+#[inline(always)]
 pub(crate) fn are_bytes(under: Grammar<'_>, elem: TypeId) -> bool
     ensures { result ≡ writes_octets under.entry.version (type_at under.entry.types.now elem.0) }
 {
@@ -135,6 +141,18 @@ pub(crate) fn are_bytes(under: Grammar<'_>, elem: TypeId) -> bool
             under.types.get(elem.0 as usize),
             Some(TypeDef::Prim(Prim::Byte))
         ),
+    }
+}
+
+/// Whether values of a type are numbers.
+#[inline(always)]
+pub(crate) fn are_numerals(under: Grammar<'_>, elem: TypeId) -> bool
+    ensures { result ≡ is_numeral (type_at under.entry.types.now elem.0) }
+{
+    match under.types.get(elem.0 as usize) {
+        Some(TypeDef::Prim(_)) => true,
+        Some(TypeDef::Enum { .. }) => true,
+        _ => false,
     }
 }
 

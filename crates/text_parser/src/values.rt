@@ -21,8 +21,8 @@ use crate::grammar::Grammar;
 use crate::identifiers::identifier;
 use crate::names::Names;
 use crate::parts::{
-    are_bytes, cell_of, is_unbound, maximum_before, maximum_is_written, maximum_of, maximum_or,
-    named, note_reference, selected_type, separator, written_count,
+    are_bytes, are_numerals, cell_of, is_unbound, maximum_before, maximum_is_written, maximum_of,
+    maximum_or, named, note_reference, selected_type, separator, written_count,
 };
 use nd_types::{Arm, Arms, Fields, TypeDef, TypeId};
 use nd_value::{ArmVal, Val, Vals};
@@ -86,6 +86,7 @@ fn by_type<'a>(
 }
 
 /// A number of a primitive or an enumerated type.
+#[inline(always)]
 fn numeral<'a>(under: Grammar<'_>, text: &'a [u8]) -> Read<'a>
     ensures ok { IfOk result (λ x. (t : ℕ) (ns : Named) → is_numeral (type_at under.entry.types.now t) ≡ true
         → IsValue under.entry.version under.entry.types.now t ns text.now (tree_of x.0) ns x.1.now) }
@@ -94,6 +95,30 @@ fn numeral<'a>(under: Grammar<'_>, text: &'a [u8]) -> Read<'a>
 {
     let (value, rest) = number(under.version, text)?;
     Ok((Val::Num(value), rest))
+}
+
+/// One or more numbers of one type, with a comma between each two.
+fn numerals<'a>(under: Grammar<'_>, elem: TypeId, text: &'a [u8]) -> Result<(Vals, &'a [u8]), Stop>
+    requires numbers { is_numeral (type_at under.types.now elem.0) ≡ true }
+    requires more { (rest : List ℕ) → IsCut (plain under.version) text.now (Mark 93) rest → ⊥ }
+    ensures ok { IfOk result (λ x. (ns : Named) → HaveCome under.entry.version under.entry.types.now elem.0 ns text.now x.0 ns x.1.now) }
+    ensures last { IfOk result (λ x. (rest : List ℕ) → IsCut (plain under.entry.version) x.1.now (Mark 44) rest → ⊥) }
+    ensures err { IfErr result (λ e. (ns : Named) → Halts under.entry.version under.entry.types.now (FirstElement elem.0 ∷ []) ns text.now e) }
+{
+    let mut vals = Vals::new(under.alloc);
+    let (val, after) = numeral(under, text)?;
+    let Ok(()) = vals.push(val) else {
+        return Err(Stop::Memory);
+    };
+    let mut rest = after;
+    while let Some(next) = after_mark(under.version, rest, b',') {
+        let (val, after) = numeral(under, next)?;
+        let Ok(()) = vals.push(val) else {
+            return Err(Stop::Memory);
+        };
+        rest = after;
+    }
+    Ok((vals, rest))
 }
 
 /// The members of a struct between braces.
@@ -233,9 +258,32 @@ fn listed<'a>(
     Ok((vals, end))
 }
 
-/// One or more elements, with a comma between each two.
+/// One or more elements, with a comma between each two. Numbers, of which lists may have many, have a loop of their own.
 #[cycle(values)]
 fn items<'a>(
+    under: Grammar<'_>,
+    names: &mut Names,
+    elem: TypeId,
+    text: &'a [u8],
+) -> Result<(Vals, &'a [u8]), Stop>
+    requires known { elem.0 < length under.types.now }
+    requires short { length text.now < 2 ^ 32 }
+    requires more { (rest : List ℕ) → IsCut (plain under.version) text.now (Mark 93) rest → ⊥ }
+    ensures ok { IfOk result (λ x. HaveCome under.entry.version under.entry.types.now elem.0 names.old text.now x.0 names.new x.1.now) }
+    ensures last { IfOk result (λ x. (rest : List ℕ) → IsCut (plain under.entry.version) x.1.now (Mark 44) rest → ⊥) }
+    ensures err { IfErr result (λ e. Halts under.entry.version under.entry.types.now (FirstElement elem.0 ∷ []) names.old text.now e) }
+{
+    if are_numerals(under, elem) {
+        let (vals, rest) = numerals(under, elem, text)?;
+        return Ok((vals, rest));
+    }
+    let (items, end) = values_of(under, names, elem, text)?;
+    Ok((items, end))
+}
+
+/// One or more elements of any type, with a comma between each two.
+#[cycle(values)]
+fn values_of<'a>(
     under: Grammar<'_>,
     names: &mut Names,
     elem: TypeId,

@@ -1,9 +1,11 @@
 pub mod Canonical
+pub mod Characters
 pub mod Fits
 pub mod GraphLines
 pub mod Identifiers
 pub mod Items
 pub mod Lines
 pub mod Listing
+pub mod RowTexts
 pub mod Sound
 pub mod Walking

@@ -1,6 +1,6 @@
 -- What is written step by step, as a walk comes to nodes, is the text of the values that came next.
 -- `types` are types of values, `w` are the values that are left in a walk, `f`, `g` make one text of many.
-use Rattle.std.proofs.Common.{◌≡◌, ℕ, ◌+◌, ◌-◌, zero, suc, add-one, ℤ, Bool, true, List, [], ◌∷◌, ◌++◌, length, take, drop, map, replicate, Option, Some, codes, refl, ap, ap₂, sym, ◌∙◌, subst}
+use Rattle.std.proofs.Common.{◌≡◌, ℕ, ◌+◌, ◌-◌, zero, suc, ℤ, Bool, true, List, [], ◌∷◌, ◌++◌, length, take, drop, map, replicate, Option, Some, codes, refl, ap, ap₂, sym, ◌∙◌, subst}
 use Rattle.std.proofs.Common.{append_assoc, append-nil}
 use Rattle.std.specs.Fmt.{signed_decimal}
 use Rattle.std.proofs.lemmas.List.{length-replicate}
@@ -198,23 +198,6 @@ bytes_written table elem n text text1 text2 text' w w' e a h z =
 -- no byte, then none
 pub no_bytes : (text : List ℕ) (w : Trees) → WritesBytes 0 text w text w
 no_bytes text w = (sym (append-nil text), refl)
-
--- some bytes, then one more
-pub bytes_then : (n : ℕ) (text0 text text' : List ℕ) (w0 w w' : Trees) → WritesBytes n text0 w0 text w → WritesBytes 1 text w text' w' → WritesBytes (n + 1) text0 w0 text' w'
-bytes_then n text0 text text' w0 w w' h k =
-    let a = k.0 ∙ ap (λ fs. text ++ nodes_digits (take 1 fs)) h.1 ∙ ap (λ x. x ++ nodes_digits (take 1 (drop n (flat w0)))) h.0 in
-    subst (λ m. WritesBytes m text0 w0 text' w') (sym (add-one n))
-    (a ∙ append_assoc text0 _ _ ∙ ap (λ x. text0 ++ x) (taken n (flat w0)), k.1 ∙ ap (drop 1) h.1 ∙ dropped n (flat w0))
-  where
-    taken : (n : ℕ) (fs : List Flat) → nodes_digits (take n fs) ++ nodes_digits (take 1 (drop n fs)) ≡ nodes_digits (take (suc n) fs)
-    taken zero fs = refl
-    taken (suc n) [] = refl
-    taken (suc n) (f ∷ fs) = append_assoc (byte_text f.0) _ _ ∙ ap (λ x. byte_text f.0 ++ x) (taken n fs)
-
-    dropped : (n : ℕ) (fs : List Flat) → drop 1 (drop n fs) ≡ drop (suc n) fs
-    dropped zero fs = refl
-    dropped (suc n) [] = refl
-    dropped (suc n) (f ∷ fs) = dropped n fs
 
 -- ## Sizes
 

@@ -15,7 +15,10 @@ pub fn append_number(text: &mut Octets, value: i128) -> Result<(), Memory>
     ensures { OnOk result (text.new ≡ text.old ++ signed_decimal value) }
 {
     let mut buffer = Buffer::new();
-    text.append(buffer.format(value).as_bytes())
+    match i64::try_from(value) {
+        Ok(narrow) => text.append(buffer.format(narrow).as_bytes()),
+        Err(_) => text.append(buffer.format(value).as_bytes()),
+    }
 }
 
 /// A place or a number of a list in base 10.
@@ -33,14 +36,51 @@ pub(crate) fn append_hex(text: &mut Octets, octet: u8) -> Result<(), Memory>
     text.append(&[hex_digit(octet / 16), hex_digit(octet % 16)])
 }
 
-/// Octets as hexadecimal digits, in lower case.
+/// Octets as hexadecimal digits, in lower case: eight at a time, and then those that are left.
 pub(crate) fn append_hexes(text: &mut Octets, octets: &[u8]) -> Result<(), Memory>
+    ensures { OnOk result (text.new ≡ text.old ++ hex_text octets.now) }
+{
+    let eights = octets.len() / 8;
+    for at in 0..eights {
+        let from = 8 * at;
+        append_eight(text, &octets[from..from + 8])?;
+    }
+    append_few(text, &octets[8 * eights..])
+}
+
+/// Octets as hexadecimal digits, one at a time.
+fn append_few(text: &mut Octets, octets: &[u8]) -> Result<(), Memory>
     ensures { OnOk result (text.new ≡ text.old ++ hex_text octets.now) }
 {
     for octet in octets {
         append_hex(text, *octet)?;
     }
     Ok(())
+}
+
+/// Eight octets as hexadecimal digits, which are appended at once.
+fn append_eight(text: &mut Octets, octets: &[u8]) -> Result<(), Memory>
+    requires { length octets.now ≡ 8 }
+    ensures { OnOk result (text.new ≡ text.old ++ hex_text octets.now) }
+{
+    text.append(&[
+        hex_digit(octets[0] / 16),
+        hex_digit(octets[0] % 16),
+        hex_digit(octets[1] / 16),
+        hex_digit(octets[1] % 16),
+        hex_digit(octets[2] / 16),
+        hex_digit(octets[2] % 16),
+        hex_digit(octets[3] / 16),
+        hex_digit(octets[3] % 16),
+        hex_digit(octets[4] / 16),
+        hex_digit(octets[4] % 16),
+        hex_digit(octets[5] / 16),
+        hex_digit(octets[5] % 16),
+        hex_digit(octets[6] / 16),
+        hex_digit(octets[6] % 16),
+        hex_digit(octets[7] / 16),
+        hex_digit(octets[7] % 16),
+    ])
 }
 
 /// A hyphen, and octets as hexadecimal digits.

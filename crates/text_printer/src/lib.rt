@@ -5,6 +5,7 @@ mod digits;
 mod forms;
 mod graphs;
 mod quoting;
+mod rows;
 mod values;
 mod walked;
 

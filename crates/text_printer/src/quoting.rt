@@ -1,5 +1,5 @@
 // Strings of a value text.
-ghost use Rattle.std.specs.Prelude.{◌≡◌, ◌++◌, flat_map, IfOk, OnOk};
+ghost use Rattle.std.specs.Prelude.{◌≡◌, ◌++◌, ◌∷◌, [], true, flat_map, IfOk, OnOk};
 ghost use Rattle.text_grammar.specs.Printed.{escaped, quoted_text};
 
 use crate::digits::append_hex;
@@ -28,14 +28,34 @@ pub fn append_quoted(text: &mut Octets, octets: &[u8]) -> Result<(), Memory>
     text.append(b"\"")
 }
 
-/// The characters of a string.
+/// The characters of a string: octets that are written as they are in pieces, and each other one by itself.
 fn append_escaped(text: &mut Octets, octets: &[u8]) -> Result<(), Memory>
     ensures { OnOk result (text.new ≡ text.old ++ flat_map escaped octets.now) }
 {
-    for octet in octets {
+    let end = octets.len();
+    let mut from = 0;
+    for at in 0..end {
+        let Some(octet) = octets.get(at) else {
+            unreachable!()
+        };
+        if is_plain(*octet) {
+            continue;
+        }
+        text.append(&octets[from..at])?;
         append_character(text, *octet)?;
+        from = at + 1;
     }
-    Ok(())
+    text.append(&octets[from..end])
+}
+
+/// Whether an octet of a string is written as it is.
+fn is_plain(octet: u8) -> bool
+    ensures { result ≡ true → escaped octet ≡ octet ∷ [] }
+{
+    if octet == b'"' || octet == b'\\' {
+        return false;
+    }
+    0x20 <= octet && octet <= 0x7e
 }
 
 /// The character for an octet.

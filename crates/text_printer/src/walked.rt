@@ -1,5 +1,5 @@
 // Values of a graph, written as a walk comes to them.
-ghost use Rattle.std.specs.Prelude.{◌≡◌, ◌≤◌, ◌++◌, ◌∷◌, [], OnOk, codes, length, map, replicate, option_map, option_to_list};
+ghost use Rattle.std.specs.Prelude.{◌≡◌, ◌<◌, ◌≤◌, ◌++◌, ◌∷◌, [], IfOk, OnOk, codes, length, map, replicate, option_map, option_to_list};
 ghost use Rattle.std.specs.Fmt.{signed_decimal};
 ghost use Rattle.nd_types.specs.Table.{type_at};
 ghost use Rattle.nd_value.specs.Tree as tree;
@@ -9,13 +9,14 @@ ghost use Rattle.nd_flat.specs.FlatForm.{flat_seen};
 ghost use Rattle.text_grammar.specs.declared.version.Version.TheVariants as version;
 ghost use Rattle.text_grammar.specs.Written.{writes_octets};
 ghost use Rattle.text_printer.specs.Texts.{listed, member_texts, list_text, struct_text, array_text, pipe_text, arm_text, node_text};
-ghost use Rattle.text_printer.specs.Walks.{Writes, WritesBytes, HasNext, first_text};
+ghost use Rattle.text_printer.specs.Walks.{Writes, WritesSome, WritesBytes, HasNext, first_text};
 
 use crate::digits::{append_byte, append_number};
 use crate::forms::{
     append_context, append_counts, append_name, append_pointer, append_separator, append_string,
     are_bytes, arm_type,
 };
+use crate::rows::{append_numbers, append_row};
 use nd_base::{Memory, Octets};
 use nd_flat::{Seen, Walk};
 use nd_types::{Fields, TypeDef, TypeId, Types};
@@ -195,11 +196,40 @@ fn append_elements(
     ensures text { OnOk result (Writes types.now (replicate count elem.0) (listed 0) text.old walk.old text.new walk.new) }
     ensures fewer { OnOk result (length (flat walk.new) ≤ length (flat walk.old)) }
 {
-    for at in 0..count as usize {
-        append_separator(text, at)?;
-        append_next(text, types, elem, walk)?;
+    let mut at = 0;
+    for _turn in 0..count {
+        if at >= count {
+            return Ok(());
+        }
+        let some = append_some(text, types, elem, at, count - at, walk)?;
+        at += some;
     }
     Ok(())
+}
+
+/// The elements from a place of a list on, at least one and at most `most`: numbers that are kept side by side in one go. It gives how many.
+#[cycle(walked)]
+fn append_some(
+    text: &mut Octets,
+    types: &Types,
+    elem: TypeId,
+    at: u32,
+    most: u32,
+    walk: &mut Walk<'_>,
+) -> Result<u32, Memory>
+    requires { 0 < most }
+    ensures some { IfOk result (λ k. 0 < k) }
+    ensures most { IfOk result (λ k. k ≤ most) }
+    ensures text { IfOk result (λ k. WritesSome types.now elem.0 at k text.old walk.old text.new walk.new) }
+    ensures fewer { IfOk result (λ k. length (flat walk.new) ≤ length (flat walk.old)) }
+{
+    if let Some(row) = walk.row(most) {
+        append_numbers(text, at, &row)?;
+        return Ok(row.count);
+    }
+    append_separator(text, at as usize)?;
+    append_next(text, types, elem, walk)?;
+    Ok(1)
 }
 
 /// A union: its tag, and the value of the selected arm.
@@ -242,10 +272,30 @@ fn append_arm(
 fn append_bytes(text: &mut Octets, count: u32, walk: &mut Walk<'_>) -> Result<(), Memory>
     ensures { OnOk result (WritesBytes count text.old walk.old text.new walk.new) }
 {
-    for _at in 0..count {
-        append_next_byte(text, walk)?;
+    let mut done = 0;
+    for _turn in 0..count {
+        if done >= count {
+            return Ok(());
+        }
+        let some = append_some_bytes(text, count - done, walk)?;
+        done += some;
     }
     Ok(())
+}
+
+/// The next bytes as digits, at least one and at most `most`: those that are kept side by side in one go. It gives how many.
+fn append_some_bytes(text: &mut Octets, most: u32, walk: &mut Walk<'_>) -> Result<u32, Memory>
+    requires { 0 < most }
+    ensures some { IfOk result (λ k. 0 < k) }
+    ensures most { IfOk result (λ k. k ≤ most) }
+    ensures text { IfOk result (λ k. WritesBytes k text.old walk.old text.new walk.new) }
+{
+    if let Some(row) = walk.row(most) {
+        append_row(text, &row)?;
+        return Ok(row.count);
+    }
+    append_next_byte(text, walk)?;
+    Ok(1)
 }
 
 /// The digits of the next node, if it is a byte.

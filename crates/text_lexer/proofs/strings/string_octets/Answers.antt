@@ -1,8 +1,14 @@
-use Rattle.std.proofs.Common.{ℕ, List, sym, subst}
+use Rattle.std.proofs.Common.{ℕ, List, sym, subst, ◌∙◌}
 use Rattle.text_grammar.specs.Tokens.{character}
 use Rattle.text_reading_laws.proofs.Quoted.{character_quote}
+use Rattle.text_lexer.proofs.FirstTokens.{rest_is}
+use Rattle.text_lexer.proofs.Quick.{plain_begun}
 use Rattle.text_lexer.proofs.Scanning.{Reaches, one_more, whole}
 use Rattle.text_lexer.proofs.strings.string_octets.Goals as goal
+
+pub loop-octet-init : goal.loop-octet-init
+loop-octet-init c =
+    plain_begun c.args.body.now _ _ (c.in_ok-octets.ensures ∙ c.plain_end-plain.ensures.plain) (rest_is c.plain_end-plain.result c.args.body.now ∙ c.plain_end-plain.ensures.after)
 
 pub loop-octet-preserved : goal.loop-octet-preserved
 loop-octet-preserved c =

@@ -368,35 +368,52 @@ listed-returns-clause-ok t c =
     whole_list c.args.under.version c.args.under.types.now c.args.elem.0 c.args.names.now c.args.text.now c.in_ok-start.start.now c.in_ok-start.ensures.ok c.requires.values c.in_ok-vals.vals
     c.items.new.names c.in_ok-vals.rest.now c.in_ok-vals.ensures.ok c.in_ok-end.end.now c.in_ok-end.ensures.ok
 
-pub items-value-requires : goal.items-value-requires
-items-value-requires t c =
+pub items-numerals-requires : goal.items-numerals-requires
+items-numerals-requires t c =
+    record { numbers = sym c.are_numerals.ensures ∙ c.if-are_numerals.true; more = c.requires.more }
+
+pub items-values_of-requires : goal.items-values_of-requires
+items-values_of-requires t c =
+    (omega (arith, c.decreases), (c.requires.known, (c.requires.short, c.requires.more)))
+
+pub items-returns-in_err-vals-clause-err : goal.items-returns-in_err-vals-clause-err
+items-returns-in_err-vals-clause-err t c =
+    let p = err_from_is_err_and c.from_residual.result c.from_residual.ensures.1 in
+    rw (p.1, p.2) (c.in_err-vals.ensures.err c.args.names.now)
+
+pub items-returns-then-are_numerals-clause-ok : goal.items-returns-then-are_numerals-clause-ok
+items-returns-then-are_numerals-clause-ok t c =
+    c.in_ok-vals.ensures.ok c.args.names.now
+
+pub values_of-value-requires : goal.values_of-value-requires
+values_of-value-requires t c =
     (omega (arith, c.decreases), (c.requires.known, c.requires.short))
 
-pub items-returns-in_err-val-clause-err : goal.items-returns-in_err-val-clause-err
-items-returns-in_err-val-clause-err t c =
+pub values_of-returns-in_err-val-clause-err : goal.values_of-returns-in_err-val-clause-err
+values_of-returns-in_err-val-clause-err t c =
     let p = err_from_is_err_and c.from_residual.result c.from_residual.ensures.1 in
     rw (p.1, p.2) (halts_at_first c.args.under.version c.args.under.types.now c.args.elem.0 c.args.text.now c.requires.more c.args.names.now c.in_err-val.field-0.0 c.in_err-val.ensures.err)
 
-pub items-loop-next-init : goal.items-loop-next-init
-items-loop-next-init t c =
+pub values_of-loop-next-init : goal.values_of-loop-next-init
+values_of-loop-next-init t c =
     first_came c.args.under.version c.args.under.types.now c.args.elem.0 c.args.names.now c.value.new.names c.args.text.now c.in_ok-val.after.now c.push.new.self
     (tree_of c.in_ok-val.val) c.requires.more (c.in-Ok.ensures.ok ∙ ap (λ (l : List Tree). l ++ tree_of c.in_ok-val.val ∷ []) c.new-vals.ensures) c.in_ok-val.ensures.ok
 
-pub items-value-requires-in-Some : goal.items-value-requires-in-Some
-items-value-requires-in-Some t c = (
+pub values_of-value-requires-in-Some : goal.values_of-value-requires-in-Some
+values_of-value-requires-in-Some t c = (
   omega (arith, c.decreases, c.loop-next.invariant.few, c.in-Some.ensures.less),
   (c.requires.known, omega (arith, c.requires.short, c.loop-next.invariant.few, c.in-Some.ensures.less)),
 )
 
-pub items-returns-in_err-val-2-clause-err : goal.items-returns-in_err-val-2-clause-err
-items-returns-in_err-val-2-clause-err t c =
+pub values_of-returns-in_err-val-2-clause-err : goal.values_of-returns-in_err-val-2-clause-err
+values_of-returns-in_err-val-2-clause-err t c =
     let p = err_from_is_err_and c.from_residual-in_err-val-2.result c.from_residual-in_err-val-2.ensures.1 in
     rw (p.1, p.2)
     (next_halts c.args.under.version c.args.under.types.now c.args.elem.0 c.args.names.now c.loop-next.names c.args.text.now c.loop-next.rest.now c.in-Some.next.now c.loop-next.vals
     c.loop-next.invariant c.in-Some.ensures.some c.in_err-val-2.field-0.0 c.in_err-val-2.ensures.err)
 
-pub items-loop-next-preserved : goal.items-loop-next-preserved
-items-loop-next-preserved t c =
+pub values_of-loop-next-preserved : goal.values_of-loop-next-preserved
+values_of-loop-next-preserved t c =
     one_came c.args.under.version c.args.under.types.now c.args.elem.0 c.args.names.now c.loop-next.names c.args.text.now c.loop-next.rest.now c.in-Some.next.now c.loop-next.vals
     c.loop-next.invariant c.in-Some.ensures.some c.value-in-Some.new.names c.in_ok-val-2.after.now c.push-in-Some.new.self
     (tree_of c.in_ok-val-2.val) c.in_ok-val-2.ensures.ok c.in-Ok-push.ensures.ok

@@ -28,7 +28,10 @@ abbrev pub decreases-listed : goal.decreases-listed
 decreases-listed l = 8 * length l.text.now + 1
 
 abbrev pub decreases-items : goal.decreases-items
-decreases-items l = 8 * length l.text.now + 6
+decreases-items l = 8 * length l.text.now + 7
+
+abbrev pub decreases-values_of : goal.decreases-values_of
+decreases-values_of l = 8 * length l.text.now + 6
 
 abbrev pub decreases-union : goal.decreases-union
 decreases-union l = 8 * length l.text.now + 1
@@ -41,8 +44,8 @@ abbrev pub invariant-structure-loop-at : goal.invariant-structure-loop-at
 invariant-structure-loop-at l = MembersCame l.fn.under.version l.fn.under.types.now (take l.at l.members) l.fn.names l.initial.rest l.vals l.names l.rest
 
 -- the elements so far
-abbrev pub invariant-items-loop-next : goal.invariant-items-loop-next
-invariant-items-loop-next l = HaveCome l.fn.under.version l.fn.under.types.now l.fn.elem.0 l.fn.names l.text l.vals l.names l.rest
+abbrev pub invariant-values_of-loop-next : goal.invariant-values_of-loop-next
+invariant-values_of-loop-next l = HaveCome l.fn.under.version l.fn.under.types.now l.fn.elem.0 l.fn.names l.text l.vals l.names l.rest
 
-abbrev pub decreases-items-loop-next : goal.decreases-items-loop-next
-decreases-items-loop-next l = length l.rest
+abbrev pub decreases-values_of-loop-next : goal.decreases-values_of-loop-next
+decreases-values_of-loop-next l = length l.rest

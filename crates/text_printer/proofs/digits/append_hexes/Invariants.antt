@@ -1,6 +1,6 @@
-use Rattle.std.proofs.Common.{◌≡◌, ◌++◌, take}
+use Rattle.std.proofs.Common.{◌≡◌, ◌++◌, ◌*◌, take}
 use Rattle.text_grammar.specs.Printed.{hex_text}
 use Rattle.text_printer.proofs.digits.append_hexes.Given as goal
 
-abbrev pub invariant-loop-octet : goal.invariant-loop-octet
-invariant-loop-octet l = l.text ≡ l.initial.text ++ hex_text (take l.octet-index l.octets)
+abbrev pub invariant-loop-at : goal.invariant-loop-at
+invariant-loop-at l = l.text ≡ l.initial.text ++ hex_text (take (8 * l.at) l.octets)

@@ -1,7 +1,10 @@
-use Rattle.std.proofs.Common.{◌≡◌, ◌++◌, take}
-use Rattle.std.specs.List.{flat_map}
+use Rattle.std.proofs.Common.{◌≡◌, ◌≤◌, ◌++◌, take, slice_range, flat_map}
 use Rattle.text_grammar.specs.Printed.{escaped}
 use Rattle.text_printer.proofs.quoting.append_escaped.Given as goal
 
-abbrev pub invariant-loop-octet : goal.invariant-loop-octet
-invariant-loop-octet l = l.text ≡ l.initial.text ++ flat_map escaped (take l.octet-index l.octets)
+abbrev pub invariant-loop-at : goal.invariant-loop-at
+invariant-loop-at l = record {
+  within : l.from ≤ l.at;
+  plain : flat_map escaped (slice_range l.octets l.from l.at) ≡ slice_range l.octets l.from l.at;
+  written : l.text ≡ l.initial.text ++ flat_map escaped (take l.from l.octets);
+}

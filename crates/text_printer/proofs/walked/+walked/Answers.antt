@@ -1,4 +1,4 @@
-use Rattle.std.proofs.Common.{rules, ◌≡◌, ◌++◌, ◌+◌, ◌-◌, add-one, ℤ, List, ℕ, suc, codes, drop, map, replicate, subst, ap, ◌∙◌, sym, arith, Some}
+use Rattle.std.proofs.Common.{rules, ◌≡◌, ◌++◌, ◌+◌, ◌-◌, add-one, ℤ, List, ℕ, codes, drop, map, replicate, subst, ap, ◌∙◌, sym, arith, Some}
 use Rattle.std.specs.Fmt.{signed_decimal}
 use Rattle.std.proofs.lemmas.Result.{on_ok_weaker}
 use Rattle.std.proofs.lemmas.Int.{to_z-of_z}
@@ -10,10 +10,11 @@ use Rattle.nd_value.specs.Tree as tree
 use Rattle.nd_value.specs.Tree.{none, take_trees}
 use Rattle.nd_value.specs.Nodes.{child_types}
 use Rattle.nd_lemmas.proofs.Lists.{drop_next as drop-get, drop_past as drop-past}
-use Rattle.nd_flat.specs.FlatForm.{flat_seen, armed_count}
+use Rattle.nd_flat.specs.FlatForm.{flat_seen, armed_count, row_numbers}
 use Rattle.text_printer.specs.Texts.{separator, listed, member_texts, arm_text}
 use Rattle.text_printer.specs.Walks.{Writes}
-use Rattle.text_printer.proofs.Walking.{next_written, fewer_after, member_then, element_then, members_over, elements_over, bytes_written, union_written, array_written}
+use Rattle.text_printer.proofs.Walking.{next_written, fewer_after, member_then, members_over, elements_over, bytes_written, union_written, array_written}
+use Rattle.text_printer.proofs.RowTexts.{values_many, row_written, one_written}
 use Rattle.text_printer.proofs.walked.+walked.Goals as goal
 
 pub append_next-append_node-requires : goal.append_next-append_node-requires
@@ -34,27 +35,51 @@ append_array-returns-in_ok-append_counts-in-Some-Array-clause-text t c =
     c.args.text.now c.append_counts.new.text c.append_list.new.text c.args.walk.now c.append_list.new.walk e n (c.in_ok-append_counts-in-Some-Array.ensures) h)
     c.append_list.ensures.text
 
-pub append_elements-loop-at-preserved : goal.append_elements-loop-at-preserved
-append_elements-loop-at-preserved t c = record {
-  written = λ text' walk' h.
-      let n = c.args.count in
-      let i = c.loop-at.at in
-      let elem = c.args.elem.0 in
-      let table = c.args.types.now in
-      let less : n - i ≡ suc (n - (i + 1)) = omega arith in
-      c.loop-at.invariant.written text' walk'
-      (subst (λ m. Writes table (replicate m elem) (listed i) c.loop-at.text c.loop-at.walk text' walk') (sym less)
-      (element_then table elem (n - (i + 1)) i c.loop-at.text c.append_separator.new.text c.append_next.new.text text' c.loop-at.walk c.append_next.new.walk walk'
-      c.in_ok-append_separator.ensures c.in_ok-append_next.ensures.text
-      (subst (λ j. Writes table (replicate (n - (i + 1)) elem) (listed j) c.append_next.new.text c.append_next.new.walk text' walk') (add-one i) h)));
-  fewer = omega (arith, c.in_ok-append_next.ensures.fewer, c.loop-at.invariant.fewer);
-}
+pub append_elements-loop-turn-preserved : goal.append_elements-loop-turn-preserved
+append_elements-loop-turn-preserved t c =
+    let l = c.loop-turn.invariant in
+    let n = c.args.count in
+    let i = c.loop-turn.at in
+    let k = c.in_ok-some.some in
+    let elem = c.args.elem.0 in
+    let table = c.args.types.now in
+    let left : n - (i + k) + k ≡ n - i = omega (arith, l.most, c.in_ok-some.ensures.most) in
+    record {
+      turns = omega (arith, l.turns, c.in_ok-some.ensures.some);
+      most = omega (arith, l.most, c.in_ok-some.ensures.most);
+      written = λ text' walk' h.
+          l.written text' walk'
+          (subst (λ m. Writes table (replicate m elem) (listed i) c.loop-turn.text c.loop-turn.walk text' walk') left
+          (c.in_ok-some.ensures.text (n - (i + k)) text' walk' h));
+      fewer = omega (arith, c.in_ok-some.ensures.fewer, l.fewer);
+    }
 
 pub append_elements-returns-clause-text : goal.append_elements-returns-clause-text
 append_elements-returns-clause-text t c =
+    let l = c.loop-turn.invariant in
     let n = c.args.count in
-    let i = c.loop-at.at in
-    c.loop-at.invariant.written c.loop-at.text c.loop-at.walk (elements_over c.args.types.now c.args.elem.0 (n - i) i c.loop-at.text c.loop-at.walk (omega arith))
+    let i = c.loop-turn.at in
+    l.written c.loop-turn.text c.loop-turn.walk
+    (elements_over c.args.types.now c.args.elem.0 (n - i) i c.loop-turn.text c.loop-turn.walk (omega (arith, l.turns, c.loop-turn-test.false)))
+
+pub append_elements-returns-then-at-count-clause-text : goal.append_elements-returns-then-at-count-clause-text
+append_elements-returns-then-at-count-clause-text t c =
+    let n = c.args.count in
+    let i = c.loop-turn.at in
+    c.loop-turn.invariant.written c.loop-turn.text c.loop-turn.walk
+    (elements_over c.args.types.now c.args.elem.0 (n - i) i c.loop-turn.text c.loop-turn.walk (omega (arith, c.if-at-count.true)))
+
+pub append_some-returns-in-Some-clause-text : goal.append_some-returns-in-Some-clause-text
+append_some-returns-in-Some-clause-text t c =
+    let r = c.in-Some.row in
+    row_written c.args.types.now c.args.elem.0 c.args.at r.count (row_numbers r) c.args.text.now c.append_numbers.new.text c.args.walk.now c.row.new.self
+    (values_many r.order r.of r.count r.octets.now) c.in-Some.ensures.some c.in_ok-append_numbers.ensures
+
+pub append_some-returns-clause-text : goal.append_some-returns-clause-text
+append_some-returns-clause-text t c =
+    let same : c.row.new.self ≡ c.args.walk.now = search rules in
+    one_written c.args.types.now c.args.elem.0 c.args.at c.args.text.now c.append_separator.new.text c.append_next.new.text c.args.walk.now c.row.new.self c.append_next.new.walk
+    same c.in_ok-append_separator.ensures c.in_ok-append_next.ensures.text
 
 pub append_list-returns-then-are_bytes-clause-text : goal.append_list-returns-then-are_bytes-clause-text
 append_list-returns-then-are_bytes-clause-text t c =

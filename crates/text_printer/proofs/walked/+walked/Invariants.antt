@@ -17,16 +17,19 @@ abbrev pub decreases-append_members : goal.decreases-append_members
 decreases-append_members l = 8 * length (flat l.walk.now) + 1
 
 abbrev pub decreases-append_array : goal.decreases-append_array
-decreases-append_array l = 8 * length (flat l.walk.now) + 3
+decreases-append_array l = 8 * length (flat l.walk.now) + 4
 
 abbrev pub decreases-append_pipe : goal.decreases-append_pipe
-decreases-append_pipe l = 8 * length (flat l.walk.now) + 3
+decreases-append_pipe l = 8 * length (flat l.walk.now) + 4
 
 abbrev pub decreases-append_list : goal.decreases-append_list
-decreases-append_list l = 8 * length (flat l.walk.now) + 2
+decreases-append_list l = 8 * length (flat l.walk.now) + 3
 
 abbrev pub decreases-append_elements : goal.decreases-append_elements
-decreases-append_elements l = 8 * length (flat l.walk.now) + 1
+decreases-append_elements l = 8 * length (flat l.walk.now) + 2
+
+abbrev pub decreases-append_some : goal.decreases-append_some
+decreases-append_some l = 8 * length (flat l.walk.now) + 1
 
 abbrev pub decreases-append_union : goal.decreases-append_union
 decreases-append_union l = 8 * length (flat l.walk.now) + 2
@@ -42,8 +45,10 @@ invariant-append_members-loop-at l = record {
   fewer : length (flat l.walk) ≤ length (flat l.initial.walk);
 }
 
-abbrev pub invariant-append_elements-loop-at : goal.invariant-append_elements-loop-at
-invariant-append_elements-loop-at l = record {
+abbrev pub invariant-append_elements-loop-turn : goal.invariant-append_elements-loop-turn
+invariant-append_elements-loop-turn l = record {
+  turns : l._turn ≤ l.at;
+  most : l.at ≤ l.count;
   written : (text' : List ℕ) (walk' : Trees) → Writes l.types (replicate (l.count - l.at) l.elem.0) (listed l.at) l.text l.walk text' walk'
       → Writes l.types (replicate l.count l.elem.0) (listed 0) l.initial.text l.initial.walk text' walk';
   fewer : length (flat l.walk) ≤ length (flat l.initial.walk);
