@@ -1,5 +1,5 @@
 -- Which outcome a command has where no load fails and notes do not.
-use Rattle.std.proofs.Common.{◌≡◌, ℕ, ◌<◌, List, length, Option, Some, None, refl, sym, ◌∙◌, ap, subst, inl, inr, ◌⊎◌}
+use Rattle.std.proofs.Common.{◌≡◌, ℕ, ◌<◌, true, false, List, length, Option, Some, None, refl, sym, ◌∙◌, ap, subst, inl, inr, ◌⊎◌}
 use Rattle.nd_base.specs.declared.octets.Order.{Order}
 use Rattle.nd_base.specs.Over.{FilesSeen, SourceSeen, SinkSeen, HasRisen, Got}
 use Rattle.nd_value.specs.Setting.{Setting}

@@ -1,5 +1,5 @@
 -- What words of `why` come to, as the outcome of their command.
-use Rattle.std.proofs.Common.{◌≡◌, List, ℕ, Option, Some, refl, ap, subst}
+use Rattle.std.proofs.Common.{◌≡◌, List, ℕ, Option, Some, refl, ap, subst, inl}
 use Rattle.command_line.specs.Words.{Command, Why, command, command_or_why, why_words}
 use Rattle.command_streams.specs.declared.outcome.Outcome.{Outcome}
 use Rattle.command_streams.specs.declared.outcome.Outcome.TheVariants.{Done, Refused, Reported, Wanting}

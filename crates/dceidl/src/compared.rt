@@ -1,5 +1,5 @@
 // `compat .. why`: two versions are compared, and the first place at which they differ is written beside the refusal.
-ghost use Rattle.std.specs.Prelude.{◌≡◌, Some, None, option_map, IfSome, IfNone};
+ghost use Rattle.std.specs.Prelude.{◌≡◌, true, false, option_map, IfSome, IfNone};
 ghost use Rattle.nd_base.specs.Over.{FilesSeen, files_seen};
 ghost use Rattle.command_compile.specs.Asked.{FileNames};
 ghost use Rattle.command_compat.specs.Compat.{AsksBoth, IsIncompatible};
@@ -86,11 +86,12 @@ pub(crate) fn compared<F: Files>(alloc: Global, versions: Versions<'_>, files: &
 fn incompatible(alloc: Global, why: Incompatible) -> Outcome
     ensures { (f : FilesSeen) (old new : FileNames) → IsIncompatible f old new why → IsComparedOutcome f old new result }
 {
-    let Ok(line) = line(alloc, "", "", &why.refusal) else {
+    let Incompatible { refusal, place } = why;
+    let Ok(line) = line(alloc, "", "", &refusal) else {
         return Outcome::Wanting;
     };
-    let status = status(&why.refusal);
-    match why.place {
+    let status = status(&refusal);
+    match place {
         Some(text) => Outcome::Reported { text, status, line },
         None => Outcome::Refused { status, line },
     }
