@@ -1,0 +1,15 @@
+"""The library: the program of README.md and those of examples/, which tests/library.py builds and runs. What is missing to run one is named there."""
+
+import subprocess
+import sys
+
+from case import ROOT, Check
+
+
+def programs():
+    """What is wrong with the programs."""
+    ran = subprocess.run([sys.executable, str(ROOT / "tests" / "library.py"), "examples"], capture_output=True, text=True, stdin=subprocess.DEVNULL)
+    return [] if ran.returncode == 0 else [ran.stdout[-4000:], ran.stderr[-4000:]]
+
+
+CASES = [Check("library: the programs of README.md and examples/", programs, runs_script=True)]
