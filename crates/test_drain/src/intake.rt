@@ -35,10 +35,11 @@ fn plan(alloc: Global) -> Result<Plan, Memory>
     let Ok(interface) = compile(alloc, "t.idl", None, &mut files) else {
         return Err(Memory);
     };
+    let plan = make(alloc, &interface)?;
     if interface.operations.len() == 0 {
         return Err(Memory);
     }
-    make(alloc, &interface)
+    Ok(plan)
 }
 
 // An intake of the inputs of the first operation, whose head was read.
