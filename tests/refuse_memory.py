@@ -7,7 +7,7 @@ is refused, and it is one that the program can do without, the run may also end 
     tests/refuse_memory.py --most N           at most N growths of each command, spread over all of them (default: all)
 
 The commands are an encoding and a decoding, the directory interface's compile, encode, decode and explain, a drain, a response beside its request, a
-call, a wrap, a comparison, a session and the sample. In the run of number N the Nth call of `malloc` or `realloc` is refused; then all calls from the
+call, a wrap, comparisons, a session and the sample. In the run of number N the Nth call of `malloc` or `realloc` is refused; then all calls from the
 Nth on are. The gate does not run this. It needs a C compiler, `cc`, for what refuses, and a program that is linked with the C library as a shared object.
 
 The status is 1 if a run ends in another way, or if the sample has fewer than ten growths.
@@ -70,7 +70,7 @@ void *realloc(void *old, size_t size) {
 
 
 class Command(NamedTuple):
-    """A command with its files and its input, what it writes, and what its ends have."""
+    """A command with its files and its input, what it writes, what its ends have, and how it ends."""
 
     name: str
     words: List[str]
@@ -79,6 +79,8 @@ class Command(NamedTuple):
     out: bytes
     ends: Mapping[str, bytes] = {}
     least: int = 1
+    status: int = 0
+    notes: bytes = b""
 
 
 HEAD = interface(
@@ -101,6 +103,10 @@ PDUS = pdu(PUT[:40], flags=1, number=1, hint=len(PUT)) + pdu(PUT[40:], flags=2, 
 PIPES = {"t.idl": interface("typedef pipe long lp;", "void feed([in] lp d);")}
 PIPE_OCTETS = octets("02000000 01000000 02000000 01000000 03000000 00000000")
 BESIDE = {"t.idl": interface("void r([in] unsigned long n, [out, size_is(n)] byte a[*]);"), "request.txt": lines("values 2", "op r in", "n = 2")}
+DIFFERING = {"old.idl": interface("typedef struct s { [unique] struct s *n; } s;", "void f([in] s a);", "void g([in] s b);"),
+             "new.idl": interface("typedef struct s { [unique] struct s *n; } s;", "typedef struct r { [unique] struct s *n; } r;", "void f([in] s a);",
+                                  "void g([in] r b);")}
+PLACE = ["op g parameter b", "old struct 1", "new struct 1", "earlier", "op f parameter a", "old struct 1", "new struct 1"]
 SCRIPT = lines("open 1 00112233-4455-6677-8899-aabbccddeeff", "use 00112233-4455-6677-8899-aabbccddeeff hi", "down 1")
 SAMPLED = lines("cells 2", "octets 28", "sum 178", "same yes")
 
@@ -123,6 +129,8 @@ COMMANDS = [
     Command("call", ["call", "dir.idl", "dir.acf", "-"], DIRECTORY_FILES, PDUS, lines("call 7") + PUT_TEXT),
     Command("wrap", directory("wrap", "7", "1024"), DIRECTORY_FILES, PUT_TEXT, pdu(PUT, number=1)),
     Command("compat", ["compat", "dir.idl", "dir.acf", "dir.idl", "-"], DIRECTORY_FILES, b"", lines("compatible 2")),
+    Command("compat why", ["compat", "old.idl", "-", "new.idl", "-", "why"], DIFFERING, b"", lines(*PLACE), status=1,
+            notes=lines("refused: compat: Differs g")),
     Command("session", ["session"], {}, SCRIPT, lines("ok", "ok", "ended 1"), {"res0.out": lines("hi")}),
     Command("sample", ["sample", "1", "2"], {}, b"", SAMPLED, least=LEAST_OF_SAMPLE),
     Command("no words", [], {}, b"", SAMPLED, least=LEAST_OF_SAMPLE),
@@ -171,7 +179,7 @@ def chosen(growths: int, most: Optional[int]) -> Iterable[int]:
 def refuse(program: str, refuser: Path, command: Command, most: Optional[int]) -> bool:
     """Refuses the growths of a command in turn, and answers whether all runs ended as they should."""
     whole = run(program, refuser, command)
-    right = (whole.status, whole.out, whole.notes, dict(whole.ends)) == (0, command.out, b"", dict(command.ends)) and whole.growths >= command.least
+    right = (whole.status, whole.out, whole.notes, dict(whole.ends)) == (command.status, command.out, command.notes, dict(command.ends)) and whole.growths >= command.least
     if not right:
         print(f"FAILED: {command.name}: with memory it ends with status {whole.status}, {whole.growths} growths: {whole.notes[:100]!r}")
         return False

@@ -157,4 +157,65 @@ FILES = [
          notes=lines("words refused"), status=2),
 ]
 
-CASES = ANSWERS + FORMS + PARAMETERS + FILES
+
+
+def explained(name, old, new, op, *place):
+    """The place at which declarations differ, whose first operation that differs is this."""
+    return Case(f"compat: why: {name}", ["compat", "old.idl", "-", "new.idl", "-", "why"], {"old.idl": version(old), "new.idl": version(new)},
+                out=lines(*place), notes=lines(f"refused: compat: Differs {op}"), status=1)
+
+
+LIST = "typedef struct s {{ long x; [unique] struct s *next; {} y[2]; }} s; void f([in] s a);"
+BESIDE = ("old struct 1", "new struct 1")
+
+PLACES = [
+    explained("a primitive", "void f([in] long a);", "void f([in] unsigned long a);", "f", "op f parameter a", "old long", "new unsigned long"),
+    explained("a primitive and an enumerated type", "void f([in] short a);", "typedef enum { A } e; void f([in] e a);", "f",
+              "op f parameter a", "old short", "new enum 1"),
+    explained("a member of a pointee", SUM, WIDER, "sum", "op sum parameter p", "path pointee .n", "old short", "new long"),
+    explained("an element", "void f([in] long a[3]);", "void f([in] short a[3]);", "f", "op f parameter a", "path element", "old long", "new short"),
+    explained("a bound", "void f([in] long a[3]);", "void f([in] long a[4]);", "f", "op f parameter a", "old fixed 3", "new fixed 4"),
+    explained("a member more", "typedef struct { long x; } s; void f([in] s a);", "typedef struct { long x; long y; } s; void f([in] s a);", "f",
+              "op f parameter a", "old struct 1", "new struct 2"),
+    explained("steps", LIST.format("short"), LIST.format("byte"), "f", "op f parameter a", "path .y element", "old short", "new byte"),
+    explained("an arm", UNION.format(ARMS), UNION.format("case 1: long x; case 2: ; default: long y;"), "f",
+              "op f parameter a", "path arm 1", "old short", "new long"),
+    explained("a default", UNION.format(ARMS), UNION.format("case 1: short x; case 2: ; default: short y;"), "f",
+              "op f parameter a", "path default", "old long", "new short", "earlier", "op f parameter a", "path arm 1", "old short", "new short"),
+    explained("a tag", UNION.format(ARMS), UNION.format(ARMS).replace("(long k)", "(short k)"), "f",
+              "op f parameter a", "path tag", "old long", "new short", "earlier", "op f parameter a", "path arm 1", "old short", "new short"),
+    explained("labels", UNION.format(ARMS), UNION.format("case 1: short x; case 3: ; default: long y;"), "f",
+              "op f parameter a", "old union 2", "new union 2"),
+    explained("a class of pointers", "void f([in, unique] long *a);", "void f([in, ptr] long *a);", "f", "op f parameter a", "old unique", "new ptr"),
+    explained("an element of a pipe", "typedef pipe long p; void f([in] p a);", "typedef pipe short p; void f([in] p a);", "f",
+              "op f parameter a", "path element", "old long", "new short"),
+    explained("a handle and a number", "void f([in] handle_t h);", "void f([in] long h);", "f", "op f parameter h", "old handle_t", "new long"),
+    explained("an attribute", counted("size_is", "n"), counted("size_is", "m"), "f", "op f parameter a", "old in conf", "new in conf"),
+    explained("a direction", "void f([in] long *a);", "void f([in, out] long *a);", "f", "op f parameter a", "old in ref", "new in out ref"),
+    explained("the number of parameters", "void f([in] long a);", "void f([in] long a, [in] long b);", "f",
+              "op f", "old 1 parameters", "new 2 parameters"),
+    explained("a result", "long f();", "short f();", "f", "op f result", "old long", "new short"),
+    explained("a result or none", "long f();", "void f();", "f", "op f result", "old long", "new void"),
+    explained("the second parameter", "void f([in] long a, [in] byte b);", "void f([in] long c, [in] short d);", "f",
+              "op f parameter b", "old byte", "new short"),
+    explained("a primitive with another partner", "void f([in] long a, [in] long b);", "void f([in] long c, [in] short d);", "f",
+              "op f parameter b", "old long", "new short", "earlier", "op f parameter a", "old long", "new long"),
+    explained("two structs for one", PAIR, TWO, "f", "op f parameter b", *BESIDE, "earlier", "op f parameter a", *BESIDE),
+    explained("one struct for two", TWO, PAIR, "f", "op f parameter b", *BESIDE, "earlier", "op f parameter a", *BESIDE),
+    explained("a struct of an earlier operation", "typedef struct { long x; } s; void f([in] s *p); void g([in] s a);",
+              "typedef struct { long x; } s; typedef struct { long x; } r; void f([in] s *p); void g([in] r a);", "g",
+              "op g parameter a", *BESIDE, "earlier", "op f parameter p", "path pointee", *BESIDE),
+    Case("compat: why: compatible", ["compat", "old.idl", "-", "new.idl", "-", "why"], {"old.idl": version(SUM), "new.idl": version(LATER, "1.1")},
+         out=lines("compatible 1")),
+    Case("compat: why: another answer", ["compat", "old.idl", "-", "new.idl", "-", "why"], {"old.idl": version(PING), "new.idl": version(PING, "2.0")},
+         notes=lines("refused: compat: OtherMajor 1 2"), status=1),
+    Case("compat: why: a file is missing", ["compat", "old.idl", "-", "new.idl", "-", "why"], {"old.idl": version(PING)}, notes=lines("absent: new.idl"), status=7),
+    Case("compat: why: a full output", ["compat", "old.idl", "-", "new.idl", "-", "why"], {"old.idl": version(SUM), "new.idl": version(WIDER)}, out=FULL,
+         notes=lines("write fault"), status=4),
+    Case("compat: why: full notes", ["compat", "old.idl", "-", "new.idl", "-", "why"], {"old.idl": version(SUM), "new.idl": version(WIDER)}, notes=FULL,
+         out=lines("op sum parameter p", "path pointee .n", "old short", "new long"), status=4),
+    Case("compat: why: another last word", ["compat", "old.idl", "-", "new.idl", "-", "how"], {"old.idl": version(PING), "new.idl": version(PING)},
+         notes=lines("words refused"), status=2),
+]
+
+CASES = ANSWERS + FORMS + PARAMETERS + FILES + PLACES

@@ -120,6 +120,7 @@ READ = [
     BOTH.read("a = 3 : 1 : [ 7 , 8 ]\nn = 3\nm = 2", "a = 3:1:[7, 8]\nn = 3\nm = 2"),
     *STRUCTS.both("a = [{v = 1, w = 2}, {v = 3, w = 4}]"),
     *TEXT.both('a = @1\n@1 = 3:"hi"', 'a = @1\n@1 = 1:""', r'a = @1' + '\n' + r'@1 = 9:"\"\\\x7f\x01 ~"'),
+    *TEXT.both(r'a = @1' + '\n' + r'@1 = 8:"ab\"c\\de"'),
     TEXT.read(r'a = @1' + '\n' + r'@1 = 5:"\x41\x0A\xfF"', r'a = @1' + '\n' + r'@1 = 5:"A\x0a\xff"'),
     *SHORT_TEXT.both('a = "hi"', 'a = ""'),
     *BYTE_TEXT.both('a = "hi"', r'a = "\x01\xff"'),
@@ -129,6 +130,7 @@ READ = [
     *UNIQUE.both("a = null\nb = null", "a = @1\nb = @2\n@1 = 5\n@2 = 5"),
     UNIQUE.read("a = @2\nb = @1\n@1 = 6\n@2 = 5", "a = @1\nb = @2\n@1 = 5\n@2 = 6"),
     *FULL.both("a = @1\nb = @1\n@1 = {v = 7, next = @1}", "a = null\nb = @1\n@1 = {v = 7, next = null}"),
+    FULL.read("a = @2\nb = @1\n@1 = {v = 8, next = @1}\n@2 = {v = 7, next = @1}", "a = @1\nb = @2\n@1 = {v = 7, next = @2}\n@2 = {v = 8, next = @2}"),
     FULL.read("a = @2\nb = @1\n@1 = {v = 8, next = @2}\n@2 = {v = 7, next = @1}", "a = @1\nb = @2\n@1 = {v = 7, next = @2}\n@2 = {v = 8, next = @1}"),
     *CONTEXT.both("a = ctx(0, 00000000-0000-0000-0000-000000000000)", "a = ctx(4294967295, 00112233-4455-6677-8899-aabbccddeeff)"),
     CONTEXT.read("a = ctx ( 7 , 00112233-4455-6677-8899-AABBCCDDEEFF )", "a = ctx(7, 00112233-4455-6677-8899-aabbccddeeff)"),
@@ -345,6 +347,7 @@ HEADS = [
 
 MISFITS = [
     NUMBER.not_value("a = 2147483648", "a", "Range"),
+    *[NUMBER.not_value(f"a = {n}", "a", "Range") for n in (10**18 - 1, 10**18, 10**19 - 1, 10**19, 2**64 - 1, 2**64, 10**20 - 1)],
     BOOLEAN.not_value("a = 2", "a", "Range"),
     CHAR.not_value("a = 256", "a", "Range"),
     ENUM.not_value("a = 1", "a", "Range"),

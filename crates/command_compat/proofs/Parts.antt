@@ -112,7 +112,7 @@ module _ (f g : FilesSeen) (follows : Follows f g) where
 -- ## Causes
 
 module _ (f : FilesSeen) (old new : FileNames) (i j : Interface) (compiled : AreCompiled f old new i j) where
-  compared_cause : (r : Refusal) → IsRefusal i j r → IsCompatCause f old new r
+  pub compared_cause : (r : Refusal) → IsRefusal i j r → IsCompatCause f old new r
   compared_cause Memory cause = tt
   compared_cause (NotCompatible why) cause = record { older = i; newer = j; compiled = compiled; different = cause }
   compared_cause (Absent file) cause = absurd cause

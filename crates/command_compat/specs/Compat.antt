@@ -1,7 +1,7 @@
 -- What the comparison of two versions of an interface makes of their files, and why it is refused.
 -- `f` are files over a call, `old` and `new` the names of the files of the versions, `i` and `j` the interfaces, `mid` the names that had been asked
 -- for between the two.
-use Rattle.std.specs.Prelude.{◌≡◌, ◌⊎◌, ℕ, List, [], ◌∷◌, length, Option, Some, None, codes, decimal, option_map, ⊤}
+use Rattle.std.specs.Prelude.{◌≡◌, ◌⊎◌, ℕ, Bool, true, false, List, [], ◌∷◌, length, Option, Some, None, codes, decimal, option_map, ⊤}
 use Rattle.std.specs.List.{slice_get}
 use Rattle.nd_base.specs.Over.{FilesSeen}
 use Rattle.nd_base.specs.Text.{joined}
@@ -15,6 +15,10 @@ use Rattle.command_refusals.specs.declared.refusal.Refusal.{Refusal}
 use Rattle.command_refusals.specs.declared.refusal.Refusal.TheVariants.{Memory, NotCompatible}
 use Rattle.command_refusals.specs.declared.refusal.CompatFault.{CompatFault}
 use Rattle.command_refusals.specs.declared.refusal.CompatFault.TheVariants as fault
+use Rattle.idl_compat_place.specs.declared.places.Difference.{Difference}
+use Rattle.idl_compat_place.specs.Differences.{IsFirstDifference}
+use Rattle.idl_compat_place.specs.Lines.{difference_lines}
+use Rattle.command_compat.specs.declared.places.Incompatible.{Incompatible}
 use Rattle.command_compile.specs.Asked.{AsksFiles, FileNames}
 use Rattle.command_compile.specs.Compiled.{IsCompiled, IsIdlCause}
 
@@ -105,3 +109,43 @@ abbrev pub IsCompatCause : FilesSeen → FileNames → FileNames → Refusal →
 IsCompatCause f old new Memory = ⊤
 IsCompatCause f old new (NotCompatible why) = IsNotCompatible f old new why
 IsCompatCause f old new r = IsFilesCause f old new r
+
+-- ## What is written beside a refusal
+
+-- The files mean two interfaces, the operation of this name is the first that differs, and this text has the first place at which it does.
+pub record IsPlaceWritten (f : FilesSeen) (old new : FileNames) (name text : List ℕ) : Type 0 where
+  pub older : Interface
+  pub newer : Interface
+  pub compiled : AreCompiled f old new older newer
+  pub different : IsDifferent older newer (fault.Differs name)
+  pub difference : Difference
+  pub first : IsFirstDifference older newer difference
+  pub text_is : text ≡ difference_lines older newer difference
+
+-- beside the refusal of an operation that differs its first place, and nothing beside any other
+abbrev pub IsBeside : FilesSeen → FileNames → FileNames → Refusal → Option (List ℕ) → Type 0
+IsBeside f old new (NotCompatible (fault.Differs name)) (Some text) = IsPlaceWritten f old new name text
+IsBeside f old new (NotCompatible (fault.Differs name)) None = ⊥
+IsBeside f old new r None = ⊤
+IsBeside f old new r (Some text) = ⊥
+
+-- why versions are not compatible, and what is written beside it
+pub record IsIncompatible (f : FilesSeen) (old new : FileNames) (r : Incompatible) : Type 0 where
+  pub cause : IsCompatCause f old new r.refusal
+  pub beside : IsBeside f old new r.refusal r.place
+
+-- the lines of the first difference of two interfaces
+abbrev pub IsPlaceText : Interface → Interface → List ℕ → Type 0
+IsPlaceText i j text = (d : Difference) × IsFirstDifference i j d × (text ≡ difference_lines i j d)
+
+-- the refusal of an operation that differs with its first place, and any other as it is; or memory ran out
+abbrev pub IsExplained : Interface → Interface → Refusal → Incompatible → Type 0
+IsExplained i j (NotCompatible (fault.Differs name)) r =
+    ((r.refusal ≡ NotCompatible (fault.Differs name)) × ((text : List ℕ) × (r.place ≡ Some text) × IsPlaceText i j text))
+    ⊎ ((r.refusal ≡ Memory) × (r.place ≡ None))
+IsExplained i j q r = (r.refusal ≡ q) × (r.place ≡ None)
+
+-- whether a refusal is that of an operation that differs
+abbrev pub IsOfOperation : Refusal → Bool → Type 0
+IsOfOperation (NotCompatible (fault.Differs name)) b = b ≡ true
+IsOfOperation r b = b ≡ false

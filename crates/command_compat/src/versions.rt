@@ -87,7 +87,7 @@ pub(crate) fn compile_both<F: Files>(
 }
 
 // What the comparison of two interfaces comes to, as a line or a refusal.
-fn answer(alloc: Global, older: &Interface, newer: &Interface) -> Result<Octets, Refusal>
+pub(crate) fn answer(alloc: Global, older: &Interface, newer: &Interface) -> Result<Octets, Refusal>
     ensures done { IfOk result (IsAnswer older.now newer.now) }
     ensures refused { IfErr result (IsRefusal older.now newer.now) }
 {

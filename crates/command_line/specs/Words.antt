@@ -1,5 +1,5 @@
 -- The commands that the words of a command line are.
-use Rattle.std.specs.Prelude.{ℕ, Bool, false, ◌&&◌, nat_le, List, [], ◌∷◌, Option, None, Some, if◌then◌else◌, nat_eq, codes, decimal}
+use Rattle.std.specs.Prelude.{ℕ, Bool, true, false, ◌&&◌, nat_le, List, [], ◌∷◌, Option, None, Some, if◌then◌else◌, nat_eq, codes, decimal}
 use Rattle.std.specs.Cmp.Lexicographic.{pointwise}
 use Rattle.std.specs.Str.Parse.{digits_value}
 use Rattle.nd_base.specs.declared.octets.Order.{Order}
@@ -33,8 +33,8 @@ pub data Command : Type 0 where
   Call : (idl : List ℕ) (acf : Option (List ℕ)) (op : Option (List ℕ)) → Command
   -- the input's text is read, and its octets are written as the stub data of fragments, with a call id and so many octets each at most
   Wrap : (of : Subject) (order : Order) (call max : ℕ) → Command
-  -- two versions of an interface are compared
-  Compat : (old : List ℕ) (old_acf : Option (List ℕ)) (new : List ℕ) (new_acf : Option (List ℕ)) → Command
+  -- two versions of an interface are compared; if `why` is true, the first place at which they differ is written
+  Compat : (old : List ℕ) (old_acf : Option (List ℕ)) (new : List ℕ) (new_acf : Option (List ℕ)) (why : Bool) → Command
   -- what these words of a refusal mean is written
   Why : (words : List (List ℕ)) → Command
   -- a graph of so many cells, made from a seed, is encoded and decoded
@@ -182,8 +182,14 @@ abbrev pub sample : Option ℕ → Option ℕ → Option Command
 sample (Some seed) (Some count) = Some (Sample seed count)
 sample _ _ = None
 
+-- `compat` with the last word `why`
+abbrev pub compat_why : List ℕ → List ℕ → List ℕ → List ℕ → List ℕ → Option Command
+compat_why old old_acf new new_acf why =
+    if is_word why (codes "why") then Some (Compat old (acf_of old_acf) new (acf_of new_acf) true) else None
+
 -- The command that words are by their number, if they are one: `compile IDL ACF`, `plan IDL ACF`, `sample SEED COUNT`,
--- `call IDL ACF OP` or `call IDL ACF -`, `migrate IDL ACF OP SIDE`, `compat OLD OLDACF NEW NEWACF`, `decode IDL ACF OP SIDE ORDER`,
+-- `call IDL ACF OP` or `call IDL ACF -`, `migrate IDL ACF OP SIDE`, `compat OLD OLDACF NEW NEWACF`, the same with `why`,
+-- `decode IDL ACF OP SIDE ORDER`,
 -- `decode IDL ACF OP out ORDER given TEXT`, the same of `explain` and `drain`, `encode IDL ACF OP SIDE ORDER CHUNK`,
 -- `encode IDL ACF OP out ORDER CHUNK given TEXT`, `wrap IDL ACF OP SIDE ORDER CALL MAX`, `--help` or `--version`.
 -- No words are `sample 1 2`.
@@ -198,8 +204,10 @@ counted_command (verb ∷ first ∷ second ∷ third ∷ []) =
     if is_word verb (codes "call") then Some (Call first (acf_of second) (operation_of third)) else None
 counted_command (verb ∷ first ∷ second ∷ third ∷ fourth ∷ []) =
     if is_word verb (codes "migrate") then migrate first second third (side_of fourth)
-    else if is_word verb (codes "compat") then Some (Compat first (acf_of second) third (acf_of fourth)) else None
-counted_command (how ∷ idl ∷ acf ∷ op ∷ side ∷ order ∷ []) = read (reading_of how) idl acf op (side_of side) (order_of order)
+    else if is_word verb (codes "compat") then Some (Compat first (acf_of second) third (acf_of fourth) false) else None
+counted_command (verb ∷ first ∷ second ∷ third ∷ fourth ∷ fifth ∷ []) =
+    if is_word verb (codes "compat") then compat_why first second third fourth fifth
+    else read (reading_of verb) first second third (side_of fourth) (order_of fifth)
 counted_command (verb ∷ idl ∷ acf ∷ op ∷ side ∷ order ∷ chunk ∷ []) =
     if is_word verb (codes "encode") then encode idl acf op (side_of side) (order_of order) (chunk_of chunk) else None
 counted_command (verb ∷ idl ∷ acf ∷ op ∷ side ∷ order ∷ seventh ∷ eighth ∷ []) =

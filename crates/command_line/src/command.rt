@@ -102,6 +102,8 @@ pub enum Command<'a> {
         old_acf: Option<&'a str>,
         new: &'a str,
         new_acf: Option<&'a str>,
+        /// Whether the first place at which they differ is written.
+        why: bool,
     },
     /// A sample of so many cells, made from a seed, is encoded and decoded.
     Sample {

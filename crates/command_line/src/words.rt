@@ -6,7 +6,7 @@ ghost use Rattle.command_line.specs.Words.{read as read_of, read_beside as read_
 ghost use Rattle.command_line.specs.Words.{encode as encode_of, encode_beside as encode_beside_of, migrate as migrate_of, sample as sample_of};
 ghost use Rattle.command_line.specs.Words.{listing as listing_of, subject as subject_by};
 ghost use Rattle.command_line.specs.Words.{is_session as is_session_of, operation_of, fixed_order_of, wrap as wrap_of};
-ghost use Rattle.command_line.specs.Words.{read_beside_words as read_beside_words_of};
+ghost use Rattle.command_line.specs.Words.{read_beside_words as read_beside_words_of, compat_why as compat_why_of};
 ghost use Rattle.command_line.specs.declared.TheConstants.{COUNT_LIMIT, LEAST_MAX};
 ghost use Rattle.command_line.specs.Commands.{command_of, subject_of, IsWellFormed};
 
@@ -139,13 +139,13 @@ fn command_of_more(words: &[String]) -> Option<Command<'_>>
     ensures formed { IfSome result IsWellFormed }
 {
     match words {
-        [verb, idl, acf, op, side, order] => read_command(
-            reading_named(verb.as_str()),
-            idl.as_str(),
-            acf.as_str(),
-            op.as_str(),
-            side_named(side.as_str()),
-            order_named(order.as_str()),
+        [verb, first, second, third, fourth, fifth] => six_words(
+            verb.as_str(),
+            first.as_str(),
+            second.as_str(),
+            third.as_str(),
+            fourth.as_str(),
+            fifth.as_str(),
         ),
         [verb, idl, acf, op, side, order, chunk] => {
             if verb.as_str() == "encode" {
@@ -266,6 +266,58 @@ fn five_words<'a>(
             old_acf: acf_named(second),
             new: third,
             new_acf: acf_named(fourth),
+            why: false,
+        })
+    } else {
+        None
+    }
+}
+
+// The command that six words are: `compat` with `why`, or one that reads octets.
+fn six_words<'a>(
+    verb: &str,
+    first: &'a str,
+    second: &'a str,
+    third: &'a str,
+    fourth: &'a str,
+    fifth: &str,
+) -> Option<Command<'a>>
+    ensures command { option_map command_of result
+        ≡ counted_command (verb.now ∷ first.now ∷ second.now ∷ third.now ∷ fourth.now ∷ fifth.now ∷ []) }
+    ensures formed { IfSome result IsWellFormed }
+{
+    if verb == "compat" {
+        compat_why(first, second, third, fourth, fifth)
+    } else {
+        read_command(
+            reading_named(verb),
+            first,
+            second,
+            third,
+            side_named(fourth),
+            order_named(fifth),
+        )
+    }
+}
+
+// `compat` with the last word `why`.
+fn compat_why<'a>(
+    old: &'a str,
+    old_acf: &'a str,
+    new: &'a str,
+    new_acf: &'a str,
+    why: &str,
+) -> Option<Command<'a>>
+    ensures command { option_map command_of result ≡ compat_why_of old.now old_acf.now new.now new_acf.now why.now }
+    ensures formed { IfSome result IsWellFormed }
+{
+    if why == "why" {
+        Some(Command::Compat {
+            old,
+            old_acf: acf_named(old_acf),
+            new,
+            new_acf: acf_named(new_acf),
+            why: true,
         })
     } else {
         None

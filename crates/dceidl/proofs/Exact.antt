@@ -1,5 +1,5 @@
 -- Which outcome a command has where no load fails and notes do not.
-use Rattle.std.proofs.Common.{◌≡◌, ℕ, ◌<◌, List, length, Option, Some, None, refl, sym, ◌∙◌, ap, subst, inl, inr, ◌⊎◌}
+use Rattle.std.proofs.Common.{◌≡◌, ℕ, ◌<◌, true, false, List, length, Option, Some, None, refl, sym, ◌∙◌, ap, subst, inl, inr, ◌⊎◌}
 use Rattle.nd_base.specs.declared.octets.Order.{Order}
 use Rattle.nd_base.specs.Over.{FilesSeen, SourceSeen, SinkSeen, HasRisen, Got}
 use Rattle.nd_value.specs.Setting.{Setting}
@@ -17,6 +17,7 @@ use Rattle.command_refusals.specs.declared.refusal.Refusal.{Refusal}
 use Rattle.command_refusals.specs.declared.refusal.Refusal.TheVariants.{Memory, Absent, FileFailed, BadIdl, NoOperation, ReadFault, BadOctets, BadText, BadValue, TooLong, BadRequest, BadLabel}
 use Rattle.command_refusals.specs.declared.refusal.Refusal.TheVariants.{ShortLabel, TooFewEnds, EndFailed}
 use Rattle.command_refusals.specs.declared.refusal.Refusal.TheVariants.{BadPdu, NotCompatible, BadScript, LongScript}
+use Rattle.command_refusals.specs.declared.refusal.CompatFault.TheVariants.{Differs}
 use Rattle.command_refusals.specs.declared.refusal.OctetsFault.TheVariants.{Refused, Trailing}
 use Rattle.command_refusals.specs.declared.refusal.RequestFault.{RequestFault}
 use Rattle.command_refusals.specs.Lines.{status_of, line_of}
@@ -28,7 +29,7 @@ use Rattle.command_explain.specs.Explanations.{IsExplained}
 use Rattle.command_decode.specs.Printed.{IsPrinted, IsInputCause}
 use Rattle.command_text.specs.Fitted.{IsTextCause}
 use Rattle.command_text.proofs.OneText.{good_cause, fault_cause, misfit_cause}
-use Rattle.dceidl.specs.Causes.{IsMade, IsCause, IsUnexplained}
+use Rattle.dceidl.specs.Causes.{IsMade, IsCause, IsPlaceTold, IsUnexplained, tells}
 use Rattle.command_why.specs.declared.lookup.Explained.TheVariants.{Found, Nearest}
 use Rattle.dceidl.proofs.Compats.{compat_done, compat_settled}
 use Rattle.dceidl.specs.Encode.{IsLabelledEncoding, IsLongEncoding, IsEncodingCause, IsMigration}
@@ -58,7 +59,7 @@ use Rattle.dceidl.proofs.HeldRequests.{legal_all, all_one, all_cause, all_unread
 use Rattle.dceidl.proofs.OneReading.{IsOctetsCause, read_causes, whole_here, decoded_cause, refused_value, refused_cause}
 use Rattle.dceidl.proofs.Drains.{drain_causes, few_made, few_cause}
 use Rattle.dceidl.proofs.OneWriting.{IsGood, migrated_good, fault_good, misfit_good, encodes_cause, text_cause, long_cause, labelled_good, long_labelled}
-use Rattle.dceidl.proofs.Rows.{Ended, ended_done, ended_refused, ended_unknown, ended_untold, ended_wanting, ended_unwritten, ended_unreported}
+use Rattle.dceidl.proofs.Rows.{Ended, ended_done, ended_refused, ended_unknown, ended_untold, ended_told, ended_cut, ended_wanting, ended_unwritten, ended_unreported}
 
 -- ## The input, by what its octets come to
 
@@ -510,7 +511,7 @@ module _ (x : Seen) (loads : HasRisen x.files.faults → ⊥) where
       (good_call x.input given.octets given.given i number order given.call operation stub given.is_call g represents conforms) r cause
   not_refused (Wrap of order call max) (w, a, can) r cause =
       of_wrap of order w a (λ q. q ≡ Memory) refl (made_cause x.input x.ends w (legal_all x.files of None w a) (wrap_task order) can) r cause
-  not_refused (Compat old old_acf new new_acf) can r cause = compat_done x.files (record { idl = old; acf = old_acf }) (record { idl = new; acf = new_acf }) loads can r cause
+  not_refused (Compat old old_acf new new_acf why) can r cause = compat_done x.files (record { idl = old; acf = old_acf }) (record { idl = new; acf = new_acf }) loads can r cause
   not_refused (Why words) can r cause = cause
   not_refused (Sample seed count) can r cause = cause
   not_refused Help can r cause = cause
@@ -581,7 +582,7 @@ module _ (x : Seen) (loads : HasRisen x.files.faults → ⊥) where
   settled (Wrap of order call max) (NotCompatible differing) (w, a, must) = wrap_no_input of order call max (NotCompatible differing) w a must
   settled (Wrap of order call max) (BadScript row) (w, a, must) = wrap_no_input of order call max (BadScript row) w a must
   settled (Wrap of order call max) LongScript (w, a, must) = wrap_no_input of order call max LongScript w a must
-  settled (Compat old old_acf new new_acf) r must = compat_settled x.files (record { idl = old; acf = old_acf }) (record { idl = new; acf = new_acf }) loads r must
+  settled (Compat old old_acf new new_acf why) r must = compat_settled x.files (record { idl = old; acf = old_acf }) (record { idl = new; acf = new_acf }) loads r must
   settled (Why words) r must = absurd must
   settled (Sample seed count) r must = absurd must
   settled Help r must = absurd must
@@ -597,7 +598,7 @@ explained_once x (Compile idl acf) can text nearest = nearest
 explained_once x (Plan idl acf) can text nearest = nearest
 explained_once x (Call idl acf op) can text nearest = nearest
 explained_once x (Wrap of order call max) can text nearest = nearest
-explained_once x (Compat old old_acf new new_acf) can text nearest = nearest
+explained_once x (Compat old old_acf new new_acf why) can text nearest = nearest
 explained_once x (Sample seed count) can text nearest = nearest
 explained_once x Help can text nearest = nearest
 explained_once x Version can text nearest = nearest
@@ -610,10 +611,54 @@ caused_once x (Compile idl acf) r must text nearest = nearest
 caused_once x (Plan idl acf) r must text nearest = nearest
 caused_once x (Call idl acf op) r must text nearest = nearest
 caused_once x (Wrap of order call max) r must text nearest = nearest
-caused_once x (Compat old old_acf new new_acf) r must text nearest = nearest
+caused_once x (Compat old old_acf new new_acf why) r must text nearest = nearest
 caused_once x (Sample seed count) r must text nearest = nearest
 caused_once x Help r must text nearest = nearest
 caused_once x Version r must text nearest = nearest
+
+-- the place of a difference is told only by `compat .. why`
+tells_place : (x : Seen) (c : Command) (name text : List ℕ) → IsPlaceTold x c name text → tells c ≡ true
+tells_place x (Compat old old_acf new new_acf true) name text told = refl
+tells_place x (Compat old old_acf new new_acf false) name text told = absurd told
+tells_place x (Why words) name text told = absurd told
+tells_place x (Values task of given) name text told = absurd told
+tells_place x (Compile idl acf) name text told = absurd told
+tells_place x (Plan idl acf) name text told = absurd told
+tells_place x (Call idl acf op) name text told = absurd told
+tells_place x (Wrap of order call max) name text told = absurd told
+tells_place x (Sample seed count) name text told = absurd told
+tells_place x Help name text told = absurd told
+tells_place x Version name text told = absurd told
+
+module _ (x : Seen) where
+  -- where a place is told, its operation differs
+  place_cause : (c : Command) (name text : List ℕ) → IsPlaceTold x c name text → IsCause x c (NotCompatible (Differs name))
+  place_cause (Compat old old_acf new new_acf true) name text told =
+      record { older = told.older; newer = told.newer; compiled = told.compiled; different = told.different }
+  place_cause (Compat old old_acf new new_acf false) name text told = absurd told
+  place_cause (Why words) name text told = absurd told
+  place_cause (Values task of given) name text told = absurd told
+  place_cause (Compile idl acf) name text told = absurd told
+  place_cause (Plan idl acf) name text told = absurd told
+  place_cause (Call idl acf op) name text told = absurd told
+  place_cause (Wrap of order call max) name text told = absurd told
+  place_cause (Sample seed count) name text told = absurd told
+  place_cause Help name text told = absurd told
+  place_cause Version name text told = absurd told
+
+  module _ (c : Command) (loads : HasRisen x.files.faults → ⊥) where
+    placed_once : CanBeDone x c → (name text : List ℕ) → IsPlaceTold x c name text → ⊥
+    placed_once can name text told = never (not_refused x loads c can (NotCompatible (Differs name)) (place_cause c name text told))
+      where
+        never : NotCompatible (Differs name) ≡ Memory → ⊥
+        never e = cc
+
+    placed_as : (r : Refusal) → MustBeRefused x c r → (name text : List ℕ) → IsPlaceTold x c name text → NotCompatible (Differs name) ≡ r
+    placed_as r must name text told = by ((settled x loads c r must).1 (NotCompatible (Differs name)) (place_cause c name text told))
+      where
+        by : (NotCompatible (Differs name) ≡ Memory) ⊎ (NotCompatible (Differs name) ≡ r) → NotCompatible (Differs name) ≡ r
+        by (inl e) = cc
+        by (inr e) = e
 
 module _ (x : Seen) (out notes : SinkSeen) (c : Command) (status : ℕ) (sound : IsSound x notes) (end : Ended x out notes c status) where
   pub complete : CanBeDone x c → IsCompleted out status
@@ -624,6 +669,8 @@ module _ (x : Seen) (out notes : SinkSeen) (c : Command) (status : ℕ) (sound :
       by (ended_refused r) = inr (inl (r.own_status ∙ ap status_of (not_refused x sound.loads c can r.refusal r.cause)))
       by (ended_unknown is text nearest given told) = absurd (explained_once x c can text nearest)
       by (ended_untold is rose text nearest) = inr (inr (is, rose))
+      by (ended_told t) = absurd (placed_once x c sound.loads can t.name t.text t.told)
+      by (ended_cut is rose name text told) = inr (inr (is, rose))
       by (ended_wanting is) = inr (inl is)
       by (ended_unwritten is rose made is_made) = inr (inr (is, rose))
       by (ended_unreported is rose) = absurd (sound.reports rose)
@@ -632,7 +679,7 @@ module _ (x : Seen) (out notes : SinkSeen) (c : Command) (status : ℕ) (sound :
   exactly r must = by end
     where
       by_cause : (q : Refusal) → status ≡ status_of q → Got notes (line_of (idl_of c) (op_of c) q) → (q ≡ Memory) ⊎ (q ≡ r) → Refuses c notes status r
-      by_cause q is line (inl e) = inr (is ∙ ap status_of e)
+      by_cause q is line (inl e) = inr (inl (is ∙ ap status_of e))
       by_cause q is line (inr e) = inl (is ∙ ap status_of e, subst (λ p. Got notes (line_of (idl_of c) (op_of c) p)) e line)
 
       by : Ended x out notes c status → Refuses c notes status r
@@ -640,6 +687,8 @@ module _ (x : Seen) (out notes : SinkSeen) (c : Command) (status : ℕ) (sound :
       by (ended_refused q) = by_cause q.refusal q.own_status q.line ((settled x sound.loads c r must).1 q.refusal q.cause)
       by (ended_unknown is text nearest given told) = absurd (caused_once x c r must text nearest)
       by (ended_untold is rose text nearest) = absurd (caused_once x c r must text nearest)
-      by (ended_wanting is) = inr is
+      by (ended_told t) = by_cause (NotCompatible (Differs t.name)) t.own_status t.line (inr (placed_as x c sound.loads r must t.name t.text t.told))
+      by (ended_cut is rose name text told) = inr (inr (tells_place x c name text told, is))
+      by (ended_wanting is) = inr (inl is)
       by (ended_unwritten is rose made is_made) = absurd ((settled x sound.loads c r must).0 made is_made)
       by (ended_unreported is rose) = absurd (sound.reports rose)

@@ -1,5 +1,5 @@
 -- What words of `why` come to, as the outcome of their command.
-use Rattle.std.proofs.Common.{◌≡◌, List, ℕ, Option, Some, refl, ap, subst}
+use Rattle.std.proofs.Common.{◌≡◌, List, ℕ, Option, Some, refl, ap, subst, inl}
 use Rattle.command_line.specs.Words.{Command, Why, command, command_or_why, why_words}
 use Rattle.command_streams.specs.declared.outcome.Outcome.{Outcome}
 use Rattle.command_streams.specs.declared.outcome.Outcome.TheVariants.{Done, Refused, Reported, Wanting}
@@ -11,7 +11,7 @@ use Rattle.dceidl.specs.Seen.{Seen}
 as_outcome : (x : Seen) (words : List (List ℕ)) (outcome : Outcome) → IsExplanation words outcome → IsCommandOutcome x (Why words) outcome
 as_outcome x words (Done made) h = h
 as_outcome x words (Refused status line) h = absurd h
-as_outcome x words (Reported text status line) h = h
+as_outcome x words (Reported text status line) h = inl h
 as_outcome x words Wanting h = (Memory, refl)
 
 module _ (x : Seen) (all words : List (List ℕ)) (is : Some words ≡ why_words all) where

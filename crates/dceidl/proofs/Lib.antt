@@ -11,6 +11,7 @@ pub mod RoundTrip
 pub mod HeldFiles
 pub mod HeldRequests
 pub mod Compats
+pub mod Places
 pub mod Calls
 pub mod Calling
 pub mod Exact

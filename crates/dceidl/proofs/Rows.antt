@@ -9,7 +9,7 @@ use Rattle.command_refusals.specs.declared.refusal.Refusal.{Refusal}
 use Rattle.command_refusals.specs.declared.refusal.Refusal.TheVariants.{Memory, Absent, FileFailed, BadIdl, NoOperation, ReadFault, BadOctets, BadText, BadValue, TooLong, BadRequest, BadLabel}
 use Rattle.command_refusals.specs.declared.refusal.Refusal.TheVariants.{ShortLabel, TooFewEnds, EndFailed}
 use Rattle.command_refusals.specs.declared.refusal.Refusal.TheVariants.{BadPdu, NotCompatible, BadScript, LongScript}
-use Rattle.dceidl.specs.Causes.{IsMade, IsCause, IsUnexplained, statuses_of, values_statuses, tells}
+use Rattle.dceidl.specs.Causes.{IsMade, IsCause, IsPlaceTold, IsUnexplained, statuses_of, values_statuses, tells}
 use Rattle.dceidl.specs.Wrapped.{IsNoCall, IsNoWrap}
 use Rattle.command_refusals.specs.Lines.{status_of, line_of}
 use Rattle.command_compile.specs.Compiled.{IsIdlCause}
@@ -27,7 +27,8 @@ use Rattle.command_line.specs.declared.command.OrderWord.{OrderWord}
 use Rattle.command_line.specs.declared.command.OrderWord.TheVariants.{Fixed, Label}
 use Rattle.command_line.specs.declared.command.Task.{Task}
 use Rattle.command_line.specs.declared.command.Task.TheVariants.{Read, Encode, Migrate}
-use Rattle.dceidl.specs.Rows.{IsDone, IsRefusedWith, IsRefused, AreUnknown, tells_refused, ReadsInput, IsDueOf, IsDueNext, IsDueAndMissing, IsDueAndReported, EndRose, IsEndReported, HasNotFailed}
+use Rattle.dceidl.specs.Rows.{IsDone, IsRefusedWith, IsRefusedAtPlace, IsRefused, AreUnknown, tells_refused, ReadsInput}
+use Rattle.dceidl.specs.Rows.{IsDueOf, IsDueNext, IsDueAndMissing, IsDueAndReported, EndRose, IsEndReported, HasNotFailed}
 use Rattle.command_streams.specs.Delivery.{IsOneOf, IsDelivered}
 use Rattle.dceidl.specs.Run.{HasRun, IsOutcome, IsCommandOutcome}
 use Rattle.dceidl.specs.Seen.{Seen}
@@ -63,6 +64,8 @@ pub data Ended (x : Seen) (out notes : SinkSeen) (c : Command) (status : ℕ) : 
   ended_refused : IsRefusedWith x out notes c status → Ended x out notes c status
   ended_unknown : status ≡ 2 → (text : List ℕ) → IsUnexplained c text → Got out text → Got notes (codes "words refused\n") → Ended x out notes c status
   ended_untold : status ≡ 4 → HasRisen out.faults → (text : List ℕ) → IsUnexplained c text → Ended x out notes c status
+  ended_told : IsRefusedAtPlace x out notes c status → Ended x out notes c status
+  ended_cut : status ≡ 4 → HasRisen out.faults → (name text : List ℕ) → IsPlaceTold x c name text → Ended x out notes c status
   ended_wanting : status ≡ 5 → Ended x out notes c status
   ended_unwritten : status ≡ 4 → HasRisen out.faults → (made : List ℕ) → IsMade x c made → Ended x out notes c status
   ended_unreported : status ≡ 4 → HasRisen notes.faults → Ended x out notes c status
@@ -75,12 +78,15 @@ module _ (x : Seen) (out notes : SinkSeen) (c : Command) (status : ℕ) where
   by_outcome (Done made) is_made (inl (is, given, quiet)) = ended_done is (record { made = made; is_made = is_made; given = given; quiet = quiet })
   by_outcome (Done made) is_made (inr (is, rose, some, warned)) = ended_unwritten is rose made is_made
   by_outcome (Refused own line) r (before, inl (is, told)) =
-      ended_refused (record { refusal = r.refusal; cause = r.cause; own_status = is ∙ r.status_is; line = subst (Got notes) r.line_is told; nothing_given = before })
+      ended_refused (record { refusal = r.refusal; cause = r.cause; own_status = is ∙ r.status_is; line = subst (Got notes) r.line_is told; nothing_given = before; untold = r.untold })
   by_outcome (Refused own line) r (before, inr (is, rose, some)) = ended_unreported is rose
-  by_outcome (Reported text own line) (nearest, two, same) (inl (given, inl (is, told))) =
+  by_outcome (Reported text own line) (inl (nearest, two, same)) (inl (given, inl (is, told))) =
       ended_unknown (is ∙ two) text nearest given (subst (Got notes) same told)
+  by_outcome (Reported text own line) (inr d) (inl (given, inl (is, told))) =
+      ended_told (record { name = d.name; text = text; told = d.told; own_status = is ∙ d.status_is; line = subst (Got notes) d.line_is told; given = given })
   by_outcome (Reported text own line) r (inl (given, inr (is, rose, some))) = ended_unreported is rose
-  by_outcome (Reported text own line) (nearest, two, same) (inr (is, rose, some, warned)) = ended_untold is rose text nearest
+  by_outcome (Reported text own line) (inl (nearest, two, same)) (inr (is, rose, some, warned)) = ended_untold is rose text nearest
+  by_outcome (Reported text own line) (inr d) (inr (is, rose, some, warned)) = ended_cut is rose d.name text d.told
   by_outcome Wanting caused (before, inl (is, told)) = ended_wanting is
   by_outcome Wanting caused (before, inr (is, rose, some)) = ended_unreported is rose
 
@@ -99,6 +105,14 @@ module _ (x : Seen) (out notes : SinkSeen) (c : Command) (status : ℕ) where
     where
       never : status ≡ 4 → status ≡ 0 → ⊥
       never a b = cc
+  done_is (ended_told t) e = absurd (never t.own_status e)
+    where
+      never : status ≡ 1 → status ≡ 0 → ⊥
+      never a b = cc
+  done_is (ended_cut is rose name text told) e = absurd (never is e)
+    where
+      never : status ≡ 4 → status ≡ 0 → ⊥
+      never a b = cc
   done_is (ended_wanting is) e = absurd (never is e)
     where
       never : status ≡ 5 → status ≡ 0 → ⊥
@@ -112,15 +126,17 @@ module _ (x : Seen) (out notes : SinkSeen) (c : Command) (status : ℕ) where
       never : status ≡ 4 → status ≡ 0 → ⊥
       never a b = cc
 
-  -- any other status than 0, 2, 4 and 5 has a cause
-  pub has_cause : End → status ≢ 0 → status ≢ 2 → status ≢ 4 → status ≢ 5 → IsRefusedWith x out notes c status
-  has_cause (ended_done is d) zero two four five = absurd (zero is)
-  has_cause (ended_refused r) zero two four five = r
-  has_cause (ended_unknown is text nearest given told) zero two four five = absurd (two is)
-  has_cause (ended_untold is rose text nearest) zero two four five = absurd (four is)
-  has_cause (ended_wanting is) zero two four five = absurd (five is)
-  has_cause (ended_unwritten is rose made is_made) zero two four five = absurd (four is)
-  has_cause (ended_unreported is rose) zero two four five = absurd (four is)
+  -- any other status than 0, 1, 2, 4 and 5 has a cause
+  pub has_cause : End → status ≢ 0 → status ≢ 1 → status ≢ 2 → status ≢ 4 → status ≢ 5 → IsRefusedWith x out notes c status
+  has_cause (ended_done is d) zero one two four five = absurd (zero is)
+  has_cause (ended_refused r) zero one two four five = r
+  has_cause (ended_unknown is text nearest given told) zero one two four five = absurd (two is)
+  has_cause (ended_untold is rose text nearest) zero one two four five = absurd (four is)
+  has_cause (ended_told t) zero one two four five = absurd (one t.own_status)
+  has_cause (ended_cut is rose name text told) zero one two four five = absurd (four is)
+  has_cause (ended_wanting is) zero one two four five = absurd (five is)
+  has_cause (ended_unwritten is rose made is_made) zero one two four five = absurd (four is)
+  has_cause (ended_unreported is rose) zero one two four five = absurd (four is)
 
 -- words that have an entry run out of memory alone
 memory_of_why : (x : Seen) (out notes : SinkSeen) (words : List (List ℕ)) (status : ℕ) → IsRefusedWith x out notes (Why words) status → status ≡ 5
@@ -134,7 +150,8 @@ refused_as x out notes (Compile idl acf) status five r = r
 refused_as x out notes (Plan idl acf) status five r = r
 refused_as x out notes (Call idl acf op) status five r = r
 refused_as x out notes (Wrap of order call max) status five r = r
-refused_as x out notes (Compat old old_acf new new_acf) status five r = r
+refused_as x out notes (Compat old old_acf new new_acf false) status five r = r
+refused_as x out notes (Compat old old_acf new new_acf true) status five r = inl r
 refused_as x out notes (Sample seed count) status five r = r
 refused_as x out notes Help status five r = r
 refused_as x out notes Version status five r = r
@@ -148,10 +165,23 @@ nearest_as x out notes (Compile idl acf) status is text nearest given told = abs
 nearest_as x out notes (Plan idl acf) status is text nearest given told = absurd nearest
 nearest_as x out notes (Call idl acf op) status is text nearest given told = absurd nearest
 nearest_as x out notes (Wrap of order call max) status is text nearest given told = absurd nearest
-nearest_as x out notes (Compat old old_acf new new_acf) status is text nearest given told = absurd nearest
+nearest_as x out notes (Compat old old_acf new new_acf why) status is text nearest given told = absurd nearest
 nearest_as x out notes (Sample seed count) status is text nearest given told = absurd nearest
 nearest_as x out notes Help status is text nearest given told = absurd nearest
 nearest_as x out notes Version status is text nearest given told = absurd nearest
+
+place_as : (x : Seen) (out notes : SinkSeen) (c : Command) (status : ℕ) → IsRefusedAtPlace x out notes c status → IsRefused x out notes c status
+place_as x out notes (Compat old old_acf new new_acf true) status t = inr t
+place_as x out notes (Compat old old_acf new new_acf false) status t = absurd t.told
+place_as x out notes (Why words) status t = absurd t.told
+place_as x out notes (Values task of given) status t = absurd t.told
+place_as x out notes (Compile idl acf) status t = absurd t.told
+place_as x out notes (Plan idl acf) status t = absurd t.told
+place_as x out notes (Call idl acf op) status t = absurd t.told
+place_as x out notes (Wrap of order call max) status t = absurd t.told
+place_as x out notes (Sample seed count) status t = absurd t.told
+place_as x out notes Help status t = absurd t.told
+place_as x out notes Version status t = absurd t.told
 
 -- any other status than 0, 4 and 5 is a refusal
 pub refused_is : (x : Seen) (out notes : SinkSeen) (c : Command) (status : ℕ) → Ended x out notes c status → status ≢ 0 → status ≢ 4 → status ≢ 5
@@ -160,6 +190,8 @@ refused_is x out notes c status (ended_done is d) zero four five = absurd (zero 
 refused_is x out notes c status (ended_refused r) zero four five = refused_as x out notes c status five r
 refused_is x out notes c status (ended_unknown is text nearest given told) zero four five = nearest_as x out notes c status is text nearest given told
 refused_is x out notes c status (ended_untold is rose text nearest) zero four five = absurd (four is)
+refused_is x out notes c status (ended_told t) zero four five = place_as x out notes c status t
+refused_is x out notes c status (ended_cut is rose name text told) zero four five = absurd (four is)
 refused_is x out notes c status (ended_wanting is) zero four five = absurd (five is)
 refused_is x out notes c status (ended_unwritten is rose made is_made) zero four five = absurd (four is)
 refused_is x out notes c status (ended_unreported is rose) zero four five = absurd (four is)
@@ -277,7 +309,7 @@ refused_status x (Call idl acf op) status r cause e =
     of_values false status r (λ which same. absurd (call_ends x idl acf op which (subst (IsCause x (Call idl acf op)) same cause))) e
 refused_status x (Wrap of order call max) status r cause e =
     of_values false status r (λ which same. absurd (wrap_ends x of which (subst (IsCause x (Wrap of order call max)) same cause))) e
-refused_status x (Compat old old_acf new new_acf) status r cause e = compat_status x.files (record { idl = old; acf = old_acf }) (record { idl = new; acf = new_acf }) status r cause e
+refused_status x (Compat old old_acf new new_acf why) status r cause e = compat_status x.files (record { idl = old; acf = old_acf }) (record { idl = new; acf = new_acf }) status r cause e
 refused_status x (Why words) status r cause e = inr (inr (inr (inl (e ∙ ap status_of cause))))
 refused_status x (Sample seed count) status r cause e = inr (inr (inl (e ∙ ap status_of cause)))
 refused_status x Help status r cause e = inr (inr (inl (e ∙ ap status_of cause)))
@@ -289,7 +321,7 @@ zero_in (Compile idl acf) status e = inl e
 zero_in (Plan idl acf) status e = inl e
 zero_in (Call idl acf op) status e = zero_of_values false status e
 zero_in (Wrap of order call max) status e = zero_of_values false status e
-zero_in (Compat old old_acf new new_acf) status e = inl e
+zero_in (Compat old old_acf new new_acf why) status e = inl e
 zero_in (Why words) status e = inl e
 zero_in (Sample seed count) status e = inl e
 zero_in Help status e = inl e
@@ -301,7 +333,7 @@ four_in (Compile idl acf) status e = inr (inl e)
 four_in (Plan idl acf) status e = inr (inl e)
 four_in (Call idl acf op) status e = four_of_values false status e
 four_in (Wrap of order call max) status e = four_of_values false status e
-four_in (Compat old old_acf new new_acf) status e = inr (inr (inl e))
+four_in (Compat old old_acf new new_acf why) status e = inr (inr (inl e))
 four_in (Why words) status e = inr (inr (inl e))
 four_in (Sample seed count) status e = inr (inl e)
 four_in Help status e = inr (inl e)
@@ -313,11 +345,25 @@ five_in (Compile idl acf) status e = inr (inr (inl e))
 five_in (Plan idl acf) status e = inr (inr (inl e))
 five_in (Call idl acf op) status e = five_of_values false status e
 five_in (Wrap of order call max) status e = five_of_values false status e
-five_in (Compat old old_acf new new_acf) status e = inr (inr (inr (inl e)))
+five_in (Compat old old_acf new new_acf why) status e = inr (inr (inr (inl e)))
 five_in (Why words) status e = inr (inr (inr (inl e)))
 five_in (Sample seed count) status e = inr (inr (inl e))
 five_in Help status e = inr (inr (inl e))
 five_in Version status e = inr (inr (inl e))
+
+-- status 1 is one of a command that writes the place at which operations differ
+one_in : (x : Seen) (c : Command) (name text : List ℕ) → IsPlaceTold x c name text → (status : ℕ) → status ≡ 1 → IsOneOf (statuses_of c) status
+one_in x (Compat old old_acf new new_acf true) name text told status e = inr (inl e)
+one_in x (Compat old old_acf new new_acf false) name text told status e = absurd told
+one_in x (Why words) name text told status e = absurd told
+one_in x (Values task of given) name text told status e = absurd told
+one_in x (Compile idl acf) name text told status e = absurd told
+one_in x (Plan idl acf) name text told status e = absurd told
+one_in x (Call idl acf op) name text told status e = absurd told
+one_in x (Wrap of order call max) name text told status e = absurd told
+one_in x (Sample seed count) name text told status e = absurd told
+one_in x Help name text told status e = absurd told
+one_in x Version name text told status e = absurd told
 
 -- only the words of `why` can have no entry
 two_in : (c : Command) (text : List ℕ) → IsUnexplained c text → (status : ℕ) → status ≡ 2 → IsOneOf (statuses_of c) status
@@ -327,7 +373,7 @@ two_in (Compile idl acf) text nearest status e = absurd nearest
 two_in (Plan idl acf) text nearest status e = absurd nearest
 two_in (Call idl acf op) text nearest status e = absurd nearest
 two_in (Wrap of order call max) text nearest status e = absurd nearest
-two_in (Compat old old_acf new new_acf) text nearest status e = absurd nearest
+two_in (Compat old old_acf new new_acf why) text nearest status e = absurd nearest
 two_in (Sample seed count) text nearest status e = absurd nearest
 two_in Help text nearest status e = absurd nearest
 two_in Version text nearest status e = absurd nearest
@@ -337,6 +383,8 @@ status_in x out notes c status (ended_done is d) = zero_in c status is
 status_in x out notes c status (ended_refused r) = refused_status x c status r.refusal r.cause r.own_status
 status_in x out notes c status (ended_unknown is text nearest given told) = two_in c text nearest status is
 status_in x out notes c status (ended_untold is rose text nearest) = four_in c status is
+status_in x out notes c status (ended_told t) = one_in x c t.name t.text t.told status t.own_status
+status_in x out notes c status (ended_cut is rose name text told) = four_in c status is
 status_in x out notes c status (ended_wanting is) = five_in c status is
 status_in x out notes c status (ended_unwritten is rose made is_made) = four_in c status is
 status_in x out notes c status (ended_unreported is rose) = four_in c status is
@@ -375,11 +423,11 @@ pub record OfRefusal (x : Seen) (notes : SinkSeen) (words : List (List ℕ)) (st
   pub line : Got notes (line_of (idl_of command_is) (op_of command_is) refusal)
 
 abbrev IsOther : ℕ → Type 0
-IsOther n = (n ≡ 0 → ⊥) × (n ≡ 2 → ⊥) × (n ≡ 4 → ⊥) × (n ≡ 5 → ⊥)
+IsOther n = (n ≡ 0 → ⊥) × (n ≡ 1 → ⊥) × (n ≡ 2 → ⊥) × (n ≡ 4 → ⊥) × (n ≡ 5 → ⊥)
 
 pub of_refusal : (x : Seen) (out notes : SinkSeen) (status : ℕ) (words : List (List ℕ)) → HasRun words x out notes status → (n : ℕ) → status ≡ n → IsOther n
     → OfRefusal x notes words status
-of_refusal x out notes status words run n e (zero, two, four, five) = by (command words) refl
+of_refusal x out notes status words run n e (zero, one, two, four, five) = by (command words) refl
   where
     by : (o : Option Command) → command words ≡ o → OfRefusal x notes words status
     by None is = absurd (never (idle x out notes status words is run))
@@ -390,7 +438,7 @@ of_refusal x out notes status words run n e (zero, two, four, five) = by (comman
         never (idle_five h) = five (sym e ∙ h)
     by (Some c) is =
         let r =
-        has_cause x out notes c status (ended x out notes c status words is run) (λ h. zero (sym e ∙ h)) (λ h. two (sym e ∙ h)) (λ h. four (sym e ∙ h)) (λ h. five (sym e ∙ h))
+        has_cause x out notes c status (ended x out notes c status words is run) (λ h. zero (sym e ∙ h)) (λ h. one (sym e ∙ h)) (λ h. two (sym e ∙ h)) (λ h. four (sym e ∙ h)) (λ h. five (sym e ∙ h))
         in
         record { command_is = c; is = is; refusal = r.refusal; cause = r.cause; own = sym r.own_status; line = r.line }
 
@@ -504,7 +552,7 @@ module _ (x : Seen) where
   read_fault (Plan idl acf) r cause e = absurd (idl_read idl acf r cause e)
   read_fault (Call idl acf op) r cause e = (call_read idl acf op r cause e, refl)
   read_fault (Wrap of order call max) r cause e = (wrap_read of r cause e, refl)
-  read_fault (Compat old old_acf new new_acf) r cause e = absurd (compat_read x.files (record { idl = old; acf = old_acf }) (record { idl = new; acf = new_acf }) r cause e)
+  read_fault (Compat old old_acf new new_acf why) r cause e = absurd (compat_read x.files (record { idl = old; acf = old_acf }) (record { idl = new; acf = new_acf }) r cause e)
   read_fault (Why words) r cause e = let never : status_of Memory ≡ 3 = sym (ap status_of cause) ∙ e in cc
   read_fault (Sample seed count) r cause e = let never : status_of Memory ≡ 3 = sym (ap status_of cause) ∙ e in cc
   read_fault Help r cause e = let never : status_of Memory ≡ 3 = sym (ap status_of cause) ∙ e in cc
@@ -635,7 +683,7 @@ module _ (x : Seen) where
   absent_is (Plan idl acf) r cause e = let (rose, (file, same, due, missing)) = idl_absent idl acf r cause e in (rose, (file, same, inl due, missing))
   absent_is (Call idl acf op) r cause e = let (rose, (file, same, due, missing)) = call_absent idl acf op r cause e in (rose, (file, same, inl due, missing))
   absent_is (Wrap of order call max) r cause e = let (rose, (file, same, due, missing)) = wrap_absent of r cause e in (rose, (file, same, inl due, missing))
-  absent_is (Compat old old_acf new new_acf) r cause e = compat_absent x.files (record { idl = old; acf = old_acf }) (record { idl = new; acf = new_acf }) r cause e
+  absent_is (Compat old old_acf new new_acf why) r cause e = compat_absent x.files (record { idl = old; acf = old_acf }) (record { idl = new; acf = new_acf }) r cause e
   absent_is (Why words) r cause e = let never : status_of Memory ≡ 7 = sym (ap status_of cause) ∙ e in cc
   absent_is (Sample seed count) r cause e = let never : status_of Memory ≡ 7 = sym (ap status_of cause) ∙ e in cc
   absent_is Help r cause e = let never : status_of Memory ≡ 7 = sym (ap status_of cause) ∙ e in cc
@@ -751,7 +799,7 @@ module _ (x : Seen) where
   failed_is (Plan idl acf) r cause e = let (rose, (file, same, due)) = idl_failed idl acf r cause e in (rose, (file, same, inl due))
   failed_is (Call idl acf op) r cause e = let (rose, (file, same, due)) = call_failed idl acf op r cause e in (rose, (file, same, inl due))
   failed_is (Wrap of order call max) r cause e = let (rose, (file, same, due)) = wrap_failed of r cause e in (rose, (file, same, inl due))
-  failed_is (Compat old old_acf new new_acf) r cause e = compat_failed x.files (record { idl = old; acf = old_acf }) (record { idl = new; acf = new_acf }) r cause e
+  failed_is (Compat old old_acf new new_acf why) r cause e = compat_failed x.files (record { idl = old; acf = old_acf }) (record { idl = new; acf = new_acf }) r cause e
   failed_is (Why words) r cause e = let never : status_of Memory ≡ 9 = sym (ap status_of cause) ∙ e in cc
   failed_is (Sample seed count) r cause e = let never : status_of Memory ≡ 9 = sym (ap status_of cause) ∙ e in cc
   failed_is Help r cause e = let never : status_of Memory ≡ 9 = sym (ap status_of cause) ∙ e in cc
@@ -760,19 +808,19 @@ module _ (x : Seen) where
   module _ (out notes : SinkSeen) (status : ℕ) (words : List (List ℕ)) (run : HasRun words x out notes status) where
     pub read : status ≡ 3 → HasRisen x.input.faults × ReadsInput (command words)
     read e =
-        let r = of_refusal x out notes status words run 3 e ((λ h. cc), (λ h. cc), (λ h. cc), (λ h. cc)) in
+        let r = of_refusal x out notes status words run 3 e ((λ h. cc), (λ h. cc), (λ h. cc), (λ h. cc), (λ h. cc)) in
         let (rose, asks) = read_fault r.command_is r.refusal r.cause (r.own ∙ e) in
         (rose, subst ReadsInput (sym r.is) asks)
 
     pub absent : status ≡ 7 → HasRisen x.files.absences × IsDueAndMissing (command words) x.files.held notes
     absent e =
-        let r = of_refusal x out notes status words run 7 e ((λ h. cc), (λ h. cc), (λ h. cc), (λ h. cc)) in
+        let r = of_refusal x out notes status words run 7 e ((λ h. cc), (λ h. cc), (λ h. cc), (λ h. cc), (λ h. cc)) in
         let (rose, (file, same, due, missing)) = absent_is r.command_is r.refusal r.cause (r.own ∙ e) in
         (rose, subst (λ c. IsDueAndMissing c x.files.held notes) (sym r.is) (file, due, missing, subst (λ q. Got notes (line_of (idl_of r.command_is) (op_of r.command_is) q)) same r.line))
 
     pub file : status ≡ 9 → HasRisen x.files.faults × IsDueAndReported (command words) x.files.held notes
     file e =
-        let r = of_refusal x out notes status words run 9 e ((λ h. cc), (λ h. cc), (λ h. cc), (λ h. cc)) in
+        let r = of_refusal x out notes status words run 9 e ((λ h. cc), (λ h. cc), (λ h. cc), (λ h. cc), (λ h. cc)) in
         let (rose, (name, same, due)) = failed_is r.command_is r.refusal r.cause (r.own ∙ e) in
         (rose, subst (λ c. IsDueAndReported c x.files.held notes) (sym r.is) (name, due, subst (λ q. Got notes (line_of (idl_of r.command_is) (op_of r.command_is) q)) same r.line))
 
@@ -812,7 +860,7 @@ module _ (x : Seen) where
   end_failed (Plan idl acf) which cause = absurd cause
   end_failed (Call idl acf op) which cause = absurd (call_ends x idl acf op which cause)
   end_failed (Wrap of order call max) which cause = absurd (wrap_ends x of which cause)
-  end_failed (Compat old old_acf new new_acf) which cause = absurd (compat_end x.files (record { idl = old; acf = old_acf }) (record { idl = new; acf = new_acf }) which cause)
+  end_failed (Compat old old_acf new new_acf why) which cause = absurd (compat_end x.files (record { idl = old; acf = old_acf }) (record { idl = new; acf = new_acf }) which cause)
   end_failed (Why words) which cause = let never : status_of (EndFailed which) ≡ status_of Memory = ap status_of cause in cc
   end_failed (Sample seed count) which cause = let never : status_of (EndFailed which) ≡ status_of Memory = ap status_of cause in cc
   end_failed Help which cause = let never : status_of (EndFailed which) ≡ status_of Memory = ap status_of cause in cc
@@ -842,7 +890,7 @@ module _ (x : Seen) where
 
   pub end : (out notes : SinkSeen) (status : ℕ) (words : List (List ℕ)) → HasRun words x out notes status → status ≡ 8 → IsEndReported x.ends notes
   end out notes status words run e =
-      let r = of_refusal x out notes status words run 8 e ((λ h. cc), (λ h. cc), (λ h. cc), (λ h. cc)) in
+      let r = of_refusal x out notes status words run 8 e ((λ h. cc), (λ h. cc), (λ h. cc), (λ h. cc), (λ h. cc)) in
       let (which, same, rose) = ended_by r.command_is r.refusal r.cause (r.own ∙ e) in
       (which, rose, subst (λ q. Got notes (line_of (idl_of r.command_is) (op_of r.command_is) q)) same r.line)
 
@@ -878,6 +926,8 @@ module _ (x : Seen) (out notes : SinkSeen) (status : ℕ) (nothing : HasNotFaile
   by_command c (ended_refused r) = refused_unfailed c r.refusal r.cause r.own_status
   by_command c (ended_unknown is text nearest given told) = inr (inr (inl is))
   by_command c (ended_untold is rose text nearest) = absurd (nothing.writes rose)
+  by_command c (ended_told t) = inr (inl t.own_status)
+  by_command c (ended_cut is rose name text told) = absurd (nothing.writes rose)
   by_command c (ended_wanting is) = inr (inr (inr (inl is)))
   by_command c (ended_unwritten is rose made is_made) = absurd (nothing.writes rose)
   by_command c (ended_unreported is rose) = absurd (nothing.reports rose)
@@ -957,6 +1007,8 @@ module _ (x : Seen) (out notes : SinkSeen) (status : ℕ) (words : List (List �
       by_end c (ended_refused r) = absurd (not_two r.refusal (sym r.own_status ∙ e))
       by_end c (ended_unknown is text nearest given told) = (text, nearest)
       by_end c (ended_untold is rose text nearest) = (text, nearest)
+      by_end c (ended_told t) = absurd (apart status 1 2 t.own_status e (λ h. cc))
+      by_end c (ended_cut is rose name text told) = absurd (apart status 4 2 is e (λ h. cc))
       by_end c (ended_wanting is) = absurd (apart status 5 2 is e (λ h. cc))
       by_end c (ended_unwritten is rose made is_made) = absurd (apart status 4 2 is e (λ h. cc))
       by_end c (ended_unreported is rose) = absurd (apart status 4 2 is e (λ h. cc))
@@ -974,6 +1026,8 @@ module _ (x : Seen) (out notes : SinkSeen) (status : ℕ) (words : List (List �
       by_end c (ended_refused r) = absurd (not_two r.refusal (sym r.own_status ∙ e))
       by_end c (ended_unknown is text nearest given told) = told
       by_end c (ended_untold is rose text nearest) = absurd (apart status 4 2 is e (λ h. cc))
+      by_end c (ended_told t) = absurd (apart status 1 2 t.own_status e (λ h. cc))
+      by_end c (ended_cut is rose name text told) = absurd (apart status 4 2 is e (λ h. cc))
       by_end c (ended_wanting is) = absurd (apart status 5 2 is e (λ h. cc))
       by_end c (ended_unwritten is rose made is_made) = absurd (apart status 4 2 is e (λ h. cc))
       by_end c (ended_unreported is rose) = absurd (apart status 4 2 is e (λ h. cc))
@@ -1002,6 +1056,8 @@ module _ (x : Seen) (out notes : SinkSeen) (status : ℕ) (words : List (List �
       by_end c (ended_refused r) = absurd (not_four r.refusal (sym r.own_status ∙ e))
       by_end c (ended_unknown is text nearest given told) = absurd (apart status 2 4 is e (λ h. cc))
       by_end c (ended_untold is rose text nearest) = inl rose
+      by_end c (ended_told t) = absurd (apart status 1 4 t.own_status e (λ h. cc))
+      by_end c (ended_cut is rose name text told) = inl rose
       by_end c (ended_wanting is) = absurd (apart status 5 4 is e (λ h. cc))
       by_end c (ended_unwritten is rose made is_made) = inl rose
       by_end c (ended_unreported is rose) = inr rose
@@ -1030,6 +1086,8 @@ module _ (x : Seen) (out notes : SinkSeen) (status : ℕ) (words : List (List �
       by_end c (ended_refused r) = absurd (not_zero r.refusal (sym r.own_status ∙ e))
       by_end c (ended_unknown is text nearest given told) = absurd (apart status 2 0 is e (λ h. cc))
       by_end c (ended_untold is rose text nearest) = absurd (apart status 4 0 is e (λ h. cc))
+      by_end c (ended_told t) = absurd (apart status 1 0 t.own_status e (λ h. cc))
+      by_end c (ended_cut is rose name text told) = absurd (apart status 4 0 is e (λ h. cc))
       by_end c (ended_wanting is) = absurd (apart status 5 0 is e (λ h. cc))
       by_end c (ended_unwritten is rose made is_made) = absurd (apart status 4 0 is e (λ h. cc))
       by_end c (ended_unreported is rose) = absurd (apart status 4 0 is e (λ h. cc))
@@ -1052,7 +1110,7 @@ module _ (x : Seen) (out notes : SinkSeen) (status : ℕ) (words : List (List �
       by (idle_four h) = inr (inl h)
       by (idle_five h) = inr (inr (inl h))
 
-  -- nothing is given with another status than 0 and 4, unless words of `why` have no entry
+  -- nothing is given with another status than 0 and 4, unless words of `why` have no entry, or `compat .. why` finds operations that differ
   pub nothing_given : tells_refused (command words) ≡ false → status ≢ 0 → status ≢ 4 → out.written_now ≡ out.written
   nothing_given quiet zero four = by (command words) quiet run.outcome run.caused run.delivered
     where
@@ -1063,10 +1121,23 @@ module _ (x : Seen) (out notes : SinkSeen) (status : ℕ) (words : List (List �
       silent (Plan idl acf) never text nearest = nearest
       silent (Call idl acf op) never text nearest = nearest
       silent (Wrap of order call max) never text nearest = nearest
-      silent (Compat old old_acf new new_acf) never text nearest = nearest
+      silent (Compat old old_acf new new_acf why) never text nearest = nearest
       silent (Sample seed count) never text nearest = nearest
       silent Help never text nearest = nearest
       silent Version never text nearest = nearest
+
+      unplaced : (c : Command) → tells c ≡ false → (name text : List ℕ) → IsPlaceTold x c name text → ⊥
+      unplaced (Compat old old_acf new new_acf true) never name text told = cc
+      unplaced (Compat old old_acf new new_acf false) never name text told = told
+      unplaced (Why asked) never name text told = told
+      unplaced (Values task of given) never name text told = told
+      unplaced (Compile idl acf) never name text told = told
+      unplaced (Plan idl acf) never name text told = told
+      unplaced (Call idl acf op) never name text told = told
+      unplaced (Wrap of order call max) never name text told = told
+      unplaced (Sample seed count) never name text told = told
+      unplaced Help never name text told = told
+      unplaced Version never name text told = told
 
       by : (o : Option Command) → tells_refused o ≡ false → (outcome : Outcome) → IsOutcome x o outcome → IsDelivered out notes outcome status
           → out.written_now ≡ out.written
@@ -1075,5 +1146,6 @@ module _ (x : Seen) (out notes : SinkSeen) (status : ℕ) (words : List (List �
       by o never (Refused own line) caused (before, told) = before.written
       by None never (Reported text own line) (inl e) d = cc
       by None never (Reported text own line) (inr e) d = cc
-      by (Some c) never (Reported text own line) (nearest, two, same) d = absurd (silent c never text nearest)
+      by (Some c) never (Reported text own line) (inl (nearest, two, same)) d = absurd (silent c never text nearest)
+      by (Some c) never (Reported text own line) (inr place) d = absurd (unplaced c never place.name text place.told)
       by o never Wanting caused (before, told) = before.written

@@ -22,7 +22,7 @@ asks_files (Compile idl acf) = Some (record { idl = idl; acf = acf })
 asks_files (Plan idl acf) = Some (record { idl = idl; acf = acf })
 asks_files (Call idl acf op) = Some (record { idl = idl; acf = acf })
 asks_files (Wrap of order call max) = Some (record { idl = of.idl; acf = of.acf })
-asks_files (Compat old old_acf new new_acf) = Some (record { idl = old; acf = old_acf })
+asks_files (Compat old old_acf new new_acf why) = Some (record { idl = old; acf = old_acf })
 asks_files (Why words) = None
 asks_files (Sample seed count) = None
 asks_files Help = None
@@ -67,7 +67,7 @@ pub record AsksRequest (f : FilesSeen) (of : Subject) (name : List ℕ) : Type 0
 -- the files that a command asks for: those of the interface, and after them the text of a request or the files of a second interface
 abbrev pub AsksFilesOf : FilesSeen → Command → Type 0
 AsksFilesOf f (Values task of (Some name)) = AsksFiles f (Some (record { idl = of.idl; acf = of.acf })) ⊎ AsksRequest f of name
-AsksFilesOf f (Compat old old_acf new new_acf) = AsksBoth f (record { idl = old; acf = old_acf }) (record { idl = new; acf = new_acf })
+AsksFilesOf f (Compat old old_acf new new_acf why) = AsksBoth f (record { idl = old; acf = old_acf }) (record { idl = new; acf = new_acf })
 AsksFilesOf f c = AsksFiles f (asks_files c)
 
 -- the input is left as it is if a command does not read it

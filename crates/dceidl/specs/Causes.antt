@@ -1,12 +1,12 @@
 -- What each command makes, and why it is refused: a line for each command in each of these tables.
-use Rattle.std.specs.Prelude.{◌≡◌, ◌⊎◌, ℕ, Bool, true, false, List, [], ◌∷◌}
+use Rattle.std.specs.Prelude.{◌≡◌, ◌⊎◌, ℕ, Bool, true, false, List, [], ◌∷◌, ⊤}
 use Rattle.nd_base.specs.Over.{IsUntouched}
 use Rattle.nd_value.specs.Setting.{Setting}
 use Rattle.ndr_pipe.specs.Ends.{AreAsBefore}
 use Rattle.dceidl.specs.Asked.{drains}
 use Rattle.dceidl.specs.Input.{IsMadeOf, IsTaskCause}
 use Rattle.command_compile.specs.Compiled.{IsListed, IsPlanned, IsIdlCause}
-use Rattle.command_compat.specs.Compat.{IsCompatible, IsCompatCause}
+use Rattle.command_compat.specs.Compat.{IsCompatible, IsCompatCause, IsPlaceWritten}
 use Rattle.command_why.specs.Explained.{explained}
 use Rattle.command_why.specs.declared.lookup.Explained.TheVariants.{Found, Nearest}
 use Rattle.dceidl.specs.Ready.{IsAllReady, IsUnready}
@@ -15,7 +15,8 @@ use Rattle.dceidl.specs.Seen.{Seen}
 use Rattle.command_line.specs.Words.{Command, Values, Compile, Plan, Call, Wrap, Compat, Why, Sample, Help, Version}
 use Rattle.command_sample.specs.Summary.{sample_lines}
 use Rattle.command_refusals.specs.declared.refusal.Refusal.{Refusal}
-use Rattle.command_refusals.specs.declared.refusal.Refusal.TheVariants.{Memory}
+use Rattle.command_refusals.specs.declared.refusal.Refusal.TheVariants.{Memory, NotCompatible}
+use Rattle.command_refusals.specs.declared.refusal.CompatFault.TheVariants.{Differs}
 use Rattle.dceidl.specs.declared.TheConstants.{HELP, VERSION}
 
 -- a command makes this text
@@ -25,7 +26,8 @@ IsMade x (Compile idl acf) made = IsListed x.files idl acf made
 IsMade x (Plan idl acf) made = IsPlanned x.files idl acf made
 IsMade x (Call idl acf op) made = HasCalled x.files x.input idl acf op made
 IsMade x (Wrap of order call max) made = IsWrapped x.files x.input of order call max made
-IsMade x (Compat old old_acf new new_acf) made = IsCompatible x.files (record { idl = old; acf = old_acf }) (record { idl = new; acf = new_acf }) made
+IsMade x (Compat old old_acf new new_acf why) made =
+    IsCompatible x.files (record { idl = old; acf = old_acf }) (record { idl = new; acf = new_acf }) made
 IsMade x (Why words) made = explained words ≡ Found made
 IsMade x (Sample seed count) made = made ≡ sample_lines seed count
 IsMade x Help made = made ≡ HELP.now
@@ -41,7 +43,7 @@ IsCause x (Call idl acf op) r = IsNoCall x.files x.input idl acf op r
 IsCause x (Wrap of order call max) r = IsNoWrap x.files x.input of r
 IsCause x (Compile idl acf) r = IsIdlCause x.files idl acf r
 IsCause x (Plan idl acf) r = IsIdlCause x.files idl acf r
-IsCause x (Compat old old_acf new new_acf) r = IsCompatCause x.files (record { idl = old; acf = old_acf }) (record { idl = new; acf = new_acf }) r
+IsCause x (Compat old old_acf new new_acf why) r = IsCompatCause x.files (record { idl = old; acf = old_acf }) (record { idl = new; acf = new_acf }) r
 IsCause x (Why words) r = r ≡ Memory
 IsCause x (Sample seed count) r = r ≡ Memory
 IsCause x Help r = r ≡ Memory
@@ -52,8 +54,20 @@ abbrev pub IsUnexplained : Command → List ℕ → Type 0
 IsUnexplained (Why words) text = explained words ≡ Nearest text
 IsUnexplained _ text = ⊥
 
+-- Where operations differ, `compat .. why` writes to out the first place at which they do, beside the line of the operation of this name.
+abbrev pub IsPlaceTold : Seen → Command → List ℕ → List ℕ → Type 0
+IsPlaceTold x (Compat old old_acf new new_acf true) name text =
+    IsPlaceWritten x.files (record { idl = old; acf = old_acf }) (record { idl = new; acf = new_acf }) name text
+IsPlaceTold x _ name text = ⊥
+
+-- a command is refused in this way with nothing beside it: `compat .. why` is, unless operations differ
+abbrev pub IsUntold : Command → Refusal → Type 0
+IsUntold (Compat old old_acf new new_acf true) (NotCompatible (Differs name)) = ⊥
+IsUntold _ r = ⊤
+
 -- whether a command can write to out although it is refused
 abbrev pub tells : Command → Bool
+tells (Compat old old_acf new new_acf why) = why
 tells (Why words) = true
 tells _ = false
 
@@ -69,7 +83,7 @@ statuses_of (Compile idl acf) = 0 ∷ 4 ∷ 5 ∷ 6 ∷ 7 ∷ 9 ∷ []
 statuses_of (Plan idl acf) = 0 ∷ 4 ∷ 5 ∷ 6 ∷ 7 ∷ 9 ∷ []
 statuses_of (Call idl acf op) = values_statuses false
 statuses_of (Wrap of order call max) = values_statuses false
-statuses_of (Compat old old_acf new new_acf) = 0 ∷ 1 ∷ 4 ∷ 5 ∷ 6 ∷ 7 ∷ 9 ∷ []
+statuses_of (Compat old old_acf new new_acf why) = 0 ∷ 1 ∷ 4 ∷ 5 ∷ 6 ∷ 7 ∷ 9 ∷ []
 statuses_of (Why words) = 0 ∷ 2 ∷ 4 ∷ 5 ∷ []
 statuses_of (Sample seed count) = 0 ∷ 4 ∷ 5 ∷ []
 statuses_of Help = 0 ∷ 4 ∷ 5 ∷ []

@@ -1,6 +1,6 @@
 -- When two versions of an interface must be found compatible, and when they must be refused, where no load fails.
 -- `f` are files over a run, `old` and `new` the names of the files of the versions, `i` and `j` the interfaces.
-use Rattle.std.specs.Prelude.{◌⊎◌, ℕ, List, Option}
+use Rattle.std.specs.Prelude.{◌≡◌, ◌⊎◌, ℕ, List, [], Option, None}
 use Rattle.nd_base.specs.Outside.{IsContent}
 use Rattle.nd_base.specs.Over.{FilesSeen}
 use Rattle.nd_types.specs.declared.interface.Interface.{Interface}
@@ -9,9 +9,13 @@ use Rattle.idl_compat.specs.declared.compared.Compared.TheVariants.{Yes}
 use Rattle.idl_compat.specs.Comparison.{IsCompared}
 use Rattle.command_compile.specs.Asked.{FileNames}
 use Rattle.command_compile.specs.Idl.{Means, IsDueFile}
-use Rattle.command_compat.specs.Compat.{IsDifferent}
+use Rattle.command_compat.specs.Compat.{IsDifferent, IsCompatible, IsCompatCause, IsBeside, IsPlaceWritten}
 use Rattle.command_refusals.specs.declared.refusal.Refusal.{Refusal}
 use Rattle.command_refusals.specs.declared.refusal.Refusal.TheVariants.{BadIdl, NotCompatible}
+use Rattle.command_refusals.specs.declared.refusal.CompatFault.TheVariants.{Differs}
+use Rattle.command_refusals.specs.Lines.{line_of, status_of}
+use Rattle.command_streams.specs.declared.outcome.Outcome.{Outcome}
+use Rattle.command_streams.specs.declared.outcome.Outcome.TheVariants.{Done, Refused, Reported, Wanting}
 use Rattle.dceidl.specs.Held.{IsHeldInterface, MustBeNoIdl}
 
 -- The files of both are held and mean interfaces, and the second has all operations of the first.
@@ -41,3 +45,13 @@ MustBeIncomparable f old new _ = ⊥
 abbrev pub IsDueSecond : Option (List ℕ → Option (List ℕ)) → FileNames → FileNames → List ℕ → Type 0
 IsDueSecond held old new name =
     (text : List ℕ) × (i : Interface) × IsContent held old.idl text × Means held old.idl text old.acf i × IsDueFile held new.idl new.acf name
+
+-- What the comparison of two versions comes to, if the first place at which they differ is asked for: it is written exactly where an operation
+-- differs.
+abbrev pub IsComparedOutcome : FilesSeen → FileNames → FileNames → Outcome → Type 0
+IsComparedOutcome f old new (Done made) = IsCompatible f old new made
+IsComparedOutcome f old new (Refused status line) =
+    (r : Refusal) × IsCompatCause f old new r × IsBeside f old new r None × (status ≡ status_of r) × (line ≡ line_of [] [] r)
+IsComparedOutcome f old new (Reported text status line) =
+    (name : List ℕ) × IsPlaceWritten f old new name text × (status ≡ 1) × (line ≡ line_of [] [] (NotCompatible (Differs name)))
+IsComparedOutcome f old new Wanting = (r : Refusal) × IsCompatCause f old new r

@@ -20,7 +20,7 @@ use Rattle.command_encode.specs.Written.{IsWritten, IsLong}
 use Rattle.text_grammar.specs.declared.TheConstants.{TEXT_LIMIT}
 use Rattle.text_grammar.specs.Reads.{ReadsAs, IsTextFault}
 use Rattle.nd_base.specs.Text.{joined}
-use Rattle.dceidl.specs.Causes.{IsMade, IsCause, IsUnexplained, tells}
+use Rattle.dceidl.specs.Causes.{IsMade, IsCause, IsPlaceTold, IsUntold, IsUnexplained, tells}
 use Rattle.dceidl.specs.Compat.{CanBeCompared, MustBeIncomparable, IsDueSecond}
 use Rattle.command_why.specs.Explained.{explained}
 use Rattle.command_why.specs.declared.lookup.Explained.TheVariants.{Found}
@@ -58,7 +58,8 @@ use Rattle.command_line.specs.declared.command.Task.TheVariants.{Read, Encode, M
 use Rattle.command_refusals.specs.declared.refusal.Refusal.{Refusal}
 use Rattle.command_refusals.specs.declared.refusal.Refusal.TheVariants.{BadIdl, NoOperation, BadOctets, BadText, BadValue, TooLong, BadRequest}
 use Rattle.command_refusals.specs.declared.refusal.Refusal.TheVariants.{BadLabel, ShortLabel, TooFewEnds}
-use Rattle.command_refusals.specs.declared.refusal.Refusal.TheVariants.{BadPdu}
+use Rattle.command_refusals.specs.declared.refusal.Refusal.TheVariants.{BadPdu, NotCompatible}
+use Rattle.command_refusals.specs.declared.refusal.CompatFault.TheVariants.{Differs}
 use Rattle.command_refusals.specs.declared.refusal.FragmentsFault.{FragmentsFault}
 use Rattle.command_refusals.specs.declared.refusal.FragmentsFault.TheVariants as fragments
 use Rattle.command_refusals.specs.declared.refusal.OctetsFault.{OctetsFault}
@@ -81,6 +82,16 @@ pub record IsRefusedWith (x : Seen) (out notes : SinkSeen) (c : Command) (status
   pub own_status : status ≡ status_of refusal
   pub line : Got notes (line_of (idl_of c) (op_of c) refusal)
   pub nothing_given : IsAsBefore out
+  pub untold : IsUntold c refusal
+
+-- `compat .. why` was refused since operations differ: under its status and with its line on notes, and out got the first place at which they do.
+pub record IsRefusedAtPlace (x : Seen) (out notes : SinkSeen) (c : Command) (status : ℕ) : Type 0 where
+  pub name : List ℕ
+  pub text : List ℕ
+  pub told : IsPlaceTold x c name text
+  pub own_status : status ≡ 1
+  pub line : Got notes (line_of (idl_of c) (op_of c) (NotCompatible (Differs name)))
+  pub given : Got out text
 
 -- The words of `why` have no entry: the names that are nearest were given, and notes got the line of refused words.
 pub record IsAnsweredNearest (out notes : SinkSeen) (c : Command) (status : ℕ) : Type 0 where
@@ -93,6 +104,8 @@ pub record IsAnsweredNearest (out notes : SinkSeen) (c : Command) (status : ℕ)
 -- what any other status than 0, 4 and 5 says of a command
 abbrev pub IsRefused : Seen → SinkSeen → SinkSeen → Command → ℕ → Type 0
 IsRefused x out notes (Why words) status = IsAnsweredNearest out notes (Why words) status
+IsRefused x out notes (Compat old old_acf new new_acf true) status =
+    IsRefusedWith x out notes (Compat old old_acf new new_acf true) status ⊎ IsRefusedAtPlace x out notes (Compat old old_acf new new_acf true) status
 IsRefused x out notes c status = IsRefusedWith x out notes c status
 
 -- the words are no command, or those of `why` have no entry
@@ -122,7 +135,7 @@ IsDueRequest held _ name = ⊥
 
 -- a file that is due only once files mean an interface: the text of a request, or a file of a second interface
 abbrev pub IsDueNext : Option (List ℕ → Option (List ℕ)) → Command → List ℕ → Type 0
-IsDueNext held (Compat old old_acf new new_acf) name =
+IsDueNext held (Compat old old_acf new new_acf why) name =
     IsDueSecond held (record { idl = old; acf = old_acf }) (record { idl = new; acf = new_acf }) name
 IsDueNext held c name = IsDueRequest held c name
 
@@ -252,7 +265,7 @@ CanBeDone x (Call idl acf op) = (i : Interface) × (number : Option ℕ) × IsCa
 CanBeDone x (Wrap of order call max) = (w : Setting) × IsAccepted x.files of w × CanBeMade x.input x.ends (wrap_task order) w
 CanBeDone x (Compile idl acf) = (text : List ℕ) × (i : Interface) × IsHeld x.files idl text × Means x.files.held idl text acf i
 CanBeDone x (Plan idl acf) = (text : List ℕ) × (i : Interface) × IsHeld x.files idl text × Means x.files.held idl text acf i
-CanBeDone x (Compat old old_acf new new_acf) = CanBeCompared x.files (record { idl = old; acf = old_acf }) (record { idl = new; acf = new_acf })
+CanBeDone x (Compat old old_acf new new_acf why) = CanBeCompared x.files (record { idl = old; acf = old_acf }) (record { idl = new; acf = new_acf })
 CanBeDone x (Why words) = (text : List ℕ) × (explained words ≡ Found text)
 CanBeDone x (Sample seed count) = ⊤
 CanBeDone x Help = ⊤
@@ -366,13 +379,14 @@ MustBeRefused x (Values task of given) (BadRequest why) = MustBeNoRequest x.file
 MustBeRefused x (Values task of given) r = (w : Setting) × AreAccepted x.files of given w × MustBeNoInput x.input x.ends task w r
 MustBeRefused x (Compile idl acf) r = MustBeNoIdl x.files idl acf r
 MustBeRefused x (Plan idl acf) r = MustBeNoIdl x.files idl acf r
-MustBeRefused x (Compat old old_acf new new_acf) r =
+MustBeRefused x (Compat old old_acf new new_acf why) r =
     MustBeIncomparable x.files (record { idl = old; acf = old_acf }) (record { idl = new; acf = new_acf }) r
 MustBeRefused x (Why words) r = ⊥
 MustBeRefused x (Sample seed count) r = ⊥
 MustBeRefused x Help r = ⊥
 MustBeRefused x Version r = ⊥
 
--- a command is refused in this way, or it ran out of memory
+-- A command is refused in this way, or it ran out of memory; or, if it can write to out although it is refused, out failed.
 abbrev pub Refuses : Command → SinkSeen → ℕ → Refusal → Type 0
-Refuses c notes status refusal = ((status ≡ status_of refusal) × Got notes (line_of (idl_of c) (op_of c) refusal)) ⊎ (status ≡ 5)
+Refuses c notes status refusal =
+    ((status ≡ status_of refusal) × Got notes (line_of (idl_of c) (op_of c) refusal)) ⊎ ((status ≡ 5) ⊎ ((tells c ≡ true) × (status ≡ 4)))

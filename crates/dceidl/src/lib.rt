@@ -2,6 +2,7 @@
 #![tactic(auto)]
 
 mod call;
+mod compared;
 mod encode;
 pub mod laws;
 mod perform;
@@ -32,7 +33,7 @@ usage: dceidl compile IDL ACF
        dceidl migrate IDL ACF OP SIDE
        dceidl call IDL ACF OP
        dceidl wrap IDL ACF OP SIDE ORDER CALL MAX
-       dceidl compat OLD OLDACF NEW NEWACF
+       dceidl compat OLD OLDACF NEW NEWACF [why]
        dceidl session
        dceidl sample SEED COUNT
        dceidl why [WORD ..]
@@ -62,7 +63,8 @@ wrap     reads such a text, and writes the PDUs of a request or response with
          its values, at most MAX octets each, with the call id CALL.
 compat   compares two versions of an interface, and writes how many operations
          the file OLD has if each of them has the same octets for the same
-         values in the file NEW.
+         values in the file NEW. With `why`, if an operation differs, it also
+         writes the first place at which it does.
 session  reads a script of lines, `open CLIENT UUID`, `use UUID TEXT`,
          `close UUID` and `down CLIENT`, and does what they say with the files
          res0.out to res7.out of the current folder: opens the next one under

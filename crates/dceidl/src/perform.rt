@@ -83,6 +83,7 @@ pub(crate) fn perform<F: Files, S: Source, E: PipeEnd>(
             old_acf,
             new,
             new_acf,
+            ..
         } => compat(alloc, old, old_acf, new, new_acf, files),
         Command::Sample { seed, count } => Ok(sample(alloc, seed, count)?),
         Command::Help => Ok(Octets::copy(alloc, HELP.as_bytes())?),

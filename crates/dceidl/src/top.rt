@@ -7,18 +7,19 @@ ghost use Rattle.nd_base.specs.Over.{files_seen, source_seen, sink_seen};
 ghost use Rattle.command_refusals.specs.declared.refusal.Refusal.{Refusal as Why};
 ghost use Rattle.ndr_pipe.specs.Ends.{AreOpen, ends_over};
 ghost use Rattle.ndr_pipe.specs.Seen.{ends_seen};
-ghost use Rattle.dceidl.specs.Asked.{Asks};
-ghost use Rattle.dceidl.specs.Causes.{statuses_of};
-ghost use Rattle.command_line.specs.Commands.{command_of};
+ghost use Rattle.dceidl.specs.Asked.{Asks, AsksFor};
+ghost use Rattle.dceidl.specs.Causes.{statuses_of, tells};
+ghost use Rattle.command_line.specs.Commands.{command_of, IsWellFormed};
 ghost use Rattle.command_refusals.specs.Lines.{status_of, line_of};
 ghost use Rattle.dceidl.specs.Rows.{IsDone, IsRefused, AreUnknown, tells_refused};
 ghost use Rattle.dceidl.specs.Rows.{ReadsInput, IsDueAndMissing, IsDueAndReported, IsEndReported, HasNotFailed};
 ghost use Rattle.command_streams.specs.Delivery.{IsOneOf, IsCompleted};
 ghost use Rattle.dceidl.specs.Rows.{IsSound, CanBeDone, MustBeRefused, Refuses};
-ghost use Rattle.dceidl.specs.Run.{IsOutcome, IsExplanation, HasRun};
+ghost use Rattle.dceidl.specs.Run.{IsOutcome, IsCommandOutcome, IsExplanation, HasRun};
 ghost use Rattle.dceidl.specs.Seen.{seen_over};
 ghost use Rattle.command_line.specs.Words.{Command as Wanted, command, counted_command, idl_of, op_of, name_in as name_or_nothing};
 
+use crate::compared::{asked_versions, compared};
 use crate::perform::perform;
 use command_line::{Command, Words};
 use command_refusals::{Refusal, Status, line, status};
@@ -43,17 +44,18 @@ pub(crate) const WORDS_REFUSED: Status = 2;
 /// octets. `encode` writes the octets of its values, at most [`STREAM_LIMIT`](nd_base::STREAM_LIMIT), after a label if one is asked for, and
 /// `migrate` writes it as it is printed. `call` reads the fragments of a request or response (C706, section 12.6), and writes the call id and the
 /// values of their stub data; `wrap` reads a text and writes such fragments. `compat` compares the interfaces of two files, the second of which is
-/// loaded once the first means an interface; a file that both need is loaded for each. `why` writes what words of a refusal mean.
+/// loaded once the first means an interface; a file that both need is loaded for each; as `compat .. why` it writes to `out`, where an operation
+/// differs, the first place at which it does. `why` writes what words of a refusal mean.
 ///
 /// Nothing is requested before it is needed, and no file more than once: no file for an invalid command line, `--help` or
 /// `--version`, an import when its declaration is reached, the attribute configuration file when all names are resolved (it is loaded
 /// again if it was loaded under the same name as an interface file), and no input before the files are loaded and checked and the
 /// operation is found.
 ///
-/// A successful run writes its text to `out` and nothing to `notes`. A refused run writes nothing to `out` (but `why` the names that are nearest to
-/// words that have no entry) and one line to `notes`; if
-/// there are several reasons, the first in the order of work is reported. If `out` fails, it may have received a prefix of the text, a
-/// line on `notes` says so, and the status is 4; if `notes` fails, the status is 4 too.
+/// A successful run writes its text to `out` and nothing to `notes`. A refused run writes nothing to `out` (except `why` the names that are nearest
+/// to words that have no entry, and `compat .. why` a place) and one line to `notes`; if there are several reasons, the first in the order of work
+/// is reported. If `out` fails, it may have received a prefix of the text, a line on `notes` says so, and the status is 4; if `notes` fails, the
+/// status is 4 too.
 ///
 /// No end may be finished before. Only `drain` calls ends, once the label is read and there are enough of them: each chunk's lines are given once the
 /// chunk is read, and an end is finished where its pipe ends. If an end fails, the status is 8.
@@ -212,10 +214,34 @@ fn performed<F: Files, S: Source, E: PipeEnd>(
 {
     match words.command() {
         None => refused(alloc, WORDS_REFUSED, b"words refused\n"),
-        Some(command) => match perform(alloc, command, files, input, ends) {
-            Ok(made) => Outcome::Done(made),
-            Err(refusal) => refused_command(alloc, command, &refusal),
+        Some(command) => match asked_versions(command) {
+            Some(versions) => compared(alloc, versions, files),
+            None => performed_plainly(alloc, command, files, input, ends),
         },
+    }
+}
+
+// What a command comes to that writes nothing beside a refusal.
+fn performed_plainly<F: Files, S: Source, E: PipeEnd>(
+    alloc: Global,
+    command: Command<'_>,
+    files: &mut F,
+    input: &mut S,
+    ends: &mut Ends<E>,
+) -> Outcome
+    requires open { AreOpen (ends_seen E.seen ends.old) }
+    requires formed { IsWellFormed command }
+    requires plain { tells (command_of command) ≡ false }
+    ensures asked { AsksFor
+        (seen_over (files_seen F.held F.absences F.faults F.asked files.old files.new) (source_seen S.left S.ended S.faults input.old input.new)
+        (ends_over E.seen ends.old ends.new)) (command_of command.entry) }
+    ensures outcome { IsCommandOutcome
+        (seen_over (files_seen F.held F.absences F.faults F.asked files.old files.new) (source_seen S.left S.ended S.faults input.old input.new)
+        (ends_over E.seen ends.old ends.new)) (command_of command.entry) result }
+{
+    match perform(alloc, command, files, input, ends) {
+        Ok(made) => Outcome::Done(made),
+        Err(refusal) => refused_command(alloc, command, &refusal),
     }
 }
 

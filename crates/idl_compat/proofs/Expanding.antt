@@ -56,7 +56,7 @@ pub record IsExpanding (old new : Table) (s r : Pairing) (n : ℕ) : Type 0 wher
   pub expanded : AreExpanded old new r.pairs n
   pub forced : (m : List TypePair) → Includes m s.pairs → AllAlike old new m → Includes m r.pairs
 
-at_front : {X : Type 0} (xs ys : List X) (i : ℕ) → i < length xs → slice_get (xs ++ ys) i ≡ slice_get xs i
+pub at_front : {X : Type 0} (xs ys : List X) (i : ℕ) → i < length xs → slice_get (xs ++ ys) i ≡ slice_get xs i
 at_front [] ys i l = absurd (omega (arith, l))
 at_front (x ∷ xs) ys zero l = refl
 at_front (x ∷ xs) ys (suc i) l = at_front xs ys i (omega (arith, l))
@@ -73,14 +73,14 @@ or_last (suc i) zero l = absurd (omega (arith, l))
 or_last (suc i) (suc k) l = moved_up i k (or_last i k (omega (arith, l)))
 
 -- the place of a pair
-record PairAt (m : List TypePair) (t u : ℕ) : Type 0 where
-  at : ℕ
-  pair : TypePair
-  is : slice_get m at ≡ Some pair
-  is_old : t ≡ pair.old.0
-  is_new : u ≡ pair.new.0
+pub record PairAt (m : List TypePair) (t u : ℕ) : Type 0 where
+  pub at : ℕ
+  pub pair : TypePair
+  pub is : slice_get m at ≡ Some pair
+  pub is_old : t ≡ pair.old.0
+  pub is_new : u ≡ pair.new.0
 
-pair_at : (m : List TypePair) (t u : ℕ) → IsPair m t u → PairAt m t u
+pub pair_at : (m : List TypePair) (t u : ℕ) → IsPair m t u → PairAt m t u
 pair_at [] t u h = absurd h
 pair_at (p ∷ ps) t u (inl h) = record { at = 0; pair = p; is = refl; is_old = h.0; is_new = h.1 }
 pair_at (p ∷ ps) t u (inr h) = let a = pair_at ps t u h in record { at = suc a.at; pair = a.pair; is = a.is; is_old = a.is_old; is_new = a.is_new }
@@ -97,7 +97,7 @@ expanded_more old new s r n a few k i p l is =
 pub all_expanded : (old new : Table) (m : List TypePair) (n : ℕ) → AllAlike old new m → AreExpanded old new m n
 all_expanded old new m n a i p l is = a p.old.0 p.new.0 (one_of m m i p (itself m) is)
 
-all_by : (old new : Table) (m : List TypePair) (n : ℕ) → length m ≤ n → AreExpanded old new m n → AllAlike old new m
+pub all_by : (old new : Table) (m : List TypePair) (n : ℕ) → length m ≤ n → AreExpanded old new m n → AllAlike old new m
 all_by old new m n l k t u h =
     let a : PairAt m t u = pair_at m t u h in
     let b : a.at < length m = slice_get_within m a.at a.pair a.is in

@@ -93,7 +93,7 @@ module _ (s r : Pairing) (w : List TypePair) (i : ℕ) (p : TypePair) (is : slic
   stop r' placing.Clash a h m o all h' =
       let q : IsPair m p.old.0 p.new.0 = one_of m w i p h' is in
       let l = o.known p.old.0 p.new.0 q in
-      a m o.one_to_one (k.forced m all (first_of m w i h')) q (subst (λ n. p.old.0 < n) (sym k.as_many_old) l.0) (subst (λ n. p.new.0 < n) (sym k.as_many_new) l.1)
+      a.1 m o.one_to_one (k.forced m all (first_of m w i h')) q (subst (λ n. p.old.0 < n) (sym k.as_many_old) l.0) (subst (λ n. p.new.0 < n) (sym k.as_many_new) l.1)
 
 pub over : (s r : Pairing) (w : List TypePair) (i : ℕ) → length w ≤ i → HasMet (λ m. Includes m (take i w)) s r → HasMet (λ m. Includes m w) s r
 over s r w i l k = subst (λ x. HasMet (λ m. Includes m x) s r) (take_all i w l) k

@@ -23,7 +23,7 @@ use Rattle.idl_compat.proofs.Expanding.{expanded_more, all_expanded, or_last}
 use Rattle.idl_compat.proofs.Carrying.{both_there, within, carried, carried_back}
 
 -- by what pairs operations are alike, by those and more they are
-found_grow : (R S : ℕ → ℕ → Type 0) → ((t u : ℕ) → R t u → S t u) → (x y : Option Operation) → AlikeFound R x y → AlikeFound S x y
+pub found_grow : (R S : ℕ → ℕ → Type 0) → ((t u : ℕ) → R t u → S t u) → (x y : Option Operation) → AlikeFound R x y → AlikeFound S x y
 found_grow R S f None y a = absurd a
 found_grow R S f (Some o) None a = absurd a
 found_grow R S f (Some o) (Some q) a = operations_grow R S f o q a

@@ -38,9 +38,10 @@ pub record IsAdded (s s' : Pairing) (t u : ℕ) : Type 0 where
   pub as_many_old : length s'.forward ≡ length s.forward
   pub as_many_new : length s'.backward ≡ length s.backward
 
--- What placing a pair comes to. A clash: the pair is on no one-to-one list of pairs of types that are there and that has the earlier pairs.
+-- What placing a pair comes to. A clash: nothing has changed, and the pair is on no one-to-one list of pairs of types that are there and that has
+-- the earlier pairs.
 abbrev pub IsPlacing : Pairing → Pairing → ℕ → ℕ → Placing → Type 0
 IsPlacing s s' t u placing.Clash =
-    (m : List TypePair) → IsOneToOne m → Includes m s.pairs → IsPair m t u → t < length s.forward → u < length s.backward → ⊥
+    (s' ≡ s) × ((m : List TypePair) → IsOneToOne m → Includes m s.pairs → IsPair m t u → t < length s.forward → u < length s.backward → ⊥)
 IsPlacing s s' t u placing.Already = IsPair s.pairs t u × (s' ≡ s)
 IsPlacing s s' t u placing.Added = IsAdded s s' t u

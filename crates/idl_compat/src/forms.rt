@@ -279,8 +279,8 @@ fn push_pair(queue: &mut TypePairs, old: TypeId, new: TypeId) -> Result<(), Memo
     Ok(())
 }
 
-/// The pairs that two types ask for, or false where no pairs make them alike.
-pub(crate) fn ask_types(queue: &mut TypePairs, old: &TypeDef, new: &TypeDef) -> Result<bool, Memory>
+/// The pairs that two types ask for, added to a queue, or false where no pairs make them alike. Running out of memory is the only refusal.
+pub fn ask_types(queue: &mut TypePairs, old: &TypeDef, new: &TypeDef) -> Result<bool, Memory>
     ensures { IfOk result (λ ok. Asks (λ m. AlikeTypes (IsPair m) (Some old.now) (Some new.now)) queue.old queue.new ok) }
 {
     match old {

@@ -14,4 +14,8 @@ mod placing;
 
 pub use compared::Compared;
 pub use comparing::compare;
+pub use forms::ask_types;
+pub use operations::ask_param;
 pub use pairs::{TypePair, TypePairs};
+pub use partners::Partners;
+pub use placing::{Pairing, Placing};

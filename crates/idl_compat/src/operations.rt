@@ -9,8 +9,9 @@ use crate::forms::ask_both;
 use nd_base::Memory;
 use nd_types::{HANDLE, Operation, Param, Params};
 
-// The pair of the types of two parameters, if they are no handle_t.
-fn ask_param(queue: &mut TypePairs, param: &Param, other: &Param) -> Result<bool, Memory>
+/// The pair of the types of two parameters, if they are no handle_t, added to a queue; or false where no pairs make them alike. Running out of memory
+/// is the only refusal.
+pub fn ask_param(queue: &mut TypePairs, param: &Param, other: &Param) -> Result<bool, Memory>
     ensures { IfOk result (λ ok. Asks (λ m. AlikeParams (IsPair m) param.now other.now) queue.old queue.new ok) }
 {
     if param.way != other.way {

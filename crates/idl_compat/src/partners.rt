@@ -6,9 +6,9 @@ use nd_types::TypeId;
 use std::alloc::Global;
 use std::marker::Model;
 
-// For each type of a table the number of its partner, where it has one. Contracts see it as that list.
+/// For each type of a table the number of its partner, where it has one. Contracts see it as that list.
 #[derive(Drop)]
-pub(crate) struct Partners {
+pub struct Partners {
     items: Vec<Option<u32>>,
 }
 

@@ -10,22 +10,25 @@ use nd_base::Memory;
 use nd_types::{BASIC_TYPES, Interface, TypeId};
 use std::alloc::Global;
 
-// The pairs of types that are placed so far, and by them the partners of the old types and of the new ones.
+/// The pairs of types that are placed so far, and by them the partners of the old types and of the new ones.
 #[derive(Drop)]
-pub(crate) struct Pairing {
-    pub(crate) pairs: TypePairs,
-    pub(crate) forward: Partners,
-    pub(crate) backward: Partners,
+pub struct Pairing {
+    /// The pairs, in the order in which they were placed.
+    pub pairs: TypePairs,
+    /// The partners of the old types.
+    pub forward: Partners,
+    /// The partners of the new types.
+    pub backward: Partners,
 }
 
-// What placing a pair comes to.
+/// What placing a pair comes to.
 #[derive(Clone, Copy, Debug, PartialEq, Eq)]
-pub(crate) enum Placing {
-    // One of the types has another partner, or may have none but itself.
+pub enum Placing {
+    /// One of the types has another partner, or may have none but itself.
     Clash,
-    // The pair was placed before.
+    /// The pair was placed before.
     Already,
-    // The pair was added.
+    /// The pair was added.
     Added,
 }
 
@@ -38,8 +41,8 @@ fn are_other_basic(old: TypeId, new: TypeId) -> bool
 }
 
 impl Pairing {
-    // No pairs yet of the types of two interfaces. Running out of memory is the only refusal.
-    pub(crate) fn new(alloc: Global, old: &Interface, new: &Interface) -> Result<Pairing, Memory>
+    /// No pairs yet of the types of two interfaces. Running out of memory is the only refusal.
+    pub fn new(alloc: Global, old: &Interface, new: &Interface) -> Result<Pairing, Memory>
         ensures { IfOk result (IsEmptyPairing old.now new.now) }
     {
         Ok(Pairing {
@@ -71,8 +74,8 @@ impl Pairing {
         Ok(Placing::Added)
     }
 
-    // A pair of two types.
-    fn place(&mut self, pair: TypePair) -> Result<Placing, Memory>
+    /// Places a pair of two types, which may take memory. Running out of memory is the only refusal.
+    pub fn place(&mut self, pair: TypePair) -> Result<Placing, Memory>
         ensures { IsPaired self.old → IfOk result (IsPlacing self.old self.new pair.old.0 pair.new.0) }
     {
         match self.forward.of(pair.old) {

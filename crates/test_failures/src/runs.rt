@@ -16,6 +16,8 @@ pub(crate) struct Failing {
     /// The name of a file that is not there.
     pub(crate) absent: &'static str,
     pub(crate) fetch: u32,
+    /// A second fetch that fails.
+    pub(crate) fetch_again: u32,
     pub(crate) put: u32,
     pub(crate) note: u32,
     pub(crate) ends: [u32; 2],
@@ -33,6 +35,7 @@ pub(crate) const NONE: Failing = Failing {
     load: 0,
     absent: "",
     fetch: 0,
+    fetch_again: 0,
     put: 0,
     note: 0,
     ends: [0, 0],
@@ -59,7 +62,12 @@ pub(crate) fn run_command(
     let words = words_of(alloc, command.words)?;
     let mut files = files_of(alloc, command.files, failing)?;
     let piece = command.piece.max(1);
-    let mut input = MemSource::new(alloc, command.input, piece, &[failing.fetch])?;
+    let mut input = MemSource::new(
+        alloc,
+        command.input,
+        piece,
+        &[failing.fetch, failing.fetch_again],
+    )?;
     let mut out = MemSink::new(alloc, failing.out_room, &[failing.put])?;
     let mut notes = MemSink::new(alloc, failing.notes_room, &[failing.note])?;
     let mut ends = PipeEnds::new(alloc);

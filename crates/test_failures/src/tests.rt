@@ -185,7 +185,7 @@ fn are_absent(rt: &impl Abort, alloc: Global, command: &Command) {
     }
 }
 
-// Fails one fetch, and answers whether the run makes it. The ends have the lines of the chunks that were read.
+// Fails one fetch, and then that one and the next, and answers whether the run makes it. The ends have the lines of the chunks that were read.
 fn fetch_fails(rt: &impl Abort, alloc: Global, command: &Command, number: u32) -> bool {
     let failing = Failing {
         fetch: number,
@@ -210,6 +210,14 @@ fn fetch_fails(rt: &impl Abort, alloc: Global, command: &Command, number: u32) -
         failed: None,
     };
     compare(rt, alloc, command.name, &ran, &wanted);
+    let twice = Failing {
+        fetch_again: number.saturating_add(1),
+        ..failing
+    };
+    match run_command(alloc, command, &twice) {
+        Ok(ran) => compare(rt, alloc, command.name, &ran, &wanted),
+        Err(_) => assert!(rt; false, "out of memory"),
+    }
     true
 }
 

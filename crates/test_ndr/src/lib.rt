@@ -1,9 +1,7 @@
-//! Tests of decode, drain and encode on worked octets and on octets that other programs wrote, and on a chain of a million cells.
+//! Tests of decode and encode on worked octets and on octets that other programs wrote, and on a chain of a million cells.
 #![tactic(auto)]
 
 #[cfg(test)]
 mod chain;
-#[cfg(test)]
-mod drain;
 #[cfg(test)]
 mod tests;

@@ -3,11 +3,11 @@ ghost use Rattle.std.specs.Prelude.{◌≡◌, ℕ, IfOk};
 ghost use Rattle.ndr_encode.specs.Work.{IsWorkFor};
 
 use command_compile::compile;
-use nd_base::{MemFiles, MemSource, Memory, Octets, Order, Steps, Uncounted};
+use nd_base::{Counted, Ledger, MemFiles, MemSource, Memory, Octets, Order, Steps, Uncounted};
 use nd_flat::{Fit, Seen, Walk};
 use nd_grammar::Reason;
 use nd_types::Side;
-use nd_value::{CellId, ItemLog};
+use nd_value::{CellId, Graph, ItemLog, Val};
 use ndr_code::Plan;
 use ndr_decode::{DecodeFault, Decoded, decode};
 use ndr_encode::{EncodeFault, Work, encode_with};
@@ -15,16 +15,22 @@ use ndr_plan::make;
 use std::alloc::Global;
 use std::test::Fail;
 
-// The operations by their numbers: an array of structs with unique pointers, a struct with an array, two full pointers, a context handle.
+// The operations by their numbers: an array of structs with unique pointers, a struct with an array, two full pointers, a context handle,
+// a list, and full pointers that share a referent.
 const IDL: &[u8] = b"[uuid(11111111-2222-3333-4444-555555555555)] interface t {
   typedef struct { long v; } leaf;
   typedef struct { byte t; [unique] leaf *p; } holder;
   typedef struct { short n; [size_is(n)] hyper a[*]; } s;
   typedef [context_handle] void *ctx;
+  typedef struct node { long v; [ptr] struct node *next; } node;
+  typedef struct { [ptr] leaf *y; [ptr] leaf *z; } two;
+  typedef struct { [ptr] two *a; [ptr] leaf *b; } pair;
   void arrc([in] long n, [in, size_is(n)] holder a[*]);
   void sum([in] s *p);
   void f([in, ptr] long *a, [in, ptr] short *b);
   void use([in] ctx c);
+  void ring([in, ptr] node *p);
+  void turns([in] pair *p);
 }";
 
 const HOLDERS: u32 = 0;
@@ -34,6 +40,10 @@ const SUM: u32 = 1;
 const FULL: u32 = 2;
 
 const USE: u32 = 3;
+
+const RING: u32 = 4;
+
+const TURNS: u32 = 5;
 
 // What Samba's libndr writes of the holders 1 (with a leaf 11), 2 (null) and 3 (with a leaf 12).
 const HOLDERS_OCTETS: &[u8] =
@@ -53,12 +63,34 @@ const CONTEXT_LITTLE: &[u8] =
 const CONTEXT_BIG: &[u8] =
     b"\0\0\0\0\0\x11\x22\x33\x44\x55\x66\x77\x88\x99\xaa\xbb\xcc\xdd\xee\xff";
 
+// A ring of 7 and 8.
+const RING_OCTETS: &[u8] = b"\x01\0\0\0\x07\0\0\0\x02\0\0\0\x08\0\0\0\x01\0\0\0";
+
+// A pair: of two leaves the first is shared, and is where the first pointer to it has its turn, after the pointers of both structs.
+const TURNS_LITTLE: &[u8] = b"\x02\0\0\0\x03\0\0\0\x03\0\0\0\x04\0\0\0\x05\0\0\0\x06\0\0\0";
+
+const TURNS_BIG: &[u8] = b"\0\0\0\x02\0\0\0\x03\0\0\0\x03\0\0\0\x04\0\0\0\x05\0\0\0\x06";
+
 // The inputs of an operation, with the plan that they are decoded by. It is out of memory too where the interface is not compiled.
 fn decoded(
     alloc: Global,
     op: u32,
     order: Order,
     source: &mut MemSource,
+) -> Result<(Plan, Decoded), DecodeFault>
+    ensures tied { IfOk result (λ r. r.1.fit.interface ≡ r.0.tie) }
+{
+    let mut steps = Steps::new(Uncounted::new());
+    decoded_by(alloc, op, order, source, &mut steps)
+}
+
+// The same, with the steps that it takes.
+fn decoded_by<L: Ledger>(
+    alloc: Global,
+    op: u32,
+    order: Order,
+    source: &mut MemSource,
+    steps: &mut Steps<L>,
 ) -> Result<(Plan, Decoded), DecodeFault>
     ensures tied { IfOk result (λ r. r.1.fit.interface ≡ r.0.tie) }
 {
@@ -72,11 +104,8 @@ fn decoded(
         return Err(DecodeFault::Memory);
     }
     let mut log = ItemLog::quiet();
-    let mut steps = Steps::new(Uncounted::new());
     let side = Side::In;
-    let decoded = decode(
-        alloc, &plan, op, side, order, None, source, &mut log, &mut steps,
-    )?;
+    let decoded = decode(alloc, &plan, op, side, order, None, source, &mut log, steps)?;
     Ok((plan, decoded))
 }
 
@@ -217,10 +246,80 @@ fn first_faults_are_found(rt: HostRuntime) -> Result<(), Fail> {
     Ok(())
 }
 
+// A ring, from a source that gives one octet at a call, and keeps the octet after it. Each item but gaps is a step, and so is each cell.
+#[test]
+fn rings_are_decoded(rt: HostRuntime) -> Result<(), Fail> {
+    let mut octets = Octets::copy(rt.alloc(), RING_OCTETS)?;
+    octets.append(b"\xff")?;
+    let mut source = MemSource::new(rt.alloc(), octets.as_slice(), 1, &[])?;
+    let mut steps = Steps::new(Counted::new());
+    let (_, decoded) = decoded_by(rt.alloc(), RING, Order::Little, &mut source, &mut steps)?;
+    assert!(rt; decoded.taken == 20 && source.left() == b"\xff".as_slice());
+    assert_eq!(rt; steps.ledger().count(), 7);
+    let fit = &decoded.fit;
+    assert!(rt; is_root(fit, 0, &[Seen::Ptr(Some(CellId(1)))]));
+    let first = [Seen::Rec(2), Seen::Num(7), Seen::Ptr(Some(CellId(2)))];
+    assert!(rt; is_cell(fit, 0, &first));
+    let second = [Seen::Rec(2), Seen::Num(8), Seen::Ptr(Some(CellId(1)))];
+    assert!(rt; is_cell(fit, 1, &second));
+    Ok(())
+}
+
+// The first octets of a ring end too early, and nothing of the source is left.
+#[test]
+fn rings_are_cut(rt: HostRuntime) -> Result<(), Fail> {
+    let cut = b"\x01\0\0\0\x07\0\0\0\x02\0";
+    let mut source = MemSource::new(rt.alloc(), cut, 1, &[])?;
+    let Err(fault) = decoded(rt.alloc(), RING, Order::Little, &mut source) else {
+        assert!(rt; false);
+        return Ok(());
+    };
+    let wanted = DecodeFault::Bad {
+        place: 10,
+        reason: Reason::Truncated,
+    };
+    assert!(rt; fault == wanted && source.left() == b"".as_slice());
+    Ok(())
+}
+
+// Whether a cell of a graph of values is a struct of two pointers to these cells.
+fn is_two(graph: &Graph, at: usize, first: u32, second: u32) -> bool {
+    let Some(cell) = graph.cells.get(at) else {
+        return false;
+    };
+    let Val::Rec(members) = &cell.val else {
+        return false;
+    };
+    let Some(Val::Ptr(Some(one))) = members.get(0) else {
+        return false;
+    };
+    let Some(Val::Ptr(Some(other))) = members.get(1) else {
+        return false;
+    };
+    one.0 == first && other.0 == second
+}
+
+// The cells are numbered by their turns: the leaf that both structs share is the third, where its first pointer in the stream has its turn.
+#[test]
+fn shared_referents_are_values(rt: HostRuntime) -> Result<(), Fail> {
+    let mut source = MemSource::new(rt.alloc(), TURNS_LITTLE, 4096, &[])?;
+    let (_, decoded) = decoded(rt.alloc(), TURNS, Order::Little, &mut source)?;
+    assert!(rt; decoded.taken == 24);
+    match decoded.fit.graph(rt.alloc()) {
+        Ok(graph) => {
+            assert!(rt; graph.roots.len() == 1 && graph.cells.len() == 4);
+            assert!(rt; is_two(&graph, 0, 2, 3) && is_two(&graph, 1, 3, 4));
+        }
+        Err(_) => assert!(rt; false),
+    }
+    Ok(())
+}
+
 // A work is used again, in both orders.
 #[test]
 fn works_are_used_again(rt: HostRuntime) -> Result<(), Fail> {
     assert!(rt; are_written(rt.alloc(), USE, CONTEXT_LITTLE, CONTEXT_LITTLE, CONTEXT_BIG)?);
+    assert!(rt; are_written(rt.alloc(), TURNS, TURNS_LITTLE, TURNS_LITTLE, TURNS_BIG)?);
     assert!(rt;
         are_written(
             rt.alloc(),

@@ -5,6 +5,7 @@ ghost use Rattle.ndr_pipe.specs.Seen.{ends_seen};
 
 use command_compile::compile;
 use nd_base::{MemFiles, MemSource, Memory, Order, Steps, Uncounted};
+use nd_grammar::Reason;
 use nd_types::Side;
 use nd_value::ItemLog;
 use ndr_drain::{DrainFault, drain};
@@ -110,4 +111,30 @@ fn pipes_go_to_ends(rt: HostRuntime) -> Result<(), Fail> {
     assert_eq!(rt; drained(rt.alloc(), FEED, ROW, &mut ends), Ok(24));
     has_taken(&rt, &ends, b"1\n2\n3\n", true);
     Ok(())
+}
+
+// The first octets of the same end after the first chunk, whose elements the end has; it is not finished.
+#[test]
+fn whole_chunks_go_to_ends(rt: HostRuntime) -> Result<(), Fail> {
+    let cut = b"\x02\0\0\0\x01\0\0\0\x02\0\0\0\x01\0\0\0";
+    let mut ends = PipeEnds::new(rt.alloc());
+    add(&mut ends, mem_end(rt.alloc())?)?;
+    let wanted = DrainFault::Bad {
+        place: 16,
+        reason: Reason::Truncated,
+    };
+    assert_eq!(rt; drained(rt.alloc(), FEED, cut, &mut ends), Err(wanted));
+    has_taken(&rt, &ends, b"1\n2\n", false);
+    Ok(())
+}
+
+// There is no end for the pipe.
+#[test]
+fn ends_are_too_few(rt: HostRuntime) {
+    let mut ends = PipeEnds::new(rt.alloc());
+    let wanted = DrainFault::TooFewEnds {
+        wanted: 1,
+        found: 0,
+    };
+    assert_eq!(rt; drained(rt.alloc(), FEED, ROW, &mut ends), Err(wanted));
 }

@@ -1,0 +1,76 @@
+/* Measures the library: bench-library IDL OPERATION ROUNDS < OCTETS
+
+   The octets, of the inputs of an operation in little order, are decoded so many times, and their values are encoded as often, into a buffer that the octets
+   are then copied to. It prints how many nanoseconds the fastest of each took, and how many a round took on average with the values let go. */
+#include "dceidl.h"
+
+#include <stdio.h>
+#include <stdlib.h>
+#include <string.h>
+#include <time.h>
+
+static double now(void) {
+    struct timespec at;
+    clock_gettime(CLOCK_MONOTONIC, &at);
+    return at.tv_sec * 1e9 + at.tv_nsec;
+}
+
+static void need(int holds, const char *what) {
+    if (!holds) {
+        fprintf(stderr, "%s\n", what);
+        exit(1);
+    }
+}
+
+static uint8_t *content(FILE *file, size_t *length) {
+    size_t room = 1 << 26;
+    uint8_t *octets = malloc(room);
+    need(file && octets, "no file or memory");
+    *length = fread(octets, 1, room, file);
+    return octets;
+}
+
+static double lesser(double one, double other) {
+    return one < other ? one : other;
+}
+
+int main(int argc, char **argv) {
+    dceidl_interface interface = DCEIDL_NONE;
+    dceidl_values values = DCEIDL_NONE;
+    dceidl_fault fault = DCEIDL_NONE;
+    double copy = 1e18, decode = 1e18, encode = 1e18, began, all;
+    dceidl_file file = {dceidl_some("bench.idl"), 9, NULL, 0};
+    size_t length, taken, written;
+    uint8_t *octets, *out;
+    unsigned long operation, rounds, i;
+    need(argc == 4, "IDL OPERATION ROUNDS");
+    operation = strtoul(argv[2], NULL, 10);
+    rounds = strtoul(argv[3], NULL, 10);
+    file.text = content(fopen(argv[1], "rb"), &file.text_length);
+    need(dceidl_compile(&file, 1, 0, &interface, &fault) == DCEIDL_OK, "compile");
+    octets = content(stdin, &length);
+    out = malloc(length);
+    memset(out, 1, length);
+    for (i = 0; i < rounds; i++) {
+        began = now();
+        need(dceidl_decode(&interface, operation, DCEIDL_IN, DCEIDL_LITTLE, octets, length, &values, &taken, &fault) == DCEIDL_OK, "decode");
+        decode = lesser(decode, now() - began);
+        began = now();
+        need(dceidl_encode(&values, DCEIDL_LITTLE, 1, out, length, &written, &fault) == DCEIDL_OK && written == length, "encode");
+        encode = lesser(encode, now() - began);
+        began = now();
+        memcpy(out, octets, length);
+        __asm__ volatile("" ::: "memory");
+        copy = lesser(copy, now() - began);
+        dceidl_values_free(&values);
+    }
+    began = now();
+    for (i = 0; i < rounds; i++) {
+        need(dceidl_decode(&interface, operation, DCEIDL_IN, DCEIDL_LITTLE, octets, length, &values, &taken, &fault) == DCEIDL_OK, "decode");
+        dceidl_values_free(&values);
+    }
+    all = (now() - began) / (double)rounds;
+    dceidl_interface_free(&interface);
+    printf("copy %.0f ns, decode %.0f ns, encode %.0f ns, decoded and let go %.0f ns\n", copy, decode, encode, all);
+    return 0;
+}

@@ -1,0 +1,81 @@
+#!/usr/bin/env python3
+"""Measures the calls of the library in C beside those below them: how many times as long `dceidl_decode` takes as `decode`, and `dceidl_encode` as `Work::for_graph` with
+`encode_with`, on the five works of bench/ndr.py, in turns; and how long a message of 40 octets takes to be decoded and let go.
+
+    bench/library.py                 builds the library and the program crates/bench_ndr if they are not there
+    bench/library.py --prefix DIR    takes the library from this folder, as bin/dceidl-lib fills it
+    bench/library.py --program PATH  takes this program in place of crates/bench_ndr
+    bench/library.py --runs N        so many rounds in each run (default 20)
+    bench/library.py --turns N       so many runs, of which each time is the least (default 5)
+
+It needs `cc`. The status is 1 if a call takes more than 1.1 times as long, if the small message takes 500 ns or more, or if a run fails.
+"""
+
+import argparse
+import os
+import re
+import struct
+import subprocess
+import sys
+import tempfile
+
+import ndr
+
+HERE = os.path.dirname(os.path.abspath(__file__))
+MOST = 1.1
+MOST_SMALL = 500
+SMALL_IDL = """[uuid(5c8a1f10-7b0e-4d3a-9a52-0c1de0000006), pointer_default(unique)]
+interface small { void put([in] long id, [in, unique, string] char *name, [in] hyper at); }
+"""
+SMALL = struct.pack("<iI", 7, 1) + struct.pack("<III", 8, 0, 8) + b"message\0" + b"\0" * 4 + struct.pack("<q", 1 << 40)
+
+
+def made(prefix, folder):
+    """The program of library.c."""
+    path = os.path.join(folder, "library")
+    subprocess.run(["cc", "-O2", f"-I{prefix}/include", os.path.join(HERE, "library.c"), f"{prefix}/lib/libdceidl.a", "-o", path], check=True)
+    return path
+
+
+def run(program, idl, op, rounds, octets):
+    """The nanoseconds of a line that a program prints."""
+    shown = subprocess.run([program, idl, str(op), str(rounds)], input=octets, check=True, stdout=subprocess.PIPE).stdout.decode()
+    return [float(ns) for ns in re.findall(r"(\d+) ns", shown)]
+
+
+def main():
+    parser = argparse.ArgumentParser(description=__doc__, formatter_class=argparse.RawDescriptionHelpFormatter)
+    parser.add_argument("--prefix")
+    parser.add_argument("--program", default=ndr.PROGRAM)
+    parser.add_argument("--runs", type=int, default=20)
+    parser.add_argument("--turns", type=int, default=5)
+    words = parser.parse_args()
+    wrong = []
+    with tempfile.TemporaryDirectory() as folder:
+        prefix = words.prefix or os.path.join(folder, "prefix")
+        if not words.prefix:
+            subprocess.run([os.path.join(os.path.dirname(HERE), "bin", "dceidl-lib"), prefix], check=True)
+        if words.program == ndr.PROGRAM:
+            ndr.built()
+        program, idl, small = made(prefix, folder), os.path.join(folder, "bn.idl"), os.path.join(folder, "small.idl")
+        for path, text in ((idl, ndr.IDL), (small, SMALL_IDL)):
+            with open(path, "w") as file:
+                file.write(text)
+        for name, work, op, items, _ in ndr.WORKS:
+            octets = work(items)
+            ours, below = [], []
+            for _ in range(words.turns):
+                ours = ndr.lesser(run(program, idl, op, words.runs, octets), ours)
+                below = ndr.lesser(run(words.program, idl, op, words.runs, octets), below)
+            decode, encode = ours[1] / below[1], ours[2] / (below[2] + below[3])
+            print(f"{name}: decode {ours[1] / items:.2f} ns an item, {decode:.2f} times the call below; encode {ours[2] / items:.2f}, {encode:.2f} times", flush=True)
+            wrong += [f"{name}: {max(decode, encode):.2f} times the call below"] if max(decode, encode) > MOST else []
+        small_ns = min(run(program, small, 0, 200_000, SMALL)[3] for _ in range(words.turns))
+        print(f"a message of {len(SMALL)} octets: {small_ns:.0f} ns to be decoded and let go")
+        wrong += [f"a small message takes {small_ns:.0f} ns"] if small_ns >= MOST_SMALL else []
+    print("\n".join(wrong) or "within the limits")
+    return 1 if wrong else 0
+
+
+if __name__ == "__main__":
+    sys.exit(main())

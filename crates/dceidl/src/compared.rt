@@ -1,0 +1,98 @@
+// `compat .. why`: two versions are compared, and the first place at which they differ is written beside the refusal.
+ghost use Rattle.std.specs.Prelude.{◌≡◌, true, false, option_map, IfSome, IfNone};
+ghost use Rattle.nd_base.specs.Over.{FilesSeen, files_seen};
+ghost use Rattle.command_compile.specs.Asked.{FileNames};
+ghost use Rattle.command_compat.specs.Compat.{AsksBoth, IsIncompatible};
+ghost use Rattle.command_line.specs.Commands.{command_of};
+ghost use Rattle.command_line.specs.Words.{Compat};
+ghost use Rattle.dceidl.specs.Causes.{tells};
+ghost use Rattle.dceidl.specs.Compat.{IsComparedOutcome};
+
+use command_compat::{Incompatible, compat_why};
+use command_line::Command;
+use command_refusals::{line, status};
+use command_streams::Outcome;
+use nd_base::Files;
+use std::alloc::Global;
+
+// The files of two versions.
+#[derive(Clone, Copy)]
+pub(crate) struct Versions<'a> {
+    pub(crate) old: &'a str,
+    pub(crate) old_acf: Option<&'a str>,
+    pub(crate) new: &'a str,
+    pub(crate) new_acf: Option<&'a str>,
+}
+
+// The versions of a command that asks for the first place at which they differ.
+pub(crate) fn asked_versions(command: Command<'_>) -> Option<Versions<'_>>
+    ensures some { IfSome result (λ v. command_of command.entry
+        ≡ Compat v.old.now (option_map (λ a. a.now) v.old_acf) v.new.now (option_map (λ a. a.now) v.new_acf) true) }
+    ensures none { IfNone result (tells (command_of command.entry) ≡ false) }
+{
+    match command {
+        Command::Compat {
+            old,
+            old_acf,
+            new,
+            new_acf,
+            why,
+        } => {
+            if why {
+                Some(Versions {
+                    old,
+                    old_acf,
+                    new,
+                    new_acf,
+                })
+            } else {
+                None
+            }
+        }
+        Command::Values { .. } => None,
+        Command::Compile { .. } => None,
+        Command::Plan { .. } => None,
+        Command::Call { .. } => None,
+        Command::Wrap { .. } => None,
+        Command::Sample { .. } => None,
+        Command::Help => None,
+        Command::Version => None,
+    }
+}
+
+// What the comparison of two versions comes to.
+pub(crate) fn compared<F: Files>(alloc: Global, versions: Versions<'_>, files: &mut F) -> Outcome
+    ensures asked { AsksBoth (files_seen F.held F.absences F.faults F.asked files.old files.new)
+        (record { idl = versions.entry.old.now; acf = option_map (λ a. a.now) versions.entry.old_acf })
+        (record { idl = versions.entry.new.now; acf = option_map (λ a. a.now) versions.entry.new_acf }) }
+    ensures outcome { IsComparedOutcome (files_seen F.held F.absences F.faults F.asked files.old files.new)
+        (record { idl = versions.entry.old.now; acf = option_map (λ a. a.now) versions.entry.old_acf })
+        (record { idl = versions.entry.new.now; acf = option_map (λ a. a.now) versions.entry.new_acf }) result }
+{
+    match compat_why(
+        alloc,
+        versions.old,
+        versions.old_acf,
+        versions.new,
+        versions.new_acf,
+        files,
+    ) {
+        Ok(made) => Outcome::Done(made),
+        Err(why) => incompatible(alloc, why),
+    }
+}
+
+// The outcome of versions that are not compatible.
+fn incompatible(alloc: Global, why: Incompatible) -> Outcome
+    ensures { (f : FilesSeen) (old new : FileNames) → IsIncompatible f old new why → IsComparedOutcome f old new result }
+{
+    let Incompatible { refusal, place } = why;
+    let Ok(line) = line(alloc, "", "", &refusal) else {
+        return Outcome::Wanting;
+    };
+    let status = status(&refusal);
+    match place {
+        Some(text) => Outcome::Reported { text, status, line },
+        None => Outcome::Refused { status, line },
+    }
+}

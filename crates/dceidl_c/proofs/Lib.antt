@@ -1,0 +1,4 @@
+pub mod Numbered
+pub mod Octets
+pub mod Texts
+pub mod Files

@@ -1,0 +1,9 @@
+//! The calls of `libdceidl`, as `include/dceidl.h` has them. Each takes what its handle holds, makes one call of the crates below, and puts it back.
+#![tactic(auto)]
+
+mod answers;
+mod faults;
+mod interfaces;
+mod numbers;
+mod reading;
+mod writing;

@@ -1,0 +1,42 @@
+// Sides and orders by their numbers.
+ghost use Rattle.std.specs.Prelude.{◌≡◌};
+ghost use Rattle.dceidl_c.specs.Answers.{side_numbered, order_numbered, number_of_side};
+
+use nd_base::Order;
+use nd_types::Side;
+
+// The side of a number.
+pub(crate) fn side_of(number: u32) -> Option<Side>
+    ensures { result ≡ side_numbered number }
+{
+    if number == 0 {
+        Some(Side::In)
+    } else if number == 1 {
+        Some(Side::Out)
+    } else {
+        None
+    }
+}
+
+// The number of a side.
+pub(crate) fn number_of(side: Side) -> u32
+    ensures { result ≡ number_of_side side }
+{
+    match side {
+        Side::In => 0,
+        Side::Out => 1,
+    }
+}
+
+// The order of a number.
+pub(crate) fn order_of(number: u32) -> Option<Order>
+    ensures { result ≡ order_numbered number }
+{
+    if number == 0 {
+        Some(Order::Little)
+    } else if number == 1 {
+        Some(Order::Big)
+    } else {
+        None
+    }
+}

@@ -1,0 +1,6 @@
+pub mod Forms
+pub mod Trailing
+pub mod Leading
+pub mod Walked
+pub mod Operated
+pub mod Paths

@@ -1,0 +1,5 @@
+pub mod Parts
+pub mod Places
+pub mod Differences
+pub mod Trails
+pub mod Lines

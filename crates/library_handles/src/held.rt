@@ -1,0 +1,16 @@
+// What a handle holds.
+use command_refusals::Refusal;
+use library_interface::Compiled;
+use library_values::Values;
+use std::sync::Arc;
+
+/// What a handle holds.
+#[derive(Drop)]
+pub enum Held {
+    /// An interface, which handles and values share.
+    Interface(Arc<Compiled>),
+    /// Values of a side of an operation.
+    Values(Values),
+    /// Why a call was refused.
+    Refusal(Refusal),
+}

@@ -1,0 +1,3 @@
+pub mod Decodes
+pub mod Encodes
+pub mod Requests

@@ -1,0 +1,126 @@
+// Values with their interface.
+ghost use Rattle.std.specs.Prelude.{◌≡◌, ◌≤◌, length, Some, IfOk, IfErr, OnErr};
+ghost use Rattle.std.specs.Arc.{arc_value};
+ghost use Rattle.std.specs.List.{slice_get};
+ghost use Rattle.nd_types.specs.declared.types.Operation.{Operation};
+ghost use Rattle.nd_value.specs.Fitting.{setting_beside};
+ghost use Rattle.command_refusals.specs.declared.refusal.Refusal.TheVariants as refusal;
+ghost use Rattle.text_grammar.specs.Printed.{IsText};
+ghost use Rattle.library_values.specs.Encoded.{IsEncoded, IsEncodeCause};
+
+use crate::encoding::{Encoded, encode_fit};
+use command_refusals::Refusal;
+use library_interface::Compiled;
+use nd_base::{Memory, Octets, Order};
+use nd_graph::Fit;
+use nd_types::{Interface, Side};
+use ndr_code::Plan;
+use std::alloc::Global;
+use std::marker::Model;
+use std::sync::Arc;
+use value_text::print;
+
+/// The values of a side of an operation, with the interface that they are of, which others may have too. Contracts see them as a fit.
+#[derive(Drop)]
+pub struct Values {
+    pub(crate) compiled: Arc<Compiled>,
+    pub(crate) fit: Fit,
+}
+
+impl Model for Values {
+    ghost use Rattle.std.specs.Prelude.{◌≡◌};
+    ghost use Rattle.std.specs.Arc.{arc_value};
+    ghost use Rattle.nd_value.specs.Fitting.{Fitting, fitting_code};
+
+    ghost Value = { Fitting };
+
+    ghost coded = { fitting_code };
+
+    ghost view = { λ v. v.fit };
+
+    ghost invariant = { λ v. v.fit.interface ≡ arc_value v.compiled };
+}
+
+impl Values {
+    /// A fit with its interface. Running out of memory is the only refusal, where the interface has as many values as can be counted.
+    pub(crate) fn of(compiled: &Arc<Compiled>, fit: Fit) -> Result<Values, Refusal>
+        requires { fit.interface ≡ arc_value compiled.now }
+        ensures ok { IfOk result (λ v. v ≡ fit) }
+        ensures err { IfErr result (λ e. e ≡ refusal.Memory) }
+    {
+        match Arc::try_clone(compiled) {
+            Ok(compiled) => Ok(Values { compiled, fit }),
+            Err(_) => Err(Refusal::Memory),
+        }
+    }
+
+    /// The number of the operation. Takes no memory.
+    pub fn op(&self) -> u32
+        ensures { result ≡ self.now.op }
+    {
+        self.fit.op()
+    }
+
+    /// The side of the operation. Takes no memory.
+    pub fn side(&self) -> Side
+        ensures { result ≡ self.now.side }
+    {
+        self.fit.side()
+    }
+
+    /// The text of the values, version 2 of the value text. Takes memory for the text and for the canonical graph; running out of it is the only
+    /// refusal.
+    pub fn text(&self, alloc: Global) -> Result<Octets, Memory>
+        ensures { IfOk result (λ text. (o : Operation) → slice_get self.now.interface.operations self.now.op ≡ Some o
+            → IsText (setting_beside self.now.interface o self.now.side self.now.given) self.now.graph text) }
+    {
+        let interface = interface_of(&self.compiled);
+        print_fit(alloc, interface, &self.fit)
+    }
+
+    /// Writes the octets of the values to the front of a buffer, in NDR (C706, chapter 14), if they have room there; else it writes nothing, and says
+    /// how many they are. Each chunk of a pipe has `chunk` elements, at least one, except the last, which may have fewer.
+    ///
+    /// # Errors
+    /// TooLong, exactly where the octets are more than a stream may have: so many. Memory where memory was refused.
+    ///
+    /// Takes memory for 12 octets for each root and cell and 4 for each cell, and gives it back.
+    pub fn encode(
+        &self,
+        alloc: Global,
+        order: Order,
+        chunk: u32,
+        out: &mut [u8],
+    ) -> Result<Encoded, Refusal>
+        requires some { 1 ≤ chunk }
+        ensures encoded { IfOk result (IsEncoded self.now order chunk out.old out.new) }
+        ensures refused { IfErr result (IsEncodeCause self.now chunk) }
+        ensures kept { OnErr result (out.new ≡ out.old) }
+        ensures wide { length out.new ≡ length out.old }
+    {
+        encode_fit(alloc, plan_of(&self.compiled), &self.fit, order, chunk, out)
+    }
+}
+
+// The text of a fit.
+fn print_fit(alloc: Global, interface: &Interface, fit: &Fit) -> Result<Octets, Memory>
+    requires tied { fit.now.interface ≡ interface.now }
+    ensures { IfOk result (λ text. (o : Operation) → slice_get fit.now.interface.operations fit.now.op ≡ Some o
+        → IsText (setting_beside fit.now.interface o fit.now.side fit.now.given) fit.now.graph text) }
+{
+    print(alloc, interface, fit)
+}
+
+/// The interface that is shared. Takes no memory.
+pub(crate) fn interface_of(compiled: &Arc<Compiled>) -> &Interface
+    ensures { result.now ≡ arc_value compiled.now }
+{
+    compiled.interface()
+}
+
+/// Its plan. Takes no memory.
+pub(crate) fn plan_of(compiled: &Arc<Compiled>) -> &Plan
+    ensures { result.now.tie ≡ arc_value compiled.now }
+{
+    compiled.plan()
+}
