@@ -35,10 +35,11 @@ fn plan(alloc: Global) -> Result<Plan, Memory>
     let Ok(interface) = compile(alloc, "t.idl", None, &mut files) else {
         return Err(Memory);
     };
+    let plan = make(alloc, &interface)?;
     if interface.operations.len() == 0 {
         return Err(Memory);
     }
-    make(alloc, &interface)
+    Ok(plan)
 }
 
 // An intake of the inputs of the first operation, whose head was read.
@@ -98,48 +99,105 @@ fn has(elements: Option<Vals>, numbers: &[i128]) -> bool {
     true
 }
 
-// Each call fetches what it needs and no octet more. Each count and each element is a step.
-#[test]
-fn streams_are_read_in_parts(rt: HostRuntime) -> Result<(), Fail> {
-    let plan = plan(rt.alloc())?;
-    let mut source = MemSource::new(rt.alloc(), ROW, 1, &[])?;
-    let mut steps = Steps::new(Counted::new());
-    let mut intake = begun(rt.alloc(), &plan, &mut source, &mut steps)?;
-    assert!(rt; intake.pipes_left() == 1 && source.left().len() == 25);
-    assert!(rt; has(chunk(&mut intake, &mut source, &mut steps)?, &[1, 2]));
-    assert!(rt; source.left().len() == 13);
-    assert!(rt; has(chunk(&mut intake, &mut source, &mut steps)?, &[3]));
-    assert!(rt; intake.pipes_left() == 1 && source.left().len() == 5);
-    assert!(rt; chunk(&mut intake, &mut source, &mut steps)?.is_none());
-    assert!(rt; !intake.failed() && source.left() == b"\xff".as_slice());
-    assert_eq!(rt; steps.ledger().count(), 6);
-    if intake.pipes_left() != 0 {
-        assert!(rt; false, "a pipe is left");
-        return Ok(());
-    }
-    let decoded = intake.finish();
-    assert!(rt; decoded.taken == 24 && decoded.fit.flat().root_count() == 1);
-    Ok(())
+// Whether so many pipes are left of a stream, and so many octets of its source.
+fn leaves(intake: &Intake<'_>, source: &MemSource, pipes: u32, octets: usize) -> bool {
+    intake.pipes_left() == pipes && source.left().len() == octets
 }
 
-// After a fault no pipe is left. The chunk before was answered.
-#[test]
-fn streams_are_refused_in_parts(rt: HostRuntime) -> Result<(), Fail> {
-    let plan = plan(rt.alloc())?;
-    let mut source = MemSource::new(rt.alloc(), CUT, 1, &[])?;
-    let mut steps = Steps::new(Counted::new());
-    let mut intake = begun(rt.alloc(), &plan, &mut source, &mut steps)?;
-    assert!(rt; has(chunk(&mut intake, &mut source, &mut steps)?, &[1, 2]));
-    match chunk(&mut intake, &mut source, &mut steps) {
-        Ok(_) => assert!(rt; false),
+// Whether the next chunk has these numbers, and so many octets are left after it.
+fn chunk_has(
+    intake: &mut Intake<'_>,
+    source: &mut MemSource,
+    steps: &mut Steps<Counted>,
+    numbers: &[i128],
+    octets: usize,
+) -> Result<bool, DecodeFault>
+    requires reading { (intake_seen intake.old).phase ≡ Reading }
+    requires ready { IsReady intake.old }
+    ensures reading { OnOk result ((intake_seen intake.new).phase ≡ Reading) }
+    ensures ready { OnOk result (IsReady intake.new) }
+{
+    let elements = chunk(intake, source, steps)?;
+    let found = has(elements, numbers);
+    let left = leaves(intake, source, 1, octets);
+    Ok(found && left)
+}
+
+// Whether the pipe ends, and what is kept is a pipe, of 24 octets.
+fn pipe_ends(
+    intake: Intake<'_>,
+    source: &mut MemSource,
+    steps: &mut Steps<Counted>,
+) -> Result<bool, DecodeFault>
+    requires reading { (intake_seen intake).phase ≡ Reading }
+    requires ready { IsReady intake }
+{
+    let mut intake = intake;
+    let elements = chunk(&mut intake, source, steps)?;
+    if elements.is_some() || intake.failed() || intake.pipes_left() != 0 {
+        return Ok(false);
+    }
+    let decoded = intake.finish();
+    Ok(decoded.taken == 24 && decoded.fit.flat().root_count() == 1)
+}
+
+// Whether a stream of chunks of 2 and 1 elements is read in parts, each of which fetches what it needs and no octet more.
+fn row_is_read(
+    alloc: Global,
+    plan: &Plan,
+    source: &mut MemSource,
+    steps: &mut Steps<Counted>,
+) -> Result<bool, DecodeFault>
+    requires known { 0 < length plan.now.tie.operations }
+{
+    let mut intake = begun(alloc, plan, source, steps)?;
+    let whole = leaves(&intake, source, 1, 25);
+    let first = chunk_has(&mut intake, source, steps, &[1, 2], 13)?;
+    let second = chunk_has(&mut intake, source, steps, &[3], 5)?;
+    let end = pipe_ends(intake, source, steps)?;
+    Ok(whole && first && second && end)
+}
+
+// Whether a stream that ends within the second chunk is refused there, after the first was answered, and no pipe is left.
+fn cut_is_refused(
+    alloc: Global,
+    plan: &Plan,
+    source: &mut MemSource,
+    steps: &mut Steps<Counted>,
+) -> Result<bool, DecodeFault>
+    requires known { 0 < length plan.now.tie.operations }
+{
+    let mut intake = begun(alloc, plan, source, steps)?;
+    let first = chunk_has(&mut intake, source, steps, &[1, 2], 4)?;
+    match chunk(&mut intake, source, steps) {
+        Ok(_) => Ok(false),
         Err(fault) => {
             let wanted = DecodeFault::Bad {
                 place: 16,
                 reason: Reason::Truncated,
             };
-            assert!(rt; fault == wanted);
+            Ok(first && fault == wanted && intake.failed() && intake.pipes_left() == 0)
         }
     }
-    assert!(rt; intake.failed() && intake.pipes_left() == 0);
+}
+
+// The octet after the stream is left. Each count and each element is a step.
+#[test]
+fn streams_are_read_in_parts(rt: HostRuntime) -> Result<(), Fail> {
+    let plan = plan(rt.alloc())?;
+    let mut source = MemSource::new(rt.alloc(), ROW, 1, &[])?;
+    let mut steps = Steps::new(Counted::new());
+    assert!(rt; row_is_read(rt.alloc(), &plan, &mut source, &mut steps)?);
+    assert!(rt; source.left() == b"\xff".as_slice());
+    assert_eq!(rt; steps.ledger().count(), 6);
+    Ok(())
+}
+
+#[test]
+fn streams_are_refused_in_parts(rt: HostRuntime) -> Result<(), Fail> {
+    let plan = plan(rt.alloc())?;
+    let mut source = MemSource::new(rt.alloc(), CUT, 1, &[])?;
+    let mut steps = Steps::new(Counted::new());
+    assert!(rt; cut_is_refused(rt.alloc(), &plan, &mut source, &mut steps)?);
     Ok(())
 }
