@@ -1,0 +1,3 @@
+mod Worked
+pub mod Progress
+pub mod Partial

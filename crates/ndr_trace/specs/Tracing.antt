@@ -1,0 +1,94 @@
+-- What a walk over the items of a log comes to.
+-- `k` are the octets with the partial graph in which they are refused, `u` what the walk is given, `p` how far it came, `s` where a node is, `due`
+-- are the entries that are due, agreements apart.
+use Rattle.std.specs.Prelude.{◌≡◌, ◌⊎◌, ◌<◌, ◌≤◌, ◌^◌, ℕ, ℤ, pos, true, List, [], ◌∷◌, ◌++◌, drop, length, reverse, take, IsSome, Some}
+use Rattle.nd_base.specs.declared.octets.Order.{Order}
+use Rattle.nd_value.specs.declared.item.Item.{Item}
+use Rattle.nd_value.specs.declared.value.Graph.{Graph}
+use Rattle.nd_value.specs.Setting.{Setting}
+use Rattle.nd_value.specs.Tree as tree
+use Rattle.nd_grammar.specs.Entry.{Actual, Align, Chunk, Context, Entry, EntryAt, Kind, Max, Num, Number, Offset, Tag, Test, Text, Unread, end_to_end}
+use Rattle.nd_grammar.specs.Represents.{IsNumber}
+use Rattle.ndr_explain.specs.Cursors.{name_text, path_to}
+use Rattle.ndr_explain.specs.Explained.{explanation, home_flats, home_paths, label_in, path_in}
+use Rattle.ndr_trace_laws.specs.Due.{Stops}
+use Rattle.ndr_trace_laws.specs.Untested.{is_test}
+use Rattle.ndr_trace.specs.declared.progress.Ground.{Ground}
+use Rattle.ndr_trace.specs.declared.progress.Progress.{Progress}
+use Rattle.ndr_trace.specs.declared.progress.Spot.{Spot}
+use Rattle.ndr_trace.specs.Traces.{entry_path}
+
+-- Octets that are refused at an entry of the stream of a partial graph, and the log of the items before it.
+pub record Known : Type 0 where
+  pub setting : Setting
+  pub graph : Graph
+  pub order : Order
+  pub fetched : List ℕ
+  pub numbering : ℕ → ℕ
+  pub here : EntryAt
+  pub log : List Item
+
+-- what a walk is given: these octets, and maybe others after them, with their log
+pub record IsGround (k : Known) (u : Ground) : Type 0 where
+  pub more : List ℕ
+  pub octets : u.octets.now ≡ k.fetched ++ more
+  pub items : u.items.now.items ≡ k.log
+  pub order : u.order ≡ k.order
+  -- an agreement is sought only where one fails
+  pub sought : IsSome u.sought → is_test k.here.entry.kind ≡ true
+  pub few : length k.fetched < 2 ^ 32
+
+-- The items so far have their lines, and then these entries are due.
+pub record IsTracing (k : Known) (p : Progress) (due : List Entry) : Type 0 where
+  pub within : p.next ≤ length k.log
+  pub lines : p.lines ≡ explanation k.setting k.graph (take p.next k.log)
+  pub no_path : p.path ≡ []
+  pub due : Stops k.order k.fetched k.numbering k.here (end_to_end p.at due) (drop p.next k.log)
+
+-- All items have their lines, and the path is that of the entry at which reading stopped, unless it stopped at an agreement.
+pub record IsEnded (k : Known) (p : Progress) : Type 0 where
+  pub lines : p.lines ≡ explanation k.setting k.graph k.log
+  pub path : (is_test k.here.entry.kind ≡ true) ⊎ (p.path ≡ entry_path k.setting k.graph k.here.entry)
+
+-- the levels of a node have the path of its number
+abbrev pub IsSpot : Known → Spot → Type 0
+IsSpot k s = path_to (name_text s.name) (s.top ∷ reverse s.below.now.items) ≡ path_in (home_paths k.setting k.graph s.home) s.node
+
+-- an entry of a node
+abbrev pub entry_at : Spot → Kind → Entry
+entry_at s x = record { home = s.home; node = s.node; kind = x }
+
+-- ## Items
+
+-- a kind that is an item wherever it is
+abbrev pub IsItem : Kind → Type 0
+IsItem (Align n) = ⊥
+IsItem (Test a wanted found) = ⊥
+IsItem Unread = ⊥
+IsItem _ = Unit {0}
+
+-- a count
+abbrev pub IsCount : Kind → Type 0
+IsCount (Max v) = Unit {0}
+IsCount (Offset t v) = Unit {0}
+IsCount (Actual t offset limit v) = Unit {0}
+IsCount (Chunk v) = Unit {0}
+IsCount (Number class to cell) = Unit {0}
+IsCount _ = ⊥
+
+-- the number that an item holds is that of its entry, of a pointer one that its cell may have
+abbrev pub Holds : Known → Kind → ℤ → Type 0
+Holds k (Max v) z = z ≡ pos v
+Holds k (Offset t v) z = z ≡ pos v
+Holds k (Actual t offset limit v) z = z ≡ pos v
+Holds k (Chunk v) z = z ≡ pos v
+Holds k (Number class to cell) z = (n : ℕ) × ((z ≡ pos n) × IsNumber k.numbering class cell n)
+Holds k (Num p values v) z = z ≡ v
+Holds k (Tag p values arms default v) z = z ≡ v
+Holds k _ z = Unit {0}
+
+-- the node of a text or a context handle is what its entry says
+abbrev pub HasLabel : Known → Spot → Kind → Type 0
+HasLabel k s (Text octets) = (max : ℕ) × (label_in (home_flats k.graph s.home) s.node ≡ Some (tree.Text max octets))
+HasLabel k s (Context attributes id) = label_in (home_flats k.graph s.home) s.node ≡ Some (tree.Context attributes id)
+HasLabel k s _ = Unit {0}
