@@ -1,3 +1,4 @@
 pub mod Traces
 pub mod Examples
 pub mod Tracing
+pub mod Walking

@@ -1,14 +1,17 @@
 -- What a walk over the items of a log comes to.
 -- `k` are the octets with the partial graph in which they are refused, `u` what the walk is given, `p` how far it came, `s` where a node is, `due`
 -- are the entries that are due, agreements apart.
-use Rattle.std.specs.Prelude.{◌≡◌, ◌⊎◌, ◌<◌, ◌≤◌, ◌^◌, ℕ, ℤ, pos, true, List, [], ◌∷◌, ◌++◌, drop, length, reverse, take, IsSome, Some}
+use Rattle.std.specs.Prelude.{◌≡◌, ◌⊎◌, ◌<◌, ◌≤◌, ◌+◌, ◌^◌, ℕ, ℤ, pos, true, List, [], ◌∷◌, ◌++◌, drop, length, reverse, take, IsSome, Some}
+use Rattle.std.specs.List.{slice_get}
 use Rattle.nd_base.specs.declared.octets.Order.{Order}
+use Rattle.nd_types.specs.Number.{AreOctets}
+use Rattle.nd_value.specs.declared.item.Home.{Home}
 use Rattle.nd_value.specs.declared.item.Item.{Item}
 use Rattle.nd_value.specs.declared.value.Graph.{Graph}
 use Rattle.nd_value.specs.Setting.{Setting}
 use Rattle.nd_value.specs.Tree as tree
 use Rattle.nd_grammar.specs.Entry.{Actual, Align, Chunk, Context, Entry, EntryAt, Kind, Max, Num, Number, Offset, Tag, Test, Text, Unread, end_to_end}
-use Rattle.nd_grammar.specs.Represents.{IsNumber}
+use Rattle.nd_grammar.specs.Represents.{IsNumber, IsNumbering}
 use Rattle.ndr_explain.specs.Cursors.{name_text, path_to}
 use Rattle.ndr_explain.specs.Explained.{explanation, home_flats, home_paths, label_in, path_in}
 use Rattle.ndr_trace_laws.specs.Due.{Stops}
@@ -25,6 +28,8 @@ pub record Known : Type 0 where
   pub order : Order
   pub fetched : List ℕ
   pub numbering : ℕ → ℕ
+  -- the cells that full pointers of the whole stream name
+  pub full : List ℕ
   pub here : EntryAt
   pub log : List Item
 
@@ -34,9 +39,13 @@ pub record IsGround (k : Known) (u : Ground) : Type 0 where
   pub octets : u.octets.now ≡ k.fetched ++ more
   pub items : u.items.now.items ≡ k.log
   pub order : u.order ≡ k.order
+  pub table : u.interface.now.types ≡ k.setting.table
   -- an agreement is sought only where one fails
   pub sought : IsSome u.sought → is_test k.here.entry.kind ≡ true
-  pub few : length k.fetched < 2 ^ 32
+  -- no item ends past the limit of a stream
+  pub few : (n : ℕ) (i : Item) → slice_get k.log n ≡ Some i → i.at + i.len < 2 ^ 32
+  pub are_octets : AreOctets k.fetched
+  pub is_numbering : IsNumbering k.numbering k.full
 
 -- The items so far have their lines, and then these entries are due.
 pub record IsTracing (k : Known) (p : Progress) (due : List Entry) : Type 0 where
@@ -50,13 +59,13 @@ pub record IsEnded (k : Known) (p : Progress) : Type 0 where
   pub lines : p.lines ≡ explanation k.setting k.graph k.log
   pub path : (is_test k.here.entry.kind ≡ true) ⊎ (p.path ≡ entry_path k.setting k.graph k.here.entry)
 
--- the levels of a node have the path of its number
-abbrev pub IsSpot : Known → Spot → Type 0
-IsSpot k s = path_to (name_text s.name) (s.top ∷ reverse s.below.now.items) ≡ path_in (home_paths k.setting k.graph s.home) s.node
+-- the levels of a node have the path of its number, which is n
+abbrev pub IsSpot : Known → Spot → ℕ → Type 0
+IsSpot k s n = path_to (name_text s.name) (s.top ∷ reverse s.below.now.items) ≡ path_in (home_paths k.setting k.graph s.home) n
 
 -- an entry of a node
-abbrev pub entry_at : Spot → Kind → Entry
-entry_at s x = record { home = s.home; node = s.node; kind = x }
+abbrev pub entry_at : Spot → ℕ → Kind → Entry
+entry_at s n x = record { home = s.home; node = n; kind = x }
 
 -- ## Items
 
@@ -88,7 +97,7 @@ Holds k (Tag p values arms default v) z = z ≡ v
 Holds k _ z = Unit {0}
 
 -- the node of a text or a context handle is what its entry says
-abbrev pub HasLabel : Known → Spot → Kind → Type 0
-HasLabel k s (Text octets) = (max : ℕ) × (label_in (home_flats k.graph s.home) s.node ≡ Some (tree.Text max octets))
-HasLabel k s (Context attributes id) = label_in (home_flats k.graph s.home) s.node ≡ Some (tree.Context attributes id)
-HasLabel k s _ = Unit {0}
+abbrev pub HasLabel : Known → Home → ℕ → Kind → Type 0
+HasLabel k h n (Text octets) = (max : ℕ) × (label_in (home_flats k.graph h) n ≡ Some (tree.Text max octets))
+HasLabel k h n (Context attributes id) = label_in (home_flats k.graph h) n ≡ Some (tree.Context attributes id)
+HasLabel k h n _ = Unit {0}

@@ -86,7 +86,7 @@ fn walk_home<'a>(
 ) -> Result<(), Halt> {
     let before = walker.cells.pending.len();
     let max = front(ground, walker, home, name, of)?;
-    walk_level(ground, walker, home, name, max, Level::Whole { of }, 0)?;
+    walk_level(ground, walker, home, name, max, Level::Whole { of })?;
     close(ground, &mut walker.search, 0)?;
     turn(&mut walker.cells.pending, before);
     Ok(())
@@ -107,7 +107,6 @@ fn front<'a>(
     let spot = Spot {
         home,
         name,
-        node: 0,
         top: Level::Whole { of },
         below: &below,
     };
@@ -152,12 +151,10 @@ fn walk_pipe<'a>(
     let spot = Spot {
         home,
         name,
-        node: 0,
         top: Level::Whole { of: root.of },
         below: &below,
     };
     let mut before = 0u32;
-    let mut node = 1;
     loop {
         gap(ground, &mut walker.progress, 4, &spot)?;
         let size = count(ground, &mut walker.progress, &spot)?;
@@ -170,7 +167,7 @@ fn walk_pipe<'a>(
             at: 0,
             size,
         };
-        node = walk_level(ground, walker, home, name, 0, elements, node)?;
+        walk_level(ground, walker, home, name, 0, elements)?;
         before = before.saturating_add(size);
     }
 }

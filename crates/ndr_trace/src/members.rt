@@ -87,7 +87,7 @@ pub(crate) fn seen_node<'a>(
     let Some(sought) = ground.sought else {
         return Ok(());
     };
-    if spot.node == 0 {
+    if is_own(spot) {
         seen_home(&mut walker.search, spot.home, seen)?;
     }
     if from <= sought.item && sought.item < walker.progress.next {
@@ -97,6 +97,14 @@ pub(crate) fn seen_node<'a>(
         seen_member(&mut walker.search, sought, at, seen)?;
     }
     Ok(())
+}
+
+// Whether a node is a home's own value.
+fn is_own(spot: &Spot<'_, '_>) -> bool {
+    match spot.top {
+        Level::Whole { .. } => spot.below.is_empty(),
+        _ => false,
+    }
 }
 
 // Notes what a member says.

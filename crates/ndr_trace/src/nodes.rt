@@ -18,8 +18,7 @@ pub(crate) struct Walker<'a> {
     pub(crate) search: Search<'a>,
 }
 
-/// Walks over the nodes of a level and of all below it, from the node of this number on. `max` is the maximum count in front of the home's value, or
-/// 0. Gives the number after the last.
+/// Walks over the nodes of a level and of all below it. `max` is the maximum count in front of the home's value, or 0.
 pub(crate) fn walk_level<'a>(
     ground: &Ground<'a>,
     walker: &mut Walker<'a>,
@@ -27,32 +26,44 @@ pub(crate) fn walk_level<'a>(
     name: HomeName<'a>,
     max: u32,
     first: Level<'a>,
-    node: u32,
-) -> Result<u32, Halt> {
+) -> Result<(), Halt>
+    ensures goes { (k : Known) → IsGround k ground.now → (n : ℕ) (left : Trees)
+        → AreThere k home max (level_types first.entry) (level_paths (name_text name.entry) first.entry) n left
+        → (rest : List Entry) → IsTracing k walker.old.progress (values_due k home (level_types first.entry) n left ++ rest)
+        → (more : List Naming) → IsNaming k walker.old.cells (names_in (values_due k home (level_types first.entry) n left) ++ more)
+        → IfOk result (λ _. IsTracing k walker.new.progress rest
+        × HasNamed k walker.old.cells (names_in (values_due k home (level_types first.entry) n left)) walker.new.cells more) }
+    ensures ends { (k : Known) → IsGround k ground.now → (n : ℕ) (left : Trees)
+        → AreThere k home max (level_types first.entry) (level_paths (name_text name.entry) first.entry) n left
+        → (rest : List Entry) → IsTracing k walker.old.progress (values_due k home (level_types first.entry) n left ++ rest)
+        → (more : List Naming) → IsNaming k walker.old.cells (names_in (values_due k home (level_types first.entry) n left) ++ more)
+        → IsErrOf result halts.Here → IsEnded k walker.new.progress }
+    ensures paid { IfOk result (λ _. (walker.old.progress.next ≤ walker.new.progress.next)
+        × (length walker.new.cells.pending.items + walker.old.progress.next ≤ length walker.old.cells.pending.items + walker.new.progress.next)) }
+{
     let types = &ground.interface.types;
     let mut levels = Levels {
         top: first,
         below: Vec::new(ground.alloc),
     };
-    let mut node = node;
-    loop {
+    // No log within the limit of a stream has so many nodes.
+    for _turn in 0..u64::MAX {
         let spot = Spot {
             home,
             name,
-            node,
             top: levels.top,
             below: &levels.below,
         };
         let of = type_of(levels.top);
         let seen = visit(ground, walker, max, of, &spot)?;
-        node = node.saturating_add(1);
         let inner = children(types, of, &seen);
         let Levels { top, below } = levels;
         let Some(next) = next_levels(inner, top, below)? else {
-            return Ok(node);
+            return Ok(());
         };
         levels = next;
     }
+    Err(Halt::Memory)
 }
 
 // Passes what a node has before its children, and gives what it says.

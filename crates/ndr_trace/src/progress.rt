@@ -62,12 +62,11 @@ impl From<Memory> for Halt {
     }
 }
 
-/// Where a node is: its home, its number, and the levels from the home's value down to it.
+/// Where a node is: its home, and the levels from the home's value down to it.
 #[derive(Clone, Copy)]
 pub(crate) struct Spot<'s, 'a> {
     pub(crate) home: Home,
     pub(crate) name: HomeName<'a>,
-    pub(crate) node: u32,
     pub(crate) top: Level<'a>,
     pub(crate) below: &'s Vec<Level<'a>>,
 }
