@@ -1,19 +1,25 @@
 -- What a walk over the items of a log comes to.
 -- `k` are the octets with the partial graph in which they are refused, `u` what the walk is given, `p` how far it came, `s` where a node is, `due`
 -- are the entries that are due, agreements apart.
-use Rattle.std.specs.Prelude.{◌≡◌, ◌⊎◌, ◌<◌, ◌≤◌, ◌+◌, ◌^◌, ℕ, ℤ, pos, true, List, [], ◌∷◌, ◌++◌, drop, length, reverse, take, IsSome, Some}
+use Rattle.std.specs.Prelude.{◌≡◌, ◌⊎◌, ◌<◌, ◌≤◌, ◌+◌, ◌-◌, ◌^◌, ℕ, ℤ, pos, true, List, [], ◌∷◌, ◌++◌, drop, length, reverse, take, IsSome, Option, Some}
 use Rattle.std.specs.List.{slice_get}
 use Rattle.nd_base.specs.declared.octets.Order.{Order}
 use Rattle.nd_types.specs.Number.{AreOctets}
 use Rattle.nd_value.specs.declared.item.Home.{Home}
 use Rattle.nd_value.specs.declared.item.Item.{Item}
+use Rattle.nd_value.specs.declared.item.ItemKind.{ItemKind}
+use Rattle.nd_value.specs.declared.item.ItemKind.TheVariants as item
 use Rattle.nd_value.specs.declared.value.Graph.{Graph}
 use Rattle.nd_value.specs.Setting.{Setting}
 use Rattle.nd_value.specs.Tree as tree
+use Rattle.nd_value.specs.Tree.{Label}
 use Rattle.nd_grammar.specs.Entry.{Actual, Align, Chunk, Context, Entry, EntryAt, Kind, Max, Num, Number, Offset, Tag, Test, Text, Unread, end_to_end}
 use Rattle.nd_grammar.specs.Represents.{IsNumber, IsNumbering}
+use Rattle.ndr_prim.specs.Context.{attributes_of, identifier_of}
+use Rattle.text_grammar.specs.Printed.{quoted_text}
+use Rattle.text_printer.specs.Texts.{context_text}
 use Rattle.ndr_explain.specs.Cursors.{name_text, path_to}
-use Rattle.ndr_explain.specs.Explained.{explanation, home_flats, home_paths, label_in, path_in}
+use Rattle.ndr_explain.specs.Explained.{context_shown, explanation, home_flats, home_paths, label_in, path_in, string_shown}
 use Rattle.ndr_trace_laws.specs.Due.{Stops}
 use Rattle.ndr_trace_laws.specs.Untested.{is_test}
 use Rattle.ndr_trace.specs.declared.progress.Ground.{Ground}
@@ -40,8 +46,9 @@ pub record IsGround (k : Known) (u : Ground) : Type 0 where
   pub items : u.items.now.items ≡ k.log
   pub order : u.order ≡ k.order
   pub table : u.interface.now.types ≡ k.setting.table
-  -- an agreement is sought only where one fails
+  -- an agreement is sought exactly where one fails
   pub sought : IsSome u.sought → is_test k.here.entry.kind ≡ true
+  pub seeks : is_test k.here.entry.kind ≡ true → IsSome u.sought
   -- no item ends past the limit of a stream
   pub few : (n : ℕ) (i : Item) → slice_get k.log n ≡ Some i → i.at + i.len < 2 ^ 32
   pub are_octets : AreOctets k.fetched
@@ -85,19 +92,40 @@ IsCount (Chunk v) = Unit {0}
 IsCount (Number class to cell) = Unit {0}
 IsCount _ = ⊥
 
+-- a count, as an item holds it
+abbrev pub IsCounted : ℤ → ℕ → Type 0
+IsCounted z v = (z ≡ pos v) × (v < 2 ^ 32)
+
 -- the number that an item holds is that of its entry, of a pointer one that its cell may have
 abbrev pub Holds : Known → Kind → ℤ → Type 0
-Holds k (Max v) z = z ≡ pos v
-Holds k (Offset t v) z = z ≡ pos v
-Holds k (Actual t offset limit v) z = z ≡ pos v
-Holds k (Chunk v) z = z ≡ pos v
-Holds k (Number class to cell) z = (n : ℕ) × ((z ≡ pos n) × IsNumber k.numbering class cell n)
+Holds k (Max v) z = IsCounted z v
+Holds k (Offset t v) z = IsCounted z v
+Holds k (Actual t offset limit v) z = IsCounted z v
+Holds k (Chunk v) z = IsCounted z v
+Holds k (Number class to cell) z = (n : ℕ) × (IsCounted z n × IsNumber k.numbering class cell n)
 Holds k (Num p values v) z = z ≡ v
 Holds k (Tag p values arms default v) z = z ≡ v
 Holds k _ z = Unit {0}
+
+-- the same of a count
+abbrev pub HoldsCount : Known → Kind → ℕ → Type 0
+HoldsCount k (Max v) n = n ≡ v
+HoldsCount k (Offset t v) n = n ≡ v
+HoldsCount k (Actual t offset limit v) n = n ≡ v
+HoldsCount k (Chunk v) n = n ≡ v
+HoldsCount k (Number class to cell) n = IsNumber k.numbering class cell n
+HoldsCount k _ n = Unit {0}
 
 -- the node of a text or a context handle is what its entry says
 abbrev pub HasLabel : Known → Home → ℕ → Kind → Type 0
 HasLabel k h n (Text octets) = (max : ℕ) × (label_in (home_flats k.graph h) n ≡ Some (tree.Text max octets))
 HasLabel k h n (Context attributes id) = label_in (home_flats k.graph h) n ≡ Some (tree.Context attributes id)
 HasLabel k h n _ = Unit {0}
+
+-- What a label shows of an item that is a text or a context handle is what its octets hold.
+abbrev pub IsShown : Ground → Item → ItemKind → Option Label → Type 0
+IsShown u i item.Text l = (0 < i.len) × (i.at + i.len ≤ length u.octets.now)
+    × (string_shown l ≡ quoted_text (take (i.len - 1) (drop i.at u.octets.now)))
+IsShown u i item.Context l = (i.at + 20 ≤ length u.octets.now)
+    × (context_shown l ≡ context_text (attributes_of u.order (take 20 (drop i.at u.octets.now))) (identifier_of u.order (take 20 (drop i.at u.octets.now))))
+IsShown u i _ l = Unit {0}

@@ -30,13 +30,13 @@ pub(crate) fn walk_level<'a>(
     ensures goes { (k : Known) → IsGround k ground.now → (n : ℕ) (left : Trees)
         → AreThere k home max (level_types first.entry) (level_paths (name_text name.entry) first.entry) n left
         → (rest : List Entry) → IsTracing k walker.old.progress (values_due k home (level_types first.entry) n left ++ rest)
-        → (more : List Naming) → IsNaming k walker.old.cells (names_in (values_due k home (level_types first.entry) n left) ++ more)
+        → (names : Placed_cells) → IsNaming k walker.old.cells (names_in (values_due k home (level_types first.entry) n left) ++ names)
         → IfOk result (λ _. IsTracing k walker.new.progress rest
-        × HasNamed k walker.old.cells (names_in (values_due k home (level_types first.entry) n left)) walker.new.cells more) }
+        × HasNamed k walker.old.cells walker.new.cells (values_due k home (level_types first.entry) n left) names) }
     ensures ends { (k : Known) → IsGround k ground.now → (n : ℕ) (left : Trees)
         → AreThere k home max (level_types first.entry) (level_paths (name_text name.entry) first.entry) n left
         → (rest : List Entry) → IsTracing k walker.old.progress (values_due k home (level_types first.entry) n left ++ rest)
-        → (more : List Naming) → IsNaming k walker.old.cells (names_in (values_due k home (level_types first.entry) n left) ++ more)
+        → (names : Placed_cells) → IsNaming k walker.old.cells (names_in (values_due k home (level_types first.entry) n left) ++ names)
         → IsErrOf result halts.Here → IsEnded k walker.new.progress }
     ensures paid { IfOk result (λ _. (walker.old.progress.next ≤ walker.new.progress.next)
         × (length walker.new.cells.pending.items + walker.old.progress.next ≤ length walker.old.cells.pending.items + walker.new.progress.next)) }

@@ -1,9 +1,15 @@
 // How far the items of a log are traced.
-ghost use Rattle.std.specs.Prelude.{◌≡◌, ◌<◌, ◌+◌, ◌-◌, ◌^◌, ◌++◌, List, ◌∷◌, pos, IfOk, IsErr, IsErrOf, None, OnOk, min, reverse};
+ghost use Rattle.std.specs.Prelude.{◌≡◌, ◌<◌, ◌≤◌, ◌+◌, ◌-◌, ◌^◌, ◌++◌, ℕ, List, ◌∷◌, drop, length, take, IfOk, IsErr, IsErrOf, None, OnOk, Option, min, reverse};
+ghost use Rattle.nd_value.specs.Tree.{Label};
 ghost use Rattle.nd_grammar.specs.Entry.{Align, Entry, Kind};
+ghost use Rattle.ndr_prim.specs.Context.{attributes_of, identifier_of};
+ghost use Rattle.text_grammar.specs.Printed.{quoted_text};
+ghost use Rattle.text_printer.specs.Texts.{context_text};
 ghost use Rattle.ndr_explain.specs.Cursors.{name_text, path_to};
+ghost use Rattle.ndr_explain.specs.Explained.{value_shown};
 ghost use Rattle.ndr_trace.specs.declared.progress.Halt.TheVariants as halts;
-ghost use Rattle.ndr_trace.specs.Tracing.{Known, Holds, HasLabel, IsCount, IsEnded, IsGround, IsItem, IsSpot, IsTracing, entry_at};
+ghost use Rattle.ndr_trace.specs.Tracing.{Known, Holds, HoldsCount, HasLabel, IsCount, IsCounted, IsEnded, IsGround, IsItem, IsShown, IsSpot, IsTracing};
+ghost use Rattle.ndr_trace.specs.Tracing.{entry_at};
 
 use crate::search::Sought;
 use nd_base::{Memory, Octets, Order};
@@ -79,11 +85,12 @@ pub(crate) fn gap(
     spot: &Spot<'_, '_>,
 ) -> Result<(), Halt>
     requires { 0 < align }
-    ensures goes { (k : Known) → IsGround k ground.now → (rest : List Entry) → IsTracing k progress.old (entry_at spot.now (Align align) ∷ rest)
-        → IfOk result (λ _. IsTracing k progress.new rest) }
-    ensures ends { (k : Known) → IsGround k ground.now → IsSpot k spot.now
-        → (rest : List Entry) → IsTracing k progress.old (entry_at spot.now (Align align) ∷ rest)
+    ensures goes { (k : Known) → IsGround k ground.now → (n : ℕ) (rest : List Entry)
+        → IsTracing k progress.old (entry_at spot.now n (Align align) ∷ rest) → IfOk result (λ _. IsTracing k progress.new rest) }
+    ensures ends { (k : Known) → IsGround k ground.now → (n : ℕ) → IsSpot k spot.now n
+        → (rest : List Entry) → IsTracing k progress.old (entry_at spot.now n (Align align) ∷ rest)
         → IsErrOf result halts.Here → IsEnded k progress.new }
+    ensures later { progress.old.next ≤ progress.new.next }
 {
     if progress.at % align == 0 {
         return Ok(());
@@ -106,12 +113,13 @@ pub(crate) fn item(
     progress: &mut Progress,
     spot: &Spot<'_, '_>,
 ) -> Result<i128, Halt>
-    ensures goes { (k : Known) → IsGround k ground.now → IsSpot k spot.now → (x : Kind) → IsItem x → HasLabel k spot.now x
-        → (rest : List Entry) → IsTracing k progress.old (entry_at spot.now x ∷ rest)
+    ensures goes { (k : Known) → IsGround k ground.now → (n : ℕ) → IsSpot k spot.now n → (x : Kind) → IsItem x → HasLabel k spot.now.home n x
+        → (rest : List Entry) → IsTracing k progress.old (entry_at spot.now n x ∷ rest)
         → IfOk result (λ z. IsTracing k progress.new rest × Holds k x z) }
-    ensures ends { (k : Known) → IsGround k ground.now → IsSpot k spot.now → (x : Kind) → IsItem x
-        → (rest : List Entry) → IsTracing k progress.old (entry_at spot.now x ∷ rest)
+    ensures ends { (k : Known) → IsGround k ground.now → (n : ℕ) → IsSpot k spot.now n → (x : Kind) → IsItem x
+        → (rest : List Entry) → IsTracing k progress.old (entry_at spot.now n x ∷ rest)
         → IsErrOf result halts.Here → IsEnded k progress.new }
+    ensures next { IfOk result (λ _. progress.new.next ≡ progress.old.next + 1) }
 {
     if progress.next >= ground.items.len() {
         end(ground, progress, spot)?;
@@ -136,19 +144,30 @@ pub(crate) fn count(
     progress: &mut Progress,
     spot: &Spot<'_, '_>,
 ) -> Result<u32, Halt>
-    ensures goes { (k : Known) → IsGround k ground.now → IsSpot k spot.now → (x : Kind) → IsCount x
-        → (rest : List Entry) → IsTracing k progress.old (entry_at spot.now x ∷ rest)
-        → IfOk result (λ n. IsTracing k progress.new rest × Holds k x (pos n)) }
-    ensures ends { (k : Known) → IsGround k ground.now → IsSpot k spot.now → (x : Kind) → IsCount x
-        → (rest : List Entry) → IsTracing k progress.old (entry_at spot.now x ∷ rest)
+    ensures goes { (k : Known) → IsGround k ground.now → (n : ℕ) → IsSpot k spot.now n → (x : Kind) → IsCount x
+        → (rest : List Entry) → IsTracing k progress.old (entry_at spot.now n x ∷ rest)
+        → IfOk result (λ v. IsTracing k progress.new rest × HoldsCount k x v) }
+    ensures ends { (k : Known) → IsGround k ground.now → (n : ℕ) → IsSpot k spot.now n → (x : Kind) → IsCount x
+        → (rest : List Entry) → IsTracing k progress.old (entry_at spot.now n x ∷ rest)
         → IsErrOf result halts.Here → IsEnded k progress.new }
+    ensures next { IfOk result (λ _. progress.new.next ≡ progress.old.next + 1) }
 {
     let value = item(ground, progress, spot)?;
-    Ok(u32::try_from(value).unwrap_or(0))
+    Ok(as_count(value))
+}
+
+// A number as a count, if it is one.
+fn as_count(value: i128) -> u32
+    ensures { (v : ℕ) → IsCounted value v → result ≡ v }
+{
+    u32::try_from(value).unwrap_or(0)
 }
 
 // Adds what an item holds.
-fn append_held(ground: &Ground<'_>, text: &mut Octets, item: &Item) -> Result<(), Memory> {
+fn append_held(ground: &Ground<'_>, text: &mut Octets, item: &Item) -> Result<(), Memory>
+    ensures { (l : Option Label) → IsShown ground.now item.now item.now.kind l
+        → OnOk result (text.new ≡ text.old ++ value_shown item.now.kind l item.now.value) }
+{
     match item.kind {
         ItemKind::Text => append_text(ground.octets, text, item),
         ItemKind::Context => append_handle(ground, text, item),
@@ -157,7 +176,10 @@ fn append_held(ground: &Ground<'_>, text: &mut Octets, item: &Item) -> Result<()
 }
 
 // Adds the octets of a text without their terminator.
-fn append_text(octets: &[u8], text: &mut Octets, item: &Item) -> Result<(), Memory> {
+fn append_text(octets: &[u8], text: &mut Octets, item: &Item) -> Result<(), Memory>
+    ensures { 0 < item.now.len → item.now.at + item.now.len ≤ length octets.now
+        → OnOk result (text.new ≡ text.old ++ quoted_text (take (item.now.len - 1) (drop item.now.at octets.now))) }
+{
     let from = item.at as usize;
     let len = item.len as usize;
     if len == 0 || from + len > octets.len() {
@@ -167,7 +189,11 @@ fn append_text(octets: &[u8], text: &mut Octets, item: &Item) -> Result<(), Memo
 }
 
 // Adds a context handle.
-fn append_handle(ground: &Ground<'_>, text: &mut Octets, item: &Item) -> Result<(), Memory> {
+fn append_handle(ground: &Ground<'_>, text: &mut Octets, item: &Item) -> Result<(), Memory>
+    ensures { item.now.at + 20 ≤ length ground.now.octets.now
+        → let os : List ℕ = take 20 (drop item.now.at ground.now.octets.now) in
+        OnOk result (text.new ≡ text.old ++ context_text (attributes_of ground.now.order os) (identifier_of ground.now.order os)) }
+{
     let from = item.at as usize;
     if from + 20 > ground.octets.len() {
         return Ok(());

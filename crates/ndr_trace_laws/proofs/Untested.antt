@@ -50,34 +50,33 @@ placed at m = record { at = at; entry = m }
 
 pub untested_ends : (at : ℕ) (ms : List Entry) → untested_at (end_to_end at ms) ≡ end_to_end at (untested ms)
 untested_ends at [] = refl
-untested_ends at (m ∷ ms) = go (is_test m.kind) refl
+untested_ends at (m ∷ ms) = go (is_test m.kind) refl (untested_ends (at + size_at at m.kind) ms)
   where
-    go : (b : Bool) → is_test m.kind ≡ b
+    go : (b : Bool) → is_test m.kind ≡ b → untested_at (end_to_end (at + size_at at m.kind) ms) ≡ end_to_end (at + size_at at m.kind) (untested ms)
         → kept_if b (placed at m) (untested_at (end_to_end (at + size_at at m.kind) ms)) ≡ end_to_end at (kept_if b m (untested ms))
-    go false e =
-        ap (λ xs. placed at m ∷ xs) (untested_ends (at + size_at at m.kind) ms)
-    go true e =
+    go false e h = ap (λ xs. placed at m ∷ xs) h
+    go true e h =
         let z : at + size_at at m.kind ≡ at = ap (λ n. at + n) (test_empty Little at m.kind e).0 ∙ add-zero at in
-        untested_ends (at + size_at at m.kind) ms ∙ ap (λ n. end_to_end n (untested ms)) z
+        h ∙ ap (λ n. end_to_end n (untested ms)) z
 
 pub untested_items : (order : Order) (octets : List ℕ) (xs : List EntryAt) → items order octets (untested_at xs) ≡ items order octets xs
 untested_items order octets [] = refl
-untested_items order octets (x ∷ xs) = go (is_test x.entry.kind) refl
+untested_items order octets (x ∷ xs) = go (is_test x.entry.kind) refl (untested_items order octets xs)
   where
-    go : (b : Bool) → is_test x.entry.kind ≡ b
+    go : (b : Bool) → is_test x.entry.kind ≡ b → items order octets (untested_at xs) ≡ items order octets xs
         → items order octets (kept_if b x (untested_at xs)) ≡ item_at x (item_of order x.entry.kind (piece octets x.at x.entry.kind)) ++ items order octets xs
-    go false e = ap (λ zs. item_at x (item_of order x.entry.kind (piece octets x.at x.entry.kind)) ++ zs) (untested_items order octets xs)
-    go true e =
-        untested_items order octets xs
+    go false e h = ap (λ zs. item_at x (item_of order x.entry.kind (piece octets x.at x.entry.kind)) ++ zs) h
+    go true e h =
+        h
         ∙ sym (ap (λ o. item_at x o ++ items order octets xs) ((test_empty order x.at x.entry.kind e).1 (piece octets x.at x.entry.kind)))
 
 pub untested_all : (R : EntryAt → Type 0) (xs : List EntryAt) → AllByRecursion R xs → AllByRecursion R (untested_at xs)
 untested_all R [] r = r
-untested_all R (x ∷ xs) r = go (is_test x.entry.kind)
+untested_all R (x ∷ xs) r = go (is_test x.entry.kind) (untested_all R xs r.1)
   where
-    go : (b : Bool) → AllByRecursion R (kept_if b x (untested_at xs))
-    go true = untested_all R xs r.1
-    go false = (r.0, untested_all R xs r.1)
+    go : (b : Bool) → AllByRecursion R (untested_at xs) → AllByRecursion R (kept_if b x (untested_at xs))
+    go true h = h
+    go false h = (r.0, h)
 
 -- ## Values
 
