@@ -1,3 +1,4 @@
 mod Worked
-pub mod Progress
+pub mod Passing
 pub mod Partial
+pub mod Items

@@ -1,4 +1,5 @@
 pub mod Traces
 pub mod Examples
 pub mod Tracing
+pub mod Naming
 pub mod Walking
