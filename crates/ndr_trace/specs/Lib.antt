@@ -2,3 +2,4 @@ pub mod Traces
 pub mod Examples
 pub mod Tracing
 pub mod Walking
+pub mod Naming
