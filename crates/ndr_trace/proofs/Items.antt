@@ -386,7 +386,7 @@ module _ (k : Known) (u : Ground) (ground : IsGround k u) where
     where
       go : (o : Option Sought) → u.sought ≡ o → u.sought ≡ None
       go None e = e
-      go (Some x) e = absurd (h (g.sought (subst IsSome (sym e) tt)))
+      go (Some x) e = absurd (h (g.sought (subst IsSome (sym e) refl)))
 
   path_ended : (s : Spot) (n : ℕ) (m : Entry) → IsSpot k s n → m.home ≡ s.home → m.node ≡ n → (p p1 : Progress) → p.path ≡ []
       → (u.sought ≡ None → p1.path ≡ path_to (p.path ++ name_text s.name) (s.top ∷ reverse s.below.now.items))

@@ -2,3 +2,5 @@ mod Worked
 pub mod Passing
 pub mod Partial
 pub mod Items
+pub mod LevelWalk
+pub mod OwnItems

@@ -3,4 +3,3 @@ pub mod Examples
 pub mod Tracing
 pub mod Naming
 pub mod Walking
-pub mod Naming

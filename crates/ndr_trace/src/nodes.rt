@@ -1,20 +1,26 @@
 // The items of nodes, one node after the other.
-ghost use Rattle.std.specs.Prelude.{◌≡◌, ◌≤◌, ◌+◌, ◌++◌, ℕ, List, length, IfOk, IsErrOf};
+ghost use Rattle.std.specs.Prelude.{reverse, ◌≡◌, ◌<◌, ◌≤◌, ◌+◌, ◌++◌, ◌∷◌, [], ℕ, ℤ, true, false, List, length, Option, None, Some, option_copied, IfOk, IsErrOf, IsOk};
+ghost use Rattle.nd_types.specs.declared.types.Primitive.{Primitive as PrimitiveValue};
+ghost use Rattle.nd_types.specs.Table.{selected as arm_selected};
 ghost use Rattle.nd_value.specs.Deferral.{Placed_cells};
-ghost use Rattle.nd_value.specs.Tree.{Trees};
-ghost use Rattle.nd_grammar.specs.Entry.{Entry};
-ghost use Rattle.ndr_explain.specs.Cursors.{level_paths, level_types, name_text};
+ghost use Rattle.nd_value.specs.Nodes.{selected_types};
+ghost use Rattle.nd_value.specs.Tree.{Label, Trees, count as count_of};
+ghost use Rattle.nd_value.specs.Tree as labels;
+ghost use Rattle.nd_flat.specs.FlatForm.{armed_count, flat_seen};
+ghost use Rattle.nd_grammar.specs.Entry.{Actual, Align, Context, Entry, Num, Number, Offset, Tag, Text};
+ghost use Rattle.ndr_explain.specs.Cursors.{level_paths, level_types, name_text, paths_from, types_from};
+ghost use Rattle.ndr_explain.specs.Explained.{home_flats, label_in};
 ghost use Rattle.ndr_trace.specs.declared.progress.Halt.TheVariants as halts;
-ghost use Rattle.ndr_trace.specs.Naming.{HasNamed, IsNaming, names_in};
-ghost use Rattle.ndr_trace.specs.Tracing.{Known, IsEnded, IsGround, IsTracing};
-ghost use Rattle.ndr_trace.specs.Walking.{AreThere, values_due};
+ghost use Rattle.ndr_trace.specs.Naming.{HasNamed, IsFine, IsNaming, named_by, names_in};
+ghost use Rattle.ndr_trace.specs.Tracing.{Known, IsEnded, IsGround, IsSpot, IsTracing, entry_at};
+ghost use Rattle.ndr_trace.specs.Walking.{AreThere, ComesTo, IsNode, IsPaid, IsReady, IsSeen, own_due, values_due, width_by};
 
 use crate::cells::{Cells, name_cell};
 use crate::members::{reach, seen_node};
 use crate::progress::{Ground, Halt, Progress, Spot, count, gap, item};
 use crate::search::Search;
 use nd_flat::Seen;
-use nd_types::{Arm, Arms, Class, Primitive, TypeDef, TypeId};
+use nd_types::{Arm, Arms, Class, Fields, TypeDef, TypeId};
 use nd_value::Home;
 use ndr_explain::{HomeName, Level, Levels, children, next_levels, type_of};
 use ndr_prim::width_of;
@@ -37,43 +43,73 @@ pub(crate) fn walk_level<'a>(
     max: u32,
     first: Level<'a>,
 ) -> Result<(), Halt>
-    ensures goes { (k : Known) → IsGround k ground.now → (n : ℕ) (left : Trees)
+    ensures goes { 0 < length (level_types first.entry) → (k : Known) → IsGround k ground.now → (n : ℕ) (left : Trees)
         → AreThere k home max (level_types first.entry) (level_paths (name_text name.entry) first.entry) n left
         → (rest : List Entry) → IsTracing k walker.old.progress (values_due k home (level_types first.entry) n left ++ rest)
         → (names : Placed_cells) → IsNaming k walker.old.cells (names_in (values_due k home (level_types first.entry) n left) ++ names)
         → IfOk result (λ _. IsTracing k walker.new.progress rest
         × HasNamed k walker.old.cells walker.new.cells (values_due k home (level_types first.entry) n left) names) }
-    ensures ends { (k : Known) → IsGround k ground.now → (n : ℕ) (left : Trees)
+    ensures ends { 0 < length (level_types first.entry) → (k : Known) → IsGround k ground.now → (n : ℕ) (left : Trees)
         → AreThere k home max (level_types first.entry) (level_paths (name_text name.entry) first.entry) n left
         → (rest : List Entry) → IsTracing k walker.old.progress (values_due k home (level_types first.entry) n left ++ rest)
         → (names : Placed_cells) → IsNaming k walker.old.cells (names_in (values_due k home (level_types first.entry) n left) ++ names)
         → IsErrOf result halts.Here → IsEnded k walker.new.progress }
-    ensures paid { IfOk result (λ _. (walker.old.progress.next ≤ walker.new.progress.next)
-        × (length walker.new.cells.pending.items + walker.old.progress.next ≤ length walker.old.cells.pending.items + walker.new.progress.next)) }
+    ensures paid { IfOk result (λ _. IsPaid walker.old walker.new) }
 {
-    let types = &ground.interface.types;
     let mut levels = Levels {
         top: first,
         below: Vec::new(ground.alloc),
     };
     // No log within the limit of a stream has so many nodes.
     for _turn in 0..u64::MAX {
-        let spot = Spot {
-            home,
-            name,
-            top: levels.top,
-            below: &levels.below,
-        };
-        let of = type_of(levels.top);
-        let seen = visit(ground, walker, max, of, &spot)?;
-        let inner = children(types, of, &seen);
-        let Levels { top, below } = levels;
-        let Some(next) = next_levels(inner, top, below)? else {
+        let Some(next) = take_node(ground, walker, home, name, max, levels)? else {
             return Ok(());
         };
         levels = next;
     }
     Err(Halt::Memory)
+}
+
+// Passes the node at which levels are. Gives those of the node after it, if there is one.
+fn take_node<'a>(
+    ground: &Ground<'a>,
+    walker: &mut Walker<'a>,
+    home: Home,
+    name: HomeName<'a>,
+    max: u32,
+    levels: Levels<'a>,
+) -> Result<Option<Levels<'a>>, Halt>
+    ensures goes { 0 < length (level_types levels.entry.top) → (k : Known) → IsGround k ground.now → (n : ℕ) (left : Trees)
+        → AreThere k home max (types_from levels.entry.top (reverse levels.entry.below.items))
+        (paths_from (name_text name.entry) levels.entry.top (reverse levels.entry.below.items)) n left
+        → (rest : List Entry)
+        → IsTracing k walker.old.progress (values_due k home (types_from levels.entry.top (reverse levels.entry.below.items)) n left ++ rest)
+        → (names : Placed_cells)
+        → IsNaming k walker.old.cells (names_in (values_due k home (types_from levels.entry.top (reverse levels.entry.below.items)) n left) ++ names)
+        → IfOk result (ComesTo k home max (name_text name.entry) (values_due k home (types_from levels.entry.top (reverse levels.entry.below.items)) n left)
+        rest names walker.old walker.new) }
+    ensures ends { 0 < length (level_types levels.entry.top) → (k : Known) → IsGround k ground.now → (n : ℕ) (left : Trees)
+        → AreThere k home max (types_from levels.entry.top (reverse levels.entry.below.items))
+        (paths_from (name_text name.entry) levels.entry.top (reverse levels.entry.below.items)) n left
+        → (rest : List Entry)
+        → IsTracing k walker.old.progress (values_due k home (types_from levels.entry.top (reverse levels.entry.below.items)) n left ++ rest)
+        → (names : Placed_cells)
+        → IsNaming k walker.old.cells (names_in (values_due k home (types_from levels.entry.top (reverse levels.entry.below.items)) n left) ++ names)
+        → IsErrOf result halts.Here → IsEnded k walker.new.progress }
+    ensures paid { IfOk result (λ _. IsPaid walker.old walker.new) }
+{
+    let Levels { top, below } = levels;
+    let of = type_of(top);
+    let spot = Spot {
+        home,
+        name,
+        top,
+        below: &below,
+    };
+    let seen = visit(ground, walker, max, of, &spot)?;
+    let inner = children(&ground.interface.types, of, &seen);
+    let next = next_levels(inner, top, below)?;
+    Ok(next)
 }
 
 // Passes what a node has before its children, and gives what it says.
@@ -87,7 +123,7 @@ fn visit<'a>(
     ensures goes { (k : Known) → IsGround k ground.now → (n : ℕ) (l : Label) (ks : Trees) → IsNode k spot.now max of.0 n l ks
         → (rest : List Entry) → IsTracing k walker.old.progress (own_due k spot.now.home n of.0 l ks ++ rest)
         → (names : Placed_cells) → IsNaming k walker.old.cells (names_in (own_due k spot.now.home n of.0 l ks) ++ names)
-        → IfOk result (λ seen. IsSeen l (count ks) (flat_seen seen) × (IsTracing k walker.new.progress rest
+        → IfOk result (λ seen. IsSeen l (count_of ks) (flat_seen seen) × (IsTracing k walker.new.progress rest
         × HasNamed k walker.old.cells walker.new.cells (own_due k spot.now.home n of.0 l ks) names)) }
     ensures ends { (k : Known) → IsGround k ground.now → (n : ℕ) (l : Label) (ks : Trees) → IsNode k spot.now max of.0 n l ks
         → (rest : List Entry) → IsTracing k walker.old.progress (own_due k spot.now.home n of.0 l ks ++ rest)
@@ -113,7 +149,7 @@ fn own_items<'a>(
     ensures goes { (k : Known) → IsGround k ground.now → (n : ℕ) (l : Label) (ks : Trees) → IsNode k spot.now max of.0 n l ks
         → IsReady k walker.old.progress → (rest : List Entry) → IsTracing k walker.old.progress (own_due k spot.now.home n of.0 l ks ++ rest)
         → (names : Placed_cells) → IsNaming k walker.old.cells (names_in (own_due k spot.now.home n of.0 l ks) ++ names)
-        → IfOk result (λ seen. IsSeen l (count ks) (flat_seen seen) × (IsTracing k walker.new.progress rest
+        → IfOk result (λ seen. IsSeen l (count_of ks) (flat_seen seen) × (IsTracing k walker.new.progress rest
         × HasNamed k walker.old.cells walker.new.cells (own_due k spot.now.home n of.0 l ks) names)) }
     ensures ends { (k : Known) → IsGround k ground.now → (n : ℕ) (l : Label) (ks : Trees) → IsNode k spot.now max of.0 n l ks
         → IsReady k walker.old.progress → (rest : List Entry) → IsTracing k walker.old.progress (own_due k spot.now.home n of.0 l ks ++ rest)
@@ -126,7 +162,7 @@ fn own_items<'a>(
         Some(TypeDef::Enum { .. }) => number(ground, &mut walker.progress, 2, spot),
         Some(TypeDef::Struct { members }) => {
             let align = u32::from(ground.interface.align(of));
-            record(ground, &mut walker.progress, align, members, spot)
+            structure(ground, &mut walker.progress, align, members, spot)
         }
         Some(TypeDef::Array { bound, varying, .. }) => {
             let max = bound.unwrap_or(max);
@@ -159,11 +195,11 @@ fn number<'a>(
 ) -> Result<Seen<'a>, Halt>
     requires { 0 < width }
     ensures goes { (k : Known) → IsGround k ground.now → (n : ℕ) → IsSpot k spot.now n
-        → (p : Primitive) (values : Option (List ℤ)) (z : ℤ) (rest : List Entry)
+        → (p : PrimitiveValue) (values : Option (List ℤ)) (z : ℤ) (rest : List Entry)
         → IsTracing k progress.old (entry_at spot.now n (Align width) ∷ entry_at spot.now n (Num p values z) ∷ rest)
         → IfOk result (λ seen. (flat_seen seen ≡ (labels.Num z, 0)) × IsTracing k progress.new rest) }
     ensures ends { (k : Known) → IsGround k ground.now → (n : ℕ) → IsSpot k spot.now n
-        → (p : Primitive) (values : Option (List ℤ)) (z : ℤ) (rest : List Entry)
+        → (p : PrimitiveValue) (values : Option (List ℤ)) (z : ℤ) (rest : List Entry)
         → IsTracing k progress.old (entry_at spot.now n (Align width) ∷ entry_at spot.now n (Num p values z) ∷ rest)
         → IsErrOf result halts.Here → IsEnded k progress.new }
     ensures later { IfOk result (λ _. progress.old.next ≤ progress.new.next) }
@@ -174,7 +210,7 @@ fn number<'a>(
 }
 
 // The gap before a struct.
-fn record<'a>(
+fn structure<'a>(
     ground: &Ground<'a>,
     progress: &mut Progress,
     align: u32,
@@ -265,12 +301,12 @@ fn tagged<'a>(
 ) -> Result<Seen<'a>, Halt>
     requires { 0 < width }
     ensures goes { (k : Known) → IsGround k ground.now → (n : ℕ) → IsSpot k spot.now n
-        → (p : Primitive) (values : Option (List ℤ)) (z : ℤ) (rest : List Entry)
+        → (p : PrimitiveValue) (values : Option (List ℤ)) (z : ℤ) (rest : List Entry)
         → IsTracing k progress.old (entry_at spot.now n (Align width) ∷ entry_at spot.now n (Tag p values arms.now default.now z) ∷ rest)
         → IfOk result (λ seen. (flat_seen seen ≡ (labels.Union z, length (selected_types (arm_selected arms.now default.now z))))
         × IsTracing k progress.new rest) }
     ensures ends { (k : Known) → IsGround k ground.now → (n : ℕ) → IsSpot k spot.now n
-        → (p : Primitive) (values : Option (List ℤ)) (z : ℤ) (rest : List Entry)
+        → (p : PrimitiveValue) (values : Option (List ℤ)) (z : ℤ) (rest : List Entry)
         → IsTracing k progress.old (entry_at spot.now n (Align width) ∷ entry_at spot.now n (Tag p values arms.now default.now z) ∷ rest)
         → IsErrOf result halts.Here → IsEnded k progress.new }
     ensures later { IfOk result (λ _. progress.old.next ≤ progress.new.next) }
@@ -311,7 +347,7 @@ fn pointer<'a>(
     spot: &Spot<'_, 'a>,
 ) -> Result<Seen<'a>, Halt>
     ensures goes { (k : Known) → IsGround k ground.now → (n : ℕ) → IsSpot k spot.now n → (cell : Option ℕ)
-        → IsPointer k class to.0 cell → (rest : List Entry)
+        → IsFine k.graph class to.0 cell → (rest : List Entry)
         → IsTracing k walker.old.progress (entry_at spot.now n (Align 4) ∷ entry_at spot.now n (Number class to.0 cell) ∷ rest)
         → (names : Placed_cells) → IsNaming k walker.old.cells (named_by (Number class to.0 cell) ++ names)
         → IfOk result (λ seen. (flat_seen seen ≡ (labels.Ptr cell, 0)) × (IsTracing k walker.new.progress rest

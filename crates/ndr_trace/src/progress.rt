@@ -59,9 +59,8 @@ pub(crate) enum Halt {
 
 impl From<Memory> for Halt {
     ghost use Rattle.std.specs.Prelude.{◌≡◌};
-    ghost use Rattle.ndr_trace.specs.declared.progress.Halt.TheVariants as halt;
 
-    ghost from_gives = { λ _ h. h ≡ halt.Memory };
+    ghost from_gives = { λ _ h. h ≡ halts.Memory };
 
     fn from(_: Memory) -> Halt {
         Halt::Memory
