@@ -3,3 +3,4 @@ pub mod Examples
 pub mod Tracing
 pub mod Naming
 pub mod Walking
+pub mod Homes

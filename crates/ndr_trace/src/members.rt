@@ -1,7 +1,10 @@
 // The members of structs and what their attributes state, where an agreement is sought.
+ghost use Rattle.std.specs.Prelude.{◌≡◌, ◌<◌, ◌≤◌, length, IfOk, IsErrOf, IsSome};
+ghost use Rattle.ndr_trace.specs.declared.progress.Halt.TheVariants as halts;
+
 use crate::nodes::Walker;
 use crate::parameters::seen_home;
-use crate::progress::{Ground, Halt, Spot, append_path};
+use crate::progress::{Ground, Halt, Progress, Spot, append_path};
 use crate::search::{Search, Sought, Stated, speaks_of, stated_by};
 use nd_base::{Memory, Octets};
 use nd_flat::Seen;
@@ -27,18 +30,42 @@ pub(crate) fn reach<'a>(
     ground: &Ground<'a>,
     walker: &mut Walker<'a>,
     spot: &Spot<'_, 'a>,
-) -> Result<(), Halt> {
+) -> Result<(), Halt>
+    ensures same { (walker.new.progress ≡ walker.old.progress) × (walker.new.cells ≡ walker.old.cells) }
+    ensures ready { IfOk result (λ _. IsSome ground.now.sought → walker.old.progress.next < length ground.now.items.now.items) }
+    ensures ends { IsErrOf result halts.Here → IsSome ground.now.sought × (length ground.now.items.now.items ≤ walker.old.progress.next) }
+{
+    at_end(ground, &walker.progress)?;
+    note_reached(ground, &mut walker.search, spot)?;
+    Ok(())
+}
+
+/// Where an agreement is sought, ends the walk if no item is left.
+pub(crate) fn at_end(ground: &Ground<'_>, progress: &Progress) -> Result<(), Halt>
+    ensures ready { IfOk result (λ _. IsSome ground.now.sought → progress.now.next < length ground.now.items.now.items) }
+    ensures ends { IsErrOf result halts.Here → IsSome ground.now.sought × (length ground.now.items.now.items ≤ progress.now.next) }
+{
     if ground.sought.is_none() {
         return Ok(());
     }
-    if walker.progress.next >= ground.items.len() {
+    if progress.next >= ground.items.len() {
         return Err(Halt::Here);
     }
+    Ok(())
+}
+
+// Notes that a node is reached.
+fn note_reached<'a>(
+    ground: &Ground<'a>,
+    search: &mut Search<'a>,
+    spot: &Spot<'_, 'a>,
+) -> Result<(), Memory> {
+    if ground.sought.is_none() {
+        return Ok(());
+    }
     match spot.top {
-        Level::Members { members, at } => {
-            reach_member(ground, &mut walker.search, members, at, spot)
-        }
-        _ => close(ground, &mut walker.search, spot.below.len()),
+        Level::Members { members, at } => reach_member(ground, search, members, at, spot),
+        _ => close(ground, search, spot.below.len()),
     }
 }
 
@@ -49,7 +76,7 @@ fn reach_member<'a>(
     members: &'a Fields,
     at: usize,
     spot: &Spot<'_, 'a>,
-) -> Result<(), Halt> {
+) -> Result<(), Memory> {
     let depth = spot.below.len();
     if at > 0 {
         return close(ground, search, depth + 1);
@@ -63,7 +90,7 @@ fn reach_member<'a>(
         pointers: Vec::new(ground.alloc),
     };
     let Ok(()) = search.open.push(open) else {
-        return Err(Halt::Memory);
+        return Err(Memory);
     };
     Ok(())
 }
@@ -83,20 +110,62 @@ pub(crate) fn seen_node<'a>(
     from: usize,
     spot: &Spot<'_, 'a>,
     seen: &Seen<'a>,
-) -> Result<(), Halt> {
+) -> Result<(), Memory>
+    ensures same { (walker.new.progress ≡ walker.old.progress) × (walker.new.cells ≡ walker.old.cells) }
+{
+    let to = walker.progress.next;
+    note_seen(ground, &mut walker.search, from, to, spot, seen)
+}
+
+// Notes what a node says, which has the items from one up to another.
+fn note_seen<'a>(
+    ground: &Ground<'a>,
+    search: &mut Search<'a>,
+    from: usize,
+    to: usize,
+    spot: &Spot<'_, 'a>,
+    seen: &Seen<'a>,
+) -> Result<(), Memory> {
     let Some(sought) = ground.sought else {
         return Ok(());
     };
     if is_own(spot) {
-        seen_home(&mut walker.search, spot.home, seen)?;
+        seen_home(search, spot.home, seen)?;
     }
-    if from <= sought.item && sought.item < walker.progress.next {
-        find(ground, &mut walker.search, sought, spot)?;
+    if from <= sought.item && sought.item < to {
+        find(ground, search, sought, spot)?;
     }
     if let Level::Members { at, .. } = spot.top {
-        seen_member(&mut walker.search, sought, at, seen)?;
+        seen_member(search, sought, at, seen)?;
     }
     Ok(())
+}
+
+/// Notes a maximum count in front of a home's value, which is this item.
+pub(crate) fn note_front<'a>(
+    ground: &Ground<'a>,
+    search: &mut Search<'a>,
+    item: usize,
+    spot: &Spot<'_, 'a>,
+) -> Result<(), Memory> {
+    match ground.sought {
+        Some(sought) => note_sought(ground, search, sought, item, spot),
+        None => Ok(()),
+    }
+}
+
+// Notes it if it is what is sought.
+fn note_sought<'a>(
+    ground: &Ground<'a>,
+    search: &mut Search<'a>,
+    sought: Sought,
+    item: usize,
+    spot: &Spot<'_, 'a>,
+) -> Result<(), Memory> {
+    if sought.item != item {
+        return Ok(());
+    }
+    find(ground, search, sought, spot)
 }
 
 // Whether a node is a home's own value.
@@ -113,16 +182,16 @@ fn seen_member(
     sought: Sought,
     at: usize,
     seen: &Seen<'_>,
-) -> Result<(), Halt> {
+) -> Result<(), Memory> {
     let Some(open) = search.open.last_mut() else {
         return Ok(());
     };
     let Ok(()) = open.numbers.push(number_of(seen)) else {
-        return Err(Halt::Memory);
+        return Err(Memory);
     };
     if names_sought(sought, seen) {
         let Ok(()) = open.pointers.push(at) else {
-            return Err(Halt::Memory);
+            return Err(Memory);
         };
     }
     Ok(())
@@ -136,13 +205,13 @@ fn names_sought(sought: Sought, seen: &Seen<'_>) -> bool {
     }
 }
 
-/// Keeps the path of the value whose count or tag is the item of a node, and the path of the variable of the member that it is, if it is one.
-pub(crate) fn find<'a>(
+// Keeps the path of the value whose count or tag is the item of a node, and the path of the variable of the member that it is, if it is one.
+fn find<'a>(
     ground: &Ground<'a>,
     search: &mut Search<'a>,
     sought: Sought,
     spot: &Spot<'_, 'a>,
-) -> Result<(), Halt> {
+) -> Result<(), Memory> {
     append_path(&mut search.path, spot)?;
     if sought.kind == ItemKind::Max {
         return find_last(ground, search, sought, type_of(spot.top));
@@ -164,7 +233,7 @@ fn find_last<'a>(
     search: &mut Search<'a>,
     sought: Sought,
     of: TypeId,
-) -> Result<(), Halt> {
+) -> Result<(), Memory> {
     let mut of = of;
     for _level in 0..NESTING_LIMIT {
         let Some(TypeDef::Struct { members }) = ground.interface.types.get(of.0 as usize) else {
@@ -184,7 +253,7 @@ fn find_member(
     search: &mut Search<'_>,
     sought: Sought,
     members: &Fields,
-) -> Result<Option<TypeId>, Halt> {
+) -> Result<Option<TypeId>, Memory> {
     let Some(at) = members.len().checked_sub(1) else {
         return Ok(None);
     };
@@ -201,9 +270,9 @@ fn find_member(
 }
 
 // Keeps what a variable states.
-fn state(search: &mut Search<'_>, wanted: i128, variable: Octets) -> Result<(), Halt> {
+fn state(search: &mut Search<'_>, wanted: i128, variable: Octets) -> Result<(), Memory> {
     let Ok(()) = search.stated.push(Stated { wanted, variable }) else {
-        return Err(Halt::Memory);
+        return Err(Memory);
     };
     Ok(())
 }
@@ -213,11 +282,11 @@ pub(crate) fn close<'a>(
     ground: &Ground<'a>,
     search: &mut Search<'a>,
     depth: usize,
-) -> Result<(), Halt> {
+) -> Result<(), Memory> {
     while let Some(open) = search.open.pop() {
         if open.depth < depth {
             let Ok(()) = search.open.push(open) else {
-                return Err(Halt::Memory);
+                return Err(Memory);
             };
             return Ok(());
         }
@@ -231,7 +300,7 @@ fn close_struct<'a>(
     ground: &Ground<'a>,
     search: &mut Search<'a>,
     open: &Open<'a>,
-) -> Result<(), Halt> {
+) -> Result<(), Memory> {
     let Some(sought) = ground.sought else {
         return Ok(());
     };
@@ -248,7 +317,7 @@ fn close_pointer(
     sought: Sought,
     open: &Open<'_>,
     at: usize,
-) -> Result<(), Halt> {
+) -> Result<(), Memory> {
     let Some(by) = attribute(open.members, at, sought.kind) else {
         return Ok(());
     };

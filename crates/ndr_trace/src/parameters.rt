@@ -1,6 +1,6 @@
 // The variables of parameters, where an agreement is sought.
 use crate::members::number_of;
-use crate::progress::{Ground, Halt};
+use crate::progress::Ground;
 use crate::search::{Search, Sought, speaks_of, stated_by};
 use nd_base::{Memory, Octets};
 use nd_flat::{FlatGraph, Seen, Walk};
@@ -27,7 +27,7 @@ impl RootSeen {
 }
 
 /// Notes what the own value of a home says.
-pub(crate) fn seen_home(search: &mut Search<'_>, home: Home, seen: &Seen<'_>) -> Result<(), Halt> {
+pub(crate) fn seen_home(search: &mut Search<'_>, home: Home, seen: &Seen<'_>) -> Result<(), Memory> {
     match home {
         Home::Root(_) => {
             if let Some(root) = search.roots.last_mut() {
@@ -41,11 +41,11 @@ pub(crate) fn seen_home(search: &mut Search<'_>, home: Home, seen: &Seen<'_>) ->
 }
 
 // Notes the number that a cell is.
-fn seen_cell(search: &mut Search<'_>, cell: CellId, number: Option<i128>) -> Result<(), Halt> {
+fn seen_cell(search: &mut Search<'_>, cell: CellId, number: Option<i128>) -> Result<(), Memory> {
     let at = cell.0 as usize;
     while search.cell_numbers.len() < at {
         let Ok(()) = search.cell_numbers.push(None) else {
-            return Err(Halt::Memory);
+            return Err(Memory);
         };
     }
     if at > 0

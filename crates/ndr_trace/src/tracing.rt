@@ -90,6 +90,7 @@ fn begin<'a>(alloc: Global) -> Walker<'a> {
             count: 0,
             numbers: Referents::new(alloc),
             pending: Vec::new(alloc),
+            stands: Vec::new(alloc),
         },
         search: Search {
             path: Octets::new(alloc),
