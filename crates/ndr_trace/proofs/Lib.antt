@@ -4,3 +4,4 @@ pub mod Partial
 pub mod Items
 pub mod LevelWalk
 pub mod OwnItems
+pub mod NamedCells
