@@ -31,7 +31,7 @@ use Rattle.ndr_trace.specs.declared.nodes.Walker.{Walker}
 use Rattle.ndr_trace.specs.declared.progress.Spot.{Spot}
 use Rattle.ndr_trace.specs.Naming.{HasNamed, IsNaming, named_by, names_in, pending_by, pending_in}
 use Rattle.ndr_trace.specs.Tracing.{IsSpot, IsTracing, Known}
-use Rattle.ndr_trace.specs.Walking.{AreOwn, AreThere, IsNode, IsOwn, IsPaid, IsSeen, own_due, values_due}
+use Rattle.ndr_trace.specs.Walking.{AreOwn, AreThere, ComesTo, GoesOn, IsNode, IsOwn, IsPaid, IsSeen, own_due, values_due}
 
 -- ## What a node says stands for its label
 
@@ -239,3 +239,148 @@ module _ (k : Known) (h : Home) (max : ℕ) (name : List ℕ) (L : Level) (Ls : 
     pub due_after : values_due k h (types_from L Ls) n (more (node l ks) us)
         ≡ own_due k h n t l ks ++ values_due k h (inner_types inner ++ types_after (L ∷ Ls)) (n + 1) (joined ks us)
     due_after = due_is ∙ ap (λ ts. own_due k h n t l ks ++ values_due k h (ts ++ types_after (L ∷ Ls)) (n + 1) (joined ks us)) (sym same_types)
+
+-- ## Steps
+
+no_values : (k : Known) (h : Home) (n : ℕ) (w : Trees) → values_due k h [] n w ≡ []
+no_values k h n none = refl
+no_values k h n (more v w) = refl
+
+names_append : (xs ys : List Entry) → names_in (xs ++ ys) ≡ names_in xs ++ names_in ys
+names_append xs ys = flat_map-append (λ (m : Entry). named_by m.kind) xs ys
+
+pending_append : (xs ys : List Entry) → pending_in (xs ++ ys) ≡ pending_in xs ++ pending_in ys
+pending_append xs ys = flat_map-append (λ (m : Entry). pending_by m.kind) xs ys
+
+-- what visiting a node comes to
+abbrev pub Visits : Known → Spot → ℕ → ℕ → ℕ → Walker → Walker → Flat → Type 0
+Visits k s max t n before after f =
+    (l : Label) (ks : Trees) → IsNode k s max t n l ks → (rest : List Entry) → IsTracing k before.progress (own_due k s.home n t l ks ++ rest)
+    → (names : Placed_cells) → IsNaming k before.cells (names_in (own_due k s.home n t l ks) ++ names)
+    → IsSeen l (count ks) f × (IsTracing k after.progress rest × HasNamed k before.cells after.cells (own_due k s.home n t l ks) names)
+
+module _ (k : Known) (s : Spot) (max : ℕ) (L : Level) (Ls : List Level) (n : ℕ) (t : ℕ) (first : level_types L ≡ t ∷ drop 1 (level_types L))
+    (some : 0 < length (level_types L)) (top : s.top ≡ L) (below : reverse s.below.now.items ≡ Ls) (rest : List Entry) (names : Placed_cells) (before after : Walker) (f : Flat)
+    (visits : Visits k s max t n before after f) (inner : Option Level) (level : IsChildLevel k.setting.table t f inner) (r : Option Levels)
+    (next : HasChild inner → AreLevelsOf (inner_types inner ++ types_after (L ∷ Ls)) (λ q. inner_paths (path_to q (L ∷ Ls)) inner ++ paths_after q (L ∷ Ls)) r) where
+  after_node_is : (l : Label) (ks us : Trees) → AreThere k s.home max (types_from L Ls) (paths_from (name_text s.name) L Ls) n (more (node l ks) us)
+      → IsTracing k before.progress (values_due k s.home (types_from L Ls) n (more (node l ks) us) ++ rest)
+      → IsNaming k before.cells (names_in (values_due k s.home (types_from L Ls) n (more (node l ks) us)) ++ names)
+      → ComesTo k s.home max (name_text s.name) (values_due k s.home (types_from L Ls) n (more (node l ks) us)) rest names before after r
+  after_node_is l ks us there tr nm = by_levels r (next (has_child k s.home max (name_text s.name) L Ls n l ks us t first some there f inner (seen_first there tr nm) level))
+    where
+      due_first : values_due k s.home (types_from L Ls) n (more (node l ks) us)
+          ≡ own_due k s.home n t l ks ++ values_due k s.home (child_types (type_at k.setting.table t) l ks ++ types_after (L ∷ Ls)) (n + 1) (joined ks us)
+      due_first = due_is k s.home max (name_text s.name) L Ls n l ks us t first some there
+
+      visited : IsSeen l (count ks) f
+          × (IsTracing k after.progress (values_due k s.home (child_types (type_at k.setting.table t) l ks ++ types_after (L ∷ Ls)) (n + 1) (joined ks us) ++ rest)
+          × HasNamed k before.cells after.cells (own_due k s.home n t l ks)
+          (names_in (values_due k s.home (child_types (type_at k.setting.table t) l ks ++ types_after (L ∷ Ls)) (n + 1) (joined ks us)) ++ names))
+      visited =
+          visits l ks (is_node k s.home max (name_text s.name) L Ls n l ks us t first some there s refl refl top below)
+          (values_due k s.home (child_types (type_at k.setting.table t) l ks ++ types_after (L ∷ Ls)) (n + 1) (joined ks us) ++ rest)
+          (subst (IsTracing k before.progress) (ap (λ xs. xs ++ rest) due_first ∙ append_assoc (own_due k s.home n t l ks) _ rest) tr)
+          (names_in (values_due k s.home (child_types (type_at k.setting.table t) l ks ++ types_after (L ∷ Ls)) (n + 1) (joined ks us)) ++ names)
+          (subst (IsNaming k before.cells)
+          (ap (λ xs. names_in xs ++ names) due_first ∙ ap (λ xs. xs ++ names) (names_append (own_due k s.home n t l ks) _)
+          ∙ append_assoc (names_in (own_due k s.home n t l ks)) _ names) nm)
+
+      same : child_types (type_at k.setting.table t) l ks ++ types_after (L ∷ Ls) ≡ inner_types inner ++ types_after (L ∷ Ls)
+      same = ap (λ ts. ts ++ types_after (L ∷ Ls)) (sym (same_types k s.home max (name_text s.name) L Ls n l ks us t first some there f inner visited.0 level))
+
+      by_levels : (r : Option Levels) → AreLevelsOf (inner_types inner ++ types_after (L ∷ Ls)) (λ q. inner_paths (path_to q (L ∷ Ls)) inner ++ paths_after q (L ∷ Ls)) r
+          → ComesTo k s.home max (name_text s.name) (values_due k s.home (types_from L Ls) n (more (node l ks) us)) rest names before after r
+      by_levels None e =
+          let nothing : values_due k s.home (child_types (type_at k.setting.table t) l ks ++ types_after (L ∷ Ls)) (n + 1) (joined ks us) ≡ [] =
+          ap (λ ts. values_due k s.home ts (n + 1) (joined ks us)) (same ∙ e) ∙ no_values k s.home (n + 1) (joined ks us) in
+          let all : values_due k s.home (types_from L Ls) n (more (node l ks) us) ≡ own_due k s.home n t l ks =
+          due_first ∙ ap (λ xs. own_due k s.home n t l ks ++ xs) nothing ∙ append-nil (own_due k s.home n t l ks) in (
+            subst (λ xs. IsTracing k after.progress (xs ++ rest)) nothing visited.1.0,
+            subst (λ xs. HasNamed k before.cells after.cells xs names) (sym all)
+                (subst (λ xs. HasNamed k before.cells after.cells (own_due k s.home n t l ks) (names_in xs ++ names)) nothing visited.1.1),
+          )
+      by_levels (Some m) e =
+          let types : child_types (type_at k.setting.table t) l ks ++ types_after (L ∷ Ls) ≡ types_from m.top (reverse m.below.items) = same ∙ sym e.0.1 in
+          record {
+            some = e.0.0;
+            node = n + 1;
+            left = joined ks us;
+            there =
+                subst (λ ts. AreThere k s.home max ts (paths_from (name_text s.name) m.top (reverse m.below.items)) (n + 1) (joined ks us)) (sym e.0.1)
+                (subst (λ ps. AreThere k s.home max (inner_types inner ++ types_after (L ∷ Ls)) ps (n + 1) (joined ks us)) (sym (e.1 (name_text s.name)))
+                (there_after k s.home max (name_text s.name) L Ls n l ks us t first some there f inner visited.0 level));
+            passed = own_due k s.home n t l ks;
+            split = due_first ∙ ap (λ ts. own_due k s.home n t l ks ++ values_due k s.home ts (n + 1) (joined ks us)) types;
+            tracing = subst (λ ts. IsTracing k after.progress (values_due k s.home ts (n + 1) (joined ks us) ++ rest)) types visited.1.0;
+            named =
+                subst (λ ts. HasNamed k before.cells after.cells (own_due k s.home n t l ks) (names_in (values_due k s.home ts (n + 1) (joined ks us)) ++ names)) types
+                visited.1.1;
+          }
+
+  -- the walk goes on from the node after one
+  pub node_passed : (left : Trees) → AreThere k s.home max (types_from L Ls) (paths_from (name_text s.name) L Ls) n left
+      → IsTracing k before.progress (values_due k s.home (types_from L Ls) n left ++ rest) → IsNaming k before.cells (names_in (values_due k s.home (types_from L Ls) n left) ++ names)
+      → ComesTo k s.home max (name_text s.name) (values_due k s.home (types_from L Ls) n left) rest names before after r
+  node_passed left there tr nm =
+      let positive : 0 < count left =
+      (let a = there.all in let b = length-append (level_types L) (types_after Ls) in omega (arith, a, b, some)) in
+      let w = first_of left positive in
+      subst (λ v. ComesTo k s.home max (name_text s.name) (values_due k s.home (types_from L Ls) n v) rest names before after r) (sym w.is)
+      (after_node_is w.label w.kids w.others (subst (AreThere k s.home max (types_from L Ls) (paths_from (name_text s.name) L Ls) n) w.is there)
+      (subst (λ v. IsTracing k before.progress (values_due k s.home (types_from L Ls) n v ++ rest)) w.is tr)
+      (subst (λ v. IsNaming k before.cells (names_in (values_due k s.home (types_from L Ls) n v) ++ names)) w.is nm))
+
+-- ## Turns
+
+-- no entry is passed yet
+pub begins_walk : (k : Known) (h : Home) (max : ℕ) (name : List ℕ) (L : Level) (Ls : List Level) (s : Levels) → s.top ≡ L → reverse s.below.items ≡ Ls
+    → 0 < length (level_types L) → (n : ℕ) (left : Trees) → AreThere k h max (types_from L Ls) (paths_from name L Ls) n left → (rest : List Entry) (names : Placed_cells) (u : Walker)
+    → IsTracing k u.progress (values_due k h (types_from L Ls) n left ++ rest) → IsNaming k u.cells (names_in (values_due k h (types_from L Ls) n left) ++ names)
+    → GoesOn k h max name (values_due k h (types_from L Ls) n left) rest names u u s
+begins_walk k h max name L Ls s top below some n left there rest names u tr nm =
+    let types : types_from L Ls ≡ types_from s.top (reverse s.below.items) = ap₂ types_from (sym top) (sym below) in
+    let ways : paths_from name L Ls ≡ paths_from name s.top (reverse s.below.items) = ap₂ (paths_from name) (sym top) (sym below) in
+    record {
+      some = subst (λ (M : Level). 0 < length (level_types M)) (sym top) some;
+      node = n;
+      left = left;
+      there =
+          subst (λ ts. AreThere k h max ts (paths_from name s.top (reverse s.below.items)) n left) types (subst (λ ps. AreThere k h max (types_from L Ls) ps n left) ways there);
+      passed = [];
+      split = ap (λ ts. values_due k h ts n left) types;
+      tracing = subst (λ ts. IsTracing k u.progress (values_due k h ts n left ++ rest)) types tr;
+      named = record {
+        naming = subst (λ ts. IsNaming k u.cells (names_in (values_due k h ts n left) ++ names)) types nm;
+        pending = sym (append-nil u.cells.pending.items);
+        stands = refl;
+      };
+    }
+
+named_on : (k : Known) (a b c : Cells) (xs ys : List Entry) (more names : Placed_cells) → HasNamed k a b xs more → HasNamed k b c ys names → HasNamed k a c (xs ++ ys) names
+named_on k a b c xs ys more names g h = record {
+  naming = h.naming;
+  pending =
+      h.pending ∙ ap (λ ps. ps ++ pending_in ys) g.pending ∙ append_assoc a.pending.items (pending_in xs) (pending_in ys)
+      ∙ ap (λ ps. a.pending.items ++ ps) (sym (pending_append xs ys));
+  stands = h.stands ∙ g.stands;
+}
+
+-- one node more
+pub one_turn : (k : Known) (h : Home) (max : ℕ) (name : List ℕ) (due rest : List Entry) (names : Placed_cells) (start mid after : Walker) (s : Levels)
+    → (g : GoesOn k h max name due rest names start mid s) → (r : Option Levels)
+    → ComesTo k h max name (values_due k h (types_from s.top (reverse s.below.items)) g.node g.left) rest names mid after r → ComesTo k h max name due rest names start after r
+one_turn k h max name due rest names start mid after s g None c = (
+  c.0,
+  subst (λ xs. HasNamed k start.cells after.cells xs names) (sym g.split) (named_on k start.cells mid.cells after.cells g.passed _ _ names g.named c.1),
+)
+one_turn k h max name due rest names start mid after s g (Some m) c = record {
+  some = c.some;
+  node = c.node;
+  left = c.left;
+  there = c.there;
+  passed = g.passed ++ c.passed;
+  split = g.split ∙ ap (λ xs. g.passed ++ xs) c.split ∙ sym (append_assoc g.passed c.passed _);
+  tracing = c.tracing;
+  named = named_on k start.cells mid.cells after.cells g.passed c.passed _ _ g.named c.named;
+}

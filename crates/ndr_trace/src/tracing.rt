@@ -91,7 +91,6 @@ fn begin<'a>(alloc: Global) -> Walker<'a> {
             numbers: Referents::new(alloc),
             pending: Vec::new(alloc),
             stands: Vec::new(alloc),
-            stands: Vec::new(alloc),
         },
         search: Search {
             path: Octets::new(alloc),
