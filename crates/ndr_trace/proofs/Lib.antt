@@ -4,4 +4,5 @@ pub mod Partial
 pub mod Items
 pub mod LevelWalk
 pub mod OwnItems
+pub mod ByType
 pub mod NamedCells

@@ -36,7 +36,7 @@ module _ (k : Known) where
       f ∙ ap (λ u. u ++ line) e ∙ ap (λ u. shown (take n k.log) ++ u) (sym (append-nil line))
       ∙ sym (flat_map-append (item_line k.setting k.graph) (take n k.log) (i ∷ [])) ∙ sym (ap shown (take_next k.log n i got))
 
-  all_lines : (n : ℕ) (t : List ℕ) → length k.log ≤ n → t ≡ shown (take n k.log) → t ≡ shown k.log
+  pub all_lines : (n : ℕ) (t : List ℕ) → length k.log ≤ n → t ≡ shown (take n k.log) → t ≡ shown k.log
   all_lines n t over e =
       let whole : take n k.log ≡ k.log =
       sym (append-nil (take n k.log)) ∙ ap (λ u. take n k.log ++ u) (sym (drop_past k.log n over)) ∙ take-append-drop n k.log in

@@ -1,0 +1,13 @@
+use Rattle.std.proofs.Common.{◌∷◌, false, ap₂}
+use Rattle.nd_value.specs.Tree as tree
+use Rattle.nd_grammar.specs.Entry.{Actual, Offset}
+use Rattle.ndr_trace.specs.Tracing.{entry_at}
+use Rattle.ndr_trace.proofs.nodes.array.Goals as goal
+
+pub returns-clause-goes : goal.returns-clause-goes
+returns-clause-goes c v k u n sp off lim act rest t =
+    let s = c.args.spot.now in
+    let first = c.in_ok-gap.ensures.goes k u n (entry_at s n (Offset false off) ∷ entry_at s n (Actual false off lim act) ∷ rest) t in
+    let second = c.in_ok-offset.ensures.goes k u n sp (Offset false off) tt (entry_at s n (Actual false off lim act) ∷ rest) first in
+    let third = c.in_ok-count.ensures.goes k u n sp (Actual false off lim act) tt rest second.0 in
+    (ap₂ (λ x y. (tree.Arr c.args.max x, y)) second.1 third.1, third.0)
