@@ -5,4 +5,5 @@ pub mod Items
 pub mod LevelWalk
 pub mod OwnItems
 pub mod ByType
+pub mod Parts
 pub mod NamedCells
