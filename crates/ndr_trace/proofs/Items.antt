@@ -1,8 +1,9 @@
 -- What an item of the log is, by the entry that it stands for: its line, and the number that it holds.
 -- `k` are the octets with the partial graph in which they are refused, `x` is a kind, `os` are an entry's octets, `i` is an item.
 use Rattle.std.proofs.Common.{◌≡◌, ◌∙◌, ℕ, ◌+◌, ◌-◌, ◌^◌, ◌<◌, ◌≤◌, zero, suc, ℤ, Bool, true, false, List, [], ◌∷◌, ◌++◌, drop, length, take, Option, Some, None, codes, refl, sym, ap, ap₂, subst, append_assoc, arith}
-use Rattle.std.proofs.Common.{length-append, reverse}
-use Rattle.std.specs.Prelude.{min, pos}
+use Rattle.std.proofs.Common.{◌%◌, length-append, reverse}
+use Rattle.std.proofs.Math.Nat.{mod-eq_of_lt, mod-lt, mod_self}
+use Rattle.std.specs.Prelude.{IsSome, min, pos}
 use Rattle.std.specs.List.{AllByRecursion, slice_get}
 use Rattle.nd_base.specs.declared.octets.Order.{Order}
 use Rattle.nd_base.specs.declared.octets.Order.TheVariants.{Big, Little}
@@ -13,27 +14,31 @@ use Rattle.nd_value.specs.declared.item.ItemKind.{ItemKind}
 use Rattle.nd_value.specs.declared.item.ItemKind.TheVariants as item
 use Rattle.nd_value.specs.Tree as tree
 use Rattle.nd_value.specs.Tree.{Label}
-use Rattle.nd_grammar.specs.Entry.{Actual, Align, Chunk, Context, Entry, EntryAt, Kind, Max, Num, Number, Offset, Tag, Test, Text, Unread, end_to_end, size_at}
+use Rattle.nd_grammar.specs.Entry.{Actual, Align, Chunk, Context, Entry, EntryAt, Kind, Max, Num, Number, Offset, Tag, Test, Text, Unread, end_to_end, gap, size_at}
 use Rattle.nd_grammar.specs.Items.{item_node, item_of}
 use Rattle.nd_grammar.specs.Represents.{IsNumber, IsRendered, Spells, id_octets, piece}
 use Rattle.nd_grammar.proofs.next.Spelt.{piece_left}
 use Rattle.nd_grammar.proofs.reader.Ranges.{below_4}
 use Rattle.ndr_prim.specs.Context.{attributes_of, identifier, identifier_of, identifier_octets}
 use Rattle.ndr_prim.proofs.Contexts.{context_after_write}
-use Rattle.nd_lemmas.proofs.Lists.{take_front}
+use Rattle.nd_lemmas.proofs.Lists.{four_parts, take_front}
 use Rattle.text_grammar.specs.Printed.{quoted_text}
 use Rattle.text_printer.specs.Texts.{context_text}
 use Rattle.ndr_explain.specs.Cursors.{IsNoGap, name_text, path_to}
-use Rattle.ndr_explain.specs.Explained.{context_shown, explanation, home_flats, home_paths, item_head, item_line, label_in, node_shown, path_in, string_shown, value_shown}
+use Rattle.ndr_explain.specs.Explained.{context_shown, explanation, home_flats, home_paths, item_head, item_line, item_rest, label_in, node_shown, path_in, string_shown, value_shown}
 use Rattle.ndr_explain.specs.declared.levels.Level.{Level}
 use Rattle.ndr_explain.proofs.LevelPaths.{steps_after}
-use Rattle.ndr_explain.proofs.Lines.{other_rest}
+use Rattle.ndr_explain.proofs.Lines.{other_rest, three, two}
 use Rattle.ndr_trace_laws.specs.Due.{Took, its_item}
+use Rattle.ndr_trace_laws.specs.Untested.{is_test}
+use Rattle.ndr_trace_laws.proofs.Gaps.{gap_item}
 use Rattle.ndr_trace.specs.declared.progress.Ground.{Ground}
 use Rattle.ndr_trace.specs.declared.progress.Progress.{Progress}
 use Rattle.ndr_trace.specs.declared.progress.Spot.{Spot}
-use Rattle.ndr_trace.specs.Tracing.{HasLabel, Holds, HoldsCount, IsCount, IsCounted, IsGround, IsItem, IsShown, IsSpot, IsTracing, Known, entry_at}
-use Rattle.ndr_trace.proofs.Progress.{item_passed, next_item, placed}
+use Rattle.ndr_trace.specs.declared.search.Sought.{Sought}
+use Rattle.ndr_trace.specs.Traces.{entry_path}
+use Rattle.ndr_trace.specs.Tracing.{HasLabel, Holds, HoldsCount, IsCount, IsCounted, IsEnded, IsGround, IsItem, IsShown, IsSpot, IsTracing, Known, entry_at}
+use Rattle.ndr_trace.proofs.Passing.{gap_passed, item_ended, item_passed, next_item, placed}
 
 -- ## Kinds
 
@@ -200,7 +205,34 @@ count_has_label k h n (Align m) c = absurd c
 count_has_label k h n (Test a wanted found) c = absurd c
 count_has_label k h n Unread c = absurd c
 
+-- ## Gaps
+
+-- an aligned place has no gap, and any other one
+no_gap_there : (at n : ℕ) → 0 < n → at % n ≡ 0 → gap at n ≡ 0
+no_gap_there at n l e = ap (λ m. (n - m) % n) e ∙ ap (λ m. m % n) (minus-zero n) ∙ mod_self n
+  where
+    minus-zero : (m : ℕ) → m - 0 ≡ m
+    minus-zero m = omega arith
+
+pub some_gap : (at n : ℕ) → 0 < n → (at % n ≡ 0 → ⊥) → 0 < gap at n
+some_gap at n l e = go (at % n) refl
+  where
+    go : (m : ℕ) → at % n ≡ m → 0 < gap at n
+    go zero h = absurd (e h)
+    go (suc m) h =
+        let below : suc m < n = subst (λ j. j < n) h (mod-lt at l) in
+        let left : n - suc m < n = omega (arith, below) in
+        let is : gap at n ≡ n - suc m = ap (λ j. (n - j) % n) h ∙ mod-eq_of_lt left in
+        omega (arith, is, below)
+
 -- ## Lines
+
+-- parts that are added one after the other, the middle three of them a part of their own
+six_parts : (t t1 t2 t3 t4 t5 t6 a b c d e f : List ℕ) → t1 ≡ t ++ a → t2 ≡ t1 ++ b → t3 ≡ t2 ++ c → t4 ≡ t3 ++ d → t5 ≡ t4 ++ e → t6 ≡ t5 ++ f
+    → t6 ≡ t ++ (a ++ (b ++ ((c ++ (d ++ e)) ++ f)))
+six_parts t t1 t2 t3 t4 t5 t6 a b c d e f e1 e2 e3 e4 e5 e6 =
+    let inner : t5 ≡ t2 ++ (c ++ (d ++ e)) = three t2 t3 t4 t5 c d e e3 e4 e5 in
+    four_parts t t1 t2 t5 t6 a b (c ++ (d ++ e)) f e1 e2 inner e6
 
 module _ (k : Known) (u : Ground) (ground : IsGround k u) where
   -- the octets of an entry, among all that were given
@@ -268,3 +300,112 @@ module _ (k : Known) (u : Ground) (ground : IsGround k u) where
               × (context_shown (label_in (home_flats k.graph s.home) n)
               ≡ context_text (attributes_of u.order (take 20 (drop a u.octets.now))) (identifier_of u.order (take 20 (drop a u.octets.now))))) (sym e1)
           (context_is at attributes id (label_in (home_flats k.graph s.home) n) c d b)
+
+  -- an item with its line: the next entry is due, and it holds what its entry says
+  pub item_goes : (s : Spot) (n : ℕ) → IsSpot k s n → (x : Kind) → IsItem x → HasLabel k s.home n x → (rest : List Entry) (p p1 : Progress)
+      → IsTracing k p (entry_at s n x ∷ rest) → (i : Item) → slice_get u.items.now.items p.next ≡ Some i → (t1 t2 t3 t4 t5 t6 : List ℕ)
+      → t1 ≡ p.lines ++ item_head i → t2 ≡ t1 ++ codes " " → t3 ≡ path_to (t2 ++ name_text s.name) (s.top ∷ reverse s.below.now.items)
+      → t4 ≡ t3 ++ codes " " → ((l : Option Label) → IsShown u i i.kind l → t5 ≡ t4 ++ value_shown i.kind l i.value) → t6 ≡ t5 ++ codes "\n"
+      → p1.lines ≡ t6 → p1.next ≡ p.next + 1 → p1.at ≡ min (i.at + i.len) (2 ^ 32 - 1) → p1.path ≡ p.path → IsTracing k p1 rest × Holds k x i.value
+  item_goes s n spot x item label rest p p1 t i got t1 t2 t3 t4 t5 t6 e1 e2 e3 e4 e5 e6 lines next at path = (
+    item_passed k p p1 (entry_at s n x) rest z i (ground.few p.next i there) one t there next at path line,
+    subst (Holds k x) (sym value) (holds k p.at x item ground.are_octets one.rendered.0 one.rendered.1),
+  )
+    where
+      z : ItemKind × ℤ
+      z = item_as k.order x (piece k.fetched p.at x)
+
+      there : slice_get k.log p.next ≡ Some i
+      there = ap (λ xs. slice_get xs p.next) (sym ground.items) ∙ got
+
+      one : Took k.order k.fetched k.numbering k.here (placed k p (entry_at s n x)) (end_to_end (p.at + size_at p.at x) rest) z i (drop (p.next + 1) k.log)
+      one = next_item k p (entry_at s n x) rest z i (λ r. is_as k.order x (piece k.fetched p.at x) item) t there
+
+      value : i.value ≡ (item_as k.order x (piece k.fetched p.at x)).1
+      value = ap (λ (y : Item). y.value) one.is_item
+
+      kind : i.kind ≡ (item_as k.order x (piece k.fetched p.at x)).0
+      kind = ap (λ (y : Item). y.kind) one.is_item
+
+      home : i.home ≡ s.home
+      home = ap (λ (y : Item). y.home) one.is_item
+
+      node : i.node ≡ n
+      node = ap (λ (y : Item). y.node) one.is_item ∙ own_node x n item
+
+      same_label : label_in (home_flats k.graph s.home) n ≡ label_in (home_flats k.graph i.home) i.node
+      same_label = ap₂ (λ (h : Home) (m : ℕ). label_in (home_flats k.graph h) m) (sym home) (sym node)
+
+      is_shown : IsShown u i i.kind (label_in (home_flats k.graph i.home) i.node)
+      is_shown =
+          subst (λ l. IsShown u i i.kind l) same_label
+          (shown x s n p.at i item label one.rendered.0 one.rendered.1 (ap (λ (y : Item). y.at) one.is_item) (ap (λ (y : Item). y.len) one.is_item) kind)
+
+      path_shown : t3 ≡ t2 ++ path_in (home_paths k.setting k.graph i.home) i.node
+      path_shown =
+          e3 ∙ steps_after t2 (name_text s.name) (s.top ∷ reverse s.below.now.items)
+          ∙ ap (λ q. t2 ++ q) (spot ∙ ap₂ (λ (h : Home) (m : ℕ). path_in (home_paths k.setting k.graph h) m) (sym home) (sym node))
+
+      line : p1.lines ≡ p.lines ++ item_line k.setting k.graph i
+      line =
+          lines
+          ∙ six_parts p.lines t1 t2 t3 t4 t5 t6 (item_head i) (codes " ") (path_in (home_paths k.setting k.graph i.home) i.node) (codes " ")
+              (value_shown i.kind (label_in (home_flats k.graph i.home) i.node) i.value) (codes "\n") e1 e2 path_shown e4 (e5 (label_in (home_flats k.graph i.home) i.node) is_shown) e6
+          ∙ ap (λ r. p.lines ++ (item_head i ++ r)) (sym (other_rest k.setting k.graph i i.kind (subst IsNoGap (sym kind) (no_gap k.order x (piece k.fetched p.at x) item))))
+
+  -- ## Gaps
+
+  -- a gap with its line: the next entry is due
+  pub gap_goes : (s : Spot) (n align : ℕ) (rest : List Entry) (p p1 : Progress) → 0 < gap p.at align → IsTracing k p (entry_at s n (Align align) ∷ rest)
+      → (i : Item) → slice_get u.items.now.items p.next ≡ Some i → (t1 t2 : List ℕ) → t1 ≡ p.lines ++ item_head i → t2 ≡ t1 ++ codes "\n"
+      → p1.lines ≡ t2 → p1.next ≡ p.next + 1 → p1.at ≡ min (i.at + i.len) (2 ^ 32 - 1) → p1.path ≡ p.path → IsTracing k p1 rest
+  gap_goes s n align rest p p1 some t i got t1 t2 e1 e2 lines next at path =
+      item_passed k p p1 (entry_at s n (Align align)) rest (item.Gap, pos 0) i (ground.few p.next i there) one t there next at path line
+    where
+      there : slice_get k.log p.next ≡ Some i
+      there = ap (λ xs. slice_get xs p.next) (sym ground.items) ∙ got
+
+      one : Took k.order k.fetched k.numbering k.here (placed k p (entry_at s n (Align align))) (end_to_end (p.at + gap p.at align) rest) (item.Gap, pos 0) i
+          (drop (p.next + 1) k.log)
+      one = next_item k p (entry_at s n (Align align)) rest (item.Gap, pos 0) i (λ r. gap_item k.order k.fetched p.at align some r.0) t there
+
+      line : p1.lines ≡ p.lines ++ item_line k.setting k.graph i
+      line =
+          lines ∙ two p.lines t1 t2 (item_head i) (codes "\n") e1 e2
+          ∙ ap (λ r. p.lines ++ (item_head i ++ r)) (ap (λ m. item_rest k.setting k.graph m i) (sym (ap (λ (y : Item). y.kind) one.is_item)))
+
+  -- an empty gap
+  pub gap_empty : (s : Spot) (n align : ℕ) (rest : List Entry) (p : Progress) → 0 < align → p.at % align ≡ 0
+      → IsTracing k p (entry_at s n (Align align) ∷ rest) → IsTracing k p rest
+  gap_empty s n align rest p l e t = gap_passed k p (entry_at s n (Align align)) align rest refl (no_gap_there p.at align l e) t
+
+  -- ## Ends
+
+  none_sought : IsGround k u → (is_test k.here.entry.kind ≡ true → ⊥) → u.sought ≡ None
+  none_sought g h = go u.sought refl
+    where
+      go : (o : Option Sought) → u.sought ≡ o → u.sought ≡ None
+      go None e = e
+      go (Some x) e = absurd (h (g.sought (subst IsSome (sym e) refl)))
+
+  path_ended : (s : Spot) (n : ℕ) (m : Entry) → IsSpot k s n → m.home ≡ s.home → m.node ≡ n → (p p1 : Progress) → p.path ≡ []
+      → (u.sought ≡ None → p1.path ≡ path_to (p.path ++ name_text s.name) (s.top ∷ reverse s.below.now.items))
+      → (is_test k.here.entry.kind ≡ true → ⊥) → p1.path ≡ entry_path k.setting k.graph m
+  path_ended s n m spot home node p p1 empty path none =
+      path (none_sought ground none) ∙ ap (λ q. path_to (q ++ name_text s.name) (s.top ∷ reverse s.below.now.items)) empty ∙ spot
+      ∙ ap₂ (λ (h : Home) (j : ℕ). path_in (home_paths k.setting k.graph h) j) (sym home) (sym node)
+
+  -- no item is left at an entry that is one
+  pub item_ends : (s : Spot) (n : ℕ) → IsSpot k s n → (x : Kind) → IsItem x → (rest : List Entry) (p p1 : Progress)
+      → IsTracing k p (entry_at s n x ∷ rest) → length u.items.now.items ≤ p.next → p1.lines ≡ p.lines
+      → (u.sought ≡ None → p1.path ≡ path_to (p.path ++ name_text s.name) (s.top ∷ reverse s.below.now.items)) → IsEnded k p1
+  item_ends s n spot x item rest p p1 t over lines path =
+      item_ended k p p1 (entry_at s n x) rest (item_as k.order x (piece k.fetched p.at x)) (λ r. is_as k.order x (piece k.fetched p.at x) item) t
+      (subst (λ xs. length xs ≤ p.next) ground.items over) lines (path_ended s n (entry_at s n x) spot refl refl p p1 t.no_path path)
+
+  pub gap_ends : (s : Spot) (n : ℕ) → IsSpot k s n → (align : ℕ) (rest : List Entry) (p p1 : Progress) → 0 < gap p.at align
+      → IsTracing k p (entry_at s n (Align align) ∷ rest) → length u.items.now.items ≤ p.next → p1.lines ≡ p.lines
+      → (u.sought ≡ None → p1.path ≡ path_to (p.path ++ name_text s.name) (s.top ∷ reverse s.below.now.items)) → IsEnded k p1
+  gap_ends s n spot align rest p p1 some t over lines path =
+      item_ended k p p1 (entry_at s n (Align align)) rest (item.Gap, pos 0) (λ r. gap_item k.order k.fetched p.at align some r.0) t
+      (subst (λ xs. length xs ≤ p.next) ground.items over) lines (path_ended s n (entry_at s n (Align align)) spot refl refl p p1 t.no_path path)

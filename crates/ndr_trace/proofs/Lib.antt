@@ -1,3 +1,7 @@
 mod Worked
-pub mod Progress
+pub mod Passing
 pub mod Partial
+pub mod Items
+pub mod LevelWalk
+pub mod OwnItems
+pub mod NamedCells

@@ -1,6 +1,6 @@
 pub mod Traces
 pub mod Examples
 pub mod Tracing
-pub mod Walking
 pub mod Naming
+pub mod Walking
 pub mod Homes

@@ -1,5 +1,5 @@
 -- What a walk over the items of a log comes to.
--- `k` are the octets with the partial graph in which they are refused, `u` what the walk is given, `p` how far it came, `s` where a node is, `due`
+-- `k` are the octets with the partial graph in which they are refused, `u` what the walk is given, `p` how far it came, `s` where a node is, `ms`
 -- are the entries that are due, agreements apart.
 use Rattle.std.specs.Prelude.{◌≡◌, ◌⊎◌, ◌<◌, ◌≤◌, ◌+◌, ◌-◌, ◌^◌, ℕ, ℤ, pos, true, List, [], ◌∷◌, ◌++◌, drop, length, reverse, take, IsSome, Option, Some}
 use Rattle.std.specs.List.{slice_get}
@@ -55,11 +55,11 @@ pub record IsGround (k : Known) (u : Ground) : Type 0 where
   pub is_numbering : IsNumbering k.numbering k.full
 
 -- The items so far have their lines, and then these entries are due.
-pub record IsTracing (k : Known) (p : Progress) (due : List Entry) : Type 0 where
+pub record IsTracing (k : Known) (p : Progress) (ms : List Entry) : Type 0 where
   pub within : p.next ≤ length k.log
   pub lines : p.lines ≡ explanation k.setting k.graph (take p.next k.log)
   pub no_path : p.path ≡ []
-  pub due : Stops k.order k.fetched k.numbering k.here (end_to_end p.at due) (drop p.next k.log)
+  pub due : Stops k.order k.fetched k.numbering k.here (end_to_end p.at ms) (drop p.next k.log)
 
 -- All items have their lines, and the path is that of the entry at which reading stopped, unless it stopped at an agreement.
 pub record IsEnded (k : Known) (p : Progress) : Type 0 where

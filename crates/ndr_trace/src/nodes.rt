@@ -1,10 +1,26 @@
 // The items of nodes, one node after the other.
+ghost use Rattle.std.specs.Prelude.{reverse, ◌≡◌, ◌<◌, ◌≤◌, ◌+◌, ◌++◌, ◌∷◌, [], ℕ, ℤ, true, false, List, length, Option, None, Some, option_copied, IfOk, IsErrOf, IsOk};
+ghost use Rattle.nd_types.specs.declared.types.Primitive.{Primitive as PrimitiveValue};
+ghost use Rattle.nd_types.specs.Table.{selected as arm_selected};
+ghost use Rattle.nd_value.specs.Deferral.{Placed_cells};
+ghost use Rattle.nd_value.specs.Nodes.{selected_types};
+ghost use Rattle.nd_value.specs.Tree.{Label, Trees, count as count_of};
+ghost use Rattle.nd_value.specs.Tree as labels;
+ghost use Rattle.nd_flat.specs.FlatForm.{armed_count, flat_seen};
+ghost use Rattle.nd_grammar.specs.Entry.{Actual, Align, Context, Entry, Num, Number, Offset, Tag, Text};
+ghost use Rattle.ndr_explain.specs.Cursors.{level_paths, level_types, name_text, paths_from, types_from};
+ghost use Rattle.ndr_explain.specs.Explained.{home_flats, label_in};
+ghost use Rattle.ndr_trace.specs.declared.progress.Halt.TheVariants as halts;
+ghost use Rattle.ndr_trace.specs.Naming.{HasNamed, IsFine, IsNaming, named_by, names_in};
+ghost use Rattle.ndr_trace.specs.Tracing.{Known, IsEnded, IsGround, IsSpot, IsTracing, entry_at};
+ghost use Rattle.ndr_trace.specs.Walking.{AreThere, ComesTo, IsNode, IsPaid, IsReady, IsSeen, own_due, values_due, width_by};
+
 use crate::cells::{Cells, name_cell};
 use crate::members::{reach, seen_node};
 use crate::progress::{Ground, Halt, Progress, Spot, count, gap, item};
 use crate::search::Search;
 use nd_flat::Seen;
-use nd_types::{Arm, Arms, Class, Primitive, TypeDef, TypeId};
+use nd_types::{Arm, Arms, Class, Fields, TypeDef, TypeId};
 use nd_value::Home;
 use ndr_explain::{HomeName, Level, Levels, children, next_levels, type_of};
 use ndr_prim::width_of;
@@ -27,43 +43,73 @@ pub(crate) fn walk_level<'a>(
     max: u32,
     first: Level<'a>,
 ) -> Result<(), Halt>
-    ensures goes { (k : Known) → IsGround k ground.now → (n : ℕ) (left : Trees)
+    ensures goes { 0 < length (level_types first.entry) → (k : Known) → IsGround k ground.now → (n : ℕ) (left : Trees)
         → AreThere k home max (level_types first.entry) (level_paths (name_text name.entry) first.entry) n left
         → (rest : List Entry) → IsTracing k walker.old.progress (values_due k home (level_types first.entry) n left ++ rest)
         → (names : Placed_cells) → IsNaming k walker.old.cells (names_in (values_due k home (level_types first.entry) n left) ++ names)
         → IfOk result (λ _. IsTracing k walker.new.progress rest
         × HasNamed k walker.old.cells walker.new.cells (values_due k home (level_types first.entry) n left) names) }
-    ensures ends { (k : Known) → IsGround k ground.now → (n : ℕ) (left : Trees)
+    ensures ends { 0 < length (level_types first.entry) → (k : Known) → IsGround k ground.now → (n : ℕ) (left : Trees)
         → AreThere k home max (level_types first.entry) (level_paths (name_text name.entry) first.entry) n left
         → (rest : List Entry) → IsTracing k walker.old.progress (values_due k home (level_types first.entry) n left ++ rest)
         → (names : Placed_cells) → IsNaming k walker.old.cells (names_in (values_due k home (level_types first.entry) n left) ++ names)
         → IsErrOf result halts.Here → IsEnded k walker.new.progress }
-    ensures paid { IfOk result (λ _. (walker.old.progress.next ≤ walker.new.progress.next)
-        × (length walker.new.cells.pending.items + walker.old.progress.next ≤ length walker.old.cells.pending.items + walker.new.progress.next)) }
+    ensures paid { IfOk result (λ _. IsPaid walker.old walker.new) }
 {
-    let types = &ground.interface.types;
     let mut levels = Levels {
         top: first,
         below: Vec::new(ground.alloc),
     };
     // No log within the limit of a stream has so many nodes.
     for _turn in 0..u64::MAX {
-        let spot = Spot {
-            home,
-            name,
-            top: levels.top,
-            below: &levels.below,
-        };
-        let of = type_of(levels.top);
-        let seen = visit(ground, walker, max, of, &spot)?;
-        let inner = children(types, of, &seen);
-        let Levels { top, below } = levels;
-        let Some(next) = next_levels(inner, top, below)? else {
+        let Some(next) = take_node(ground, walker, home, name, max, levels)? else {
             return Ok(());
         };
         levels = next;
     }
     Err(Halt::Memory)
+}
+
+// Passes the node at which levels are. Gives those of the node after it, if there is one.
+fn take_node<'a>(
+    ground: &Ground<'a>,
+    walker: &mut Walker<'a>,
+    home: Home,
+    name: HomeName<'a>,
+    max: u32,
+    levels: Levels<'a>,
+) -> Result<Option<Levels<'a>>, Halt>
+    ensures goes { 0 < length (level_types levels.entry.top) → (k : Known) → IsGround k ground.now → (n : ℕ) (left : Trees)
+        → AreThere k home max (types_from levels.entry.top (reverse levels.entry.below.items))
+        (paths_from (name_text name.entry) levels.entry.top (reverse levels.entry.below.items)) n left
+        → (rest : List Entry)
+        → IsTracing k walker.old.progress (values_due k home (types_from levels.entry.top (reverse levels.entry.below.items)) n left ++ rest)
+        → (names : Placed_cells)
+        → IsNaming k walker.old.cells (names_in (values_due k home (types_from levels.entry.top (reverse levels.entry.below.items)) n left) ++ names)
+        → IfOk result (ComesTo k home max (name_text name.entry) (values_due k home (types_from levels.entry.top (reverse levels.entry.below.items)) n left)
+        rest names walker.old walker.new) }
+    ensures ends { 0 < length (level_types levels.entry.top) → (k : Known) → IsGround k ground.now → (n : ℕ) (left : Trees)
+        → AreThere k home max (types_from levels.entry.top (reverse levels.entry.below.items))
+        (paths_from (name_text name.entry) levels.entry.top (reverse levels.entry.below.items)) n left
+        → (rest : List Entry)
+        → IsTracing k walker.old.progress (values_due k home (types_from levels.entry.top (reverse levels.entry.below.items)) n left ++ rest)
+        → (names : Placed_cells)
+        → IsNaming k walker.old.cells (names_in (values_due k home (types_from levels.entry.top (reverse levels.entry.below.items)) n left) ++ names)
+        → IsErrOf result halts.Here → IsEnded k walker.new.progress }
+    ensures paid { IfOk result (λ _. IsPaid walker.old walker.new) }
+{
+    let Levels { top, below } = levels;
+    let of = type_of(top);
+    let spot = Spot {
+        home,
+        name,
+        top,
+        below: &below,
+    };
+    let seen = visit(ground, walker, max, of, &spot)?;
+    let inner = children(&ground.interface.types, of, &seen);
+    let next = next_levels(inner, top, below)?;
+    Ok(next)
 }
 
 // Passes what a node has before its children, and gives what it says.
@@ -73,7 +119,18 @@ fn visit<'a>(
     max: u32,
     of: TypeId,
     spot: &Spot<'_, 'a>,
-) -> Result<Seen<'a>, Halt> {
+) -> Result<Seen<'a>, Halt>
+    ensures goes { (k : Known) → IsGround k ground.now → (n : ℕ) (l : Label) (ks : Trees) → IsNode k spot.now max of.0 n l ks
+        → (rest : List Entry) → IsTracing k walker.old.progress (own_due k spot.now.home n of.0 l ks ++ rest)
+        → (names : Placed_cells) → IsNaming k walker.old.cells (names_in (own_due k spot.now.home n of.0 l ks) ++ names)
+        → IfOk result (λ seen. IsSeen l (count_of ks) (flat_seen seen) × (IsTracing k walker.new.progress rest
+        × HasNamed k walker.old.cells walker.new.cells (own_due k spot.now.home n of.0 l ks) names)) }
+    ensures ends { (k : Known) → IsGround k ground.now → (n : ℕ) (l : Label) (ks : Trees) → IsNode k spot.now max of.0 n l ks
+        → (rest : List Entry) → IsTracing k walker.old.progress (own_due k spot.now.home n of.0 l ks ++ rest)
+        → (names : Placed_cells) → IsNaming k walker.old.cells (names_in (own_due k spot.now.home n of.0 l ks) ++ names)
+        → IsErrOf result halts.Here → IsEnded k walker.new.progress }
+    ensures paid { IfOk result (λ _. IsPaid walker.old walker.new) }
+{
     let before = walker.progress.next;
     reach(ground, walker, spot)?;
     let seen = own_items(ground, walker, max, of, spot)?;
@@ -88,28 +145,30 @@ fn own_items<'a>(
     max: u32,
     of: TypeId,
     spot: &Spot<'_, 'a>,
-) -> Result<Seen<'a>, Halt> {
-    let progress = &mut walker.progress;
+) -> Result<Seen<'a>, Halt>
+    ensures goes { (k : Known) → IsGround k ground.now → (n : ℕ) (l : Label) (ks : Trees) → IsNode k spot.now max of.0 n l ks
+        → IsReady k walker.old.progress → (rest : List Entry) → IsTracing k walker.old.progress (own_due k spot.now.home n of.0 l ks ++ rest)
+        → (names : Placed_cells) → IsNaming k walker.old.cells (names_in (own_due k spot.now.home n of.0 l ks) ++ names)
+        → IfOk result (λ seen. IsSeen l (count_of ks) (flat_seen seen) × (IsTracing k walker.new.progress rest
+        × HasNamed k walker.old.cells walker.new.cells (own_due k spot.now.home n of.0 l ks) names)) }
+    ensures ends { (k : Known) → IsGround k ground.now → (n : ℕ) (l : Label) (ks : Trees) → IsNode k spot.now max of.0 n l ks
+        → IsReady k walker.old.progress → (rest : List Entry) → IsTracing k walker.old.progress (own_due k spot.now.home n of.0 l ks ++ rest)
+        → (names : Placed_cells) → IsNaming k walker.old.cells (names_in (own_due k spot.now.home n of.0 l ks) ++ names)
+        → IsErrOf result halts.Here → IsEnded k walker.new.progress }
+    ensures paid { IfOk result (λ _. IsPaid walker.old walker.new) }
+{
     match ground.interface.types.get(of.0 as usize) {
-        Some(TypeDef::Prim(prim)) => number(ground, progress, width_of(*prim) as u32, spot),
-        Some(TypeDef::Enum { .. }) => number(ground, progress, 2, spot),
+        Some(TypeDef::Prim(prim)) => number(ground, &mut walker.progress, width_of(*prim) as u32, spot),
+        Some(TypeDef::Enum { .. }) => number(ground, &mut walker.progress, 2, spot),
         Some(TypeDef::Struct { members }) => {
-            gap(
-                ground,
-                progress,
-                u32::from(ground.interface.align(of)),
-                spot,
-            )?;
-            Ok(Seen::Rec(members.len() as u32))
+            let align = u32::from(ground.interface.align(of));
+            structure(ground, &mut walker.progress, align, members, spot)
         }
-        Some(TypeDef::Array { bound, varying, .. }) => array(
-            ground,
-            progress,
-            bound.unwrap_or(max),
-            *varying,
-            spot,
-        ),
-        Some(TypeDef::Text { bound, .. }) => text(ground, progress, bound.unwrap_or(max), spot),
+        Some(TypeDef::Array { bound, varying, .. }) => {
+            let max = bound.unwrap_or(max);
+            array(ground, &mut walker.progress, max, *varying, spot)
+        }
+        Some(TypeDef::Text { .. }) => text(ground, &mut walker.progress, spot),
         Some(
             TypeDef::Union {
                 tag,
@@ -119,10 +178,10 @@ fn own_items<'a>(
             },
         ) => {
             let width = tag_width(ground.interface.types.get(tag.0 as usize));
-            tagged(ground, progress, width, arms, default, spot)
+            tagged(ground, &mut walker.progress, width, arms, default, spot)
         }
         Some(TypeDef::Pointer { class, to }) => pointer(ground, walker, *class, *to, spot),
-        Some(TypeDef::Context) => context(ground, progress, spot),
+        Some(TypeDef::Context) => context(ground, &mut walker.progress, spot),
         _ => Ok(Seen::Ptr(None)),
     }
 }
@@ -133,10 +192,42 @@ fn number<'a>(
     progress: &mut Progress,
     width: u32,
     spot: &Spot<'_, 'a>,
-) -> Result<Seen<'a>, Halt> {
+) -> Result<Seen<'a>, Halt>
+    requires { 0 < width }
+    ensures goes { (k : Known) → IsGround k ground.now → (n : ℕ) → IsSpot k spot.now n
+        → (p : PrimitiveValue) (values : Option (List ℤ)) (z : ℤ) (rest : List Entry)
+        → IsTracing k progress.old (entry_at spot.now n (Align width) ∷ entry_at spot.now n (Num p values z) ∷ rest)
+        → IfOk result (λ seen. (flat_seen seen ≡ (labels.Num z, 0)) × IsTracing k progress.new rest) }
+    ensures ends { (k : Known) → IsGround k ground.now → (n : ℕ) → IsSpot k spot.now n
+        → (p : PrimitiveValue) (values : Option (List ℤ)) (z : ℤ) (rest : List Entry)
+        → IsTracing k progress.old (entry_at spot.now n (Align width) ∷ entry_at spot.now n (Num p values z) ∷ rest)
+        → IsErrOf result halts.Here → IsEnded k progress.new }
+    ensures later { IfOk result (λ _. progress.old.next ≤ progress.new.next) }
+{
     gap(ground, progress, width, spot)?;
     let value = item(ground, progress, spot)?;
     Ok(Seen::Num(value))
+}
+
+// The gap before a struct.
+fn structure<'a>(
+    ground: &Ground<'a>,
+    progress: &mut Progress,
+    align: u32,
+    members: &Fields,
+    spot: &Spot<'_, 'a>,
+) -> Result<Seen<'a>, Halt>
+    requires { 0 < align }
+    ensures goes { (k : Known) → IsGround k ground.now → (n : ℕ) (rest : List Entry)
+        → IsTracing k progress.old (entry_at spot.now n (Align align) ∷ rest)
+        → IfOk result (λ seen. ((flat_seen seen).0 ≡ labels.Rec) × IsTracing k progress.new rest) }
+    ensures ends { (k : Known) → IsGround k ground.now → (n : ℕ) → IsSpot k spot.now n
+        → (rest : List Entry) → IsTracing k progress.old (entry_at spot.now n (Align align) ∷ rest)
+        → IsErrOf result halts.Here → IsEnded k progress.new }
+    ensures later { IfOk result (λ _. progress.old.next ≤ progress.new.next) }
+{
+    gap(ground, progress, align, spot)?;
+    Ok(Seen::Rec(u32::try_from(members.len()).unwrap_or(u32::MAX)))
 }
 
 // The counts of an array.
@@ -146,7 +237,21 @@ fn array<'a>(
     max: u32,
     varying: bool,
     spot: &Spot<'_, 'a>,
-) -> Result<Seen<'a>, Halt> {
+) -> Result<Seen<'a>, Halt>
+    ensures fixed { varying ≡ false → IfOk result (λ seen. (flat_seen seen ≡ (labels.Arr max 0, max)) × (progress.new ≡ progress.old)) }
+    ensures whole { varying ≡ false → IsOk result }
+    ensures goes { varying ≡ true → (k : Known) → IsGround k ground.now → (n : ℕ) → IsSpot k spot.now n
+        → (offset limit actual : ℕ) (rest : List Entry)
+        → IsTracing k progress.old (entry_at spot.now n (Align 4) ∷ entry_at spot.now n (Offset false offset)
+        ∷ entry_at spot.now n (Actual false offset limit actual) ∷ rest)
+        → IfOk result (λ seen. (flat_seen seen ≡ (labels.Arr max offset, actual)) × IsTracing k progress.new rest) }
+    ensures ends { varying ≡ true → (k : Known) → IsGround k ground.now → (n : ℕ) → IsSpot k spot.now n
+        → (offset limit actual : ℕ) (rest : List Entry)
+        → IsTracing k progress.old (entry_at spot.now n (Align 4) ∷ entry_at spot.now n (Offset false offset)
+        ∷ entry_at spot.now n (Actual false offset limit actual) ∷ rest)
+        → IsErrOf result halts.Here → IsEnded k progress.new }
+    ensures later { IfOk result (λ _. progress.old.next ≤ progress.new.next) }
+{
     if !varying {
         return Ok(Seen::Arr {
             max,
@@ -160,18 +265,29 @@ fn array<'a>(
     Ok(Seen::Arr { max, offset, count })
 }
 
-// A text with its counts.
+// A text with its counts. It has no children, as a null pointer has none.
 fn text<'a>(
     ground: &Ground<'a>,
     progress: &mut Progress,
-    max: u32,
     spot: &Spot<'_, 'a>,
-) -> Result<Seen<'a>, Halt> {
+) -> Result<Seen<'a>, Halt>
+    ensures goes { (k : Known) → IsGround k ground.now → (n : ℕ) → IsSpot k spot.now n
+        → (max : ℕ) (octets : List ℕ) → label_in (home_flats k.graph spot.now.home) n ≡ Some (labels.Text max octets) → (rest : List Entry)
+        → IsTracing k progress.old (entry_at spot.now n (Align 4) ∷ entry_at spot.now n (Offset true 0)
+        ∷ entry_at spot.now n (Actual true 0 max (length octets + 1)) ∷ entry_at spot.now n (Text octets) ∷ rest)
+        → IfOk result (λ seen. (flat_seen seen ≡ (labels.Ptr None, 0)) × IsTracing k progress.new rest) }
+    ensures ends { (k : Known) → IsGround k ground.now → (n : ℕ) → IsSpot k spot.now n
+        → (max : ℕ) (octets : List ℕ) → label_in (home_flats k.graph spot.now.home) n ≡ Some (labels.Text max octets) → (rest : List Entry)
+        → IsTracing k progress.old (entry_at spot.now n (Align 4) ∷ entry_at spot.now n (Offset true 0)
+        ∷ entry_at spot.now n (Actual true 0 max (length octets + 1)) ∷ entry_at spot.now n (Text octets) ∷ rest)
+        → IsErrOf result halts.Here → IsEnded k progress.new }
+    ensures later { IfOk result (λ _. progress.old.next ≤ progress.new.next) }
+{
     gap(ground, progress, 4, spot)?;
     item(ground, progress, spot)?;
     item(ground, progress, spot)?;
     item(ground, progress, spot)?;
-    Ok(Seen::Text { max, octets: &[] })
+    Ok(Seen::Ptr(None))
 }
 
 // A union's tag.
@@ -182,7 +298,19 @@ fn tagged<'a>(
     arms: &Arms,
     default: &Option<Arm>,
     spot: &Spot<'_, 'a>,
-) -> Result<Seen<'a>, Halt> {
+) -> Result<Seen<'a>, Halt>
+    requires { 0 < width }
+    ensures goes { (k : Known) → IsGround k ground.now → (n : ℕ) → IsSpot k spot.now n
+        → (p : PrimitiveValue) (values : Option (List ℤ)) (z : ℤ) (rest : List Entry)
+        → IsTracing k progress.old (entry_at spot.now n (Align width) ∷ entry_at spot.now n (Tag p values arms.now default.now z) ∷ rest)
+        → IfOk result (λ seen. (flat_seen seen ≡ (labels.Union z, length (selected_types (arm_selected arms.now default.now z))))
+        × IsTracing k progress.new rest) }
+    ensures ends { (k : Known) → IsGround k ground.now → (n : ℕ) → IsSpot k spot.now n
+        → (p : PrimitiveValue) (values : Option (List ℤ)) (z : ℤ) (rest : List Entry)
+        → IsTracing k progress.old (entry_at spot.now n (Align width) ∷ entry_at spot.now n (Tag p values arms.now default.now z) ∷ rest)
+        → IsErrOf result halts.Here → IsEnded k progress.new }
+    ensures later { IfOk result (λ _. progress.old.next ≤ progress.new.next) }
+{
     gap(ground, progress, width, spot)?;
     let tag = item(ground, progress, spot)?;
     let armed = has_value(selected(arms, default, tag));
@@ -190,7 +318,9 @@ fn tagged<'a>(
 }
 
 // Whether an arm has a value.
-fn has_value(arm: Option<&Arm>) -> bool {
+fn has_value(arm: Option<&Arm>) -> bool
+    ensures { armed_count result ≡ length (selected_types (option_copied arm)) }
+{
     match arm {
         Some(arm) => arm.of.is_some(),
         None => false,
@@ -198,10 +328,13 @@ fn has_value(arm: Option<&Arm>) -> bool {
 }
 
 // How many octets a tag has.
-fn tag_width(tag: Option<&TypeDef>) -> u32 {
+fn tag_width(tag: Option<&TypeDef>) -> u32
+    ensures some { 0 < result }
+    ensures width { result ≡ width_by (option_copied tag) }
+{
     match tag {
         Some(TypeDef::Prim(prim)) => width_of(*prim) as u32,
-        _ => width_of(Primitive::Short) as u32,
+        _ => 2,
     }
 }
 
@@ -212,7 +345,19 @@ fn pointer<'a>(
     class: Class,
     to: TypeId,
     spot: &Spot<'_, 'a>,
-) -> Result<Seen<'a>, Halt> {
+) -> Result<Seen<'a>, Halt>
+    ensures goes { (k : Known) → IsGround k ground.now → (n : ℕ) → IsSpot k spot.now n → (cell : Option ℕ)
+        → IsFine k.graph class to.0 cell → (rest : List Entry)
+        → IsTracing k walker.old.progress (entry_at spot.now n (Align 4) ∷ entry_at spot.now n (Number class to.0 cell) ∷ rest)
+        → (names : Placed_cells) → IsNaming k walker.old.cells (named_by (Number class to.0 cell) ++ names)
+        → IfOk result (λ seen. (flat_seen seen ≡ (labels.Ptr cell, 0)) × (IsTracing k walker.new.progress rest
+        × HasNamed k walker.old.cells walker.new.cells (entry_at spot.now n (Number class to.0 cell) ∷ []) names)) }
+    ensures ends { (k : Known) → IsGround k ground.now → (n : ℕ) → IsSpot k spot.now n → (cell : Option ℕ)
+        → (rest : List Entry)
+        → IsTracing k walker.old.progress (entry_at spot.now n (Align 4) ∷ entry_at spot.now n (Number class to.0 cell) ∷ rest)
+        → IsErrOf result halts.Here → IsEnded k walker.new.progress }
+    ensures paid { IfOk result (λ _. IsPaid walker.old walker.new) }
+{
     gap(ground, &mut walker.progress, 4, spot)?;
     let number = count(ground, &mut walker.progress, spot)?;
     let cell = name_cell(&mut walker.cells, class, to, number)?;
@@ -224,7 +369,17 @@ fn context<'a>(
     ground: &Ground<'a>,
     progress: &mut Progress,
     spot: &Spot<'_, 'a>,
-) -> Result<Seen<'a>, Halt> {
+) -> Result<Seen<'a>, Halt>
+    ensures goes { (k : Known) → IsGround k ground.now → (n : ℕ) → IsSpot k spot.now n
+        → (attributes : ℕ) (id : List ℕ) → label_in (home_flats k.graph spot.now.home) n ≡ Some (labels.Context attributes id) → (rest : List Entry)
+        → IsTracing k progress.old (entry_at spot.now n (Align 4) ∷ entry_at spot.now n (Context attributes id) ∷ rest)
+        → IfOk result (λ seen. (flat_seen seen ≡ (labels.Ptr None, 0)) × IsTracing k progress.new rest) }
+    ensures ends { (k : Known) → IsGround k ground.now → (n : ℕ) → IsSpot k spot.now n
+        → (attributes : ℕ) (id : List ℕ) → label_in (home_flats k.graph spot.now.home) n ≡ Some (labels.Context attributes id) → (rest : List Entry)
+        → IsTracing k progress.old (entry_at spot.now n (Align 4) ∷ entry_at spot.now n (Context attributes id) ∷ rest)
+        → IsErrOf result halts.Here → IsEnded k progress.new }
+    ensures later { IfOk result (λ _. progress.old.next ≤ progress.new.next) }
+{
     gap(ground, progress, 4, spot)?;
     item(ground, progress, spot)?;
     Ok(Seen::Ptr(None))

@@ -1,5 +1,5 @@
 // How far the items of a log are traced.
-ghost use Rattle.std.specs.Prelude.{◌≡◌, ◌<◌, ◌≤◌, ◌+◌, ◌-◌, ◌^◌, ◌++◌, ℕ, List, ◌∷◌, drop, length, take, IfOk, IsErr, IsErrOf, None, OnOk, Option, min, reverse};
+ghost use Rattle.std.specs.Prelude.{◌≡◌, ◌<◌, ◌≤◌, ◌+◌, ◌-◌, ◌^◌, ◌++◌, ℕ, List, ◌∷◌, drop, length, take, IfOk, IsErrOf, None, OnOk, Option, min, reverse};
 ghost use Rattle.nd_value.specs.Tree.{Label};
 ghost use Rattle.nd_grammar.specs.Entry.{Align, Entry, Kind};
 ghost use Rattle.ndr_prim.specs.Context.{attributes_of, identifier_of};
@@ -59,9 +59,8 @@ pub(crate) enum Halt {
 
 impl From<Memory> for Halt {
     ghost use Rattle.std.specs.Prelude.{◌≡◌};
-    ghost use Rattle.ndr_trace.specs.declared.progress.Halt.TheVariants as halt;
 
-    ghost from_gives = { λ _ h. h ≡ halt.Memory };
+    ghost from_gives = { λ _ h. h ≡ halts.Memory };
 
     fn from(_: Memory) -> Halt {
         Halt::Memory
@@ -90,13 +89,13 @@ pub(crate) fn gap(
     ensures ends { (k : Known) → IsGround k ground.now → (n : ℕ) → IsSpot k spot.now n
         → (rest : List Entry) → IsTracing k progress.old (entry_at spot.now n (Align align) ∷ rest)
         → IsErrOf result halts.Here → IsEnded k progress.new }
-    ensures later { progress.old.next ≤ progress.new.next }
+    ensures later { IfOk result (λ _. progress.old.next ≤ progress.new.next) }
 {
     if progress.at % align == 0 {
         return Ok(());
     }
     if progress.next >= ground.items.len() {
-        return end(ground, progress, spot);
+        return Err(end(ground, progress, spot));
     }
     let Some(item) = ground.items.get(progress.next) else {
         unreachable!()
@@ -122,8 +121,7 @@ pub(crate) fn item(
     ensures next { IfOk result (λ _. progress.new.next ≡ progress.old.next + 1) }
 {
     if progress.next >= ground.items.len() {
-        end(ground, progress, spot)?;
-        return Ok(0);
+        return Err(end(ground, progress, spot));
     }
     let Some(item) = ground.items.get(progress.next) else {
         unreachable!()
@@ -217,16 +215,18 @@ fn pass(progress: &mut Progress, item: &Item)
 }
 
 // Ends the walk at a node that is refused or lacks octets; a value that disagrees with a variable has its path already.
-fn end(ground: &Ground<'_>, progress: &mut Progress, spot: &Spot<'_, '_>) -> Result<(), Halt>
-    ensures err { IsErr result }
+fn end(ground: &Ground<'_>, progress: &mut Progress, spot: &Spot<'_, '_>) -> Halt
     ensures lines { progress.new.lines ≡ progress.old.lines }
-    ensures path { ground.now.sought ≡ None → IsErrOf result halts.Here
+    ensures path { ground.now.sought ≡ None → result ≡ halts.Here
         → progress.new.path ≡ path_to (progress.old.path ++ name_text spot.now.name) (spot.now.top ∷ reverse spot.now.below.now.items) }
 {
-    if ground.sought.is_none() {
-        append_path(&mut progress.path, spot)?;
+    if ground.sought.is_some() {
+        return Halt::Here;
     }
-    Err(Halt::Here)
+    let Ok(()) = append_path(&mut progress.path, spot) else {
+        return Halt::Memory;
+    };
+    Halt::Here
 }
 
 /// Adds the path of a node.

@@ -1,6 +1,6 @@
 -- One item more has its line, and the next entry is due.
 -- `k` are the octets with the partial graph in which they are refused, `p` and `p1` how far a walk came, `m` is an entry, `i` an item, `z` its kind and value.
-use Rattle.std.proofs.Common.{◌≡◌, ◌⊎◌, inl, inr, ◌∙◌, ℕ, ◌+◌, ◌^◌, ◌<◌, ◌≤◌, ℤ, Bool, true, false, List, [], ◌∷◌, ◌++◌, drop, length, take, Some, None, refl, sym, ap, subst, append-nil, arith}
+use Rattle.std.proofs.Common.{◌≡◌, ◌⊎◌, inl, inr, ◌∙◌, ℕ, ◌+◌, ◌-◌, ◌^◌, ◌<◌, ◌≤◌, ℤ, Bool, true, false, List, [], ◌∷◌, ◌++◌, drop, length, take, Some, None, refl, sym, ap, subst, append-nil, arith}
 use Rattle.std.specs.Prelude.{min}
 use Rattle.std.specs.List.{slice_get}
 use Rattle.std.proofs.Math.Nat.{min-eq_left}
@@ -42,40 +42,39 @@ module _ (k : Known) where
       sym (append-nil (take n k.log)) ∙ ap (λ u. take n k.log ++ u) (sym (drop_past k.log n over)) ∙ take-append-drop n k.log in
       e ∙ ap shown whole
 
-  -- an item is left: it is that of the entry, and with its line the next entry is due
-  pub item_passed : (p p1 : Progress) (m : Entry) (rest : List Entry) (z : ItemKind × ℤ) (i : Item) → length k.fetched < 2 ^ 32
-      → (IsRendered k.order k.fetched k.numbering (placed p m) → its_item k.order k.fetched (placed p m) ≡ Some z) → IsTracing k p (m ∷ rest)
-      → slice_get k.log p.next ≡ Some i → p1.next ≡ p.next + 1 → p1.at ≡ min (i.at + i.len) (2 ^ 32 - 1) → p1.path ≡ p.path
-      → p1.lines ≡ p.lines ++ item_line k.setting k.graph i
-      → Took k.order k.fetched k.numbering k.here (placed p m) (end_to_end (p.at + size_at p.at m.kind) rest) z i (drop (p.next + 1) k.log) × IsTracing k p1 rest
-  item_passed p p1 m rest z i few item t got next at path lines = (one, whole)
-    where
-      one : Took k.order k.fetched k.numbering k.here (placed p m) (end_to_end (p.at + size_at p.at m.kind) rest) z i (drop (p.next + 1) k.log)
-      one =
-          took k.order k.fetched k.numbering k.here (placed p m) (end_to_end (p.at + size_at p.at m.kind) rest) z i (drop (p.next + 1) k.log) item
-          (subst (λ l. Stops k.order k.fetched k.numbering k.here (end_to_end p.at (m ∷ rest)) l) (drop_next k.log p.next i got) t.due)
+  -- an item is left: it is that of the entry
+  pub next_item : (p : Progress) (m : Entry) (rest : List Entry) (z : ItemKind × ℤ) (i : Item)
+      → (IsRendered k.order k.numbering k.fetched (placed p m) → its_item k.order k.fetched (placed p m) ≡ Some z) → IsTracing k p (m ∷ rest)
+      → slice_get k.log p.next ≡ Some i
+      → Took k.order k.fetched k.numbering k.here (placed p m) (end_to_end (p.at + size_at p.at m.kind) rest) z i (drop (p.next + 1) k.log)
+  next_item p m rest z i item t got =
+      took k.order k.fetched k.numbering k.here (placed p m) (end_to_end (p.at + size_at p.at m.kind) rest) z i (drop (p.next + 1) k.log) item
+      (subst (λ l. Stops k.order k.fetched k.numbering k.here (end_to_end p.at (m ∷ rest)) l) (drop_next k.log p.next i got) t.due)
 
+  -- with its line the next entry is due
+  pub item_passed : (p p1 : Progress) (m : Entry) (rest : List Entry) (z : ItemKind × ℤ) (i : Item) → i.at + i.len < 2 ^ 32
+      → Took k.order k.fetched k.numbering k.here (placed p m) (end_to_end (p.at + size_at p.at m.kind) rest) z i (drop (p.next + 1) k.log)
+      → IsTracing k p (m ∷ rest) → slice_get k.log p.next ≡ Some i → p1.next ≡ p.next + 1 → p1.at ≡ min (i.at + i.len) (2 ^ 32 - 1) → p1.path ≡ p.path
+      → p1.lines ≡ p.lines ++ item_line k.setting k.graph i → IsTracing k p1 rest
+  item_passed p p1 m rest z i few one t got next at path lines = record {
+    within = (let b = slice_get_within k.log p.next i got in omega (arith, next, b));
+    lines = more_lines p.next i p.lines p1.lines got t.lines lines ∙ ap (λ n. shown (take n k.log)) (sym next);
+    no_path = path ∙ t.no_path;
+    due =
+        subst (λ n. Stops k.order k.fetched k.numbering k.here (end_to_end p1.at rest) (drop n k.log)) (sym next)
+        (subst (λ a. Stops k.order k.fetched k.numbering k.here (end_to_end a rest) (drop (p.next + 1) k.log)) (sym place) one.goes_on);
+  }
+    where
       place : p1.at ≡ p.at + size_at p.at m.kind
       place =
           let a : i.at ≡ p.at = ap (λ (x : Item). x.at) one.is_item in
           let l : i.len ≡ size_at p.at m.kind = ap (λ (x : Item). x.len) one.is_item in
-          let within : p.at + size_at p.at m.kind ≤ length k.fetched = one.rendered.0 in
-          let small : i.at + i.len ≤ 2 ^ 32 - 1 = omega (arith, a, l, within, few) in
+          let small : i.at + i.len ≤ 2 ^ 32 - 1 = omega (arith, few) in
           at ∙ min-eq_left small ∙ omega (arith, a, l)
-
-      whole : IsTracing k p1 rest
-      whole = record {
-        within = (let b = slice_get_within k.log p.next i got in omega (arith, next, b));
-        lines = more_lines p.next i p.lines p1.lines got t.lines lines ∙ ap (λ n. shown (take n k.log)) (sym next);
-        no_path = path ∙ t.no_path;
-        due =
-            subst (λ n. Stops k.order k.fetched k.numbering k.here (end_to_end p1.at rest) (drop n k.log)) (sym next)
-            (subst (λ a. Stops k.order k.fetched k.numbering k.here (end_to_end a rest) (drop (p.next + 1) k.log)) (sym place) one.goes_on);
-      }
 
   -- no item is left: reading stopped at the entry, unless it stopped at an agreement
   pub item_ended : (p p1 : Progress) (m : Entry) (rest : List Entry) (z : ItemKind × ℤ)
-      → (IsRendered k.order k.fetched k.numbering (placed p m) → its_item k.order k.fetched (placed p m) ≡ Some z) → IsTracing k p (m ∷ rest)
+      → (IsRendered k.order k.numbering k.fetched (placed p m) → its_item k.order k.fetched (placed p m) ≡ Some z) → IsTracing k p (m ∷ rest)
       → length k.log ≤ p.next → p1.lines ≡ p.lines → ((is_test k.here.entry.kind ≡ true → ⊥) → p1.path ≡ entry_path k.setting k.graph m) → IsEnded k p1
   item_ended p p1 m rest z item t over lines path = record {
     lines = lines ∙ all_lines p.next p.lines over t.lines;
