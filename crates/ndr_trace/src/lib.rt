@@ -8,7 +8,9 @@ mod members;
 mod nodes;
 mod parameters;
 mod progress;
+mod pipes;
 mod search;
+mod sides;
 mod tracing;
 
 pub use tracing::{Traced, trace};

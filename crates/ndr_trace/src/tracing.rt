@@ -12,7 +12,7 @@ ghost use Rattle.ndr_decoder_laws.specs.verdict.InOrder.{HasOwnNumbers};
 ghost use Rattle.ndr_trace.specs.Traces.{IsTraceOf};
 
 use crate::cells::Cells;
-use crate::homes::walk_side;
+use crate::sides::walk_side;
 use crate::nodes::Walker;
 use crate::parameters::append_agreement;
 use crate::progress::{Ground, Halt, Progress};

@@ -1,0 +1,70 @@
+// Pipes, chunk by chunk.
+ghost use Rattle.std.specs.Prelude.{◌≡◌, ◌++◌, ℕ, List, IfOk, IsErrOf};
+ghost use Rattle.nd_types.specs.Table.{type_at};
+ghost use Rattle.nd_value.specs.declared.item.Home.TheVariants as homes;
+ghost use Rattle.nd_value.specs.Deferral.{Placed_cells};
+ghost use Rattle.nd_value.specs.Setting.{root_at};
+ghost use Rattle.nd_value.specs.Tree.{count as count_of};
+ghost use Rattle.nd_grammar.specs.Entry.{Entry};
+ghost use Rattle.nd_grammar.specs.Stream.{Cuts, kids_of, pipe_entries};
+ghost use Rattle.ndr_trace_laws.specs.Untested.{untested};
+ghost use Rattle.ndr_trace.specs.declared.progress.Halt.TheVariants as halts;
+ghost use Rattle.ndr_trace.specs.Homes.{IsRoot, IsSound};
+ghost use Rattle.ndr_trace.specs.Naming.{IsNaming, names_in};
+ghost use Rattle.ndr_trace.specs.Tracing.{IsEnded, IsGround, IsTracing, Known};
+
+use crate::members::at_end;
+use crate::nodes::{Walker, walk_level};
+use crate::progress::{Ground, Halt, Spot, count, gap};
+use nd_types::{RootDef, TypeDef};
+use nd_value::Home;
+use ndr_explain::{HomeName, Level};
+
+/// Walks over the chunks of a pipe.
+pub(crate) fn walk_pipe<'a>(
+    ground: &Ground<'a>,
+    walker: &mut Walker<'a>,
+    at: u32,
+    root: RootDef<'a>,
+) -> Result<(), Halt>
+    ensures goes { (k : Known) → IsGround k ground.now → IsSound k → IsRoot k at root.entry → (cut : List ℕ)
+        → Cuts (count_of (kids_of (root_at k.graph at))) cut → (rest : List Entry) (names : Placed_cells)
+        → let due : List Entry = untested (pipe_entries k.setting.table (homes.Root at) (type_at k.setting.table root.of.0) cut (root_at k.graph at)) in
+        IsTracing k walker.old.progress (due ++ rest) → IsNaming k walker.old.cells (names_in due ++ names)
+        → IfOk result (λ _. IsTracing k walker.new.progress rest × IsNaming k walker.new.cells names) }
+    ensures ends { (k : Known) → IsGround k ground.now → IsSound k → IsRoot k at root.entry → (cut : List ℕ)
+        → Cuts (count_of (kids_of (root_at k.graph at))) cut → (rest : List Entry) (names : Placed_cells)
+        → let due : List Entry = untested (pipe_entries k.setting.table (homes.Root at) (type_at k.setting.table root.of.0) cut (root_at k.graph at)) in
+        IsTracing k walker.old.progress (due ++ rest) → IsNaming k walker.old.cells (names_in due ++ names)
+        → IsErrOf result halts.Here → IsEnded k walker.new.progress }
+{
+    let Some(TypeDef::Pipe { elem }) = ground.interface.types.get(root.of.0 as usize) else {
+        return Ok(());
+    };
+    let home = Home::Root(at);
+    let name = HomeName::Word(root.name);
+    let below = Vec::new(ground.alloc);
+    let spot = Spot {
+        home,
+        name,
+        top: Level::Whole { of: root.of },
+        below: &below,
+    };
+    at_end(ground, &walker.progress)?;
+    let mut before = 0u32;
+    loop {
+        gap(ground, &mut walker.progress, 4, &spot)?;
+        let size = count(ground, &mut walker.progress, &spot)?;
+        if size == 0 {
+            return Ok(());
+        }
+        let elements = Level::Elements {
+            of: *elem,
+            offset: before,
+            at: 0,
+            size,
+        };
+        walk_level(ground, walker, home, name, 0, elements)?;
+        before = before.saturating_add(size);
+    }
+}
