@@ -7,3 +7,4 @@ pub mod OwnItems
 pub mod ByType
 pub mod Parts
 pub mod NamedCells
+pub mod HomeNames
