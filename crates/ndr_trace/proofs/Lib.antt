@@ -6,5 +6,7 @@ pub mod LevelWalk
 pub mod OwnItems
 pub mod ByType
 pub mod Parts
+pub mod ChunkWalk
+pub mod PipeStart
 pub mod NamedCells
 pub mod HomeNames
