@@ -8,5 +8,6 @@ pub mod ByType
 pub mod Parts
 pub mod ChunkWalk
 pub mod PipeStart
+pub mod Ending
 pub mod NamedCells
 pub mod HomeNames

@@ -182,7 +182,8 @@ fn own_items<'a>(
         }
         Some(TypeDef::Pointer { class, to }) => pointer(ground, walker, *class, *to, spot),
         Some(TypeDef::Context) => context(ground, &mut walker.progress, spot),
-        _ => Ok(Seen::Ptr(None)),
+        Some(TypeDef::Pipe { .. }) => Ok(Seen::Ptr(None)),
+        None => Ok(Seen::Ptr(None)),
     }
 }
 
