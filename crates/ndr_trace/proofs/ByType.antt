@@ -2,7 +2,7 @@
 -- `k` are the octets with the partial graph in which they are refused, `s` is where the node is, `p` and `p1` are how far the walk came before and
 -- afterwards, `a` and `a1` the cells, `r` is what the function gives, `w` a width.
 use Rattle.std.proofs.Common.{◌≡◌, ◌∙◌, ℕ, ◌+◌, ◌<◌, ◌≤◌, ℤ, Bool, true, false, List, [], ◌∷◌, ◌++◌, length, Option, Some, None, Result, refl, sym, ap, ap₂, subst, arith}
-use Rattle.std.specs.Prelude.{◌&&◌, IfOk, eqb, is_none}
+use Rattle.std.specs.Prelude.{◌&&◌, Err, IfOk, IsOk, eqb, is_none}
 use Rattle.std.proofs.lemmas.Bool.{and_parts, eqb-true}
 use Rattle.std.proofs.lemmas.Result.{IfOk-weaker}
 use Rattle.core.specs.Option.{unwrap_or}
@@ -67,6 +67,13 @@ module _ (k : Known) (s : Spot) (n max t : ℕ) (l : Label) (ks : Trees) (node :
   array_ends elem bound de f =
       let (m, (offset, (le, go))) = array_case k s.home n p rest ready t (type_at k.setting.table t) l ks tr elem bound true de in
       f offset m (count ks) rest go
+
+  pub any_array_ends : {E : Type 0} (elem : TypeId) (bound : Option ℕ) (varying : Bool) → type_at k.setting.table t ≡ Some (def.Array elem bound varying)
+      → (r : Result Seen Halt) (f : Halt) → (varying ≡ false → IsOk r)
+      → (varying ≡ true → (offset limit actual : ℕ) (later : List Entry)
+      → IsTracing k p (entry_at s n (Align 4) ∷ entry_at s n (Offset false offset) ∷ entry_at s n (Actual false offset limit actual) ∷ later) → r ≡ Err f → E) → r ≡ Err f → E
+  any_array_ends elem bound true de r f whole ends e = array_ends elem bound de (ends refl) e
+  any_array_ends elem bound false de r f whole ends e = let z : IsOk (Err f) = subst IsOk e (whole refl) in cc
 
   pub text_ends : {E : Type 0} (elem : TypeId) (bound : Option ℕ) → type_at k.setting.table t ≡ Some (def.Text elem bound)
       → ((m : ℕ) (os : List ℕ) → label_in (home_flats k.graph s.home) n ≡ Some (tree.Text m os) → (later : List Entry)
@@ -230,6 +237,15 @@ module _ (k : Known) (s : Spot) (n max t : ℕ) (l : Label) (ks : Trees) (node :
         (o.0 ∙ ap₂ (λ x y. (tree.Arr x 0, y)) same (same ∙ sym all) ∙ ap (λ x. (tree.Arr m x, count ks)) (sym no_offset))
         (subst (λ q. IsTracing k q rest) (sym o.1) go))
         f
+
+    pub any_array_goes : (elem : TypeId) (bound : Option ℕ) (varying : Bool) → type_at k.setting.table t ≡ Some (def.Array elem bound varying) → (limit : ℕ)
+        → limit ≡ unwrap_or bound max → hoists k.setting.table t ≡ hoists_by (hoists k.setting.table) (type_at k.setting.table t)
+        → (varying ≡ false → IfOk r (λ seen. (flat_seen seen ≡ (tree.Arr limit 0, limit)) × (p1 ≡ p)))
+        → (varying ≡ true → (offset most actual : ℕ) (later : List Entry)
+        → IsTracing k p (entry_at s n (Align 4) ∷ entry_at s n (Offset false offset) ∷ entry_at s n (Actual false offset most actual) ∷ later)
+        → IfOk r (λ seen. (flat_seen seen ≡ (tree.Arr limit offset, actual)) × IsTracing k p1 later)) → IfOk r (Comes a)
+    any_array_goes elem bound true de limit is legal fixed goes = array_goes elem bound de limit is legal (goes refl)
+    any_array_goes elem bound false de limit is legal fixed goes = fixed_goes elem bound de limit is legal (fixed refl)
 
 -- where no pointer became pending
 pub paid_same : (a b : Walker) (r : Result Seen Halt) → b.cells ≡ a.cells → IfOk r (λ _. a.progress.next ≤ b.progress.next) → IfOk r (λ _. IsPaid a b)

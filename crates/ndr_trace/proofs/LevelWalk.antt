@@ -1,7 +1,7 @@
 -- A walk from one node to the next.
 -- `k` are the octets with the partial graph in which they are refused, `h` is a home, `L` a level, `Ls` are those around it, the innermost first, `w` are
 -- the values that are left, `t` is the type of the first, `l` its label, `ks` are its children, `us` the values after it, `inner` is the children's level.
-use Rattle.std.proofs.Common.{◌≡◌, inl, ◌∙◌, le_trans, ℕ, ◌+◌, ◌<◌, ◌≤◌, zero, suc, List, [], ◌∷◌, ◌++◌, drop, length, reverse, Option, Some, None, refl, sym, ap, ap₂, subst, append_assoc, append-nil, arith}
+use Rattle.std.proofs.Common.{◌≡◌, inl, ◌∙◌, le_trans, ℕ, ℤ, ◌+◌, ◌<◌, ◌≤◌, zero, suc, List, [], ◌∷◌, ◌++◌, drop, length, reverse, Option, Some, None, refl, sym, ap, ap₂, subst, append_assoc, append-nil, arith}
 use Rattle.std.proofs.Common.{length-append}
 use Rattle.std.specs.Prelude.{IsSome, flat_map}
 use Rattle.std.specs.List.{slice_get}
@@ -42,7 +42,7 @@ leaf_types : (d : Option TypeDef) (c : Option ℕ) (ks : Trees) → child_types 
 leaf_types None c ks = refl
 leaf_types (Some _) c ks = refl
 
-num_types : (d : Option TypeDef) (z : _) (ks : Trees) → child_types d (tree.Num z) ks ≡ []
+num_types : (d : Option TypeDef) (z : ℤ) (ks : Trees) → child_types d (tree.Num z) ks ≡ []
 num_types None z ks = refl
 num_types (Some _) z ks = refl
 

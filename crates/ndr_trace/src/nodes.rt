@@ -1,7 +1,7 @@
 // The items of nodes, one node after the other.
 ghost use Rattle.std.specs.Prelude.{reverse, ◌≡◌, ◌<◌, ◌≤◌, ◌+◌, ◌++◌, ◌∷◌, [], ℕ, ℤ, true, false, List, length, Option, None, Some, option_copied, IfOk, IsErrOf, IsOk};
 ghost use Rattle.nd_types.specs.declared.types.Primitive.{Primitive as PrimitiveValue};
-ghost use Rattle.nd_types.specs.Table.{selected as arm_selected};
+ghost use Rattle.nd_types.specs.Table.{selected as arm_selected, type_at};
 ghost use Rattle.nd_value.specs.Deferral.{Placed_cells};
 ghost use Rattle.nd_value.specs.Nodes.{selected_types};
 ghost use Rattle.nd_value.specs.Tree.{Label, Trees, count as count_of};
@@ -20,7 +20,7 @@ use crate::members::{reach, seen_node};
 use crate::progress::{Ground, Halt, Progress, Spot, count, gap, item};
 use crate::search::Search;
 use nd_flat::Seen;
-use nd_types::{Arm, Arms, Class, Fields, TypeDef, TypeId};
+use nd_types::{Arm, Arms, Class, Fields, TypeDef, TypeId, Types};
 use nd_value::Home;
 use ndr_explain::{HomeName, Level, Levels, children, next_levels, type_of};
 use ndr_prim::width_of;
@@ -177,7 +177,7 @@ fn own_items<'a>(
                 ..
             },
         ) => {
-            let width = tag_width(ground.interface.types.get(tag.0 as usize));
+            let width = tag_width(&ground.interface.types, *tag);
             tagged(ground, &mut walker.progress, width, arms, default, spot)
         }
         Some(TypeDef::Pointer { class, to }) => pointer(ground, walker, *class, *to, spot),
@@ -328,12 +328,12 @@ fn has_value(arm: Option<&Arm>) -> bool
     }
 }
 
-// How many octets a tag has.
-fn tag_width(tag: Option<&TypeDef>) -> u64
+// How many octets a tag of a type has.
+fn tag_width(types: &Types, tag: TypeId) -> u64
     ensures some { 0 < result }
-    ensures width { result ≡ width_by (option_copied tag.entry) }
+    ensures width { result ≡ width_by (type_at types.now tag.0) }
 {
-    match tag {
+    match types.get(tag.0 as usize) {
         Some(TypeDef::Prim(prim)) => width_of(*prim) as u64,
         _ => 2,
     }

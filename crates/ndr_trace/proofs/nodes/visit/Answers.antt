@@ -1,8 +1,10 @@
 use Rattle.std.proofs.Common.{sym, subst, ◌++◌}
+use Rattle.ndr_trace.specs.declared.progress.Halt.TheVariants as halts
 use Rattle.ndr_trace.specs.Naming.{IsNaming, names_in}
 use Rattle.ndr_trace.specs.Tracing.{IsTracing}
 use Rattle.ndr_trace.specs.Walking.{own_due}
 use Rattle.ndr_trace.proofs.LevelWalk.{ended_there, named_around, paid_around, ready_after}
+use Rattle.ndr_trace.proofs.Passing.{err_as}
 use Rattle.ndr_trace.proofs.nodes.visit.Goals as goal
 
 pub returns-clause-goes : goal.returns-clause-goes
@@ -24,3 +26,17 @@ returns-clause-goes c k u n l ks node rest t names nm =
 pub returns-clause-paid : goal.returns-clause-paid
 returns-clause-paid c =
     paid_around c.args.walker.now c.reach.new.walker c.own_items.new.walker c.seen_node.new.walker c.reach.ensures.same c.seen_node.ensures.same c.in_ok-seen.ensures.paid
+
+pub returns-in_err-reach-clause-ends : goal.returns-in_err-reach-clause-ends
+returns-in_err-reach-clause-ends c k u n l ks node rest t names nm e =
+    ended_there k c.args.ground.now u c.args.walker.now.progress c.reach.new.walker.progress _ c.reach.ensures.same.0 t
+    (c.in_err-reach.ensures.ends (err_as c.from_residual.result c.in_err-reach.field-0.0 halts.Here c.from_residual.ensures.1 e))
+
+pub returns-in_err-seen-clause-ends : goal.returns-in_err-seen-clause-ends
+returns-in_err-seen-clause-ends c k u n l ks node rest t names nm e =
+    let due = own_due k c.args.spot.now.home n c.args.of.0 l ks in
+    let same = c.reach.ensures.same in
+    let ready = ready_after k c.args.ground.now u c.args.walker.now.progress c.reach.new.walker.progress same.0 c.in_ok-reach.ensures.ready in
+    c.in_err-seen.ensures.ends k u n l ks node ready rest (subst (λ p. IsTracing k p (due ++ rest)) (sym same.0) t) names
+    (subst (λ a. IsNaming k a (names_in due ++ names)) (sym same.1) nm)
+    (err_as c.from_residual-in_err-seen.result c.in_err-seen.field-0.0 halts.Here c.from_residual-in_err-seen.ensures.1 e)

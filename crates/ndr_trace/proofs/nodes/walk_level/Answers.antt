@@ -1,7 +1,9 @@
 use Rattle.std.proofs.Common.{reverse, refl, sym, append-nil, ap, ap₂, le_refl, subst}
 use Rattle.ndr_explain.specs.Cursors.{level_paths, level_types, name_text}
+use Rattle.ndr_trace.specs.declared.progress.Halt.TheVariants as halts
 use Rattle.ndr_trace.specs.Walking.{ComesTo, values_due}
 use Rattle.ndr_trace.proofs.LevelWalk.{begins_walk, one_turn, paid_on}
+use Rattle.ndr_trace.proofs.Passing.{err_as}
 use Rattle.ndr_trace.proofs.nodes.walk_level.Goals as goal
 
 pub loop-turn-init : goal.loop-turn-init
@@ -31,3 +33,12 @@ returns-in_default-clause-goes c some k u n left there rest tr names nm =
     subst (λ r. ComesTo k c.args.home c.args.max (name_text c.args.name) due rest names c.args.walker.now c.take_node.new.walker r) c.in_default.is
     (one_turn k c.args.home c.args.max (name_text c.args.name) due rest names c.args.walker.now c.loop-turn.walker c.take_node.new.walker c.loop-turn.levels g
     c.in_ok-next.field-0 (c.in_ok-next.ensures.goes g.some k u g.node g.left g.there rest g.tracing names g.named.naming))
+
+pub returns-in_err-next-clause-ends : goal.returns-in_err-next-clause-ends
+returns-in_err-next-clause-ends c some k u n left there rest tr names nm e =
+    let g = c.loop-turn.invariant.here some k u n left there rest tr names nm in
+    c.in_err-next.ensures.ends g.some k u g.node g.left g.there rest g.tracing names g.named.naming
+    (err_as c.from_residual.result c.in_err-next.field-0.0 halts.Here c.from_residual.ensures.1 e)
+
+pub returns-in_default-clause-paid : goal.returns-in_default-clause-paid
+returns-in_default-clause-paid c = paid_on c.args.walker.now c.loop-turn.walker c.take_node.new.walker c.loop-turn.invariant.paid c.in_ok-next.ensures.paid
