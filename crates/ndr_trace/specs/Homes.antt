@@ -118,7 +118,7 @@ pub record IsNext (k : Known) (u : Walker) (next : Pending) (due : List Due) (re
 -- ## Roots
 
 -- octets of a side of a legal interface
-pub record IsSound (k : Known) : Type 0 where
+pub record IsPart (k : Known) : Type 0 where
   pub legal : IsLegalSide k.setting
   pub partial : IsPartial k.setting k.graph
 

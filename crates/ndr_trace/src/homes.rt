@@ -12,7 +12,7 @@ ghost use Rattle.nd_grammar.specs.Entry.{Entry};
 ghost use Rattle.text_grammar.specs.Paths.{home_value};
 ghost use Rattle.ndr_trace.specs.Walking.{values_due};
 ghost use Rattle.ndr_trace.specs.declared.progress.Halt.TheVariants as halts;
-ghost use Rattle.ndr_trace.specs.Homes.{HasHome, HasPassed, IsAwaiting, IsFront, IsNext, IsRoot, IsSound, direct_of, home_due};
+ghost use Rattle.ndr_trace.specs.Homes.{HasHome, HasPassed, IsAwaiting, IsFront, IsNext, IsRoot, IsPart, direct_of, home_due};
 ghost use Rattle.ndr_trace.specs.Naming.{IsNaming, names_in};
 ghost use Rattle.ndr_trace.specs.Tracing.{IsEnded, IsGround, IsTracing, Known};
 
@@ -32,10 +32,10 @@ pub(crate) fn walk_root<'a>(
     at: u32,
     root: RootDef<'a>,
 ) -> Result<(), Halt>
-    ensures goes { (k : Known) → IsGround k ground.now → IsSound k → IsRoot k at root.entry → (due : List Due) (rest : List Entry) (names : Placed_cells)
+    ensures goes { (k : Known) → IsGround k ground.now → IsPart k → IsRoot k at root.entry → (due : List Due) (rest : List Entry) (names : Placed_cells)
         → walker.old.cells.pending.items ≡ [] → IsAwaiting k walker.old (due_root at ∷ due) rest names
         → IfOk result (λ _. (walker.new.cells.pending.items ≡ []) × IsAwaiting k walker.new due rest names) }
-    ensures ends { (k : Known) → IsGround k ground.now → IsSound k → IsRoot k at root.entry → (due : List Due) (rest : List Entry) (names : Placed_cells)
+    ensures ends { (k : Known) → IsGround k ground.now → IsPart k → IsRoot k at root.entry → (due : List Due) (rest : List Entry) (names : Placed_cells)
         → walker.old.cells.pending.items ≡ [] → IsAwaiting k walker.old (due_root at ∷ due) rest names
         → IsErrOf result halts.Here → IsEnded k walker.new.progress }
 {
@@ -53,10 +53,10 @@ fn walk_own<'a>(
     at: u32,
     root: RootDef<'a>,
 ) -> Result<(), Halt>
-    ensures goes { (k : Known) → IsGround k ground.now → IsSound k → IsRoot k at root.entry → (due : List Due) (rest : List Entry) (names : Placed_cells)
+    ensures goes { (k : Known) → IsGround k ground.now → IsPart k → IsRoot k at root.entry → (due : List Due) (rest : List Entry) (names : Placed_cells)
         → walker.old.cells.pending.items ≡ [] → IsAwaiting k walker.old (due_root at ∷ due) rest names
         → IfOk result (λ _. IsAwaiting k walker.new due rest names) }
-    ensures ends { (k : Known) → IsGround k ground.now → IsSound k → IsRoot k at root.entry → (due : List Due) (rest : List Entry) (names : Placed_cells)
+    ensures ends { (k : Known) → IsGround k ground.now → IsPart k → IsRoot k at root.entry → (due : List Due) (rest : List Entry) (names : Placed_cells)
         → walker.old.cells.pending.items ≡ [] → IsAwaiting k walker.old (due_root at ∷ due) rest names
         → IsErrOf result halts.Here → IsEnded k walker.new.progress }
 {
@@ -84,11 +84,11 @@ fn direct_referent(interface: &Interface, of: TypeId) -> Option<TypeId>
 
 // Walks over the referent of a top-level reference pointer.
 fn walk_direct<'a>(ground: &Ground<'a>, walker: &mut Walker<'a>, to: TypeId) -> Result<(), Halt>
-    ensures goes { (k : Known) → IsGround k ground.now → IsSound k → (at : ℕ) (root : Root) → slice_get (root_list k.setting) at ≡ Some root
+    ensures goes { (k : Known) → IsGround k ground.now → IsPart k → (at : ℕ) (root : Root) → slice_get (root_list k.setting) at ≡ Some root
         → type_at k.setting.table root.of ≡ Some (def.Pointer Ref to) → (due : List Due) (rest : List Entry) (names : Placed_cells)
         → walker.old.cells.pending.items ≡ [] → IsAwaiting k walker.old (due_root at ∷ due) rest names
         → IfOk result (λ _. IsAwaiting k walker.new due rest names) }
-    ensures ends { (k : Known) → IsGround k ground.now → IsSound k → (at : ℕ) (root : Root) → slice_get (root_list k.setting) at ≡ Some root
+    ensures ends { (k : Known) → IsGround k ground.now → IsPart k → (at : ℕ) (root : Root) → slice_get (root_list k.setting) at ≡ Some root
         → type_at k.setting.table root.of ≡ Some (def.Pointer Ref to) → (due : List Due) (rest : List Entry) (names : Placed_cells)
         → walker.old.cells.pending.items ≡ [] → IsAwaiting k walker.old (due_root at ∷ due) rest names
         → IsErrOf result halts.Here → IsEnded k walker.new.progress }
@@ -173,10 +173,10 @@ fn turn(pending: &mut Vec<Pending>, from: usize)
 
 // Walks over the referents that are pending, each followed by those that it makes due.
 fn walk_referents<'a>(ground: &Ground<'a>, walker: &mut Walker<'a>) -> Result<(), Halt>
-    ensures goes { (k : Known) → IsGround k ground.now → IsSound k → (due : List Due) (rest : List Entry) (names : Placed_cells)
+    ensures goes { (k : Known) → IsGround k ground.now → IsPart k → (due : List Due) (rest : List Entry) (names : Placed_cells)
         → IsAwaiting k walker.old due rest names
         → IfOk result (λ _. (walker.new.cells.pending.items ≡ []) × IsAwaiting k walker.new due rest names) }
-    ensures ends { (k : Known) → IsGround k ground.now → IsSound k → (due : List Due) (rest : List Entry) (names : Placed_cells)
+    ensures ends { (k : Known) → IsGround k ground.now → IsPart k → (due : List Due) (rest : List Entry) (names : Placed_cells)
         → IsAwaiting k walker.old due rest names → IsErrOf result halts.Here → IsEnded k walker.new.progress }
 {
     while let Some(next) = walker.cells.pending.pop() {
@@ -191,9 +191,9 @@ fn walk_referent<'a>(
     walker: &mut Walker<'a>,
     next: Pending,
 ) -> Result<(), Halt>
-    ensures goes { (k : Known) → IsGround k ground.now → IsSound k → (due : List Due) (rest : List Entry) (names : Placed_cells)
+    ensures goes { (k : Known) → IsGround k ground.now → IsPart k → (due : List Due) (rest : List Entry) (names : Placed_cells)
         → IsNext k walker.old next due rest names → IfOk result (λ _. IsAwaiting k walker.new due rest names) }
-    ensures ends { (k : Known) → IsGround k ground.now → IsSound k → (due : List Due) (rest : List Entry) (names : Placed_cells)
+    ensures ends { (k : Known) → IsGround k ground.now → IsPart k → (due : List Due) (rest : List Entry) (names : Placed_cells)
         → IsNext k walker.old next due rest names → IsErrOf result halts.Here → IsEnded k walker.new.progress }
     ensures paid { IfOk result (λ _. (walker.old.progress.next ≤ walker.new.progress.next)
         × (length walker.new.cells.pending.items + walker.old.progress.next ≤ length walker.old.cells.pending.items + walker.new.progress.next)) }
