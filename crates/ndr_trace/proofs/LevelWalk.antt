@@ -1,9 +1,9 @@
 -- A walk from one node to the next.
 -- `k` are the octets with the partial graph in which they are refused, `h` is a home, `L` a level, `Ls` are those around it, the innermost first, `w` are
 -- the values that are left, `t` is the type of the first, `l` its label, `ks` are its children, `us` the values after it, `inner` is the children's level.
-use Rattle.std.proofs.Common.{◌≡◌, ◌∙◌, ℕ, ◌+◌, ◌<◌, ◌≤◌, zero, suc, List, [], ◌∷◌, ◌++◌, drop, length, reverse, Option, Some, None, refl, sym, ap, ap₂, subst, append_assoc, append-nil, arith}
+use Rattle.std.proofs.Common.{◌≡◌, inl, ◌∙◌, le_trans, ℕ, ◌+◌, ◌<◌, ◌≤◌, zero, suc, List, [], ◌∷◌, ◌++◌, drop, length, reverse, Option, Some, None, refl, sym, ap, ap₂, subst, append_assoc, append-nil, arith}
 use Rattle.std.proofs.Common.{length-append}
-use Rattle.std.specs.Prelude.{flat_map}
+use Rattle.std.specs.Prelude.{IsSome, flat_map}
 use Rattle.std.specs.List.{slice_get}
 use Rattle.std.proofs.lemmas.Grind.{flat_map-append}
 use Rattle.nd_lemmas.proofs.Lists.{get_in_front}
@@ -25,13 +25,16 @@ use Rattle.ndr_explain.specs.Cursors.{AreLevelsOf, HasChild, IsChildLevel, IsLev
 use Rattle.ndr_explain.proofs.LevelPaths.{path_first}
 use Rattle.ndr_explain.proofs.Walks.{ComesAfter, after_step, path_here, path_later}
 use Rattle.ndr_trace_laws.proofs.Nodes.{after_own}
+use Rattle.ndr_trace.proofs.Passing.{all_lines}
 use Rattle.ndr_trace.specs.declared.cells.Cells.{Cells}
 use Rattle.ndr_trace.specs.declared.cells.Pending.{Pending}
 use Rattle.ndr_trace.specs.declared.nodes.Walker.{Walker}
+use Rattle.ndr_trace.specs.declared.progress.Ground.{Ground}
+use Rattle.ndr_trace.specs.declared.progress.Progress.{Progress}
 use Rattle.ndr_trace.specs.declared.progress.Spot.{Spot}
 use Rattle.ndr_trace.specs.Naming.{HasNamed, IsNaming, named_by, names_in, pending_by, pending_in}
-use Rattle.ndr_trace.specs.Tracing.{IsSpot, IsTracing, Known}
-use Rattle.ndr_trace.specs.Walking.{AreOwn, AreThere, ComesTo, GoesOn, IsNode, IsOwn, IsPaid, IsSeen, own_due, values_due}
+use Rattle.ndr_trace.specs.Tracing.{IsEnded, IsGround, IsSpot, IsTracing, Known}
+use Rattle.ndr_trace.specs.Walking.{AreOwn, AreThere, ComesTo, GoesOn, IsNode, IsOwn, IsPaid, IsReady, IsSeen, own_due, values_due}
 
 -- ## What a node says stands for its label
 
@@ -267,7 +270,7 @@ module _ (k : Known) (s : Spot) (max : ℕ) (L : Level) (Ls : List Level) (n : �
       → IsTracing k before.progress (values_due k s.home (types_from L Ls) n (more (node l ks) us) ++ rest)
       → IsNaming k before.cells (names_in (values_due k s.home (types_from L Ls) n (more (node l ks) us)) ++ names)
       → ComesTo k s.home max (name_text s.name) (values_due k s.home (types_from L Ls) n (more (node l ks) us)) rest names before after r
-  after_node_is l ks us there tr nm = by_levels r (next (has_child k s.home max (name_text s.name) L Ls n l ks us t first some there f inner (seen_first there tr nm) level))
+  after_node_is l ks us there tr nm = by_levels r (next (has_child k s.home max (name_text s.name) L Ls n l ks us t first some there f inner visited.0 level))
     where
       due_first : values_due k s.home (types_from L Ls) n (more (node l ks) us)
           ≡ own_due k s.home n t l ks ++ values_due k s.home (child_types (type_at k.setting.table t) l ks ++ types_after (L ∷ Ls)) (n + 1) (joined ks us)
@@ -334,28 +337,25 @@ module _ (k : Known) (s : Spot) (max : ℕ) (L : Level) (Ls : List Level) (n : �
 -- ## Turns
 
 -- no entry is passed yet
-pub begins_walk : (k : Known) (h : Home) (max : ℕ) (name : List ℕ) (L : Level) (Ls : List Level) (s : Levels) → s.top ≡ L → reverse s.below.items ≡ Ls
-    → 0 < length (level_types L) → (n : ℕ) (left : Trees) → AreThere k h max (types_from L Ls) (paths_from name L Ls) n left → (rest : List Entry) (names : Placed_cells) (u : Walker)
-    → IsTracing k u.progress (values_due k h (types_from L Ls) n left ++ rest) → IsNaming k u.cells (names_in (values_due k h (types_from L Ls) n left) ++ names)
-    → GoesOn k h max name (values_due k h (types_from L Ls) n left) rest names u u s
-begins_walk k h max name L Ls s top below some n left there rest names u tr nm =
-    let types : types_from L Ls ≡ types_from s.top (reverse s.below.items) = ap₂ types_from (sym top) (sym below) in
-    let ways : paths_from name L Ls ≡ paths_from name s.top (reverse s.below.items) = ap₂ (paths_from name) (sym top) (sym below) in
-    record {
-      some = subst (λ (M : Level). 0 < length (level_types M)) (sym top) some;
-      node = n;
-      left = left;
-      there =
-          subst (λ ts. AreThere k h max ts (paths_from name s.top (reverse s.below.items)) n left) types (subst (λ ps. AreThere k h max (types_from L Ls) ps n left) ways there);
-      passed = [];
-      split = ap (λ ts. values_due k h ts n left) types;
-      tracing = subst (λ ts. IsTracing k u.progress (values_due k h ts n left ++ rest)) types tr;
-      named = record {
-        naming = subst (λ ts. IsNaming k u.cells (names_in (values_due k h ts n left) ++ names)) types nm;
-        pending = sym (append-nil u.cells.pending.items);
-        stands = refl;
-      };
-    }
+pub begins_walk : (k : Known) (h : Home) (max : ℕ) (name : List ℕ) (types : List ℕ) (ways : List (List ℕ)) (s : Levels) → types ≡ types_from s.top (reverse s.below.items)
+    → ways ≡ paths_from name s.top (reverse s.below.items) → 0 < length (level_types s.top) → (n : ℕ) (left : Trees) → AreThere k h max types ways n left
+    → (rest : List Entry) (names : Placed_cells) (u : Walker) → IsTracing k u.progress (values_due k h types n left ++ rest)
+    → IsNaming k u.cells (names_in (values_due k h types n left) ++ names) → GoesOn k h max name (values_due k h types n left) rest names u u s
+begins_walk k h max name types ways s same same_ways some n left there rest names u tr nm = record {
+  some = some;
+  node = n;
+  left = left;
+  there =
+      subst (λ ts. AreThere k h max ts (paths_from name s.top (reverse s.below.items)) n left) same (subst (λ ps. AreThere k h max types ps n left) same_ways there);
+  passed = [];
+  split = ap (λ ts. values_due k h ts n left) same;
+  tracing = subst (λ ts. IsTracing k u.progress (values_due k h ts n left ++ rest)) same tr;
+  named = record {
+    naming = subst (λ ts. IsNaming k u.cells (names_in (values_due k h ts n left) ++ names)) same nm;
+    pending = sym (append-nil u.cells.pending.items);
+    stands = refl;
+  };
+}
 
 named_on : (k : Known) (a b c : Cells) (xs ys : List Entry) (more names : Placed_cells) → HasNamed k a b xs more → HasNamed k b c ys names → HasNamed k a c (xs ++ ys) names
 named_on k a b c xs ys more names g h = record {
@@ -384,3 +384,58 @@ one_turn k h max name due rest names start mid after s g (Some m) c = record {
   tracing = c.tracing;
   named = named_on k start.cells mid.cells after.cells g.passed c.passed _ _ g.named c.named;
 }
+
+pub paid_on : (a b c : Walker) → IsPaid a b → IsPaid b c → IsPaid a c
+paid_on a b c g h = (le_trans g.0 h.0, (let g1 = g.1 in let h1 = h.1 in omega (arith, g1, h1)))
+
+-- ## Around a node
+
+pub ready_after : (k : Known) (u : Ground) → IsGround k u → (p p1 : Progress) → p1 ≡ p → (IsSome u.sought → p.next < length u.items.now.items) → IsReady k p1
+ready_after k u g p p1 e f t = subst (λ (q : Progress). q.next < length k.log) (sym e) (subst (λ xs. p.next < length xs) g.items (f (g.seeks t)))
+
+pub ended_there : (k : Known) (u : Ground) → IsGround k u → (p p1 : Progress) (ms : List Entry) → p1 ≡ p → IsTracing k p ms
+    → IsSome u.sought × (length u.items.now.items ≤ p.next) → IsEnded k p1
+ended_there k u g p p1 ms e t over = record {
+  lines = ap (λ (q : Progress). q.lines) e ∙ all_lines k p.next p.lines (subst (λ xs. length xs ≤ p.next) g.items over.1) t.lines;
+  path = inl (g.sought over.0);
+}
+
+pub named_around : (k : Known) (a a1 a2 a3 : Cells) (due : List Entry) (names : Placed_cells) → a1 ≡ a → a3 ≡ a2 → HasNamed k a1 a2 due names → HasNamed k a a3 due names
+named_around k a a1 a2 a3 due names e f g = subst (λ x. HasNamed k x a3 due names) e (subst (λ x. HasNamed k a1 x due names) (sym f) g)
+
+pub paid_around : (a a1 a2 a3 : Walker) → (a1.progress ≡ a.progress) × (a1.cells ≡ a.cells) → (a3.progress ≡ a2.progress) × (a3.cells ≡ a2.cells) → IsPaid a1 a2 → IsPaid a a3
+paid_around a a1 a2 a3 e f g =
+    let e0 = ap (λ (p : Progress). p.next) e.0 in
+    let e1 = ap (λ (x : Cells). length x.pending.items) e.1 in
+    let f0 = ap (λ (p : Progress). p.next) f.0 in
+    let f1 = ap (λ (x : Cells). length x.pending.items) f.1 in
+    let g0 = g.0 in
+    let g1 = g.1 in
+    (omega (arith, e0, f0, g0), omega (arith, e0, e1, f0, f1, g0, g1))
+
+-- the walk ends at a node
+pub node_stopped : {E : Type 0} (k : Known) (s : Spot) (max : ℕ) (L : Level) (Ls : List Level) (n t : ℕ) → level_types L ≡ t ∷ drop 1 (level_types L) → 0 < length (level_types L)
+    → s.top ≡ L → reverse s.below.now.items ≡ Ls → (rest : List Entry) (names : Placed_cells) (before : Walker)
+    → ((l : Label) (ks : Trees) → IsNode k s max t n l ks → (later : List Entry) → IsTracing k before.progress (own_due k s.home n t l ks ++ later)
+    → (more_names : Placed_cells) → IsNaming k before.cells (names_in (own_due k s.home n t l ks) ++ more_names) → E)
+    → (left : Trees) → AreThere k s.home max (types_from L Ls) (paths_from (name_text s.name) L Ls) n left
+    → IsTracing k before.progress (values_due k s.home (types_from L Ls) n left ++ rest) → IsNaming k before.cells (names_in (values_due k s.home (types_from L Ls) n left) ++ names) → E
+node_stopped {E = E} k s max L Ls n t first some top below rest names before ends left there tr nm =
+    let positive : 0 < count left =
+    (let a = there.all in let b = length-append (level_types L) (types_after Ls) in omega (arith, a, b, some)) in
+    let w = first_of left positive in
+    go w.label w.kids w.others (subst (AreThere k s.home max (types_from L Ls) (paths_from (name_text s.name) L Ls) n) w.is there)
+    (subst (λ v. IsTracing k before.progress (values_due k s.home (types_from L Ls) n v ++ rest)) w.is tr)
+    (subst (λ v. IsNaming k before.cells (names_in (values_due k s.home (types_from L Ls) n v) ++ names)) w.is nm)
+  where
+    go : (l : Label) (ks us : Trees) → AreThere k s.home max (types_from L Ls) (paths_from (name_text s.name) L Ls) n (more (node l ks) us)
+        → IsTracing k before.progress (values_due k s.home (types_from L Ls) n (more (node l ks) us) ++ rest)
+        → IsNaming k before.cells (names_in (values_due k s.home (types_from L Ls) n (more (node l ks) us)) ++ names) → E
+    go l ks us here tr1 nm1 =
+        let due = due_is k s.home max (name_text s.name) L Ls n l ks us t first some here in
+        let later = values_due k s.home (child_types (type_at k.setting.table t) l ks ++ types_after (L ∷ Ls)) (n + 1) (joined ks us) in
+        ends l ks (is_node k s.home max (name_text s.name) L Ls n l ks us t first some here s refl refl top below) (later ++ rest)
+        (subst (IsTracing k before.progress) (ap (λ xs. xs ++ rest) due ∙ append_assoc (own_due k s.home n t l ks) later rest) tr1) (names_in later ++ names)
+        (subst (IsNaming k before.cells)
+        (ap (λ xs. names_in xs ++ names) due ∙ ap (λ xs. xs ++ names) (names_append (own_due k s.home n t l ks) later)
+        ∙ append_assoc (names_in (own_due k s.home n t l ks)) (names_in later) names) nm1)

@@ -4,4 +4,7 @@ pub mod Partial
 pub mod Items
 pub mod LevelWalk
 pub mod OwnItems
+pub mod ByType
+pub mod Parts
 pub mod NamedCells
+pub mod HomeNames

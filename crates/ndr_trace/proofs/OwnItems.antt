@@ -2,7 +2,10 @@
 -- `k` are the octets with the partial graph in which they are refused, `h` is a home, `n` a node's number, `t` its type's number, `d` the type, `l` its
 -- label, `ks` are its children, `rest` are the entries after its own.
 use Rattle.std.proofs.Common.{◌≡◌, ◌⊎◌, inl, inr, ◌∙◌, ℕ, zero, suc, ◌+◌, ◌<◌, ℤ, Bool, true, false, List, [], ◌∷◌, ◌++◌, drop, length, Option, Some, None, refl, sym, ap, ap₂, subst, append-nil, arith}
-use Rattle.std.specs.Prelude.{◌&&◌, eqb, leb, not}
+use Rattle.std.specs.Prelude.{◌&&◌, eqb, is_none, leb, not, option_map}
+use Rattle.core.specs.Option.{unwrap_or}
+use Rattle.nd_value.specs.declared.value.CellId.{CellId}
+use Rattle.nd_value.specs.Seen.{cell_number}
 use Rattle.std.specs.List.{slice_get}
 use Rattle.std.proofs.lemmas.Bool.{and_parts, eqb-true, leb-true}
 use Rattle.nd_lemmas.proofs.Lists.{drop_next, item_at}
@@ -21,10 +24,12 @@ use Rattle.nd_value.specs.declared.item.Home.{Home}
 use Rattle.nd_value.specs.declared.item.Item.{Item}
 use Rattle.nd_value.specs.declared.value.Graph.{Graph}
 use Rattle.nd_value.specs.Deferral.{Placed_cells}
-use Rattle.nd_value.specs.Misfit.{has_counts, has_type, is_no_null_ref, names_cell, names_pointee}
+use Rattle.nd_value.specs.Nodes.{child_types, selected_types}
+use Rattle.nd_value.specs.Misfit.{is_bound, has_counts, has_type, is_no_null_ref, names_cell, names_pointee}
 use Rattle.nd_value.specs.Setting.{cell_of_number}
 use Rattle.nd_value.specs.Tree as tree
-use Rattle.nd_value.specs.Tree.{Label, Referent, Trees, count}
+use Rattle.nd_value.specs.Tree.{Flat, Label, Referent, Trees, count}
+use Rattle.nd_value.proofs.NodeFacts.{IsRead, IsReadOrNot, read_node}
 use Rattle.nd_grammar.specs.Entry.{Actual, Align, Context, Entry, EntryAt, Kind, Num, Number, Offset, Tag, Text, Unread, end_to_end, size_at}
 use Rattle.nd_grammar.specs.InPlace.{before_children, counts, entries, tag_entries}
 use Rattle.nd_grammar.specs.Represents.{Spells, piece}
@@ -33,9 +38,9 @@ use Rattle.ndr_trace_laws.specs.Untested.{is_test, untested}
 use Rattle.ndr_trace_laws.proofs.Due.{never_unread, next_due}
 use Rattle.ndr_trace.specs.declared.cells.Cells.{Cells}
 use Rattle.ndr_trace.specs.declared.progress.Progress.{Progress}
-use Rattle.ndr_trace.specs.Naming.{HasNamed, HasType, IsFine, IsNaming, names_in, pending_in}
+use Rattle.ndr_trace.specs.Naming.{HasNamed, HasType, IsFine, IsNaming, named_by, names_in, pending_in}
 use Rattle.ndr_trace.specs.Tracing.{IsTracing, Known}
-use Rattle.ndr_trace.specs.Walking.{IsReady, IsSeen, width_by}
+use Rattle.ndr_trace.specs.Walking.{IsOwn, IsReady, IsSeen, width_by}
 
 -- the same as `own_due`, by the type
 abbrev pub due_by : Known → Home → ℕ → ℕ → Option TypeDef → Label → Trees → List Entry
@@ -202,6 +207,64 @@ module _ (k : Known) (h : Home) (n : ℕ) where
     tag_form (Some def.Context) arms default z tr = never tr
     tag_form (Some (def.Pipe elem)) arms default z tr = never tr
 
+
+-- ## The entries that are due then
+
+module _ (k : Known) (h : Home) (n : ℕ) (p : Progress) (rest : List Entry) (ready : IsReady k p) (t : ℕ) (d : Option TypeDef) (l : Label) (ks : Trees)
+    (tr : IsTracing k p (due_by k h n t d l ks ++ rest)) where
+  abbrev at_node : Kind → Entry
+  at_node x = record { home = h; node = n; kind = x }
+
+  by_type : (e : Option TypeDef) → d ≡ e → IsTracing k p (due_by k h n t e l ks ++ rest)
+  by_type e de = subst (λ x. IsTracing k p (due_by k h n t x l ks ++ rest)) de tr
+
+  by_both : (e : Option TypeDef) → d ≡ e → (m : Label) → l ≡ m → IsTracing k p (due_by k h n t e m ks ++ rest)
+  by_both e de m le = subst (λ x. IsTracing k p (due_by k h n t e x ks ++ rest)) le (by_type e de)
+
+  pub prim_case : (q : Primitive) → d ≡ Some (def.Prim q)
+      → (z : ℤ) × ((l ≡ tree.Num z) × IsTracing k p (at_node (Align (width q)) ∷ at_node (Num q None z) ∷ rest))
+  prim_case q de = let (z, le) = prim_form k h n p rest ready t q l ks (by_type (Some (def.Prim q)) de) in (z, (le, by_both (Some (def.Prim q)) de (tree.Num z) le))
+
+  pub enum_case : (values : List ℤ) → d ≡ Some (def.Enum values)
+      → (z : ℤ) × ((l ≡ tree.Num z) × IsTracing k p (at_node (Align 2) ∷ at_node (Num Short (Some values) z) ∷ rest))
+  enum_case values de =
+      let (z, le) = enum_form k h n p rest ready t values l ks (by_type (Some (def.Enum values)) de) in (z, (le, by_both (Some (def.Enum values)) de (tree.Num z) le))
+
+  pub struct_case : (members : List Field) → d ≡ Some (def.Struct members) → (l ≡ tree.Rec) × IsTracing k p (at_node (Align (align_of k.setting.table t)) ∷ rest)
+  struct_case members de =
+      let le = struct_form k h n p rest ready t members l ks (by_type (Some (def.Struct members)) de) in (le, by_both (Some (def.Struct members)) de tree.Rec le)
+
+  pub array_case : (elem : TypeId) (bound : Option ℕ) (varying : Bool) → d ≡ Some (def.Array elem bound varying)
+      → (max : ℕ) × ((offset : ℕ) × ((l ≡ tree.Arr max offset) × IsTracing k p (untested (entries h n (counts varying max offset (count ks))) ++ rest)))
+  array_case elem bound varying de =
+      let (max, (offset, le)) = array_form k h n p rest ready t elem bound varying l ks (by_type (Some (def.Array elem bound varying)) de) in
+      (max, (offset, (le, by_both (Some (def.Array elem bound varying)) de (tree.Arr max offset) le)))
+
+  pub text_case : (elem : TypeId) (bound : Option ℕ) → d ≡ Some (def.Text elem bound)
+      → (max : ℕ) × ((os : List ℕ) × ((l ≡ tree.Text max os)
+      × IsTracing k p (at_node (Align 4) ∷ at_node (Offset true 0) ∷ at_node (Actual true 0 max (length os + 1)) ∷ at_node (Text os) ∷ rest)))
+  text_case elem bound de =
+      let (max, (os, le)) = text_form k h n p rest ready t elem bound l ks (by_type (Some (def.Text elem bound)) de) in
+      (max, (os, (le, by_both (Some (def.Text elem bound)) de (tree.Text max os) le)))
+
+  pub union_case : (tag : TypeId) (enc : Bool) (arms : List Arm) (default : Option Arm) → d ≡ Some (def.Union tag enc arms default)
+      → (z : ℤ) × ((l ≡ tree.Union z) × ((q : Primitive) × ((values : Option (List ℤ))
+      × IsTracing k p (at_node (Align (width_by (type_at k.setting.table tag.0))) ∷ at_node (Tag q values arms default z) ∷ rest))))
+  union_case tag enc arms default de =
+      let (z, le) = union_form k h n p rest ready t tag enc arms default l ks (by_type (Some (def.Union tag enc arms default)) de) in
+      (z, (le, tag_form k h n p rest ready (type_at k.setting.table tag.0) arms default z (by_both (Some (def.Union tag enc arms default)) de (tree.Union z) le)))
+
+  pub pointer_case : (class : Class) (to : TypeId) → d ≡ Some (def.Pointer class to)
+      → (c : Option ℕ) × ((l ≡ tree.Ptr c) × IsTracing k p (at_node (Align 4) ∷ at_node (Number class to.0 c) ∷ rest))
+  pointer_case class to de =
+      let (c, le) = pointer_form k h n p rest ready t class to l ks (by_type (Some (def.Pointer class to)) de) in
+      (c, (le, by_both (Some (def.Pointer class to)) de (tree.Ptr c) le))
+
+  pub context_case : d ≡ Some def.Context
+      → (a : ℕ) × ((id : List ℕ) × ((l ≡ tree.Context a id) × IsTracing k p (at_node (Align 4) ∷ at_node (Context a id) ∷ rest)))
+  context_case de =
+      let (a, (id, le)) = context_form k h n p rest ready t l ks (by_type (Some def.Context) de) in (a, (id, (le, by_both (Some def.Context) de (tree.Context a id) le)))
+
 -- ## What is named
 
 -- no pointer, so no cell is named
@@ -230,3 +293,108 @@ fine_pointer g Full to None a b e = tt
 fine_pointer g Ref to (Some c) a b e = typed_cell g c to.0 b e
 fine_pointer g Unique to (Some c) a b e = typed_cell g c to.0 b e
 fine_pointer g Full to (Some c) a b e = typed_cell g c to.0 b e
+
+pub cell_named : (r : Option CellId) → cell_number r ≡ option_map (λ (c : CellId). c.0) r
+cell_named None = refl
+cell_named (Some c) = refl
+
+-- ## What comes of it
+
+module _ (k : Known) (h : Home) (n t : ℕ) (ks : Trees) (rest : List Entry) (names : Placed_cells) (a : Cells) (p1 : Progress) where
+  -- what own items come to
+  abbrev pub Out : Option TypeDef → Label → Cells → Flat → Type 0
+  Out d l a1 f = IsSeen l (count ks) f × (IsTracing k p1 rest × HasNamed k a a1 (due_by k h n t d l ks) names)
+
+  -- of a node that names nothing
+  pub quiet : (d e : Option TypeDef) (l m : Label) → d ≡ e → l ≡ m → names_in (due_by k h n t e m ks) ≡ [] → pending_in (due_by k h n t e m ks) ≡ []
+      → IsNaming k a (names_in (due_by k h n t d l ks) ++ names) → (f : Flat) → IsSeen m (count ks) f → IsTracing k p1 rest → Out d l a f
+  quiet d e l m de le none none1 nm f seen tr = (
+    subst (λ x. IsSeen x (count ks) f) (sym le) seen,
+    (
+      tr,
+      same_cells k a (due_by k h n t d l ks) names (ap₂ (λ x y. names_in (due_by k h n t x y ks)) de le ∙ none) (ap₂ (λ x y. pending_in (due_by k h n t x y ks)) de le ∙ none1) nm,
+    ),
+  )
+
+  pub num_out : (d : Option TypeDef) (l : Label) (z : ℤ) (q : Primitive) → d ≡ Some (def.Prim q) → l ≡ tree.Num z → IsNaming k a (names_in (due_by k h n t d l ks) ++ names)
+      → (f : Flat) → f ≡ (tree.Num z, 0) → IsTracing k p1 rest → Out d l a f
+  num_out d l z q de le nm f e tr = quiet d (Some (def.Prim q)) l (tree.Num z) de le refl refl nm f e tr
+
+  pub enum_out : (d : Option TypeDef) (l : Label) (z : ℤ) (values : List ℤ) → d ≡ Some (def.Enum values) → l ≡ tree.Num z
+      → IsNaming k a (names_in (due_by k h n t d l ks) ++ names) → (f : Flat) → f ≡ (tree.Num z, 0) → IsTracing k p1 rest → Out d l a f
+  enum_out d l z values de le nm f e tr = quiet d (Some (def.Enum values)) l (tree.Num z) de le refl refl nm f e tr
+
+  pub struct_out : (d : Option TypeDef) (l : Label) (members : List Field) → d ≡ Some (def.Struct members) → l ≡ tree.Rec
+      → IsNaming k a (names_in (due_by k h n t d l ks) ++ names) → (f : Flat) → f.0 ≡ tree.Rec → IsTracing k p1 rest → Out d l a f
+  struct_out d l members de le nm f e tr = quiet d (Some (def.Struct members)) l tree.Rec de le refl refl nm f e tr
+
+  no_array_names : (elem : TypeId) (bound : Option ℕ) (varying : Bool) (max offset : ℕ) → names_in (due_by k h n t (Some (def.Array elem bound varying)) (tree.Arr max offset) ks) ≡ []
+  no_array_names elem bound true max offset = refl
+  no_array_names elem bound false max offset = refl
+
+  no_array_pending : (elem : TypeId) (bound : Option ℕ) (varying : Bool) (max offset : ℕ)
+      → pending_in (due_by k h n t (Some (def.Array elem bound varying)) (tree.Arr max offset) ks) ≡ []
+  no_array_pending elem bound true max offset = refl
+  no_array_pending elem bound false max offset = refl
+
+  pub array_out : (d : Option TypeDef) (l : Label) (elem : TypeId) (bound : Option ℕ) (varying : Bool) (max offset : ℕ) → d ≡ Some (def.Array elem bound varying)
+      → l ≡ tree.Arr max offset → IsNaming k a (names_in (due_by k h n t d l ks) ++ names) → (f : Flat) → f ≡ (tree.Arr max offset, count ks) → IsTracing k p1 rest
+      → Out d l a f
+  array_out d l elem bound varying max offset de le nm f e tr =
+      quiet d (Some (def.Array elem bound varying)) l (tree.Arr max offset) de le (no_array_names elem bound varying max offset) (no_array_pending elem bound varying max offset) nm f e tr
+
+  pub text_out : (d : Option TypeDef) (l : Label) (elem : TypeId) (bound : Option ℕ) (max : ℕ) (os : List ℕ) → d ≡ Some (def.Text elem bound) → l ≡ tree.Text max os
+      → IsNaming k a (names_in (due_by k h n t d l ks) ++ names) → (f : Flat) → f ≡ (tree.Ptr None, 0) → IsTracing k p1 rest → Out d l a f
+  text_out d l elem bound max os de le nm f e tr = quiet d (Some (def.Text elem bound)) l (tree.Text max os) de le refl refl nm f e tr
+
+  no_tag_names : (e : Option TypeDef) (arms : List Arm) (default : Option Arm) (z : ℤ) → names_in (untested (entries h n (tag_entries e arms default z))) ≡ []
+  no_tag_names None arms default z = refl
+  no_tag_names (Some _) arms default z = refl
+
+  no_tag_pending : (e : Option TypeDef) (arms : List Arm) (default : Option Arm) (z : ℤ) → pending_in (untested (entries h n (tag_entries e arms default z))) ≡ []
+  no_tag_pending None arms default z = refl
+  no_tag_pending (Some _) arms default z = refl
+
+  pub union_out : (d : Option TypeDef) (l : Label) (tag : TypeId) (enc : Bool) (arms : List Arm) (default : Option Arm) (z : ℤ) → d ≡ Some (def.Union tag enc arms default)
+      → l ≡ tree.Union z → count ks ≡ length (child_types d l ks) → IsNaming k a (names_in (due_by k h n t d l ks) ++ names) → (f : Flat)
+      → f ≡ (tree.Union z, length (selected_types (selected arms default z))) → IsTracing k p1 rest → Out d l a f
+  union_out d l tag enc arms default z de le children nm f e tr =
+      quiet d (Some (def.Union tag enc arms default)) l (tree.Union z) de le (no_tag_names (type_at k.setting.table tag.0) arms default z)
+      (no_tag_pending (type_at k.setting.table tag.0) arms default z) nm f
+      (e ∙ ap (λ m. (tree.Union z, m)) (sym (children ∙ ap₂ (λ x y. length (child_types x y ks)) de le))) tr
+
+  pub context_out : (d : Option TypeDef) (l : Label) (b : ℕ) (id : List ℕ) → d ≡ Some def.Context → l ≡ tree.Context b id
+      → IsNaming k a (names_in (due_by k h n t d l ks) ++ names) → (f : Flat) → f ≡ (tree.Ptr None, 0) → IsTracing k p1 rest → Out d l a f
+  context_out d l b id de le nm f e tr = quiet d (Some def.Context) l (tree.Context b id) de le refl refl nm f e tr
+
+  -- of a pointer
+  pub pointer_named : (d : Option TypeDef) (l : Label) (class : Class) (to : TypeId) (c : Option ℕ) → d ≡ Some (def.Pointer class to) → l ≡ tree.Ptr c
+      → IsNaming k a (names_in (due_by k h n t d l ks) ++ names) → IsNaming k a (named_by (Number class to.0 c) ++ names)
+  pointer_named d l class to c de le nm =
+      subst (λ xs. IsNaming k a (xs ++ names)) (ap₂ (λ x y. names_in (due_by k h n t x y ks)) de le ∙ append-nil (named_by (Number class to.0 c))) nm
+
+  pub pointer_out : (d : Option TypeDef) (l : Label) (class : Class) (to : TypeId) (c : Option ℕ) → d ≡ Some (def.Pointer class to) → l ≡ tree.Ptr c → (a1 : Cells) (f : Flat)
+      → f ≡ (tree.Ptr c, 0) → IsTracing k p1 rest → HasNamed k a a1 (record { home = h; node = n; kind = Number class to.0 c } ∷ []) names → Out d l a1 f
+  pointer_out d l class to c de le a1 f e tr named = (
+    subst (λ x. IsSeen x (count ks) f) (sym le) e,
+    (
+      tr,
+      record {
+        naming = named.naming;
+        pending = named.pending ∙ ap (λ ps. a.pending.items ++ ps) (sym (ap₂ (λ x y. pending_in (due_by k h n t x y ks)) de le));
+        stands = named.stands;
+      },
+    ),
+  )
+
+-- a node of a partial graph that is no unread value
+pub read_of : (k : Known) (max t : ℕ) (l : Label) (ks : Trees) → IsOwn k max t l ks → (l ≡ tree.Unread → ⊥) → IsRead k.setting.table k.graph t l ks
+read_of k max t l ks own not = by_kind (read_node k.setting.table k.graph (record { node = 0; of = t; agreements = []; label = l; kids = ks }) own.partial)
+  where
+    by_kind : IsReadOrNot k.setting.table k.graph t l ks → IsRead k.setting.table k.graph t l ks
+    by_kind (inl u) = absurd (not u)
+    by_kind (inr r) = r
+
+is_bound_of : (bound : Option ℕ) (max m limit : ℕ) → is_bound bound m ≡ true → (is_none bound ≡ true → m ≡ max) → limit ≡ unwrap_or bound max → limit ≡ m
+is_bound_of None max m limit b e f = f ∙ sym (e refl)
+is_bound_of (Some c) max m limit b e f = f ∙ sym (eqb-true m c b)

@@ -1,7 +1,7 @@
 -- One item more has its line, and the next entry is due.
 -- `k` are the octets with the partial graph in which they are refused, `p` and `p1` how far a walk came, `m` is an entry, `i` an item, `z` its kind and value.
 use Rattle.std.proofs.Common.{◌≡◌, ◌⊎◌, inl, inr, ◌∙◌, ℕ, ◌+◌, ◌-◌, ◌^◌, ◌<◌, ◌≤◌, ℤ, Bool, true, false, List, [], ◌∷◌, ◌++◌, drop, length, take, Some, None, refl, sym, ap, subst, append-nil, arith}
-use Rattle.std.specs.Prelude.{min}
+use Rattle.std.specs.Prelude.{IsErrAnd, Err, Result, min}
 use Rattle.std.specs.List.{slice_get}
 use Rattle.std.proofs.Math.Nat.{min-eq_left}
 use Rattle.std.proofs.lemmas.Grind.{flat_map-append}
@@ -17,6 +17,8 @@ use Rattle.ndr_trace_laws.specs.Due.{CanStop, Stops, Took, its_item}
 use Rattle.ndr_trace_laws.specs.Untested.{is_test}
 use Rattle.ndr_trace_laws.proofs.Gaps.{empty_gap}
 use Rattle.ndr_trace_laws.proofs.Steps.{ended, skipped, took}
+use Rattle.ndr_trace.specs.declared.progress.Halt.{Halt}
+use Rattle.ndr_trace.specs.declared.progress.Halt.TheVariants as halts
 use Rattle.ndr_trace.specs.declared.progress.Progress.{Progress}
 use Rattle.ndr_trace.specs.Tracing.{IsEnded, IsTracing, Known}
 use Rattle.ndr_trace.specs.Traces.{entry_path}
@@ -36,7 +38,7 @@ module _ (k : Known) where
       f ∙ ap (λ u. u ++ line) e ∙ ap (λ u. shown (take n k.log) ++ u) (sym (append-nil line))
       ∙ sym (flat_map-append (item_line k.setting k.graph) (take n k.log) (i ∷ [])) ∙ sym (ap shown (take_next k.log n i got))
 
-  all_lines : (n : ℕ) (t : List ℕ) → length k.log ≤ n → t ≡ shown (take n k.log) → t ≡ shown k.log
+  pub all_lines : (n : ℕ) (t : List ℕ) → length k.log ≤ n → t ≡ shown (take n k.log) → t ≡ shown k.log
   all_lines n t over e =
       let whole : take n k.log ≡ k.log =
       sym (append-nil (take n k.log)) ∙ ap (λ u. take n k.log ++ u) (sym (drop_past k.log n over)) ∙ take-append-drop n k.log in
@@ -110,3 +112,14 @@ module _ (k : Known) where
     where
       cannot : (x : Kind) → m.kind ≡ x → CanStop p.at x → ⊥
       cannot x e can = let positive : 0 < gap p.at n = subst (CanStop p.at) (sym e ∙ is) can in absurd (omega (arith, positive, empty))
+
+-- ## Errors that are passed on
+
+pub err_as : {X Y : Type 0} (r : Result X Halt) (e f : Halt) → IsErrAnd r (λ x. x ≡ e) → r ≡ Err f → ◌≡◌ {A = Result Y Halt} (Err e) (Err f)
+err_as r e f h i = ap (λ x. Err x) (sym (subst (λ q. IsErrAnd q (λ x. x ≡ e)) i h))
+
+pub same_err : {X : Type 0} (e f : Halt) → ◌≡◌ {A = Result X Halt} (Err e) (Err f) → e ≡ f
+same_err e f i = subst (λ q. IsErrAnd q (λ x. e ≡ x)) i refl
+
+pub memory_only : {A X : Type 0} (r : Result X Halt) (e : Halt) → IsErrAnd r (λ x. x ≡ e) → e ≡ halts.Memory → r ≡ Err halts.Here → A
+memory_only r e h m i = let x : halts.Here ≡ halts.Memory = subst (λ q. IsErrAnd q (λ x. x ≡ e)) i h ∙ m in absurd (let y : ⊥ = cc in y)

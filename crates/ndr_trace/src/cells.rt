@@ -1,9 +1,10 @@
 // The cells that pointers name.
-ghost use Rattle.std.specs.Prelude.{◌≡◌, ◌≤◌, ◌+◌, ◌^◌, ◌-◌, ◌++◌, ◌∷◌, [], ℕ, List, Option, not, true, min, length, option_map, IfOk, OnOk};
+ghost use Rattle.std.specs.Prelude.{◌≡◌, ◌≤◌, ◌+◌, ◌^◌, ◌-◌, ◌++◌, ◌∷◌, [], ℕ, List, Option, not, true, min, length, option_map, IfErr, IfOk, OnOk};
 ghost use Rattle.nd_types.specs.declared.types.Class.TheVariants as classes;
 ghost use Rattle.nd_value.specs.Deferral.{Placed_cells};
 ghost use Rattle.nd_grammar.specs.Entry.{Entry, Number};
 ghost use Rattle.nd_grammar.specs.Represents.{IsNumber};
+ghost use Rattle.ndr_trace.specs.declared.progress.Halt.TheVariants as halts;
 ghost use Rattle.ndr_trace.specs.Naming.{HasNamed, IsFine, IsNaming, named_by, names_of, stands_at};
 ghost use Rattle.ndr_trace.specs.Tracing.{Known};
 
@@ -91,6 +92,7 @@ pub(crate) fn name_cell(
         → IsNaming k cells.old (named_by m.kind ++ names) → IsNumber k.numbering class x number → IsFine k.graph class to.0 x
         → IfOk result (λ r. (option_map (λ c. c.0) r ≡ x) × HasNamed k cells.old cells.new (m ∷ []) names) }
     ensures paid { OnOk result (length cells.new.pending.items ≤ length cells.old.pending.items + 1) }
+    ensures memory { IfErr result (λ e. e ≡ halts.Memory) }
 {
     let named = named(cells, class, to, number)?;
     let Some(cell) = named else {
@@ -106,6 +108,7 @@ pub(crate) fn name_cell(
 fn named(cells: &mut Cells, class: Class, to: TypeId, number: u32) -> Result<Option<CellId>, Halt>
     ensures names { (k : Known) (x : Option ℕ) (names : Placed_cells) → IsNaming k cells.old (names_of class x ++ names) → IsNumber k.numbering class x number
         → IsFine k.graph class to.0 x → IfOk result (λ r. (option_map (λ c. c.0) r ≡ x) × IsNaming k cells.new names) }
+    ensures memory { IfErr result (λ e. e ≡ halts.Memory) }
     ensures pending { cells.new.pending ≡ cells.old.pending }
     ensures stands { cells.new.stands ≡ cells.old.stands }
 {
@@ -134,6 +137,7 @@ fn full_cell(cells: &mut Cells, to: TypeId, number: u32) -> Result<Option<CellId
     ensures names { (k : Known) (x : Option ℕ) (names : Placed_cells) → IsNaming k cells.old (names_of classes.Full x ++ names)
         → IsNumber k.numbering classes.Full x number → IsFine k.graph classes.Full to.0 x
         → IfOk result (λ r. (option_map (λ c. c.0) r ≡ x) × IsNaming k cells.new names) }
+    ensures memory { IfErr result (λ e. e ≡ halts.Memory) }
     ensures pending { cells.new.pending ≡ cells.old.pending }
     ensures stands { cells.new.stands ≡ cells.old.stands }
 {

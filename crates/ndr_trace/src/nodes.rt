@@ -319,7 +319,7 @@ fn tagged<'a>(
 
 // Whether an arm has a value.
 fn has_value(arm: Option<&Arm>) -> bool
-    ensures { armed_count result ≡ length (selected_types (option_copied arm)) }
+    ensures { armed_count result ≡ length (selected_types (option_copied arm.entry)) }
 {
     match arm {
         Some(arm) => arm.of.is_some(),
@@ -330,7 +330,7 @@ fn has_value(arm: Option<&Arm>) -> bool
 // How many octets a tag has.
 fn tag_width(tag: Option<&TypeDef>) -> u32
     ensures some { 0 < result }
-    ensures width { result ≡ width_by (option_copied tag) }
+    ensures width { result ≡ width_by (option_copied tag.entry) }
 {
     match tag {
         Some(TypeDef::Prim(prim)) => width_of(*prim) as u32,
