@@ -25,7 +25,7 @@ use Rattle.nd_value.specs.Tree as tree
 use Rattle.nd_value.specs.Tree.{Referent, Tree, Trees, node}
 use Rattle.nd_value.proofs.Apart.{all_among, all_left, among_left, among_right}
 use Rattle.nd_value.proofs.NodeFacts.{IsSound}
-use Rattle.nd_grammar.proofs.next.PointerPlaces.{among_two, in_cell, in_home, in_root, in_standing}
+use Rattle.nd_grammar.proofs.next.PointerPlaces.{among_two, in_cell, in_home, in_root, in_standing, root_there}
 use Rattle.nd_grammar.proofs.next.StreamPointers.{is_good}
 use Rattle.ndr_trace_laws.specs.Counting.{Counts}
 use Rattle.ndr_trace.specs.Homes.{direct_names, names_all, standing_names, step_names}
@@ -209,7 +209,7 @@ IsDone done rs (home.Root i) = Among rs i
 IsDone done rs (home.Cell c) = IsPlaced done c.0
 
 -- no root that is due was due before
-abbrev AreFresh : List ℕ → List Due → Type 0
+abbrev pub AreFresh : List ℕ → List Due → Type 0
 AreFresh rs [] = Unit {0}
 AreFresh rs (due_root i ∷ due) = (Among rs i → ⊥) × AreFresh (i ∷ rs) due
 AreFresh rs (due_referent p ∷ due) = AreFresh rs due
@@ -218,7 +218,7 @@ fresh_more : (rs : List ℕ) (ps : List Pointer) (due : List Due) → AreFresh r
 fresh_more rs [] due f = f
 fresh_more rs (p ∷ ps) due f = fresh_more rs ps due f
 
-later_roots : (i n : ℕ) (rs : List ℕ) → ((j : ℕ) → Among rs j → j < i) → AreFresh rs (due_roots i n)
+pub later_roots : (i n : ℕ) (rs : List ℕ) → ((j : ℕ) → Among rs j → j < i) → AreFresh rs (due_roots i n)
 later_roots i zero rs f = tt
 later_roots i (suc n) rs f = ((λ a. let l = f i a in absurd (omega (arith, l))), later_roots (suc i) n (i ∷ rs) (λ j a. below j a))
   where
@@ -226,21 +226,45 @@ later_roots i (suc n) rs f = ((λ a. let l = f i a in absurd (omega (arith, l)))
     below j (inl e) = omega (arith, e)
     below j (inr a) = let l = f j a in omega (arith, l)
 
-module _ (w : Setting) (g : Graph) (s : IsSound w g) (m : ℕ) where
-  abbrev All : List Pointer
-  All = all_pointers w g
-
-  abbrev Mine : Due → Type 0
+module _ (w : Setting) (g : Graph) (s : IsSound w g) where
+  -- what is due of a graph: a root that is there, or one of its pointers
+  abbrev pub Mine : Due → Type 0
   Mine (due_root i) = (r : Root) × (slice_get (root_list w) i ≡ Some r)
   Mine (due_referent p) = Among (all_pointers w g) p
 
-  mine_more : (ps : List Pointer) (due : List Due) → ((p : Pointer) → Among ps p → Among (all_pointers w g) p) → AllByRecursion Mine due
+  pub mine_more : (ps : List Pointer) (due : List Due) → ((p : Pointer) → Among ps p → Among (all_pointers w g) p) → AllByRecursion Mine due
       → AllByRecursion Mine (map due_referent ps ++ due)
   mine_more [] due f a = a
   mine_more (p ∷ ps) due f a = (f p (inl refl), mine_more ps due (λ q b. f q (inr b)) a)
 
+  pub roots_mine : (i n : ℕ) → i + n ≤ length (root_list w) → AllByRecursion Mine (due_roots i n)
+  roots_mine i zero h = tt
+  roots_mine i (suc n) h = (root_there w i (omega (arith, h)), roots_mine (suc i) n (omega (arith, h)))
+
+  -- what is known of a top-level reference pointer
+  abbrev pub KnownDirect : Type 0
+  KnownDirect =
+      (i : ℕ) (r : Root) → slice_get (root_list w) i ≡ Some r → (c t : ℕ) → direct (type_at w.table r.of) (root_at g i) ≡ Some (c, t)
+      → (to : TypeId) × (type_at w.table r.of ≡ Some (def.Pointer Ref to)) × ((ks : Trees) × (root_at g i ≡ node (tree.Ptr (Some c)) ks)) × (t ≡ to.0)
+
+  pub standing_is : (i : ℕ) (r : Root) → slice_get (root_list w) i ≡ Some r → (o : Option (ℕ × ℕ)) → direct (type_at w.table r.of) (root_at g i) ≡ o
+      → standing_root w g i ≡ standing_by g i r.of (root_at g i) o
+  standing_is i r e o f =
+      ap (λ t. standing_by g i t (root_at g i) (direct (type_at w.table t) (root_at g i))) (ap root_type e) ∙ ap (standing_by g i r.of (root_at g i)) f
+
+  -- the pointer of such a root
+  pub direct_mine : (i : ℕ) (r : Root) → slice_get (root_list w) i ≡ Some r → (to : TypeId) → type_at w.table r.of ≡ Some (def.Pointer Ref to) → (c : ℕ) (ks : Trees)
+      → root_at g i ≡ node (tree.Ptr (Some c)) ks
+      → Among (all_pointers w g) (record { home = home.Root i; node = 0; class = Ref; to = to.0; cell = Some c; agreements = [] })
+  direct_mine i r e to d c ks f =
+      in_root w g s.all_roots i r e (record { home = home.Root i; node = 0; class = Ref; to = to.0; cell = Some c; agreements = [] })
+      (subst (λ v. Among (home_pointers w.table (home.Root i) r.of v) (record { home = home.Root i; node = 0; class = Ref; to = to.0; cell = Some c; agreements = [] })) (sym f)
+      (among_left (pointer w.table (home.Root i) (record { node = 0; of = r.of; agreements = []; label = tree.Ptr (Some c); kids = ks })) _ _
+      (subst (λ u. Among (pointer_by u true (Some c) (home.Root i) 0 []) (record { home = home.Root i; node = 0; class = Ref; to = to.0; cell = Some c; agreements = [] })) (sym d) (inl refl))))
+
+module _ (w : Setting) (g : Graph) (s : IsSound w g) (m : ℕ) where
   -- what is known of the pointers that were passed
-  record Passed (done : Placed_cells) (rs : List ℕ) (seen : List Pointer) : Type 0 where
+  pub record Passed (done : Placed_cells) (rs : List ℕ) (seen : List Pointer) : Type 0 where
     pub mine : (q : Pointer) → Among seen q → Among (all_pointers w g) q
     pub homes : (q : Pointer) → Among seen q → IsDone done rs q.home
 
@@ -302,33 +326,9 @@ module _ (w : Setting) (g : Graph) (s : IsSound w g) (m : ℕ) where
       subst (λ k. AllEarlier ShareOnlyIfFull (home_pointers w.table (home.Root k) r.of (root_at g i))) z
       (root_apart w 0 (root_list w) g.roots i r s.all_roots e (earlier_parts (root_pointers w.table 0 (root_list w) g.roots) (cell_pointers w.table 1 g.cells) s.unshared).0)
 
-  -- what is known of a top-level reference pointer
-  abbrev pub KnownDirect : Type 0
-  KnownDirect =
-      (i : ℕ) (r : Root) → slice_get (root_list w) i ≡ Some r → (c t : ℕ) → direct (type_at w.table r.of) (root_at g i) ≡ Some (c, t)
-      → (to : TypeId) × (type_at w.table r.of ≡ Some (def.Pointer Ref to)) × ((ks : Trees) × (root_at g i ≡ node (tree.Ptr (Some c)) ks)) × (t ≡ to.0)
-
-  standing_is : (i : ℕ) (r : Root) → slice_get (root_list w) i ≡ Some r → (o : Option (ℕ × ℕ)) → direct (type_at w.table r.of) (root_at g i) ≡ o
-      → standing_root w g i ≡ standing_by g i r.of (root_at g i) o
-  standing_is i r e o f =
-      ap (λ t. standing_by g i t (root_at g i) (direct (type_at w.table t) (root_at g i))) (ap root_type e) ∙ ap (standing_by g i r.of (root_at g i)) f
-
-  -- the pointer of such a root
-  direct_pointer : ℕ → TypeId → ℕ → Pointer
-  direct_pointer i to c = record { home = home.Root i; node = 0; class = Ref; to = to.0; cell = Some c; agreements = [] }
-
-  direct_mine : (i : ℕ) (r : Root) → slice_get (root_list w) i ≡ Some r → (to : TypeId) → type_at w.table r.of ≡ Some (def.Pointer Ref to) → (c : ℕ) (ks : Trees)
-      → root_at g i ≡ node (tree.Ptr (Some c)) ks
-      → Among (all_pointers w g) (record { home = home.Root i; node = 0; class = Ref; to = to.0; cell = Some c; agreements = [] })
-  direct_mine i r e to d c ks f =
-      in_root w g s.all_roots i r e (record { home = home.Root i; node = 0; class = Ref; to = to.0; cell = Some c; agreements = [] })
-      (subst (λ v. Among (home_pointers w.table (home.Root i) r.of v) (record { home = home.Root i; node = 0; class = Ref; to = to.0; cell = Some c; agreements = [] })) (sym f)
-      (among_left (pointer w.table (home.Root i) (record { node = 0; of = r.of; agreements = []; label = tree.Ptr (Some c); kids = ks })) _ _
-      (subst (λ u. Among (pointer_by u true (Some c) (home.Root i) 0 []) (record { home = home.Root i; node = 0; class = Ref; to = to.0; cell = Some c; agreements = [] })) (sym d) (inl refl))))
-
-  module _ (known : KnownDirect) where
-    turns : {done : Placed_cells} {due : List Due} {us : List Step} → Deferral w g done due us → (rs : List ℕ) (n : ℕ) (full : List ℕ) (seen : List Pointer) → AreFresh rs due
-        → AllByRecursion Mine due → Passed done rs seen → Seen (all_pointers w g) s.unshared m n full seen
+  module _ (known : KnownDirect w g s) where
+    pub turns : {done : Placed_cells} {due : List Due} {us : List Step} → Deferral w g done due us → (rs : List ℕ) (n : ℕ) (full : List ℕ) (seen : List Pointer) → AreFresh rs due
+        → AllByRecursion (Mine w g s) due → Passed done rs seen → Seen (all_pointers w g) s.unshared m n full seen
         → Counts n (map (λ (d : Class × ℕ). d.1) (flat_map (step_names w g) us)) m → InTurn n full (flat_map (step_names w g) us)
     turns none_due rs n full seen f a b c counts = tt
     turns (at_null e d) rs n full seen f a b c counts = turns d rs n full seen f a.1 b c counts
@@ -340,14 +340,14 @@ module _ (w : Setting) (g : Graph) (s : IsSound w g) (m : ℕ) where
         (more_placed done rs (p.class, cell)) inside (home_apart cell p.to typed) counts
         (λ n' full' seen' b' c' counts'.
             turns d rs n' full' seen' (fresh_more rs (home_pointers w.table (cell_home cell) p.to (cell_at g cell)) due f)
-            (mine_more (home_pointers w.table (cell_home cell) p.to (cell_at g cell)) due inside a.1) b' c' counts')
+            (mine_more w g s (home_pointers w.table (cell_home cell) p.to (cell_at g cell)) due inside a.1) b' c' counts')
     turns (at_root {done = done} {i = i} {due = due} {steps = us} free d) rs n full seen f a b c counts =
         let x : Standing = standing_root w g i in
         let inside = in_standing w g s i a.0.0 a.0.1 in
         at_a_root done rs seen n full i a.0.0 a.0.1 (flat_map (step_names w g) us) b c f.0 free inside counts
         (λ n' full' seen' b' c' counts'.
             turns d (i ∷ rs) n' full' seen' (fresh_more (i ∷ rs) (home_pointers w.table x.home x.of x.val) due f.1)
-            (mine_more (home_pointers w.table x.home x.of x.val) due inside a.1) b' c' counts')
+            (mine_more w g s (home_pointers w.table x.home x.of x.val) due inside a.1) b' c' counts')
       where
         at_a_root : (done : Placed_cells) (rs : List ℕ) (seen : List Pointer) (n : ℕ) (full : List ℕ) (i : ℕ) (r : Root) → slice_get (root_list w) i ≡ Some r → (ns : Placed_cells)
             → Passed done rs seen → Seen (all_pointers w g) s.unshared m n full seen → (Among rs i → ⊥) → AreFree (root_cell (standing_root w g i).home) done
@@ -368,18 +368,18 @@ module _ (w : Setting) (g : Graph) (s : IsSound w g) (m : ℕ) where
 
             by : (o : Option (ℕ × ℕ)) → direct (type_at w.table r.of) (root_at g i) ≡ o
                 → InTurn n full ((direct_names (standing_root w g i).home ++ standing_names w (standing_root w g i)) ++ ns)
-            by None f = subst Goal (sym (standing_is i r e None f)) here free inside counts later
+            by None f = subst Goal (sym (standing_is w g s i r e None f)) here free inside counts later
               where
                 here : Goal (record { home = home.Root i; of = r.of; val = root_at g i })
                 here free inside counts later =
                     one_home done done rs (i ∷ rs) seen (home.Root i) r.of (root_at g i) n full ns b c new (inl refl) (more_roots done rs i) inside (own_apart i r e) counts later
-            by (Some (cell, t)) f = subst Goal (sym (standing_is i r e (Some (cell, t)) f)) here free inside counts later
+            by (Some (cell, t)) f = subst Goal (sym (standing_is w g s i r e (Some (cell, t)) f)) here free inside counts later
               where
                 here : Goal (record { home = cell_home cell; of = t; val = cell_at g cell })
                 here free inside counts later =
                     let (to, d, (ks, v), ty) = known i r e cell t f in
                     let p : Pointer = record { home = home.Root i; node = 0; class = Ref; to = to.0; cell = Some cell; agreements = [] } in
-                    let mine = direct_mine i r e to d cell ks v in
+                    let mine = direct_mine w g s i r e to d cell ks v in
                     let typed = (is_good w g s p mine).typed cell refl in
                     one_more (all_pointers w g) s.unshared m n full seen p (standing_names w (record { home = cell_home cell; of = t; val = cell_at g cell }) ++ ns) c
                     (λ q x. shares done rs seen b (home.Root i) new q p x mine refl) counts

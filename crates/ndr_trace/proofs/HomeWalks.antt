@@ -34,6 +34,9 @@ use Rattle.ndr_trace.proofs.HomeThere.{path_of_home}
 use Rattle.ndr_trace.proofs.NamedCells.{same_naming}
 use Rattle.ndr_trace.proofs.OwnItems.{unread_due}
 
+pub clash : {A : Type 0} → true ≡ false → A
+clash e = cc
+
 -- a home's own value is at its name
 pub spot_of_home : (k : Known) (h : Home) (name : HomeName) (t : ℕ) (of : TypeId) (below : List Level) → HasHome k h name t → below ≡ []
     → path_to (name_text name) (level.Whole of ∷ reverse below) ≡ path_in (home_paths k.setting k.graph h) 0

@@ -8,3 +8,10 @@ pub mod ByType
 pub mod Parts
 pub mod NamedCells
 pub mod HomeNames
+pub mod HomeThere
+pub mod HomeWalks
+pub mod PartialHomes
+pub mod Deferring
+pub mod Referents
+pub mod RootWalks
+pub mod CellsInTurn

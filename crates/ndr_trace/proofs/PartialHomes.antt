@@ -16,7 +16,7 @@ use Rattle.nd_value.specs.declared.value.CellId.{CellId}
 use Rattle.nd_value.specs.declared.value.Graph.{Graph}
 use Rattle.nd_value.specs.Agreement.{Agreement}
 use Rattle.nd_value.specs.Conforms.{IsPartial}
-use Rattle.nd_value.specs.Deferral.{Pending as Pointer}
+use Rattle.nd_value.specs.Deferral.{Pending as Pointer, direct}
 use Rattle.nd_value.specs.Homes.{HomeNode, all_pointers, cell_nodes, in_home, root_nodes}
 use Rattle.nd_value.specs.Misfit.{has_shape, is_no_null_ref, is_partial_node, names_cell, names_pointee}
 use Rattle.nd_value.specs.Nodes.{TypedNode, child_agreements, child_types, first_agreements, governed_nodes, home_nodes, nodes_of, rest_agreements}
@@ -24,7 +24,8 @@ use Rattle.nd_value.specs.Setting.{Among, Setting, cell_at, cell_home, cell_of_n
 use Rattle.nd_value.specs.Tree as tree
 use Rattle.nd_value.specs.Tree.{Label, Referent, Tree, Trees, more, node, node_count, none}
 use Rattle.nd_value.specs.Variables.{root_agreements}
-use Rattle.nd_value.proofs.NodeFacts.{IsReadOrNot, read_node, sound_partial}
+use Rattle.nd_value.proofs.NodeFacts.{IsReadOrNot, read_node, sound_partial, unread_no_null}
+use Rattle.nd_value.proofs.DeferralExists.{direct_is}
 use Rattle.nd_value.proofs.Orderly.{pointee_of_cell}
 use Rattle.nd_grammar.proofs.next.StreamPointers.{is_good}
 use Rattle.text_printer.proofs.Sound.{all_parts}
@@ -148,3 +149,30 @@ module _ (k : Known) (s : IsPart k) where
       go (inr q) =
           by_shape l ks refl (ap (λ d. has_shape d l ks) (sym type_of) ∙ q.shape) (ap (λ d. is_no_null_ref d l) (sym type_of) ∙ q.no_null) q.cell
           (ap (λ d. names_pointee k.graph d l) (sym type_of) ∙ q.pointee)
+
+  -- what stands for a reference pointer of a root
+  pub known_direct : (i : ℕ) (r : Root) → slice_get (root_list k.setting) i ≡ Some r → (c t : ℕ) → direct (type_at k.setting.table r.of) (root_at k.graph i) ≡ Some (c, t)
+      → (to : TypeId) × (type_at k.setting.table r.of ≡ Some (def.Pointer Ref to)) × ((ks : Trees) × (root_at k.graph i ≡ node (tree.Ptr (Some c)) ks)) × (t ≡ to.0)
+  known_direct i r there c t e = by_value (root_at k.graph i) refl
+    where
+      Goal : Type 0
+      Goal =
+          (to : TypeId) × (type_at k.setting.table r.of ≡ Some (def.Pointer Ref to)) × ((ks : Trees) × (root_at k.graph i ≡ node (tree.Ptr (Some c)) ks)) × (t ≡ to.0)
+
+      by_value : (v : Tree) → root_at k.graph i ≡ v → Goal
+      by_value (node l ks) f =
+          let (to, d, p, u) = direct_is (type_at k.setting.table r.of) l ks c t (ap (direct (type_at k.setting.table r.of)) (sym f) ∙ e) no_null in
+          (to, d, (ks, f ∙ ap (λ m. node m ks) p), u)
+        where
+          read : IsReadOrNot k.setting.table k.graph r.of l ks
+          read =
+              read_node k.setting.table k.graph (record { node = 0; of = r.of; agreements = []; label = l; kids = ks })
+              (and_parts (is_partial_node k.setting.table k.graph (record { node = 0; of = r.of; agreements = []; label = l; kids = ks })) _
+              (subst (λ v. list_all (is_partial_node k.setting.table k.graph) (home_nodes k.setting.table r.of v) ≡ true) f (root_partial i r there))).0
+
+          by_read : IsReadOrNot k.setting.table k.graph r.of l ks → is_no_null_ref (type_at k.setting.table r.of) l ≡ true
+          by_read (inl u) = ap (is_no_null_ref (type_at k.setting.table r.of)) u ∙ unread_no_null (type_at k.setting.table r.of)
+          by_read (inr q) = q.no_null
+
+          no_null : is_no_null_ref (type_at k.setting.table r.of) l ≡ true
+          no_null = by_read read

@@ -76,6 +76,18 @@ module _ (k : Known) (due : List Due) (rest : List Entry) (names : Placed_cells)
         deferring = record { deferral = n.deferral; tracing = d.tracing; naming = d.naming; stand = d.stand };
       }
 
+  -- none was taken
+  pub emptied : (u v : Walker) → IsAwaiting k u due rest names → u.cells.pending.items ≡ [] → v.cells.pending.items ≡ [] → v.progress ≡ u.progress
+      → v.cells.count ≡ u.cells.count → v.cells.numbers ≡ u.cells.numbers → v.cells.stands ≡ u.cells.stands → IsAwaiting k v due rest names
+  emptied u v a e f ep ec en es = record {
+    done = a.done;
+    pointers = a.pointers;
+    all_among = a.all_among;
+    pending = ap reverse (f ∙ sym e) ∙ a.pending;
+    steps = a.steps;
+    deferring = same_deferring u v a.done (map due_referent a.pointers ++ due) a.steps ep ec en es a.deferring;
+  }
+
   -- where none is pending those that are due are null
   pub none_left : (u : Walker) → IsAwaiting k u due rest names → u.cells.pending.items ≡ []
       → (done : Placed_cells) × (us : List Step) × IsDeferring k u done due us rest names

@@ -12,6 +12,8 @@ use Rattle.nd_types.specs.declared.types.TypeDef.{TypeDef}
 use Rattle.nd_types.specs.declared.types.TypeDef.TheVariants as def
 use Rattle.nd_types.specs.declared.types.TypeId.{TypeId}
 use Rattle.nd_types.specs.Roots.{Root}
+use Rattle.nd_types.specs.declared.walk.RootDef.{RootDef}
+use Rattle.ndr_explain.specs.Cursors.{name_text}
 use Rattle.nd_types.specs.Table.{type_at}
 use Rattle.nd_value.specs.declared.item.Home.{Home}
 use Rattle.nd_value.specs.declared.item.Home.TheVariants as home
@@ -33,7 +35,7 @@ use Rattle.ndr_explain.specs.declared.names.HomeName.{HomeName}
 use Rattle.ndr_explain.specs.declared.names.HomeName.TheVariants as named
 use Rattle.ndr_trace_laws.specs.Untested.{untested}
 use Rattle.ndr_trace.specs.declared.nodes.Walker.{Walker}
-use Rattle.ndr_trace.specs.Homes.{HasHome, HasPassed, IsAwaiting, IsDeferring, IsPart, direct_names, direct_of, home_due, names_all, pending_all, standing_names, step_names}
+use Rattle.ndr_trace.specs.Homes.{HasHome, HasPassed, IsAwaiting, IsDeferring, IsPart, IsRoot, direct_names, direct_of, home_due, names_all, pending_all, standing_names, step_names}
 use Rattle.ndr_trace.specs.Naming.{HasType, IsNaming, Stand, names_in, pending_in, stands_at}
 use Rattle.ndr_trace.specs.Tracing.{IsTracing, Known}
 use Rattle.ndr_trace.specs.Walking.{IsReady}
@@ -221,3 +223,10 @@ module _ (k : Known) (due : List Due) (rest : List Entry) (names : Placed_cells)
                               (λ m o. others m (λ h. o (h ∙ same)))) (mine (record { home = cell_home c; of = to.0; val = cell_at k.graph c }) stands)
                               (ap (λ q. q.items) eq ∙ empty) tr passed;
                         })
+
+  -- a root that is no reference pointer, as the program gives it
+  pub own_of : (s : IsPart k) (at : ℕ) (root : RootDef) (name : HomeName) (r : IsRoot k at root) → direct_of (type_at k.setting.table root.of.0) ≡ None → (u : Walker)
+      → name_text name ≡ root.name.now → IsAwaiting k u (due_root at ∷ due) rest names → u.cells.pending.items ≡ [] → Standing_at u (home.Root at) name root.of.0
+  own_of s at root name r no u is a empty =
+      subst (λ t. Standing_at u (home.Root at) name t) r.of
+      (own_root s at r.its r.there u name (ap (λ t. direct_of (type_at k.setting.table t)) r.of ∙ no) (root_has_home k s at r.its name r.there (is ∙ r.name)) a empty)

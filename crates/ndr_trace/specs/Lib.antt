@@ -4,3 +4,4 @@ pub mod Tracing
 pub mod Naming
 pub mod Walking
 pub mod Homes
+pub mod Sides
