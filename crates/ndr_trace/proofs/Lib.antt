@@ -15,3 +15,9 @@ pub mod Deferring
 pub mod Referents
 pub mod RootWalks
 pub mod CellsInTurn
+pub mod PipeNames
+pub mod SideWalks
+pub mod SideRoots
+pub mod SmallCells
+pub mod Starting
+pub mod Ending
