@@ -11,3 +11,15 @@ pub mod PipeStart
 pub mod Ending
 pub mod NamedCells
 pub mod HomeNames
+pub mod HomeThere
+pub mod HomeWalks
+pub mod PartialHomes
+pub mod Deferring
+pub mod Referents
+pub mod RootWalks
+pub mod CellsInTurn
+pub mod PipeNames
+pub mod SideWalks
+pub mod SideRoots
+pub mod SmallCells
+pub mod Starting

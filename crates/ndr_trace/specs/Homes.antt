@@ -118,7 +118,7 @@ pub record IsNext (k : Known) (u : Walker) (next : Pending) (due : List Due) (re
 -- ## Roots
 
 -- octets of a side of a legal interface
-pub record IsSound (k : Known) : Type 0 where
+pub record IsPart (k : Known) : Type 0 where
   pub legal : IsLegalSide k.setting
   pub partial : IsPartial k.setting k.graph
 
@@ -127,6 +127,7 @@ pub record IsRoot (k : Known) (at : ℕ) (root : RootDef) : Type 0 where
   pub its : Root
   pub there : slice_get (root_list k.setting) at ≡ Some its
   pub of : its.of ≡ root.of.0
+  pub pipe : its.is_pipe ≡ root.pipe
   pub name : root.name.now ≡ home_name k.setting (home.Root at)
 
 -- the type of the referent of a reference pointer

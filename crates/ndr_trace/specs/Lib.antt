@@ -5,3 +5,4 @@ pub mod Naming
 pub mod Walking
 pub mod Homes
 pub mod Chunks
+pub mod Sides

@@ -9,6 +9,7 @@ ghost use Rattle.ndr_trace.specs.Naming.{HasNamed, IsFine, IsNaming, named_by, n
 ghost use Rattle.ndr_trace.specs.Tracing.{Known};
 
 use crate::progress::Halt;
+use nd_base::Memory;
 use nd_types::{Class, TypeId};
 use nd_value::CellId;
 use ndr_refs::{RefFault, Referents};
@@ -43,7 +44,7 @@ pub(crate) fn new_cell(cells: &mut Cells) -> CellId
 }
 
 /// Notes that the value of a cell is come to. Whether it was not before.
-pub(crate) fn come_to(cells: &mut Cells, cell: CellId) -> Result<bool, Halt>
+pub(crate) fn come_to(cells: &mut Cells, cell: CellId) -> Result<bool, Memory>
     ensures first { IfOk result (λ first. first ≡ not (stands_at cells.old.stands.items cell.0)) }
     ensures stands { OnOk result (stands_at cells.new.stands.items cell.0 ≡ true) }
     ensures others { OnOk result ((c : ℕ) → (c ≡ cell.0 → ⊥) → stands_at cells.new.stands.items c ≡ stands_at cells.old.stands.items c) }
@@ -57,13 +58,13 @@ pub(crate) fn come_to(cells: &mut Cells, cell: CellId) -> Result<bool, Halt>
 }
 
 // Makes room up to a place.
-fn reach_to(stands: &mut Vec<bool>, at: usize) -> Result<(), Halt>
+fn reach_to(stands: &mut Vec<bool>, at: usize) -> Result<(), Memory>
     ensures room { OnOk result (at + 1 ≤ length stands.new.items) }
     ensures same { OnOk result ((c : ℕ) → stands_at stands.new.items c ≡ stands_at stands.old.items c) }
 {
     while stands.len() <= at {
         let Ok(()) = stands.push(false) else {
-            return Err(Halt::Memory);
+            return Err(Memory);
         };
     }
     Ok(())

@@ -1,5 +1,5 @@
 // Homes, one after the other: roots with their referents, and pipes.
-ghost use Rattle.std.specs.Prelude.{◌≡◌, ◌≤◌, ◌+◌, ◌++◌, ◌∷◌, [], drop, length, reverse, take, ℕ, List, IfOk, IsErrOf, Some};
+ghost use Rattle.std.specs.Prelude.{◌≡◌, ◌≤◌, ◌++◌, ◌∷◌, [], drop, length, reverse, take, ℕ, List, IfOk, IsErrOf, None, Some};
 ghost use Rattle.std.specs.List.{slice_get};
 ghost use Rattle.nd_types.specs.declared.types.Class.TheVariants.{Ref};
 ghost use Rattle.nd_types.specs.declared.types.TypeDef.TheVariants as def;
@@ -12,14 +12,14 @@ ghost use Rattle.nd_grammar.specs.Entry.{Entry};
 ghost use Rattle.text_grammar.specs.Paths.{home_value};
 ghost use Rattle.ndr_trace.specs.Walking.{values_due};
 ghost use Rattle.ndr_trace.specs.declared.progress.Halt.TheVariants as halts;
-ghost use Rattle.ndr_trace.specs.Homes.{HasHome, HasPassed, IsAwaiting, IsFront, IsNext, IsRoot, IsSound, direct_of, home_due};
+ghost use Rattle.ndr_trace.specs.Homes.{HasHome, HasPassed, IsAwaiting, IsFront, IsNext, IsRoot, IsPart, direct_of, home_due};
 ghost use Rattle.ndr_trace.specs.Naming.{IsNaming, names_in};
 ghost use Rattle.ndr_trace.specs.Tracing.{IsEnded, IsGround, IsTracing, Known};
 
 use crate::cells::{Pending, come_to, new_cell};
 use crate::members::{at_end, close, note_front};
 use crate::nodes::{Walker, walk_level};
-use crate::parameters::RootSeen;
+use crate::parameters::{RootSeen, note_direct};
 use crate::progress::{Ground, Halt, Spot, count, gap};
 use nd_types::{Class, Interface, RootDef, TypeDef, TypeId};
 use nd_value::Home;
@@ -32,10 +32,10 @@ pub(crate) fn walk_root<'a>(
     at: u32,
     root: RootDef<'a>,
 ) -> Result<(), Halt>
-    ensures goes { (k : Known) → IsGround k ground.now → IsSound k → IsRoot k at root.entry → (due : List Due) (rest : List Entry) (names : Placed_cells)
+    ensures goes { (k : Known) → IsGround k ground.now → IsPart k → IsRoot k at root.entry → (due : List Due) (rest : List Entry) (names : Placed_cells)
         → walker.old.cells.pending.items ≡ [] → IsAwaiting k walker.old (due_root at ∷ due) rest names
         → IfOk result (λ _. (walker.new.cells.pending.items ≡ []) × IsAwaiting k walker.new due rest names) }
-    ensures ends { (k : Known) → IsGround k ground.now → IsSound k → IsRoot k at root.entry → (due : List Due) (rest : List Entry) (names : Placed_cells)
+    ensures ends { (k : Known) → IsGround k ground.now → IsPart k → IsRoot k at root.entry → (due : List Due) (rest : List Entry) (names : Placed_cells)
         → walker.old.cells.pending.items ≡ [] → IsAwaiting k walker.old (due_root at ∷ due) rest names
         → IsErrOf result halts.Here → IsEnded k walker.new.progress }
 {
@@ -53,18 +53,38 @@ fn walk_own<'a>(
     at: u32,
     root: RootDef<'a>,
 ) -> Result<(), Halt>
-    ensures goes { (k : Known) → IsGround k ground.now → IsSound k → IsRoot k at root.entry → (due : List Due) (rest : List Entry) (names : Placed_cells)
+    ensures goes { (k : Known) → IsGround k ground.now → IsPart k → IsRoot k at root.entry → (due : List Due) (rest : List Entry) (names : Placed_cells)
         → walker.old.cells.pending.items ≡ [] → IsAwaiting k walker.old (due_root at ∷ due) rest names
         → IfOk result (λ _. IsAwaiting k walker.new due rest names) }
-    ensures ends { (k : Known) → IsGround k ground.now → IsSound k → IsRoot k at root.entry → (due : List Due) (rest : List Entry) (names : Placed_cells)
+    ensures ends { (k : Known) → IsGround k ground.now → IsPart k → IsRoot k at root.entry → (due : List Due) (rest : List Entry) (names : Placed_cells)
+        → walker.old.cells.pending.items ≡ [] → IsAwaiting k walker.old (due_root at ∷ due) rest names
+        → IsErrOf result halts.Here → IsEnded k walker.new.progress }
+{
+    match direct_referent(ground.interface, root.of) {
+        Some(to) => walk_direct(ground, walker, to),
+        None => walk_plain(ground, walker, at, root),
+    }
+}
+
+// Walks over the value of a root that is no reference pointer.
+fn walk_plain<'a>(
+    ground: &Ground<'a>,
+    walker: &mut Walker<'a>,
+    at: u32,
+    root: RootDef<'a>,
+) -> Result<(), Halt>
+    ensures goes { (k : Known) → IsGround k ground.now → IsPart k → IsRoot k at root.entry → direct_of (type_at k.setting.table root.entry.of.0) ≡ None
+        → (due : List Due) (rest : List Entry) (names : Placed_cells)
+        → walker.old.cells.pending.items ≡ [] → IsAwaiting k walker.old (due_root at ∷ due) rest names
+        → IfOk result (λ _. IsAwaiting k walker.new due rest names) }
+    ensures ends { (k : Known) → IsGround k ground.now → IsPart k → IsRoot k at root.entry → direct_of (type_at k.setting.table root.entry.of.0) ≡ None
+        → (due : List Due) (rest : List Entry) (names : Placed_cells)
         → walker.old.cells.pending.items ≡ [] → IsAwaiting k walker.old (due_root at ∷ due) rest names
         → IsErrOf result halts.Here → IsEnded k walker.new.progress }
 {
     let home = Home::Root(at);
-    match direct_referent(ground.interface, root.of) {
-        Some(to) => walk_direct(ground, walker, to),
-        None => walk_home(ground, walker, home, HomeName::Word(root.name), root.of),
-    }
+    walk_home(ground, walker, home, HomeName::Word(root.name), root.of)?;
+    Ok(())
 }
 
 // What a top-level reference pointer refers to.
@@ -84,21 +104,21 @@ fn direct_referent(interface: &Interface, of: TypeId) -> Option<TypeId>
 
 // Walks over the referent of a top-level reference pointer.
 fn walk_direct<'a>(ground: &Ground<'a>, walker: &mut Walker<'a>, to: TypeId) -> Result<(), Halt>
-    ensures goes { (k : Known) → IsGround k ground.now → IsSound k → (at : ℕ) (root : Root) → slice_get (root_list k.setting) at ≡ Some root
+    ensures goes { (k : Known) → IsGround k ground.now → IsPart k → (at : ℕ) (root : Root) → slice_get (root_list k.setting) at ≡ Some root
         → type_at k.setting.table root.of ≡ Some (def.Pointer Ref to) → (due : List Due) (rest : List Entry) (names : Placed_cells)
         → walker.old.cells.pending.items ≡ [] → IsAwaiting k walker.old (due_root at ∷ due) rest names
         → IfOk result (λ _. IsAwaiting k walker.new due rest names) }
-    ensures ends { (k : Known) → IsGround k ground.now → IsSound k → (at : ℕ) (root : Root) → slice_get (root_list k.setting) at ≡ Some root
+    ensures ends { (k : Known) → IsGround k ground.now → IsPart k → (at : ℕ) (root : Root) → slice_get (root_list k.setting) at ≡ Some root
         → type_at k.setting.table root.of ≡ Some (def.Pointer Ref to) → (due : List Due) (rest : List Entry) (names : Placed_cells)
         → walker.old.cells.pending.items ≡ [] → IsAwaiting k walker.old (due_root at ∷ due) rest names
         → IsErrOf result halts.Here → IsEnded k walker.new.progress }
 {
+    at_end(ground, &walker.progress)?;
     let cell = new_cell(&mut walker.cells);
     come_to(&mut walker.cells, cell)?;
-    if let Some(root) = walker.search.roots.last_mut() {
-        root.cell = Some(cell);
-    }
-    walk_home(ground, walker, Home::Cell(cell), HomeName::Cell(cell), to)
+    note_direct(&mut walker.search, cell);
+    walk_home(ground, walker, Home::Cell(cell), HomeName::Cell(cell), to)?;
+    Ok(())
 }
 
 // Walks over the value of a home. The pointers that it has are then pending, the first of them as the last.
@@ -115,8 +135,6 @@ fn walk_home<'a>(
     ensures ends { (k : Known) → IsGround k ground.now → HasHome k home name.entry of.0 → (rest : List Entry) (names : Placed_cells)
         → IsTracing k walker.old.progress (home_due k home of.0 ++ rest) → IsNaming k walker.old.cells (names_in (home_due k home of.0) ++ names)
         → IsErrOf result halts.Here → IsEnded k walker.new.progress }
-    ensures paid { IfOk result (λ _. (walker.old.progress.next ≤ walker.new.progress.next)
-        × (length walker.new.cells.pending.items + walker.old.progress.next ≤ length walker.old.cells.pending.items + walker.new.progress.next)) }
 {
     let before = walker.cells.pending.len();
     let max = front(ground, walker, home, name, of)?;
@@ -141,7 +159,6 @@ fn front<'a>(
     ensures ends { (k : Known) → IsGround k ground.now → HasHome k home name.entry of.0 → (rest : List Entry)
         → IsTracing k walker.old.progress (home_due k home of.0 ++ rest) → IsErrOf result halts.Here → IsEnded k walker.new.progress }
     ensures cells { walker.new.cells ≡ walker.old.cells }
-    ensures later { IfOk result (λ _. walker.old.progress.next ≤ walker.new.progress.next) }
 {
     if !ground.interface.hoists(of) {
         return Ok(0);
@@ -173,16 +190,20 @@ fn turn(pending: &mut Vec<Pending>, from: usize)
 
 // Walks over the referents that are pending, each followed by those that it makes due.
 fn walk_referents<'a>(ground: &Ground<'a>, walker: &mut Walker<'a>) -> Result<(), Halt>
-    ensures goes { (k : Known) → IsGround k ground.now → IsSound k → (due : List Due) (rest : List Entry) (names : Placed_cells)
+    ensures goes { (k : Known) → IsGround k ground.now → IsPart k → (due : List Due) (rest : List Entry) (names : Placed_cells)
         → IsAwaiting k walker.old due rest names
         → IfOk result (λ _. (walker.new.cells.pending.items ≡ []) × IsAwaiting k walker.new due rest names) }
-    ensures ends { (k : Known) → IsGround k ground.now → IsSound k → (due : List Due) (rest : List Entry) (names : Placed_cells)
+    ensures ends { (k : Known) → IsGround k ground.now → IsPart k → (due : List Due) (rest : List Entry) (names : Placed_cells)
         → IsAwaiting k walker.old due rest names → IsErrOf result halts.Here → IsEnded k walker.new.progress }
 {
-    while let Some(next) = walker.cells.pending.pop() {
+    // No log within the limit of a stream has so many pointers.
+    for _turn in 0..u64::MAX {
+        let Some(next) = walker.cells.pending.pop() else {
+            return Ok(());
+        };
         walk_referent(ground, walker, next)?;
     }
-    Ok(())
+    Err(Halt::Memory)
 }
 
 // Walks over the referent of a pointer, unless it was come to before.
@@ -191,14 +212,13 @@ fn walk_referent<'a>(
     walker: &mut Walker<'a>,
     next: Pending,
 ) -> Result<(), Halt>
-    ensures goes { (k : Known) → IsGround k ground.now → IsSound k → (due : List Due) (rest : List Entry) (names : Placed_cells)
+    ensures goes { (k : Known) → IsGround k ground.now → IsPart k → (due : List Due) (rest : List Entry) (names : Placed_cells)
         → IsNext k walker.old next due rest names → IfOk result (λ _. IsAwaiting k walker.new due rest names) }
-    ensures ends { (k : Known) → IsGround k ground.now → IsSound k → (due : List Due) (rest : List Entry) (names : Placed_cells)
+    ensures ends { (k : Known) → IsGround k ground.now → IsPart k → (due : List Due) (rest : List Entry) (names : Placed_cells)
         → IsNext k walker.old next due rest names → IsErrOf result halts.Here → IsEnded k walker.new.progress }
-    ensures paid { IfOk result (λ _. (walker.old.progress.next ≤ walker.new.progress.next)
-        × (length walker.new.cells.pending.items + walker.old.progress.next ≤ length walker.old.cells.pending.items + walker.new.progress.next)) }
 {
-    if !come_to(&mut walker.cells, next.cell)? {
+    let first = come_to(&mut walker.cells, next.cell)?;
+    if !first {
         return Ok(());
     }
     walk_home(
@@ -207,5 +227,6 @@ fn walk_referent<'a>(
         Home::Cell(next.cell),
         HomeName::Cell(next.cell),
         next.to,
-    )
+    )?;
+    Ok(())
 }

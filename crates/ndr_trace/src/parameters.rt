@@ -40,6 +40,13 @@ pub(crate) fn seen_home(search: &mut Search<'_>, home: Home, seen: &Seen<'_>) ->
     }
 }
 
+/// Notes the cell that a top-level reference pointer names.
+pub(crate) fn note_direct(search: &mut Search<'_>, cell: CellId) {
+    if let Some(root) = search.roots.last_mut() {
+        root.cell = Some(cell);
+    }
+}
+
 // Notes the number that a cell is.
 fn seen_cell(search: &mut Search<'_>, cell: CellId, number: Option<i128>) -> Result<(), Memory> {
     let at = cell.0 as usize;

@@ -10,7 +10,7 @@ ghost use Rattle.nd_grammar.specs.Stream.{Cuts, kids_of, pipe_entries};
 ghost use Rattle.ndr_explain.specs.Cursors.{pipe_element};
 ghost use Rattle.ndr_trace_laws.specs.Untested.{untested};
 ghost use Rattle.ndr_trace.specs.declared.progress.Halt.TheVariants as halts;
-ghost use Rattle.ndr_trace.specs.Homes.{IsRoot, IsSound};
+ghost use Rattle.ndr_trace.specs.Homes.{IsRoot, IsPart};
 ghost use Rattle.ndr_trace.specs.Chunks.{AfterChunk, IsAtChunk};
 ghost use Rattle.ndr_trace.specs.Naming.{IsNaming, names_in};
 ghost use Rattle.ndr_trace.specs.Tracing.{IsEnded, IsGround, IsTracing, Known};
@@ -29,12 +29,12 @@ pub(crate) fn walk_pipe<'a>(
     at: u32,
     root: RootDef<'a>,
 ) -> Result<(), Halt>
-    ensures goes { (k : Known) → IsGround k ground.now → IsSound k → IsRoot k at root.entry → (cut : List ℕ)
+    ensures goes { (k : Known) → IsGround k ground.now → IsPart k → IsRoot k at root.entry → (cut : List ℕ)
         → Cuts (count_of (kids_of (root_at k.graph at))) cut → (rest : List Entry) (names : Placed_cells)
         → let due : List Entry = untested (pipe_entries k.setting.table (homes.Root at) (type_at k.setting.table root.of.0) cut (root_at k.graph at)) in
         IsTracing k walker.old.progress (due ++ rest) → IsNaming k walker.old.cells (names_in due ++ names)
         → IfOk result (λ _. IsTracing k walker.new.progress rest × IsNaming k walker.new.cells names) }
-    ensures ends { (k : Known) → IsGround k ground.now → IsSound k → IsRoot k at root.entry → (cut : List ℕ)
+    ensures ends { (k : Known) → IsGround k ground.now → IsPart k → IsRoot k at root.entry → (cut : List ℕ)
         → Cuts (count_of (kids_of (root_at k.graph at))) cut → (rest : List Entry) (names : Placed_cells)
         → let due : List Entry = untested (pipe_entries k.setting.table (homes.Root at) (type_at k.setting.table root.of.0) cut (root_at k.graph at)) in
         IsTracing k walker.old.progress (due ++ rest) → IsNaming k walker.old.cells (names_in due ++ names)

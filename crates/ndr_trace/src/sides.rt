@@ -1,4 +1,10 @@
 // The homes of a side, one root after the other.
+ghost use Rattle.std.specs.Prelude.{◌≡◌, ◌<◌, ◌+◌, [], length, IfOk, IsErrOf};
+ghost use Rattle.ndr_trace.specs.declared.progress.Halt.TheVariants as halts;
+ghost use Rattle.ndr_trace.specs.Homes.{IsPart, IsRoot};
+ghost use Rattle.ndr_trace.specs.Sides.{IsAtRoot, IsSide};
+ghost use Rattle.ndr_trace.specs.Tracing.{IsEnded, IsGround, IsTracing, Known};
+
 use crate::homes::walk_root;
 use crate::nodes::Walker;
 use crate::pipes::walk_pipe;
@@ -6,11 +12,17 @@ use crate::progress::{Ground, Halt};
 use nd_types::RootDef;
 
 /// Walks over all homes of a side.
-pub(crate) fn walk_side<'a>(ground: &Ground<'a>, walker: &mut Walker<'a>) -> Result<(), Halt> {
+pub(crate) fn walk_side<'a>(ground: &Ground<'a>, walker: &mut Walker<'a>) -> Result<(), Halt>
+    requires known { ground.now.op < length ground.now.interface.now.operations }
+    ensures goes { (k : Known) → IsGround k ground.now → IsPart k → IsSide k ground.now → IsAtRoot k walker.old 0
+        → IfOk result (λ _. IsTracing k walker.new.progress []) }
+    ensures ends { (k : Known) → IsGround k ground.now → IsPart k → IsSide k ground.now → IsAtRoot k walker.old 0
+        → IsErrOf result halts.Here → IsEnded k walker.new.progress }
+{
     let mut at = 0u32;
     for root in ground.interface.params(ground.op, ground.side) {
         walk_one(ground, walker, at, root)?;
-        at = at.saturating_add(1);
+        at += 1;
     }
     Ok(())
 }
@@ -21,9 +33,16 @@ fn walk_one<'a>(
     walker: &mut Walker<'a>,
     at: u32,
     root: RootDef<'a>,
-) -> Result<(), Halt> {
+) -> Result<(), Halt>
+    ensures goes { (k : Known) → IsGround k ground.now → IsPart k → IsRoot k at root.entry → IsAtRoot k walker.old at
+        → IfOk result (λ _. IsAtRoot k walker.new (at + 1)) }
+    ensures ends { (k : Known) → IsGround k ground.now → IsPart k → IsRoot k at root.entry → IsAtRoot k walker.old at
+        → IsErrOf result halts.Here → IsEnded k walker.new.progress }
+{
     if root.pipe {
-        return walk_pipe(ground, walker, at, root);
+        walk_pipe(ground, walker, at, root)?;
+        return Ok(());
     }
-    walk_root(ground, walker, at, root)
+    walk_root(ground, walker, at, root)?;
+    Ok(())
 }

@@ -9,7 +9,10 @@ ghost use Rattle.nd_grammar.specs.Bad.{Bad};
 ghost use Rattle.nd_grammar.specs.Items.{items as items_of};
 ghost use Rattle.nd_grammar.specs.LegalSide.{IsLegalSide};
 ghost use Rattle.ndr_decoder_laws.specs.verdict.InOrder.{HasOwnNumbers};
+ghost use Rattle.ndr_trace.specs.Homes.{IsPart};
+ghost use Rattle.ndr_trace.specs.Sides.{IsBeginning, IsSide, IsStream};
 ghost use Rattle.ndr_trace.specs.Traces.{IsTraceOf};
+ghost use Rattle.ndr_trace.specs.Tracing.{IsEnded, IsGround, Known};
 
 use crate::cells::Cells;
 use crate::sides::walk_side;
@@ -70,15 +73,27 @@ pub fn trace(
         items,
         sought: find_agreement(items, place, why),
     };
-    let mut walker = begin(alloc);
-    match walk_side(&ground, &mut walker) {
+    let walker = walk(&ground)?;
+    finish(&ground, walker)
+}
+
+// A walk over the items to their end.
+fn walk<'a>(ground: &Ground<'a>) -> Result<Walker<'a>, Memory>
+    requires known { ground.now.op < length ground.now.interface.now.operations }
+    ensures { (k : Known) → IsGround k ground.now → IsPart k → IsSide k ground.now → IsStream k → IfOk result (λ w. IsEnded k w.progress) }
+{
+    let mut walker = begin(ground.alloc);
+    match walk_side(ground, &mut walker) {
+        Ok(()) => Ok(walker),
+        Err(Halt::Here) => Ok(walker),
         Err(Halt::Memory) => Err(Memory),
-        _ => finish(&ground, walker),
     }
 }
 
 // A walk at its beginning.
-fn begin<'a>(alloc: Global) -> Walker<'a> {
+fn begin<'a>(alloc: Global) -> Walker<'a>
+    ensures { IsBeginning result }
+{
     Walker {
         progress: Progress {
             next: 0,
