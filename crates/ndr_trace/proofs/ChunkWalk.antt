@@ -25,11 +25,10 @@ use Rattle.ndr_trace_laws.specs.Untested.{plain, untested}
 use Rattle.ndr_trace_laws.proofs.Untested.{untested_append, untested_values}
 use Rattle.ndr_trace.specs.declared.nodes.Walker.{Walker}
 use Rattle.ndr_trace.specs.declared.progress.Progress.{Progress}
-use Rattle.ndr_trace.specs.declared.progress.Spot.{Spot}
 use Rattle.nd_types.specs.declared.types.TypeId.{TypeId}
 use Rattle.ndr_trace.specs.Chunks.{AfterChunk, IsAtChunk}
 use Rattle.ndr_trace.specs.Naming.{HasNamed, IsNaming, names_in}
-use Rattle.ndr_trace.specs.Tracing.{IsSpot, IsTracing, Known}
+use Rattle.ndr_trace.specs.Tracing.{IsTracing, Known}
 use Rattle.ndr_trace.specs.Walking.{AreOwn, AreThere, values_due}
 use Rattle.ndr_trace.proofs.LevelWalk.{names_append, nodes_joined}
 use Rattle.ndr_trace.proofs.Parts.{flat_of_first, nodes_flat, path_of_first, path_of_others}
@@ -252,8 +251,6 @@ module _ (k : Known) (h : Home) (name : List ℕ) (t before : ℕ) (rest : List 
         after_some v after el.positive (el.next after r.0 r.1.naming)
 
 -- a pipe's home, where its counts are
-pub at_home : (k : Known) (h : Home) (name : List ℕ) → path_in (home_paths k.setting k.graph h) 0 ≡ name → (s : Spot) → s.home ≡ h → name_text s.name ≡ name → (of : TypeId)
-    → s.top ≡ level.Whole of → s.below.now.items ≡ [] → IsSpot k s 0
-at_home k h name own s home named of top below =
-    ap₂ (λ (M : Level) (Ms : List Level). path_to (name_text s.name) (M ∷ reverse Ms)) top below ∙ named ∙ sym own
-    ∙ ap (λ (j : Home). path_in (home_paths k.setting k.graph j) 0) (sym home)
+pub at_home : (k : Known) (h : Home) (name : List ℕ) → path_in (home_paths k.setting k.graph h) 0 ≡ name → (of : TypeId) (below : List Level) → below ≡ []
+    → path_to name (level.Whole of ∷ reverse below) ≡ path_in (home_paths k.setting k.graph h) 0
+at_home k h name own of below e = ap (λ (Ms : List Level). path_to name (level.Whole of ∷ reverse Ms)) e ∙ sym own
