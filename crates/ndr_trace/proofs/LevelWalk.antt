@@ -263,8 +263,8 @@ Visits k s max t n before after f =
     → IsSeen l (count ks) f × (IsTracing k after.progress rest × HasNamed k before.cells after.cells (own_due k s.home n t l ks) names)
 
 module _ (k : Known) (s : Spot) (max : ℕ) (L : Level) (Ls : List Level) (n : ℕ) (t : ℕ) (first : level_types L ≡ t ∷ drop 1 (level_types L))
-    (some : 0 < length (level_types L)) (top : s.top ≡ L) (below : reverse s.below.now.items ≡ Ls) (rest : List Entry) (names : Placed_cells) (before after : Walker) (f : Flat)
-    (visits : Visits k s max t n before after f) (inner : Option Level) (level : IsChildLevel k.setting.table t f inner) (r : Option Levels)
+    (some : 0 < length (level_types L)) (rest : List Entry) (names : Placed_cells) (before after : Walker) (f : Flat)
+    (visits : Visits k s max t n before after f) (top : s.top ≡ L) (below : reverse s.below.now.items ≡ Ls) (inner : Option Level) (level : IsChildLevel k.setting.table t f inner) (r : Option Levels)
     (next : HasChild inner → AreLevelsOf (inner_types inner ++ types_after (L ∷ Ls)) (λ q. inner_paths (path_to q (L ∷ Ls)) inner ++ paths_after q (L ∷ Ls)) r) where
   after_node_is : (l : Label) (ks us : Trees) → AreThere k s.home max (types_from L Ls) (paths_from (name_text s.name) L Ls) n (more (node l ks) us)
       → IsTracing k before.progress (values_due k s.home (types_from L Ls) n (more (node l ks) us) ++ rest)
@@ -415,12 +415,12 @@ paid_around a a1 a2 a3 e f g =
 
 -- the walk ends at a node
 pub node_stopped : {E : Type 0} (k : Known) (s : Spot) (max : ℕ) (L : Level) (Ls : List Level) (n t : ℕ) → level_types L ≡ t ∷ drop 1 (level_types L) → 0 < length (level_types L)
-    → s.top ≡ L → reverse s.below.now.items ≡ Ls → (rest : List Entry) (names : Placed_cells) (before : Walker)
+    → (rest : List Entry) (names : Placed_cells) (before : Walker)
     → ((l : Label) (ks : Trees) → IsNode k s max t n l ks → (later : List Entry) → IsTracing k before.progress (own_due k s.home n t l ks ++ later)
     → (more_names : Placed_cells) → IsNaming k before.cells (names_in (own_due k s.home n t l ks) ++ more_names) → E)
-    → (left : Trees) → AreThere k s.home max (types_from L Ls) (paths_from (name_text s.name) L Ls) n left
+    → s.top ≡ L → reverse s.below.now.items ≡ Ls → (left : Trees) → AreThere k s.home max (types_from L Ls) (paths_from (name_text s.name) L Ls) n left
     → IsTracing k before.progress (values_due k s.home (types_from L Ls) n left ++ rest) → IsNaming k before.cells (names_in (values_due k s.home (types_from L Ls) n left) ++ names) → E
-node_stopped {E = E} k s max L Ls n t first some top below rest names before ends left there tr nm =
+node_stopped {E = E} k s max L Ls n t first some rest names before ends top below left there tr nm =
     let positive : 0 < count left =
     (let a = there.all in let b = length-append (level_types L) (types_after Ls) in omega (arith, a, b, some)) in
     let w = first_of left positive in
