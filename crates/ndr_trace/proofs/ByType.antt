@@ -36,7 +36,7 @@ use Rattle.ndr_trace.specs.declared.progress.Progress.{Progress}
 use Rattle.ndr_trace.specs.declared.progress.Spot.{Spot}
 use Rattle.ndr_trace.specs.Naming.{HasNamed, IsFine, IsNaming, named_by, names_in}
 use Rattle.ndr_trace.specs.Tracing.{IsTracing, Known, entry_at}
-use Rattle.ndr_trace.specs.Walking.{IsNode, IsPaid, IsReady, IsSeen, own_due, width_by}
+use Rattle.ndr_trace.specs.Walking.{HavePaid, IsNode, IsReady, IsSeen, own_due, width_by}
 use Rattle.ndr_trace.proofs.OwnItems.{array_case, array_out, context_case, context_out, due_by, enum_case, enum_out, fine_pointer, is_bound_of, no_form, num_out, pipe_form, pointer_case, pointer_named, pointer_out, prim_case, read_of, struct_case, struct_out, text_case, text_out, union_case, union_out}
 
 module _ (k : Known) (s : Spot) (n max t : ℕ) (l : Label) (ks : Trees) (node : IsNode k s max t n l ks) (p : Progress) (ready : IsReady k p) (rest : List Entry)
@@ -248,7 +248,5 @@ module _ (k : Known) (s : Spot) (n max t : ℕ) (l : Label) (ks : Trees) (node :
     any_array_goes elem bound false de limit is legal fixed goes = fixed_goes elem bound de limit is legal (fixed refl)
 
 -- where no pointer became pending
-pub paid_same : (a b : Walker) (r : Result Seen Halt) → b.cells ≡ a.cells → IfOk r (λ _. a.progress.next ≤ b.progress.next) → IfOk r (λ _. IsPaid a b)
-paid_same a b r e f =
-    IfOk-weaker r (λ _. a.progress.next ≤ b.progress.next) (λ _. IsPaid a b)
-    (λ x le. (le, (let c = ap (λ (y : Cells). length y.pending.items) e in omega (arith, c, le)))) f
+pub paid_same : (p p1 : Progress) (a : Cells) (r : Result Seen Halt) → IfOk r (λ _. p.next ≤ p1.next) → IfOk r (λ _. HavePaid p a p1 a)
+paid_same p p1 a r f = IfOk-weaker r (λ _. p.next ≤ p1.next) (λ _. HavePaid p a p1 a) (λ x le. (le, omega (arith, le))) f

@@ -34,7 +34,7 @@ use Rattle.ndr_trace.specs.declared.progress.Progress.{Progress}
 use Rattle.ndr_trace.specs.declared.progress.Spot.{Spot}
 use Rattle.ndr_trace.specs.Naming.{HasNamed, IsNaming, named_by, names_in, pending_by, pending_in}
 use Rattle.ndr_trace.specs.Tracing.{IsEnded, IsGround, IsSpot, IsTracing, Known}
-use Rattle.ndr_trace.specs.Walking.{AreOwn, AreThere, ComesTo, GoesOn, IsNode, IsOwn, IsPaid, IsReady, IsSeen, own_due, values_due}
+use Rattle.ndr_trace.specs.Walking.{AreOwn, AreThere, ComesTo, GoesOn, HavePaid, IsNode, IsOwn, IsPaid, IsReady, IsSeen, own_due, values_due}
 
 -- ## What a node says stands for its label
 
@@ -403,15 +403,29 @@ ended_there k u g p p1 ms e t over = record {
 pub named_around : (k : Known) (a a1 a2 a3 : Cells) (due : List Entry) (names : Placed_cells) → a1 ≡ a → a3 ≡ a2 → HasNamed k a1 a2 due names → HasNamed k a a3 due names
 named_around k a a1 a2 a3 due names e f g = subst (λ x. HasNamed k x a3 due names) e (subst (λ x. HasNamed k a1 x due names) (sym f) g)
 
-pub paid_around : (a a1 a2 a3 : Walker) → (a1.progress ≡ a.progress) × (a1.cells ≡ a.cells) → (a3.progress ≡ a2.progress) × (a3.cells ≡ a2.cells) → IsPaid a1 a2 → IsPaid a a3
-paid_around a a1 a2 a3 e f g =
-    let e0 = ap (λ (p : Progress). p.next) e.0 in
-    let e1 = ap (λ (x : Cells). length x.pending.items) e.1 in
-    let f0 = ap (λ (p : Progress). p.next) f.0 in
-    let f1 = ap (λ (x : Cells). length x.pending.items) f.1 in
+pub paid_around : (p p1 p2 p3 : Progress) (a a1 a2 a3 : Cells) → p1 ≡ p → a1 ≡ a → p3 ≡ p2 → a3 ≡ a2 → HavePaid p1 a1 p2 a2 → HavePaid p a p3 a3
+paid_around p p1 p2 p3 a a1 a2 a3 e e1 f f1 g =
+    let e0 = ap (λ (x : Progress). x.next) e in
+    let c0 = ap (λ (x : Cells). length x.pending.items) e1 in
+    let f0 = ap (λ (x : Progress). x.next) f in
+    let d0 = ap (λ (x : Cells). length x.pending.items) f1 in
     let g0 = g.0 in
     let g1 = g.1 in
-    (omega (arith, e0, f0, g0), omega (arith, e0, e1, f0, f1, g0, g1))
+    (omega (arith, e0, f0, g0), omega (arith, e0, c0, f0, d0, g0, g1))
+
+-- what is done around a node's own items changes neither how far the walk came nor the cells
+pub visits_around : (k : Known) (u : Ground) → IsGround k u → (s : Spot) (max t n : ℕ) (before mid after : Walker) (p2 : Progress) (a2 : Cells) (f : Flat)
+    → (mid.progress ≡ before.progress) × (mid.cells ≡ before.cells) → (IsSome u.sought → before.progress.next < length u.items.now.items)
+    → ((l : Label) (ks : Trees) → IsNode k s max t n l ks → IsReady k mid.progress → (rest : List Entry) → IsTracing k mid.progress (own_due k s.home n t l ks ++ rest)
+    → (names : Placed_cells) → IsNaming k mid.cells (names_in (own_due k s.home n t l ks) ++ names)
+    → IsSeen l (count ks) f × (IsTracing k p2 rest × HasNamed k mid.cells a2 (own_due k s.home n t l ks) names))
+    → (after.progress ≡ p2) × (after.cells ≡ a2) → Visits k s max t n before after f
+visits_around k u ground s max t n before mid after p2 a2 f same ready own later l ks node rest tr names nm =
+    let due = own_due k s.home n t l ks in
+    let r =
+    own l ks node (ready_after k u ground before.progress mid.progress same.0 ready) rest (subst (λ p. IsTracing k p (due ++ rest)) (sym same.0) tr) names
+    (subst (λ a. IsNaming k a (names_in due ++ names)) (sym same.1) nm) in
+    (r.0, (subst (λ p. IsTracing k p rest) (sym later.0) r.1.0, named_around k before.cells mid.cells a2 after.cells due names same.1 later.1 r.1.1))
 
 -- the walk ends at a node
 pub node_stopped : {E : Type 0} (k : Known) (s : Spot) (max : ℕ) (L : Level) (Ls : List Level) (n t : ℕ) → level_types L ≡ t ∷ drop 1 (level_types L) → 0 < length (level_types L)

@@ -282,7 +282,7 @@ typed_cell g (suc i) t b e =
     let (none, within) = and_parts (not (eqb (suc i) 0)) (leb (suc i) (length g.cells)) b in
     let below : i < length g.cells = let w = leb-true (suc i) (length g.cells) within in omega (arith, w) in
     let (y, got) = item_at g.cells i below in
-    (y, (got, eqb-true y.of t (ap (λ o. has_type o t) (sym got) ∙ e)))
+    (y, got, eqb-true y.of t (ap (λ o. has_type o t) (sym got) ∙ e))
 
 -- a pointer of a partial graph
 pub fine_pointer : (g : Graph) (class : Class) (to : TypeId) (c : Option ℕ) → is_no_null_ref (Some (def.Pointer class to)) (tree.Ptr c) ≡ true
@@ -348,12 +348,14 @@ module _ (k : Known) (h : Home) (n t : ℕ) (ks : Trees) (rest : List Entry) (na
   text_out d l elem bound max os de le nm f e tr = quiet d (Some (def.Text elem bound)) l (tree.Text max os) de le refl refl nm f e tr
 
   no_tag_names : (e : Option TypeDef) (arms : List Arm) (default : Option Arm) (z : ℤ) → names_in (untested (entries h n (tag_entries e arms default z))) ≡ []
-  no_tag_names None arms default z = refl
-  no_tag_names (Some _) arms default z = refl
+  no_tag_names (Some (def.Prim q)) arms default z = refl
+  no_tag_names (Some (def.Enum values)) arms default z = refl
+  no_tag_names _ arms default z = refl
 
   no_tag_pending : (e : Option TypeDef) (arms : List Arm) (default : Option Arm) (z : ℤ) → pending_in (untested (entries h n (tag_entries e arms default z))) ≡ []
-  no_tag_pending None arms default z = refl
-  no_tag_pending (Some _) arms default z = refl
+  no_tag_pending (Some (def.Prim q)) arms default z = refl
+  no_tag_pending (Some (def.Enum values)) arms default z = refl
+  no_tag_pending _ arms default z = refl
 
   pub union_out : (d : Option TypeDef) (l : Label) (tag : TypeId) (enc : Bool) (arms : List Arm) (default : Option Arm) (z : ℤ) → d ≡ Some (def.Union tag enc arms default)
       → l ≡ tree.Union z → count ks ≡ length (child_types d l ks) → IsNaming k a (names_in (due_by k h n t d l ks) ++ names) → (f : Flat)

@@ -21,6 +21,7 @@ use Rattle.ndr_explain.specs.declared.levels.Levels.{Levels}
 use Rattle.ndr_explain.specs.Cursors.{level_types, paths_from, types_from}
 use Rattle.ndr_explain.specs.Explained.{home_flats, home_paths, label_in, path_in}
 use Rattle.ndr_trace_laws.specs.Untested.{is_test, plain, untested}
+use Rattle.ndr_trace.specs.declared.cells.Cells.{Cells}
 use Rattle.ndr_trace.specs.declared.nodes.Walker.{Walker}
 use Rattle.ndr_trace.specs.declared.progress.Progress.{Progress}
 use Rattle.ndr_trace.specs.declared.progress.Spot.{Spot}
@@ -83,10 +84,11 @@ IsSeen (tree.Context attributes id) c f = f ≡ (tree.Ptr None, 0)
 IsSeen _ c f = ⊥
 
 -- each pointer that became pending has an item
+abbrev pub HavePaid : Progress → Cells → Progress → Cells → Type 0
+HavePaid p a p1 a1 = (p.next ≤ p1.next) × (length a1.pending.items + p.next ≤ length a.pending.items + p1.next)
+
 abbrev pub IsPaid : Walker → Walker → Type 0
-IsPaid before after =
-    (before.progress.next ≤ after.progress.next)
-    × (length after.cells.pending.items + before.progress.next ≤ length before.cells.pending.items + after.progress.next)
+IsPaid before after = HavePaid before.progress before.cells after.progress after.cells
 
 -- how many octets a tag of this type has
 abbrev pub width_by : Option TypeDef → ℕ

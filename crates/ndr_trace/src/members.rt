@@ -109,7 +109,7 @@ pub(crate) fn seen_node<'a>(
     walker: &mut Walker<'a>,
     from: usize,
     spot: &Spot<'_, 'a>,
-    seen: &Seen<'a>,
+    seen: &Seen<'_>,
 ) -> Result<(), Memory>
     ensures same { (walker.new.progress ≡ walker.old.progress) × (walker.new.cells ≡ walker.old.cells) }
 {
@@ -124,7 +124,7 @@ fn note_seen<'a>(
     from: usize,
     to: usize,
     spot: &Spot<'_, 'a>,
-    seen: &Seen<'a>,
+    seen: &Seen<'_>,
 ) -> Result<(), Memory> {
     let Some(sought) = ground.sought else {
         return Ok(());

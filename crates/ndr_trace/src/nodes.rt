@@ -13,7 +13,7 @@ ghost use Rattle.ndr_explain.specs.Explained.{home_flats, label_in};
 ghost use Rattle.ndr_trace.specs.declared.progress.Halt.TheVariants as halts;
 ghost use Rattle.ndr_trace.specs.Naming.{HasNamed, IsFine, IsNaming, named_by, names_in};
 ghost use Rattle.ndr_trace.specs.Tracing.{Known, IsEnded, IsGround, IsSpot, IsTracing, entry_at};
-ghost use Rattle.ndr_trace.specs.Walking.{AreThere, ComesTo, IsNode, IsPaid, IsReady, IsSeen, own_due, values_due, width_by};
+ghost use Rattle.ndr_trace.specs.Walking.{AreThere, ComesTo, HavePaid, IsNode, IsPaid, IsReady, IsSeen, own_due, values_due, width_by};
 
 use crate::cells::{Cells, name_cell};
 use crate::members::{reach, seen_node};
@@ -106,69 +106,48 @@ fn take_node<'a>(
         top,
         below: &below,
     };
-    let seen = visit(ground, walker, max, of, &spot)?;
-    let inner = children(&ground.interface.types, of, &seen);
+    let before = walker.progress.next;
+    reach(ground, walker, &spot)?;
+    let seen = own_items(ground, &mut walker.progress, &mut walker.cells, max, of, &spot)?;
+    seen_node(ground, walker, before, &spot, &seen)?;
+    let interface = ground.interface;
+    let inner = children(&interface.types, of, &seen);
     let next = next_levels(inner, top, below)?;
     Ok(next)
-}
-
-// Passes what a node has before its children, and gives what it says.
-fn visit<'a>(
-    ground: &Ground<'a>,
-    walker: &mut Walker<'a>,
-    max: u32,
-    of: TypeId,
-    spot: &Spot<'_, 'a>,
-) -> Result<Seen<'a>, Halt>
-    ensures goes { (k : Known) → IsGround k ground.now → (n : ℕ) (l : Label) (ks : Trees) → IsNode k spot.now max of.0 n l ks
-        → (rest : List Entry) → IsTracing k walker.old.progress (own_due k spot.now.home n of.0 l ks ++ rest)
-        → (names : Placed_cells) → IsNaming k walker.old.cells (names_in (own_due k spot.now.home n of.0 l ks) ++ names)
-        → IfOk result (λ seen. IsSeen l (count_of ks) (flat_seen seen) × (IsTracing k walker.new.progress rest
-        × HasNamed k walker.old.cells walker.new.cells (own_due k spot.now.home n of.0 l ks) names)) }
-    ensures ends { (k : Known) → IsGround k ground.now → (n : ℕ) (l : Label) (ks : Trees) → IsNode k spot.now max of.0 n l ks
-        → (rest : List Entry) → IsTracing k walker.old.progress (own_due k spot.now.home n of.0 l ks ++ rest)
-        → (names : Placed_cells) → IsNaming k walker.old.cells (names_in (own_due k spot.now.home n of.0 l ks) ++ names)
-        → IsErrOf result halts.Here → IsEnded k walker.new.progress }
-    ensures paid { IfOk result (λ _. IsPaid walker.old walker.new) }
-{
-    let before = walker.progress.next;
-    reach(ground, walker, spot)?;
-    let seen = own_items(ground, walker, max, of, spot)?;
-    seen_node(ground, walker, before, spot, &seen)?;
-    Ok(seen)
 }
 
 // The items of a node before its children.
 fn own_items<'a>(
     ground: &Ground<'a>,
-    walker: &mut Walker<'a>,
+    progress: &mut Progress,
+    cells: &mut Cells,
     max: u32,
     of: TypeId,
     spot: &Spot<'_, 'a>,
 ) -> Result<Seen<'a>, Halt>
     ensures goes { (k : Known) → IsGround k ground.now → (n : ℕ) (l : Label) (ks : Trees) → IsNode k spot.now max of.0 n l ks
-        → IsReady k walker.old.progress → (rest : List Entry) → IsTracing k walker.old.progress (own_due k spot.now.home n of.0 l ks ++ rest)
-        → (names : Placed_cells) → IsNaming k walker.old.cells (names_in (own_due k spot.now.home n of.0 l ks) ++ names)
-        → IfOk result (λ seen. IsSeen l (count_of ks) (flat_seen seen) × (IsTracing k walker.new.progress rest
-        × HasNamed k walker.old.cells walker.new.cells (own_due k spot.now.home n of.0 l ks) names)) }
+        → IsReady k progress.old → (rest : List Entry) → IsTracing k progress.old (own_due k spot.now.home n of.0 l ks ++ rest)
+        → (names : Placed_cells) → IsNaming k cells.old (names_in (own_due k spot.now.home n of.0 l ks) ++ names)
+        → IfOk result (λ seen. IsSeen l (count_of ks) (flat_seen seen) × (IsTracing k progress.new rest
+        × HasNamed k cells.old cells.new (own_due k spot.now.home n of.0 l ks) names)) }
     ensures ends { (k : Known) → IsGround k ground.now → (n : ℕ) (l : Label) (ks : Trees) → IsNode k spot.now max of.0 n l ks
-        → IsReady k walker.old.progress → (rest : List Entry) → IsTracing k walker.old.progress (own_due k spot.now.home n of.0 l ks ++ rest)
-        → (names : Placed_cells) → IsNaming k walker.old.cells (names_in (own_due k spot.now.home n of.0 l ks) ++ names)
-        → IsErrOf result halts.Here → IsEnded k walker.new.progress }
-    ensures paid { IfOk result (λ _. IsPaid walker.old walker.new) }
+        → IsReady k progress.old → (rest : List Entry) → IsTracing k progress.old (own_due k spot.now.home n of.0 l ks ++ rest)
+        → (names : Placed_cells) → IsNaming k cells.old (names_in (own_due k spot.now.home n of.0 l ks) ++ names)
+        → IsErrOf result halts.Here → IsEnded k progress.new }
+    ensures paid { IfOk result (λ _. HavePaid progress.old cells.old progress.new cells.new) }
 {
     match ground.interface.types.get(of.0 as usize) {
-        Some(TypeDef::Prim(prim)) => number(ground, &mut walker.progress, width_of(*prim) as u64, spot),
-        Some(TypeDef::Enum { .. }) => number(ground, &mut walker.progress, 2, spot),
+        Some(TypeDef::Prim(prim)) => number(ground, progress, width_of(*prim) as u64, spot),
+        Some(TypeDef::Enum { .. }) => number(ground, progress, 2, spot),
         Some(TypeDef::Struct { members }) => {
             let align = u64::from(ground.interface.align(of));
-            structure(ground, &mut walker.progress, align, members, spot)
+            structure(ground, progress, align, members, spot)
         }
         Some(TypeDef::Array { bound, varying, .. }) => {
             let max = bound.unwrap_or(max);
-            array(ground, &mut walker.progress, max, *varying, spot)
+            array(ground, progress, max, *varying, spot)
         }
-        Some(TypeDef::Text { .. }) => text(ground, &mut walker.progress, spot),
+        Some(TypeDef::Text { .. }) => text(ground, progress, spot),
         Some(
             TypeDef::Union {
                 tag,
@@ -178,10 +157,10 @@ fn own_items<'a>(
             },
         ) => {
             let width = tag_width(&ground.interface.types, *tag);
-            tagged(ground, &mut walker.progress, width, arms, default, spot)
+            tagged(ground, progress, width, arms, default, spot)
         }
-        Some(TypeDef::Pointer { class, to }) => pointer(ground, walker, *class, *to, spot),
-        Some(TypeDef::Context) => context(ground, &mut walker.progress, spot),
+        Some(TypeDef::Pointer { class, to }) => pointer(ground, progress, cells, *class, *to, spot),
+        Some(TypeDef::Context) => context(ground, progress, spot),
         Some(TypeDef::Pipe { .. }) => Ok(Seen::Ptr(None)),
         None => Ok(Seen::Ptr(None)),
     }
@@ -342,26 +321,27 @@ fn tag_width(types: &Types, tag: TypeId) -> u64
 // A pointer's number, and the cell that it names.
 fn pointer<'a>(
     ground: &Ground<'a>,
-    walker: &mut Walker<'a>,
+    progress: &mut Progress,
+    cells: &mut Cells,
     class: Class,
     to: TypeId,
     spot: &Spot<'_, 'a>,
 ) -> Result<Seen<'a>, Halt>
     ensures goes { (k : Known) → IsGround k ground.now → (n : ℕ) → IsSpot k spot.now n → (cell : Option ℕ)
         → IsFine k.graph class to.0 cell → (rest : List Entry)
-        → IsTracing k walker.old.progress (entry_at spot.now n (Align 4) ∷ entry_at spot.now n (Number class to.0 cell) ∷ rest)
-        → (names : Placed_cells) → IsNaming k walker.old.cells (named_by (Number class to.0 cell) ++ names)
-        → IfOk result (λ seen. (flat_seen seen ≡ (labels.Ptr cell, 0)) × (IsTracing k walker.new.progress rest
-        × HasNamed k walker.old.cells walker.new.cells (entry_at spot.now n (Number class to.0 cell) ∷ []) names)) }
+        → IsTracing k progress.old (entry_at spot.now n (Align 4) ∷ entry_at spot.now n (Number class to.0 cell) ∷ rest)
+        → (names : Placed_cells) → IsNaming k cells.old (named_by (Number class to.0 cell) ++ names)
+        → IfOk result (λ seen. (flat_seen seen ≡ (labels.Ptr cell, 0)) × (IsTracing k progress.new rest
+        × HasNamed k cells.old cells.new (entry_at spot.now n (Number class to.0 cell) ∷ []) names)) }
     ensures ends { (k : Known) → IsGround k ground.now → (n : ℕ) → IsSpot k spot.now n → (cell : Option ℕ)
         → (rest : List Entry)
-        → IsTracing k walker.old.progress (entry_at spot.now n (Align 4) ∷ entry_at spot.now n (Number class to.0 cell) ∷ rest)
-        → IsErrOf result halts.Here → IsEnded k walker.new.progress }
-    ensures paid { IfOk result (λ _. IsPaid walker.old walker.new) }
+        → IsTracing k progress.old (entry_at spot.now n (Align 4) ∷ entry_at spot.now n (Number class to.0 cell) ∷ rest)
+        → IsErrOf result halts.Here → IsEnded k progress.new }
+    ensures paid { IfOk result (λ _. HavePaid progress.old cells.old progress.new cells.new) }
 {
-    gap(ground, &mut walker.progress, 4, spot)?;
-    let number = count(ground, &mut walker.progress, spot)?;
-    let cell = name_cell(&mut walker.cells, class, to, number)?;
+    gap(ground, progress, 4, spot)?;
+    let number = count(ground, progress, spot)?;
+    let cell = name_cell(cells, class, to, number)?;
     Ok(Seen::Ptr(cell))
 }
 
