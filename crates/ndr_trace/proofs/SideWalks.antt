@@ -23,7 +23,7 @@ use Rattle.ndr_trace_laws.specs.Untested.{untested}
 use Rattle.ndr_trace_laws.proofs.Untested.{untested_append}
 use Rattle.ndr_trace.specs.declared.nodes.Walker.{Walker}
 use Rattle.ndr_trace.specs.Homes.{IsAwaiting, IsDeferring, IsPart, IsRoot, step_names}
-use Rattle.ndr_trace.specs.Naming.{IsNaming, names_in}
+use Rattle.ndr_trace.specs.Naming.{IsNaming, named_by, names_in}
 use Rattle.ndr_trace.specs.Sides.{IsAtPipes, IsAtRoot, IsBeforePipes, pipes_due}
 use Rattle.ndr_trace.specs.Tracing.{IsTracing, Known}
 use Rattle.ndr_trace.proofs.Deferring.{inverted}
@@ -110,7 +110,7 @@ module _ (k : Known) where
       → (cuts : List (List ℕ)) × IsBeforePipes k u at cuts × (at < before_pipes (root_list k.setting))
       × IsAwaiting k u (due_root at ∷ due_roots (at + 1) (before_pipes (root_list k.setting) - (at + 1))) (pipes_due k (before_pipes (root_list k.setting)) cuts)
           (names_in (pipes_due k (before_pipes (root_list k.setting)) cuts))
-  next_root u at root r no (cuts, s) = go (pipe_or_not k.setting at r.its r.there) s
+  next_root u at root r never (cuts, s) = go (pipe_or_not k.setting at r.its r.there) s
     where
       Goal : Type 0
       Goal =
@@ -126,7 +126,7 @@ module _ (k : Known) where
 
       go : ((r.its.is_pipe ≡ false) × (at < before_pipes (root_list k.setting))) ⊎ ((r.its.is_pipe ≡ true) × (before_pipes (root_list k.setting) ≤ at))
           → IsBeforePipes k u at cuts ⊎ IsAtPipes k u at cuts → Goal
-      go (inr (p, l)) s = let z : true ≡ false = sym p ∙ r.pipe ∙ no in cc
+      go (inr (p, l)) s = let z : true ≡ false = sym p ∙ r.pipe ∙ never in cc
       go (inl (p, l)) (inr t) = let h = t.past in absurd (omega (arith, h, l))
       go (inl (p, l)) (inl b) = (
         cuts,
@@ -206,7 +206,7 @@ module _ (k : Known) where
             later = later;
             cuts_all = cuts_all.0;
             tracing = subst (λ ms. IsTracing k u.progress ms) parts t.tracing;
-            naming = subst (λ ns. IsNaming k u.cells ns) (ap names_in parts ∙ flat_map-append _ (untested own) (untested others)) t.naming;
+            naming = subst (λ ns. IsNaming k u.cells ns) (ap names_in parts ∙ flat_map-append (λ (m : Entry). named_by m.kind) (untested own) (untested others)) t.naming;
             past = t.past;
             all_cut = cuts_all.1;
           }

@@ -2,7 +2,6 @@
 -- `k` are the octets with the partial graph in which they are refused, `u` is a walk, `ms` are the entries of a stream, `c` is a cell.
 use Rattle.std.proofs.Common.{◌≡◌, ◌⊎◌, inl, inr, ◌∙◌, ℕ, zero, suc, ◌+◌, ◌<◌, ◌≤◌, ◌^◌, List, [], ◌∷◌, ◌++◌, drop, length, Option, Some, None, refl, sym, ap, ap₂, subst, arith, append-nil, append_assoc, flat_map, map, ◌-◌, reverse}
 use Rattle.std.specs.List.{AllByRecursion, slice_get}
-use Rattle.std.proofs.lemmas.Grind.{flat_map-append}
 use Rattle.std.proofs.lemmas.Option.{slice_get_within}
 use Rattle.nd_types.specs.declared.types.Class.{Class}
 use Rattle.nd_types.specs.declared.types.Class.TheVariants.{Full}
@@ -66,9 +65,6 @@ full_append [] ys = refl
 full_append (m ∷ xs) ys = ap (λ cs. full_cell m.kind ++ cs) (full_append xs ys) ∙ sym (append_assoc (full_cell m.kind) (full_cells xs) (full_cells ys))
 
 module _ (k : Known) (s : IsPart k) (ms : List Entry) (a : Stream k.setting k.graph ms) where
-  names : Placed_cells
-  names = flat_map (step_names k.setting k.graph) a.steps
-
   sound : IsSound k.setting k.graph
   sound = sound_partial k.setting k.graph s.partial
 
