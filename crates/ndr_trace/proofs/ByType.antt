@@ -1,7 +1,7 @@
 -- A node's own items, by its type: what each function that passes them gives is what the node says.
 -- `k` are the octets with the partial graph in which they are refused, `s` is where the node is, `p` and `p1` are how far the walk came before and
 -- afterwards, `a` and `a1` the cells, `r` is what the function gives, `w` a width.
-use Rattle.std.proofs.Common.{◌≡◌, ◌∙◌, ℕ, ◌+◌, ◌<◌, ℤ, Bool, true, false, List, [], ◌∷◌, ◌++◌, length, Option, Some, None, Result, refl, sym, ap, ap₂, subst, arith}
+use Rattle.std.proofs.Common.{◌≡◌, ◌∙◌, ℕ, ◌+◌, ◌<◌, ◌≤◌, ℤ, Bool, true, false, List, [], ◌∷◌, ◌++◌, length, Option, Some, None, Result, refl, sym, ap, ap₂, subst, arith}
 use Rattle.std.specs.Prelude.{◌&&◌, IfOk, eqb, is_none}
 use Rattle.std.proofs.lemmas.Bool.{and_parts, eqb-true}
 use Rattle.std.proofs.lemmas.Result.{IfOk-weaker}
@@ -30,13 +30,14 @@ use Rattle.nd_grammar.specs.InPlace.{counts, entries, own_max}
 use Rattle.ndr_explain.specs.Explained.{home_flats, label_in}
 use Rattle.ndr_trace_laws.specs.Untested.{untested}
 use Rattle.ndr_trace.specs.declared.cells.Cells.{Cells}
+use Rattle.ndr_trace.specs.declared.nodes.Walker.{Walker}
 use Rattle.ndr_trace.specs.declared.progress.Halt.{Halt}
 use Rattle.ndr_trace.specs.declared.progress.Progress.{Progress}
 use Rattle.ndr_trace.specs.declared.progress.Spot.{Spot}
 use Rattle.ndr_trace.specs.Naming.{HasNamed, IsFine, IsNaming, named_by, names_in}
 use Rattle.ndr_trace.specs.Tracing.{IsTracing, Known, entry_at}
-use Rattle.ndr_trace.specs.Walking.{IsNode, IsReady, IsSeen, own_due, width_by}
-use Rattle.ndr_trace.proofs.OwnItems.{array_case, array_out, context_case, context_out, enum_case, enum_out, fine_pointer, is_bound_of, num_out, pointer_case, pointer_named, pointer_out, prim_case, read_of, struct_case, struct_out, text_case, text_out, union_case, union_out}
+use Rattle.ndr_trace.specs.Walking.{IsNode, IsPaid, IsReady, IsSeen, own_due, width_by}
+use Rattle.ndr_trace.proofs.OwnItems.{array_case, array_out, context_case, context_out, due_by, enum_case, enum_out, fine_pointer, is_bound_of, no_form, num_out, pipe_form, pointer_case, pointer_named, pointer_out, prim_case, read_of, struct_case, struct_out, text_case, text_out, union_case, union_out}
 
 module _ (k : Known) (s : Spot) (n max t : ℕ) (l : Label) (ks : Trees) (node : IsNode k s max t n l ks) (p : Progress) (ready : IsReady k p) (rest : List Entry)
     (tr : IsTracing k p (own_due k s.home n t l ks ++ rest)) where
@@ -93,6 +94,13 @@ module _ (k : Known) (s : Spot) (n max t : ℕ) (l : Label) (ks : Trees) (node :
   context_ends de f =
       let (b, (id, (le, go))) = context_case k s.home n p rest ready t (type_at k.setting.table t) l ks tr de in
       f b id (node.label_is ∙ ap (λ x. Some x) le) rest go
+
+  -- no value of these is due
+  pub pipe_goes : {A : Type 0} (elem : TypeId) → type_at k.setting.table t ≡ Some (def.Pipe elem) → A
+  pipe_goes elem de = pipe_form k s.home n p rest ready t elem l ks (subst (λ d. IsTracing k p (due_by k s.home n t d l ks ++ rest)) de tr)
+
+  pub none_goes : {A : Type 0} → type_at k.setting.table t ≡ None → A
+  none_goes de = no_form k s.home n p rest ready t l ks (subst (λ d. IsTracing k p (due_by k s.home n t d l ks ++ rest)) de tr)
 
   -- ## Where it goes on
 
@@ -222,3 +230,9 @@ module _ (k : Known) (s : Spot) (n max t : ℕ) (l : Label) (ks : Trees) (node :
         (o.0 ∙ ap₂ (λ x y. (tree.Arr x 0, y)) same (same ∙ sym all) ∙ ap (λ x. (tree.Arr m x, count ks)) (sym no_offset))
         (subst (λ q. IsTracing k q rest) (sym o.1) go))
         f
+
+-- where no pointer became pending
+pub paid_same : (a b : Walker) (r : Result Seen Halt) → b.cells ≡ a.cells → IfOk r (λ _. a.progress.next ≤ b.progress.next) → IfOk r (λ _. IsPaid a b)
+paid_same a b r e f =
+    IfOk-weaker r (λ _. a.progress.next ≤ b.progress.next) (λ _. IsPaid a b)
+    (λ x le. (le, (let c = ap (λ (y : Cells). length y.pending.items) e in omega (arith, c, le)))) f

@@ -3,7 +3,7 @@
 use Rattle.std.proofs.Common.{◌≡◌, ◌∙◌, ℕ, ◌+◌, ◌-◌, ◌^◌, ◌<◌, ◌≤◌, zero, suc, ℤ, Bool, true, false, List, [], ◌∷◌, ◌++◌, drop, length, take, Option, Some, None, codes, refl, sym, ap, ap₂, subst, append_assoc, arith}
 use Rattle.std.proofs.Common.{◌%◌, length-append, reverse}
 use Rattle.std.proofs.Math.Nat.{mod-eq_of_lt, mod-lt, mod_self}
-use Rattle.std.specs.Prelude.{IsSome, min, pos}
+use Rattle.std.specs.Prelude.{IsSome, pos}
 use Rattle.std.specs.List.{AllByRecursion, slice_get}
 use Rattle.nd_base.specs.declared.octets.Order.{Order}
 use Rattle.nd_base.specs.declared.octets.Order.TheVariants.{Big, Little}
@@ -306,9 +306,9 @@ module _ (k : Known) (u : Ground) (ground : IsGround k u) where
       → IsTracing k p (entry_at s n x ∷ rest) → (i : Item) → slice_get u.items.now.items p.next ≡ Some i → (t1 t2 t3 t4 t5 t6 : List ℕ)
       → t1 ≡ p.lines ++ item_head i → t2 ≡ t1 ++ codes " " → t3 ≡ path_to (t2 ++ name_text s.name) (s.top ∷ reverse s.below.now.items)
       → t4 ≡ t3 ++ codes " " → ((l : Option Label) → IsShown u i i.kind l → t5 ≡ t4 ++ value_shown i.kind l i.value) → t6 ≡ t5 ++ codes "\n"
-      → p1.lines ≡ t6 → p1.next ≡ p.next + 1 → p1.at ≡ min (i.at + i.len) (2 ^ 32 - 1) → p1.path ≡ p.path → IsTracing k p1 rest × Holds k x i.value
+      → p1.lines ≡ t6 → p1.next ≡ p.next + 1 → p1.at ≡ i.at + i.len → p1.path ≡ p.path → IsTracing k p1 rest × Holds k x i.value
   item_goes s n spot x item label rest p p1 t i got t1 t2 t3 t4 t5 t6 e1 e2 e3 e4 e5 e6 lines next at path = (
-    item_passed k p p1 (entry_at s n x) rest z i (ground.few p.next i there) one t there next at path line,
+    item_passed k p p1 (entry_at s n x) rest z i one t there next at path line,
     subst (Holds k x) (sym value) (holds k p.at x item ground.are_octets one.rendered.0 one.rendered.1),
   )
     where
@@ -358,9 +358,9 @@ module _ (k : Known) (u : Ground) (ground : IsGround k u) where
   -- a gap with its line: the next entry is due
   pub gap_goes : (s : Spot) (n align : ℕ) (rest : List Entry) (p p1 : Progress) → 0 < gap p.at align → IsTracing k p (entry_at s n (Align align) ∷ rest)
       → (i : Item) → slice_get u.items.now.items p.next ≡ Some i → (t1 t2 : List ℕ) → t1 ≡ p.lines ++ item_head i → t2 ≡ t1 ++ codes "\n"
-      → p1.lines ≡ t2 → p1.next ≡ p.next + 1 → p1.at ≡ min (i.at + i.len) (2 ^ 32 - 1) → p1.path ≡ p.path → IsTracing k p1 rest
+      → p1.lines ≡ t2 → p1.next ≡ p.next + 1 → p1.at ≡ i.at + i.len → p1.path ≡ p.path → IsTracing k p1 rest
   gap_goes s n align rest p p1 some t i got t1 t2 e1 e2 lines next at path =
-      item_passed k p p1 (entry_at s n (Align align)) rest (item.Gap, pos 0) i (ground.few p.next i there) one t there next at path line
+      item_passed k p p1 (entry_at s n (Align align)) rest (item.Gap, pos 0) i one t there next at path line
     where
       there : slice_get k.log p.next ≡ Some i
       there = ap (λ xs. slice_get xs p.next) (sym ground.items) ∙ got

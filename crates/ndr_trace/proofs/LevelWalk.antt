@@ -127,7 +127,7 @@ module _ (k : Known) (max : ℕ) where
   own_joined (t ∷ types) T none us e a b = cc
   own_joined (t ∷ types) T (more (node l js) ks) us e a b = (a.0, (a.1.0, own_joined types T ks us (omega (arith, e)) a.1.1 b))
 
-nodes_joined : (ks us : Trees) → node_count (joined ks us) ≡ node_count ks + node_count us
+pub nodes_joined : (ks us : Trees) → node_count (joined ks us) ≡ node_count ks + node_count us
 nodes_joined none us = omega arith
 nodes_joined (more (node l js) ks) us = let h = nodes_joined ks us in omega (arith, h)
 
@@ -249,7 +249,7 @@ no_values : (k : Known) (h : Home) (n : ℕ) (w : Trees) → values_due k h [] n
 no_values k h n none = refl
 no_values k h n (more v w) = refl
 
-names_append : (xs ys : List Entry) → names_in (xs ++ ys) ≡ names_in xs ++ names_in ys
+pub names_append : (xs ys : List Entry) → names_in (xs ++ ys) ≡ names_in xs ++ names_in ys
 names_append xs ys = flat_map-append (λ (m : Entry). named_by m.kind) xs ys
 
 pending_append : (xs ys : List Entry) → pending_in (xs ++ ys) ≡ pending_in xs ++ pending_in ys

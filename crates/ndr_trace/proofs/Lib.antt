@@ -6,6 +6,9 @@ pub mod LevelWalk
 pub mod OwnItems
 pub mod ByType
 pub mod Parts
+pub mod ChunkWalk
+pub mod PipeStart
+pub mod Ending
 pub mod NamedCells
 pub mod HomeNames
 pub mod HomeThere
@@ -20,4 +23,5 @@ pub mod SideWalks
 pub mod SideRoots
 pub mod SmallCells
 pub mod Starting
-pub mod Ending
+pub mod WholeWalk
+pub mod Faults

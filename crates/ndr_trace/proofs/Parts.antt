@@ -66,7 +66,7 @@ path_of_first table types T paths P n ks us e f m h =
 
 -- ## Nodes by number
 
-nodes_flat : (w : Trees) → length (flat w) ≡ node_count w
+pub nodes_flat : (w : Trees) → length (flat w) ≡ node_count w
 nodes_flat none = refl
 nodes_flat (more (node l ks) ts) = let a = nodes_flat ks in let b = nodes_flat ts in let c = length-append (flat ks) (flat ts) in omega (arith, a, b, c)
 

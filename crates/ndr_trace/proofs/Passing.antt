@@ -1,9 +1,8 @@
 -- One item more has its line, and the next entry is due.
 -- `k` are the octets with the partial graph in which they are refused, `p` and `p1` how far a walk came, `m` is an entry, `i` an item, `z` its kind and value.
 use Rattle.std.proofs.Common.{◌≡◌, ◌⊎◌, inl, inr, ◌∙◌, ℕ, ◌+◌, ◌-◌, ◌^◌, ◌<◌, ◌≤◌, ℤ, Bool, true, false, List, [], ◌∷◌, ◌++◌, drop, length, take, Some, None, refl, sym, ap, subst, append-nil, arith}
-use Rattle.std.specs.Prelude.{IsErrAnd, Err, Result, min}
+use Rattle.std.specs.Prelude.{IsErrAnd, Err, Result}
 use Rattle.std.specs.List.{slice_get}
-use Rattle.std.proofs.Math.Nat.{min-eq_left}
 use Rattle.std.proofs.lemmas.Grind.{flat_map-append}
 use Rattle.std.proofs.lemmas.List.{take-append-drop}
 use Rattle.std.proofs.lemmas.Option.{slice_get_within}
@@ -54,11 +53,11 @@ module _ (k : Known) where
       (subst (λ l. Stops k.order k.fetched k.numbering k.here (end_to_end p.at (m ∷ rest)) l) (drop_next k.log p.next i got) t.due)
 
   -- with its line the next entry is due
-  pub item_passed : (p p1 : Progress) (m : Entry) (rest : List Entry) (z : ItemKind × ℤ) (i : Item) → i.at + i.len < 2 ^ 32
+  pub item_passed : (p p1 : Progress) (m : Entry) (rest : List Entry) (z : ItemKind × ℤ) (i : Item)
       → Took k.order k.fetched k.numbering k.here (placed p m) (end_to_end (p.at + size_at p.at m.kind) rest) z i (drop (p.next + 1) k.log)
-      → IsTracing k p (m ∷ rest) → slice_get k.log p.next ≡ Some i → p1.next ≡ p.next + 1 → p1.at ≡ min (i.at + i.len) (2 ^ 32 - 1) → p1.path ≡ p.path
+      → IsTracing k p (m ∷ rest) → slice_get k.log p.next ≡ Some i → p1.next ≡ p.next + 1 → p1.at ≡ i.at + i.len → p1.path ≡ p.path
       → p1.lines ≡ p.lines ++ item_line k.setting k.graph i → IsTracing k p1 rest
-  item_passed p p1 m rest z i few one t got next at path lines = record {
+  item_passed p p1 m rest z i one t got next at path lines = record {
     within = (let b = slice_get_within k.log p.next i got in omega (arith, next, b));
     lines = more_lines p.next i p.lines p1.lines got t.lines lines ∙ ap (λ n. shown (take n k.log)) (sym next);
     no_path = path ∙ t.no_path;
@@ -71,8 +70,7 @@ module _ (k : Known) where
       place =
           let a : i.at ≡ p.at = ap (λ (x : Item). x.at) one.is_item in
           let l : i.len ≡ size_at p.at m.kind = ap (λ (x : Item). x.len) one.is_item in
-          let small : i.at + i.len ≤ 2 ^ 32 - 1 = omega (arith, few) in
-          at ∙ min-eq_left small ∙ omega (arith, a, l)
+          at ∙ omega (arith, a, l)
 
   -- no item is left: reading stopped at the entry, unless it stopped at an agreement
   pub item_ended : (p p1 : Progress) (m : Entry) (rest : List Entry) (z : ItemKind × ℤ)

@@ -4,4 +4,5 @@ pub mod Tracing
 pub mod Naming
 pub mod Walking
 pub mod Homes
+pub mod Chunks
 pub mod Sides

@@ -2,7 +2,6 @@
 -- `k` are the octets with the partial graph in which they are refused, `u` what the walk is given, `p` how far it came, `s` where a node is, `ms`
 -- are the entries that are due, agreements apart.
 use Rattle.std.specs.Prelude.{◌≡◌, ◌⊎◌, ◌<◌, ◌≤◌, ◌+◌, ◌-◌, ◌^◌, ℕ, ℤ, pos, true, List, [], ◌∷◌, ◌++◌, drop, length, reverse, take, IsSome, Option, Some}
-use Rattle.std.specs.List.{slice_get}
 use Rattle.nd_base.specs.declared.octets.Order.{Order}
 use Rattle.nd_types.specs.Number.{AreOctets}
 use Rattle.nd_value.specs.declared.item.Home.{Home}
@@ -49,8 +48,6 @@ pub record IsGround (k : Known) (u : Ground) : Type 0 where
   -- an agreement is sought exactly where one fails
   pub sought : IsSome u.sought → is_test k.here.entry.kind ≡ true
   pub seeks : is_test k.here.entry.kind ≡ true → IsSome u.sought
-  -- no item ends past the limit of a stream
-  pub few : (n : ℕ) (i : Item) → slice_get k.log n ≡ Some i → i.at + i.len < 2 ^ 32
   pub are_octets : AreOctets k.fetched
   pub is_numbering : IsNumbering k.numbering k.full
 

@@ -158,10 +158,10 @@ fn own_items<'a>(
     ensures paid { IfOk result (λ _. IsPaid walker.old walker.new) }
 {
     match ground.interface.types.get(of.0 as usize) {
-        Some(TypeDef::Prim(prim)) => number(ground, &mut walker.progress, width_of(*prim) as u32, spot),
+        Some(TypeDef::Prim(prim)) => number(ground, &mut walker.progress, width_of(*prim) as u64, spot),
         Some(TypeDef::Enum { .. }) => number(ground, &mut walker.progress, 2, spot),
         Some(TypeDef::Struct { members }) => {
-            let align = u32::from(ground.interface.align(of));
+            let align = u64::from(ground.interface.align(of));
             structure(ground, &mut walker.progress, align, members, spot)
         }
         Some(TypeDef::Array { bound, varying, .. }) => {
@@ -182,7 +182,8 @@ fn own_items<'a>(
         }
         Some(TypeDef::Pointer { class, to }) => pointer(ground, walker, *class, *to, spot),
         Some(TypeDef::Context) => context(ground, &mut walker.progress, spot),
-        _ => Ok(Seen::Ptr(None)),
+        Some(TypeDef::Pipe { .. }) => Ok(Seen::Ptr(None)),
+        None => Ok(Seen::Ptr(None)),
     }
 }
 
@@ -190,7 +191,7 @@ fn own_items<'a>(
 fn number<'a>(
     ground: &Ground<'a>,
     progress: &mut Progress,
-    width: u32,
+    width: u64,
     spot: &Spot<'_, 'a>,
 ) -> Result<Seen<'a>, Halt>
     requires { 0 < width }
@@ -213,7 +214,7 @@ fn number<'a>(
 fn structure<'a>(
     ground: &Ground<'a>,
     progress: &mut Progress,
-    align: u32,
+    align: u64,
     members: &Fields,
     spot: &Spot<'_, 'a>,
 ) -> Result<Seen<'a>, Halt>
@@ -294,7 +295,7 @@ fn text<'a>(
 fn tagged<'a>(
     ground: &Ground<'a>,
     progress: &mut Progress,
-    width: u32,
+    width: u64,
     arms: &Arms,
     default: &Option<Arm>,
     spot: &Spot<'_, 'a>,
@@ -328,12 +329,12 @@ fn has_value(arm: Option<&Arm>) -> bool
 }
 
 // How many octets a tag has.
-fn tag_width(tag: Option<&TypeDef>) -> u32
+fn tag_width(tag: Option<&TypeDef>) -> u64
     ensures some { 0 < result }
     ensures width { result ≡ width_by (option_copied tag.entry) }
 {
     match tag {
-        Some(TypeDef::Prim(prim)) => width_of(*prim) as u32,
+        Some(TypeDef::Prim(prim)) => width_of(*prim) as u64,
         _ => 2,
     }
 }

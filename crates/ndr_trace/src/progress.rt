@@ -1,5 +1,5 @@
 // How far the items of a log are traced.
-ghost use Rattle.std.specs.Prelude.{◌≡◌, ◌<◌, ◌≤◌, ◌+◌, ◌-◌, ◌^◌, ◌++◌, ℕ, List, ◌∷◌, drop, length, take, IfOk, IsErrOf, None, OnOk, Option, min, reverse};
+ghost use Rattle.std.specs.Prelude.{◌≡◌, ◌<◌, ◌≤◌, ◌+◌, ◌-◌, ◌^◌, ◌++◌, ℕ, List, ◌∷◌, drop, length, take, IfOk, IsErrOf, None, OnOk, Option, reverse};
 ghost use Rattle.nd_value.specs.Tree.{Label};
 ghost use Rattle.nd_grammar.specs.Entry.{Align, Entry, Kind};
 ghost use Rattle.ndr_prim.specs.Context.{attributes_of, identifier_of};
@@ -42,7 +42,7 @@ pub(crate) struct Progress {
     /// How many items have a line.
     pub(crate) next: usize,
     /// The place after the last of these.
-    pub(crate) at: u32,
+    pub(crate) at: u64,
     pub(crate) lines: Octets,
     /// The path of what is refused, once the walk has ended there.
     pub(crate) path: Octets,
@@ -80,7 +80,7 @@ pub(crate) struct Spot<'s, 'a> {
 pub(crate) fn gap(
     ground: &Ground<'_>,
     progress: &mut Progress,
-    align: u32,
+    align: u64,
     spot: &Spot<'_, '_>,
 ) -> Result<(), Halt>
     requires { 0 < align }
@@ -206,12 +206,12 @@ fn append_handle(ground: &Ground<'_>, text: &mut Octets, item: &Item) -> Result<
 fn pass(progress: &mut Progress, item: &Item)
     requires { progress.old.next < 2 ^ 64 - 1 }
     ensures next { progress.new.next ≡ progress.old.next + 1 }
-    ensures at { progress.new.at ≡ min (item.now.at + item.now.len) (2 ^ 32 - 1) }
+    ensures at { progress.new.at ≡ item.now.at + item.now.len }
     ensures lines { progress.new.lines ≡ progress.old.lines }
     ensures path { progress.new.path ≡ progress.old.path }
 {
     progress.next += 1;
-    progress.at = item.at.saturating_add(item.len);
+    progress.at = u64::from(item.at) + u64::from(item.len);
 }
 
 // Ends the walk at a node that is refused or lacks octets; a value that disagrees with a variable has its path already.

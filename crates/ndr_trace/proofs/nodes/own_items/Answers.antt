@@ -1,13 +1,96 @@
+use Rattle.std.proofs.Common.{◌≡◌, ◌∙◌, ◌≤◌, ◌+◌, Some, None, false, true, length, sym, ap, subst, arith, le_refl}
+use Rattle.std.specs.Prelude.{IfOk, IsErrOf}
+use Rattle.nd_types.specs.Layout.{align_of, hoists, hoists_by}
+use Rattle.nd_types.specs.Table.{type_at}
+use Rattle.nd_types.proofs.LayoutLaws.{hoists-legal}
+use Rattle.ndr_trace.specs.declared.progress.Halt.TheVariants as halts
+use Rattle.ndr_trace.specs.Tracing.{IsEnded}
+use Rattle.ndr_trace.specs.Walking.{IsPaid, width_by}
+use Rattle.ndr_trace.proofs.ByType.{array_ends, array_goes, context_ends, context_goes, enum_ends, enum_goes, fixed_goes, none_goes, paid_same, pipe_goes, pointer_ends, pointer_goes, prim_ends, prim_goes}
+use Rattle.ndr_trace.proofs.ByType.{struct_ends, struct_goes, text_ends, text_goes, union_ends, union_goes}
 use Rattle.ndr_trace.proofs.nodes.own_items.Goals as goal
 
 pub returns-in-Some-Prim-clause-goes : goal.returns-in-Some-Prim-clause-goes
-returns-in-Some-Prim-clause-goes c = ?
+returns-in-Some-Prim-clause-goes c k u n l ks node ready rest t names nm =
+    prim_goes k c.args.spot.now n c.args.max c.args.of.0 l ks node c.args.walker.now.progress ready rest t names c.args.walker.now.cells nm c.number.new.progress c.number.result _ (ap (λ ts. type_at ts c.args.of.0) (sym u.table) ∙ c.in-Some-Prim.ensures.some ∙ ap (λ d. Some d) c.in-Some-Prim.field-0-is) _ c.width_of.ensures.value (c.number.ensures.goes k u n node.spot)
 
-pub returns-in-Some-Array-clause-goes : goal.returns-in-Some-Array-clause-goes
-returns-in-Some-Array-clause-goes c = ?
+pub returns-in-Some-Prim-clause-ends : goal.returns-in-Some-Prim-clause-ends
+returns-in-Some-Prim-clause-ends c k u n l ks node ready rest t names nm =
+    prim_ends {E = IsErrOf c.number.result halts.Here → IsEnded k c.number.new.progress} k c.args.spot.now n c.args.max c.args.of.0 l ks node c.args.walker.now.progress ready rest t _ (ap (λ ts. type_at ts c.args.of.0) (sym u.table) ∙ c.in-Some-Prim.ensures.some ∙ ap (λ d. Some d) c.in-Some-Prim.field-0-is) _ c.width_of.ensures.value (c.number.ensures.ends k u n node.spot)
 
-pub returns-in-Some-Union-clause-goes : goal.returns-in-Some-Union-clause-goes
-returns-in-Some-Union-clause-goes c = ?
+pub returns-in-Some-Prim-clause-paid : goal.returns-in-Some-Prim-clause-paid
+returns-in-Some-Prim-clause-paid c = paid_same c.args.walker.now _ c.number.result c.number.ensures.later
+
+pub returns-in-Some-Enum-clause-goes : goal.returns-in-Some-Enum-clause-goes
+returns-in-Some-Enum-clause-goes c k u n l ks node ready rest t names nm =
+    enum_goes k c.args.spot.now n c.args.max c.args.of.0 l ks node c.args.walker.now.progress ready rest t names c.args.walker.now.cells nm c.number.new.progress c.number.result _ (ap (λ ts. type_at ts c.args.of.0) (sym u.table) ∙ c.in-Some-Enum.ensures.some ∙ ap (λ d. Some d) c.in-Some-Enum.field-0-is) (c.number.ensures.goes k u n node.spot)
+
+pub returns-in-Some-Enum-clause-ends : goal.returns-in-Some-Enum-clause-ends
+returns-in-Some-Enum-clause-ends c k u n l ks node ready rest t names nm =
+    enum_ends {E = IsErrOf c.number.result halts.Here → IsEnded k c.number.new.progress} k c.args.spot.now n c.args.max c.args.of.0 l ks node c.args.walker.now.progress ready rest t _ (ap (λ ts. type_at ts c.args.of.0) (sym u.table) ∙ c.in-Some-Enum.ensures.some ∙ ap (λ d. Some d) c.in-Some-Enum.field-0-is) (c.number.ensures.ends k u n node.spot)
+
+pub returns-in-Some-Enum-clause-paid : goal.returns-in-Some-Enum-clause-paid
+returns-in-Some-Enum-clause-paid c = paid_same c.args.walker.now _ c.number.result c.number.ensures.later
 
 pub returns-in-Some-Struct-clause-goes : goal.returns-in-Some-Struct-clause-goes
-returns-in-Some-Struct-clause-goes c = ?
+returns-in-Some-Struct-clause-goes c k u n l ks node ready rest t names nm =
+    struct_goes k c.args.spot.now n c.args.max c.args.of.0 l ks node c.args.walker.now.progress ready rest t names c.args.walker.now.cells nm c.structure.new.progress c.structure.result _ (ap (λ ts. type_at ts c.args.of.0) (sym u.table) ∙ c.in-Some-Struct.ensures.some ∙ ap (λ d. Some d) c.in-Some-Struct.field-0-is) _ (c.align.ensures ∙ ap (λ ts. align_of ts c.args.of.0) u.table) (c.structure.ensures.goes k u n)
+
+pub returns-in-Some-Struct-clause-ends : goal.returns-in-Some-Struct-clause-ends
+returns-in-Some-Struct-clause-ends c k u n l ks node ready rest t names nm =
+    struct_ends {E = IsErrOf c.structure.result halts.Here → IsEnded k c.structure.new.progress} k c.args.spot.now n c.args.max c.args.of.0 l ks node c.args.walker.now.progress ready rest t _ (ap (λ ts. type_at ts c.args.of.0) (sym u.table) ∙ c.in-Some-Struct.ensures.some ∙ ap (λ d. Some d) c.in-Some-Struct.field-0-is) _ (c.align.ensures ∙ ap (λ ts. align_of ts c.args.of.0) u.table) (c.structure.ensures.ends k u n node.spot)
+
+pub returns-in-Some-Struct-clause-paid : goal.returns-in-Some-Struct-clause-paid
+returns-in-Some-Struct-clause-paid c = paid_same c.args.walker.now _ c.structure.result c.structure.ensures.later
+
+pub returns-in-Some-Text-clause-goes : goal.returns-in-Some-Text-clause-goes
+returns-in-Some-Text-clause-goes c k u n l ks node ready rest t names nm =
+    text_goes k c.args.spot.now n c.args.max c.args.of.0 l ks node c.args.walker.now.progress ready rest t names c.args.walker.now.cells nm c.text.new.progress c.text.result _ _ (ap (λ ts. type_at ts c.args.of.0) (sym u.table) ∙ c.in-Some-Text.ensures.some ∙ ap (λ d. Some d) c.in-Some-Text.field-0-is) (c.text.ensures.goes k u n node.spot)
+
+pub returns-in-Some-Text-clause-ends : goal.returns-in-Some-Text-clause-ends
+returns-in-Some-Text-clause-ends c k u n l ks node ready rest t names nm =
+    text_ends {E = IsErrOf c.text.result halts.Here → IsEnded k c.text.new.progress} k c.args.spot.now n c.args.max c.args.of.0 l ks node c.args.walker.now.progress ready rest t _ _ (ap (λ ts. type_at ts c.args.of.0) (sym u.table) ∙ c.in-Some-Text.ensures.some ∙ ap (λ d. Some d) c.in-Some-Text.field-0-is) (c.text.ensures.ends k u n node.spot)
+
+pub returns-in-Some-Text-clause-paid : goal.returns-in-Some-Text-clause-paid
+returns-in-Some-Text-clause-paid c = paid_same c.args.walker.now _ c.text.result c.text.ensures.later
+
+pub returns-in-Some-Context-clause-goes : goal.returns-in-Some-Context-clause-goes
+returns-in-Some-Context-clause-goes c k u n l ks node ready rest t names nm =
+    context_goes k c.args.spot.now n c.args.max c.args.of.0 l ks node c.args.walker.now.progress ready rest t names c.args.walker.now.cells nm c.context.new.progress c.context.result (ap (λ ts. type_at ts c.args.of.0) (sym u.table) ∙ c.in-Some-Context.ensures.some ∙ ap (λ d. Some d) c.in-Some-Context.field-0-is) (c.context.ensures.goes k u n node.spot)
+
+pub returns-in-Some-Context-clause-ends : goal.returns-in-Some-Context-clause-ends
+returns-in-Some-Context-clause-ends c k u n l ks node ready rest t names nm =
+    context_ends {E = IsErrOf c.context.result halts.Here → IsEnded k c.context.new.progress} k c.args.spot.now n c.args.max c.args.of.0 l ks node c.args.walker.now.progress ready rest t (ap (λ ts. type_at ts c.args.of.0) (sym u.table) ∙ c.in-Some-Context.ensures.some ∙ ap (λ d. Some d) c.in-Some-Context.field-0-is) (c.context.ensures.ends k u n node.spot)
+
+pub returns-in-Some-Context-clause-paid : goal.returns-in-Some-Context-clause-paid
+returns-in-Some-Context-clause-paid c = paid_same c.args.walker.now _ c.context.result c.context.ensures.later
+
+pub returns-in-Some-Array-clause-goes : goal.returns-in-Some-Array-clause-goes
+returns-in-Some-Array-clause-goes c k u n l ks node ready rest t names nm =
+    ?
+
+pub returns-in-Some-Array-clause-ends : goal.returns-in-Some-Array-clause-ends
+returns-in-Some-Array-clause-ends c k u n l ks node ready rest t names nm =
+    ?
+
+pub returns-in-Some-Array-clause-paid : goal.returns-in-Some-Array-clause-paid
+returns-in-Some-Array-clause-paid c = paid_same c.args.walker.now _ c.array.result c.array.ensures.later
+
+pub returns-in-Some-Union-clause-goes : goal.returns-in-Some-Union-clause-goes
+returns-in-Some-Union-clause-goes c k u n l ks node ready rest t names nm =
+    ?
+
+pub returns-in-Some-Union-clause-ends : goal.returns-in-Some-Union-clause-ends
+returns-in-Some-Union-clause-ends c k u n l ks node ready rest t names nm =
+    ?
+
+pub returns-in-Some-Union-clause-paid : goal.returns-in-Some-Union-clause-paid
+returns-in-Some-Union-clause-paid c = paid_same c.args.walker.now _ c.tagged.result c.tagged.ensures.later
+
+pub returns-in-Some-Pointer-clause-goes : goal.returns-in-Some-Pointer-clause-goes
+returns-in-Some-Pointer-clause-goes c k u n l ks node ready rest t names nm =
+    ?
+
+pub returns-in-Some-Pointer-clause-ends : goal.returns-in-Some-Pointer-clause-ends
+returns-in-Some-Pointer-clause-ends c k u n l ks node ready rest t names nm =
+    ?
