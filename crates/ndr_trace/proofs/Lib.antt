@@ -25,3 +25,5 @@ pub mod SmallCells
 pub mod Starting
 pub mod WholeWalk
 pub mod Faults
+pub mod Grounds
+pub mod TracedWhole

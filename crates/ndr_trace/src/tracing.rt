@@ -2,6 +2,7 @@
 ghost use Rattle.std.specs.Prelude.{◌≡◌, ◌<◌, ◌++◌, ℕ, List, length, Some, option_map, IfOk, None};
 ghost use Rattle.std.specs.List.{slice_get};
 ghost use Rattle.nd_types.specs.declared.types.Operation.{Operation};
+ghost use Rattle.nd_types.specs.Number.{AreOctets};
 ghost use Rattle.nd_value.specs.Fitting.{setting_beside};
 ghost use Rattle.nd_value.specs.Request.{IsRequestOf};
 ghost use Rattle.nd_value.specs.Setting.{Setting};
@@ -62,6 +63,7 @@ pub fn trace(
         → (fetched more : List ℕ) → octets.now ≡ fetched ++ more → (bad : Bad w order fetched place why) → HasOwnNumbers bad.partial bad.entries
         → items.now.items ≡ items_of order fetched bad.earlier → IsTraceOf w order fetched place why bad t.lines t.path) }
 {
+    are_octets(octets);
     let ground = Ground {
         alloc,
         interface,
@@ -74,8 +76,14 @@ pub fn trace(
         sought: find_agreement(items, place, why),
     };
     let walker = walk(&ground)?;
-    finish(&ground, walker)
+    let traced = finish(&ground, walker)?;
+    Ok(traced)
 }
+
+// Octets are numbers below 256.
+fn are_octets(octets: &[u8])
+    ensures { AreOctets octets.now }
+{}
 
 // A walk over the items to their end.
 fn walk<'a>(ground: &Ground<'a>) -> Result<Walker<'a>, Memory>
