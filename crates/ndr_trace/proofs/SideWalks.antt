@@ -59,19 +59,20 @@ parted [] (y ∷ ys) a b i r e = inr (its_pipe (y ∷ ys) b i e, none_before y.i
     none_before : (q : Bool) → q ≡ true → elim q [ true ↦ 0 | false ↦ suc (before_pipes ys) ] ≤ i
     none_before true f = omega arith
     none_before false f = cc
-parted (x ∷ xs) ys a b i r e = go x.is_pipe refl i e
+parted (x ∷ xs) ys a b i r e = go x.is_pipe refl i e (λ j f. parted xs ys a.1 b j r f)
   where
     more_before : (q : Bool) → q ≡ false → elim q [ true ↦ 0 | false ↦ suc (before_pipes (xs ++ ys)) ] ≡ suc (before_pipes (xs ++ ys))
     more_before true f = cc
     more_before false f = refl
 
     go : (q : Bool) → x.is_pipe ≡ q → (i : ℕ) → slice_get (x ∷ (xs ++ ys)) i ≡ Some r
+        → ((j : ℕ) → slice_get (xs ++ ys) j ≡ Some r → ((r.is_pipe ≡ false) × (j < before_pipes (xs ++ ys))) ⊎ ((r.is_pipe ≡ true) × (before_pipes (xs ++ ys) ≤ j)))
         → ((r.is_pipe ≡ false) × (i < before_pipes (x ∷ (xs ++ ys)))) ⊎ ((r.is_pipe ≡ true) × (before_pipes (x ∷ (xs ++ ys)) ≤ i))
-    go true q i f = let z = a.0 in let y : not true ≡ true = ap not (sym q) ∙ z in cc
-    go false q zero f =
+    go true q i f later = let z = a.0 in let y : not true ≡ true = ap not (sym q) ∙ z in cc
+    go false q zero f later =
         let n = more_before x.is_pipe q in
         inl (ap (λ (s : Root). s.is_pipe) (sym (same_Some _ _ f)) ∙ q, omega (arith, n))
-    go false q (suc i) f = step (parted xs ys a.1 b i r f)
+    go false q (suc i) f later = step (later i f)
       where
         step : ((r.is_pipe ≡ false) × (i < before_pipes (xs ++ ys))) ⊎ ((r.is_pipe ≡ true) × (before_pipes (xs ++ ys) ≤ i))
             → ((r.is_pipe ≡ false) × (suc i < before_pipes (x ∷ (xs ++ ys)))) ⊎ ((r.is_pipe ≡ true) × (before_pipes (x ∷ (xs ++ ys)) ≤ suc i))
