@@ -5,7 +5,7 @@
 use Rattle.std.proofs.Common.{◌≡◌, ◌⊎◌, inl, inr, ◌∙◌, ℕ, zero, suc, ◌+◌, ◌<◌, ◌≤◌, true, false, List, [], ◌∷◌, ◌++◌, length, Option, Some, None, refl, sym, ap, ap₂, subst, append_assoc, arith, flat_map, map}
 use Rattle.std.specs.List.{AllByRecursion, slice_get}
 use Rattle.std.proofs.lemmas.Option.{same_Some}
-use Rattle.std.proofs.lemmas.Grind.{flat_map-append, map-append}
+use Rattle.std.proofs.lemmas.List.{map-append}
 use Rattle.nd_types.specs.declared.types.Class.{Class}
 use Rattle.nd_types.specs.declared.types.Class.TheVariants.{Full, Ref}
 use Rattle.nd_types.specs.declared.types.TypeDef.TheVariants as def
@@ -327,6 +327,14 @@ module _ (w : Setting) (g : Graph) (s : IsSound w g) (m : ℕ) where
       (root_apart w 0 (root_list w) g.roots i r s.all_roots e (earlier_parts (root_pointers w.table 0 (root_list w) g.roots) (cell_pointers w.table 1 g.cells) s.unshared).0)
 
   module _ (known : KnownDirect w g s) where
+    abbrev RootGoal : Placed_cells → List ℕ → ℕ → List ℕ → ℕ → Placed_cells → Standing → Type 0
+    RootGoal done rs n full i ns x =
+        AreFree (root_cell x.home) done → ((p : Pointer) → Among (home_pointers w.table x.home x.of x.val) p → Among (all_pointers w g) p)
+        → Counts n (map (λ (d : Class × ℕ). d.1) ((direct_names x.home ++ standing_names w x) ++ ns)) m
+        → ((n' : ℕ) (full' : List ℕ) (seen' : List Pointer) → Passed (root_cell x.home ++ done) (i ∷ rs) seen'
+            → Seen (all_pointers w g) s.unshared m n' full' seen' → Counts n' (map (λ (d : Class × ℕ). d.1) ns) m → InTurn n' full' ns)
+        → InTurn n full ((direct_names x.home ++ standing_names w x) ++ ns)
+
     pub turns : {done : Placed_cells} {due : List Due} {us : List Step} → Deferral w g done due us → (rs : List ℕ) (n : ℕ) (full : List ℕ) (seen : List Pointer) → AreFresh rs due
         → AllByRecursion (Mine w g s) due → Passed done rs seen → Seen (all_pointers w g) s.unshared m n full seen
         → Counts n (map (λ (d : Class × ℕ). d.1) (flat_map (step_names w g) us)) m → InTurn n full (flat_map (step_names w g) us)
@@ -358,24 +366,24 @@ module _ (w : Setting) (g : Graph) (s : IsSound w g) (m : ℕ) where
             → InTurn n full ((direct_names (standing_root w g i).home ++ standing_names w (standing_root w g i)) ++ ns)
         at_a_root done rs seen n full i r e ns b c new free inside counts later = by (direct (type_at w.table r.of) (root_at g i)) refl
           where
-            Goal : Standing → Type 0
-            Goal x =
-                AreFree (root_cell x.home) done → ((p : Pointer) → Among (home_pointers w.table x.home x.of x.val) p → Among (all_pointers w g) p)
-                → Counts n (map (λ (d : Class × ℕ). d.1) ((direct_names x.home ++ standing_names w x) ++ ns)) m
-                → ((n' : ℕ) (full' : List ℕ) (seen' : List Pointer) → Passed (root_cell x.home ++ done) (i ∷ rs) seen'
-                    → Seen (all_pointers w g) s.unshared m n' full' seen' → Counts n' (map (λ (d : Class × ℕ). d.1) ns) m → InTurn n' full' ns)
-                → InTurn n full ((direct_names x.home ++ standing_names w x) ++ ns)
-
             by : (o : Option (ℕ × ℕ)) → direct (type_at w.table r.of) (root_at g i) ≡ o
                 → InTurn n full ((direct_names (standing_root w g i).home ++ standing_names w (standing_root w g i)) ++ ns)
-            by None f = subst Goal (sym (standing_is w g s i r e None f)) here free inside counts later
+            by None f = subst (RootGoal done rs n full i ns) (sym (standing_is w g s i r e None f)) here free inside counts later
               where
-                here : Goal (record { home = home.Root i; of = r.of; val = root_at g i })
+                here : RootGoal done rs n full i ns (record { home = home.Root i; of = r.of; val = root_at g i })
                 here free inside counts later =
                     one_home done done rs (i ∷ rs) seen (home.Root i) r.of (root_at g i) n full ns b c new (inl refl) (more_roots done rs i) inside (own_apart i r e) counts later
-            by (Some (cell, t)) f = subst Goal (sym (standing_is w g s i r e (Some (cell, t)) f)) here free inside counts later
+            by (Some (cell, t)) f = subst (RootGoal done rs n full i ns) (sym (standing_is w g s i r e (Some (cell, t)) f)) here free inside counts later
               where
-                here : Goal (record { home = cell_home cell; of = t; val = cell_at g cell })
+                either_mine : (p : Pointer) → Among (all_pointers w g) p → (q : Pointer) → (q ≡ p) ⊎ Among seen q → Among (all_pointers w g) q
+                either_mine p mine q (inl h) = subst (Among (all_pointers w g)) (sym h) mine
+                either_mine p mine q (inr x) = b.mine q x
+
+                either_home : (p : Pointer) → p.home ≡ home.Root i → (q : Pointer) → (q ≡ p) ⊎ Among seen q → IsDone done (i ∷ rs) q.home
+                either_home p k q (inl h) = subst (IsDone done (i ∷ rs)) (sym (ap (λ (x : Pointer). x.home) h ∙ k)) (inl refl)
+                either_home p k q (inr x) = more_roots done rs i q.home (b.homes q x)
+
+                here : RootGoal done rs n full i ns (record { home = cell_home cell; of = t; val = cell_at g cell })
                 here free inside counts later =
                     let (to, d, (ks, v), ty) = known i r e cell t f in
                     let p : Pointer = record { home = home.Root i; node = 0; class = Ref; to = to.0; cell = Some cell; agreements = [] } in
@@ -390,11 +398,3 @@ module _ (w : Setting) (g : Graph) (s : IsSound w g) (m : ℕ) where
                           homes = λ q x. either_home p refl q x;
                         }) c' free.0 (inl refl) (more_placed done (i ∷ rs) (Ref, cell)) inside
                         (subst (λ u. AllEarlier ShareOnlyIfFull (home_pointers w.table (cell_home cell) u (cell_at g cell))) (sym ty) (home_apart cell to.0 typed)) counts' later)
-
-                either_mine : (p : Pointer) → Among (all_pointers w g) p → (q : Pointer) → (q ≡ p) ⊎ Among seen q → Among (all_pointers w g) q
-                either_mine p mine q (inl h) = subst (Among (all_pointers w g)) (sym h) mine
-                either_mine p mine q (inr x) = b.mine q x
-
-                either_home : (p : Pointer) → p.home ≡ home.Root i → (q : Pointer) → (q ≡ p) ⊎ Among seen q → IsDone done (i ∷ rs) q.home
-                either_home p k q (inl h) = subst (IsDone done (i ∷ rs)) (sym (ap (λ (x : Pointer). x.home) h ∙ k)) (inl refl)
-                either_home p k q (inr x) = more_roots done rs i q.home (b.homes q x)

@@ -27,7 +27,7 @@ use Rattle.ndr_trace.specs.Homes.{names_all, pending_all, standing_names, step_n
 use Rattle.ndr_trace.specs.Naming.{names_in, pending_in, pending_of}
 use Rattle.ndr_trace.proofs.HomeNames.{home_names, home_waits}
 
-no_tests : (h : Home) (n : ℕ) (t : Tree) (xs : List Agreement) → untested (tests h n t xs) ≡ []
+pub no_tests : (h : Home) (n : ℕ) (t : Tree) (xs : List Agreement) → untested (tests h n t xs) ≡ []
 no_tests h n t [] = refl
 no_tests h n t (x ∷ xs) = no_tests h n t xs
 
@@ -79,8 +79,8 @@ module _ (w : Setting) (g : Graph) where
           → (pending_all ps ≡ [] → Deferral w g done (map due_referent ps ++ due) us → Deferral w g done due us) → Deferral w g done due us
       go (Some c) s f i later = absurd (nothing_pending p.to (Some c) c (pending_all ps) refl f)
       go None s f (inl (n, d)) later = later f d
-      go None s f (inr (inl (c, vs, h, rest))) later = cc
-      go None s f (inr (inr (c, vs, h, rest))) later = cc
+      go None s f (inr (inl (c, vs, h, x, y, z))) later = cc
+      go None s f (inr (inr (c, vs, h, x, y, z))) later = cc
 
   -- the first pointer that is pending is that of the first which is not null
   pub record Next (done : Placed_cells) (next : Pending) (qs : List Pending) (due : List Due) (us : List Step) : Type 0 where
@@ -114,8 +114,8 @@ module _ (w : Setting) (g : Graph) where
             deferral = d;
           }
       go None s f (inl (n, d')) later = later f d'
-      go None s f (inr (inl (c, vs, h, rest))) later = cc
-      go None s f (inr (inr (c, vs, h, rest))) later = cc
+      go None s f (inr (inl (c, vs, h, x, y, z))) later = cc
+      go None s f (inr (inr (c, vs, h, x, y, z))) later = cc
 
   -- ## Entries and names of a step
 

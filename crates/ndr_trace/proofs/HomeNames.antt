@@ -19,7 +19,7 @@ use Rattle.ndr_trace_laws.specs.Untested.{kept_if, is_test, plain, untested}
 use Rattle.ndr_trace_laws.proofs.Untested.{untested_append, untested_values}
 use Rattle.ndr_trace.specs.declared.cells.Pending.{Pending}
 use Rattle.ndr_trace.specs.Homes.{names_all, pending_all}
-use Rattle.ndr_trace.specs.Naming.{names_in, pending_in}
+use Rattle.ndr_trace.specs.Naming.{named_by, names_in, names_of, pending_by, pending_in, pending_of}
 
 module _ (table : Table) (h : Home) where
   -- ## Names
@@ -36,9 +36,23 @@ module _ (table : Table) (h : Home) where
   own_names : (n t : ℕ) (d : Option TypeDef) (l : Label) (ks : Trees) (ags : List Agreement)
       → names_in (untested (entries h n (before_children table t d l ks))) ≡ names_all (pointer_by d (is_pointer l) (cell_in l) h n ags)
   own_names n t (Some (def.Pointer class to)) (tree.Ptr c) ks ags = refl
+  own_names n t (Some (def.Pointer class to)) _ ks ags = refl
   own_names n t (Some (def.Array elem bound varying)) (tree.Arr max offset) ks ags = counts_name n varying max offset _
+  own_names n t (Some (def.Array elem bound varying)) _ ks ags = refl
   own_names n t (Some (def.Union tag encapsulated arms default)) (tree.Union z) ks ags = tag_names n (type_at table tag.0) arms default z
-  own_names n t _ l ks ags = refl
+  own_names n t (Some (def.Union tag encapsulated arms default)) _ ks ags = refl
+  own_names n t (Some (def.Prim p)) (tree.Num z) ks ags = refl
+  own_names n t (Some (def.Prim p)) _ ks ags = refl
+  own_names n t (Some (def.Enum values)) (tree.Num z) ks ags = refl
+  own_names n t (Some (def.Enum values)) _ ks ags = refl
+  own_names n t (Some (def.Struct members)) tree.Rec ks ags = refl
+  own_names n t (Some (def.Struct members)) _ ks ags = refl
+  own_names n t (Some (def.Text elem bound)) (tree.Text max octets) ks ags = refl
+  own_names n t (Some (def.Text elem bound)) _ ks ags = refl
+  own_names n t (Some def.Context) (tree.Context b id) ks ags = refl
+  own_names n t (Some def.Context) _ ks ags = refl
+  own_names n t (Some (def.Pipe elem)) l ks ags = refl
+  own_names n t None l ks ags = refl
 
   pub plain_names : (types : List ℕ) (ags : List (List Agreement)) (n : ℕ) (ts : Trees)
       → names_in (plain table h types n ts) ≡ names_all (flat_map (pointer table h) (nodes_of table types ags n ts))
@@ -52,11 +66,11 @@ module _ (table : Table) (h : Home) where
       let K : List TypedNode = nodes_of table (child_types d l ks) (child_agreements d ks) (n + 1) ks in
       let R : List TypedNode = nodes_of table types (rest_agreements ags) (n + 1 + node_count ks) ts in
       let its : List Pointer = pointer_by d (is_pointer l) (cell_in l) h n (first_agreements ags) in
-      flat_map-append _ own (kids ++ rest) ∙ ap (λ xs. names_in own ++ xs) (flat_map-append _ kids rest)
+      flat_map-append (λ (m : Entry). named_by m.kind) own (kids ++ rest) ∙ ap (λ xs. names_in own ++ xs) (flat_map-append (λ (m : Entry). named_by m.kind) kids rest)
       ∙ ap₂ (λ xs ys. xs ++ ys) (own_names n t d l ks (first_agreements ags))
       (ap₂ (λ xs ys. xs ++ ys) (plain_names (child_types d l ks) (child_agreements d ks) (n + 1) ks) (plain_names types (rest_agreements ags) (n + 1 + node_count ks) ts)
-      ∙ sym (flat_map-append _ (flat_map (pointer table h) K) (flat_map (pointer table h) R)) ∙ ap names_all (sym (flat_map-append (pointer table h) K R)))
-      ∙ sym (flat_map-append _ its (flat_map (pointer table h) (K ++ R)))
+      ∙ sym (flat_map-append (λ (p : Pointer). names_of p.class p.cell) (flat_map (pointer table h) K) (flat_map (pointer table h) R)) ∙ ap names_all (sym (flat_map-append (pointer table h) K R)))
+      ∙ sym (flat_map-append (λ (p : Pointer). names_of p.class p.cell) its (flat_map (pointer table h) (K ++ R)))
 
   -- ## Pending pointers
 
@@ -72,9 +86,23 @@ module _ (table : Table) (h : Home) where
   own_waits : (n t : ℕ) (d : Option TypeDef) (l : Label) (ks : Trees) (ags : List Agreement)
       → pending_in (untested (entries h n (before_children table t d l ks))) ≡ pending_all (pointer_by d (is_pointer l) (cell_in l) h n ags)
   own_waits n t (Some (def.Pointer class to)) (tree.Ptr c) ks ags = refl
+  own_waits n t (Some (def.Pointer class to)) _ ks ags = refl
   own_waits n t (Some (def.Array elem bound varying)) (tree.Arr max offset) ks ags = counts_wait n varying max offset _
+  own_waits n t (Some (def.Array elem bound varying)) _ ks ags = refl
   own_waits n t (Some (def.Union tag encapsulated arms default)) (tree.Union z) ks ags = tag_waits n (type_at table tag.0) arms default z
-  own_waits n t _ l ks ags = refl
+  own_waits n t (Some (def.Union tag encapsulated arms default)) _ ks ags = refl
+  own_waits n t (Some (def.Prim p)) (tree.Num z) ks ags = refl
+  own_waits n t (Some (def.Prim p)) _ ks ags = refl
+  own_waits n t (Some (def.Enum values)) (tree.Num z) ks ags = refl
+  own_waits n t (Some (def.Enum values)) _ ks ags = refl
+  own_waits n t (Some (def.Struct members)) tree.Rec ks ags = refl
+  own_waits n t (Some (def.Struct members)) _ ks ags = refl
+  own_waits n t (Some (def.Text elem bound)) (tree.Text max octets) ks ags = refl
+  own_waits n t (Some (def.Text elem bound)) _ ks ags = refl
+  own_waits n t (Some def.Context) (tree.Context b id) ks ags = refl
+  own_waits n t (Some def.Context) _ ks ags = refl
+  own_waits n t (Some (def.Pipe elem)) l ks ags = refl
+  own_waits n t None l ks ags = refl
 
   pub plain_waits : (types : List ℕ) (ags : List (List Agreement)) (n : ℕ) (ts : Trees)
       → pending_in (plain table h types n ts) ≡ pending_all (flat_map (pointer table h) (nodes_of table types ags n ts))
@@ -88,11 +116,11 @@ module _ (table : Table) (h : Home) where
       let K : List TypedNode = nodes_of table (child_types d l ks) (child_agreements d ks) (n + 1) ks in
       let R : List TypedNode = nodes_of table types (rest_agreements ags) (n + 1 + node_count ks) ts in
       let its : List Pointer = pointer_by d (is_pointer l) (cell_in l) h n (first_agreements ags) in
-      flat_map-append _ own (kids ++ rest) ∙ ap (λ xs. pending_in own ++ xs) (flat_map-append _ kids rest)
+      flat_map-append (λ (m : Entry). pending_by m.kind) own (kids ++ rest) ∙ ap (λ xs. pending_in own ++ xs) (flat_map-append (λ (m : Entry). pending_by m.kind) kids rest)
       ∙ ap₂ (λ xs ys. xs ++ ys) (own_waits n t d l ks (first_agreements ags))
       (ap₂ (λ xs ys. xs ++ ys) (plain_waits (child_types d l ks) (child_agreements d ks) (n + 1) ks) (plain_waits types (rest_agreements ags) (n + 1 + node_count ks) ts)
-      ∙ sym (flat_map-append _ (flat_map (pointer table h) K) (flat_map (pointer table h) R)) ∙ ap pending_all (sym (flat_map-append (pointer table h) K R)))
-      ∙ sym (flat_map-append _ its (flat_map (pointer table h) (K ++ R)))
+      ∙ sym (flat_map-append (λ (p : Pointer). pending_of p.to p.cell) (flat_map (pointer table h) K) (flat_map (pointer table h) R)) ∙ ap pending_all (sym (flat_map-append (pointer table h) K R)))
+      ∙ sym (flat_map-append (λ (p : Pointer). pending_of p.to p.cell) its (flat_map (pointer table h) (K ++ R)))
 
   -- ## A home's value
 
@@ -118,13 +146,13 @@ module _ (table : Table) (h : Home) where
   pub home_names : (t : ℕ) (v : Tree) → names_in (untested (whole_value table h t v)) ≡ names_all (home_pointers table h t v)
   home_names t (node l ks) =
       let front : List Entry = entries h 0 (hoisted (hoists table t) l (hoisted_max 0 (more (node l ks) none))) in
-      ap names_in (home_parts t l ks) ∙ flat_map-append _ (untested front) (plain table h (t ∷ []) 0 (more (node l ks) none))
+      ap names_in (home_parts t l ks) ∙ flat_map-append (λ (m : Entry). named_by m.kind) (untested front) (plain table h (t ∷ []) 0 (more (node l ks) none))
       ∙ ap (λ xs. xs ++ names_in (plain table h (t ∷ []) 0 (more (node l ks) none))) (front_names (hoists table t) l (hoisted_max 0 (more (node l ks) none)))
       ∙ plain_names (t ∷ []) [] 0 (more (node l ks) none)
 
   pub home_waits : (t : ℕ) (v : Tree) → pending_in (untested (whole_value table h t v)) ≡ pending_all (home_pointers table h t v)
   home_waits t (node l ks) =
       let front : List Entry = entries h 0 (hoisted (hoists table t) l (hoisted_max 0 (more (node l ks) none))) in
-      ap pending_in (home_parts t l ks) ∙ flat_map-append _ (untested front) (plain table h (t ∷ []) 0 (more (node l ks) none))
+      ap pending_in (home_parts t l ks) ∙ flat_map-append (λ (m : Entry). pending_by m.kind) (untested front) (plain table h (t ∷ []) 0 (more (node l ks) none))
       ∙ ap (λ xs. xs ++ pending_in (plain table h (t ∷ []) 0 (more (node l ks) none))) (front_waits (hoists table t) l (hoisted_max 0 (more (node l ks) none)))
       ∙ plain_waits (t ∷ []) [] 0 (more (node l ks) none)

@@ -18,7 +18,7 @@ use Rattle.nd_value.specs.Tree.{Label, Tree, Trees, count, flat, more, node, nod
 use Rattle.nd_grammar.specs.InPlace.{hoisted_max, own_max}
 use Rattle.nd_grammar.proofs.LegalSides.{laid_out}
 use Rattle.nd_grammar.proofs.next.HoistedMaxes.{HoistsLast, OnlyLast, children, last_of}
-use Rattle.text_grammar.specs.Paths.{home_name, home_types, home_value, node_paths}
+use Rattle.text_grammar.specs.Paths.{child_paths, home_name, home_types, home_value, node_paths}
 use Rattle.text_printer.proofs.Sound.{all_parts}
 use Rattle.text_printer.specs.Walks.{Begins}
 use Rattle.ndr_explain.specs.Cursors.{name_text}
@@ -81,10 +81,8 @@ module _ (k : Known) (m : ℕ) (laid : HoistsLast k.setting.table) where
       let mine = its_max t types l ks ts o c' f in
       let kids = children k.setting.table laid t d l ks refl in (
         record { partial = first; max_is = λ e. own_known l (hoisted_max 0 ks) m (mine e) },
-        (
-          are_own (child_types d l ks) (child_agreements d ks) (n + 1) ks kids.0 b.0.0 b.0.1 (λ e. let r = kids.1 e in of_record l (hoisted_max 0 ks) m r.1.0 (mine r.0)) parts.0,
-          are_own types (rest_agreements ags) (n + 1 + node_count ks) ts (fewer t types o) c' b.1 (others_max t types l ks ts c' f) parts.1,
-        ),
+        are_own (child_types d l ks) (child_agreements d ks) (n + 1) ks kids.0 b.0.0 b.0.1 (λ e. (let r = kids.1 e in of_record l (hoisted_max 0 ks) m r.1.0 (mine r.0))) parts.0,
+        are_own types (rest_agreements ags) (n + 1 + node_count ks) ts (fewer t types o) c' b.1 (others_max t types l ks ts c' f) parts.1,
       )
 
 -- ## A home's value
@@ -94,7 +92,9 @@ one_more xs i = ap (slice_get xs) (omega arith)
 
 -- the path of a home's value is its name
 pub path_of_home : (k : Known) (h : Home) → path_in (home_paths k.setting k.graph h) 0 ≡ home_name k.setting h
-path_of_home k h = path_here 0 (home_name k.setting h) _
+path_of_home k h =
+    path_here 0 (home_name k.setting h)
+    (node_paths k.setting.table (home_types k.setting k.graph h) (home_name k.setting h ∷ []) 0 (more (home_value k.graph h) none))
 
 -- the value of a home is there, at its first node
 pub home_there : (k : Known) (h : Home) (name : HomeName) (t m : ℕ) → HasHome k h name t → IsFront k h t m
@@ -124,5 +124,8 @@ home_there k h name t m a front = go (home_value k.graph h) refl
         first_or_later : (n : ℕ) (nodes : List (ℕ × List ℕ)) → nodes ≡ node_paths k.setting.table (t ∷ []) (home_name k.setting h ∷ []) 0 (more (node l ks) none)
             → path_in ((0, home_name k.setting h) ∷ nodes) n ≡ path_in nodes n
         first_or_later zero nodes is =
-            path_here 0 (home_name k.setting h) nodes ∙ sym (ap (λ xs. path_in xs 0) is ∙ path_here 0 (home_name k.setting h) _)
+            path_here 0 (home_name k.setting h) nodes
+            ∙ sym (ap (λ xs. path_in xs 0) is
+            ∙ path_here 0 (home_name k.setting h) (node_paths k.setting.table (child_types (type_at k.setting.table t) l ks) (child_paths (type_at k.setting.table t) l (home_name k.setting h) ks) (0 + 1) ks
+            ++ node_paths k.setting.table [] [] (0 + 1 + node_count ks) none))
         first_or_later (suc n) nodes is = path_later 0 (suc n) (home_name k.setting h) nodes (omega arith)

@@ -4,6 +4,7 @@ use Rattle.std.proofs.Common.{◌≡◌, inl, inr, ◌∙◌, ℕ, ◌+◌, true
 use Rattle.std.specs.List.{list_all}
 use Rattle.std.proofs.lemmas.Bool.{and_parts}
 use Rattle.nd_types.specs.declared.types.TypeDef.{TypeDef}
+use Rattle.nd_types.specs.declared.types.TypeDef.TheVariants as def
 use Rattle.nd_types.specs.Table.{Table, type_at}
 use Rattle.nd_value.specs.declared.value.Graph.{Graph}
 use Rattle.nd_value.specs.Agreement.{Agreement}
@@ -12,16 +13,21 @@ use Rattle.nd_value.specs.Nodes.{TypedNode, child_agreements, child_types, first
 use Rattle.nd_value.specs.Tree as tree
 use Rattle.nd_value.specs.Tree.{Label, Trees, count, more, node, node_count, none}
 use Rattle.nd_value.proofs.NodeFacts.{IsReadOrNot, read_node}
+use Rattle.nd_grammar.proofs.next.HoistedMaxes.{no_children}
 use Rattle.text_printer.specs.Walks.{Begins}
 use Rattle.text_printer.proofs.Sound.{all_parts}
 
-no_children : (d : Option TypeDef) (ks : Trees) → child_types d tree.Unread ks ≡ []
-no_children None ks = refl
-no_children (Some _) ks = refl
-
 unread_shape : (d : Option TypeDef) (ks : Trees) → has_shape d tree.Unread ks ≡ false
+unread_shape (Some (def.Prim p)) ks = refl
+unread_shape (Some (def.Enum values)) ks = refl
+unread_shape (Some (def.Struct members)) ks = refl
+unread_shape (Some (def.Array elem bound varying)) ks = refl
+unread_shape (Some (def.Text elem bound)) ks = refl
+unread_shape (Some (def.Union tag encapsulated arms default)) ks = refl
+unread_shape (Some (def.Pointer class to)) ks = refl
+unread_shape (Some def.Context) ks = refl
+unread_shape (Some (def.Pipe elem)) ks = refl
 unread_shape None ks = refl
-unread_shape (Some _) ks = refl
 
 module _ (table : Table) (g : Graph) where
   abbrev typed : ℕ → ℕ → List Agreement → Label → Trees → TypedNode

@@ -24,7 +24,7 @@ use Rattle.nd_grammar.proofs.next.NextStream.{FitsPipes, IsPipeRoot}
 use Rattle.ndr_trace_laws.specs.Untested.{untested}
 use Rattle.ndr_trace_laws.proofs.Untested.{untested_append, untested_values}
 use Rattle.ndr_trace.specs.Homes.{IsPart, names_all}
-use Rattle.ndr_trace.specs.Naming.{names_in}
+use Rattle.ndr_trace.specs.Naming.{named_by, names_in}
 use Rattle.ndr_trace.specs.Sides.{pipes_due}
 use Rattle.ndr_trace.specs.Tracing.{Known}
 use Rattle.ndr_trace.proofs.HomeNames.{plain_names}
@@ -46,8 +46,8 @@ module _ (table : Table) (h : Home) where
       let elements : List Entry = in_place table h (replicate k t) n (take_trees k ts) in
       let others : List Entry = chunks table h t (n + node_count (take_trees k ts)) cut (drop_trees k ts) in
       ap names_in (untested_append (own ++ elements) others ∙ ap (λ xs. xs ++ untested others) (untested_append own elements))
-      ∙ flat_map-append _ (untested own ++ untested elements) (untested others)
-      ∙ ap₂ (λ xs ys. xs ++ ys) (flat_map-append _ (untested own) (untested elements) ∙ elements_name t n k (take_trees k ts) f)
+      ∙ flat_map-append (λ (m : Entry). named_by m.kind) (untested own ++ untested elements) (untested others)
+      ∙ ap₂ (λ xs ys. xs ++ ys) (flat_map-append (λ (m : Entry). named_by m.kind) (untested own) (untested elements) ∙ elements_name t n k (take_trees k ts) f)
       (chunks_name t (n + node_count (take_trees k ts)) cut (drop_trees k ts) f)
 
   pipe_names : (d : Option TypeDef) (e : TypeId) → d ≡ Some (def.Pipe e) → FitsPipes table e.0 → (cut : List ℕ) (v : Tree) → names_in (untested (pipe_entries table h d cut v)) ≡ []
@@ -66,7 +66,7 @@ module _ (k : Known) (s : IsPart k) where
   pipes_name i (r ∷ rs) (v ∷ vs) (cut ∷ cuts) a =
       let own : List Entry = pipe_entries k.setting.table (home.Root i) (type_at k.setting.table r.of) cut v in
       let others : List Entry = pipes_entries k.setting.table (i + 1) rs vs cuts in
-      ap names_in (untested_append own others) ∙ flat_map-append _ (untested own) (untested others)
+      ap names_in (untested_append own others) ∙ flat_map-append (λ (m : Entry). named_by m.kind) (untested own) (untested others)
       ∙ ap₂ (λ xs ys. xs ++ ys)
       (pipe_names k.setting.table (home.Root i) (type_at k.setting.table r.of) a.0.elem a.0.type_is ((laid_out k.setting s.legal).elements r.of a.0.elem a.0.type_is) cut v)
       (pipes_name (i + 1) rs vs cuts a.1)

@@ -9,23 +9,26 @@ use Rattle.std.proofs.lemmas.Grind.{flat_map-append}
 use Rattle.std.proofs.lemmas.List.{reverse-append}
 use Rattle.std.proofs.lemmas.Option.{same_Some}
 use Rattle.nd_types.specs.declared.types.Class.{Class}
+use Rattle.nd_value.specs.declared.item.Home.{Home}
 use Rattle.nd_value.specs.declared.item.Home.TheVariants as home
-use Rattle.nd_value.specs.Deferral.{Deferral, Due, IsPlaced, Pending as Pointer, Placed_cells, Step, due_of, due_referent, due_root, home_pointers, referent_stands, root_stands}
+use Rattle.nd_value.specs.declared.value.CellId.{CellId}
+use Rattle.nd_value.specs.Deferral.{Deferral, Due, IsPlaced, Pending as Pointer, Placed_cells, Step, due_of, due_referent, home_pointers, referent_stands}
 use Rattle.nd_value.specs.Deferral.{standing_cell, stands_already}
 use Rattle.nd_value.specs.Homes.{all_pointers}
-use Rattle.nd_value.specs.Setting.{Among, cell_at, cell_home}
+use Rattle.nd_value.specs.Setting.{Among}
 use Rattle.nd_value.proofs.Apart.{all_append}
 use Rattle.nd_value.proofs.DeferralLaws.{full_stands}
 use Rattle.nd_grammar.specs.Entry.{Entry}
-use Rattle.nd_grammar.specs.InPlace.{whole_value}
 use Rattle.nd_grammar.specs.Stream.{step_entries}
 use Rattle.nd_grammar.proofs.next.PointerPlaces.{in_cell}
+use Rattle.ndr_explain.specs.declared.names.HomeName.{HomeName}
 use Rattle.ndr_explain.specs.declared.names.HomeName.TheVariants as named
+use Rattle.text_grammar.specs.Paths.{home_value}
 use Rattle.ndr_trace_laws.specs.Untested.{untested}
 use Rattle.ndr_trace.specs.declared.cells.Pending.{Pending}
 use Rattle.ndr_trace.specs.declared.nodes.Walker.{Walker}
-use Rattle.ndr_trace.specs.Homes.{HasHome, HasPassed, IsAwaiting, IsDeferring, IsNext, IsPart, home_due, names_all, pending_all, standing_names, step_names}
-use Rattle.ndr_trace.specs.Naming.{HasType, IsNaming, Stand, names_in, pending_in, stands_at}
+use Rattle.ndr_trace.specs.Homes.{HasHome, HasPassed, IsAwaiting, IsDeferring, IsNext, IsPart, home_due, pending_all, step_names}
+use Rattle.ndr_trace.specs.Naming.{HasType, IsNaming, Stand, names_in, pending_of, stands_at}
 use Rattle.ndr_trace.specs.Tracing.{IsTracing, Known}
 use Rattle.ndr_trace.proofs.Deferring.{Inverted, already_entries, due_joined, inverted, next_pending, nulls_skipped, pending_joined, referent_entries, referent_names}
 use Rattle.ndr_trace.proofs.HomeNames.{home_waits}
@@ -40,7 +43,7 @@ nat_or m n = by (eqb m n) refl
     by false e = inr (eqb-false m n e)
 
 -- all pointers among those of a graph are
-all_mine : (ps qs : List Pointer) → ((p : Pointer) → Among ps p → Among qs p) → AllByRecursion (Among qs) ps
+pub all_mine : (ps qs : List Pointer) → ((p : Pointer) → Among ps p → Among qs p) → AllByRecursion (Among qs) ps
 all_mine [] qs f = tt
 all_mine (p ∷ ps) qs f = (f p (inl refl), all_mine ps qs (λ q a. f q (inr a)))
 
@@ -167,77 +170,101 @@ module _ (k : Known) (due : List Due) (rest : List Entry) (names : Placed_cells)
         };
       }
 
-  -- ## A cell that stands now
+  -- ## A home that stands now
 
-  pub record Entering (u : Walker) (next : Pending) : Type 0 where
-    pub its : HasHome k (home.Cell next.cell) (named.Cell next.cell) next.to.0
+  -- a home at which a step of deferral is, and what then follows
+  pub record Entering (u : Walker) (h : Home) (name : HomeName) (t : ℕ) : Type 0 where
+    pub its : HasHome k h name t
     pub later : List Entry
     pub after_names : Placed_cells
-    pub tracing : IsTracing k u.progress (home_due k (home.Cell next.cell) next.to.0 ++ later)
-    pub naming : IsNaming k u.cells (names_in (home_due k (home.Cell next.cell) next.to.0) ++ after_names)
-    pub after : (v : Walker) → IsTracing k v.progress later → HasPassed k u.cells v.cells (home_due k (home.Cell next.cell) next.to.0) after_names → IsAwaiting k v due rest names
+    pub tracing : IsTracing k u.progress (home_due k h t ++ later)
+    pub naming : IsNaming k u.cells (names_in (home_due k h t) ++ after_names)
+    pub after : (v : Walker) → IsTracing k v.progress later → HasPassed k u.cells v.cells (home_due k h t) after_names → IsAwaiting k v due rest names
+
+  -- the pointers of a home are pending, and then those that were
+  pub stood : (u v : Walker) (h : Home) (t : ℕ) (done : Placed_cells) (vs : List Step) (ps : List Pointer)
+      → Deferral k.setting k.graph done (map due_referent (home_pointers k.setting.table h t (home_value k.graph h)) ++ (map due_referent ps ++ due)) vs
+      → Stand u.cells.stands.items done
+      → ((p : Pointer) → Among (home_pointers k.setting.table h t (home_value k.graph h)) p → Among (all_pointers k.setting k.graph) p)
+      → AllByRecursion (Among (all_pointers k.setting k.graph)) ps → reverse u.cells.pending.items ≡ pending_all ps
+      → IsTracing k v.progress (untested (flat_map (step_entries k.setting k.graph) vs) ++ rest)
+      → HasPassed k u.cells v.cells (home_due k h t) (flat_map (step_names k.setting k.graph) vs ++ names) → IsAwaiting k v due rest names
+  stood u v h t done vs ps d marks mine all waiting tr passed =
+      let its : List Pointer = home_pointers k.setting.table h t (home_value k.graph h) in
+      record {
+        done = done;
+        pointers = its ++ ps;
+        all_among = all_append (Among (all_pointers k.setting k.graph)) its ps (all_mine its (all_pointers k.setting k.graph) mine) all;
+        pending =
+            ap reverse (passed.pending ∙ ap (λ xs. u.cells.pending.items ++ reverse xs) (home_waits k.setting.table h t (home_value k.graph h)))
+            ∙ pending_joined k.setting k.graph u.cells.pending.items (pending_all ps) its waiting
+            ∙ sym (flat_map-append (λ (p : Pointer). pending_of p.to p.cell) its ps);
+        steps = vs;
+        deferring = record {
+          deferral = subst (λ ds. Deferral k.setting k.graph done ds vs) (due_joined k.setting k.graph its ps due) d;
+          tracing = tr;
+          naming = passed.naming;
+          stand = subst (λ marks. Stand marks done) (sym (ap (λ z. z.items) passed.stands)) marks;
+        };
+      }
+
+  -- the entries and the names of a cell, and then those of the other steps
+  cell_entries : (p : Pointer) (c : CellId) (vs : List Step) → untested (flat_map (step_entries k.setting k.graph) (referent_stands p c.0 ∷ vs)) ++ rest
+      ≡ home_due k (home.Cell c) p.to ++ (untested (flat_map (step_entries k.setting k.graph) vs) ++ rest)
+  cell_entries p c vs =
+      ap (λ ms. ms ++ rest) (referent_entries k.setting k.graph p c.0 vs)
+      ∙ append_assoc (home_due k (home.Cell c) p.to) (untested (flat_map (step_entries k.setting k.graph) vs)) rest
+
+  cell_names : (p : Pointer) (c : CellId) (vs : List Step) → flat_map (step_names k.setting k.graph) (referent_stands p c.0 ∷ vs) ++ names
+      ≡ names_in (home_due k (home.Cell c) p.to) ++ (flat_map (step_names k.setting k.graph) vs ++ names)
+  cell_names p c vs =
+      ap (λ ns. (ns ++ flat_map (step_names k.setting k.graph) vs) ++ names) (referent_names k.setting k.graph p c.0)
+      ∙ append_assoc (names_in (home_due k (home.Cell c) p.to)) (flat_map (step_names k.setting k.graph) vs) names
+
+  enter_cell : (s : IsPart k) (u : Walker) (c : CellId) (p : Pointer) (done : Placed_cells) (vs : List Step) (ps : List Pointer) → HasType k.graph c.0 p.to
+      → Deferral k.setting k.graph done (due_of k.setting.table (standing_cell k.graph p c.0) ++ (map due_referent ps ++ due)) vs → Stand u.cells.stands.items done
+      → AllByRecursion (Among (all_pointers k.setting k.graph)) ps → reverse u.cells.pending.items ≡ pending_all ps
+      → IsTracing k u.progress (untested (flat_map (step_entries k.setting k.graph) (referent_stands p c.0 ∷ vs)) ++ rest)
+      → IsNaming k u.cells (flat_map (step_names k.setting k.graph) (referent_stands p c.0 ∷ vs) ++ names) → Entering u (home.Cell c) (named.Cell c) p.to
+  enter_cell s u c p done vs ps typed d marks all waiting tr nm = record {
+    its = cell_has_home k s c p.to typed;
+    later = untested (flat_map (step_entries k.setting k.graph) vs) ++ rest;
+    after_names = flat_map (step_names k.setting k.graph) vs ++ names;
+    tracing = subst (λ ms. IsTracing k u.progress ms) (cell_entries p c vs) tr;
+    naming = subst (λ ns. IsNaming k u.cells ns) (cell_names p c vs) nm;
+    after = λ v t passed. stood u v (home.Cell c) p.to done vs ps d marks (in_cell k.setting k.graph c.0 p.to typed) all waiting t passed;
+  }
 
   pub entering : (u v : Walker) (next : Pending) → IsPart k → IsNext k u next due rest names → true ≡ not (stands_at u.cells.stands.items next.cell.0)
       → stands_at v.cells.stands.items next.cell.0 ≡ true
       → ((d : ℕ) → (d ≡ next.cell.0 → ⊥) → stands_at v.cells.stands.items d ≡ stands_at u.cells.stands.items d) → v.cells.count ≡ u.cells.count
-      → v.cells.numbers ≡ u.cells.numbers → v.cells.pending ≡ u.cells.pending → v.progress ≡ u.progress → Entering v next
-  entering u v next s n first set others ec en eq ep = go (inverted k.setting k.graph n.deferring.deferral)
+      → v.cells.numbers ≡ u.cells.numbers → v.cells.pending ≡ u.cells.pending → v.progress ≡ u.progress → Entering v (home.Cell next.cell) (named.Cell next.cell) next.to.0
+  entering u v next s n first set others ec en eq ep =
+      subst (λ t. Entering v (home.Cell next.cell) (named.Cell next.cell) t) n.to (go (inverted k.setting k.graph n.deferring.deferral))
     where
-      typed : HasType k.graph next.cell.0 next.to.0
-      typed = subst (HasType k.graph next.cell.0) n.to (typed_cell k s n.pointer n.among next.cell.0 n.cell)
+      entered : (vs : List Step) → Deferral k.setting k.graph ((n.pointer.class, next.cell.0) ∷ n.done)
+          (due_of k.setting.table (standing_cell k.graph n.pointer next.cell.0) ++ (map due_referent n.pointers ++ due)) vs
+          → n.steps ≡ referent_stands n.pointer next.cell.0 ∷ vs → Entering v (home.Cell next.cell) (named.Cell next.cell) n.pointer.to
+      entered vs d is =
+          enter_cell s v next.cell n.pointer ((n.pointer.class, next.cell.0) ∷ n.done) vs n.pointers (typed_cell k s n.pointer n.among next.cell.0 n.cell) d
+          (marked_more u.cells.stands.items v.cells.stands.items next.cell.0 n.pointer.class n.done n.deferring.stand set others) n.all_among
+          (ap reverse (ap (λ z. z.items) eq) ∙ n.pending)
+          (subst (λ us. IsTracing k v.progress (untested (flat_map (step_entries k.setting k.graph) us) ++ rest)) is
+          (subst (λ q. IsTracing k q (untested (flat_map (step_entries k.setting k.graph) n.steps) ++ rest)) (sym ep) n.deferring.tracing))
+          (subst (λ us. IsNaming k v.cells (flat_map (step_names k.setting k.graph) us ++ names)) is (same_naming k u.cells v.cells _ ec en n.deferring.naming))
 
-      go : Inverted k.setting k.graph n.done (due_referent n.pointer ∷ (map due_referent n.pointers ++ due)) n.steps → Entering v next
+      go : Inverted k.setting k.graph n.done (due_referent n.pointer ∷ (map due_referent n.pointers ++ due)) n.steps
+          → Entering v (home.Cell next.cell) (named.Cell next.cell) n.pointer.to
       go (inl (e, d)) = let z : None ≡ Some next.cell.0 = sym e ∙ n.cell in cc
       go (inr (inl (c, vs, e, placed, d, is))) =
           let same : next.cell.0 ≡ c = same_Some _ _ (sym n.cell ∙ e) in
           let was : stands_at u.cells.stands.items next.cell.0 ≡ true =
           ap (stands_at u.cells.stands.items) same ∙ (n.deferring.stand c).1 (full_stands n.done c placed) in
-          let not : stands_at u.cells.stands.items next.cell.0 ≡ false = not_false (stands_at u.cells.stands.items next.cell.0) first in
-          let z : true ≡ false = sym was ∙ not in
+          let never : stands_at u.cells.stands.items next.cell.0 ≡ false = not_false (stands_at u.cells.stands.items next.cell.0) first in
+          let z : true ≡ false = sym was ∙ never in
           cc
       go (inr (inr (c, vs, e, not_placed, d, is))) =
-          let same : next.cell.0 ≡ c = same_Some _ _ (sym n.cell ∙ e) in
-          let p : Pointer = n.pointer in
-          let later : List Entry = untested (flat_map (step_entries k.setting k.graph) vs) ++ rest in
-          let named_later : Placed_cells = flat_map (step_names k.setting k.graph) vs ++ names in
-          let own : List Entry = home_due k (home.Cell next.cell) next.to.0 in
-          let pointers : List Pointer = home_pointers k.setting.table (cell_home c) p.to (cell_at k.graph c) in
-          let value : untested (whole_value k.setting.table (cell_home c) p.to (cell_at k.graph c)) ≡ own =
-          ap₂ (λ m t. untested (whole_value k.setting.table (cell_home m) t (cell_at k.graph m))) (sym same) n.to in
-          let entries_are : untested (flat_map (step_entries k.setting k.graph) n.steps) ++ rest ≡ own ++ later =
-          ap (λ us. untested (flat_map (step_entries k.setting k.graph) us) ++ rest) is
-          ∙ ap (λ ms. ms ++ rest) (referent_entries k.setting k.graph p c vs ∙ ap (λ ms. ms ++ untested (flat_map (step_entries k.setting k.graph) vs)) value)
-          ∙ append_assoc own (untested (flat_map (step_entries k.setting k.graph) vs)) rest in
-          let names_are : flat_map (step_names k.setting k.graph) n.steps ++ names ≡ names_in own ++ named_later =
-          ap (λ us. flat_map (step_names k.setting k.graph) us ++ names) is
-          ∙ ap (λ ms. (ms ++ flat_map (step_names k.setting k.graph) vs) ++ names) (referent_names k.setting k.graph p c ∙ ap names_in value)
-          ∙ append_assoc (names_in own) (flat_map (step_names k.setting k.graph) vs) names in
-          record {
-            its = cell_has_home k s next.cell next.to.0 typed;
-            later = later;
-            after_names = named_later;
-            tracing = subst (λ ms. IsTracing k v.progress ms) entries_are
-                (subst (λ q. IsTracing k q (untested (flat_map (step_entries k.setting k.graph) n.steps) ++ rest)) (sym ep) n.deferring.tracing);
-            naming = subst (λ ns. IsNaming k v.cells ns) names_are (same_naming k u.cells v.cells _ ec en n.deferring.naming);
-            after = λ x tr passed.
-                record {
-                  done = (p.class, c) ∷ n.done;
-                  pointers = pointers ++ n.pointers;
-                  all_among =
-                      all_append (Among (all_pointers k.setting k.graph)) pointers n.pointers
-                      (all_mine pointers (all_pointers k.setting k.graph) (in_cell k.setting k.graph c p.to (typed_cell k s p n.among c e))) n.all_among;
-                  pending =
-                      ap reverse (passed.pending ∙ ap₂ (λ xs ps. xs ++ reverse ps) (ap (λ z. z.items) eq) (ap pending_in (sym value) ∙ home_waits k.setting.table (cell_home c) p.to (cell_at k.graph c)))
-                      ∙ pending_joined k.setting k.graph u.cells.pending.items (pending_all n.pointers) pointers n.pending ∙ sym (flat_map-append _ pointers n.pointers);
-                  steps = vs;
-                  deferring = record {
-                    deferral = subst (λ ds. Deferral k.setting k.graph ((p.class, c) ∷ n.done) ds vs) (due_joined k.setting k.graph pointers n.pointers due) d;
-                    tracing = tr;
-                    naming = passed.naming;
-                    stand =
-                        subst (λ marks. Stand marks ((p.class, c) ∷ n.done)) (sym (ap (λ z. z.items) passed.stands))
-                        (marked_more u.cells.stands.items v.cells.stands.items c p.class n.done n.deferring.stand (ap (stands_at v.cells.stands.items) (sym same) ∙ set)
-                        (λ m o. others m (λ h. o (h ∙ same))));
-                  };
-                };
-          }
+          let same : c ≡ next.cell.0 = same_Some _ _ (sym e ∙ n.cell) in
+          entered vs
+          (subst (λ m. Deferral k.setting k.graph ((n.pointer.class, m) ∷ n.done) (due_of k.setting.table (standing_cell k.graph n.pointer m) ++ (map due_referent n.pointers ++ due)) vs) same d)
+          (is ∙ ap (λ m. referent_stands n.pointer m ∷ vs) same)

@@ -5,7 +5,6 @@
 use Rattle.std.proofs.Common.{◌≡◌, ◌⊎◌, inl, inr, ◌∙◌, ℕ, suc, ◌+◌, ◌-◌, ◌^◌, Bool, true, false, List, [], ◌∷◌, ◌++◌, Option, Some, None, refl, sym, ap, ap₂, subst, append_assoc, append-nil, flat_map, map, reverse}
 use Rattle.std.specs.Prelude.{min}
 use Rattle.std.specs.List.{AllByRecursion, list_all, slice_get}
-use Rattle.std.proofs.lemmas.List.{reverse-reverse}
 use Rattle.std.proofs.lemmas.Option.{same_Some}
 use Rattle.nd_types.specs.declared.types.Class.TheVariants.{Full, Ref, Unique}
 use Rattle.nd_types.specs.declared.types.TypeDef.{TypeDef}
@@ -35,7 +34,7 @@ use Rattle.ndr_explain.specs.declared.names.HomeName.{HomeName}
 use Rattle.ndr_explain.specs.declared.names.HomeName.TheVariants as named
 use Rattle.ndr_trace_laws.specs.Untested.{untested}
 use Rattle.ndr_trace.specs.declared.nodes.Walker.{Walker}
-use Rattle.ndr_trace.specs.Homes.{HasHome, HasPassed, IsAwaiting, IsDeferring, IsPart, IsRoot, direct_names, direct_of, home_due, names_all, pending_all, standing_names, step_names}
+use Rattle.ndr_trace.specs.Homes.{HasHome, IsAwaiting, IsDeferring, IsPart, IsRoot, direct_names, direct_of, home_due, names_all, pending_all, standing_names, step_names}
 use Rattle.ndr_trace.specs.Naming.{HasType, IsNaming, Stand, names_in, pending_in, stands_at}
 use Rattle.ndr_trace.specs.Tracing.{IsTracing, Known}
 use Rattle.ndr_trace.specs.Walking.{IsReady}
@@ -44,7 +43,7 @@ use Rattle.ndr_trace.proofs.HomeNames.{home_names, home_waits}
 use Rattle.ndr_trace.proofs.HomeWalks.{is_read}
 use Rattle.ndr_trace.proofs.NamedCells.{plain_named, same_naming}
 use Rattle.ndr_trace.proofs.PartialHomes.{cell_has_home, direct_typed, root_has_home}
-use Rattle.ndr_trace.proofs.Referents.{all_mine, marked_more, none_left}
+use Rattle.ndr_trace.proofs.Referents.{Entering, marked_more, none_left, stood}
 
 -- a type that is no reference pointer has no direct referent
 not_direct : (d : Option TypeDef) (v : Tree) → direct_of d ≡ None → direct d v ≡ None
@@ -62,38 +61,6 @@ is_direct None to e = cc
 is_direct (Some _) to e = cc
 
 module _ (k : Known) (due : List Due) (rest : List Entry) (names : Placed_cells) where
-  -- a home at which a step of deferral is, and what then follows
-  pub record Standing_at (u : Walker) (h : Home) (name : HomeName) (t : ℕ) : Type 0 where
-    pub its : HasHome k h name t
-    pub later : List Entry
-    pub after_names : Placed_cells
-    pub tracing : IsTracing k u.progress (home_due k h t ++ later)
-    pub naming : IsNaming k u.cells (names_in (home_due k h t) ++ after_names)
-    pub after : (v : Walker) → IsTracing k v.progress later → HasPassed k u.cells v.cells (home_due k h t) after_names → IsAwaiting k v due rest names
-
-  -- the pointers of a home are pending, and nothing else is
-  stood : (u v : Walker) (h : Home) (t : ℕ) (done : Placed_cells) (vs : List Step)
-      → Deferral k.setting k.graph done (due_of k.setting.table (record { home = h; of = t; val = home_value k.graph h }) ++ due) vs → Stand u.cells.stands.items done
-      → ((p : Pointer) → Among (home_pointers k.setting.table h t (home_value k.graph h)) p → Among (all_pointers k.setting k.graph) p) → u.cells.pending.items ≡ []
-      → IsTracing k v.progress (untested (flat_map (step_entries k.setting k.graph) vs) ++ rest)
-      → HasPassed k u.cells v.cells (home_due k h t) (flat_map (step_names k.setting k.graph) vs ++ names) → IsAwaiting k v due rest names
-  stood u v h t done vs d marks mine empty tr passed =
-      let its : List Pointer = home_pointers k.setting.table h t (home_value k.graph h) in
-      record {
-        done = done;
-        pointers = its;
-        all_among = all_mine its (all_pointers k.setting k.graph) mine;
-        pending =
-            ap reverse (passed.pending ∙ ap₂ (λ xs ps. xs ++ reverse ps) empty (home_waits k.setting.table h t (home_value k.graph h))) ∙ reverse-reverse (pending_all its);
-        steps = vs;
-        deferring = record {
-          deferral = d;
-          tracing = tr;
-          naming = passed.naming;
-          stand = subst (λ xs. Stand xs done) (sym (ap (λ z. z.items) passed.stands)) marks;
-        };
-      }
-
   module _ (s : IsPart k) (at : ℕ) (r : Root) (there : slice_get (root_list k.setting) at ≡ Some r) where
     abbrev v : Tree
     v = root_at k.graph at
@@ -116,21 +83,21 @@ module _ (k : Known) (due : List Due) (rest : List Entry) (names : Placed_cells)
 
     -- a root that is no reference pointer
     pub own_root : (u : Walker) (name : HomeName) → direct_of (type_at k.setting.table r.of) ≡ None → ((HasHome k (home.Root at) name r.of))
-        → IsAwaiting k u (due_root at ∷ due) rest names → u.cells.pending.items ≡ [] → Standing_at u (home.Root at) name r.of
-    own_root u name no its a empty = go (none_left k (due_root at ∷ due) rest names u a empty)
+        → IsAwaiting k u (due_root at ∷ due) rest names → u.cells.pending.items ≡ [] → Entering k due rest names u (home.Root at) name r.of
+    own_root u name never its a empty = go (none_left k (due_root at ∷ due) rest names u a empty)
       where
-        go : (done : Placed_cells) × (us : List Step) × IsDeferring k u done (due_root at ∷ due) us rest names → Standing_at u (home.Root at) name r.of
+        go : (done : Placed_cells) × (us : List Step) × IsDeferring k u done (due_root at ∷ due) us rest names → Entering k due rest names u (home.Root at) name r.of
         go (done, us, d) = by (inverted k.setting k.graph d.deferral)
           where
             x : Standing
             x = record { home = home.Root at; of = r.of; val = root_at k.graph at }
 
             stands : standing_root k.setting k.graph at ≡ record { home = home.Root at; of = r.of; val = root_at k.graph at }
-            stands = standing_is None (not_direct (type_at k.setting.table r.of) (root_at k.graph at) no)
+            stands = standing_is None (not_direct (type_at k.setting.table r.of) (root_at k.graph at) never)
 
             by : (vs : List Step) × AreFree (root_cell (standing_root k.setting k.graph at).home) done
                 × Deferral k.setting k.graph (root_cell (standing_root k.setting k.graph at).home ++ done) (due_of k.setting.table (standing_root k.setting k.graph at) ++ due) vs
-                × (us ≡ root_stands at ∷ vs) → Standing_at u (home.Root at) name r.of
+                × (us ≡ root_stands at ∷ vs) → Entering k due rest names u (home.Root at) name r.of
             by (vs, free, e, is) =
                 let own : List Entry = home_due k (home.Root at) r.of in
                 let later : List Entry = untested (flat_map (step_entries k.setting k.graph) vs) ++ rest in
@@ -152,9 +119,9 @@ module _ (k : Known) (due : List Due) (rest : List Entry) (names : Placed_cells)
                   tracing = subst (λ ms. IsTracing k u.progress ms) entries_are d.tracing;
                   naming = subst (λ ns. IsNaming k u.cells ns) names_are d.naming;
                   after = λ z tr passed.
-                      stood u z (home.Root at) r.of done vs
+                      stood k due rest names u z (home.Root at) r.of done vs []
                       (subst (λ (y : Standing). Deferral k.setting k.graph (root_cell y.home ++ done) (due_of k.setting.table y ++ due) vs) stands e) d.stand
-                      (mine (record { home = home.Root at; of = r.of; val = root_at k.graph at }) stands) empty tr passed;
+                      (mine (record { home = home.Root at; of = r.of; val = root_at k.graph at }) stands) tt (ap reverse empty) tr passed;
                 }
 
     -- a root that is a reference pointer, where it is read: the cell that it names is the next
@@ -162,15 +129,15 @@ module _ (k : Known) (due : List Due) (rest : List Entry) (names : Placed_cells)
         → IsAwaiting k u (due_root at ∷ due) rest names → u.cells.pending.items ≡ [] → cell.0 ≡ min (u.cells.count + 1) (2 ^ 32 - 1) → w.cells.count ≡ cell.0
         → w.cells.numbers ≡ u.cells.numbers → w.cells.pending ≡ u.cells.pending → w.progress ≡ u.progress → stands_at w.cells.stands.items cell.0 ≡ true
         → ((d : ℕ) → (d ≡ cell.0 → ⊥) → stands_at w.cells.stands.items d ≡ stands_at u.cells.stands.items d)
-        → Standing_at w (home.Cell cell) (named.Cell cell) to.0
+        → Entering k due rest names w (home.Cell cell) (named.Cell cell) to.0
     direct_root u w to cell type_of ready a empty next ec en eq ep set others = go (none_left k (due_root at ∷ due) rest names u a empty)
       where
-        go : (done : Placed_cells) × (us : List Step) × IsDeferring k u done (due_root at ∷ due) us rest names → Standing_at w (home.Cell cell) (named.Cell cell) to.0
+        go : (done : Placed_cells) × (us : List Step) × IsDeferring k u done (due_root at ∷ due) us rest names → Entering k due rest names w (home.Cell cell) (named.Cell cell) to.0
         go (done, us, d) = by_inverse (inverted k.setting k.graph d.deferral)
           where
             by_inverse : (vs : List Step) × AreFree (root_cell (standing_root k.setting k.graph at).home) done
                 × Deferral k.setting k.graph (root_cell (standing_root k.setting k.graph at).home ++ done) (due_of k.setting.table (standing_root k.setting k.graph at) ++ due) vs
-                × (us ≡ root_stands at ∷ vs) → Standing_at w (home.Cell cell) (named.Cell cell) to.0
+                × (us ≡ root_stands at ∷ vs) → Entering k due rest names w (home.Cell cell) (named.Cell cell) to.0
             by_inverse (vs, free, e, is) = by_label (root_at k.graph at) refl
               where
                 -- the entries and the names, by what stands for the root
@@ -183,10 +150,10 @@ module _ (k : Known) (due : List Due) (rest : List Entry) (names : Placed_cells)
                     ∙ ap (λ (z : Standing). untested (standing_entries k.setting.table z) ++ untested (flat_map (step_entries k.setting k.graph) vs)) stands)
                     ∙ append_assoc (untested (standing_entries k.setting.table y)) (untested (flat_map (step_entries k.setting k.graph) vs)) rest) d.tracing
 
-                by_label : (v : Tree) → root_at k.graph at ≡ v → Standing_at w (home.Cell cell) (named.Cell cell) to.0
+                by_label : (v : Tree) → root_at k.graph at ≡ v → Entering k due rest names w (home.Cell cell) (named.Cell cell) to.0
                 by_label (node l ks) f = by_cell (direct_typed k s at r there to type_of l ks f)
                   where
-                    by_cell : (l ≡ tree.Unread) ⊎ ((c : ℕ) × (l ≡ tree.Ptr (Some c)) × HasType k.graph c to.0) → Standing_at w (home.Cell cell) (named.Cell cell) to.0
+                    by_cell : (l ≡ tree.Unread) ⊎ ((c : ℕ) × (l ≡ tree.Ptr (Some c)) × HasType k.graph c to.0) → Entering k due rest names w (home.Cell cell) (named.Cell cell) to.0
                     by_cell (inl unread) =
                         let none : direct (type_at k.setting.table r.of) (root_at k.graph at) ≡ None =
                         ap₂ direct type_of (f ∙ ap (λ m. node m ks) unread) in
@@ -207,7 +174,7 @@ module _ (k : Known) (due : List Due) (rest : List Entry) (names : Placed_cells)
                         let named_next =
                         plain_named k u.cells w.cells Ref c cell.0 (names_in own ++ after_names) (λ z. cc) refl (subst (λ ns. IsNaming k u.cells ns) names_are d.naming) next ec en in
                         let same : cell.0 ≡ c = named_next.0 in
-                        subst (λ (q : CellId). Standing_at w (home.Cell q) (named.Cell q) to.0) (ap (λ n. record { 0 = n }) (sym same))
+                        subst (λ (q : CellId). Entering k due rest names w (home.Cell q) (named.Cell q) to.0) (ap (λ n. record { 0 = n }) (sym same))
                         (record {
                           its = cell_has_home k s (record { 0 = c }) to.0 typed;
                           later = untested (flat_map (step_entries k.setting k.graph) vs) ++ rest;
@@ -217,16 +184,16 @@ module _ (k : Known) (due : List Due) (rest : List Entry) (names : Placed_cells)
                               (entries_by (record { home = cell_home c; of = to.0; val = cell_at k.graph c }) stands);
                           naming = named_next.1;
                           after = λ z tr passed.
-                              stood w z (cell_home c) to.0 ((Ref, c) ∷ done) vs
+                              stood k due rest names w z (cell_home c) to.0 ((Ref, c) ∷ done) vs []
                               (subst (λ (y : Standing). Deferral k.setting k.graph (root_cell y.home ++ done) (due_of k.setting.table y ++ due) vs) stands e)
                               (marked_more k due rest names u.cells.stands.items w.cells.stands.items c Ref done d.stand (ap (stands_at w.cells.stands.items) (sym same) ∙ set)
                               (λ m o. others m (λ h. o (h ∙ same)))) (mine (record { home = cell_home c; of = to.0; val = cell_at k.graph c }) stands)
-                              (ap (λ q. q.items) eq ∙ empty) tr passed;
+                              tt (ap reverse (ap (λ q. q.items) eq ∙ empty)) tr passed;
                         })
 
   -- a root that is no reference pointer, as the program gives it
   pub own_of : (s : IsPart k) (at : ℕ) (root : RootDef) (name : HomeName) (r : IsRoot k at root) → direct_of (type_at k.setting.table root.of.0) ≡ None → (u : Walker)
-      → name_text name ≡ root.name.now → IsAwaiting k u (due_root at ∷ due) rest names → u.cells.pending.items ≡ [] → Standing_at u (home.Root at) name root.of.0
-  own_of s at root name r no u is a empty =
-      subst (λ t. Standing_at u (home.Root at) name t) r.of
-      (own_root s at r.its r.there u name (ap (λ t. direct_of (type_at k.setting.table t)) r.of ∙ no) (root_has_home k s at r.its name r.there (is ∙ r.name)) a empty)
+      → name_text name ≡ root.name.now → IsAwaiting k u (due_root at ∷ due) rest names → u.cells.pending.items ≡ [] → Entering k due rest names u (home.Root at) name root.of.0
+  own_of s at root name r never u is a empty =
+      subst (λ t. Entering k due rest names u (home.Root at) name t) r.of
+      (own_root s at r.its r.there u name (ap (λ t. direct_of (type_at k.setting.table t)) r.of ∙ never) (root_has_home k s at r.its name r.there (is ∙ r.name)) a empty)

@@ -23,7 +23,7 @@ use Rattle.ndr_trace_laws.specs.Untested.{untested}
 use Rattle.ndr_trace_laws.proofs.Untested.{untested_append}
 use Rattle.ndr_trace.specs.declared.nodes.Walker.{Walker}
 use Rattle.ndr_trace.specs.Homes.{IsAwaiting, IsDeferring, IsPart, IsRoot, step_names}
-use Rattle.ndr_trace.specs.Naming.{IsNaming, names_in}
+use Rattle.ndr_trace.specs.Naming.{IsNaming, named_by, names_in}
 use Rattle.ndr_trace.specs.Sides.{IsAtPipes, IsAtRoot, IsBeforePipes, pipes_due}
 use Rattle.ndr_trace.specs.Tracing.{IsTracing, Known}
 use Rattle.ndr_trace.proofs.Deferring.{inverted}
@@ -59,19 +59,20 @@ parted [] (y ∷ ys) a b i r e = inr (its_pipe (y ∷ ys) b i e, none_before y.i
     none_before : (q : Bool) → q ≡ true → elim q [ true ↦ 0 | false ↦ suc (before_pipes ys) ] ≤ i
     none_before true f = omega arith
     none_before false f = cc
-parted (x ∷ xs) ys a b i r e = go x.is_pipe refl i e
+parted (x ∷ xs) ys a b i r e = go x.is_pipe refl i e (λ j f. parted xs ys a.1 b j r f)
   where
     more_before : (q : Bool) → q ≡ false → elim q [ true ↦ 0 | false ↦ suc (before_pipes (xs ++ ys)) ] ≡ suc (before_pipes (xs ++ ys))
     more_before true f = cc
     more_before false f = refl
 
     go : (q : Bool) → x.is_pipe ≡ q → (i : ℕ) → slice_get (x ∷ (xs ++ ys)) i ≡ Some r
+        → ((j : ℕ) → slice_get (xs ++ ys) j ≡ Some r → ((r.is_pipe ≡ false) × (j < before_pipes (xs ++ ys))) ⊎ ((r.is_pipe ≡ true) × (before_pipes (xs ++ ys) ≤ j)))
         → ((r.is_pipe ≡ false) × (i < before_pipes (x ∷ (xs ++ ys)))) ⊎ ((r.is_pipe ≡ true) × (before_pipes (x ∷ (xs ++ ys)) ≤ i))
-    go true q i f = let z = a.0 in let y : not true ≡ true = ap not (sym q) ∙ z in cc
-    go false q zero f =
+    go true q i f later = let z = a.0 in let y : not true ≡ true = ap not (sym q) ∙ z in cc
+    go false q zero f later =
         let n = more_before x.is_pipe q in
         inl (ap (λ (s : Root). s.is_pipe) (sym (same_Some _ _ f)) ∙ q, omega (arith, n))
-    go false q (suc i) f = step (parted xs ys a.1 b i r f)
+    go false q (suc i) f later = step (later i f)
       where
         step : ((r.is_pipe ≡ false) × (i < before_pipes (xs ++ ys))) ⊎ ((r.is_pipe ≡ true) × (before_pipes (xs ++ ys) ≤ i))
             → ((r.is_pipe ≡ false) × (suc i < before_pipes (x ∷ (xs ++ ys)))) ⊎ ((r.is_pipe ≡ true) × (before_pipes (x ∷ (xs ++ ys)) ≤ suc i))
@@ -110,7 +111,7 @@ module _ (k : Known) where
       → (cuts : List (List ℕ)) × IsBeforePipes k u at cuts × (at < before_pipes (root_list k.setting))
       × IsAwaiting k u (due_root at ∷ due_roots (at + 1) (before_pipes (root_list k.setting) - (at + 1))) (pipes_due k (before_pipes (root_list k.setting)) cuts)
           (names_in (pipes_due k (before_pipes (root_list k.setting)) cuts))
-  next_root u at root r no (cuts, s) = go (pipe_or_not k.setting at r.its r.there) s
+  next_root u at root r never (cuts, s) = go (pipe_or_not k.setting at r.its r.there) s
     where
       Goal : Type 0
       Goal =
@@ -126,7 +127,7 @@ module _ (k : Known) where
 
       go : ((r.its.is_pipe ≡ false) × (at < before_pipes (root_list k.setting))) ⊎ ((r.its.is_pipe ≡ true) × (before_pipes (root_list k.setting) ≤ at))
           → IsBeforePipes k u at cuts ⊎ IsAtPipes k u at cuts → Goal
-      go (inr (p, l)) s = let z : true ≡ false = sym p ∙ r.pipe ∙ no in cc
+      go (inr (p, l)) s = let z : true ≡ false = sym p ∙ r.pipe ∙ never in cc
       go (inl (p, l)) (inr t) = let h = t.past in absurd (omega (arith, h, l))
       go (inl (p, l)) (inl b) = (
         cuts,
@@ -206,7 +207,7 @@ module _ (k : Known) where
             later = later;
             cuts_all = cuts_all.0;
             tracing = subst (λ ms. IsTracing k u.progress ms) parts t.tracing;
-            naming = subst (λ ns. IsNaming k u.cells ns) (ap names_in parts ∙ flat_map-append _ (untested own) (untested others)) t.naming;
+            naming = subst (λ ns. IsNaming k u.cells ns) (ap names_in parts ∙ flat_map-append (λ (m : Entry). named_by m.kind) (untested own) (untested others)) t.naming;
             past = t.past;
             all_cut = cuts_all.1;
           }

@@ -143,11 +143,11 @@ full_append (m ∷ ms) ns = ap (λ cs. full_cell m.kind ++ cs) (full_append ms n
 
 its_full : (k : Kind) (d : Class × ℕ) → Among (named_by k) d → d.0 ≡ Full → Among (full_cell k) d.1
 its_full (Number Full to (Some c)) d (inl e) f = inl (ap (λ (x : Class × ℕ). x.1) e)
-its_full (Number Full to (Some c)) d (inr a) f = a
+its_full (Number Full to (Some c)) d (inr a) f = absurd a
 its_full (Number Unique to (Some c)) d (inl e) f = let z : Unique ≡ Full = sym (ap (λ (x : Class × ℕ). x.0) e) ∙ f in cc
-its_full (Number Unique to (Some c)) d (inr a) f = a
+its_full (Number Unique to (Some c)) d (inr a) f = absurd a
 its_full (Number Ref to (Some c)) d (inl e) f = let z : Ref ≡ Full = sym (ap (λ (x : Class × ℕ). x.0) e) ∙ f in cc
-its_full (Number Ref to (Some c)) d (inr a) f = a
+its_full (Number Ref to (Some c)) d (inr a) f = absurd a
 its_full (Number class to None) d a f = absurd a
 its_full _ d a f = absurd a
 

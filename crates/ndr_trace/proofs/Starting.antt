@@ -1,8 +1,7 @@
 -- The beginning of a walk.
 -- `k` are the octets with the partial graph in which they are refused, `u` is a walk, `ms` are the entries of a stream, `c` is a cell.
-use Rattle.std.proofs.Common.{◌≡◌, ◌⊎◌, inl, inr, ◌∙◌, ℕ, zero, suc, ◌+◌, ◌<◌, ◌≤◌, ◌^◌, List, [], ◌∷◌, ◌++◌, drop, length, Option, Some, None, refl, sym, ap, ap₂, subst, arith, append-nil, append_assoc, flat_map, map, ◌-◌, reverse}
+use Rattle.std.proofs.Common.{◌≡◌, ◌⊎◌, inl, inr, ◌∙◌, ℕ, zero, suc, ◌+◌, ◌<◌, ◌≤◌, ◌^◌, List, [], ◌∷◌, ◌++◌, drop, length, Option, Some, None, refl, sym, ap, ap₂, subst, arith, append-nil, append_assoc, flat_map, map, ◌-◌, reverse, true}
 use Rattle.std.specs.List.{AllByRecursion, slice_get}
-use Rattle.std.proofs.lemmas.Grind.{flat_map-append}
 use Rattle.std.proofs.lemmas.Option.{slice_get_within}
 use Rattle.nd_types.specs.declared.types.Class.{Class}
 use Rattle.nd_types.specs.declared.types.Class.TheVariants.{Full}
@@ -36,7 +35,7 @@ use Rattle.ndr_trace_laws.proofs.Untested.{untested_append}
 use Rattle.ndr_trace.specs.declared.cells.Cells.{Cells}
 use Rattle.ndr_trace.specs.declared.nodes.Walker.{Walker}
 use Rattle.ndr_trace.specs.Homes.{IsPart, step_names}
-use Rattle.ndr_trace.specs.Naming.{HasNumbers, InTurn, IsNaming, IsNumbered, Stand, names_in}
+use Rattle.ndr_trace.specs.Naming.{HasNumbers, InTurn, IsNaming, IsNumbered, Stand, names_in, stands_at}
 use Rattle.ndr_trace.specs.Sides.{IsAtRoot, pipes_due}
 use Rattle.ndr_trace.specs.Tracing.{IsTracing, Known}
 use Rattle.ndr_trace.proofs.CellsInTurn.{Mine, later_roots, roots_mine, steps_cells, turns}
@@ -66,10 +65,7 @@ full_append [] ys = refl
 full_append (m ∷ xs) ys = ap (λ cs. full_cell m.kind ++ cs) (full_append xs ys) ∙ sym (append_assoc (full_cell m.kind) (full_cells xs) (full_cells ys))
 
 module _ (k : Known) (s : IsPart k) (ms : List Entry) (a : Stream k.setting k.graph ms) where
-  names : Placed_cells
-  names = flat_map (step_names k.setting k.graph) a.steps
-
-  sound : IsSound k.setting k.graph
+  abbrev sound : IsSound k.setting k.graph
   sound = sound_partial k.setting k.graph s.partial
 
   mine : AllByRecursion (Mine k.setting k.graph (sound_partial k.setting k.graph s.partial)) (due_roots 0 (before_pipes (root_list k.setting)))
@@ -184,12 +180,16 @@ module _ (k : Known) (s : IsPart k) (ms : List Entry) (a : Stream k.setting k.gr
                   deferral = subst (λ j. Deferral k.setting k.graph [] (due_roots 0 j) a.steps) (minus_nothing n) a.deferral;
                   tracing = subst (λ xs. IsTracing k u.progress xs) entries_due tr;
                   naming = none_named own same numbering u.cells none known (names_in (pipes_due k n a.cuts)) (no_pipe_names k s n a.cuts refl);
-                  stand = subst (λ marks. Stand marks []) (sym unmarked) (λ c. ((λ h. cc), (λ h. absurd h)));
+                  stand = subst (λ marks. Stand marks []) (sym unmarked) (λ c. ((λ h. absurd (none_marked c h)), (λ h. absurd h)));
                 };
               };
               all_cut = a.all_cut;
             }),
       )
     where
+      none_marked : (c : ℕ) → stands_at [] c ≡ true → ⊥
+      none_marked zero h = cc
+      none_marked (suc c) h = cc
+
       minus_nothing : (j : ℕ) → j ≡ j - 0
       minus_nothing j = omega arith

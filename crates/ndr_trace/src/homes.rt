@@ -43,7 +43,8 @@ pub(crate) fn walk_root<'a>(
         return Err(Halt::Memory);
     };
     walk_own(ground, walker, at, root)?;
-    walk_referents(ground, walker)
+    walk_referents(ground, walker)?;
+    Ok(())
 }
 
 // Walks over the value of a root, or over that of the cell that a top-level reference pointer names, which is in the pointer's place.

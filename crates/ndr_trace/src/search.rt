@@ -1,10 +1,15 @@
 // What is kept for the variable of an agreement that fails.
+ghost use Rattle.std.specs.Prelude.{◌≡◌, ℕ, ℤ, IfSome, IsSome, Some};
+ghost use Rattle.std.specs.List.{slice_get};
+ghost use Rattle.nd_value.specs.declared.item.Item.{Item as ItemValue};
+ghost use Rattle.nd_grammar.specs.declared.reason.Reason.TheVariants as reasons;
+
 use crate::members::Open;
 use crate::parameters::RootSeen;
 use nd_base::Octets;
 use nd_grammar::Reason;
 use nd_types::Attr;
-use nd_value::{Home, Item, ItemKind, ItemLog};
+use nd_value::{Home, ItemKind, ItemLog};
 
 /// The count or tag that an agreement finds other than it is stated, and the number that is stated.
 #[derive(Clone, Copy, Drop)]
@@ -39,14 +44,27 @@ pub(crate) struct Search<'a> {
 }
 
 /// What a refusal at a place seeks: at a failed agreement the count or tag at that place.
-pub(crate) fn find_agreement(items: &ItemLog, place: u32, why: Reason) -> Option<Sought> {
-    let Reason::Disagrees { wanted, .. } = why else {
-        return None;
-    };
+pub(crate) fn find_agreement(items: &ItemLog, place: u32, why: Reason) -> Option<Sought>
+    ensures disagrees { IfSome result (λ s. (found : ℤ) × (why ≡ reasons.Disagrees s.wanted found)) }
+    ensures finds { (wanted found : ℤ) → why ≡ reasons.Disagrees wanted found → (n : ℕ) (i : ItemValue) → slice_get items.now.items n ≡ Some i
+        → i.at ≡ place → IsSome result }
+{
+    match why {
+        Reason::Disagrees { wanted, .. } => find_item(items, place, wanted),
+        _ => None,
+    }
+}
+
+// The item at a place.
+fn find_item(items: &ItemLog, place: u32, wanted: i128) -> Option<Sought>
+    ensures wanted { IfSome result (λ s. s.wanted ≡ wanted) }
+    ensures finds { (n : ℕ) (i : ItemValue) → slice_get items.now.items n ≡ Some i → i.at ≡ place → IsSome result }
+{
     for at in 0..items.len() {
-        if let Some(item) = items.get(at)
-            && is_at(item, place)
-        {
+        let Some(item) = items.get(at) else {
+            unreachable!()
+        };
+        if item.at == place {
             return Some(Sought {
                 item: at,
                 kind: item.kind,
@@ -57,11 +75,6 @@ pub(crate) fn find_agreement(items: &ItemLog, place: u32, why: Reason) -> Option
         }
     }
     None
-}
-
-// Whether an item begins at a place.
-fn is_at(item: &Item, place: u32) -> bool {
-    item.at == place
 }
 
 /// Whether an attribute speaks of an item of this kind.

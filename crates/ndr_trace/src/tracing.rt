@@ -1,7 +1,8 @@
 // The trace of octets that are refused.
-ghost use Rattle.std.specs.Prelude.{◌≡◌, ◌<◌, ◌++◌, ℕ, List, length, Some, option_map, IfOk};
+ghost use Rattle.std.specs.Prelude.{◌≡◌, ◌<◌, ◌++◌, ℕ, List, length, Some, option_map, IfOk, None};
 ghost use Rattle.std.specs.List.{slice_get};
 ghost use Rattle.nd_types.specs.declared.types.Operation.{Operation};
+ghost use Rattle.nd_types.specs.Number.{AreOctets};
 ghost use Rattle.nd_value.specs.Fitting.{setting_beside};
 ghost use Rattle.nd_value.specs.Request.{IsRequestOf};
 ghost use Rattle.nd_value.specs.Setting.{Setting};
@@ -19,7 +20,7 @@ use crate::sides::walk_side;
 use crate::nodes::Walker;
 use crate::parameters::append_agreement;
 use crate::progress::{Ground, Halt, Progress};
-use crate::search::{Search, find_agreement};
+use crate::search::{Search, Sought, find_agreement};
 use nd_base::{Memory, Octets, Order};
 use nd_flat::Fit;
 use nd_grammar::Reason;
@@ -62,6 +63,7 @@ pub fn trace(
         → (fetched more : List ℕ) → octets.now ≡ fetched ++ more → (bad : Bad w order fetched place why) → HasOwnNumbers bad.partial bad.entries
         → items.now.items ≡ items_of order fetched bad.earlier → IsTraceOf w order fetched place why bad t.lines t.path) }
 {
+    are_octets(octets);
     let ground = Ground {
         alloc,
         interface,
@@ -74,8 +76,14 @@ pub fn trace(
         sought: find_agreement(items, place, why),
     };
     let walker = walk(&ground)?;
-    finish(&ground, walker)
+    let traced = finish(&ground, walker)?;
+    Ok(traced)
 }
+
+// Octets are numbers below 256.
+fn are_octets(octets: &[u8])
+    ensures { AreOctets octets.now }
+{}
 
 // A walk over the items to their end.
 fn walk<'a>(ground: &Ground<'a>) -> Result<Walker<'a>, Memory>
@@ -118,16 +126,33 @@ fn begin<'a>(alloc: Global) -> Walker<'a>
 }
 
 // The lines, and the path at which the walk ended or that of the agreement that fails.
-fn finish<'a>(ground: &Ground<'a>, walker: Walker<'a>) -> Result<Traced, Memory> {
+fn finish<'a>(ground: &Ground<'a>, walker: Walker<'a>) -> Result<Traced, Memory>
+    ensures lines { IfOk result (λ t. t.lines ≡ walker.entry.progress.lines) }
+    ensures path { ground.now.sought ≡ None → IfOk result (λ t. t.path ≡ walker.entry.progress.path) }
+{
     let Walker {
         progress,
         search,
         ..
     } = walker;
     let Progress { lines, path, .. } = progress;
-    let mut path = path;
-    if let Some(sought) = ground.sought {
-        append_agreement(ground, &search, sought, &mut path)?;
+    match ground.sought {
+        Some(sought) => finish_at(ground, &search, sought, lines, path),
+        None => Ok(Traced { lines, path }),
     }
+}
+
+// The same where an agreement fails.
+fn finish_at(
+    ground: &Ground<'_>,
+    search: &Search<'_>,
+    sought: Sought,
+    lines: Octets,
+    path: Octets,
+) -> Result<Traced, Memory>
+    ensures lines { IfOk result (λ t. t.lines ≡ lines.entry) }
+{
+    let mut path = path;
+    append_agreement(ground, search, sought, &mut path)?;
     Ok(Traced { lines, path })
 }

@@ -7,5 +7,5 @@ use Rattle.ndr_trace.proofs.homes.walk_referents.Given as goal
 
 abbrev pub invariant-loop-turn : goal.invariant-loop-turn
 invariant-loop-turn l =
-    (k : Known) → IsGround k l.fn.ground.now → IsPart k → (due : List Due) (rest : List Entry) (names : Placed_cells) → IsAwaiting k l.initial.walker due rest names
+    (k : Known) → IsGround k l.fn.ground → IsPart k → (due : List Due) (rest : List Entry) (names : Placed_cells) → IsAwaiting k l.initial.walker due rest names
     → IsAwaiting k l.walker due rest names

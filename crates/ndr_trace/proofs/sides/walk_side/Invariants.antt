@@ -7,5 +7,5 @@ use Rattle.ndr_trace.proofs.sides.walk_side.Given as goal
 abbrev pub invariant-loop-root : goal.invariant-loop-root
 invariant-loop-root l = record {
   counted : l.at ≡ length l.yielded;
-  here : (k : Known) → IsGround k l.fn.ground.now → IsPart k → IsSide k l.fn.ground.now → IsAtRoot k l.initial.walker 0 → IsAtRoot k l.walker l.at;
+  here : (k : Known) → IsGround k l.fn.ground → IsPart k → IsSide k l.fn.ground → IsAtRoot k l.initial.walker 0 → IsAtRoot k l.walker l.at;
 }
