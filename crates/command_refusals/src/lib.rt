@@ -7,6 +7,6 @@ mod lines;
 mod loading;
 mod refusal;
 
-pub use lines::{Status, line, status};
+pub use lines::{Status, fault_words, line, status};
 pub use loading::load;
 pub use refusal::{CompatFault, FragmentsFault, IdlReason, OctetsFault, Refusal, RequestFault};

@@ -306,7 +306,7 @@ fn lex_kind_name(kind: LexKind) -> &'static str
 fn octets_line(alloc: Global, place: u32, why: OctetsFault) -> Result<Octets, Memory>
     ensures { IfOk result (λ line. line ≡ line_of [] [] (Refusal.BadOctets place why)) }
 {
-    let why = why_refused(alloc, why)?;
+    let why = fault_words(alloc, why)?;
     let mut digits = Buffer::new();
     let place = digits.format(place).as_bytes();
     join(
@@ -349,8 +349,8 @@ fn value_line(
     join(alloc, &[what, path, b": ", reason.as_slice(), b"\n"])
 }
 
-// Why octets are refused, as a line tells it.
-fn why_refused(alloc: Global, why: OctetsFault) -> Result<Octets, Memory>
+/// Why octets are refused, as a line tells it. Takes memory for the words; out of memory is the only error.
+pub fn fault_words(alloc: Global, why: OctetsFault) -> Result<Octets, Memory>
     ensures { IfOk result (λ text. text ≡ fault_text why) }
 {
     match why {

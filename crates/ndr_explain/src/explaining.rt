@@ -83,8 +83,8 @@ fn append_item<'a>(
     Ok(found)
 }
 
-// Adds where an item is, its length and its kind.
-fn append_head(text: &mut Octets, item: &Item) -> Result<(), Memory>
+/// Adds where an item is, its length and its kind.
+pub fn append_head(text: &mut Octets, item: &Item) -> Result<(), Memory>
     ensures { OnOk result (text.new ≡ text.old ++ item_head item.now) }
 {
     append_count(text, item.at)?;

@@ -21,7 +21,7 @@ use text_grammar::{append_index, selected};
 
 /// The children of a node, and the one of them at which a walk is.
 #[derive(Clone, Copy, Drop)]
-pub(crate) enum Level<'a> {
+pub enum Level<'a> {
     /// One value without a name of its own: that of a home, or of an arm that has no name.
     Whole {
         of: TypeId,
@@ -47,13 +47,13 @@ pub(crate) enum Level<'a> {
 
 /// A level, and those around it, the outermost first.
 #[derive(Drop)]
-pub(crate) struct Levels<'a> {
-    pub(crate) top: Level<'a>,
-    pub(crate) below: Vec<Level<'a>>,
+pub struct Levels<'a> {
+    pub top: Level<'a>,
+    pub below: Vec<Level<'a>>,
 }
 
 /// The type of the child at which a level is; the first type where it is past its last child.
-pub(crate) fn type_of(level: Level<'_>) -> TypeId
+pub fn type_of(level: Level<'_>) -> TypeId
     ensures { 0 < length (level_types level.entry) → level_types level.entry ≡ result.0 ∷ drop 1 (level_types level.entry) }
 {
     match level {
@@ -125,7 +125,7 @@ fn element_after<'a>(of: TypeId, offset: u32, at: u32, size: u32) -> Option<Leve
 }
 
 /// The level of the children of a node of a type, if it has any.
-pub(crate) fn children<'a>(types: &'a Types, of: TypeId, seen: &Seen<'_>) -> Option<Level<'a>>
+pub fn children<'a>(types: &'a Types, of: TypeId, seen: &Seen<'_>) -> Option<Level<'a>>
     ensures { IsChildLevel types.now of.0 (flat_seen seen.now) result }
 {
     match seen {
@@ -247,7 +247,7 @@ fn pipe_elem(types: &Types, of: TypeId) -> Option<TypeId>
 }
 
 /// The levels of the node that follows one: a level of its children, or what comes after it.
-pub(crate) fn next_levels<'a>(
+pub fn next_levels<'a>(
     inner: Option<Level<'a>>,
     top: Level<'a>,
     below: Vec<Level<'a>>,
@@ -339,7 +339,7 @@ fn append_element(text: &mut Octets, offset: u32, at: u32) -> Result<(), Memory>
 }
 
 /// Adds the steps from a home's value to the node at which levels are.
-pub(crate) fn append_steps(
+pub fn append_steps(
     text: &mut Octets,
     top: Level<'_>,
     below: &Vec<Level<'_>>,
@@ -351,8 +351,8 @@ pub(crate) fn append_steps(
     Ok(())
 }
 
-// Adds the steps of the levels around the innermost.
-fn append_outer(text: &mut Octets, below: &Vec<Level<'_>>) -> Result<(), Memory>
+/// Adds the steps of the levels around the innermost.
+pub fn append_outer(text: &mut Octets, below: &Vec<Level<'_>>) -> Result<(), Memory>
     ensures { OnOk result (text.new ≡ path_to text.old (reverse below.now.items)) }
 {
     for level in below.as_slice() {

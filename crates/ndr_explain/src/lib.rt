@@ -7,4 +7,6 @@ mod levels;
 mod located;
 mod names;
 
-pub use explaining::explain;
+pub use explaining::{append_head, explain};
+pub use levels::{Level, Levels, append_outer, append_steps, children, next_levels, type_of};
+pub use names::{HomeName, append_home, name_of};

@@ -18,7 +18,7 @@ use text_paths::root_at;
 
 /// The name of a home: the word of a root, or the number of a cell.
 #[derive(Clone, Copy, Drop)]
-pub(crate) enum HomeName<'a> {
+pub enum HomeName<'a> {
     Word(&'a [u8]),
     Cell(CellId),
 }
@@ -33,8 +33,8 @@ pub(crate) fn home_name<'a>(interface: &'a Interface, fit: &Fit, home: Home) -> 
     name_of(interface, fit.op(), fit.side(), home)
 }
 
-// The name of a home of a side.
-fn name_of<'a>(interface: &'a Interface, op: u32, side: Side, home: Home) -> HomeName<'a>
+/// The name of a home of a side of an operation. It takes no memory.
+pub fn name_of<'a>(interface: &'a Interface, op: u32, side: Side, home: Home) -> HomeName<'a>
     requires known { op < length interface.now.operations }
     ensures { (o : Operation) → slice_get interface.now.operations op ≡ Some o
         → (q : Option Graph) → name_text result ≡ home_name (setting_beside interface.now o side q) home }
@@ -56,7 +56,7 @@ fn word_of<'a>(root: Option<RootDef<'a>>) -> &'a [u8]
 }
 
 /// Adds the name of a home to a text: the name of a root, or `@` and the number of a cell.
-pub(crate) fn append_home(text: &mut Octets, name: HomeName<'_>) -> Result<(), Memory>
+pub fn append_home(text: &mut Octets, name: HomeName<'_>) -> Result<(), Memory>
     ensures { OnOk result (text.new ≡ text.old ++ name_text name.entry) }
 {
     match name {
