@@ -1,0 +1,6 @@
+//! Octets in NDR (C706, chapter 14), traced: a line for each of their items up to the first fault, and the fault with the path of what is refused.
+#![tactic(auto)]
+
+mod tracing;
+
+pub use tracing::{TracedOctets, trace_octets};

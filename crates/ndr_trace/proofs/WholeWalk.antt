@@ -1,0 +1,28 @@
+-- The beginning of a walk.
+-- `k` are the octets with the partial graph in which they are refused, `u` is a walk, `p` how far it came.
+use Rattle.std.proofs.Common.{◌∙◌, drop, take, sym, ap, subst, arith}
+use Rattle.nd_grammar.specs.Entry.{end_to_end}
+use Rattle.ndr_explain.specs.Explained.{explanation}
+use Rattle.ndr_trace_laws.specs.Due.{Stops}
+use Rattle.ndr_trace_laws.specs.Untested.{untested}
+use Rattle.ndr_trace.specs.declared.nodes.Walker.{Walker}
+use Rattle.ndr_trace.specs.Homes.{IsPart}
+use Rattle.ndr_trace.specs.Sides.{IsAtRoot, IsBeginning, IsStream}
+use Rattle.ndr_trace.specs.Tracing.{IsGround, IsTracing, Known}
+use Rattle.ndr_trace.specs.declared.progress.Ground.{Ground}
+use Rattle.ndr_trace.proofs.Starting.{at_first_root}
+
+-- at the beginning all entries are due
+pub begins : (k : Known) (u : Walker) → IsPart k → (g : IsStream k) → (v : Ground) → IsGround k v → IsBeginning u → IsAtRoot k u 0
+begins k u s g v ground b =
+    at_first_root k s g.entries g.stream u tracing g.own g.full ground.is_numbering b.count b.numbers b.none_pending b.unmarked
+  where
+    tracing : IsTracing k u.progress (untested g.entries)
+    tracing = record {
+      within = (let z = b.next in omega (arith, z));
+      lines = b.lines ∙ ap (λ n. explanation k.setting k.graph (take n k.log)) (sym b.next);
+      no_path = b.path;
+      due =
+          subst (λ n. Stops k.order k.fetched k.numbering k.here (end_to_end u.progress.at (untested g.entries)) (drop n k.log)) (sym b.next)
+          (subst (λ n. Stops k.order k.fetched k.numbering k.here (end_to_end n (untested g.entries)) k.log) (sym b.at) g.due);
+    }

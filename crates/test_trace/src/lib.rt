@@ -1,0 +1,5 @@
+//! Tests of traces on worked octets.
+#![tactic(auto)]
+
+#[cfg(test)]
+mod tests;
