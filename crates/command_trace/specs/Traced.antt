@@ -9,7 +9,7 @@ use Rattle.command_refusals.specs.declared.refusal.OctetsFault.{OctetsFault}
 use Rattle.command_refusals.specs.declared.refusal.OctetsFault.TheVariants.{Refused, Trailing}
 use Rattle.command_refusals.specs.Lines.{fault_text}
 use Rattle.command_explain.specs.Explanations.{IsExplanation}
-use Rattle.ndr_trace.specs.Traces.{IsTrace}
+use Rattle.ndr_trace_value.specs.Traces.{IsTrace}
 use Rattle.command_trace.specs.declared.tracing.TracedOctets.{TracedOctets}
 use Rattle.command_trace.specs.declared.tracing.TracedOctets.TheVariants as traced
 

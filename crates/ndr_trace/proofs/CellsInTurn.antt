@@ -29,7 +29,7 @@ use Rattle.nd_grammar.proofs.next.PointerPlaces.{among_two, in_cell, in_home, in
 use Rattle.nd_grammar.proofs.next.StreamPointers.{is_good}
 use Rattle.ndr_trace_laws.specs.Counting.{Counts}
 use Rattle.ndr_trace.specs.Homes.{direct_names, names_all, standing_names, step_names}
-use Rattle.ndr_trace.specs.Naming.{InTurn, full_one, names_of}
+use Rattle.ndr_trace_value.specs.Naming.{InTurn, full_one, names_of}
 
 turned : (p q : Pointer) → ShareOnlyIfFull p q → ShareOnlyIfFull q p
 turned p q s c e f = let r = s c f e in (r.1, r.0)
@@ -97,10 +97,10 @@ module _ (all : List Pointer) (apart : AllEarlier ShareOnlyIfFull all) (m : ℕ)
             full_p,
             known,
             later n full
-            (record {
-              each = λ d l h. let (x, b, f') = s.each d l h in (x, inr b, f');
-              fulls = λ x d b f' k. again x d b f' k known;
-            }) counts,
+                (record {
+                  each = λ d l h. let (x, b, f') = s.each d l h in (x, inr b, f');
+                  fulls = λ x d b f' k. again x d b f' k known;
+                }) counts,
           )
         where
           again : (x : Pointer) (d : ℕ) → (x ≡ p) ⊎ Among seen x → x.cell ≡ Some d → x.class ≡ Full → Among full c → Among full d
@@ -110,10 +110,10 @@ module _ (all : List Pointer) (apart : AllEarlier ShareOnlyIfFull all) (m : ℕ)
           inl (
             next,
             later (suc n) (full_one p.class c ++ full)
-            (record {
-              each = λ d l h. whichever d l h (below d n);
-              fulls = λ x d b f' k. fuller x d b f' k;
-            }) counts,
+                (record {
+                  each = λ d l h. whichever d l h (below d n);
+                  fulls = λ x d b f' k. fuller x d b f' k;
+                }) counts,
           )
         where
           below : (d n : ℕ) → (d ≤ n) ⊎ (n < d)
@@ -143,7 +143,7 @@ module _ (all : List Pointer) (apart : AllEarlier ShareOnlyIfFull all) (m : ℕ)
       → ((q p : Pointer) → Among seen q → Among ps p → ShareOnlyIfFull q p) → AllEarlier ShareOnlyIfFull ps
       → Counts n (map (λ (d : Class × ℕ). d.1) (names_all ps ++ ns)) m
       → ((n' : ℕ) (full' : List ℕ) (seen' : List Pointer) → Seen n' full' seen' → ((q : Pointer) → Among seen' q → Among seen q ⊎ Among ps q)
-          → Counts n' (map (λ (d : Class × ℕ). d.1) ns) m → InTurn n' full' ns)
+      → Counts n' (map (λ (d : Class × ℕ). d.1) ns) m → InTurn n' full' ns)
       → InTurn n full (names_all ps ++ ns)
   many_more [] n full seen ns s share earlier counts later = later n full seen s (λ q a. inl a) counts
   many_more (p ∷ ps) n full seen ns s share earlier counts later =
@@ -151,8 +151,8 @@ module _ (all : List Pointer) (apart : AllEarlier ShareOnlyIfFull all) (m : ℕ)
       (one_more n full seen p (names_all ps ++ ns) s (λ q a. share q p a (inl refl))
       (subst (λ xs. Counts n (map (λ (d : Class × ℕ). d.1) xs) m) (append_assoc (names_of p.class p.cell) (names_all ps) ns) counts)
       (λ n' full' s' counts'.
-          many_more ps n' full' (p ∷ seen) ns s' (λ q r a b. shared q r a b) earlier.1 counts'
-          (λ n'' full'' seen'' s'' from counts''. later n'' full'' seen'' s'' (λ q a. wherever q (from q a)) counts'')))
+      many_more ps n' full' (p ∷ seen) ns s' (λ q r a b. shared q r a b) earlier.1 counts'
+      (λ n'' full'' seen'' s'' from counts''. later n'' full'' seen'' s'' (λ q a. wherever q (from q a)) counts'')))
     where
       shared : (q r : Pointer) → (q ≡ p) ⊎ Among seen q → Among ps r → ShareOnlyIfFull q r
       shared q r (inl h) b = subst (λ x. ShareOnlyIfFull x r) (sym h) (all_among (ShareOnlyIfFull p) ps r b earlier.0)
@@ -291,17 +291,17 @@ module _ (w : Setting) (g : Graph) (s : IsSound w g) (m : ℕ) where
       → ((k : Home) → IsDone done rs k → IsDone done' rs' k) → ((p : Pointer) → Among (home_pointers w.table h t v) p → Among (all_pointers w g) p)
       → AllEarlier ShareOnlyIfFull (home_pointers w.table h t v) → Counts n (map (λ (d : Class × ℕ). d.1) (names_all (home_pointers w.table h t v) ++ ns)) m
       → ((n' : ℕ) (full' : List ℕ) (seen' : List Pointer) → Passed done' rs' seen' → Seen (all_pointers w g) s.unshared m n' full' seen'
-          → Counts n' (map (λ (d : Class × ℕ). d.1) ns) m → InTurn n' full' ns)
+      → Counts n' (map (λ (d : Class × ℕ). d.1) ns) m → InTurn n' full' ns)
       → InTurn n full (names_all (home_pointers w.table h t v) ++ ns)
   one_home done done' rs rs' seen h t v n full ns a b new now wider inside apart counts later =
       many_more (all_pointers w g) s.unshared m (home_pointers w.table h t v) n full seen ns b
       (λ q p x y. shares done rs seen a h new q p x (inside p y) (all_among (λ p. p.home ≡ h) (home_pointers w.table h t v) p y (in_home w.table h t v))) apart counts
       (λ n' full' seen' b' from counts'.
-          later n' full' seen'
-          (record {
-            mine = λ q x. of_both q (from q x);
-            homes = λ q x. home_of q (from q x);
-          }) b' counts')
+      later n' full' seen'
+      (record {
+        mine = λ q x. of_both q (from q x);
+        homes = λ q x. home_of q (from q x);
+      }) b' counts')
     where
       of_both : (q : Pointer) → Among seen q ⊎ Among (home_pointers w.table h t v) q → Among (all_pointers w g) q
       of_both q (inl x) = a.mine q x
@@ -332,7 +332,7 @@ module _ (w : Setting) (g : Graph) (s : IsSound w g) (m : ℕ) where
         AreFree (root_cell x.home) done → ((p : Pointer) → Among (home_pointers w.table x.home x.of x.val) p → Among (all_pointers w g) p)
         → Counts n (map (λ (d : Class × ℕ). d.1) ((direct_names x.home ++ standing_names w x) ++ ns)) m
         → ((n' : ℕ) (full' : List ℕ) (seen' : List Pointer) → Passed (root_cell x.home ++ done) (i ∷ rs) seen'
-            → Seen (all_pointers w g) s.unshared m n' full' seen' → Counts n' (map (λ (d : Class × ℕ). d.1) ns) m → InTurn n' full' ns)
+        → Seen (all_pointers w g) s.unshared m n' full' seen' → Counts n' (map (λ (d : Class × ℕ). d.1) ns) m → InTurn n' full' ns)
         → InTurn n full ((direct_names x.home ++ standing_names w x) ++ ns)
 
     pub turns : {done : Placed_cells} {due : List Due} {us : List Step} → Deferral w g done due us → (rs : List ℕ) (n : ℕ) (full : List ℕ) (seen : List Pointer) → AreFresh rs due
@@ -347,22 +347,22 @@ module _ (w : Setting) (g : Graph) (s : IsSound w g) (m : ℕ) where
         one_home done ((p.class, cell) ∷ done) rs rs seen (cell_home cell) p.to (cell_at g cell) n full (flat_map (step_names w g) us) b c new (inl refl)
         (more_placed done rs (p.class, cell)) inside (home_apart cell p.to typed) counts
         (λ n' full' seen' b' c' counts'.
-            turns d rs n' full' seen' (fresh_more rs (home_pointers w.table (cell_home cell) p.to (cell_at g cell)) due f)
-            (mine_more w g s (home_pointers w.table (cell_home cell) p.to (cell_at g cell)) due inside a.1) b' c' counts')
+        turns d rs n' full' seen' (fresh_more rs (home_pointers w.table (cell_home cell) p.to (cell_at g cell)) due f)
+        (mine_more w g s (home_pointers w.table (cell_home cell) p.to (cell_at g cell)) due inside a.1) b' c' counts')
     turns (at_root {done = done} {i = i} {due = due} {steps = us} free d) rs n full seen f a b c counts =
         let x : Standing = standing_root w g i in
         let inside = in_standing w g s i a.0.0 a.0.1 in
         at_a_root done rs seen n full i a.0.0 a.0.1 (flat_map (step_names w g) us) b c f.0 free inside counts
         (λ n' full' seen' b' c' counts'.
-            turns d (i ∷ rs) n' full' seen' (fresh_more (i ∷ rs) (home_pointers w.table x.home x.of x.val) due f.1)
-            (mine_more w g s (home_pointers w.table x.home x.of x.val) due inside a.1) b' c' counts')
+        turns d (i ∷ rs) n' full' seen' (fresh_more (i ∷ rs) (home_pointers w.table x.home x.of x.val) due f.1)
+        (mine_more w g s (home_pointers w.table x.home x.of x.val) due inside a.1) b' c' counts')
       where
         at_a_root : (done : Placed_cells) (rs : List ℕ) (seen : List Pointer) (n : ℕ) (full : List ℕ) (i : ℕ) (r : Root) → slice_get (root_list w) i ≡ Some r → (ns : Placed_cells)
             → Passed done rs seen → Seen (all_pointers w g) s.unshared m n full seen → (Among rs i → ⊥) → AreFree (root_cell (standing_root w g i).home) done
             → ((p : Pointer) → Among (home_pointers w.table (standing_root w g i).home (standing_root w g i).of (standing_root w g i).val) p → Among (all_pointers w g) p)
             → Counts n (map (λ (d : Class × ℕ). d.1) ((direct_names (standing_root w g i).home ++ standing_names w (standing_root w g i)) ++ ns)) m
             → ((n' : ℕ) (full' : List ℕ) (seen' : List Pointer) → Passed (root_cell (standing_root w g i).home ++ done) (i ∷ rs) seen'
-                → Seen (all_pointers w g) s.unshared m n' full' seen' → Counts n' (map (λ (d : Class × ℕ). d.1) ns) m → InTurn n' full' ns)
+            → Seen (all_pointers w g) s.unshared m n' full' seen' → Counts n' (map (λ (d : Class × ℕ). d.1) ns) m → InTurn n' full' ns)
             → InTurn n full ((direct_names (standing_root w g i).home ++ standing_names w (standing_root w g i)) ++ ns)
         at_a_root done rs seen n full i r e ns b c new free inside counts later = by (direct (type_at w.table r.of) (root_at g i)) refl
           where
@@ -392,9 +392,9 @@ module _ (w : Setting) (g : Graph) (s : IsSound w g) (m : ℕ) where
                     one_more (all_pointers w g) s.unshared m n full seen p (standing_names w (record { home = cell_home cell; of = t; val = cell_at g cell }) ++ ns) c
                     (λ q x. shares done rs seen b (home.Root i) new q p x mine refl) counts
                     (λ n' full' c' counts'.
-                        one_home done ((Ref, cell) ∷ done) (i ∷ rs) (i ∷ rs) (p ∷ seen) (cell_home cell) t (cell_at g cell) n' full' ns
-                        (record {
-                          mine = λ q x. either_mine p mine q x;
-                          homes = λ q x. either_home p refl q x;
-                        }) c' free.0 (inl refl) (more_placed done (i ∷ rs) (Ref, cell)) inside
-                        (subst (λ u. AllEarlier ShareOnlyIfFull (home_pointers w.table (cell_home cell) u (cell_at g cell))) (sym ty) (home_apart cell to.0 typed)) counts' later)
+                    one_home done ((Ref, cell) ∷ done) (i ∷ rs) (i ∷ rs) (p ∷ seen) (cell_home cell) t (cell_at g cell) n' full' ns
+                    (record {
+                      mine = λ q x. either_mine p mine q x;
+                      homes = λ q x. either_home p refl q x;
+                    }) c' free.0 (inl refl) (more_placed done (i ∷ rs) (Ref, cell)) inside
+                    (subst (λ u. AllEarlier ShareOnlyIfFull (home_pointers w.table (cell_home cell) u (cell_at g cell))) (sym ty) (home_apart cell to.0 typed)) counts' later)

@@ -23,14 +23,14 @@ use Rattle.ndr_explain.specs.Cursors.{index_paths, name_text, path_to}
 use Rattle.ndr_explain.specs.Explained.{home_flats, home_paths, path_in}
 use Rattle.ndr_trace_laws.specs.Untested.{plain, untested}
 use Rattle.ndr_trace_laws.proofs.Untested.{untested_append, untested_values}
-use Rattle.ndr_trace.specs.declared.nodes.Walker.{Walker}
-use Rattle.ndr_trace.specs.declared.progress.Progress.{Progress}
+use Rattle.ndr_trace_value.specs.declared.nodes.Walker.{Walker}
+use Rattle.ndr_trace_value.specs.declared.progress.Progress.{Progress}
 use Rattle.nd_types.specs.declared.types.TypeId.{TypeId}
 use Rattle.ndr_trace.specs.Chunks.{AfterChunk, IsAtChunk}
-use Rattle.ndr_trace.specs.Naming.{HasNamed, IsNaming, names_in}
-use Rattle.ndr_trace.specs.Tracing.{IsTracing, Known}
-use Rattle.ndr_trace.specs.Walking.{AreOwn, AreThere, values_due}
-use Rattle.ndr_trace.proofs.LevelWalk.{names_append, nodes_joined}
+use Rattle.ndr_trace_value.specs.Naming.{HasNamed, IsNaming, names_in}
+use Rattle.ndr_trace_value.specs.Tracing.{IsTracing, Known}
+use Rattle.ndr_trace_value.specs.Walking.{AreOwn, AreThere, values_due}
+use Rattle.ndr_trace_value.proofs.LevelWalk.{names_append, nodes_joined}
 use Rattle.ndr_trace.proofs.Parts.{flat_of_first, nodes_flat, path_of_first, path_of_others}
 
 -- ## Some values, and others after them

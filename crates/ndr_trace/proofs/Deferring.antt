@@ -22,9 +22,9 @@ use Rattle.nd_grammar.specs.InPlace.{tests, whole_value}
 use Rattle.nd_grammar.specs.Stream.{standing_entries, step_entries, step_tests}
 use Rattle.ndr_trace_laws.specs.Untested.{untested}
 use Rattle.ndr_trace_laws.proofs.Untested.{untested_append}
-use Rattle.ndr_trace.specs.declared.cells.Pending.{Pending}
+use Rattle.ndr_trace_value.specs.declared.cells.Pending.{Pending}
 use Rattle.ndr_trace.specs.Homes.{names_all, pending_all, standing_names, step_names}
-use Rattle.ndr_trace.specs.Naming.{names_in, pending_in, pending_of}
+use Rattle.ndr_trace_value.specs.Naming.{names_in, pending_in, pending_of}
 use Rattle.ndr_trace.proofs.HomeNames.{home_names, home_waits}
 
 pub no_tests : (h : Home) (n : ℕ) (t : Tree) (xs : List Agreement) → untested (tests h n t xs) ≡ []

@@ -73,7 +73,7 @@ module _ (order : Order) (octets : List ℕ) (earlier : List EntryAt) where
   plain_fault x q t e =
       by_first _ (STREAM_LIMIT, reason.TooLong) _ q refl
       (λ f. by_first _ (length octets, reason.Truncated) _ q refl
-          (λ g. kind_plain x.at x.entry x.entry.kind (piece octets x.at x.entry.kind) q t g) f) e
+      (λ g. kind_plain x.at x.entry x.entry.kind (piece octets x.at x.entry.kind) q t g) f) e
 
   -- an agreement is refused where the count or tag is that it speaks of
   pub agreement_fault : (x : EntryAt) (place : ℕ) (why : Reason) (a : Attr) (wanted found : ℤ) → x.entry.kind ≡ Test a wanted found → x.at ≤ length octets
@@ -81,8 +81,8 @@ module _ (order : Order) (octets : List ℕ) (earlier : List EntryAt) where
   agreement_fault x place why a wanted found is within e =
       whole (ltb (length octets) (x.at + 0)) refl
       (subst (λ k. refused_if (is_long x.at k) (STREAM_LIMIT, reason.TooLong)
-          (refused_if (ltb (length octets) (x.at + size_at x.at k)) (length octets, reason.Truncated)
-          (kind_refusal order octets earlier x.at x.entry k (piece octets x.at k))) ≡ Some (place, why)) is e)
+      (refused_if (ltb (length octets) (x.at + size_at x.at k)) (length octets, reason.Truncated)
+      (kind_refusal order octets earlier x.at x.entry k (piece octets x.at k))) ≡ Some (place, why)) is e)
     where
       Goal : Type 0
       Goal = (why ≡ reason.Disagrees wanted found) × (tested_at earlier a x.entry.home x.entry.node ≡ Some place)
@@ -99,13 +99,13 @@ module _ (order : Order) (octets : List ℕ) (earlier : List EntryAt) where
 
       whole : (t : Bool) → ltb (length octets) (x.at + 0) ≡ t
           → refused_if (ltb (length octets) (x.at + 0)) (length octets, reason.Truncated)
-              (cond (int_eq wanted found) None (option_map (λ p. (p, reason.Disagrees wanted found)) (tested_at earlier a x.entry.home x.entry.node))) ≡ Some (place, why)
+          (cond (int_eq wanted found) None (option_map (λ p. (p, reason.Disagrees wanted found)) (tested_at earlier a x.entry.home x.entry.node))) ≡ Some (place, why)
           → Goal
       whole true h g = let l = ltb-true (length octets) (x.at + 0) h in absurd (omega (arith, l, within))
       whole false h g =
           holds (int_eq wanted found)
           (ap (λ t. refused_if t (length octets, reason.Truncated)
-              (cond (int_eq wanted found) None (option_map (λ p. (p, reason.Disagrees wanted found)) (tested_at earlier a x.entry.home x.entry.node)))) (sym h) ∙ g)
+          (cond (int_eq wanted found) None (option_map (λ p. (p, reason.Disagrees wanted found)) (tested_at earlier a x.entry.home x.entry.node)))) (sym h) ∙ g)
 
 -- ## The item of a count or a tag
 

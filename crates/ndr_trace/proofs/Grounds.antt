@@ -16,10 +16,10 @@ use Rattle.nd_grammar.specs.Entry.{Actual, Align, Chunk, Context, Entry, EntryAt
 use Rattle.nd_grammar.specs.Items.{items}
 use Rattle.nd_grammar.specs.Represents.{IsRendered}
 use Rattle.ndr_trace_laws.specs.Untested.{is_test}
-use Rattle.ndr_trace.specs.declared.progress.Ground.{Ground}
-use Rattle.ndr_trace.specs.declared.search.Sought.{Sought}
-use Rattle.ndr_trace.specs.Tracing.{IsGround}
-use Rattle.ndr_trace.proofs.Ending.{known_of}
+use Rattle.ndr_trace_value.specs.declared.progress.Ground.{Ground}
+use Rattle.ndr_trace_value.specs.declared.search.Sought.{Sought}
+use Rattle.ndr_trace_value.specs.Tracing.{IsGround}
+use Rattle.ndr_trace_value.proofs.Ending.{known_of}
 use Rattle.ndr_trace.proofs.Faults.{agreement_fault, is_disagreement, logged_there, plain_fault, tested_entry}
 
 -- an agreement, or another kind

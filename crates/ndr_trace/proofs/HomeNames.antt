@@ -17,9 +17,9 @@ use Rattle.nd_grammar.specs.Entry.{Entry, Kind}
 use Rattle.nd_grammar.specs.InPlace.{before_children, counts, entries, hoisted, hoisted_max, in_place, tag_entries, whole_value}
 use Rattle.ndr_trace_laws.specs.Untested.{kept_if, is_test, plain, untested}
 use Rattle.ndr_trace_laws.proofs.Untested.{untested_append, untested_values}
-use Rattle.ndr_trace.specs.declared.cells.Pending.{Pending}
+use Rattle.ndr_trace_value.specs.declared.cells.Pending.{Pending}
 use Rattle.ndr_trace.specs.Homes.{names_all, pending_all}
-use Rattle.ndr_trace.specs.Naming.{named_by, names_in, names_of, pending_by, pending_in, pending_of}
+use Rattle.ndr_trace_value.specs.Naming.{named_by, names_in, names_of, pending_by, pending_in, pending_of}
 
 module _ (table : Table) (h : Home) where
   -- ## Names

@@ -26,9 +26,9 @@ use Rattle.ndr_explain.specs.Explained.{home_flats, home_paths, path_in}
 use Rattle.ndr_explain.specs.declared.names.HomeName.{HomeName}
 use Rattle.ndr_explain.proofs.Walks.{path_here, path_later}
 use Rattle.ndr_trace.specs.Homes.{HasHome, IsFront, home_max}
-use Rattle.ndr_trace.specs.Tracing.{IsSpot, Known}
-use Rattle.ndr_trace.specs.Walking.{AreOwn, AreThere, IsOwn}
-use Rattle.ndr_trace.proofs.Partial.{partial_begins}
+use Rattle.ndr_trace_value.specs.Tracing.{IsSpot, Known}
+use Rattle.ndr_trace_value.specs.Walking.{AreOwn, AreThere, IsOwn}
+use Rattle.ndr_trace_value.proofs.Partial.{partial_begins}
 
 -- ## Maximum counts
 
@@ -42,7 +42,6 @@ of_record : (l : Label) (inner m : ℕ) → l ≡ tree.Rec → own_max l inner �
 of_record l inner m is e = sym (ap (λ u. own_max u inner) is) ∙ e
 
 module _ (k : Known) (m : ℕ) (laid : HoistsLast k.setting.table) where
-
   abbrev H : ℕ → Bool
   H = hoists k.setting.table
 

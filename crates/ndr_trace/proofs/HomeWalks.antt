@@ -21,18 +21,18 @@ use Rattle.ndr_explain.specs.declared.levels.Level.{Level}
 use Rattle.ndr_explain.specs.declared.levels.Level.TheVariants as level
 use Rattle.ndr_explain.specs.declared.names.HomeName.{HomeName}
 use Rattle.ndr_trace_laws.specs.Untested.{plain, untested}
-use Rattle.ndr_trace.specs.declared.cells.Cells.{Cells}
-use Rattle.ndr_trace.specs.declared.cells.Pending.{Pending}
-use Rattle.ndr_trace.specs.declared.progress.Progress.{Progress}
-use Rattle.ndr_trace.specs.declared.progress.Spot.{Spot}
+use Rattle.ndr_trace_value.specs.declared.cells.Cells.{Cells}
+use Rattle.ndr_trace_value.specs.declared.cells.Pending.{Pending}
+use Rattle.ndr_trace_value.specs.declared.progress.Progress.{Progress}
+use Rattle.ndr_trace_value.specs.declared.progress.Spot.{Spot}
 use Rattle.ndr_trace.specs.Homes.{HasHome, HasPassed, IsFront, home_due, home_max}
-use Rattle.ndr_trace.specs.Naming.{HasNamed, IsNaming, names_in, pending_in}
-use Rattle.ndr_trace.specs.Tracing.{IsSpot, IsTracing, Known}
-use Rattle.ndr_trace.specs.Walking.{IsReady, values_due}
+use Rattle.ndr_trace_value.specs.Naming.{HasNamed, IsNaming, names_in, pending_in}
+use Rattle.ndr_trace_value.specs.Tracing.{IsSpot, IsTracing, Known}
+use Rattle.ndr_trace_value.specs.Walking.{IsReady, values_due}
 use Rattle.ndr_trace.proofs.HomeNames.{home_names, home_parts, home_waits, plain_names, plain_waits}
 use Rattle.ndr_trace.proofs.HomeThere.{path_of_home}
-use Rattle.ndr_trace.proofs.NamedCells.{same_naming}
-use Rattle.ndr_trace.proofs.OwnItems.{unread_due}
+use Rattle.ndr_trace_value.proofs.NamedCells.{same_naming}
+use Rattle.ndr_trace_value.proofs.OwnItems.{unread_due}
 
 pub clash : {A : Type 0} → true ≡ false → A
 clash e = cc
@@ -94,7 +94,7 @@ module _ (k : Known) (h : Home) (t : ℕ) where
   -- a maximum count is in front: its gap is due, and then itself
   pub some_front : (p : Progress) (rest : List Entry) → hoists k.setting.table t ≡ true → IsReady k p → IsTracing k p (home_due k h t ++ rest)
       → IsTracing k p (record { home = h; node = 0; kind = Align 4 } ∷ record { home = h; node = 0; kind = Max (home_max k h) }
-          ∷ (values_due k h (t ∷ []) 0 (more (home_value k.graph h) none) ++ rest))
+      ∷ (values_due k h (t ∷ []) 0 (more (home_value k.graph h) none) ++ rest))
   some_front p rest e ready tr = go (home_value k.graph h) refl
     where
       go : (v : Tree) → home_value k.graph h ≡ v → IsTracing k p (entry (Align 4) ∷ entry (Max (home_max k h)) ∷ (due ++ rest))

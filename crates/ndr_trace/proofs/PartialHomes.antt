@@ -34,8 +34,8 @@ use Rattle.ndr_explain.specs.declared.names.HomeName.{HomeName}
 use Rattle.ndr_explain.specs.declared.names.HomeName.TheVariants as named
 use Rattle.text_grammar.specs.Paths.{cell_types, home_name, root_types}
 use Rattle.ndr_trace.specs.Homes.{HasHome, IsPart}
-use Rattle.ndr_trace.specs.Naming.{HasType}
-use Rattle.ndr_trace.specs.Tracing.{Known}
+use Rattle.ndr_trace_value.specs.Naming.{HasType}
+use Rattle.ndr_trace_value.specs.Tracing.{Known}
 
 module _ (f : TypedNode → Bool) where
   of_home : (h : Home) (xs : List TypedNode) → list_all (λ (y : HomeNode). f y.typed) (map (in_home h) xs) ≡ list_all f xs

@@ -24,9 +24,9 @@ use Rattle.nd_grammar.proofs.next.NextStream.{FitsPipes, IsPipeRoot}
 use Rattle.ndr_trace_laws.specs.Untested.{untested}
 use Rattle.ndr_trace_laws.proofs.Untested.{untested_append, untested_values}
 use Rattle.ndr_trace.specs.Homes.{IsPart, names_all}
-use Rattle.ndr_trace.specs.Naming.{named_by, names_in}
+use Rattle.ndr_trace_value.specs.Naming.{named_by, names_in}
 use Rattle.ndr_trace.specs.Sides.{pipes_due}
-use Rattle.ndr_trace.specs.Tracing.{Known}
+use Rattle.ndr_trace_value.specs.Tracing.{Known}
 use Rattle.ndr_trace.proofs.HomeNames.{plain_names}
 
 many_fit : (table : Table) (t n : ℕ) → FitsPipes table t → AllByRecursion (FitsPipes table) (replicate n t)

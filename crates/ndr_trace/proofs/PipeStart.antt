@@ -25,15 +25,15 @@ use Rattle.ndr_explain.specs.Cursors.{index_paths, name_text, pipe_element}
 use Rattle.ndr_explain.specs.Explained.{home_flats, home_paths, path_in}
 use Rattle.ndr_explain.proofs.Walks.{path_later}
 use Rattle.ndr_trace_laws.specs.Untested.{untested}
-use Rattle.ndr_trace.specs.declared.nodes.Walker.{Walker}
-use Rattle.ndr_trace.specs.declared.progress.Progress.{Progress}
+use Rattle.ndr_trace_value.specs.declared.nodes.Walker.{Walker}
+use Rattle.ndr_trace_value.specs.declared.progress.Progress.{Progress}
 use Rattle.ndr_trace.specs.Chunks.{AfterChunk, IsAtChunk}
 use Rattle.ndr_trace.specs.Homes.{HasHome}
-use Rattle.ndr_trace.specs.Naming.{IsNaming, names_in}
-use Rattle.ndr_trace.specs.Tracing.{IsTracing, Known}
-use Rattle.ndr_trace.specs.Walking.{AreOwn, AreThere, IsReady}
+use Rattle.ndr_trace_value.specs.Naming.{IsNaming, names_in}
+use Rattle.ndr_trace_value.specs.Tracing.{IsTracing, Known}
+use Rattle.ndr_trace_value.specs.Walking.{AreOwn, AreThere, IsReady}
 use Rattle.ndr_trace.proofs.HomeThere.{home_there, path_of_home}
-use Rattle.ndr_trace.proofs.OwnItems.{unread_due}
+use Rattle.ndr_trace_value.proofs.OwnItems.{unread_due}
 
 indexed : (p : List ℕ) (i : ℕ) (ks : Trees) → index_paths p i (count ks) ≡ element_paths p i ks
 indexed p i none = refl
@@ -62,7 +62,7 @@ module _ (k : Known) (h : Home) (r : ℕ) (p : List ℕ) (e : TypeId) (is : type
       ++ node_paths k.setting.table [] [] (1 + node_count ks) none)
       (omega (arith, low))
       ∙ ap (λ xs. path_in xs m)
-          (append-nil (node_paths k.setting.table (child_types (type_at k.setting.table r) tree.Pipe ks) (child_paths (type_at k.setting.table r) tree.Pipe p ks) 1 ks))
+      (append-nil (node_paths k.setting.table (child_types (type_at k.setting.table r) tree.Pipe ks) (child_paths (type_at k.setting.table r) tree.Pipe p ks) 1 ks))
       ∙ ap (λ d. path_in (node_paths k.setting.table (child_types d tree.Pipe ks) (child_paths d tree.Pipe p ks) 1 ks) m) is
       ∙ ap (λ ps. path_in (node_paths k.setting.table (replicate (count ks) e.0) ps 1 ks) m) (sym (indexed p 0 ks))
 

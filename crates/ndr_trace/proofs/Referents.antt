@@ -25,14 +25,14 @@ use Rattle.ndr_explain.specs.declared.names.HomeName.{HomeName}
 use Rattle.ndr_explain.specs.declared.names.HomeName.TheVariants as named
 use Rattle.text_grammar.specs.Paths.{home_value}
 use Rattle.ndr_trace_laws.specs.Untested.{untested}
-use Rattle.ndr_trace.specs.declared.cells.Pending.{Pending}
-use Rattle.ndr_trace.specs.declared.nodes.Walker.{Walker}
+use Rattle.ndr_trace_value.specs.declared.cells.Pending.{Pending}
+use Rattle.ndr_trace_value.specs.declared.nodes.Walker.{Walker}
 use Rattle.ndr_trace.specs.Homes.{HasHome, HasPassed, IsAwaiting, IsDeferring, IsNext, IsPart, home_due, pending_all, step_names}
-use Rattle.ndr_trace.specs.Naming.{HasType, IsNaming, Stand, names_in, pending_of, stands_at}
-use Rattle.ndr_trace.specs.Tracing.{IsTracing, Known}
+use Rattle.ndr_trace_value.specs.Naming.{HasType, IsNaming, Stand, names_in, pending_of, stands_at}
+use Rattle.ndr_trace_value.specs.Tracing.{IsTracing, Known}
 use Rattle.ndr_trace.proofs.Deferring.{Inverted, already_entries, due_joined, inverted, next_pending, nulls_skipped, pending_joined, referent_entries, referent_names}
 use Rattle.ndr_trace.proofs.HomeNames.{home_waits}
-use Rattle.ndr_trace.proofs.NamedCells.{same_naming}
+use Rattle.ndr_trace_value.proofs.NamedCells.{same_naming}
 use Rattle.ndr_trace.proofs.PartialHomes.{cell_has_home, typed_cell}
 
 nat_or : (m n : ℕ) → (m ≡ n) ⊎ (m ≡ n → ⊥)

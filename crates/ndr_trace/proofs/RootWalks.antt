@@ -33,15 +33,15 @@ use Rattle.text_grammar.specs.Paths.{home_value}
 use Rattle.ndr_explain.specs.declared.names.HomeName.{HomeName}
 use Rattle.ndr_explain.specs.declared.names.HomeName.TheVariants as named
 use Rattle.ndr_trace_laws.specs.Untested.{untested}
-use Rattle.ndr_trace.specs.declared.nodes.Walker.{Walker}
+use Rattle.ndr_trace_value.specs.declared.nodes.Walker.{Walker}
 use Rattle.ndr_trace.specs.Homes.{HasHome, IsAwaiting, IsDeferring, IsPart, IsRoot, direct_names, direct_of, home_due, names_all, pending_all, standing_names, step_names}
-use Rattle.ndr_trace.specs.Naming.{HasType, IsNaming, Stand, names_in, pending_in, stands_at}
-use Rattle.ndr_trace.specs.Tracing.{IsTracing, Known}
-use Rattle.ndr_trace.specs.Walking.{IsReady}
+use Rattle.ndr_trace_value.specs.Naming.{HasType, IsNaming, Stand, names_in, pending_in, stands_at}
+use Rattle.ndr_trace_value.specs.Tracing.{IsTracing, Known}
+use Rattle.ndr_trace_value.specs.Walking.{IsReady}
 use Rattle.ndr_trace.proofs.Deferring.{inverted, root_entries}
 use Rattle.ndr_trace.proofs.HomeNames.{home_names, home_waits}
 use Rattle.ndr_trace.proofs.HomeWalks.{is_read}
-use Rattle.ndr_trace.proofs.NamedCells.{plain_named, same_naming}
+use Rattle.ndr_trace_value.proofs.NamedCells.{plain_named, same_naming}
 use Rattle.ndr_trace.proofs.PartialHomes.{cell_has_home, direct_typed, root_has_home}
 use Rattle.ndr_trace.proofs.Referents.{Entering, marked_more, none_left, stood}
 

@@ -12,10 +12,10 @@ use Rattle.nd_value.specs.declared.item.Home.TheVariants as home
 use Rattle.nd_value.specs.Setting.{Setting, root_list}
 use Rattle.text_grammar.specs.Written.{root_name}
 use Rattle.text_grammar.proofs.Names.{names_agree}
-use Rattle.ndr_trace.specs.declared.progress.Ground.{Ground}
+use Rattle.ndr_trace_value.specs.declared.progress.Ground.{Ground}
 use Rattle.ndr_trace.specs.Homes.{IsRoot}
 use Rattle.ndr_trace.specs.Sides.{IsSide}
-use Rattle.ndr_trace.specs.Tracing.{Known}
+use Rattle.ndr_trace_value.specs.Tracing.{Known}
 
 -- what a list is mapped from
 mapped_from : {X Y : Type 0} (f : X → Y) (xs : List X) (i : ℕ) (y : Y) → slice_get (map f xs) i ≡ Some y → (x : X) × (slice_get xs i ≡ Some x) × (f x ≡ y)

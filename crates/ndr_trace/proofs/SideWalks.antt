@@ -21,11 +21,11 @@ use Rattle.nd_grammar.specs.Entry.{Entry}
 use Rattle.nd_grammar.specs.Stream.{AllCut, Cuts, kids_of, pipe_entries, pipes_entries, step_entries}
 use Rattle.ndr_trace_laws.specs.Untested.{untested}
 use Rattle.ndr_trace_laws.proofs.Untested.{untested_append}
-use Rattle.ndr_trace.specs.declared.nodes.Walker.{Walker}
+use Rattle.ndr_trace_value.specs.declared.nodes.Walker.{Walker}
 use Rattle.ndr_trace.specs.Homes.{IsAwaiting, IsDeferring, IsPart, IsRoot, step_names}
-use Rattle.ndr_trace.specs.Naming.{IsNaming, named_by, names_in}
+use Rattle.ndr_trace_value.specs.Naming.{IsNaming, named_by, names_in}
 use Rattle.ndr_trace.specs.Sides.{IsAtPipes, IsAtRoot, IsBeforePipes, pipes_due}
-use Rattle.ndr_trace.specs.Tracing.{IsTracing, Known}
+use Rattle.ndr_trace_value.specs.Tracing.{IsTracing, Known}
 use Rattle.ndr_trace.proofs.Deferring.{inverted}
 use Rattle.ndr_trace.proofs.Referents.{none_left}
 
@@ -110,14 +110,14 @@ module _ (k : Known) where
   pub next_root : (u : Walker) (at : ℕ) (root : RootDef) → IsRoot k at root → root.pipe ≡ false → IsAtRoot k u at
       → (cuts : List (List ℕ)) × IsBeforePipes k u at cuts × (at < before_pipes (root_list k.setting))
       × IsAwaiting k u (due_root at ∷ due_roots (at + 1) (before_pipes (root_list k.setting) - (at + 1))) (pipes_due k (before_pipes (root_list k.setting)) cuts)
-          (names_in (pipes_due k (before_pipes (root_list k.setting)) cuts))
+      (names_in (pipes_due k (before_pipes (root_list k.setting)) cuts))
   next_root u at root r never (cuts, s) = go (pipe_or_not k.setting at r.its r.there) s
     where
       Goal : Type 0
       Goal =
           (cuts : List (List ℕ)) × IsBeforePipes k u at cuts × (at < before_pipes (root_list k.setting))
           × IsAwaiting k u (due_root at ∷ due_roots (at + 1) (before_pipes (root_list k.setting) - (at + 1))) (pipes_due k (before_pipes (root_list k.setting)) cuts)
-              (names_in (pipes_due k (before_pipes (root_list k.setting)) cuts))
+          (names_in (pipes_due k (before_pipes (root_list k.setting)) cuts))
 
       first_due : (m : ℕ) → at < m → due_roots at (m - at) ≡ due_root at ∷ due_roots (at + 1) (m - (at + 1))
       first_due m l =
@@ -140,7 +140,7 @@ module _ (k : Known) where
   -- after it the next one is
   pub after_root : (u v : Walker) (at : ℕ) (cuts : List (List ℕ)) → IsBeforePipes k u at cuts → at < before_pipes (root_list k.setting) → v.cells.pending.items ≡ []
       → IsAwaiting k v (due_roots (at + 1) (before_pipes (root_list k.setting) - (at + 1))) (pipes_due k (before_pipes (root_list k.setting)) cuts)
-          (names_in (pipes_due k (before_pipes (root_list k.setting)) cuts))
+      (names_in (pipes_due k (before_pipes (root_list k.setting)) cuts))
       → IsAtRoot k v (at + 1)
   after_root u v at cuts b l empty a = (cuts, inl (record { before = omega (arith, l); none_pending = empty; awaiting = a; all_cut = b.all_cut }))
 

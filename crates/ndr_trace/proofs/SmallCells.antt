@@ -35,7 +35,7 @@ use Rattle.nd_grammar.proofs.Placed.{among_split}
 use Rattle.nd_grammar.proofs.next.StreamPointers.{is_good}
 use Rattle.ndr_trace_laws.specs.Untested.{is_test, kept_if, untested}
 use Rattle.ndr_trace.specs.Homes.{direct_names, names_all, standing_names, step_names}
-use Rattle.ndr_trace.specs.Naming.{named_by, names_in, names_of}
+use Rattle.ndr_trace_value.specs.Naming.{named_by, names_in, names_of}
 use Rattle.ndr_trace.proofs.CellsInTurn.{KnownDirect, Mine, direct_mine, mine_more, standing_is}
 use Rattle.ndr_trace.proofs.HomeNames.{home_names}
 

@@ -32,12 +32,12 @@ use Rattle.ndr_trace_laws.specs.Counting.{Counts, IsIn}
 use Rattle.ndr_trace_laws.specs.Untested.{untested}
 use Rattle.ndr_trace_laws.proofs.Numbers.{named_in_turn}
 use Rattle.ndr_trace_laws.proofs.Untested.{untested_append}
-use Rattle.ndr_trace.specs.declared.cells.Cells.{Cells}
-use Rattle.ndr_trace.specs.declared.nodes.Walker.{Walker}
+use Rattle.ndr_trace_value.specs.declared.cells.Cells.{Cells}
+use Rattle.ndr_trace_value.specs.declared.nodes.Walker.{Walker}
 use Rattle.ndr_trace.specs.Homes.{IsPart, step_names}
-use Rattle.ndr_trace.specs.Naming.{HasNumbers, InTurn, IsNaming, IsNumbered, Stand, names_in, stands_at}
+use Rattle.ndr_trace_value.specs.Naming.{HasNumbers, InTurn, IsNaming, IsNumbered, Stand, names_in, stands_at}
 use Rattle.ndr_trace.specs.Sides.{IsAtRoot, pipes_due}
-use Rattle.ndr_trace.specs.Tracing.{IsTracing, Known}
+use Rattle.ndr_trace_value.specs.Tracing.{IsTracing, Known}
 use Rattle.ndr_trace.proofs.CellsInTurn.{Mine, later_roots, roots_mine, steps_cells, turns}
 use Rattle.ndr_trace.proofs.Deferring.{no_tests}
 use Rattle.ndr_trace.proofs.PartialHomes.{known_direct}

@@ -10,14 +10,14 @@ use Rattle.nd_grammar.specs.LegalSide.{IsLegalSide}
 use Rattle.ndr_decoder_laws.specs.verdict.InOrder.{HasOwnNumbers}
 use Rattle.ndr_trace_laws.specs.Untested.{is_test}
 use Rattle.ndr_trace_laws.proofs.Due.{bad_stops}
-use Rattle.ndr_trace.specs.declared.progress.Ground.{Ground}
-use Rattle.ndr_trace.specs.declared.progress.Progress.{Progress}
-use Rattle.ndr_trace.specs.declared.search.Sought.{Sought}
+use Rattle.ndr_trace_value.specs.declared.progress.Ground.{Ground}
+use Rattle.ndr_trace_value.specs.declared.progress.Progress.{Progress}
+use Rattle.ndr_trace_value.specs.declared.search.Sought.{Sought}
 use Rattle.ndr_trace.specs.Homes.{IsPart}
 use Rattle.ndr_trace.specs.Sides.{IsStream}
-use Rattle.ndr_trace.specs.Traces.{IsTraceOf}
-use Rattle.ndr_trace.specs.Tracing.{IsEnded, IsGround}
-use Rattle.ndr_trace.proofs.Ending.{known_of, traced_plain}
+use Rattle.ndr_trace_value.specs.Traces.{IsTraceOf}
+use Rattle.ndr_trace_value.specs.Tracing.{IsEnded, IsGround}
+use Rattle.ndr_trace_value.proofs.Ending.{known_of, traced_plain}
 
 module _ (w : Setting) (order : Order) (fetched : List ℕ) (place : ℕ) (why : Reason) (bad : Bad w order fetched place why) where
   pub part_of : IsLegalSide w → IsPart (known_of w order fetched place why bad)

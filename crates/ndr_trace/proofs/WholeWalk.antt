@@ -5,11 +5,11 @@ use Rattle.nd_grammar.specs.Entry.{end_to_end}
 use Rattle.ndr_explain.specs.Explained.{explanation}
 use Rattle.ndr_trace_laws.specs.Due.{Stops}
 use Rattle.ndr_trace_laws.specs.Untested.{untested}
-use Rattle.ndr_trace.specs.declared.nodes.Walker.{Walker}
+use Rattle.ndr_trace_value.specs.declared.nodes.Walker.{Walker}
 use Rattle.ndr_trace.specs.Homes.{IsPart}
 use Rattle.ndr_trace.specs.Sides.{IsAtRoot, IsBeginning, IsStream}
-use Rattle.ndr_trace.specs.Tracing.{IsGround, IsTracing, Known}
-use Rattle.ndr_trace.specs.declared.progress.Ground.{Ground}
+use Rattle.ndr_trace_value.specs.Tracing.{IsGround, IsTracing, Known}
+use Rattle.ndr_trace_value.specs.declared.progress.Ground.{Ground}
 use Rattle.ndr_trace.proofs.Starting.{at_first_root}
 
 -- at the beginning all entries are due

@@ -10,7 +10,7 @@ use Rattle.nd_grammar.specs.Entry.{Test}
 use Rattle.ndr_trace.specs.Examples.{cut_refusal, cut_trace, in_gap_trace, between_trace, counted, miscounted_graph, miscount, miscounted_refusal, miscounted_trace}
 use Rattle.ndr_trace.specs.Examples.{refused_in, armless_octets, armed_entries, armless_trace, one_number, shared_entries, shared_trace}
 use Rattle.ndr_trace.specs.Examples.{second_chunk, piped_entries, piped_trace}
-use Rattle.ndr_trace.specs.Traces.{IsVariable}
+use Rattle.ndr_trace_value.specs.Traces.{IsVariable}
 
 pub cut_refused : cut_refusal ≡ Some (14, reason.Truncated)
 unfolding roots_of hoists align_of digits

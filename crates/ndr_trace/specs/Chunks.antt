@@ -10,10 +10,10 @@ use Rattle.nd_grammar.specs.Stream.{Cuts, chunks}
 use Rattle.ndr_explain.specs.Cursors.{index_paths}
 use Rattle.ndr_explain.specs.Explained.{home_paths, path_in}
 use Rattle.ndr_trace_laws.specs.Untested.{untested}
-use Rattle.ndr_trace.specs.declared.nodes.Walker.{Walker}
-use Rattle.ndr_trace.specs.Naming.{IsNaming, names_in}
-use Rattle.ndr_trace.specs.Tracing.{IsTracing, Known}
-use Rattle.ndr_trace.specs.Walking.{AreThere}
+use Rattle.ndr_trace_value.specs.declared.nodes.Walker.{Walker}
+use Rattle.ndr_trace_value.specs.Naming.{IsNaming, names_in}
+use Rattle.ndr_trace_value.specs.Tracing.{IsTracing, Known}
+use Rattle.ndr_trace_value.specs.Walking.{AreThere}
 
 -- The chunks of the elements that are left are due, and then others.
 pub record IsAtChunk (k : Known) (h : Home) (name : List ℕ) (t before : ℕ) (rest : List Entry) (names : Placed_cells) (u : Walker) : Type 0 where

@@ -24,7 +24,7 @@ use Rattle.nd_grammar.specs.Items.{items}
 use Rattle.nd_grammar.specs.Refusal.{refusal}
 use Rattle.nd_grammar.specs.Stream.{pipe_entries}
 use Rattle.ndr_explain.specs.Explained.{explanation}
-use Rattle.ndr_trace.specs.Traces.{fault_path}
+use Rattle.ndr_trace_value.specs.Traces.{fault_path}
 
 abbrev pub called : List ℕ → ℕ → List AttrVar → Field
 called name t vars = record { name = name; of = id t; vars = vars }

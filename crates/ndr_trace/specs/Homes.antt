@@ -29,11 +29,11 @@ use Rattle.text_grammar.specs.Paths.{home_name, home_types, home_value}
 use Rattle.ndr_explain.specs.Cursors.{name_text}
 use Rattle.ndr_explain.specs.declared.names.HomeName.{HomeName}
 use Rattle.ndr_trace_laws.specs.Untested.{untested}
-use Rattle.ndr_trace.specs.declared.cells.Cells.{Cells}
-use Rattle.ndr_trace.specs.declared.cells.Pending.{Pending}
-use Rattle.ndr_trace.specs.declared.nodes.Walker.{Walker}
-use Rattle.ndr_trace.specs.Naming.{IsNaming, Stand, names_in, names_of, pending_in, pending_of}
-use Rattle.ndr_trace.specs.Tracing.{IsTracing, Known}
+use Rattle.ndr_trace_value.specs.declared.cells.Cells.{Cells}
+use Rattle.ndr_trace_value.specs.declared.cells.Pending.{Pending}
+use Rattle.ndr_trace_value.specs.declared.nodes.Walker.{Walker}
+use Rattle.ndr_trace_value.specs.Naming.{IsNaming, Stand, names_in, names_of, pending_in, pending_of}
+use Rattle.ndr_trace_value.specs.Tracing.{IsTracing, Known}
 
 -- ## A home
 

@@ -13,11 +13,11 @@ use Rattle.nd_grammar.specs.Stream.{AllCut, Stream, pipes_entries}
 use Rattle.ndr_decoder_laws.specs.verdict.InOrder.{HasOwnNumbers}
 use Rattle.ndr_trace_laws.specs.Due.{Stops}
 use Rattle.ndr_trace_laws.specs.Untested.{untested}
-use Rattle.ndr_trace.specs.declared.nodes.Walker.{Walker}
-use Rattle.ndr_trace.specs.declared.progress.Ground.{Ground}
+use Rattle.ndr_trace_value.specs.declared.nodes.Walker.{Walker}
+use Rattle.ndr_trace_value.specs.declared.progress.Ground.{Ground}
 use Rattle.ndr_trace.specs.Homes.{IsAwaiting}
-use Rattle.ndr_trace.specs.Naming.{IsNaming, names_in}
-use Rattle.ndr_trace.specs.Tracing.{IsTracing, Known}
+use Rattle.ndr_trace_value.specs.Naming.{IsNaming, names_in}
+use Rattle.ndr_trace_value.specs.Tracing.{IsTracing, Known}
 
 -- the side whose roots are walked over
 pub record IsSide (k : Known) (u : Ground) : Type 0 where

@@ -9,7 +9,7 @@ ghost use Rattle.ndr_trace.specs.Examples.{cut_refusal, cut_trace, in_gap_trace,
 ghost use Rattle.ndr_trace.specs.Examples.{counted, miscounted_graph, miscount, miscounted_refusal, miscounted_trace};
 ghost use Rattle.ndr_trace.specs.Examples.{refused_in, armless_octets, armed_entries, armless_trace, one_number, shared_entries, shared_trace};
 ghost use Rattle.ndr_trace.specs.Examples.{second_chunk, piped_entries, piped_trace};
-ghost use Rattle.ndr_trace.specs.Traces.{IsVariable};
+ghost use Rattle.ndr_trace_value.specs.Traces.{IsVariable};
 
 /// An array is cut short within an element, in a gap, and between two items: the path is that of the value that lacks octets, or of the next one.
 pub fn array_cut_short()

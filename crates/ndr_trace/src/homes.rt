@@ -10,20 +10,19 @@ ghost use Rattle.nd_value.specs.Tree.{more, none};
 ghost use Rattle.nd_value.specs.Deferral.{Due, Placed_cells, due_root};
 ghost use Rattle.nd_grammar.specs.Entry.{Entry};
 ghost use Rattle.text_grammar.specs.Paths.{home_value};
-ghost use Rattle.ndr_trace.specs.Walking.{values_due};
-ghost use Rattle.ndr_trace.specs.declared.progress.Halt.TheVariants as halts;
+ghost use Rattle.ndr_trace_value.specs.Walking.{values_due};
+ghost use Rattle.ndr_trace_value.specs.declared.progress.Halt.TheVariants as halts;
 ghost use Rattle.ndr_trace.specs.Homes.{HasHome, HasPassed, IsAwaiting, IsFront, IsNext, IsRoot, IsPart, direct_of, home_due};
-ghost use Rattle.ndr_trace.specs.Naming.{IsNaming, names_in};
-ghost use Rattle.ndr_trace.specs.Tracing.{IsEnded, IsGround, IsTracing, Known};
+ghost use Rattle.ndr_trace_value.specs.Naming.{IsNaming, names_in};
+ghost use Rattle.ndr_trace_value.specs.Tracing.{IsEnded, IsGround, IsTracing, Known};
 
-use crate::cells::{Pending, come_to, new_cell};
-use crate::members::{at_end, close, note_front};
-use crate::nodes::{Walker, walk_level};
-use crate::parameters::{RootSeen, note_direct};
-use crate::progress::{Ground, Halt, Spot, count, gap};
 use nd_types::{Class, Interface, RootDef, TypeDef, TypeId};
 use nd_value::Home;
 use ndr_explain::{HomeName, Level};
+use ndr_trace_value::{
+    Ground, Halt, Pending, RootSeen, Spot, Walker, at_end, close, come_to, count, gap, new_cell,
+    note_direct, note_front, walk_level,
+};
 
 /// Walks over a root and the referents that it makes due.
 pub(crate) fn walk_root<'a>(

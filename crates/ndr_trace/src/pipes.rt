@@ -9,18 +9,16 @@ ghost use Rattle.nd_grammar.specs.Entry.{Entry};
 ghost use Rattle.nd_grammar.specs.Stream.{Cuts, kids_of, pipe_entries};
 ghost use Rattle.ndr_explain.specs.Cursors.{pipe_element};
 ghost use Rattle.ndr_trace_laws.specs.Untested.{untested};
-ghost use Rattle.ndr_trace.specs.declared.progress.Halt.TheVariants as halts;
+ghost use Rattle.ndr_trace_value.specs.declared.progress.Halt.TheVariants as halts;
 ghost use Rattle.ndr_trace.specs.Homes.{IsRoot, IsPart};
 ghost use Rattle.ndr_trace.specs.Chunks.{AfterChunk, IsAtChunk};
-ghost use Rattle.ndr_trace.specs.Naming.{IsNaming, names_in};
-ghost use Rattle.ndr_trace.specs.Tracing.{IsEnded, IsGround, IsTracing, Known};
+ghost use Rattle.ndr_trace_value.specs.Naming.{IsNaming, names_in};
+ghost use Rattle.ndr_trace_value.specs.Tracing.{IsEnded, IsGround, IsTracing, Known};
 
-use crate::members::at_end;
-use crate::nodes::{Walker, walk_level};
-use crate::progress::{Ground, Halt, Spot, count, gap};
 use nd_types::{Interface, RootDef, TypeDef, TypeId};
 use nd_value::Home;
 use ndr_explain::{HomeName, Level};
+use ndr_trace_value::{Ground, Halt, Spot, Walker, at_end, count, gap, walk_level};
 
 /// Walks over the chunks of a pipe.
 pub(crate) fn walk_pipe<'a>(

@@ -1,15 +1,14 @@
 // The homes of a side, one root after the other.
 ghost use Rattle.std.specs.Prelude.{◌≡◌, ◌<◌, ◌+◌, [], length, IfOk, IsErrOf};
-ghost use Rattle.ndr_trace.specs.declared.progress.Halt.TheVariants as halts;
+ghost use Rattle.ndr_trace_value.specs.declared.progress.Halt.TheVariants as halts;
 ghost use Rattle.ndr_trace.specs.Homes.{IsPart, IsRoot};
 ghost use Rattle.ndr_trace.specs.Sides.{IsAtRoot, IsSide};
-ghost use Rattle.ndr_trace.specs.Tracing.{IsEnded, IsGround, IsTracing, Known};
+ghost use Rattle.ndr_trace_value.specs.Tracing.{IsEnded, IsGround, IsTracing, Known};
 
 use crate::homes::walk_root;
-use crate::nodes::Walker;
 use crate::pipes::walk_pipe;
-use crate::progress::{Ground, Halt};
 use nd_types::RootDef;
+use ndr_trace_value::{Ground, Halt, Walker};
 
 /// Walks over all homes of a side.
 pub(crate) fn walk_side<'a>(ground: &Ground<'a>, walker: &mut Walker<'a>) -> Result<(), Halt>

@@ -12,21 +12,19 @@ ghost use Rattle.nd_grammar.specs.LegalSide.{IsLegalSide};
 ghost use Rattle.ndr_decoder_laws.specs.verdict.InOrder.{HasOwnNumbers};
 ghost use Rattle.ndr_trace.specs.Homes.{IsPart};
 ghost use Rattle.ndr_trace.specs.Sides.{IsBeginning, IsSide, IsStream};
-ghost use Rattle.ndr_trace.specs.Traces.{IsTraceOf};
-ghost use Rattle.ndr_trace.specs.Tracing.{IsEnded, IsGround, Known};
+ghost use Rattle.ndr_trace_value.specs.Traces.{IsTraceOf};
+ghost use Rattle.ndr_trace_value.specs.Tracing.{IsEnded, IsGround, Known};
 
-use crate::cells::Cells;
 use crate::sides::walk_side;
-use crate::nodes::Walker;
-use crate::parameters::append_agreement;
-use crate::progress::{Ground, Halt, Progress};
-use crate::search::{Search, Sought, find_agreement};
 use nd_base::{Memory, Octets, Order};
 use nd_flat::Fit;
 use nd_grammar::Reason;
 use nd_types::{Interface, Side};
 use nd_value::ItemLog;
 use ndr_refs::Referents;
+use ndr_trace_value::{
+    Cells, Ground, Halt, Progress, Search, Sought, Walker, append_agreement, find_agreement,
+};
 use std::alloc::Global;
 
 /// The trace of octets that are refused.

@@ -3,12 +3,12 @@ use Rattle.nd_types.specs.Layout.{hoists}
 use Rattle.nd_value.specs.Tree.{more, none}
 use Rattle.nd_grammar.specs.Entry.{Entry, Max}
 use Rattle.text_grammar.specs.Paths.{home_value}
-use Rattle.ndr_trace.specs.declared.progress.Halt.TheVariants as halts
+use Rattle.ndr_trace_value.specs.declared.progress.Halt.TheVariants as halts
 use Rattle.ndr_trace.specs.Homes.{home_max}
-use Rattle.ndr_trace.specs.Walking.{values_due}
+use Rattle.ndr_trace_value.specs.Walking.{values_due}
 use Rattle.ndr_trace.proofs.HomeWalks.{clash, no_front, some_front, spot_of_home}
-use Rattle.ndr_trace.proofs.LevelWalk.{ended_there, ready_after}
-use Rattle.ndr_trace.proofs.Passing.{err_as}
+use Rattle.ndr_trace_value.proofs.LevelWalk.{ended_there, ready_after}
+use Rattle.ndr_trace_value.proofs.Passing.{err_as}
 use Rattle.ndr_trace.proofs.homes.front.Goals as goal
 
 pub returns-then-not-hoists-clause-goes : goal.returns-then-not-hoists-clause-goes

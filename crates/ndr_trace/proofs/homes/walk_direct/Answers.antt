@@ -1,9 +1,9 @@
 use Rattle.std.proofs.Common.{refl, ap, ◌∙◌}
-use Rattle.ndr_trace.specs.declared.nodes.Walker.{Walker}
-use Rattle.ndr_trace.specs.declared.progress.Halt.TheVariants as halts
-use Rattle.ndr_trace.specs.Naming.{stands_at}
-use Rattle.ndr_trace.proofs.LevelWalk.{ended_there, ready_after}
-use Rattle.ndr_trace.proofs.Passing.{err_as}
+use Rattle.ndr_trace_value.specs.declared.nodes.Walker.{Walker}
+use Rattle.ndr_trace_value.specs.declared.progress.Halt.TheVariants as halts
+use Rattle.ndr_trace_value.specs.Naming.{stands_at}
+use Rattle.ndr_trace_value.proofs.LevelWalk.{ended_there, ready_after}
+use Rattle.ndr_trace_value.proofs.Passing.{err_as}
 use Rattle.ndr_trace.proofs.RootWalks.{direct_root}
 use Rattle.ndr_trace.proofs.homes.walk_direct.Goals as goal
 

@@ -1,12 +1,12 @@
 use Rattle.std.proofs.Common.{◌≡◌, rules, ◌∷◌, ◌++◌, [], refl, sym, ap, ◌∙◌, length, subst, arith}
 use Rattle.nd_value.specs.Tree.{more, none}
 use Rattle.text_grammar.specs.Paths.{home_value}
-use Rattle.ndr_trace.specs.declared.progress.Halt.TheVariants as halts
-use Rattle.ndr_trace.specs.Naming.{HasNamed, IsNaming, names_in}
-use Rattle.ndr_trace.specs.Walking.{values_due}
+use Rattle.ndr_trace_value.specs.declared.progress.Halt.TheVariants as halts
+use Rattle.ndr_trace_value.specs.Naming.{HasNamed, IsNaming, names_in}
+use Rattle.ndr_trace_value.specs.Walking.{values_due}
 use Rattle.ndr_trace.proofs.HomeThere.{home_there}
 use Rattle.ndr_trace.proofs.HomeWalks.{turned_round, value_names}
-use Rattle.ndr_trace.proofs.Passing.{err_as}
+use Rattle.ndr_trace_value.proofs.Passing.{err_as}
 use Rattle.ndr_trace.proofs.homes.walk_home.Goals as goal
 
 pub returns-in_err-walk_level-clause-ends : goal.returns-in_err-walk_level-clause-ends

@@ -1,6 +1,6 @@
 use Rattle.std.proofs.Common.{◌≡◌, rules, [], refl}
-use Rattle.ndr_trace.specs.declared.progress.Halt.TheVariants as halts
-use Rattle.ndr_trace.proofs.Passing.{err_as}
+use Rattle.ndr_trace_value.specs.declared.progress.Halt.TheVariants as halts
+use Rattle.ndr_trace_value.proofs.Passing.{err_as}
 use Rattle.ndr_trace.proofs.Referents.{emptied, taken}
 use Rattle.ndr_trace.proofs.homes.walk_referents.Goals as goal
 

@@ -2,7 +2,7 @@ use Rattle.nd_value.specs.Deferral.{Due, Placed_cells}
 use Rattle.std.proofs.Common.{List}
 use Rattle.nd_grammar.specs.Entry.{Entry}
 use Rattle.ndr_trace.specs.Homes.{IsAwaiting, IsPart}
-use Rattle.ndr_trace.specs.Tracing.{IsGround, Known}
+use Rattle.ndr_trace_value.specs.Tracing.{IsGround, Known}
 use Rattle.ndr_trace.proofs.homes.walk_referents.Given as goal
 
 abbrev pub invariant-loop-turn : goal.invariant-loop-turn

@@ -1,9 +1,9 @@
 use Rattle.std.proofs.Common.{[], ◌∷◌, refl}
 use Rattle.nd_value.specs.declared.item.Home.TheVariants as homes
 use Rattle.nd_grammar.specs.Entry.{Chunk}
-use Rattle.ndr_trace.specs.declared.progress.Halt.TheVariants as halts
+use Rattle.ndr_trace_value.specs.declared.progress.Halt.TheVariants as halts
 use Rattle.ndr_trace.proofs.ChunkWalk.{at_home, at_none, at_some, elements_end, elements_go, head}
-use Rattle.ndr_trace.proofs.Passing.{err_as}
+use Rattle.ndr_trace_value.proofs.Passing.{err_as}
 use Rattle.ndr_trace.proofs.pipes.walk_chunk.Goals as goal
 
 pub returns-in_err-gap-clause-ends : goal.returns-in_err-gap-clause-ends

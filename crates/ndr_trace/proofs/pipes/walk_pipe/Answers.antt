@@ -5,10 +5,10 @@ use Rattle.nd_value.specs.Setting.{root_at}
 use Rattle.nd_grammar.specs.Stream.{pipe_entries}
 use Rattle.ndr_explain.specs.Cursors.{pipe_element}
 use Rattle.ndr_explain.specs.declared.names.HomeName.TheVariants as named
-use Rattle.ndr_trace.specs.declared.progress.Halt.TheVariants as halts
+use Rattle.ndr_trace_value.specs.declared.progress.Halt.TheVariants as halts
 use Rattle.ndr_trace.specs.Homes.{HasHome}
-use Rattle.ndr_trace.proofs.LevelWalk.{ended_there, ready_after}
-use Rattle.ndr_trace.proofs.Passing.{err_as}
+use Rattle.ndr_trace_value.proofs.LevelWalk.{ended_there, ready_after}
+use Rattle.ndr_trace_value.proofs.Passing.{err_as}
 use Rattle.ndr_trace.proofs.PartialHomes.{root_has_home}
 use Rattle.ndr_trace.proofs.PipeStart.{next_chunk, no_pipe, pipe_end, pipe_start}
 use Rattle.ndr_trace.proofs.pipes.walk_pipe.Goals as goal

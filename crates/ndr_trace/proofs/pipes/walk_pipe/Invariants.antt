@@ -9,8 +9,8 @@ use Rattle.nd_grammar.specs.Stream.{Cuts, kids_of, pipe_entries}
 use Rattle.ndr_trace_laws.specs.Untested.{untested}
 use Rattle.ndr_trace.specs.Chunks.{IsAtChunk}
 use Rattle.ndr_trace.specs.Homes.{IsRoot, IsPart}
-use Rattle.ndr_trace.specs.Naming.{IsNaming, names_in}
-use Rattle.ndr_trace.specs.Tracing.{IsGround, IsTracing, Known}
+use Rattle.ndr_trace_value.specs.Naming.{IsNaming, names_in}
+use Rattle.ndr_trace_value.specs.Tracing.{IsGround, IsTracing, Known}
 use Rattle.ndr_trace.proofs.pipes.walk_pipe.Given as goal
 
 abbrev pub invariant-loop-chunk : goal.invariant-loop-chunk

@@ -1,8 +1,8 @@
 use Rattle.std.proofs.Common.{◌+◌}
-use Rattle.ndr_trace.specs.declared.progress.Halt.TheVariants as halts
-use Rattle.ndr_trace.specs.Naming.{names_in}
+use Rattle.ndr_trace_value.specs.declared.progress.Halt.TheVariants as halts
+use Rattle.ndr_trace_value.specs.Naming.{names_in}
 use Rattle.ndr_trace.specs.Sides.{pipes_due}
-use Rattle.ndr_trace.proofs.Passing.{err_as}
+use Rattle.ndr_trace_value.proofs.Passing.{err_as}
 use Rattle.ndr_trace.proofs.SideWalks.{after_pipe, after_root, next_pipe, next_root}
 use Rattle.ndr_trace.proofs.sides.walk_one.Goals as goal
 

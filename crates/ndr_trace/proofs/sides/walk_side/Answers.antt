@@ -5,8 +5,8 @@ use Rattle.nd_lemmas.proofs.Lists.{item_at}
 use Rattle.nd_types.specs.Walk.{named_roots, root_value}
 use Rattle.nd_value.proofs.FewRoots.{few_named_roots}
 use Rattle.nd_value.proofs.LocalPass.{given_root}
-use Rattle.ndr_trace.specs.declared.progress.Halt.TheVariants as halts
-use Rattle.ndr_trace.proofs.Passing.{err_as}
+use Rattle.ndr_trace_value.specs.declared.progress.Halt.TheVariants as halts
+use Rattle.ndr_trace_value.proofs.Passing.{err_as}
 use Rattle.ndr_trace.proofs.SideRoots.{all_passed, root_of_walk}
 use Rattle.ndr_trace.proofs.SideWalks.{no_root_left}
 use Rattle.ndr_trace.proofs.sides.walk_side.Goals as goal

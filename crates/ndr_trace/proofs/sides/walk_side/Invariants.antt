@@ -1,7 +1,7 @@
 use Rattle.std.proofs.Common.{◌≡◌, length}
 use Rattle.ndr_trace.specs.Homes.{IsPart}
 use Rattle.ndr_trace.specs.Sides.{IsAtRoot, IsSide}
-use Rattle.ndr_trace.specs.Tracing.{IsGround, Known}
+use Rattle.ndr_trace_value.specs.Tracing.{IsGround, Known}
 use Rattle.ndr_trace.proofs.sides.walk_side.Given as goal
 
 abbrev pub invariant-loop-root : goal.invariant-loop-root

@@ -1,5 +1,5 @@
 use Rattle.std.proofs.Common.{refl}
-use Rattle.ndr_trace.proofs.Ending.{all_passed}
+use Rattle.ndr_trace_value.proofs.Ending.{all_passed}
 use Rattle.ndr_trace.proofs.WholeWalk.{begins}
 use Rattle.ndr_trace.proofs.tracing.walk.Goals as goal
 

@@ -1,7 +1,0 @@
-use Rattle.std.proofs.Common.{◌∙◌, ap}
-use Rattle.ndr_trace.specs.Naming.{stands_at}
-use Rattle.ndr_trace.proofs.NamedCells.{one_more_room}
-use Rattle.ndr_trace.proofs.cells.reach_to.Goals as goal
-
-pub loop-stands-preserved : goal.loop-stands-preserved
-loop-stands-preserved c d = ap (λ xs. stands_at xs d) c.in-Ok.ensures.items ∙ one_more_room c.loop-stands.stands.items d ∙ c.loop-stands.invariant d
