@@ -1,22 +1,14 @@
 mod Worked
-pub mod ByType
 pub mod CellsInTurn
 pub mod ChunkWalk
 pub mod Deferring
-pub mod Ending
 pub mod Faults
 pub mod Grounds
 pub mod HomeNames
 pub mod HomeThere
 pub mod HomeWalks
-pub mod Items
-pub mod LevelWalk
-pub mod NamedCells
-pub mod OwnItems
-pub mod Partial
 pub mod PartialHomes
 pub mod Parts
-pub mod Passing
 pub mod PipeNames
 pub mod PipeStart
 pub mod Referents

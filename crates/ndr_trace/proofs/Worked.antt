@@ -1,16 +1,13 @@
--- The traces of five streams, and the variable of one.
-use Rattle.std.proofs.Common.{◌≡◌, inl, inr, codes, refl, Some}
+-- The traces of five streams.
+use Rattle.std.proofs.Common.{◌≡◌, codes, refl, Some}
 use Rattle.std.specs.Prelude.{pos}
 use Rattle.std.specs.Fmt.{digits}
 use Rattle.nd_types.specs.Layout.{hoists, align_of}
 use Rattle.nd_types.specs.Roots.{roots_of}
-use Rattle.nd_types.specs.declared.types.Attr.TheVariants as attr
 use Rattle.nd_grammar.specs.declared.reason.Reason.TheVariants as reason
-use Rattle.nd_grammar.specs.Entry.{Test}
-use Rattle.ndr_trace.specs.Examples.{cut_refusal, cut_trace, in_gap_trace, between_trace, counted, miscounted_graph, miscount, miscounted_refusal, miscounted_trace}
+use Rattle.ndr_trace.specs.Examples.{cut_refusal, cut_trace, in_gap_trace, between_trace, miscounted_refusal, miscounted_trace}
 use Rattle.ndr_trace.specs.Examples.{refused_in, armless_octets, armed_entries, armless_trace, one_number, shared_entries, shared_trace}
 use Rattle.ndr_trace.specs.Examples.{second_chunk, piped_entries, piped_trace}
-use Rattle.ndr_trace_value.specs.Traces.{IsVariable}
 
 pub cut_refused : cut_refusal ≡ Some (14, reason.Truncated)
 unfolding roots_of hoists align_of digits
@@ -32,7 +29,7 @@ pub miscounted_refused : miscounted_refusal ≡ Some (0, reason.Disagrees (pos 3
 unfolding roots_of hoists align_of digits
 miscounted_refused = refl
 
-pub miscounted_traced : miscounted_trace ≡ codes "0 4 max @1 2\n4 2 num @1.n 3\n6 2 gap\n8 4 num @1.a[0] 5\n12 4 num @1.a[1] 6\n@1.a @1.n"
+pub miscounted_traced : miscounted_trace ≡ codes "0 4 max @1 2\n4 2 num @1.n 3\n6 2 gap\n8 4 num @1.a[0] 5\n12 4 num @1.a[1] 6\n@1.a"
 unfolding roots_of hoists align_of digits
 miscounted_traced = refl
 
@@ -59,16 +56,3 @@ piped_refused = refl
 pub piped_traced : piped_trace ≡ codes "0 4 chunk d 2\n4 4 num d[0] 1\n8 4 num d[1] 2\n12 4 chunk d 1\nd[2]"
 unfolding roots_of hoists align_of digits
 piped_traced = refl
-
--- the variable that states 3
-pub the_variable : IsVariable counted miscounted_graph miscount (Test attr.Size (pos 3) (pos 2)) (codes "@1.n")
-unfolding digits
-the_variable =
-    inl
-    (record {
-      member = _;
-      among = inr (inl refl);
-      in_place = refl;
-      node = refl;
-      stated = record { by = _; among = inl refl; attr = refl; value = pos 3; value_is = refl; wanted_is = refl; path = refl };
-    })

@@ -1,5 +1,5 @@
 -- Five streams that are refused, with the partial graphs in which they are.
--- `es` are the entries of a stream, `k` is how many of them come before the one that is refused, `q` the path of a variable.
+-- `es` are the entries of a stream, `k` is how many of them come before the one that is refused.
 use Rattle.std.specs.Prelude.{ℕ, false, pos, List, [], ◌∷◌, ◌++◌, take, Option, Some, None, codes}
 use Rattle.std.specs.List.{slice_get}
 use Rattle.nd_base.specs.declared.octets.Order.TheVariants.{Little}
@@ -24,7 +24,7 @@ use Rattle.nd_grammar.specs.Items.{items}
 use Rattle.nd_grammar.specs.Refusal.{refusal}
 use Rattle.nd_grammar.specs.Stream.{pipe_entries}
 use Rattle.ndr_explain.specs.Explained.{explanation}
-use Rattle.ndr_trace_value.specs.Traces.{fault_path}
+use Rattle.ndr_trace_value.specs.Traces.{entry_path}
 
 abbrev pub called : List ℕ → ℕ → List AttrVar → Field
 called name t vars = record { name = name; of = id t; vars = vars }
@@ -41,13 +41,13 @@ abbrev pub refused_in : List ℕ → List EntryAt → ℕ → Option (ℕ × Rea
 refused_in octets es k = refused_by octets (take k es) (slice_get es k)
 
 -- the path of an entry that is refused
-abbrev pub path_by : Setting → Graph → Option EntryAt → List ℕ → List ℕ
-path_by w g None q = []
-path_by w g (Some x) q = fault_path w g x.entry q
+abbrev pub path_by : Setting → Graph → Option EntryAt → List ℕ
+path_by w g None = []
+path_by w g (Some x) = entry_path w g x.entry
 
 -- the lines of a trace, and then its path
-abbrev pub traced : Setting → Graph → List ℕ → List EntryAt → ℕ → List ℕ → List ℕ
-traced w g octets es k q = explanation w g (items Little octets (take k es)) ++ path_by w g (slice_get es k) q
+abbrev pub traced : Setting → Graph → List ℕ → List EntryAt → ℕ → List ℕ
+traced w g octets es k = explanation w g (items Little octets (take k es)) ++ path_by w g (slice_get es k)
 
 -- typedef struct { short n; [size_is(n)] long a[*]; } s; void put([in] s *p);
 abbrev pub counted : Setting
@@ -69,10 +69,6 @@ counted_entries n ks = end_to_end 0 (whole_value counted.table (cell_home 1) 13 
 -- the second element lacks two octets; then a count that says 3 of two elements
 abbrev pub cut_octets : List ℕ
 cut_octets = four 2 (2 ∷ 0 ∷ 0 ∷ 0 ∷ four 5 (6 ∷ 0 ∷ []))
-
--- the agreement that does not hold
-abbrev pub miscount : Entry
-miscount = record { home = cell_home 1; node = 2; kind = Test attr.Size (pos 3) (pos 2) }
 
 abbrev pub miscounted_octets : List ℕ
 miscounted_octets = four 2 (3 ∷ 0 ∷ 0 ∷ 0 ∷ four 5 (four 6 []))
@@ -143,17 +139,17 @@ cut_refusal = refused_in cut_octets (counted_entries 2 (two (num (pos 5)) (num (
 
 abbrev pub cut_trace : List ℕ
 cut_trace =
-    traced counted (counted_graph 2 (two (num (pos 5)) (num (pos 0)))) cut_octets (counted_entries 2 (two (num (pos 5)) (num (pos 0)))) 8 []
+    traced counted (counted_graph 2 (two (num (pos 5)) (num (pos 0)))) cut_octets (counted_entries 2 (two (num (pos 5)) (num (pos 0)))) 8
 
 abbrev pub in_gap_trace : List ℕ
 in_gap_trace =
     traced counted (counted_graph 2 (two (num (pos 0)) (num (pos 0)))) (take 7 cut_octets)
-    (counted_entries 2 (two (num (pos 0)) (num (pos 0)))) 5 []
+    (counted_entries 2 (two (num (pos 0)) (num (pos 0)))) 5
 
 abbrev pub between_trace : List ℕ
 between_trace =
     traced counted (counted_graph 0 (two (num (pos 0)) (num (pos 0)))) (take 4 cut_octets)
-    (counted_entries 0 (two (num (pos 0)) (num (pos 0)))) 4 []
+    (counted_entries 0 (two (num (pos 0)) (num (pos 0)))) 4
 
 -- the count says 3 of two elements
 abbrev pub miscounted_graph : Graph
@@ -166,13 +162,13 @@ abbrev pub miscounted_refusal : Option (ℕ × Reason)
 miscounted_refusal = refused_in miscounted_octets miscounted_entries 9
 
 abbrev pub miscounted_trace : List ℕ
-miscounted_trace = traced counted miscounted_graph miscounted_octets miscounted_entries 9 (codes "@1.n")
+miscounted_trace = traced counted miscounted_graph miscounted_octets miscounted_entries 9
 
 abbrev pub armless_trace : List ℕ
-armless_trace = traced armed armed_graph armless_octets armed_entries 12 []
+armless_trace = traced armed armed_graph armless_octets armed_entries 12
 
 abbrev pub shared_trace : List ℕ
-shared_trace = traced shared shared_graph one_number shared_entries 5 []
+shared_trace = traced shared shared_graph one_number shared_entries 5
 
 abbrev pub piped_trace : List ℕ
-piped_trace = traced piped piped_graph second_chunk piped_entries 9 []
+piped_trace = traced piped piped_graph second_chunk piped_entries 9

@@ -2,14 +2,11 @@
 //! partial graphs are in specs/Examples.
 
 ghost use Rattle.std.specs.Prelude.{◌≡◌, Some, pos, codes};
-ghost use Rattle.nd_types.specs.declared.types.Attr.TheVariants as attr;
 ghost use Rattle.nd_grammar.specs.declared.reason.Reason.TheVariants as reason;
-ghost use Rattle.nd_grammar.specs.Entry.{Test};
 ghost use Rattle.ndr_trace.specs.Examples.{cut_refusal, cut_trace, in_gap_trace, between_trace};
-ghost use Rattle.ndr_trace.specs.Examples.{counted, miscounted_graph, miscount, miscounted_refusal, miscounted_trace};
+ghost use Rattle.ndr_trace.specs.Examples.{miscounted_refusal, miscounted_trace};
 ghost use Rattle.ndr_trace.specs.Examples.{refused_in, armless_octets, armed_entries, armless_trace, one_number, shared_entries, shared_trace};
 ghost use Rattle.ndr_trace.specs.Examples.{second_chunk, piped_entries, piped_trace};
-ghost use Rattle.ndr_trace_value.specs.Traces.{IsVariable};
 
 /// An array is cut short within an element, in a gap, and between two items: the path is that of the value that lacks octets, or of the next one.
 pub fn array_cut_short()
@@ -19,12 +16,11 @@ pub fn array_cut_short()
     ensures between { between_trace ≡ codes "0 4 max @1 2\n@1.n" }
 {}
 
-/// A count states another number than there are elements: the path is that of the array, and then that of the count.
+/// A count states another number than there are elements: the path is that of the array.
 pub fn count_disagrees()
     ensures refused { miscounted_refusal ≡ Some (0, reason.Disagrees (pos 3) (pos 2)) }
-    ensures variable { IsVariable counted miscounted_graph miscount (Test attr.Size (pos 3) (pos 2)) (codes "@1.n") }
     ensures traced { miscounted_trace
-        ≡ codes "0 4 max @1 2\n4 2 num @1.n 3\n6 2 gap\n8 4 num @1.a[0] 5\n12 4 num @1.a[1] 6\n@1.a @1.n" }
+        ≡ codes "0 4 max @1 2\n4 2 num @1.n 3\n6 2 gap\n8 4 num @1.a[0] 5\n12 4 num @1.a[1] 6\n@1.a" }
 {}
 
 /// A tag selects no arm: it has no line, and the path is that of the union.

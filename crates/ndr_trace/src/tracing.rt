@@ -62,6 +62,7 @@ pub fn trace(
         → items.now.items ≡ items_of order fetched bad.earlier → IsTraceOf w order fetched place why bad t.lines t.path) }
 {
     are_octets(octets);
+    let sought = find_agreement(items, place, why);
     let ground = Ground {
         alloc,
         interface,
@@ -71,7 +72,7 @@ pub fn trace(
         order,
         octets,
         items,
-        sought: find_agreement(items, place, why),
+        sought,
     };
     let walker = walk(&ground)?;
     let traced = finish(&ground, walker)?;

@@ -15,7 +15,7 @@ use Rattle.ndr_trace_laws.specs.Untested.{is_test, untested}
 use Rattle.ndr_trace_laws.proofs.Due.{bad_stops}
 use Rattle.ndr_trace_value.specs.declared.progress.Progress.{Progress}
 use Rattle.ndr_trace_value.specs.Tracing.{IsEnded, IsTracing, Known}
-use Rattle.ndr_trace_value.specs.Traces.{IsTraceOf, IsVariable, entry_path, fault_path, variable_shown}
+use Rattle.ndr_trace_value.specs.Traces.{IsShownPath, IsTraceOf, entry_path}
 use Rattle.ndr_trace_value.proofs.Passing.{all_lines}
 
 -- what is known of octets that are refused
@@ -73,46 +73,51 @@ all_passed k p t = record { lines = all_lines k p.next p.lines over t.lines; pat
 
 -- ## Octets that are not refused at an agreement
 
-no_variable : (w : Setting) (g : Graph) (m : Entry) (x : Kind) → is_test x ≡ false → IsVariable w g m x []
-no_variable w g m (Test a wanted found) e = cc
-no_variable w g m (Align n) e = refl
-no_variable w g m (Max v) e = refl
-no_variable w g m (Offset t v) e = refl
-no_variable w g m (Actual t offset limit v) e = refl
-no_variable w g m (Chunk v) e = refl
-no_variable w g m (Number class to cell) e = refl
-no_variable w g m (Num p values v) e = refl
-no_variable w g m (Tag p values arms default v) e = refl
-no_variable w g m (Text octets) e = refl
-no_variable w g m (Context attributes id) e = refl
-no_variable w g m Unread e = refl
-
-nothing_shown : (x : Kind) → is_test x ≡ false → variable_shown x [] ≡ []
-nothing_shown (Test a wanted found) e = cc
-nothing_shown (Align n) e = refl
-nothing_shown (Max v) e = refl
-nothing_shown (Offset t v) e = refl
-nothing_shown (Actual t offset limit v) e = refl
-nothing_shown (Chunk v) e = refl
-nothing_shown (Number class to cell) e = refl
-nothing_shown (Num p values v) e = refl
-nothing_shown (Tag p values arms default v) e = refl
-nothing_shown (Text octets) e = refl
-nothing_shown (Context attributes id) e = refl
-nothing_shown Unread e = refl
-
 -- their trace has the path of the entry
+shown : (w : Setting) (g : Graph) (m : Entry) (x : Kind) (path : List ℕ) → is_test x ≡ false → path ≡ entry_path w g m → IsShownPath w g m x path
+shown w g m (Test a wanted found) path e f = cc
+shown w g m (Align n) path e f = f
+shown w g m (Max v) path e f = f
+shown w g m (Offset t v) path e f = f
+shown w g m (Actual t offset limit v) path e f = f
+shown w g m (Chunk v) path e f = f
+shown w g m (Number class to cell) path e f = f
+shown w g m (Num p values v) path e f = f
+shown w g m (Tag p values arms default v) path e f = f
+shown w g m (Text octets) path e f = f
+shown w g m (Context attributes id) path e f = f
+shown w g m Unread path e f = f
+
 pub traced_plain : (w : Setting) (order : Order) (fetched : List ℕ) (place : ℕ) (why : Reason) (bad : Bad w order fetched place why) (p : Progress)
     → is_test bad.here.entry.kind ≡ false → IsEnded (known_of w order fetched place why bad) p → IsTraceOf w order fetched place why bad p.lines p.path
 traced_plain w order fetched place why bad p plain ended = record {
   lines_are = ended.lines;
-  variable = [];
-  named = no_variable w bad.partial bad.here.entry bad.here.entry.kind plain;
-  path_is =
-      by_path ended.path
-      ∙ sym (ap (λ q. entry_path w bad.partial bad.here.entry ++ q) (nothing_shown bad.here.entry.kind plain) ∙ append-nil (entry_path w bad.partial bad.here.entry));
+  path_is = shown w bad.partial bad.here.entry bad.here.entry.kind p.path plain (by_path ended.path);
 }
   where
     by_path : (is_test bad.here.entry.kind ≡ true) ⊎ (p.path ≡ entry_path w bad.partial bad.here.entry) → p.path ≡ entry_path w bad.partial bad.here.entry
     by_path (inl e) = let z : true ≡ false = sym e ∙ plain in cc
     by_path (inr e) = e
+
+-- ## Octets that are refused at an agreement
+
+shown_any : (w : Setting) (g : Graph) (m : Entry) (x : Kind) (path : List ℕ) → is_test x ≡ true → IsShownPath w g m x path
+shown_any w g m (Test a wanted found) path e = tt
+shown_any w g m (Align n) path e = cc
+shown_any w g m (Max v) path e = cc
+shown_any w g m (Offset t v) path e = cc
+shown_any w g m (Actual t offset limit v) path e = cc
+shown_any w g m (Chunk v) path e = cc
+shown_any w g m (Number class to cell) path e = cc
+shown_any w g m (Num p values v) path e = cc
+shown_any w g m (Tag p values arms default v) path e = cc
+shown_any w g m (Text octets) path e = cc
+shown_any w g m (Context attributes id) path e = cc
+shown_any w g m Unread path e = cc
+
+pub traced_test : (w : Setting) (order : Order) (fetched : List ℕ) (place : ℕ) (why : Reason) (bad : Bad w order fetched place why) (p : Progress) (path : List ℕ)
+    → is_test bad.here.entry.kind ≡ true → IsEnded (known_of w order fetched place why bad) p → IsTraceOf w order fetched place why bad p.lines path
+traced_test w order fetched place why bad p path test ended = record {
+  lines_are = ended.lines;
+  path_is = shown_any w bad.partial bad.here.entry bad.here.entry.kind path test;
+}
