@@ -3,7 +3,7 @@
 import subprocess
 
 import tracing
-from case import ROOT, Case, Check, example, interface, lines, octets
+from case import CLOSED, ROOT, Case, Check, example, interface, lines, octets
 
 COUNTED = interface("typedef struct { short n; [size_is(n)] long a[*]; } s;", "void put([in] s *p);")
 ARMED = interface("typedef [switch_type(short)] union { [case(1)] long x; [case(2)] ; } u; typedef struct { short k; [switch_is(k)] u v; } e;",
@@ -31,6 +31,11 @@ def traced(name, text, op, given, why, *shown, side="in", more=(), files=None):
 CASES = [
     Case("trace: octets that are accepted are explained", words("put"), {"t.idl": COUNTED}, octets("01000000 0100 0000 05000000"),
          lines("0 4 max @1 1", "4 2 num @1.n 1", "6 2 gap", "8 4 num @1.a[0] 5")),
+    Case("trace: closed input", words("put"), {"t.idl": COUNTED}, CLOSED, notes=lines("read fault"), status=3),
+    Case("trace: a bad label", words("put", "label"), {"t.idl": COUNTED}, octets("20000000 01000000 0100 0000 05000000"),
+         notes=lines("refused: label: BadOrder"), status=1),
+    Case("trace: after a label", words("put", "label"), {"t.idl": COUNTED}, octets("00000000 00000001 0001 0000 0000"),
+         lines("0 4 max @1 1", "4 2 num @1.n 1", "6 2 gap", "10 fault Truncated @1.a[0]"), notes=lines("refused: octets at 10: Truncated"), status=1),
     traced("an array that is cut short", COUNTED, "put", "02000000 0200 0000 05000000 0600", "14: Truncated", "0 4 max @1 2", "4 2 num @1.n 2", "6 2 gap",
            "8 4 num @1.a[0] 5", "14 fault Truncated @1.a[1]"),
     traced("octets that end within a gap", COUNTED, "put", "02000000 0200 00", "7: Truncated", "0 4 max @1 2", "4 2 num @1.n 2", "7 fault Truncated @1.a[0]"),

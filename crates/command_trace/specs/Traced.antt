@@ -10,12 +10,12 @@ use Rattle.command_refusals.specs.declared.refusal.OctetsFault.TheVariants.{Refu
 use Rattle.command_refusals.specs.Lines.{fault_text}
 use Rattle.command_explain.specs.Explanations.{IsExplanation}
 use Rattle.ndr_trace_value.specs.Traces.{IsTrace}
-use Rattle.command_trace.specs.declared.tracing.TracedOctets.{TracedOctets}
-use Rattle.command_trace.specs.declared.tracing.TracedOctets.TheVariants as traced
+use Rattle.command_trace.specs.declared.held.Traced.{Traced}
+use Rattle.command_trace.specs.declared.held.Traced.TheVariants as traced
 
 -- the line of a fault at a place, with the path of what is refused
 abbrev pub fault_line : ℕ → OctetsFault → List ℕ → List ℕ
-fault_line place why path = decimal place ++ (codes " fault " ++ (fault_text why ++ (codes " " ++ (path ++ codes "\n"))))
+fault_line place why path = decimal place ++ codes " fault " ++ fault_text why ++ codes " " ++ path ++ codes "\n"
 
 -- of an octet that follows the values no path is shown
 abbrev pub trailing_line : ℕ → List ℕ
@@ -43,12 +43,12 @@ pub record IsTrailedTrace (w : Setting) (order : Order) (octets : List ℕ) (pla
   pub place_is : place ≡ length fetched
   pub lines_are : lines ≡ shown ++ trailing_line place
 
--- octets that are refused at a place, and what traces them
-abbrev pub IsStopped : Setting → Order → List ℕ → ℕ → OctetsFault → List ℕ → Type 0
-IsStopped w order octets place (Refused why) lines = IsRefusedTrace w order octets place why lines
-IsStopped w order octets place Trailing lines = IsTrailedTrace w order octets place lines
+-- octets are refused at a place, and these lines trace them
+abbrev pub IsRefusedWith : Setting → Order → List ℕ → ℕ → OctetsFault → List ℕ → Type 0
+IsRefusedWith w order octets place (Refused why) lines = IsRefusedTrace w order octets place why lines
+IsRefusedWith w order octets place Trailing lines = IsTrailedTrace w order octets place lines
 
 -- octets in words
-abbrev pub IsTraced : Setting → Order → List ℕ → TracedOctets → Type 0
+abbrev pub IsTraced : Setting → Order → List ℕ → Traced → Type 0
 IsTraced w order octets (traced.Whole text) = IsExplanation w order octets text
-IsTraced w order octets (traced.Refused lines place why) = IsStopped w order octets place why lines
+IsTraced w order octets (traced.Refused lines place why) = IsRefusedWith w order octets place why lines

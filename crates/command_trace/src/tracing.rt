@@ -1,125 +1,88 @@
-// Octets are decoded, and their items are written in words up to the first fault.
-ghost use Rattle.std.specs.Prelude.{◌≡◌, ◌<◌, ◌++◌, length, Some, option_map, IfOk, OnOk};
+// The octets of a source are read, and then traced.
+ghost use Rattle.std.specs.Prelude.{◌≡◌, ◌<◌, length, Some, None, option_map, IfOk, IfErr};
 ghost use Rattle.std.specs.List.{slice_get};
+ghost use Rattle.nd_base.specs.Over.{source_seen};
 ghost use Rattle.nd_types.specs.declared.types.Operation.{Operation};
 ghost use Rattle.nd_value.specs.Fitting.{setting_beside};
 ghost use Rattle.nd_value.specs.Request.{IsRequestOf};
-ghost use Rattle.command_trace.specs.Traced.{IsTraced, fault_line};
+ghost use Rattle.command_explain.specs.Explanations.{IsExplained};
+ghost use Rattle.command_trace.specs.Stopped.{IsStopped, IsMadeOf};
 
-use command_refusals::{OctetsFault, fault_words};
-use nd_base::{LentSource, Memory, Octets, Order, Steps, Uncounted};
-use nd_graph::{Fit, ItemLog};
+use crate::held::{Traced, trace_held};
+use command_refusals::Refusal;
+use command_streams::read_input;
+use nd_base::{Memory, Octets, Order, STREAM_LIMIT, Source};
+use nd_graph::Fit;
 use nd_types::{Interface, Side};
-use ndr_decode::{DecodeFault, Decoded, decode};
-use ndr_explain::explain;
-use ndr_plan::make;
-use ndr_trace::trace;
 use std::alloc::Global;
-use text_grammar::append_count;
 
-/// Octets in words.
+/// Why octets are not explained to their end.
 #[derive(Drop)]
-pub enum TracedOctets {
-    /// They are accepted: a line for each item.
-    Whole(Octets),
-    /// They are refused at a place: a line for each item before it, and the line `PLACE fault REASON PATH`, where PATH is that of the value that is
-    /// refused or lacks octets. At a failed agreement the path of the variable follows. An octet after the values is `PLACE fault Trailing`.
-    Refused {
-        lines: Octets,
-        place: u32,
-        why: OctetsFault,
-    },
+pub struct Stopped {
+    pub refusal: Refusal,
+    /// Where the octets are refused: a line for each item before the fault, and the line `PLACE fault REASON PATH`, where PATH is that of the value that
+    /// is refused or lacks octets. At a failed agreement the path of the variable that states the number follows. Of an octet that follows the values
+    /// the line is `PLACE fault Trailing`.
+    pub lines: Option<Octets>,
 }
 
-/// The items of the values of a side of an operation, in words, a line for each, of octets in NDR (C706, chapter 14), up to the first fault. `op`
-/// must be the number of an operation of the interface. A request that is given must be one of that operation, and then the side is that of its
+/// The same as [`explain_octets`](command_explain::explain_octets), but the source is read first, to its end or to one octet past the limit of a
+/// stream, [`STREAM_LIMIT`](nd_base::STREAM_LIMIT); and where the octets are refused, the items before the fault are explained, and the fault is shown
+/// with the path of what is refused. So a source that fails after a fault answers ReadFault.
+///
+/// `op` must be the number of an operation of the interface. A request that is given must be one of that operation, and then the side is that of its
 /// outputs: the values are judged beside it.
 ///
-/// Takes memory for the plan of the interface, the values, the items and the text; out of memory is the only error. The time is in proportion to
-/// these and the octets.
-pub fn trace_octets(
+/// # Errors
+/// BadOctets, the first place at which the octets are refused: that of an octet which follows the values, if one does. ReadFault, where the source
+/// failed. Memory where memory was refused. Lines are beside BadOctets, and beside no other.
+///
+/// Takes memory for the octets, the plan of the interface, the values, the items and the text. The time is in proportion to these.
+pub fn trace_octets<S: Source>(
     alloc: Global,
     interface: &Interface,
     op: u32,
     side: Side,
     given: Option<&Fit>,
     order: Order,
-    octets: &[u8],
-) -> Result<TracedOctets, Memory>
+    input: &mut S,
+) -> Result<Octets, Stopped>
     requires known { op < length interface.now.operations }
     requires request { IsRequestOf interface.now op side (option_map (λ f. f.now) given) }
-    ensures { (o : Operation) → slice_get interface.now.operations op ≡ Some o
-        → IfOk result (IsTraced (setting_beside interface.now o side (option_map (λ f. f.now.graph) given.entry)) order octets.now) }
+    ensures explained { (o : Operation) → slice_get interface.now.operations op ≡ Some o
+        → IfOk result
+        (IsExplained (source_seen S.left S.ended S.faults input.old input.new)
+        (setting_beside interface.now o side (option_map (λ f. f.now.graph) given.entry)) order) }
+    ensures stopped { (o : Operation) → slice_get interface.now.operations op ≡ Some o
+        → IfErr result
+        (IsStopped (source_seen S.left S.ended S.faults input.old input.new)
+        (setting_beside interface.now o side (option_map (λ f. f.now.graph) given.entry)) order) }
 {
-    let plan = make(alloc, interface)?;
-    let mut source = LentSource::new(octets);
-    let mut items = ItemLog::keeping(alloc);
-    let mut steps = Steps::new(Uncounted::new());
-    match decode(
-        alloc,
-        &plan,
-        op,
-        side,
-        order,
-        given,
-        &mut source,
-        &mut items,
-        &mut steps,
-    ) {
-        Ok(decoded) => explained(alloc, interface, &decoded, &items, octets),
-        Err(DecodeFault::Bad { place, reason }) => {
-            let traced = trace(
-                alloc, interface, op, side, given, order, octets, &items, place, reason,
-            )?;
-            let why = OctetsFault::Refused(reason);
-            let mut lines = traced.lines;
-            append_fault(alloc, &mut lines, place, why, traced.path.as_slice())?;
-            Ok(TracedOctets::Refused { lines, place, why })
+    let octets = match read_input(alloc, input, STREAM_LIMIT) {
+        Ok(octets) => octets,
+        Err(refusal) => {
+            return Err(Stopped {
+                refusal,
+                lines: None,
+            });
         }
-        Err(DecodeFault::Memory) => Err(Memory),
-        Err(DecodeFault::ReadFault) => Err(Memory),
-    }
+    };
+    answer(trace_held(alloc, interface, op, side, given, order, octets.as_slice()))
 }
 
-// The items of values that took these octets, or the first part of them.
-fn explained(
-    alloc: Global,
-    interface: &Interface,
-    decoded: &Decoded,
-    items: &ItemLog,
-    octets: &[u8],
-) -> Result<TracedOctets, Memory> {
-    let lines = explain(alloc, interface, &decoded.fit, items)?;
-    let place = decoded.taken;
-    if place as usize == octets.len() {
-        return Ok(TracedOctets::Whole(lines));
-    }
-    let mut lines = lines;
-    append_count(&mut lines, place)?;
-    lines.append(b" fault Trailing\n")?;
-    Ok(TracedOctets::Refused {
-        lines,
-        place,
-        why: OctetsFault::Trailing,
-    })
-}
-
-// Adds the line of a fault.
-fn append_fault(
-    alloc: Global,
-    text: &mut Octets,
-    place: u32,
-    why: OctetsFault,
-    path: &[u8],
-) -> Result<(), Memory>
-    ensures { OnOk result (text.new ≡ text.old ++ fault_line place why path.now) }
+// What octets in memory come to, as a text or a refusal.
+fn answer(traced: Result<Traced, Memory>) -> Result<Octets, Stopped>
+    ensures { IsMadeOf traced result }
 {
-    append_count(text, place)?;
-    text.append(b" fault ")?;
-    let words = fault_words(alloc, why)?;
-    text.append(words.as_slice())?;
-    text.append(b" ")?;
-    text.append(path)?;
-    text.append(b"\n")?;
-    Ok(())
+    match traced {
+        Ok(Traced::Whole(text)) => Ok(text),
+        Ok(Traced::Refused { lines, place, why }) => Err(Stopped {
+            refusal: Refusal::BadOctets { place, why },
+            lines: Some(lines),
+        }),
+        Err(Memory) => Err(Stopped {
+            refusal: Refusal::Memory,
+            lines: None,
+        }),
+    }
 }

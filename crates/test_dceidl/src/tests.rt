@@ -97,6 +97,17 @@ const EXPLAINED: Case = Case {
     ..DECODED
 };
 
+// The items before a gap that is cut short.
+const TRACED: Case = Case {
+    name: "trace",
+    words: &["trace", "add.idl", "-", "add", "in", "little"],
+    input: b"\x01\0\0\0\x02\0\0",
+    status: 1,
+    out: b"0 4 num a 1\n4 2 num b 2\n7 fault Truncated c\n",
+    notes: "refused: octets at 7: Truncated\n",
+    ..DECODED
+};
+
 // The summary of the sample.
 const SAMPLED: Case = Case {
     name: "no words",
@@ -166,6 +177,7 @@ fn commands_are_done(rt: HostRuntime) {
         MIGRATED,
         LISTED,
         EXPLAINED,
+        TRACED,
         Case {
             name: "drain",
             words: &["drain", "add.idl", "-", "add", "in", "little"],
