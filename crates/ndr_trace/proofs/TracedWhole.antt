@@ -39,7 +39,7 @@ module _ (w : Setting) (order : Order) (fetched : List ℕ) (place : ℕ) (why :
       by : (o : Option Sought) → u.sought ≡ o → u.sought ≡ None
       by None f = f
       by (Some s) f =
-          let t : is_test bad.here.entry.kind ≡ true = g.sought (subst (λ o. IsSome o) (sym f) tt) in
+          let t : is_test bad.here.entry.kind ≡ true = g.sought (subst (λ o. IsSome o) (sym f) refl) in
           let z : true ≡ false = sym t ∙ e in
           cc
 
