@@ -2,10 +2,9 @@
 -- `k` are the octets with the partial graph in which they are refused, `s` is where the node is, `p` and `p1` are how far the walk came before and
 -- afterwards, `a` and `a1` the cells, `r` is what the function gives, `w` a width.
 use Rattle.std.proofs.Common.{◌≡◌, ◌∙◌, ℕ, ◌+◌, ◌<◌, ◌≤◌, ℤ, Bool, true, false, List, [], ◌∷◌, ◌++◌, length, Option, Some, None, Result, refl, sym, ap, ap₂, subst, arith}
-use Rattle.std.specs.Prelude.{◌&&◌, Err, IfOk, IsOk, eqb, is_none}
+use Rattle.std.specs.Prelude.{◌&&◌, Err, IfOk, IsOk, eqb, unwrap_or}
 use Rattle.std.proofs.lemmas.Bool.{and_parts, eqb-true}
 use Rattle.std.proofs.lemmas.Result.{IfOk-weaker}
-use Rattle.core.specs.Option.{unwrap_or}
 use Rattle.nd_types.specs.declared.types.Arm.{Arm}
 use Rattle.nd_types.specs.declared.types.Class.{Class}
 use Rattle.nd_types.specs.declared.types.Field.{Field}
@@ -73,7 +72,7 @@ module _ (k : Known) (s : Spot) (n max t : ℕ) (l : Label) (ks : Trees) (node :
       → (varying ≡ true → (offset limit actual : ℕ) (later : List Entry)
       → IsTracing k p (entry_at s n (Align 4) ∷ entry_at s n (Offset false offset) ∷ entry_at s n (Actual false offset limit actual) ∷ later) → r ≡ Err f → E) → r ≡ Err f → E
   any_array_ends elem bound true de r f whole ends e = array_ends elem bound de (ends refl) e
-  any_array_ends elem bound false de r f whole ends e = let z : IsOk (Err f) = subst IsOk e (whole refl) in cc
+  any_array_ends elem bound false de r f whole ends e = absurd (let z : false ≡ true = subst (λ (q : Result Seen Halt). IsOk q) e (whole refl) in let y : ⊥ = cc in y)
 
   pub text_ends : {E : Type 0} (elem : TypeId) (bound : Option ℕ) → type_at k.setting.table t ≡ Some (def.Text elem bound)
       → ((m : ℕ) (os : List ℕ) → label_in (home_flats k.graph s.home) n ≡ Some (tree.Text m os) → (later : List Entry)
@@ -196,7 +195,7 @@ module _ (k : Known) (s : Spot) (n max t : ℕ) (l : Label) (ks : Trees) (node :
     array_by elem bound varying de m offset le limit is legal counts bounded =
         is_bound_of bound max m limit bounded
         (λ none.
-        let own = node.own.max_is (legal ∙ ap (hoists_by (hoists k.setting.table)) de ∙ none) in
+        let own = node.own.max_is (legal ∙ ap (hoists_by (hoists k.setting.table)) (de ∙ ap (λ b. Some (def.Array elem b varying)) none)) in
         ap (λ x. own_max x max) (sym le) ∙ own) is
 
     read_counts : (elem : TypeId) (bound : Option ℕ) (varying : Bool) → type_at k.setting.table t ≡ Some (def.Array elem bound varying) → (m offset : ℕ) → l ≡ tree.Arr m offset
