@@ -133,6 +133,12 @@ module _ (k : Known) where
           let l : i.len ≡ size_at p.at m.kind = ap (λ (x : Item). x.len) one.is_item in
           at ∙ omega (arith, a, l)
 
+  -- what the path is then
+  abbrev EndPath : Progress → Type 0
+  EndPath p =
+      ((is_test k.here.entry.kind ≡ true) × (p.path ≡ kept k (length k.log)))
+      ⊎ ((is_test k.here.entry.kind ≡ false) × (p.path ≡ entry_path k.setting k.graph k.here.entry))
+
   -- no item is left: reading stopped at the entry, unless it stopped at an agreement
   pub item_ended : (p p1 : Progress) (m : Entry) (rest : List Entry) (z : ItemKind × ℤ)
       → (IsRendered k.order k.numbering k.fetched (placed p m) → its_item k.order k.fetched (placed p m) ≡ Some z) → IsTracing k p (m ∷ rest)
@@ -145,21 +151,16 @@ module _ (k : Known) where
         (subst (λ l. Stops k.order k.fetched k.numbering k.here (end_to_end p.at (m ∷ rest)) l) (drop_past k.log p.next over) t.due));
   }
     where
-      Goal : Type 0
-      Goal =
-          ((is_test k.here.entry.kind ≡ true) × (p1.path ≡ kept k (length k.log)))
-          ⊎ ((is_test k.here.entry.kind ≡ false) × (p1.path ≡ entry_path k.setting k.graph k.here.entry))
-
-      at_test : is_test k.here.entry.kind ≡ true → Goal
+      at_test : is_test k.here.entry.kind ≡ true → EndPath p1
       at_test e = inl (e, same_path e ∙ kept_all p (m ∷ rest) t over)
 
-      by_kind : (b : Bool) → is_test k.here.entry.kind ≡ b → placed p m ≡ k.here → Goal
+      by_kind : (b : Bool) → is_test k.here.entry.kind ≡ b → placed p m ≡ k.here → EndPath p1
       by_kind true e h = at_test e
       by_kind false e h =
           let none : is_test k.here.entry.kind ≡ true → ⊥ = λ f. let z : true ≡ false = sym f ∙ e in cc in
           inr (e, path none ∙ ap (λ (x : EntryAt). entry_path k.setting k.graph x.entry) h)
 
-      go : (is_test k.here.entry.kind ≡ true) ⊎ (placed p m ≡ k.here) → Goal
+      go : (is_test k.here.entry.kind ≡ true) ⊎ (placed p m ≡ k.here) → EndPath p1
       go (inl e) = at_test e
       go (inr h) = by_kind (is_test k.here.entry.kind) refl h
 

@@ -7,6 +7,7 @@ mod nodes;
 mod parameters;
 mod progress;
 mod search;
+mod shapes;
 
 pub use cells::{Cells, Pending, come_to, new_cell};
 pub use members::{at_end, close, note_front};
