@@ -46,7 +46,7 @@ own_parts k max [] T none us e b = (tt, b)
 own_parts k max [] T (more v ks) us e b = cc
 own_parts k max (t ∷ types) T none us e b = cc
 own_parts k max (t ∷ types) T (more (node l js) ks) us e b =
-    let (x, y) = own_parts k max types T ks us (omega (arith, e)) b.1.1 in ((b.0, (b.1.0, x)), y)
+    let (x, y) = own_parts k max types T ks us (omega (arith, e)) b.2 in ((b.0, b.1, x), y)
 
 count_joined : (ks us : Trees) → count (joined ks us) ≡ count ks + count us
 count_joined none us = omega arith
@@ -144,7 +144,7 @@ module _ (k : Known) (h : Home) (name : List ℕ) (t before : ℕ) (rest : List 
   head_by own_path n (c ∷ cut) left cuts there tr nm =
       let ks = take_trees c left in
       let us = drop_trees c left in
-      let within : c ≤ count left = (let e = cuts.0 in omega (arith, e)) in
+      let within : c ≤ count left = (let e : c + sum cut ≡ count left = cuts.0 in omega (arith, e)) in
       let some : count ks ≡ c = taken c left within in
       let all : count left ≡ c + count us = dropped c left within in
       let whole : joined ks us ≡ left = joined-take-drop c left in
@@ -180,7 +180,7 @@ module _ (k : Known) (h : Home) (name : List ℕ) (t before : ℕ) (rest : List 
                 node = n + node_count ks;
                 cut = cut;
                 left = us;
-                cuts = ((let e = cuts.0 in omega (arith, e, all)), cuts.1.1);
+                cuts = ((let e : c + sum cut ≡ count left = cuts.0 in omega (arith, e, all)), cuts.1.1);
                 there = both.1;
                 tracing = tr1;
                 naming = nm1;

@@ -1,10 +1,10 @@
 -- Where octets are refused for a failed agreement, an agreement is refused, and the log has the count or tag that it speaks of.
 -- `x` is an entry at its place, `m` an entry, `k` its kind, `q` a place with a reason, `r` a reason, `xs` are earlier entries, `i` is an item.
-use Rattle.std.proofs.Common.{◌≡◌, ◌⊎◌, inl, inr, ◌∙◌, ℕ, zero, suc, ◌+◌, ◌≤◌, ℤ, Bool, true, false, cond, List, [], ◌∷◌, ◌++◌, length, Option, Some, None, refl, sym, ap, subst, arith}
+use Rattle.std.proofs.Common.{◌≡◌, ◌⊎◌, inl, inr, ◌∙◌, ℕ, zero, suc, ◌+◌, ◌<◌, ◌≤◌, ℤ, Bool, true, false, cond, List, [], ◌∷◌, ◌++◌, length, Option, Some, None, refl, sym, ap, subst, arith}
 use Rattle.std.specs.Prelude.{not, ◌&&◌, ◌||◌, eqb, ltb, option_map}
-use Rattle.std.specs.List.{slice_get}
+use Rattle.std.specs.List.{AllByRecursion, slice_get}
 use Rattle.std.specs.Ordering.{int_eq}
-use Rattle.std.proofs.lemmas.Bool.{and_parts, ltb-true}
+use Rattle.std.proofs.lemmas.Bool.{and_parts, eqb-false, eqb-true, ltb-true}
 use Rattle.std.proofs.lemmas.Option.{same_Some}
 use Rattle.nd_base.specs.declared.octets.Order.{Order}
 use Rattle.nd_base.specs.declared.TheConstants.{STREAM_LIMIT}
@@ -14,14 +14,18 @@ use Rattle.nd_types.specs.declared.types.Class.TheVariants.{Full, Ref, Unique}
 use Rattle.nd_value.specs.declared.item.Home.{Home}
 use Rattle.nd_value.specs.declared.item.Item.{Item}
 use Rattle.nd_value.specs.declared.item.ItemKind.{ItemKind}
+use Rattle.nd_value.specs.declared.item.ItemKind.TheVariants as kind
 use Rattle.nd_value.specs.Setting.{Among}
+use Rattle.nd_value.proofs.Apart.{all_weaker}
+use Rattle.nd_flat.proofs.RecordLaws.{width_some}
 use Rattle.nd_grammar.specs.declared.reason.Reason.{Reason}
 use Rattle.nd_grammar.specs.declared.reason.Reason.TheVariants as reason
-use Rattle.nd_grammar.specs.Entry.{Actual, Align, Chunk, Context, Entry, EntryAt, Kind, Max, Num, Number, Offset, Tag, Test, Text, Unread, size_at}
+use Rattle.nd_grammar.specs.Entry.{Actual, Align, Chunk, Context, Entry, EntryAt, Kind, Max, Num, Number, Offset, Tag, Test, Text, Unread, end_to_end, gap, size_at}
 use Rattle.nd_grammar.specs.Items.{item_at, item_of, items}
 use Rattle.nd_grammar.specs.Refusal.{is_long, is_max, kind_agrees, kind_refusal, refusal, refused_if, same_home, tested_at, text_refusal}
 use Rattle.nd_grammar.specs.Represents.{piece}
 use Rattle.ndr_trace_laws.specs.Untested.{is_test}
+use Rattle.ndr_trace_laws.proofs.Gaps.{empty_gap}
 
 abbrev pub is_disagreement : Reason → Bool
 is_disagreement (reason.Disagrees wanted found) = true
@@ -146,11 +150,25 @@ is_item order attr.Length _ os e f = cc
 is_item order attr.Last _ os e f = cc
 is_item order attr.Switch _ os e f = cc
 
+-- what an attribute speaks of is no gap
+no_gap_of : (order : Order) (a : Attr) (k : Kind) (os : List ℕ) (z : ItemKind × ℤ) → kind_agrees a k ≡ true → item_of order k os ≡ Some z → z.0 ≡ kind.Gap → ⊥
+no_gap_of order a (Max v) os z e f g = let h : kind.Max ≡ kind.Gap = ap (λ (y : ItemKind × ℤ). y.0) (same_Some _ _ f) ∙ g in cc
+no_gap_of order a (Offset t v) os z e f g = let h : kind.Offset ≡ kind.Gap = ap (λ (y : ItemKind × ℤ). y.0) (same_Some _ _ f) ∙ g in cc
+no_gap_of order a (Actual t o l v) os z e f g = let h : kind.Actual ≡ kind.Gap = ap (λ (y : ItemKind × ℤ). y.0) (same_Some _ _ f) ∙ g in cc
+no_gap_of order a (Tag p values arms default v) os z e f g = let h : kind.Tag ≡ kind.Gap = ap (λ (y : ItemKind × ℤ). y.0) (same_Some _ _ f) ∙ g in cc
+no_gap_of order attr.Size _ os z e f g = cc
+no_gap_of order attr.Max _ os z e f g = cc
+no_gap_of order attr.First _ os z e f g = cc
+no_gap_of order attr.Length _ os z e f g = cc
+no_gap_of order attr.Last _ os z e f g = cc
+no_gap_of order attr.Switch _ os z e f g = cc
+
 pub record Logged (log : List Item) (place : ℕ) : Type 0 where
   pub number : ℕ
   pub item : Item
   pub there : slice_get log number ≡ Some item
   pub at : item.at ≡ place
+  pub no_gap : item.kind ≡ kind.Gap → ⊥
 
 pub logged_there : (order : Order) (octets : List ℕ) (xs : List EntryAt) (a : Attr) (x : EntryAt) → Among xs x → kind_agrees a x.entry.kind ≡ true → Logged (items order octets xs) x.at
 logged_there order octets [] a x m e = absurd m
@@ -158,9 +176,100 @@ logged_there order octets (y ∷ ys) a x (inl h) e = go (item_of order y.entry.k
   where
     go : (o : Option (ItemKind × ℤ)) → item_of order y.entry.kind (piece octets y.at y.entry.kind) ≡ o → Logged (item_at y o ++ items order octets ys) x.at
     go None f = absurd (is_item order a y.entry.kind (piece octets y.at y.entry.kind) (subst (λ (z : EntryAt). kind_agrees a z.entry.kind ≡ true) h e) f)
-    go (Some k) f = record { number = 0; item = _; there = refl; at = ap (λ (z : EntryAt). z.at) (sym h) }
+    go (Some k) f = record {
+      number = 0;
+      item = _;
+      there = refl;
+      at = ap (λ (z : EntryAt). z.at) (sym h);
+      no_gap = no_gap_of order a y.entry.kind (piece octets y.at y.entry.kind) k (subst (λ (z : EntryAt). kind_agrees a z.entry.kind ≡ true) h e) f;
+    }
 logged_there order octets (y ∷ ys) a x (inr m) e = go (item_of order y.entry.kind (piece octets y.at y.entry.kind)) (logged_there order octets ys a x m e)
   where
     go : (o : Option (ItemKind × ℤ)) → Logged (items order octets ys) x.at → Logged (item_at y o ++ items order octets ys) x.at
     go None l = l
-    go (Some k) l = record { number = suc l.number; item = l.item; there = l.there; at = l.at }
+    go (Some k) l = record { number = suc l.number; item = l.item; there = l.there; at = l.at; no_gap = l.no_gap }
+
+-- ## One item at a place
+
+some_size : (order : Order) (octets : List ℕ) (at : ℕ) (k : Kind) (z : ItemKind × ℤ) → item_of order k (piece octets at k) ≡ Some z → 0 < size_at at k
+some_size order octets at (Align n) z e = by (eqb (gap at n) 0) refl
+  where
+    by : (b : Bool) → eqb (gap at n) 0 ≡ b → 0 < gap at n
+    by true f = let none = empty_gap order octets at n (eqb-true (gap at n) 0 f) in let y : None ≡ Some z = sym none ∙ e in cc
+    by false f = above (gap at n) (eqb-false (gap at n) 0 f)
+      where
+        above : (m : ℕ) → (m ≡ 0 → ⊥) → 0 < m
+        above zero d = absurd (d refl)
+        above (suc m) d = omega arith
+some_size order octets at (Max v) z e = omega arith
+some_size order octets at (Offset t v) z e = omega arith
+some_size order octets at (Actual t offset limit v) z e = omega arith
+some_size order octets at (Chunk v) z e = omega arith
+some_size order octets at (Number class to cell) z e = omega arith
+some_size order octets at (Num p values v) z e = width_some p
+some_size order octets at (Tag p values arms default v) z e = width_some p
+some_size order octets at (Text os) z e = omega arith
+some_size order octets at (Context attributes id) z e = omega arith
+some_size order octets at (Test a wanted found) z e = cc
+some_size order octets at Unread z e = cc
+
+all_at : {X : Type 0} (P : X → Type 0) (xs : List X) (n : ℕ) (x : X) → AllByRecursion P xs → slice_get xs n ≡ Some x → P x
+all_at P [] n x a e = cc
+all_at P (y ∷ xs) zero x a e = subst P (same_Some _ _ e) a.0
+all_at P (y ∷ xs) (suc n) x a e = all_at P xs n x a.1 e
+
+module _ (order : Order) (octets : List ℕ) where
+  -- the items of entries from a place on are at this place or after it
+  items_from : (at : ℕ) (ms : List Entry) (xs ys : List EntryAt) → end_to_end at ms ≡ xs ++ ys → AllByRecursion (λ (i : Item). at ≤ i.at) (items order octets xs)
+  items_from at ms [] ys e = tt
+  items_from at [] (x ∷ xs) ys e = cc
+  items_from at (m ∷ ms) (x ∷ xs) ys e =
+      go (item_of order x.entry.kind (piece octets x.at x.entry.kind))
+    where
+      first : record { at = at; entry = m } ≡ x
+      first = cc
+
+      rest : end_to_end (at + size_at at m.kind) ms ≡ xs ++ ys
+      rest = cc
+
+      later : AllByRecursion (λ (i : Item). at ≤ i.at) (items order octets xs)
+      later =
+          all_weaker (λ (i : Item). at + size_at at m.kind ≤ i.at) (λ (i : Item). at ≤ i.at) (λ i l. omega (arith, l)) (items order octets xs)
+          (items_from (at + size_at at m.kind) ms xs ys rest)
+
+      go : (o : Option (ItemKind × ℤ)) → AllByRecursion (λ (i : Item). at ≤ i.at) (item_at x o ++ items order octets xs)
+      go None = later
+      go (Some z) = let h = ap (λ (y : EntryAt). y.at) first in (omega (arith, h), later)
+
+  -- two items at one place are one
+  pub one_item : (at : ℕ) (ms : List Entry) (xs ys : List EntryAt) → end_to_end at ms ≡ xs ++ ys → (n j : ℕ) (a b : Item) → slice_get (items order octets xs) n ≡ Some a
+      → slice_get (items order octets xs) j ≡ Some b → a.at ≡ b.at → a ≡ b
+  one_item at ms [] ys e n j a b f g h = cc
+  one_item at [] (x ∷ xs) ys e n j a b f g h = cc
+  one_item at (m ∷ ms) (x ∷ xs) ys e n j a b f g h =
+      go (item_of order x.entry.kind (piece octets x.at x.entry.kind)) refl n j f g (one_item (at + size_at at m.kind) ms xs ys rest)
+    where
+      rest : end_to_end (at + size_at at m.kind) ms ≡ xs ++ ys
+      rest = cc
+
+      first : record { at = at; entry = m } ≡ x
+      first = cc
+
+      -- an item of a later entry is at a later place
+      apart : (z : ItemKind × ℤ) → item_of order x.entry.kind (piece octets x.at x.entry.kind) ≡ Some z → (l : ℕ) (c : Item) → slice_get (items order octets xs) l ≡ Some c
+          → x.at ≡ c.at → ⊥
+      apart z is l c there same =
+          let size : 0 < size_at x.at x.entry.kind = some_size order octets x.at x.entry.kind z is in
+          let place : x.at + size_at x.at x.entry.kind ≡ at + size_at at m.kind = ap (λ (y : EntryAt). y.at + size_at y.at y.entry.kind) (sym first) in
+          let low : at + size_at at m.kind ≤ c.at =
+          all_at (λ (i : Item). at + size_at at m.kind ≤ i.at) (items order octets xs) l c (items_from (at + size_at at m.kind) ms xs ys rest) there in
+          absurd (omega (arith, size, place, low, same))
+
+      go : (o : Option (ItemKind × ℤ)) → item_of order x.entry.kind (piece octets x.at x.entry.kind) ≡ o → (n j : ℕ)
+          → slice_get (item_at x o ++ items order octets xs) n ≡ Some a → slice_get (item_at x o ++ items order octets xs) j ≡ Some b
+          → ((n' j' : ℕ) (a' b' : Item) → slice_get (items order octets xs) n' ≡ Some a' → slice_get (items order octets xs) j' ≡ Some b' → a'.at ≡ b'.at → a' ≡ b') → a ≡ b
+      go None is n j f g later = later n j a b f g h
+      go (Some z) is zero zero f g later = same_Some _ _ (sym f ∙ g)
+      go (Some z) is zero (suc j) f g later = absurd (apart z is j b g (ap (λ (i : Item). i.at) (same_Some _ _ f) ∙ h))
+      go (Some z) is (suc n) zero f g later = absurd (apart z is n a f (ap (λ (i : Item). i.at) (same_Some _ _ g) ∙ sym h))
+      go (Some z) is (suc n) (suc j) f g later = later n j a b f g h

@@ -71,7 +71,7 @@ module _ (k : Known) (h : Home) (r : ℕ) (p : List ℕ) (e : TypeId) (is : type
   elements_there = record {
     begins = subst (λ d. Begins k.setting.table (child_types d tree.Pipe ks) ks) is there.begins.0.1;
     all = sym (length-replicate (count ks) e.0);
-    own = subst (λ d. AreOwn k 0 (child_types d tree.Pipe ks) ks) is there.own.1.0;
+    own = subst (λ d. AreOwn k 0 (child_types d tree.Pipe ks) ks) is there.own.1;
     paths_are = λ m low high. there.paths_are m (omega (arith, low)) (omega (arith, high)) ∙ whole_paths m low;
     flats_are = λ i low.
         ap (slice_get (home_flats k.graph h)) (one_more i) ∙ there.flats_are (suc i) (omega (arith, low))
@@ -135,7 +135,7 @@ pipe_start k at name r t has elem u ready cut cuts rest names tr nm = go (root_a
 -- a type that is no pipe
 pub no_pipe : {A : Type 0} (k : Known) (at : ℕ) (d : Option TypeDef) → pipe_element d ≡ None → (p : Progress) → IsReady k p → (cut : List ℕ) (v : Tree) (rest : List Entry)
     → IsTracing k p (untested (pipe_entries k.setting.table (home.Root at) d cut v) ++ rest) → A
-no_pipe k at (Some (def.Pipe e)) h p ready cut v rest tr = cc
+no_pipe k at (Some (def.Pipe e)) h p ready cut v rest tr = absurd (let y : ⊥ = cc in y)
 no_pipe k at None h p ready cut v rest tr = absurd (unread_due k (home.Root at) 0 p rest ready tr)
 no_pipe k at (Some (def.Prim q)) h p ready cut v rest tr = absurd (unread_due k (home.Root at) 0 p rest ready tr)
 no_pipe k at (Some (def.Enum values)) h p ready cut v rest tr = absurd (unread_due k (home.Root at) 0 p rest ready tr)

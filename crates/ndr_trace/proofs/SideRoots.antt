@@ -36,7 +36,7 @@ root_of_walk k u s at d e =
       name =
           sym (ap (λ (x : NamedRoot). x.name) same) ∙ sym (names_agree s.operation r)
           ∙ sym (ap (λ (w : Setting). root_name w.op.params r) s.setting)
-          ∙ sym (ap (λ o. elim o [ None ↦ codes "root" | Some x ↦ root_name k.setting.op.params x ]) in_list);
+          ∙ sym (ap (λ (o : Option Root). elim o [ None ↦ codes "root" | Some x ↦ root_name k.setting.op.params x ]) in_list);
     }
 
 pub all_passed : (k : Known) (u : Ground) (s : IsSide k u) (at : ℕ) → length (named_roots u.interface.now.types u.side s.operation) ≤ at → length (root_list k.setting) ≤ at

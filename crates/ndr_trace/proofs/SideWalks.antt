@@ -70,14 +70,14 @@ parted (x ∷ xs) ys a b i r e = go x.is_pipe refl i e (λ j f. parted xs ys a.1
         → ((r.is_pipe ≡ false) × (i < before_pipes (x ∷ (xs ++ ys)))) ⊎ ((r.is_pipe ≡ true) × (before_pipes (x ∷ (xs ++ ys)) ≤ i))
     go true q i f later = let z = a.0 in let y : not true ≡ true = ap not (sym q) ∙ z in cc
     go false q zero f later =
-        let n = more_before x.is_pipe q in
+        let n : before_pipes (x ∷ (xs ++ ys)) ≡ suc (before_pipes (xs ++ ys)) = more_before x.is_pipe q in
         inl (ap (λ (s : Root). s.is_pipe) (sym (same_Some _ _ f)) ∙ q, omega (arith, n))
     go false q (suc i) f later = step (later i f)
       where
         step : ((r.is_pipe ≡ false) × (i < before_pipes (xs ++ ys))) ⊎ ((r.is_pipe ≡ true) × (before_pipes (xs ++ ys) ≤ i))
             → ((r.is_pipe ≡ false) × (suc i < before_pipes (x ∷ (xs ++ ys)))) ⊎ ((r.is_pipe ≡ true) × (before_pipes (x ∷ (xs ++ ys)) ≤ suc i))
-        step (inl (g, l)) = let n = more_before x.is_pipe q in inl (g, omega (arith, n, l))
-        step (inr (g, l)) = let n = more_before x.is_pipe q in inr (g, omega (arith, n, l))
+        step (inl (g, l)) = let n : before_pipes (x ∷ (xs ++ ys)) ≡ suc (before_pipes (xs ++ ys)) = more_before x.is_pipe q in inl (g, omega (arith, n, l))
+        step (inr (g, l)) = let n : before_pipes (x ∷ (xs ++ ys)) ≡ suc (before_pipes (xs ++ ys)) = more_before x.is_pipe q in inr (g, omega (arith, n, l))
 
 roots_parted : (w : Setting) → root_list w
     ≡ (filter (λ r. not r.is_pipe) (params_from w.table w.side 0 w.op.params) ++ result_root w.side w.op.result) ++ filter (λ r. r.is_pipe) (params_from w.table w.side 0 w.op.params)
@@ -103,9 +103,6 @@ drop_at (y ∷ ys) zero x e = ap (λ z. z ∷ ys) (same_Some _ _ e)
 drop_at (y ∷ ys) (suc i) x e = drop_at ys i x e
 
 module _ (k : Known) where
-  abbrev n : ℕ
-  n = before_pipes (root_list k.setting)
-
   -- a root that is no pipe is due next
   pub next_root : (u : Walker) (at : ℕ) (root : RootDef) → IsRoot k at root → root.pipe ≡ false → IsAtRoot k u at
       → (cuts : List (List ℕ)) × IsBeforePipes k u at cuts × (at < before_pipes (root_list k.setting))

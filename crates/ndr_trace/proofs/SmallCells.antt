@@ -155,14 +155,14 @@ full_among : (ms : List Entry) (d : Class × ℕ) → Among (names_in (untested 
 full_among [] d a f = absurd a
 full_among (m ∷ ms) d a f = go (is_test m.kind) a (full_among ms d)
   where
-    go : (b : Bool) → Among (names_in (kept_if b m (untested ms))) d → (Among (names_in (untested ms)) d → d.0 ≡ Full → Among (full_cells ms) d.1) → Among (full_cells (m ∷ ms)) d.1
-    go true a later = among_right (full_cell m.kind) (full_cells ms) d.1 (later a f)
-    go false a later = whichever (among_split (named_by m.kind) (names_in (untested ms)) d a) later
-
     whichever : Among (named_by m.kind) d ⊎ Among (names_in (untested ms)) d → (Among (names_in (untested ms)) d → d.0 ≡ Full → Among (full_cells ms) d.1)
         → Among (full_cells (m ∷ ms)) d.1
     whichever (inl x) later = among_left (full_cell m.kind) (full_cells ms) d.1 (its_full m.kind d x f)
     whichever (inr x) later = among_right (full_cell m.kind) (full_cells ms) d.1 (later x f)
+
+    go : (b : Bool) → Among (names_in (kept_if b m (untested ms))) d → (Among (names_in (untested ms)) d → d.0 ≡ Full → Among (full_cells ms) d.1) → Among (full_cells (m ∷ ms)) d.1
+    go true a later = among_right (full_cell m.kind) (full_cells ms) d.1 (later a f)
+    go false a later = whichever (among_split (named_by m.kind) (names_in (untested ms)) d a) later
 
 -- of the steps
 pub steps_full : (w : Setting) (g : Graph) (us : List Step) (d : Class × ℕ) → Among (flat_map (step_names w g) us) d → d.0 ≡ Full

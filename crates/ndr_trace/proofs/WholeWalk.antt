@@ -11,6 +11,7 @@ use Rattle.ndr_trace.specs.Sides.{IsAtRoot, IsBeginning, IsStream}
 use Rattle.ndr_trace_value.specs.Tracing.{IsGround, IsTracing, Known}
 use Rattle.ndr_trace_value.specs.declared.progress.Ground.{Ground}
 use Rattle.ndr_trace.proofs.Starting.{at_first_root}
+use Rattle.ndr_trace_value.proofs.Passing.{not_kept}
 
 -- at the beginning all entries are due
 pub begins : (k : Known) (u : Walker) → IsPart k → (g : IsStream k) → (v : Ground) → IsGround k v → IsBeginning u → IsAtRoot k u 0
@@ -21,7 +22,7 @@ begins k u s g v ground b =
     tracing = record {
       within = (let z = b.next in omega (arith, z));
       lines = b.lines ∙ ap (λ n. explanation k.setting k.graph (take n k.log)) (sym b.next);
-      no_path = b.path;
+      path = b.path ∙ sym (not_kept k u.progress.next b.next);
       due =
           subst (λ n. Stops k.order k.fetched k.numbering k.here (end_to_end u.progress.at (untested g.entries)) (drop n k.log)) (sym b.next)
           (subst (λ n. Stops k.order k.fetched k.numbering k.here (end_to_end n (untested g.entries)) k.log) (sym b.at) g.due);

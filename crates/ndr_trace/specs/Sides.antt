@@ -1,7 +1,7 @@
 -- What a walk over the roots of a side comes to.
--- `k` are the octets with the partial graph in which they are refused, `u` is what the walk is given, or the walk, `i` is the index of a root, `cuts` are
--- the counts of the chunks of pipes.
-use Rattle.std.specs.Prelude.{◌≡◌, ◌⊎◌, ◌≤◌, ◌-◌, ℕ, List, [], drop, Option, Some}
+-- `k` are the octets with the partial graph in which they are refused, `u` is what the walk is given, or the walk, `i` is the index of a root,
+-- `cuts` are the counts of the chunks of pipes.
+use Rattle.std.specs.Prelude.{◌≡◌, ◌⊎◌, ◌≤◌, ◌-◌, ℕ, List, [], ◌++◌, drop, Option, None, Some}
 use Rattle.std.specs.List.{slice_get}
 use Rattle.nd_types.specs.declared.types.Operation.{Operation}
 use Rattle.nd_value.specs.declared.value.Graph.{Graph}
@@ -15,6 +15,7 @@ use Rattle.ndr_trace_laws.specs.Due.{Stops}
 use Rattle.ndr_trace_laws.specs.Untested.{untested}
 use Rattle.ndr_trace_value.specs.declared.nodes.Walker.{Walker}
 use Rattle.ndr_trace_value.specs.declared.progress.Ground.{Ground}
+use Rattle.ndr_trace_value.specs.declared.search.Sought.{Sought}
 use Rattle.ndr_trace.specs.Homes.{IsAwaiting}
 use Rattle.ndr_trace_value.specs.Naming.{IsNaming, names_in}
 use Rattle.ndr_trace_value.specs.Tracing.{IsTracing, Known}
@@ -67,3 +68,8 @@ pub record IsBeginning (u : Walker) : Type 0 where
   pub numbers : u.cells.numbers ≡ []
   pub none_pending : u.cells.pending.items ≡ []
   pub unmarked : u.cells.stands.items ≡ []
+
+-- the path that is shown: that at which a walk ended, or where an agreement is sought that of the item, and a text
+abbrev pub IsFinished : Option Sought → List ℕ → List ℕ → Type 0
+IsFinished None path shown = shown ≡ path
+IsFinished (Some s) path shown = (rest : List ℕ) × (shown ≡ path ++ rest)

@@ -11,7 +11,7 @@ ghost use Rattle.nd_grammar.specs.Items.{items as items_of};
 ghost use Rattle.nd_grammar.specs.LegalSide.{IsLegalSide};
 ghost use Rattle.ndr_decoder_laws.specs.verdict.InOrder.{HasOwnNumbers};
 ghost use Rattle.ndr_trace.specs.Homes.{IsPart};
-ghost use Rattle.ndr_trace.specs.Sides.{IsBeginning, IsSide, IsStream};
+ghost use Rattle.ndr_trace.specs.Sides.{IsBeginning, IsFinished, IsSide, IsStream};
 ghost use Rattle.ndr_trace_value.specs.Traces.{IsTraceOf};
 ghost use Rattle.ndr_trace_value.specs.Tracing.{IsEnded, IsGround, Known};
 
@@ -23,7 +23,7 @@ use nd_types::{Interface, Side};
 use nd_value::ItemLog;
 use ndr_refs::Referents;
 use ndr_trace_value::{
-    Cells, Ground, Halt, Progress, Search, Sought, Walker, append_agreement, find_agreement,
+    Cells, Ground, Halt, Progress, Search, Sought, Walker, agreement_tail, find_agreement,
 };
 use std::alloc::Global;
 
@@ -115,7 +115,7 @@ fn begin<'a>(alloc: Global) -> Walker<'a>
             stands: Vec::new(alloc),
         },
         search: Search {
-            path: Octets::new(alloc),
+            steps: Octets::new(alloc),
             stated: Vec::new(alloc),
             open: Vec::new(alloc),
             roots: Vec::new(alloc),
@@ -124,10 +124,10 @@ fn begin<'a>(alloc: Global) -> Walker<'a>
     }
 }
 
-// The lines, and the path at which the walk ended or that of the agreement that fails.
+// The lines, and the path at which the walk ended; where an agreement fails, that of its item, and what follows.
 fn finish<'a>(ground: &Ground<'a>, walker: Walker<'a>) -> Result<Traced, Memory>
     ensures lines { IfOk result (λ t. t.lines ≡ walker.entry.progress.lines) }
-    ensures path { ground.now.sought ≡ None → IfOk result (λ t. t.path ≡ walker.entry.progress.path) }
+    ensures path { IfOk result (λ t. IsFinished ground.now.sought walker.entry.progress.path t.path) }
 {
     let Walker {
         progress,
@@ -149,9 +149,11 @@ fn finish_at(
     lines: Octets,
     path: Octets,
 ) -> Result<Traced, Memory>
-    ensures lines { IfOk result (λ t. t.lines ≡ lines.entry) }
+    ensures lines { IfOk result (λ t. t.lines ≡ lines) }
+    ensures path { IfOk result (λ t. (rest : List ℕ) × (t.path ≡ path ++ rest)) }
 {
+    let tail = agreement_tail(ground, search, sought)?;
     let mut path = path;
-    append_agreement(ground, search, sought, &mut path)?;
+    path.append(tail.as_slice())?;
     Ok(Traced { lines, path })
 }

@@ -2,10 +2,9 @@
 -- `k` are the octets with the partial graph in which they are refused, `s` is where the node is, `p` and `p1` are how far the walk came before and
 -- afterwards, `a` and `a1` the cells, `r` is what the function gives, `w` a width.
 use Rattle.std.proofs.Common.{◌≡◌, ◌∙◌, ℕ, ◌+◌, ◌<◌, ◌≤◌, ℤ, Bool, true, false, List, [], ◌∷◌, ◌++◌, length, Option, Some, None, Result, refl, sym, ap, ap₂, subst, arith}
-use Rattle.std.specs.Prelude.{◌&&◌, Err, IfOk, IsOk, eqb, is_none}
+use Rattle.std.specs.Prelude.{◌&&◌, Err, IfOk, IsOk, eqb, unwrap_or}
 use Rattle.std.proofs.lemmas.Bool.{and_parts, eqb-true}
 use Rattle.std.proofs.lemmas.Result.{IfOk-weaker}
-use Rattle.core.specs.Option.{unwrap_or}
 use Rattle.nd_types.specs.declared.types.Arm.{Arm}
 use Rattle.nd_types.specs.declared.types.Class.{Class}
 use Rattle.nd_types.specs.declared.types.Field.{Field}
@@ -23,8 +22,6 @@ use Rattle.nd_value.specs.Nodes.{child_types, selected_types}
 use Rattle.nd_value.specs.Tree as tree
 use Rattle.nd_value.specs.Tree.{Flat, Label, Trees, count}
 use Rattle.nd_value.proofs.NodeFacts.{IsRead}
-use Rattle.nd_flat.specs.declared.node.Seen.{Seen}
-use Rattle.nd_flat.specs.FlatForm.{flat_seen}
 use Rattle.nd_grammar.specs.Entry.{Actual, Align, Context, Entry, Num, Number, Offset, Tag, Text}
 use Rattle.nd_grammar.specs.InPlace.{counts, entries, own_max}
 use Rattle.ndr_explain.specs.Explained.{home_flats, label_in}
@@ -34,9 +31,10 @@ use Rattle.ndr_trace_value.specs.declared.nodes.Walker.{Walker}
 use Rattle.ndr_trace_value.specs.declared.progress.Halt.{Halt}
 use Rattle.ndr_trace_value.specs.declared.progress.Progress.{Progress}
 use Rattle.ndr_trace_value.specs.declared.progress.Spot.{Spot}
+use Rattle.ndr_trace_value.specs.declared.shapes.Shape.{Shape}
 use Rattle.ndr_trace_value.specs.Naming.{HasNamed, IsFine, IsNaming, named_by, names_in}
 use Rattle.ndr_trace_value.specs.Tracing.{IsTracing, Known, entry_at}
-use Rattle.ndr_trace_value.specs.Walking.{HavePaid, IsNode, IsReady, IsSeen, own_due, width_by}
+use Rattle.ndr_trace_value.specs.Walking.{HavePaid, IsNode, IsReady, IsSeen, flat_shape, own_due, width_by}
 use Rattle.ndr_trace_value.proofs.OwnItems.{array_case, array_out, context_case, context_out, due_by, enum_case, enum_out, fine_pointer, is_bound_of, no_form, num_out, pipe_form, pointer_case, pointer_named, pointer_out, prim_case, read_of, struct_case, struct_out, text_case, text_out, union_case, union_out}
 
 module _ (k : Known) (s : Spot) (n max t : ℕ) (l : Label) (ks : Trees) (node : IsNode k s max t n l ks) (p : Progress) (ready : IsReady k p) (rest : List Entry)
@@ -69,11 +67,11 @@ module _ (k : Known) (s : Spot) (n max t : ℕ) (l : Label) (ks : Trees) (node :
       f offset m (count ks) rest go
 
   pub any_array_ends : {E : Type 0} (elem : TypeId) (bound : Option ℕ) (varying : Bool) → type_at k.setting.table t ≡ Some (def.Array elem bound varying)
-      → (r : Result Seen Halt) (f : Halt) → (varying ≡ false → IsOk r)
+      → (r : Result Shape Halt) (f : Halt) → (varying ≡ false → IsOk r)
       → (varying ≡ true → (offset limit actual : ℕ) (later : List Entry)
       → IsTracing k p (entry_at s n (Align 4) ∷ entry_at s n (Offset false offset) ∷ entry_at s n (Actual false offset limit actual) ∷ later) → r ≡ Err f → E) → r ≡ Err f → E
   any_array_ends elem bound true de r f whole ends e = array_ends elem bound de (ends refl) e
-  any_array_ends elem bound false de r f whole ends e = let z : IsOk (Err f) = subst IsOk e (whole refl) in cc
+  any_array_ends elem bound false de r f whole ends e = absurd (let z : false ≡ true = subst (λ (q : Result Shape Halt). IsOk q) e (whole refl) in let y : ⊥ = cc in y)
 
   pub text_ends : {E : Type 0} (elem : TypeId) (bound : Option ℕ) → type_at k.setting.table t ≡ Some (def.Text elem bound)
       → ((m : ℕ) (os : List ℕ) → label_in (home_flats k.graph s.home) n ≡ Some (tree.Text m os) → (later : List Entry)
@@ -111,73 +109,73 @@ module _ (k : Known) (s : Spot) (n max t : ℕ) (l : Label) (ks : Trees) (node :
 
   -- ## Where it goes on
 
-  module _ (names : Placed_cells) (a : Cells) (nm : IsNaming k a (names_in (own_due k s.home n t l ks) ++ names)) (p1 : Progress) (r : Result Seen Halt) where
+  module _ (names : Placed_cells) (a : Cells) (nm : IsNaming k a (names_in (own_due k s.home n t l ks) ++ names)) (p1 : Progress) (r : Result Shape Halt) where
     -- what is said, and what is due then
-    abbrev pub Comes : Cells → Seen → Type 0
-    Comes a1 seen = IsSeen l (count ks) (flat_seen seen) × (IsTracing k p1 rest × HasNamed k a a1 (own_due k s.home n t l ks) names)
+    abbrev pub Comes : Cells → Shape → Type 0
+    Comes a1 seen = IsSeen l (count ks) (flat_shape seen) × (IsTracing k p1 rest × HasNamed k a a1 (own_due k s.home n t l ks) names)
 
     pub prim_goes : (q : Primitive) → type_at k.setting.table t ≡ Some (def.Prim q) → (w : ℕ) → w ≡ width q
         → ((o : Primitive) (vs : Option (List ℤ)) (z : ℤ) (later : List Entry) → IsTracing k p (entry_at s n (Align w) ∷ entry_at s n (Num o vs z) ∷ later)
-        → IfOk r (λ seen. (flat_seen seen ≡ (tree.Num z, 0)) × IsTracing k p1 later)) → IfOk r (Comes a)
+        → IfOk r (λ seen. (flat_shape seen ≡ (tree.Num z, 0)) × IsTracing k p1 later)) → IfOk r (Comes a)
     prim_goes q de w we f =
         let (z, (le, go)) = prim_case k s.home n p rest ready t (type_at k.setting.table t) l ks tr q de in
-        IfOk-weaker r (λ seen. (flat_seen seen ≡ (tree.Num z, 0)) × IsTracing k p1 rest) (Comes a)
-        (λ seen o. num_out k s.home n t ks rest names a p1 (type_at k.setting.table t) l z q de le nm (flat_seen seen) o.0 o.1)
+        IfOk-weaker r (λ seen. (flat_shape seen ≡ (tree.Num z, 0)) × IsTracing k p1 rest) (Comes a)
+        (λ seen o. num_out k s.home n t ks rest names a p1 (type_at k.setting.table t) l z q de le nm (flat_shape seen) o.0 o.1)
         (f q None z rest (subst (λ v. IsTracing k p (entry_at s n (Align v) ∷ entry_at s n (Num q None z) ∷ rest)) (sym we) go))
 
     pub enum_goes : (values : List ℤ) → type_at k.setting.table t ≡ Some (def.Enum values)
         → ((o : Primitive) (vs : Option (List ℤ)) (z : ℤ) (later : List Entry) → IsTracing k p (entry_at s n (Align 2) ∷ entry_at s n (Num o vs z) ∷ later)
-        → IfOk r (λ seen. (flat_seen seen ≡ (tree.Num z, 0)) × IsTracing k p1 later)) → IfOk r (Comes a)
+        → IfOk r (λ seen. (flat_shape seen ≡ (tree.Num z, 0)) × IsTracing k p1 later)) → IfOk r (Comes a)
     enum_goes values de f =
         let (z, (le, go)) = enum_case k s.home n p rest ready t (type_at k.setting.table t) l ks tr values de in
-        IfOk-weaker r (λ seen. (flat_seen seen ≡ (tree.Num z, 0)) × IsTracing k p1 rest) (Comes a)
-        (λ seen o. enum_out k s.home n t ks rest names a p1 (type_at k.setting.table t) l z values de le nm (flat_seen seen) o.0 o.1) (f Short (Some values) z rest go)
+        IfOk-weaker r (λ seen. (flat_shape seen ≡ (tree.Num z, 0)) × IsTracing k p1 rest) (Comes a)
+        (λ seen o. enum_out k s.home n t ks rest names a p1 (type_at k.setting.table t) l z values de le nm (flat_shape seen) o.0 o.1) (f Short (Some values) z rest go)
 
     pub struct_goes : (members : List Field) → type_at k.setting.table t ≡ Some (def.Struct members) → (w : ℕ) → w ≡ align_of k.setting.table t
-        → ((later : List Entry) → IsTracing k p (entry_at s n (Align w) ∷ later) → IfOk r (λ seen. ((flat_seen seen).0 ≡ tree.Rec) × IsTracing k p1 later)) → IfOk r (Comes a)
+        → ((later : List Entry) → IsTracing k p (entry_at s n (Align w) ∷ later) → IfOk r (λ seen. ((flat_shape seen).0 ≡ tree.Rec) × IsTracing k p1 later)) → IfOk r (Comes a)
     struct_goes members de w we f =
         let (le, go) = struct_case k s.home n p rest ready t (type_at k.setting.table t) l ks tr members de in
-        IfOk-weaker r (λ seen. ((flat_seen seen).0 ≡ tree.Rec) × IsTracing k p1 rest) (Comes a)
-        (λ seen o. struct_out k s.home n t ks rest names a p1 (type_at k.setting.table t) l members de le nm (flat_seen seen) o.0 o.1)
+        IfOk-weaker r (λ seen. ((flat_shape seen).0 ≡ tree.Rec) × IsTracing k p1 rest) (Comes a)
+        (λ seen o. struct_out k s.home n t ks rest names a p1 (type_at k.setting.table t) l members de le nm (flat_shape seen) o.0 o.1)
         (f rest (subst (λ v. IsTracing k p (entry_at s n (Align v) ∷ rest)) (sym we) go))
 
     pub text_goes : (elem : TypeId) (bound : Option ℕ) → type_at k.setting.table t ≡ Some (def.Text elem bound)
         → ((m : ℕ) (os : List ℕ) → label_in (home_flats k.graph s.home) n ≡ Some (tree.Text m os) → (later : List Entry)
         → IsTracing k p (entry_at s n (Align 4) ∷ entry_at s n (Offset true 0) ∷ entry_at s n (Actual true 0 m (length os + 1)) ∷ entry_at s n (Text os) ∷ later)
-        → IfOk r (λ seen. (flat_seen seen ≡ (tree.Ptr None, 0)) × IsTracing k p1 later)) → IfOk r (Comes a)
+        → IfOk r (λ seen. (flat_shape seen ≡ (tree.Ptr None, 0)) × IsTracing k p1 later)) → IfOk r (Comes a)
     text_goes elem bound de f =
         let (m, (os, (le, go))) = text_case k s.home n p rest ready t (type_at k.setting.table t) l ks tr elem bound de in
-        IfOk-weaker r (λ seen. (flat_seen seen ≡ (tree.Ptr None, 0)) × IsTracing k p1 rest) (Comes a)
-        (λ seen o. text_out k s.home n t ks rest names a p1 (type_at k.setting.table t) l elem bound m os de le nm (flat_seen seen) o.0 o.1)
+        IfOk-weaker r (λ seen. (flat_shape seen ≡ (tree.Ptr None, 0)) × IsTracing k p1 rest) (Comes a)
+        (λ seen o. text_out k s.home n t ks rest names a p1 (type_at k.setting.table t) l elem bound m os de le nm (flat_shape seen) o.0 o.1)
         (f m os (node.label_is ∙ ap (λ x. Some x) le) rest go)
 
     pub union_goes : (tag : TypeId) (enc : Bool) (arms : List Arm) (default : Option Arm) → type_at k.setting.table t ≡ Some (def.Union tag enc arms default)
         → (w : ℕ) → w ≡ width_by (type_at k.setting.table tag.0)
         → ((o : Primitive) (vs : Option (List ℤ)) (z : ℤ) (later : List Entry) → IsTracing k p (entry_at s n (Align w) ∷ entry_at s n (Tag o vs arms default z) ∷ later)
-        → IfOk r (λ seen. (flat_seen seen ≡ (tree.Union z, length (selected_types (selected arms default z)))) × IsTracing k p1 later)) → IfOk r (Comes a)
+        → IfOk r (λ seen. (flat_shape seen ≡ (tree.Union z, length (selected_types (selected arms default z)))) × IsTracing k p1 later)) → IfOk r (Comes a)
     union_goes tag enc arms default de w we f =
         let (z, (le, (q, (vs, go)))) = union_case k s.home n p rest ready t (type_at k.setting.table t) l ks tr tag enc arms default de in
         let not : l ≡ tree.Unread → ⊥ = λ e. (let x : tree.Union z ≡ tree.Unread = sym le ∙ e in cc) in
         let read = read_of k max t l ks node.own not in
-        IfOk-weaker r (λ seen. (flat_seen seen ≡ (tree.Union z, length (selected_types (selected arms default z)))) × IsTracing k p1 rest) (Comes a)
-        (λ seen o. union_out k s.home n t ks rest names a p1 (type_at k.setting.table t) l tag enc arms default z de le read.children nm (flat_seen seen) o.0 o.1)
+        IfOk-weaker r (λ seen. (flat_shape seen ≡ (tree.Union z, length (selected_types (selected arms default z)))) × IsTracing k p1 rest) (Comes a)
+        (λ seen o. union_out k s.home n t ks rest names a p1 (type_at k.setting.table t) l tag enc arms default z de le read.children nm (flat_shape seen) o.0 o.1)
         (f q vs z rest (subst (λ v. IsTracing k p (entry_at s n (Align v) ∷ entry_at s n (Tag q vs arms default z) ∷ rest)) (sym we) go))
 
     pub context_goes : type_at k.setting.table t ≡ Some def.Context
         → ((b : ℕ) (id : List ℕ) → label_in (home_flats k.graph s.home) n ≡ Some (tree.Context b id) → (later : List Entry)
         → IsTracing k p (entry_at s n (Align 4) ∷ entry_at s n (Context b id) ∷ later)
-        → IfOk r (λ seen. (flat_seen seen ≡ (tree.Ptr None, 0)) × IsTracing k p1 later)) → IfOk r (Comes a)
+        → IfOk r (λ seen. (flat_shape seen ≡ (tree.Ptr None, 0)) × IsTracing k p1 later)) → IfOk r (Comes a)
     context_goes de f =
         let (b, (id, (le, go))) = context_case k s.home n p rest ready t (type_at k.setting.table t) l ks tr de in
-        IfOk-weaker r (λ seen. (flat_seen seen ≡ (tree.Ptr None, 0)) × IsTracing k p1 rest) (Comes a)
-        (λ seen o. context_out k s.home n t ks rest names a p1 (type_at k.setting.table t) l b id de le nm (flat_seen seen) o.0 o.1)
+        IfOk-weaker r (λ seen. (flat_shape seen ≡ (tree.Ptr None, 0)) × IsTracing k p1 rest) (Comes a)
+        (λ seen o. context_out k s.home n t ks rest names a p1 (type_at k.setting.table t) l b id de le nm (flat_shape seen) o.0 o.1)
         (f b id (node.label_is ∙ ap (λ x. Some x) le) rest go)
 
     pub pointer_goes : (class : Class) (to : TypeId) → type_at k.setting.table t ≡ Some (def.Pointer class to) → (a1 : Cells)
         → ((c : Option ℕ) → IsFine k.graph class to.0 c → (later : List Entry)
         → IsTracing k p (entry_at s n (Align 4) ∷ entry_at s n (Number class to.0 c) ∷ later) → (others : Placed_cells)
         → IsNaming k a (named_by (Number class to.0 c) ++ others)
-        → IfOk r (λ seen. (flat_seen seen ≡ (tree.Ptr c, 0)) × (IsTracing k p1 later × HasNamed k a a1 (entry_at s n (Number class to.0 c) ∷ []) others))) → IfOk r (Comes a1)
+        → IfOk r (λ seen. (flat_shape seen ≡ (tree.Ptr c, 0)) × (IsTracing k p1 later × HasNamed k a a1 (entry_at s n (Number class to.0 c) ∷ []) others))) → IfOk r (Comes a1)
     pointer_goes class to de a1 f =
         let (c, (le, go)) = pointer_case k s.home n p rest ready t (type_at k.setting.table t) l ks tr class to de in
         let not : l ≡ tree.Unread → ⊥ = λ e. (let x : tree.Ptr c ≡ tree.Unread = sym le ∙ e in cc) in
@@ -185,8 +183,8 @@ module _ (k : Known) (s : Spot) (n max t : ℕ) (l : Label) (ks : Trees) (node :
         let fine =
         fine_pointer k.graph class to c (ap₂ is_no_null_ref (sym de) (sym le) ∙ read.no_null) (ap (names_cell k.graph) (sym le) ∙ read.cell)
         (ap₂ (names_pointee k.graph) (sym de) (sym le) ∙ read.pointee) in
-        IfOk-weaker r (λ seen. (flat_seen seen ≡ (tree.Ptr c, 0)) × (IsTracing k p1 rest × HasNamed k a a1 (entry_at s n (Number class to.0 c) ∷ []) names)) (Comes a1)
-        (λ seen o. pointer_out k s.home n t ks rest names a p1 (type_at k.setting.table t) l class to c de le a1 (flat_seen seen) o.0 o.1.0 o.1.1)
+        IfOk-weaker r (λ seen. (flat_shape seen ≡ (tree.Ptr c, 0)) × (IsTracing k p1 rest × HasNamed k a a1 (entry_at s n (Number class to.0 c) ∷ []) names)) (Comes a1)
+        (λ seen o. pointer_out k s.home n t ks rest names a p1 (type_at k.setting.table t) l class to c de le a1 (flat_shape seen) o.0 o.1.0 o.1.1)
         (f c fine rest go names (pointer_named k s.home n t ks rest names a p1 (type_at k.setting.table t) l class to c de le nm))
 
     -- of an array, whose limit is the maximum count
@@ -196,7 +194,7 @@ module _ (k : Known) (s : Spot) (n max t : ℕ) (l : Label) (ks : Trees) (node :
     array_by elem bound varying de m offset le limit is legal counts bounded =
         is_bound_of bound max m limit bounded
         (λ none.
-        let own = node.own.max_is (legal ∙ ap (hoists_by (hoists k.setting.table)) de ∙ none) in
+        let own = node.own.max_is (legal ∙ ap (hoists_by (hoists k.setting.table)) (de ∙ ap (λ b. Some (def.Array elem b varying)) none)) in
         ap (λ x. own_max x max) (sym le) ∙ own) is
 
     read_counts : (elem : TypeId) (bound : Option ℕ) (varying : Bool) → type_at k.setting.table t ≡ Some (def.Array elem bound varying) → (m offset : ℕ) → l ≡ tree.Arr m offset
@@ -209,20 +207,20 @@ module _ (k : Known) (s : Spot) (n max t : ℕ) (l : Label) (ks : Trees) (node :
         → hoists k.setting.table t ≡ hoists_by (hoists k.setting.table) (type_at k.setting.table t)
         → ((offset most actual : ℕ) (later : List Entry)
         → IsTracing k p (entry_at s n (Align 4) ∷ entry_at s n (Offset false offset) ∷ entry_at s n (Actual false offset most actual) ∷ later)
-        → IfOk r (λ seen. (flat_seen seen ≡ (tree.Arr limit offset, actual)) × IsTracing k p1 later)) → IfOk r (Comes a)
+        → IfOk r (λ seen. (flat_shape seen ≡ (tree.Arr limit offset, actual)) × IsTracing k p1 later)) → IfOk r (Comes a)
     array_goes elem bound de limit is legal f =
         let (m, (offset, (le, go))) = array_case k s.home n p rest ready t (type_at k.setting.table t) l ks tr elem bound true de in
         let counts = read_counts elem bound true de m offset le in
         let same : limit ≡ m = array_by elem bound true de m offset le limit is legal counts counts in
-        IfOk-weaker r (λ seen. (flat_seen seen ≡ (tree.Arr limit offset, count ks)) × IsTracing k p1 rest) (Comes a)
+        IfOk-weaker r (λ seen. (flat_shape seen ≡ (tree.Arr limit offset, count ks)) × IsTracing k p1 rest) (Comes a)
         (λ seen o.
-        array_out k s.home n t ks rest names a p1 (type_at k.setting.table t) l elem bound true m offset de le nm (flat_seen seen)
+        array_out k s.home n t ks rest names a p1 (type_at k.setting.table t) l elem bound true m offset de le nm (flat_shape seen)
         (o.0 ∙ ap (λ x. (tree.Arr x offset, count ks)) same) o.1)
         (f offset m (count ks) rest go)
 
     pub fixed_goes : (elem : TypeId) (bound : Option ℕ) → type_at k.setting.table t ≡ Some (def.Array elem bound false) → (limit : ℕ) → limit ≡ unwrap_or bound max
         → hoists k.setting.table t ≡ hoists_by (hoists k.setting.table) (type_at k.setting.table t)
-        → IfOk r (λ seen. (flat_seen seen ≡ (tree.Arr limit 0, limit)) × (p1 ≡ p)) → IfOk r (Comes a)
+        → IfOk r (λ seen. (flat_shape seen ≡ (tree.Arr limit 0, limit)) × (p1 ≡ p)) → IfOk r (Comes a)
     fixed_goes elem bound de limit is legal f =
         let (m, (offset, (le, go))) = array_case k s.home n p rest ready t (type_at k.setting.table t) l ks tr elem bound false de in
         let counts = read_counts elem bound false de m offset le in
@@ -231,22 +229,22 @@ module _ (k : Known) (s : Spot) (n max t : ℕ) (l : Label) (ks : Trees) (node :
         let same : limit ≡ m = array_by elem bound false de m offset le limit is legal counts bounded in
         let no_offset : offset ≡ 0 = eqb-true offset 0 none in
         let all : count ks ≡ m = eqb-true (count ks) m whole in
-        IfOk-weaker r (λ seen. (flat_seen seen ≡ (tree.Arr limit 0, limit)) × (p1 ≡ p)) (Comes a)
+        IfOk-weaker r (λ seen. (flat_shape seen ≡ (tree.Arr limit 0, limit)) × (p1 ≡ p)) (Comes a)
         (λ seen o.
-        array_out k s.home n t ks rest names a p1 (type_at k.setting.table t) l elem bound false m offset de le nm (flat_seen seen)
+        array_out k s.home n t ks rest names a p1 (type_at k.setting.table t) l elem bound false m offset de le nm (flat_shape seen)
         (o.0 ∙ ap₂ (λ x y. (tree.Arr x 0, y)) same (same ∙ sym all) ∙ ap (λ x. (tree.Arr m x, count ks)) (sym no_offset))
         (subst (λ q. IsTracing k q rest) (sym o.1) go))
         f
 
     pub any_array_goes : (elem : TypeId) (bound : Option ℕ) (varying : Bool) → type_at k.setting.table t ≡ Some (def.Array elem bound varying) → (limit : ℕ)
         → limit ≡ unwrap_or bound max → hoists k.setting.table t ≡ hoists_by (hoists k.setting.table) (type_at k.setting.table t)
-        → (varying ≡ false → IfOk r (λ seen. (flat_seen seen ≡ (tree.Arr limit 0, limit)) × (p1 ≡ p)))
+        → (varying ≡ false → IfOk r (λ seen. (flat_shape seen ≡ (tree.Arr limit 0, limit)) × (p1 ≡ p)))
         → (varying ≡ true → (offset most actual : ℕ) (later : List Entry)
         → IsTracing k p (entry_at s n (Align 4) ∷ entry_at s n (Offset false offset) ∷ entry_at s n (Actual false offset most actual) ∷ later)
-        → IfOk r (λ seen. (flat_seen seen ≡ (tree.Arr limit offset, actual)) × IsTracing k p1 later)) → IfOk r (Comes a)
+        → IfOk r (λ seen. (flat_shape seen ≡ (tree.Arr limit offset, actual)) × IsTracing k p1 later)) → IfOk r (Comes a)
     any_array_goes elem bound true de limit is legal fixed goes = array_goes elem bound de limit is legal (goes refl)
     any_array_goes elem bound false de limit is legal fixed goes = fixed_goes elem bound de limit is legal (fixed refl)
 
 -- where no pointer became pending
-pub paid_same : (p p1 : Progress) (a : Cells) (r : Result Seen Halt) → IfOk r (λ _. p.next ≤ p1.next) → IfOk r (λ _. HavePaid p a p1 a)
+pub paid_same : (p p1 : Progress) (a : Cells) (r : Result Shape Halt) → IfOk r (λ _. p.next ≤ p1.next) → IfOk r (λ _. HavePaid p a p1 a)
 paid_same p p1 a r f = IfOk-weaker r (λ _. p.next ≤ p1.next) (λ _. HavePaid p a p1 a) (λ x le. (le, omega (arith, le))) f

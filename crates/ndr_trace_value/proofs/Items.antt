@@ -3,7 +3,7 @@
 use Rattle.std.proofs.Common.{◌≡◌, ◌∙◌, ℕ, ◌+◌, ◌-◌, ◌^◌, ◌<◌, ◌≤◌, zero, suc, ℤ, Bool, true, false, List, [], ◌∷◌, ◌++◌, drop, length, take, Option, Some, None, codes, refl, sym, ap, ap₂, subst, append_assoc, arith}
 use Rattle.std.proofs.Common.{◌%◌, length-append, reverse}
 use Rattle.std.proofs.Math.Nat.{mod-eq_of_lt, mod-lt, mod_self}
-use Rattle.std.specs.Prelude.{IsSome, pos}
+use Rattle.std.specs.Prelude.{IsSome, option_map, pos}
 use Rattle.std.specs.List.{AllByRecursion, slice_get}
 use Rattle.nd_base.specs.declared.octets.Order.{Order}
 use Rattle.nd_base.specs.declared.octets.Order.TheVariants.{Big, Little}
@@ -37,8 +37,8 @@ use Rattle.ndr_trace_value.specs.declared.progress.Progress.{Progress}
 use Rattle.ndr_trace_value.specs.declared.progress.Spot.{Spot}
 use Rattle.ndr_trace_value.specs.declared.search.Sought.{Sought}
 use Rattle.ndr_trace_value.specs.Traces.{entry_path}
-use Rattle.ndr_trace_value.specs.Tracing.{HasLabel, Holds, HoldsCount, IsCount, IsCounted, IsEnded, IsGround, IsItem, IsShown, IsSpot, IsTracing, Known, entry_at}
-use Rattle.ndr_trace_value.proofs.Passing.{gap_passed, item_ended, item_passed, next_item, placed}
+use Rattle.ndr_trace_value.specs.Tracing.{HasLabel, Holds, HoldsCount, IsCount, IsCounted, IsEnded, IsGround, IsItem, IsShown, IsSpot, IsTracing, Known, either_path, entry_at, is_sought, item_path, kept, kept_by}
+use Rattle.ndr_trace_value.proofs.Passing.{gap_passed, item_ended, item_passed, kept_next, kept_on, next_item, placed}
 
 -- ## Kinds
 
@@ -306,9 +306,11 @@ module _ (k : Known) (u : Ground) (ground : IsGround k u) where
       → IsTracing k p (entry_at s n x ∷ rest) → (i : Item) → slice_get u.items.now.items p.next ≡ Some i → (t1 t2 t3 t4 t5 t6 : List ℕ)
       → t1 ≡ p.lines ++ item_head i → t2 ≡ t1 ++ codes " " → t3 ≡ path_to (t2 ++ name_text s.name) (s.top ∷ reverse s.below.now.items)
       → t4 ≡ t3 ++ codes " " → ((l : Option Label) → IsShown u i i.kind l → t5 ≡ t4 ++ value_shown i.kind l i.value) → t6 ≡ t5 ++ codes "\n"
-      → p1.lines ≡ t6 → p1.next ≡ p.next + 1 → p1.at ≡ i.at + i.len → p1.path ≡ p.path → IsTracing k p1 rest × Holds k x i.value
+      → p1.lines ≡ t6 → p1.next ≡ p.next + 1 → p1.at ≡ i.at + i.len
+      → p1.path ≡ either_path (is_sought u.sought p.next) (path_to (p.path ++ name_text s.name) (s.top ∷ reverse s.below.now.items)) p.path
+      → IsTracing k p1 rest × Holds k x i.value
   item_goes s n spot x item label rest p p1 t i got t1 t2 t3 t4 t5 t6 e1 e2 e3 e4 e5 e6 lines next at path = (
-    item_passed k p p1 (entry_at s n x) rest z i one t there next at path line,
+    item_passed k p p1 (entry_at s n x) rest z i one t there next at (kept_next k p.next i there u.sought ground.sought_is p.path p1.path _ t.path its_path path) line,
     subst (Holds k x) (sym value) (holds k p.at x item ground.are_octets one.rendered.0 one.rendered.1),
   )
     where
@@ -341,6 +343,11 @@ module _ (k : Known) (u : Ground) (ground : IsGround k u) where
           subst (λ l. IsShown u i i.kind l) same_label
           (shown x s n p.at i item label one.rendered.0 one.rendered.1 (ap (λ (y : Item). y.at) one.is_item) (ap (λ (y : Item). y.len) one.is_item) kind)
 
+      its_path : p.path ≡ [] → path_to (p.path ++ name_text s.name) (s.top ∷ reverse s.below.now.items) ≡ item_path k (Some i)
+      its_path empty =
+          ap (λ q. path_to (q ++ name_text s.name) (s.top ∷ reverse s.below.now.items)) empty ∙ spot
+          ∙ ap₂ (λ (h : Home) (m : ℕ). path_in (home_paths k.setting k.graph h) m) (sym home) (sym node)
+
       path_shown : t3 ≡ t2 ++ path_in (home_paths k.setting k.graph i.home) i.node
       path_shown =
           e3 ∙ steps_after t2 (name_text s.name) (s.top ∷ reverse s.below.now.items)
@@ -360,7 +367,7 @@ module _ (k : Known) (u : Ground) (ground : IsGround k u) where
       → (i : Item) → slice_get u.items.now.items p.next ≡ Some i → (t1 t2 : List ℕ) → t1 ≡ p.lines ++ item_head i → t2 ≡ t1 ++ codes "\n"
       → p1.lines ≡ t2 → p1.next ≡ p.next + 1 → p1.at ≡ i.at + i.len → p1.path ≡ p.path → IsTracing k p1 rest
   gap_goes s n align rest p p1 some t i got t1 t2 e1 e2 lines next at path =
-      item_passed k p p1 (entry_at s n (Align align)) rest (item.Gap, pos 0) i one t there next at path line
+      item_passed k p p1 (entry_at s n (Align align)) rest (item.Gap, pos 0) i one t there next at (path ∙ t.path ∙ kept_on k p.next another) line
     where
       there : slice_get k.log p.next ≡ Some i
       there = ap (λ xs. slice_get xs p.next) (sym ground.items) ∙ got
@@ -368,6 +375,9 @@ module _ (k : Known) (u : Ground) (ground : IsGround k u) where
       one : Took k.order k.fetched k.numbering k.here (placed k p (entry_at s n (Align align))) (end_to_end (p.at + gap p.at align) rest) (item.Gap, pos 0) i
           (drop (p.next + 1) k.log)
       one = next_item k p (entry_at s n (Align align)) rest (item.Gap, pos 0) i (λ r. gap_item k.order k.fetched p.at align some r.0) t there
+
+      another : k.sought ≡ Some p.next → ⊥
+      another e = ground.no_gap p.next e i there (ap (λ (y : Item). y.kind) one.is_item)
 
       line : p1.lines ≡ p.lines ++ item_line k.setting k.graph i
       line =
@@ -388,24 +398,31 @@ module _ (k : Known) (u : Ground) (ground : IsGround k u) where
       go None e = e
       go (Some x) e = absurd (h (g.sought (subst IsSome (sym e) refl)))
 
-  path_ended : (s : Spot) (n : ℕ) (m : Entry) → IsSpot k s n → m.home ≡ s.home → m.node ≡ n → (p p1 : Progress) → p.path ≡ []
+  -- where none is sought none was passed
+  never_kept : (p : Progress) → p.path ≡ kept k p.next → u.sought ≡ None → p.path ≡ []
+  never_kept p e none = e ∙ ap (λ o. kept_by k o p.next) (sym ground.sought_is ∙ ap (option_map (λ (x : Sought). x.item)) none)
+
+  path_ended : (s : Spot) (n : ℕ) (m : Entry) → IsSpot k s n → m.home ≡ s.home → m.node ≡ n → (p p1 : Progress) → p.path ≡ kept k p.next
       → (u.sought ≡ None → p1.path ≡ path_to (p.path ++ name_text s.name) (s.top ∷ reverse s.below.now.items))
       → (is_test k.here.entry.kind ≡ true → ⊥) → p1.path ≡ entry_path k.setting k.graph m
-  path_ended s n m spot home node p p1 empty path none =
-      path (none_sought ground none) ∙ ap (λ q. path_to (q ++ name_text s.name) (s.top ∷ reverse s.below.now.items)) empty ∙ spot
+  path_ended s n m spot home node p p1 so_far path none =
+      path (none_sought ground none)
+      ∙ ap (λ q. path_to (q ++ name_text s.name) (s.top ∷ reverse s.below.now.items)) (never_kept p so_far (none_sought ground none)) ∙ spot
       ∙ ap₂ (λ (h : Home) (j : ℕ). path_in (home_paths k.setting k.graph h) j) (sym home) (sym node)
 
   -- no item is left at an entry that is one
   pub item_ends : (s : Spot) (n : ℕ) → IsSpot k s n → (x : Kind) → IsItem x → (rest : List Entry) (p p1 : Progress)
       → IsTracing k p (entry_at s n x ∷ rest) → length u.items.now.items ≤ p.next → p1.lines ≡ p.lines
-      → (u.sought ≡ None → p1.path ≡ path_to (p.path ++ name_text s.name) (s.top ∷ reverse s.below.now.items)) → IsEnded k p1
-  item_ends s n spot x item rest p p1 t over lines path =
+      → (u.sought ≡ None → p1.path ≡ path_to (p.path ++ name_text s.name) (s.top ∷ reverse s.below.now.items)) → (IsSome u.sought → p1.path ≡ p.path)
+      → IsEnded k p1
+  item_ends s n spot x item rest p p1 t over lines path same =
       item_ended k p p1 (entry_at s n x) rest (item_as k.order x (piece k.fetched p.at x)) (λ r. is_as k.order x (piece k.fetched p.at x) item) t
-      (subst (λ xs. length xs ≤ p.next) ground.items over) lines (path_ended s n (entry_at s n x) spot refl refl p p1 t.no_path path)
+      (subst (λ xs. length xs ≤ p.next) ground.items over) lines (path_ended s n (entry_at s n x) spot refl refl p p1 t.path path) (λ e. same (ground.seeks e))
 
   pub gap_ends : (s : Spot) (n : ℕ) → IsSpot k s n → (align : ℕ) (rest : List Entry) (p p1 : Progress) → 0 < gap p.at align
       → IsTracing k p (entry_at s n (Align align) ∷ rest) → length u.items.now.items ≤ p.next → p1.lines ≡ p.lines
-      → (u.sought ≡ None → p1.path ≡ path_to (p.path ++ name_text s.name) (s.top ∷ reverse s.below.now.items)) → IsEnded k p1
-  gap_ends s n spot align rest p p1 some t over lines path =
+      → (u.sought ≡ None → p1.path ≡ path_to (p.path ++ name_text s.name) (s.top ∷ reverse s.below.now.items)) → (IsSome u.sought → p1.path ≡ p.path)
+      → IsEnded k p1
+  gap_ends s n spot align rest p p1 some t over lines path same =
       item_ended k p p1 (entry_at s n (Align align)) rest (item.Gap, pos 0) (λ r. gap_item k.order k.fetched p.at align some r.0) t
-      (subst (λ xs. length xs ≤ p.next) ground.items over) lines (path_ended s n (entry_at s n (Align align)) spot refl refl p p1 t.no_path path)
+      (subst (λ xs. length xs ≤ p.next) ground.items over) lines (path_ended s n (entry_at s n (Align align)) spot refl refl p p1 t.path path) (λ e. same (ground.seeks e))

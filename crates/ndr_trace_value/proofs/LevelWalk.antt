@@ -8,6 +8,7 @@ use Rattle.std.specs.List.{slice_get}
 use Rattle.std.proofs.lemmas.Grind.{flat_map-append}
 use Rattle.nd_lemmas.proofs.Lists.{get_in_front}
 use Rattle.nd_types.specs.declared.types.TypeDef.{TypeDef}
+use Rattle.nd_types.specs.declared.types.TypeDef.TheVariants as def
 use Rattle.nd_types.specs.Table.{Table, type_at}
 use Rattle.nd_value.specs.declared.item.Home.{Home}
 use Rattle.nd_value.specs.Deferral.{Placed_cells}
@@ -25,7 +26,7 @@ use Rattle.ndr_explain.specs.Cursors.{AreLevelsOf, HasChild, IsChildLevel, IsLev
 use Rattle.ndr_explain.proofs.LevelPaths.{path_first}
 use Rattle.ndr_explain.proofs.Walks.{ComesAfter, after_step, path_here, path_later}
 use Rattle.ndr_trace_laws.proofs.Nodes.{after_own}
-use Rattle.ndr_trace_value.proofs.Passing.{all_lines}
+use Rattle.ndr_trace_value.proofs.Passing.{all_lines, kept_all}
 use Rattle.ndr_trace_value.specs.declared.cells.Cells.{Cells}
 use Rattle.ndr_trace_value.specs.declared.cells.Pending.{Pending}
 use Rattle.ndr_trace_value.specs.declared.nodes.Walker.{Walker}
@@ -40,26 +41,50 @@ use Rattle.ndr_trace_value.specs.Walking.{AreOwn, AreThere, ComesTo, GoesOn, Hav
 
 leaf_types : (d : Option TypeDef) (c : Option ℕ) (ks : Trees) → child_types d (tree.Ptr c) ks ≡ []
 leaf_types None c ks = refl
+leaf_types (Some (def.Struct ms)) c ks = refl
+leaf_types (Some (def.Array e b v)) c ks = refl
+leaf_types (Some (def.Union tag enc arms default)) c ks = refl
+leaf_types (Some (def.Pipe e)) c ks = refl
 leaf_types (Some _) c ks = refl
 
 num_types : (d : Option TypeDef) (z : ℤ) (ks : Trees) → child_types d (tree.Num z) ks ≡ []
 num_types None z ks = refl
+num_types (Some (def.Struct ms)) z ks = refl
+num_types (Some (def.Array e b v)) z ks = refl
+num_types (Some (def.Union tag enc arms default)) z ks = refl
+num_types (Some (def.Pipe e)) z ks = refl
 num_types (Some _) z ks = refl
 
 text_types : (d : Option TypeDef) (max : ℕ) (os : List ℕ) (ks : Trees) → child_types d (tree.Text max os) ks ≡ []
 text_types None max os ks = refl
+text_types (Some (def.Struct ms)) max os ks = refl
+text_types (Some (def.Array e b v)) max os ks = refl
+text_types (Some (def.Union tag enc arms default)) max os ks = refl
+text_types (Some (def.Pipe e)) max os ks = refl
 text_types (Some _) max os ks = refl
 
 context_types : (d : Option TypeDef) (a : ℕ) (id : List ℕ) (ks : Trees) → child_types d (tree.Context a id) ks ≡ []
 context_types None a id ks = refl
+context_types (Some (def.Struct ms)) a id ks = refl
+context_types (Some (def.Array e b v)) a id ks = refl
+context_types (Some (def.Union tag enc arms default)) a id ks = refl
+context_types (Some (def.Pipe e)) a id ks = refl
 context_types (Some _) a id ks = refl
 
 rec_types : (d : Option TypeDef) (ks js : Trees) → child_types d tree.Rec ks ≡ child_types d tree.Rec js
 rec_types None ks js = refl
+rec_types (Some (def.Struct ms)) ks js = refl
+rec_types (Some (def.Array e b v)) ks js = refl
+rec_types (Some (def.Union tag enc arms default)) ks js = refl
+rec_types (Some (def.Pipe e)) ks js = refl
 rec_types (Some _) ks js = refl
 
 rec_paths : (d : Option TypeDef) (p : List ℕ) (ks js : Trees) → child_paths d tree.Rec p ks ≡ child_paths d tree.Rec p js
 rec_paths None p ks js = refl
+rec_paths (Some (def.Struct ms)) p ks js = refl
+rec_paths (Some (def.Array e b v)) p ks js = refl
+rec_paths (Some (def.Union tag enc arms default)) p ks js = refl
+rec_paths (Some (def.Pipe e)) p ks js = refl
 rec_paths (Some _) p ks js = refl
 
 no_level : (types : List ℕ) (ways : List ℕ → List (List ℕ)) (types1 : List ℕ) (ways1 : List ℕ → List (List ℕ)) (r : Option Level) → types ≡ [] → types1 ≡ []
@@ -67,7 +92,7 @@ no_level : (types : List ℕ) (ways : List ℕ → List (List ℕ)) (types1 : Li
 no_level types ways types1 ways1 None e e1 h = e1
 no_level types ways types1 ways1 (Some L) e e1 h = let z = ap length (h.0.1 ∙ e) in let p = h.0.0 in absurd (omega (arith, z, p))
 
-trees_of : ℕ → Trees
+abbrev trees_of : ℕ → Trees
 trees_of zero = none
 trees_of (suc n) = more (node tree.Unread none) (trees_of n)
 
@@ -125,7 +150,7 @@ module _ (k : Known) (max : ℕ) where
   own_joined [] T none us e a b = b
   own_joined [] T (more v ks) us e a b = cc
   own_joined (t ∷ types) T none us e a b = cc
-  own_joined (t ∷ types) T (more (node l js) ks) us e a b = (a.0, (a.1.0, own_joined types T ks us (omega (arith, e)) a.1.1 b))
+  own_joined (t ∷ types) T (more (node l js) ks) us e a b = (a.0, a.1, own_joined types T ks us (omega (arith, e)) a.2 b)
 
 pub nodes_joined : (ks us : Trees) → node_count (joined ks us) ≡ node_count ks + node_count us
 nodes_joined none us = omega arith
@@ -215,7 +240,7 @@ module _ (k : Known) (h : Home) (max : ℕ) (name : List ℕ) (L : Level) (Ls : 
     own_after : AreOwn k max (inner_types inner ++ types_after (L ∷ Ls)) (joined ks us)
     own_after =
         subst (λ ts. AreOwn k max (ts ++ types_after (L ∷ Ls)) (joined ks us)) (sym same_types)
-        (own_joined k max (child_types (type_at k.setting.table t) l ks) (types_after (L ∷ Ls)) ks us begins.0.0 own.1.0 own.1.1)
+        (own_joined k max (child_types (type_at k.setting.table t) l ks) (types_after (L ∷ Ls)) ks us begins.0.0 own.1 own.2)
 
     -- what comes after it is there
     pub there_after : AreThere k h max (inner_types inner ++ types_after (L ∷ Ls)) (inner_paths (path_to name (L ∷ Ls)) inner ++ paths_after name (L ∷ Ls)) (n + 1)
@@ -397,7 +422,7 @@ pub ended_there : (k : Known) (u : Ground) → IsGround k u → (p p1 : Progress
     → IsSome u.sought × (length u.items.now.items ≤ p.next) → IsEnded k p1
 ended_there k u g p p1 ms e t over = record {
   lines = ap (λ (q : Progress). q.lines) e ∙ all_lines k p.next p.lines (subst (λ xs. length xs ≤ p.next) g.items over.1) t.lines;
-  path = inl (g.sought over.0);
+  path = inl (g.sought over.0, ap (λ (q : Progress). q.path) e ∙ kept_all k p ms t (subst (λ xs. length xs ≤ p.next) g.items over.1));
 }
 
 pub named_around : (k : Known) (a a1 a2 a3 : Cells) (due : List Entry) (names : Placed_cells) → a1 ≡ a → a3 ≡ a2 → HasNamed k a1 a2 due names → HasNamed k a a3 due names

@@ -1,3 +1,4 @@
+pub mod Alignments
 pub mod ByType
 pub mod Ending
 pub mod Items

@@ -2,8 +2,7 @@
 -- `k` are the octets with the partial graph in which they are refused, `h` is a home, `n` a node's number, `t` its type's number, `d` the type, `l` its
 -- label, `ks` are its children, `rest` are the entries after its own.
 use Rattle.std.proofs.Common.{◌≡◌, ◌⊎◌, inl, inr, ◌∙◌, ℕ, zero, suc, ◌+◌, ◌<◌, ℤ, Bool, true, false, List, [], ◌∷◌, ◌++◌, drop, length, Option, Some, None, refl, sym, ap, ap₂, subst, append-nil, arith}
-use Rattle.std.specs.Prelude.{◌&&◌, eqb, is_none, leb, not, option_map}
-use Rattle.core.specs.Option.{unwrap_or}
+use Rattle.std.specs.Prelude.{◌&&◌, eqb, leb, not, option_map, unwrap_or}
 use Rattle.nd_value.specs.declared.value.CellId.{CellId}
 use Rattle.nd_value.specs.Seen.{cell_number}
 use Rattle.std.specs.List.{slice_get}
@@ -396,6 +395,6 @@ read_of k max t l ks own not = by_kind (read_node k.setting.table k.graph (recor
     by_kind (inl u) = absurd (not u)
     by_kind (inr r) = r
 
-is_bound_of : (bound : Option ℕ) (max m limit : ℕ) → is_bound bound m ≡ true → (is_none bound ≡ true → m ≡ max) → limit ≡ unwrap_or bound max → limit ≡ m
+is_bound_of : (bound : Option ℕ) (max m limit : ℕ) → is_bound bound m ≡ true → (bound ≡ None → m ≡ max) → limit ≡ unwrap_or bound max → limit ≡ m
 is_bound_of None max m limit b e f = f ∙ sym (e refl)
 is_bound_of (Some c) max m limit b e f = f ∙ sym (eqb-true m c b)

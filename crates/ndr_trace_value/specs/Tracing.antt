@@ -1,7 +1,9 @@
 -- What a walk over the items of a log comes to.
 -- `k` are the octets with the partial graph in which they are refused, `u` what the walk is given, `p` how far it came, `s` where a node is, `ms`
 -- are the entries that are due, agreements apart.
-use Rattle.std.specs.Prelude.{◌≡◌, ◌⊎◌, ◌<◌, ◌≤◌, ◌+◌, ◌-◌, ◌^◌, ℕ, ℤ, pos, true, List, [], ◌∷◌, ◌++◌, drop, length, reverse, take, IsSome, Option, Some}
+use Rattle.std.specs.Prelude.{◌≡◌, ◌⊎◌, ◌<◌, ◌≤◌, ◌+◌, ◌-◌, ◌^◌, ℕ, ℤ, pos, Bool, true, false, List, [], ◌∷◌, ◌++◌, drop, length, reverse, take, IsSome, Option, None, Some}
+use Rattle.std.specs.Prelude.{eqb, ltb, option_map}
+use Rattle.std.specs.List.{slice_get}
 use Rattle.nd_base.specs.declared.octets.Order.{Order}
 use Rattle.nd_types.specs.Number.{AreOctets}
 use Rattle.nd_value.specs.declared.item.Home.{Home}
@@ -24,6 +26,7 @@ use Rattle.ndr_trace_laws.specs.Untested.{is_test}
 use Rattle.ndr_trace_value.specs.declared.progress.Ground.{Ground}
 use Rattle.ndr_trace_value.specs.declared.progress.Progress.{Progress}
 use Rattle.ndr_trace_value.specs.declared.progress.Spot.{Spot}
+use Rattle.ndr_trace_value.specs.declared.search.Sought.{Sought}
 use Rattle.ndr_trace_value.specs.Traces.{entry_path}
 
 -- Octets that are refused at an entry of the stream of a partial graph, and the log of the items before it.
@@ -37,6 +40,8 @@ pub record Known : Type 0 where
   pub full : List ℕ
   pub here : EntryAt
   pub log : List Item
+  -- the index in the log of the count or tag that a failed agreement speaks of
+  pub sought : Option ℕ
 
 -- what a walk is given: these octets, and maybe others after them, with their log
 pub record IsGround (k : Known) (u : Ground) : Type 0 where
@@ -48,20 +53,49 @@ pub record IsGround (k : Known) (u : Ground) : Type 0 where
   -- an agreement is sought exactly where one fails
   pub sought : IsSome u.sought → is_test k.here.entry.kind ≡ true
   pub seeks : is_test k.here.entry.kind ≡ true → IsSome u.sought
+  pub sought_is : option_map (λ s. s.item) u.sought ≡ k.sought
+  pub no_gap : (j : ℕ) → k.sought ≡ Some j → (i : Item) → slice_get k.log j ≡ Some i → i.kind ≡ item.Gap → ⊥
   pub are_octets : AreOctets k.fetched
   pub is_numbering : IsNumbering k.numbering k.full
+
+-- the path of the item that is sought, once it is among the first items of the log
+abbrev pub item_path : Known → Option Item → List ℕ
+item_path k None = []
+item_path k (Some i) = path_in (home_paths k.setting k.graph i.home) i.node
+
+abbrev pub kept_by : Known → Option ℕ → ℕ → List ℕ
+kept_by k None n = []
+kept_by k (Some j) n = elim (ltb j n) [ true ↦ item_path k (slice_get k.log j) | false ↦ [] ]
+
+abbrev pub kept : Known → ℕ → List ℕ
+kept k n = kept_by k k.sought n
+
+-- the item of this index is at a place
+abbrev pub IsAt : List Item → ℕ → ℕ → Type 0
+IsAt log n place = (i : Item) × (slice_get log n ≡ Some i) × (i.at ≡ place)
+
+-- the next item is the one that is sought
+abbrev pub is_sought : Option Sought → ℕ → Bool
+is_sought None n = false
+is_sought (Some s) n = eqb s.item n
+
+abbrev pub either_path : Bool → List ℕ → List ℕ → List ℕ
+either_path true p q = p
+either_path false p q = q
 
 -- The items so far have their lines, and then these entries are due.
 pub record IsTracing (k : Known) (p : Progress) (ms : List Entry) : Type 0 where
   pub within : p.next ≤ length k.log
   pub lines : p.lines ≡ explanation k.setting k.graph (take p.next k.log)
-  pub no_path : p.path ≡ []
+  pub path : p.path ≡ kept k p.next
   pub due : Stops k.order k.fetched k.numbering k.here (end_to_end p.at ms) (drop p.next k.log)
 
--- All items have their lines, and the path is that of the entry at which reading stopped, unless it stopped at an agreement.
+-- All items have their lines, and the path is that of the entry at which reading stopped; if it stopped at an agreement, that of the item that
+-- this speaks of.
 pub record IsEnded (k : Known) (p : Progress) : Type 0 where
   pub lines : p.lines ≡ explanation k.setting k.graph k.log
-  pub path : (is_test k.here.entry.kind ≡ true) ⊎ (p.path ≡ entry_path k.setting k.graph k.here.entry)
+  pub path : ((is_test k.here.entry.kind ≡ true) × (p.path ≡ kept k (length k.log)))
+      ⊎ ((is_test k.here.entry.kind ≡ false) × (p.path ≡ entry_path k.setting k.graph k.here.entry))
 
 -- the levels of a node have the path of its number, which is n
 abbrev pub IsSpot : Known → Spot → ℕ → Type 0

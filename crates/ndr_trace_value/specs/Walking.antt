@@ -12,6 +12,8 @@ use Rattle.nd_value.specs.Misfit.{is_partial_node}
 use Rattle.nd_value.specs.Nodes.{child_types}
 use Rattle.nd_value.specs.Tree as tree
 use Rattle.nd_value.specs.Tree.{Flat, Label, Trees, count, flat, more, node, node_count, none}
+use Rattle.nd_value.specs.Seen.{cell_number}
+use Rattle.nd_flat.specs.FlatForm.{armed_count}
 use Rattle.nd_grammar.specs.Entry.{Entry}
 use Rattle.nd_grammar.specs.InPlace.{before_children, entries, own_max}
 use Rattle.text_grammar.specs.Paths.{node_paths}
@@ -25,6 +27,8 @@ use Rattle.ndr_trace_value.specs.declared.cells.Cells.{Cells}
 use Rattle.ndr_trace_value.specs.declared.nodes.Walker.{Walker}
 use Rattle.ndr_trace_value.specs.declared.progress.Progress.{Progress}
 use Rattle.ndr_trace_value.specs.declared.progress.Spot.{Spot}
+use Rattle.ndr_trace_value.specs.declared.shapes.Shape.{Shape}
+use Rattle.ndr_trace_value.specs.declared.shapes.Shape.TheVariants as shape
 use Rattle.ndr_trace_value.specs.Naming.{HasNamed, names_in}
 use Rattle.ndr_trace_value.specs.Tracing.{IsSpot, IsTracing, Known}
 
@@ -70,6 +74,15 @@ pub record IsNode (k : Known) (s : Spot) (max t n : ℕ) (l : Label) (ks : Trees
 -- Where an agreement is sought, items are left.
 abbrev pub IsReady : Known → Progress → Type 0
 IsReady k p = is_test k.here.entry.kind ≡ true → p.next < length k.log
+
+-- a shape as a node with the number of its children
+abbrev pub flat_shape : Shape → Flat
+flat_shape (shape.Num z) = (tree.Num z, 0)
+flat_shape shape.Rec = (tree.Rec, 0)
+flat_shape (shape.Arr max offset n) = (tree.Arr max offset, n)
+flat_shape (shape.Union tag armed) = (tree.Union tag, armed_count armed)
+flat_shape (shape.Ptr cell) = (tree.Ptr (cell_number cell), 0)
+flat_shape shape.Leaf = (tree.Ptr None, 0)
 
 -- What a node says, as far as a walk needs it: a text and a context handle have no children, as a null pointer has none, and the members of a struct are
 -- known by its type.

@@ -205,16 +205,15 @@ fn names_sought(sought: Sought, seen: &Seen<'_>) -> bool {
     }
 }
 
-// Keeps the path of the value whose count or tag is the item of a node, and the path of the variable of the member that it is, if it is one.
+// Keeps the path of the variable of the value whose count or tag is the item of a node, if that is a member.
 fn find<'a>(
     ground: &Ground<'a>,
     search: &mut Search<'a>,
     sought: Sought,
     spot: &Spot<'_, 'a>,
 ) -> Result<(), Memory> {
-    append_path(&mut search.path, spot)?;
     if sought.kind == ItemKind::Max {
-        return find_last(ground, search, sought, type_of(spot.top));
+        return find_last(ground, search, sought, spot);
     }
     let Level::Members { members, at } = spot.top else {
         return Ok(());
@@ -227,19 +226,21 @@ fn find<'a>(
     state(search, sought.wanted, variable)
 }
 
-// The same of a maximum count in front of a home's value of this type: it is that of the last member, and of its last member.
+// The same of a maximum count in front of a home's value: it is that of the last member, and of its last member.
 fn find_last<'a>(
     ground: &Ground<'a>,
     search: &mut Search<'a>,
     sought: Sought,
-    of: TypeId,
+    spot: &Spot<'_, 'a>,
 ) -> Result<(), Memory> {
-    let mut of = of;
+    let mut path = Octets::new(ground.alloc);
+    append_path(&mut path, spot)?;
+    let mut of = type_of(spot.top);
     for _level in 0..NESTING_LIMIT {
         let Some(TypeDef::Struct { members }) = ground.interface.types.get(of.0 as usize) else {
             return Ok(());
         };
-        let Some(last) = find_member(ground.alloc, search, sought, members)? else {
+        let Some(last) = find_member(ground.alloc, search, sought, path.as_slice(), members)? else {
             return Ok(());
         };
         of = last;
@@ -252,17 +253,19 @@ fn find_member(
     alloc: Global,
     search: &mut Search<'_>,
     sought: Sought,
+    path: &[u8],
     members: &Fields,
 ) -> Result<Option<TypeId>, Memory> {
     let Some(at) = members.len().checked_sub(1) else {
         return Ok(None);
     };
     if let Some(by) = attribute(members, at, sought.kind) {
-        let mut variable = Octets::copy(alloc, search.path.as_slice())?;
+        let mut variable = Octets::copy(alloc, path)?;
+        variable.append(search.steps.as_slice())?;
         append_member(&mut variable, members, by.var as usize)?;
         state(search, sought.wanted, variable)?;
     }
-    append_member(&mut search.path, members, at)?;
+    append_member(&mut search.steps, members, at)?;
     match members.get(at) {
         Some(last) => Ok(Some(last.of)),
         None => Ok(None),

@@ -6,21 +6,21 @@ ghost use Rattle.nd_value.specs.Deferral.{Placed_cells};
 ghost use Rattle.nd_value.specs.Nodes.{selected_types};
 ghost use Rattle.nd_value.specs.Tree.{Label, Trees, count as count_of};
 ghost use Rattle.nd_value.specs.Tree as labels;
-ghost use Rattle.nd_flat.specs.FlatForm.{armed_count, flat_seen};
+ghost use Rattle.nd_flat.specs.FlatForm.{armed_count};
 ghost use Rattle.nd_grammar.specs.Entry.{Actual, Align, Context, Entry, Num, Number, Offset, Tag, Text};
 ghost use Rattle.ndr_explain.specs.Cursors.{level_paths, level_types, name_text, paths_from, types_from};
 ghost use Rattle.ndr_explain.specs.Explained.{home_flats, label_in};
 ghost use Rattle.ndr_trace_value.specs.declared.progress.Halt.TheVariants as halts;
 ghost use Rattle.ndr_trace_value.specs.Naming.{HasNamed, IsFine, IsNaming, named_by, names_in};
 ghost use Rattle.ndr_trace_value.specs.Tracing.{Known, IsEnded, IsGround, IsSpot, IsTracing, entry_at};
-ghost use Rattle.ndr_trace_value.specs.Walking.{AreThere, ComesTo, HavePaid, IsNode, IsPaid, IsReady, IsSeen, own_due, values_due, width_by};
+ghost use Rattle.ndr_trace_value.specs.Walking.{AreThere, ComesTo, HavePaid, IsNode, IsPaid, IsReady, IsSeen, flat_shape, own_due, values_due, width_by};
 
 use crate::cells::{Cells, name_cell};
 use crate::members::{reach, seen_node};
 use crate::progress::{Ground, Halt, Progress, Spot, count, gap, item};
 use crate::search::Search;
-use nd_flat::Seen;
-use nd_types::{Arm, Arms, Class, Fields, TypeDef, TypeId, Types};
+use crate::shapes::{Shape, as_seen};
+use nd_types::{Arm, Arms, Class, TypeDef, TypeId, Types};
 use nd_value::Home;
 use ndr_explain::{HomeName, Level, Levels, children, next_levels, type_of};
 use ndr_prim::width_of;
@@ -108,7 +108,7 @@ fn take_node<'a>(
     };
     let before = walker.progress.next;
     reach(ground, walker, &spot)?;
-    let seen = own_items(
+    let shape = own_items(
         ground,
         &mut walker.progress,
         &mut walker.cells,
@@ -116,6 +116,7 @@ fn take_node<'a>(
         of,
         &spot,
     )?;
+    let seen = as_seen(shape);
     seen_node(ground, walker, before, &spot, &seen)?;
     let interface = ground.interface;
     let inner = children(&interface.types, of, &seen);
@@ -131,11 +132,11 @@ fn own_items<'a>(
     max: u32,
     of: TypeId,
     spot: &Spot<'_, 'a>,
-) -> Result<Seen<'a>, Halt>
+) -> Result<Shape, Halt>
     ensures goes { (k : Known) → IsGround k ground.now → (n : ℕ) (l : Label) (ks : Trees) → IsNode k spot.now max of.0 n l ks
         → IsReady k progress.old → (rest : List Entry) → IsTracing k progress.old (own_due k spot.now.home n of.0 l ks ++ rest)
         → (names : Placed_cells) → IsNaming k cells.old (names_in (own_due k spot.now.home n of.0 l ks) ++ names)
-        → IfOk result (λ seen. IsSeen l (count_of ks) (flat_seen seen) × (IsTracing k progress.new rest
+        → IfOk result (λ shape. IsSeen l (count_of ks) (flat_shape shape) × (IsTracing k progress.new rest
         × HasNamed k cells.old cells.new (own_due k spot.now.home n of.0 l ks) names)) }
     ensures ends { (k : Known) → IsGround k ground.now → (n : ℕ) (l : Label) (ks : Trees) → IsNode k spot.now max of.0 n l ks
         → IsReady k progress.old → (rest : List Entry) → IsTracing k progress.old (own_due k spot.now.home n of.0 l ks ++ rest)
@@ -146,9 +147,9 @@ fn own_items<'a>(
     match ground.interface.types.get(of.0 as usize) {
         Some(TypeDef::Prim(prim)) => number(ground, progress, width_of(*prim) as u64, spot),
         Some(TypeDef::Enum { .. }) => number(ground, progress, 2, spot),
-        Some(TypeDef::Struct { members }) => {
+        Some(TypeDef::Struct { .. }) => {
             let align = u64::from(ground.interface.align(of));
-            structure(ground, progress, align, members, spot)
+            structure(ground, progress, align, spot)
         }
         Some(TypeDef::Array { bound, varying, .. }) => {
             let max = bound.unwrap_or(max);
@@ -168,8 +169,8 @@ fn own_items<'a>(
         }
         Some(TypeDef::Pointer { class, to }) => pointer(ground, progress, cells, *class, *to, spot),
         Some(TypeDef::Context) => context(ground, progress, spot),
-        Some(TypeDef::Pipe { .. }) => Ok(Seen::Ptr(None)),
-        None => Ok(Seen::Ptr(None)),
+        Some(TypeDef::Pipe { .. }) => Ok(Shape::Leaf),
+        None => Ok(Shape::Leaf),
     }
 }
 
@@ -179,12 +180,12 @@ fn number<'a>(
     progress: &mut Progress,
     width: u64,
     spot: &Spot<'_, 'a>,
-) -> Result<Seen<'a>, Halt>
+) -> Result<Shape, Halt>
     requires { 0 < width }
     ensures goes { (k : Known) → IsGround k ground.now → (n : ℕ) → IsSpot k spot.now n
         → (p : PrimitiveValue) (values : Option (List ℤ)) (z : ℤ) (rest : List Entry)
         → IsTracing k progress.old (entry_at spot.now n (Align width) ∷ entry_at spot.now n (Num p values z) ∷ rest)
-        → IfOk result (λ seen. (flat_seen seen ≡ (labels.Num z, 0)) × IsTracing k progress.new rest) }
+        → IfOk result (λ shape. (flat_shape shape ≡ (labels.Num z, 0)) × IsTracing k progress.new rest) }
     ensures ends { (k : Known) → IsGround k ground.now → (n : ℕ) → IsSpot k spot.now n
         → (p : PrimitiveValue) (values : Option (List ℤ)) (z : ℤ) (rest : List Entry)
         → IsTracing k progress.old (entry_at spot.now n (Align width) ∷ entry_at spot.now n (Num p values z) ∷ rest)
@@ -193,7 +194,7 @@ fn number<'a>(
 {
     gap(ground, progress, width, spot)?;
     let value = item(ground, progress, spot)?;
-    Ok(Seen::Num(value))
+    Ok(Shape::Num(value))
 }
 
 // The gap before a struct.
@@ -201,20 +202,19 @@ fn structure<'a>(
     ground: &Ground<'a>,
     progress: &mut Progress,
     align: u64,
-    members: &Fields,
     spot: &Spot<'_, 'a>,
-) -> Result<Seen<'a>, Halt>
+) -> Result<Shape, Halt>
     requires { 0 < align }
     ensures goes { (k : Known) → IsGround k ground.now → (n : ℕ) (rest : List Entry)
         → IsTracing k progress.old (entry_at spot.now n (Align align) ∷ rest)
-        → IfOk result (λ seen. ((flat_seen seen).0 ≡ labels.Rec) × IsTracing k progress.new rest) }
+        → IfOk result (λ shape. ((flat_shape shape).0 ≡ labels.Rec) × IsTracing k progress.new rest) }
     ensures ends { (k : Known) → IsGround k ground.now → (n : ℕ) → IsSpot k spot.now n
         → (rest : List Entry) → IsTracing k progress.old (entry_at spot.now n (Align align) ∷ rest)
         → IsErrOf result halts.Here → IsEnded k progress.new }
     ensures later { IfOk result (λ _. progress.old.next ≤ progress.new.next) }
 {
     gap(ground, progress, align, spot)?;
-    Ok(Seen::Rec(u32::try_from(members.len()).unwrap_or(u32::MAX)))
+    Ok(Shape::Rec)
 }
 
 // The counts of an array.
@@ -224,14 +224,14 @@ fn array<'a>(
     max: u32,
     varying: bool,
     spot: &Spot<'_, 'a>,
-) -> Result<Seen<'a>, Halt>
-    ensures fixed { varying ≡ false → IfOk result (λ seen. (flat_seen seen ≡ (labels.Arr max 0, max)) × (progress.new ≡ progress.old)) }
+) -> Result<Shape, Halt>
+    ensures fixed { varying ≡ false → IfOk result (λ shape. (flat_shape shape ≡ (labels.Arr max 0, max)) × (progress.new ≡ progress.old)) }
     ensures whole { varying ≡ false → IsOk result }
     ensures goes { varying ≡ true → (k : Known) → IsGround k ground.now → (n : ℕ) → IsSpot k spot.now n
         → (offset limit actual : ℕ) (rest : List Entry)
         → IsTracing k progress.old (entry_at spot.now n (Align 4) ∷ entry_at spot.now n (Offset false offset)
         ∷ entry_at spot.now n (Actual false offset limit actual) ∷ rest)
-        → IfOk result (λ seen. (flat_seen seen ≡ (labels.Arr max offset, actual)) × IsTracing k progress.new rest) }
+        → IfOk result (λ shape. (flat_shape shape ≡ (labels.Arr max offset, actual)) × IsTracing k progress.new rest) }
     ensures ends { varying ≡ true → (k : Known) → IsGround k ground.now → (n : ℕ) → IsSpot k spot.now n
         → (offset limit actual : ℕ) (rest : List Entry)
         → IsTracing k progress.old (entry_at spot.now n (Align 4) ∷ entry_at spot.now n (Offset false offset)
@@ -240,7 +240,7 @@ fn array<'a>(
     ensures later { IfOk result (λ _. progress.old.next ≤ progress.new.next) }
 {
     if !varying {
-        return Ok(Seen::Arr {
+        return Ok(Shape::Arr {
             max,
             offset: 0,
             count: max,
@@ -249,20 +249,20 @@ fn array<'a>(
     gap(ground, progress, 4, spot)?;
     let offset = count(ground, progress, spot)?;
     let count = count(ground, progress, spot)?;
-    Ok(Seen::Arr { max, offset, count })
+    Ok(Shape::Arr { max, offset, count })
 }
 
-// A text with its counts. It has no children, as a null pointer has none.
+// A text with its counts.
 fn text<'a>(
     ground: &Ground<'a>,
     progress: &mut Progress,
     spot: &Spot<'_, 'a>,
-) -> Result<Seen<'a>, Halt>
+) -> Result<Shape, Halt>
     ensures goes { (k : Known) → IsGround k ground.now → (n : ℕ) → IsSpot k spot.now n
         → (max : ℕ) (octets : List ℕ) → label_in (home_flats k.graph spot.now.home) n ≡ Some (labels.Text max octets) → (rest : List Entry)
         → IsTracing k progress.old (entry_at spot.now n (Align 4) ∷ entry_at spot.now n (Offset true 0)
         ∷ entry_at spot.now n (Actual true 0 max (length octets + 1)) ∷ entry_at spot.now n (Text octets) ∷ rest)
-        → IfOk result (λ seen. (flat_seen seen ≡ (labels.Ptr None, 0)) × IsTracing k progress.new rest) }
+        → IfOk result (λ shape. (flat_shape shape ≡ (labels.Ptr None, 0)) × IsTracing k progress.new rest) }
     ensures ends { (k : Known) → IsGround k ground.now → (n : ℕ) → IsSpot k spot.now n
         → (max : ℕ) (octets : List ℕ) → label_in (home_flats k.graph spot.now.home) n ≡ Some (labels.Text max octets) → (rest : List Entry)
         → IsTracing k progress.old (entry_at spot.now n (Align 4) ∷ entry_at spot.now n (Offset true 0)
@@ -274,7 +274,7 @@ fn text<'a>(
     item(ground, progress, spot)?;
     item(ground, progress, spot)?;
     item(ground, progress, spot)?;
-    Ok(Seen::Ptr(None))
+    Ok(Shape::Leaf)
 }
 
 // A union's tag.
@@ -285,12 +285,12 @@ fn tagged<'a>(
     arms: &Arms,
     default: &Option<Arm>,
     spot: &Spot<'_, 'a>,
-) -> Result<Seen<'a>, Halt>
+) -> Result<Shape, Halt>
     requires { 0 < width }
     ensures goes { (k : Known) → IsGround k ground.now → (n : ℕ) → IsSpot k spot.now n
         → (p : PrimitiveValue) (values : Option (List ℤ)) (z : ℤ) (rest : List Entry)
         → IsTracing k progress.old (entry_at spot.now n (Align width) ∷ entry_at spot.now n (Tag p values arms.now default.now z) ∷ rest)
-        → IfOk result (λ seen. (flat_seen seen ≡ (labels.Union z, length (selected_types (arm_selected arms.now default.now z))))
+        → IfOk result (λ shape. (flat_shape shape ≡ (labels.Union z, length (selected_types (arm_selected arms.now default.now z))))
         × IsTracing k progress.new rest) }
     ensures ends { (k : Known) → IsGround k ground.now → (n : ℕ) → IsSpot k spot.now n
         → (p : PrimitiveValue) (values : Option (List ℤ)) (z : ℤ) (rest : List Entry)
@@ -301,7 +301,7 @@ fn tagged<'a>(
     gap(ground, progress, width, spot)?;
     let tag = item(ground, progress, spot)?;
     let armed = has_value(selected(arms, default, tag));
-    Ok(Seen::Union { tag, armed })
+    Ok(Shape::Union { tag, armed })
 }
 
 // Whether an arm has a value.
@@ -333,12 +333,12 @@ fn pointer<'a>(
     class: Class,
     to: TypeId,
     spot: &Spot<'_, 'a>,
-) -> Result<Seen<'a>, Halt>
+) -> Result<Shape, Halt>
     ensures goes { (k : Known) → IsGround k ground.now → (n : ℕ) → IsSpot k spot.now n → (cell : Option ℕ)
         → IsFine k.graph class to.0 cell → (rest : List Entry)
         → IsTracing k progress.old (entry_at spot.now n (Align 4) ∷ entry_at spot.now n (Number class to.0 cell) ∷ rest)
         → (names : Placed_cells) → IsNaming k cells.old (named_by (Number class to.0 cell) ++ names)
-        → IfOk result (λ seen. (flat_seen seen ≡ (labels.Ptr cell, 0)) × (IsTracing k progress.new rest
+        → IfOk result (λ shape. (flat_shape shape ≡ (labels.Ptr cell, 0)) × (IsTracing k progress.new rest
         × HasNamed k cells.old cells.new (entry_at spot.now n (Number class to.0 cell) ∷ []) names)) }
     ensures ends { (k : Known) → IsGround k ground.now → (n : ℕ) → IsSpot k spot.now n → (cell : Option ℕ)
         → (rest : List Entry)
@@ -349,7 +349,7 @@ fn pointer<'a>(
     gap(ground, progress, 4, spot)?;
     let number = count(ground, progress, spot)?;
     let cell = name_cell(cells, class, to, number)?;
-    Ok(Seen::Ptr(cell))
+    Ok(Shape::Ptr(cell))
 }
 
 // A context handle. It has no children, as a null pointer has none.
@@ -357,11 +357,11 @@ fn context<'a>(
     ground: &Ground<'a>,
     progress: &mut Progress,
     spot: &Spot<'_, 'a>,
-) -> Result<Seen<'a>, Halt>
+) -> Result<Shape, Halt>
     ensures goes { (k : Known) → IsGround k ground.now → (n : ℕ) → IsSpot k spot.now n
         → (attributes : ℕ) (id : List ℕ) → label_in (home_flats k.graph spot.now.home) n ≡ Some (labels.Context attributes id) → (rest : List Entry)
         → IsTracing k progress.old (entry_at spot.now n (Align 4) ∷ entry_at spot.now n (Context attributes id) ∷ rest)
-        → IfOk result (λ seen. (flat_seen seen ≡ (labels.Ptr None, 0)) × IsTracing k progress.new rest) }
+        → IfOk result (λ shape. (flat_shape shape ≡ (labels.Ptr None, 0)) × IsTracing k progress.new rest) }
     ensures ends { (k : Known) → IsGround k ground.now → (n : ℕ) → IsSpot k spot.now n
         → (attributes : ℕ) (id : List ℕ) → label_in (home_flats k.graph spot.now.home) n ≡ Some (labels.Context attributes id) → (rest : List Entry)
         → IsTracing k progress.old (entry_at spot.now n (Align 4) ∷ entry_at spot.now n (Context attributes id) ∷ rest)
@@ -370,5 +370,5 @@ fn context<'a>(
 {
     gap(ground, progress, 4, spot)?;
     item(ground, progress, spot)?;
-    Ok(Seen::Ptr(None))
+    Ok(Shape::Leaf)
 }

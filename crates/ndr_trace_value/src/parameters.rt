@@ -63,15 +63,26 @@ fn seen_cell(search: &mut Search<'_>, cell: CellId, number: Option<i128>) -> Res
     Ok(())
 }
 
-/// Adds the path of the value that disagrees, and that of the variable that states the number.
-pub fn append_agreement(
+/// What follows the path of the item at a failed agreement: the steps to the value that disagrees, a blank, and the path of the variable that states
+/// the number.
+pub fn agreement_tail(
+    ground: &Ground<'_>,
+    search: &Search<'_>,
+    sought: Sought,
+) -> Result<Octets, Memory> {
+    let mut text = Octets::copy(ground.alloc, search.steps.as_slice())?;
+    text.append(b" ")?;
+    append_variable(ground, search, sought, &mut text)?;
+    Ok(text)
+}
+
+// Adds the path of the variable that states the number.
+fn append_variable(
     ground: &Ground<'_>,
     search: &Search<'_>,
     sought: Sought,
     text: &mut Octets,
 ) -> Result<(), Memory> {
-    text.append(search.path.as_slice())?;
-    text.append(b" ")?;
     for stated in search.stated.as_slice() {
         if stated.wanted == sought.wanted {
             return text.append(stated.variable.as_slice());

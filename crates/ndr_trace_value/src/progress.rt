@@ -1,5 +1,5 @@
 // How far the items of a log are traced.
-ghost use Rattle.std.specs.Prelude.{◌≡◌, ◌<◌, ◌≤◌, ◌+◌, ◌-◌, ◌^◌, ◌++◌, ℕ, List, ◌∷◌, drop, length, take, IfOk, IsErrOf, None, OnOk, Option, reverse};
+ghost use Rattle.std.specs.Prelude.{◌≡◌, ◌<◌, ◌≤◌, ◌+◌, ◌-◌, ◌^◌, ◌++◌, ℕ, List, ◌∷◌, drop, length, take, IfOk, IsErrOf, IsSome, None, OnOk, Option, reverse};
 ghost use Rattle.nd_value.specs.Tree.{Label};
 ghost use Rattle.nd_grammar.specs.Entry.{Align, Entry, Kind};
 ghost use Rattle.ndr_prim.specs.Context.{attributes_of, identifier_of};
@@ -9,7 +9,7 @@ ghost use Rattle.ndr_explain.specs.Cursors.{name_text, path_to};
 ghost use Rattle.ndr_explain.specs.Explained.{value_shown};
 ghost use Rattle.ndr_trace_value.specs.declared.progress.Halt.TheVariants as halts;
 ghost use Rattle.ndr_trace_value.specs.Tracing.{Known, Holds, HoldsCount, HasLabel, IsCount, IsCounted, IsEnded, IsGround, IsItem, IsShown, IsSpot, IsTracing};
-ghost use Rattle.ndr_trace_value.specs.Tracing.{entry_at};
+ghost use Rattle.ndr_trace_value.specs.Tracing.{either_path, entry_at, is_sought as is_sought_item};
 
 use crate::search::Sought;
 use nd_base::{Memory, Octets, Order};
@@ -44,7 +44,7 @@ pub struct Progress {
     /// The place after the last of these.
     pub at: u64,
     pub lines: Octets,
-    /// The path of what is refused, once the walk has ended there.
+    /// The path of what is refused, once the walk has ended there. Where an agreement is sought, that of the item, once it was passed.
     pub path: Octets,
 }
 
@@ -128,8 +128,38 @@ pub fn item(ground: &Ground<'_>, progress: &mut Progress, spot: &Spot<'_, '_>) -
     progress.lines.append(b" ")?;
     append_held(ground, &mut progress.lines, item)?;
     progress.lines.append(b"\n")?;
+    keep_path(ground, progress, spot)?;
     pass(progress, item);
     Ok(item.value)
+}
+
+// Keeps the path of the next item, if it is the one that is sought.
+fn keep_path(
+    ground: &Ground<'_>,
+    progress: &mut Progress,
+    spot: &Spot<'_, '_>,
+) -> Result<(), Memory>
+    ensures path { OnOk result (progress.new.path ≡ either_path (is_sought_item ground.now.sought progress.old.next)
+        (path_to (progress.old.path ++ name_text spot.now.name) (spot.now.top ∷ reverse spot.now.below.now.items)) progress.old.path) }
+    ensures lines { progress.new.lines ≡ progress.old.lines }
+    ensures next { progress.new.next ≡ progress.old.next }
+    ensures at { progress.new.at ≡ progress.old.at }
+{
+    if !is_sought(ground.sought, progress.next) {
+        return Ok(());
+    }
+    append_path(&mut progress.path, spot)?;
+    Ok(())
+}
+
+// Whether an item is the one that is sought.
+fn is_sought(sought: Option<Sought>, item: usize) -> bool
+    ensures { result ≡ is_sought_item sought item }
+{
+    match sought {
+        Some(sought) => sought.item == item,
+        None => false,
+    }
 }
 
 /// Takes the next item as a count.
@@ -206,11 +236,12 @@ fn pass(progress: &mut Progress, item: &Item)
     progress.at = u64::from(item.at) + u64::from(item.len);
 }
 
-// Ends the walk at a node that is refused or lacks octets; a value that disagrees with a variable has its path already.
+// Ends the walk at a node that is refused or lacks octets; where an agreement is sought, the item has its path already.
 fn end(ground: &Ground<'_>, progress: &mut Progress, spot: &Spot<'_, '_>) -> Halt
     ensures lines { progress.new.lines ≡ progress.old.lines }
     ensures path { ground.now.sought ≡ None → result ≡ halts.Here
         → progress.new.path ≡ path_to (progress.old.path ++ name_text spot.now.name) (spot.now.top ∷ reverse spot.now.below.now.items) }
+    ensures same { IsSome ground.now.sought → progress.new.path ≡ progress.old.path }
 {
     if ground.sought.is_some() {
         return Halt::Here;

@@ -3,6 +3,7 @@ ghost use Rattle.std.specs.Prelude.{◌≡◌, ℕ, ℤ, IfSome, IsSome, Some};
 ghost use Rattle.std.specs.List.{slice_get};
 ghost use Rattle.nd_value.specs.declared.item.Item.{Item as ItemValue};
 ghost use Rattle.nd_grammar.specs.declared.reason.Reason.TheVariants as reasons;
+ghost use Rattle.ndr_trace_value.specs.Tracing.{IsAt};
 
 use crate::members::Open;
 use crate::parameters::RootSeen;
@@ -33,8 +34,9 @@ pub struct Stated {
 /// What is kept while an agreement is sought; else it stays empty, but for the roots.
 #[derive(Drop)]
 pub struct Search<'a> {
-    /// The path of the value that is sought, once it was met.
-    pub path: Octets,
+    /// The steps from the value that has the item to the one that disagrees: those to the last member, if the item is a maximum count in front of a
+    /// struct.
+    pub steps: Octets,
     pub stated: Vec<Stated>,
     /// The structs that are open.
     pub open: Vec<Open<'a>>,
@@ -46,6 +48,7 @@ pub struct Search<'a> {
 /// What a refusal at a place seeks: at a failed agreement the count or tag at that place.
 pub fn find_agreement(items: &ItemLog, place: u32, why: Reason) -> Option<Sought>
     ensures disagrees { IfSome result (λ s. (found : ℤ) × (why ≡ reasons.Disagrees s.wanted found)) }
+    ensures at { IfSome result (λ s. IsAt items.now.items s.item place) }
     ensures finds { (wanted found : ℤ) → why ≡ reasons.Disagrees wanted found → (n : ℕ) (i : ItemValue) → slice_get items.now.items n ≡ Some i
         → i.at ≡ place → IsSome result }
 {
@@ -58,6 +61,7 @@ pub fn find_agreement(items: &ItemLog, place: u32, why: Reason) -> Option<Sought
 // The item at a place.
 fn find_item(items: &ItemLog, place: u32, wanted: i128) -> Option<Sought>
     ensures wanted { IfSome result (λ s. s.wanted ≡ wanted) }
+    ensures at { IfSome result (λ s. IsAt items.now.items s.item place) }
     ensures finds { (n : ℕ) (i : ItemValue) → slice_get items.now.items n ≡ Some i → i.at ≡ place → IsSome result }
 {
     for at in 0..items.len() {

@@ -1,4 +1,4 @@
-use Rattle.std.proofs.Common.{refl, ◌≡◌, ◌∙◌, ◌≤◌, ◌+◌, Some, None, false, true, length, sym, ap, subst, arith, le_refl}
+use Rattle.std.proofs.Common.{refl, ◌≡◌, ◌∙◌, ◌<◌, ◌≤◌, ◌+◌, Some, None, false, true, length, sym, ap, subst, arith, le_refl}
 use Rattle.std.specs.Prelude.{IfOk, IsErrOf}
 use Rattle.nd_types.specs.Layout.{align_of, hoists, hoists_by}
 use Rattle.nd_types.specs.Table.{type_at}
@@ -6,6 +6,7 @@ use Rattle.nd_types.proofs.LayoutLaws.{hoists-legal}
 use Rattle.ndr_trace_value.specs.declared.progress.Halt.TheVariants as halts
 use Rattle.ndr_trace_value.specs.Tracing.{IsEnded}
 use Rattle.ndr_trace_value.specs.Walking.{width_by}
+use Rattle.ndr_trace_value.proofs.Alignments.{some_align}
 use Rattle.ndr_trace_value.proofs.ByType.{any_array_ends, any_array_goes, context_ends, context_goes, enum_ends, enum_goes, none_goes, paid_same, pipe_goes, pointer_ends, pointer_goes, prim_ends, prim_goes}
 use Rattle.ndr_trace_value.proofs.ByType.{struct_ends, struct_goes, text_ends, text_goes, union_ends, union_goes}
 use Rattle.ndr_trace_value.proofs.nodes.own_items.Goals as goal
@@ -23,14 +24,18 @@ returns-in-Some-Prim-clause-paid c = paid_same c.args.progress.now c.number.new.
 
 pub returns-in-Some-Enum-clause-goes : goal.returns-in-Some-Enum-clause-goes
 returns-in-Some-Enum-clause-goes c k u n l ks node ready rest t names nm =
-    enum_goes k c.args.spot.now n c.args.max c.args.of.0 l ks node c.args.progress.now ready rest t names c.args.cells.now nm c.number.new.progress c.number.result _ (ap (λ ts. type_at ts c.args.of.0) (sym u.table) ∙ c.in-Some-Enum.ensures.some ∙ ap (λ d. Some d) c.in-Some-Enum.field-0-is) (c.number.ensures.goes k u n node.spot)
+    enum_goes k c.args.spot.now n c.args.max c.args.of.0 l ks node c.args.progress.now ready rest t names c.args.cells.now nm c.number-in-Some-Enum.new.progress c.number-in-Some-Enum.result _ (ap (λ ts. type_at ts c.args.of.0) (sym u.table) ∙ c.in-Some-Enum.ensures.some ∙ ap (λ d. Some d) c.in-Some-Enum.field-0-is) (c.number-in-Some-Enum.ensures.goes k u n node.spot)
 
 pub returns-in-Some-Enum-clause-ends : goal.returns-in-Some-Enum-clause-ends
 returns-in-Some-Enum-clause-ends c k u n l ks node ready rest t names nm =
-    enum_ends k c.args.spot.now n c.args.max c.args.of.0 l ks node c.args.progress.now ready rest t _ (ap (λ ts. type_at ts c.args.of.0) (sym u.table) ∙ c.in-Some-Enum.ensures.some ∙ ap (λ d. Some d) c.in-Some-Enum.field-0-is) (c.number.ensures.ends k u n node.spot)
+    enum_ends k c.args.spot.now n c.args.max c.args.of.0 l ks node c.args.progress.now ready rest t _ (ap (λ ts. type_at ts c.args.of.0) (sym u.table) ∙ c.in-Some-Enum.ensures.some ∙ ap (λ d. Some d) c.in-Some-Enum.field-0-is) (c.number-in-Some-Enum.ensures.ends k u n node.spot)
 
 pub returns-in-Some-Enum-clause-paid : goal.returns-in-Some-Enum-clause-paid
-returns-in-Some-Enum-clause-paid c = paid_same c.args.progress.now c.number.new.progress c.args.cells.now c.number.result c.number.ensures.later
+returns-in-Some-Enum-clause-paid c = paid_same c.args.progress.now c.number-in-Some-Enum.new.progress c.args.cells.now c.number-in-Some-Enum.result c.number-in-Some-Enum.ensures.later
+
+pub structure-requires : goal.structure-requires
+structure-requires c =
+    subst (λ n. 0 < n) (sym (c.from-align.ensures ∙ c.align.ensures)) (some_align c.args.ground.now.interface.now.types c.args.of.0)
 
 pub returns-in-Some-Struct-clause-goes : goal.returns-in-Some-Struct-clause-goes
 returns-in-Some-Struct-clause-goes c k u n l ks node ready rest t names nm =

@@ -13,7 +13,7 @@ pub returns-then-progress-len-clause-ends : goal.returns-then-progress-len-claus
 returns-then-progress-len-clause-ends c k u n sp rest t e =
     gap_ends k c.args.ground.now u c.args.spot.now n sp c.args.align rest c.args.progress.now c.end.new.progress
     (some_gap c.args.progress.now.at c.args.align c.requires c.if-progress-align-eq0.false) t (let l = c.len.ensures in let o = c.if-progress-len.true in omega (arith, l, o))
-    c.end.ensures.lines (λ none. c.end.ensures.path none (same_err c.end.result halts.Here e))
+    c.end.ensures.lines (λ none. c.end.ensures.path none (same_err c.end.result halts.Here e)) c.end.ensures.same
 
 pub unreachable-requires : goal.unreachable-requires
 unreachable-requires c =
