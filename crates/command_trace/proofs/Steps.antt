@@ -4,6 +4,7 @@ use Rattle.std.specs.Io.KnownBytes.{Consumes, IsAtEnd}
 use Rattle.std.specs.List.{slice_get}
 use Rattle.std.proofs.lemmas.List.{append-nil, length-append}
 use Rattle.std.proofs.lemmas.Option.{same_Some}
+use Rattle.nd_base.specs.declared.octets.Memory.{Memory as NoMemory}
 use Rattle.nd_base.specs.declared.octets.Order.{Order}
 use Rattle.nd_base.specs.Over.{SourceSeen}
 use Rattle.nd_types.specs.declared.interface.Interface.{Interface}
@@ -132,7 +133,7 @@ module _ (w : Setting) (order : Order) (octets : List ℕ) (taken : ℕ) (g : Gr
 
 -- on this side and beside this request
 pub explained_on : (i : Interface) (o : Operation) (side own : Side) (given its : Option Graph) (order : Order) (octets : List ℕ) (taken : ℕ) (g : Graph) (log : List Item)
-    (r : Result Traced _) → own ≡ side → its ≡ given
+    (r : Result Traced NoMemory) → own ≡ side → its ≡ given
     → (IsLoggedFront (setting_beside i o own its) order octets taken g log → IfOk r (IsTraced (setting_beside i o own its) order octets))
     → IsLoggedFront (setting_beside i o side given) order octets taken g log → IfOk r (IsTraced (setting_beside i o side given) order octets)
 explained_on i o side own given its order octets taken g log r same alone by =

@@ -125,7 +125,8 @@ fn refused(
     requires known { op < length interface.now.operations }
     requires request { IsRequestOf interface.now op side (option_map (λ f. f.now) given) }
     ensures { (o : Operation) → slice_get interface.now.operations op ≡ Some o
-        → IsRefusedFront (setting_beside interface.now o side (option_map (λ f. f.now.graph) given.entry)) order octets.now place reason items.now.items
+        → IsRefusedFront (setting_beside interface.now o side (option_map (λ f. f.now.graph) given.entry)) order octets.now place reason
+        items.now.items
         → IfOk result (IsTraced (setting_beside interface.now o side (option_map (λ f. f.now.graph) given.entry)) order octets.now) }
 {
     let traced = trace(

@@ -20,15 +20,15 @@ use std::alloc::Global;
 #[derive(Drop)]
 pub struct Stopped {
     pub refusal: Refusal,
-    /// Where the octets are refused: a line for each item before the fault, and the line `PLACE fault REASON PATH`, where PATH is that of the value that
-    /// is refused or lacks octets. At a failed agreement the path of the variable that states the number follows. Of an octet that follows the values
-    /// the line is `PLACE fault Trailing`.
+    /// Where the octets are refused: a line for each item before the fault, and the line `PLACE fault REASON PATH`, where PATH is that of the value
+    /// that is refused or lacks octets. At a failed agreement the path of the variable that states the number follows. Of an octet that follows the
+    /// values the line is `PLACE fault Trailing`.
     pub lines: Option<Octets>,
 }
 
 /// The same as [`explain_octets`](command_explain::explain_octets), but the source is read first, to its end or to one octet past the limit of a
-/// stream, [`STREAM_LIMIT`](nd_base::STREAM_LIMIT); and where the octets are refused, the items before the fault are explained, and the fault is shown
-/// with the path of what is refused. So a source that fails after a fault answers ReadFault.
+/// stream, [`STREAM_LIMIT`](nd_base::STREAM_LIMIT); and where the octets are refused, the items before the fault are explained, and the fault is
+/// shown with the path of what is refused. So a source that fails after a fault answers ReadFault.
 ///
 /// `op` must be the number of an operation of the interface. A request that is given must be one of that operation, and then the side is that of its
 /// outputs: the values are judged beside it.

@@ -62,7 +62,8 @@ IsUnexplained _ text = ⊥
 -- Where octets are refused, `trace` writes to out the lines of the items before the fault, and the fault.
 abbrev pub AreTraced : Seen → Task → Subject → Option (List ℕ) → Refusal → List ℕ → Type 0
 AreTraced x (Read Trace word) of given r text =
-    (w : Setting) × IsAllReady x.files of given w × (rest : SourceSeen) × (order : Order) × IsOpened word x.input rest order × AreLines rest w order r text
+    (w : Setting) × IsAllReady x.files of given w × (rest : SourceSeen) × (order : Order) × IsOpened word x.input rest order
+    × AreLines rest w order r text
 AreTraced x _ of given r text = ⊥
 
 -- What a command writes to out beside the line of a refusal: `trace` the lines of octets that are refused, `compat .. why`, where operations differ,

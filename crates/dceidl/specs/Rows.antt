@@ -58,8 +58,7 @@ use Rattle.command_line.specs.declared.command.Task.TheVariants.{Read, Encode, M
 use Rattle.command_refusals.specs.declared.refusal.Refusal.{Refusal}
 use Rattle.command_refusals.specs.declared.refusal.Refusal.TheVariants.{BadIdl, NoOperation, BadOctets, BadText, BadValue, TooLong, BadRequest}
 use Rattle.command_refusals.specs.declared.refusal.Refusal.TheVariants.{BadLabel, ShortLabel, TooFewEnds}
-use Rattle.command_refusals.specs.declared.refusal.Refusal.TheVariants.{BadPdu, NotCompatible}
-use Rattle.command_refusals.specs.declared.refusal.CompatFault.TheVariants.{Differs}
+use Rattle.command_refusals.specs.declared.refusal.Refusal.TheVariants.{BadPdu}
 use Rattle.command_refusals.specs.declared.refusal.FragmentsFault.{FragmentsFault}
 use Rattle.command_refusals.specs.declared.refusal.FragmentsFault.TheVariants as fragments
 use Rattle.command_refusals.specs.declared.refusal.OctetsFault.{OctetsFault}

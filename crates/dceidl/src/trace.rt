@@ -149,8 +149,8 @@ fn trace_prepared<S: Source>(
         → IfOk result (λ made. (e : EndsSeen) → IsMade (seen_over f (source_seen S.left S.ended S.faults input.old input.new) e)
         (Values (Read Trace order) of given) made) }
     ensures stopped { (f : FilesSeen) (of : words.Subject) (given : Option (List ℕ)) → IsPrepared f of given prepared
-        → IfErr result (λ h. (e : EndsSeen) → AreAsBefore e → IsStoppedCommand (seen_over f (source_seen S.left S.ended S.faults input.old input.new) e)
-        (Values (Read Trace order) of given) h) }
+        → IfErr result (λ h. (e : EndsSeen) → AreAsBefore e
+        → IsStoppedCommand (seen_over f (source_seen S.left S.ended S.faults input.old input.new) e) (Values (Read Trace order) of given) h) }
 {
     let Prepared { ready, request } = prepared;
     match request {
