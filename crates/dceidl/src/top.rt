@@ -43,11 +43,11 @@ pub(crate) const WORDS_REFUSED: Status = 2;
 /// stream, and writes the lines before a fault and the fault where the octets are refused. `drain` gives the elements of their pipes to `ends`, the
 /// i-th pipe to the i-th end, and writes the text of the values with empty pipes. With ORDER `label` four octets, a format label (C706, section
 /// 14.1), are before the octets and state their order. `encode` and `migrate` read such a text to its end, or to one octet past its limit,
-/// [`TEXT_LIMIT`](value_text::TEXT_LIMIT) octets. `encode` writes the octets of its values, at most [`STREAM_LIMIT`](nd_base::STREAM_LIMIT), after
-/// a label if one is asked for, and `migrate` writes it as it is printed. `call` reads the fragments of a request or response (C706, section 12.6),
-/// and writes the call id and the values of their stub data; `wrap` reads a text and writes such fragments. `compat` compares the interfaces of two files, the second of which is
-/// loaded once the first means an interface; a file that both need is loaded for each; as `compat .. why` it writes to `out`, where an operation
-/// differs, the first place at which it does. `why` writes what words of a refusal mean.
+/// [`TEXT_LIMIT`](value_text::TEXT_LIMIT) octets. `encode` writes the octets of its values, at most [`STREAM_LIMIT`](nd_base::STREAM_LIMIT), after a
+/// label if one is asked for, and `migrate` writes it as it is printed. `call` reads the fragments of a request or response (C706, section 12.6), and
+/// writes the call id and the values of their stub data; `wrap` reads a text and writes such fragments. `compat` compares the interfaces of two
+/// files, the second of which is loaded once the first means an interface; a file that both need is loaded for each; as `compat .. why` it writes to
+/// `out`, where an operation differs, the first place at which it does. `why` writes what words of a refusal mean.
 ///
 /// Nothing is requested before it is needed, and no file more than once: no file for an invalid command line, `--help` or
 /// `--version`, an import when its declaration is reached, the attribute configuration file when all names are resolved (it is loaded
