@@ -372,12 +372,12 @@ module _ (k : Known) (u : Ground) (ground : IsGround k u) where
       there : slice_get k.log p.next ≡ Some i
       there = ap (λ xs. slice_get xs p.next) (sym ground.items) ∙ got
 
-      another : k.sought ≡ Some p.next → ⊥
-      another e = ground.no_gap p.next e i there (ap (λ (y : Item). y.kind) one.is_item)
-
       one : Took k.order k.fetched k.numbering k.here (placed k p (entry_at s n (Align align))) (end_to_end (p.at + gap p.at align) rest) (item.Gap, pos 0) i
           (drop (p.next + 1) k.log)
       one = next_item k p (entry_at s n (Align align)) rest (item.Gap, pos 0) i (λ r. gap_item k.order k.fetched p.at align some r.0) t there
+
+      another : k.sought ≡ Some p.next → ⊥
+      another e = ground.no_gap p.next e i there (ap (λ (y : Item). y.kind) one.is_item)
 
       line : p1.lines ≡ p.lines ++ item_line k.setting k.graph i
       line =
