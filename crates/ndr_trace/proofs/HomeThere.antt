@@ -125,6 +125,7 @@ home_there k h name t m a front = go (home_value k.graph h) refl
         first_or_later zero nodes is =
             path_here 0 (home_name k.setting h) nodes
             ∙ sym (ap (λ xs. path_in xs 0) is
-            ∙ path_here 0 (home_name k.setting h) (node_paths k.setting.table (child_types (type_at k.setting.table t) l ks) (child_paths (type_at k.setting.table t) l (home_name k.setting h) ks) (0 + 1) ks
+            ∙ path_here 0 (home_name k.setting h) (node_paths k.setting.table (child_types (type_at k.setting.table t) l ks)
+            (child_paths (type_at k.setting.table t) l (home_name k.setting h) ks) (0 + 1) ks
             ++ node_paths k.setting.table [] [] (0 + 1 + node_count ks) none))
         first_or_later (suc n) nodes is = path_later 0 (suc n) (home_name k.setting h) nodes (omega arith)

@@ -1,6 +1,6 @@
 -- Where a walk over a pipe is, between its chunks.
--- `k` are the octets with the partial graph in which they are refused, `h` is the pipe's home, `name` its name, `t` the type of its elements, `before` how
--- many elements came before, `rest` are the entries after the pipe's, `names` the cells that these name.
+-- `k` are the octets with the partial graph in which they are refused, `h` is the pipe's home, `name` its name, `t` the type of its elements,
+-- `before` how many elements came before, `rest` are the entries after the pipe's, `names` the cells that these name.
 use Rattle.std.specs.Prelude.{◌≡◌, ◌+◌, ℕ, zero, suc, List, ◌++◌, replicate}
 use Rattle.nd_value.specs.declared.item.Home.{Home}
 use Rattle.nd_value.specs.Deferral.{Placed_cells}

@@ -31,10 +31,12 @@ pub(crate) fn walk_root<'a>(
     at: u32,
     root: RootDef<'a>,
 ) -> Result<(), Halt>
-    ensures goes { (k : Known) → IsGround k ground.now → IsPart k → IsRoot k at root.entry → (due : List Due) (rest : List Entry) (names : Placed_cells)
+    ensures goes { (k : Known) → IsGround k ground.now → IsPart k → IsRoot k at root.entry
+        → (due : List Due) (rest : List Entry) (names : Placed_cells)
         → walker.old.cells.pending.items ≡ [] → IsAwaiting k walker.old (due_root at ∷ due) rest names
         → IfOk result (λ _. (walker.new.cells.pending.items ≡ []) × IsAwaiting k walker.new due rest names) }
-    ensures ends { (k : Known) → IsGround k ground.now → IsPart k → IsRoot k at root.entry → (due : List Due) (rest : List Entry) (names : Placed_cells)
+    ensures ends { (k : Known) → IsGround k ground.now → IsPart k → IsRoot k at root.entry
+        → (due : List Due) (rest : List Entry) (names : Placed_cells)
         → walker.old.cells.pending.items ≡ [] → IsAwaiting k walker.old (due_root at ∷ due) rest names
         → IsErrOf result halts.Here → IsEnded k walker.new.progress }
 {
@@ -53,10 +55,12 @@ fn walk_own<'a>(
     at: u32,
     root: RootDef<'a>,
 ) -> Result<(), Halt>
-    ensures goes { (k : Known) → IsGround k ground.now → IsPart k → IsRoot k at root.entry → (due : List Due) (rest : List Entry) (names : Placed_cells)
+    ensures goes { (k : Known) → IsGround k ground.now → IsPart k → IsRoot k at root.entry
+        → (due : List Due) (rest : List Entry) (names : Placed_cells)
         → walker.old.cells.pending.items ≡ [] → IsAwaiting k walker.old (due_root at ∷ due) rest names
         → IfOk result (λ _. IsAwaiting k walker.new due rest names) }
-    ensures ends { (k : Known) → IsGround k ground.now → IsPart k → IsRoot k at root.entry → (due : List Due) (rest : List Entry) (names : Placed_cells)
+    ensures ends { (k : Known) → IsGround k ground.now → IsPart k → IsRoot k at root.entry
+        → (due : List Due) (rest : List Entry) (names : Placed_cells)
         → walker.old.cells.pending.items ≡ [] → IsAwaiting k walker.old (due_root at ∷ due) rest names
         → IsErrOf result halts.Here → IsEnded k walker.new.progress }
 {
@@ -73,11 +77,13 @@ fn walk_plain<'a>(
     at: u32,
     root: RootDef<'a>,
 ) -> Result<(), Halt>
-    ensures goes { (k : Known) → IsGround k ground.now → IsPart k → IsRoot k at root.entry → direct_of (type_at k.setting.table root.entry.of.0) ≡ None
+    ensures goes { (k : Known) → IsGround k ground.now → IsPart k → IsRoot k at root.entry
+        → direct_of (type_at k.setting.table root.entry.of.0) ≡ None
         → (due : List Due) (rest : List Entry) (names : Placed_cells)
         → walker.old.cells.pending.items ≡ [] → IsAwaiting k walker.old (due_root at ∷ due) rest names
         → IfOk result (λ _. IsAwaiting k walker.new due rest names) }
-    ensures ends { (k : Known) → IsGround k ground.now → IsPart k → IsRoot k at root.entry → direct_of (type_at k.setting.table root.entry.of.0) ≡ None
+    ensures ends { (k : Known) → IsGround k ground.now → IsPart k → IsRoot k at root.entry
+        → direct_of (type_at k.setting.table root.entry.of.0) ≡ None
         → (due : List Due) (rest : List Entry) (names : Placed_cells)
         → walker.old.cells.pending.items ≡ [] → IsAwaiting k walker.old (due_root at ∷ due) rest names
         → IsErrOf result halts.Here → IsEnded k walker.new.progress }
