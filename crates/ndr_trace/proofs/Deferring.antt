@@ -60,6 +60,20 @@ module _ (w : Setting) (g : Graph) where
   inverted (at_standing {steps = vs} c e f h d) = inr (inl (c, vs, e, h, d, refl))
   inverted (at_referent {steps = vs} c e n d) = inr (inr (c, vs, e, n, d, refl))
 
+  -- the referent of a pointer that names a cell which does not stand yet
+  pub first_time : (done : Placed_cells) (p : Pointer) (due : List Due) (us : List Step) (cell : ℕ) → p.cell ≡ Some cell → (IsPlaced done cell → ⊥)
+      → Inverted done (due_referent p ∷ due) us
+      → (vs : List Step) × Deferral w g ((p.class, cell) ∷ done) (due_of w.table (standing_cell g p cell) ++ due) vs × (us ≡ referent_stands p cell ∷ vs)
+  first_time done p due us cell is new (inl (e, d)) = let z : None ≡ Some cell = sym e ∙ is in cc
+  first_time done p due us cell is new (inr (inl (c, vs, e, placed, d, s))) =
+      absurd (new (subst (IsPlaced done) (same_Some _ _ (sym e ∙ is)) (full_stands done c placed)))
+  first_time done p due us cell is new (inr (inr (c, vs, e, not_placed, d, s))) =
+      let same : c ≡ cell = same_Some _ _ (sym e ∙ is) in (
+        vs,
+        subst (λ m. Deferral w g ((p.class, m) ∷ done) (due_of w.table (standing_cell g p m) ++ due) vs) same d,
+        s ∙ ap (λ m. referent_stands p m ∷ vs) same,
+      )
+
   -- ## Null pointers
 
   abbrev Mine : Pointer → Type 0

@@ -11,6 +11,8 @@ use Rattle.nd_base.specs.declared.TheConstants.{STREAM_LIMIT}
 use Rattle.nd_types.specs.declared.types.Attr.{Attr}
 use Rattle.nd_types.specs.declared.types.Attr.TheVariants as attr
 use Rattle.nd_types.specs.declared.types.Class.TheVariants.{Full, Ref, Unique}
+use Rattle.nd_types.specs.Number.{unsigned, value_of_octets}
+use Rattle.nd_types.specs.Table.{selected}
 use Rattle.nd_value.specs.declared.item.Home.{Home}
 use Rattle.nd_value.specs.declared.item.Item.{Item}
 use Rattle.nd_value.specs.declared.item.ItemKind.{ItemKind}
@@ -22,7 +24,7 @@ use Rattle.nd_grammar.specs.declared.reason.Reason.{Reason}
 use Rattle.nd_grammar.specs.declared.reason.Reason.TheVariants as reason
 use Rattle.nd_grammar.specs.Entry.{Actual, Align, Chunk, Context, Entry, EntryAt, Kind, Max, Num, Number, Offset, Tag, Test, Text, Unread, end_to_end, gap, size_at}
 use Rattle.nd_grammar.specs.Items.{item_at, item_of, items}
-use Rattle.nd_grammar.specs.Refusal.{is_long, is_max, kind_agrees, kind_refusal, refusal, refused_if, same_home, tested_at, text_refusal}
+use Rattle.nd_grammar.specs.Refusal.{is_enumerator, is_long, is_max, is_selected, kind_agrees, kind_refusal, refusal, refused_if, same_home, tested_at, text_refusal}
 use Rattle.nd_grammar.specs.Represents.{piece}
 use Rattle.ndr_trace_laws.specs.Untested.{is_test}
 use Rattle.ndr_trace_laws.proofs.Gaps.{empty_gap}
@@ -58,10 +60,15 @@ module _ (order : Order) (octets : List ℕ) (earlier : List EntryAt) where
   kind_plain : (at : ℕ) (m : Entry) (k : Kind) (os : List ℕ) (q : ℕ × Reason) → is_test k ≡ false → kind_refusal order octets earlier at m k os ≡ Some q → is_disagreement q.1 ≡ false
   kind_plain at m (Test a w f) os q t e = cc
   kind_plain at m (Num p values z) os q t e = by_first _ (at, reason.EnumValue) None q refl (λ g. cc) e
-  kind_plain at m (Tag p values arms default z) os q t e = by_first _ (at, reason.EnumValue) _ q refl (λ g. by_first _ (at, reason.NoArm) None q refl (λ h. cc) g) e
+  kind_plain at m (Tag p values arms default z) os q t e =
+      by_first (not (is_enumerator values (value_of_octets order p os))) (at, reason.EnumValue)
+      (refused_if (not (is_selected (selected arms default (value_of_octets order p os)))) (at, reason.NoArm) None) q refl
+      (λ g. by_first (not (is_selected (selected arms default (value_of_octets order p os)))) (at, reason.NoArm) None q refl (λ h. cc) g) e
   kind_plain at m (Offset true v) os q t e = by_first _ (at, reason.TextOffset) None q refl (λ g. cc) e
   kind_plain at m (Offset false v) os q t e = cc
-  kind_plain at m (Actual b o l v) os q t e = by_first _ (at, reason.TextEmpty) _ q refl (λ g. by_first _ (at, reason.PastBound) None q refl (λ h. cc) g) e
+  kind_plain at m (Actual b o l v) os q t e =
+      by_first (b && eqb (unsigned order os) 0) (at, reason.TextEmpty) (refused_if (ltb l (o + unsigned order os)) (at, reason.PastBound) None) q refl
+      (λ g. by_first (ltb l (o + unsigned order os)) (at, reason.PastBound) None q refl (λ h. cc) g) e
   kind_plain at m (Text text) os q t e = text_plain at os q e
   kind_plain at m (Number Full to cell) os q t e = by_first _ (at, reason.OtherType) None q refl (λ g. cc) e
   kind_plain at m (Number Unique to cell) os q t e = cc
@@ -75,9 +82,10 @@ module _ (order : Order) (octets : List ℕ) (earlier : List EntryAt) where
   -- an entry that is no agreement is refused for another reason
   pub plain_fault : (x : EntryAt) (q : ℕ × Reason) → is_test x.entry.kind ≡ false → refusal order octets earlier x ≡ Some q → is_disagreement q.1 ≡ false
   plain_fault x q t e =
-      by_first _ (STREAM_LIMIT, reason.TooLong) _ q refl
-      (λ f. by_first _ (length octets, reason.Truncated) _ q refl
-      (λ g. kind_plain x.at x.entry x.entry.kind (piece octets x.at x.entry.kind) q t g) f) e
+      let own : Option (ℕ × Reason) = kind_refusal order octets earlier x.at x.entry x.entry.kind (piece octets x.at x.entry.kind) in
+      let short : Bool = ltb (length octets) (x.at + size_at x.at x.entry.kind) in
+      by_first (is_long x.at x.entry.kind) (STREAM_LIMIT, reason.TooLong) (refused_if short (length octets, reason.Truncated) own) q refl
+      (λ f. by_first short (length octets, reason.Truncated) own q refl (λ g. kind_plain x.at x.entry x.entry.kind (piece octets x.at x.entry.kind) q t g) f) e
 
   -- an agreement is refused where the count or tag is that it speaks of
   pub agreement_fault : (x : EntryAt) (place : ℕ) (why : Reason) (a : Attr) (wanted found : ℤ) → x.entry.kind ≡ Test a wanted found → x.at ≤ length octets
@@ -91,25 +99,25 @@ module _ (order : Order) (octets : List ℕ) (earlier : List EntryAt) where
       Goal : Type 0
       Goal = (why ≡ reason.Disagrees wanted found) × (tested_at earlier a x.entry.home x.entry.node ≡ Some place)
 
-      there : (o : Option ℕ) → tested_at earlier a x.entry.home x.entry.node ≡ o → option_map (λ p. (p, reason.Disagrees wanted found)) o ≡ Some (place, why) → Goal
+      there : (o : Option ℕ) → tested_at earlier a x.entry.home x.entry.node ≡ o → option_map {U = ℕ × Reason} (λ p. (p, reason.Disagrees wanted found)) o ≡ Some (place, why) → Goal
       there None f g = cc
       there (Some p) f g =
-          let same : (p, reason.Disagrees wanted found) ≡ (place, why) = same_Some _ _ g in
+          let same : ◌≡◌ {A = ℕ × Reason} (p, reason.Disagrees wanted found) (place, why) = same_Some _ _ g in
           (sym (ap (λ (y : ℕ × Reason). y.1) same), f ∙ ap (λ (y : ℕ × Reason). Some y.0) same)
 
-      holds : (t : Bool) → cond {A = Option (ℕ × Reason)} t None (option_map (λ p. (p, reason.Disagrees wanted found)) (tested_at earlier a x.entry.home x.entry.node)) ≡ Some (place, why) → Goal
+      holds : (t : Bool) → cond {A = Option (ℕ × Reason)} t None (option_map {U = ℕ × Reason} (λ p. (p, reason.Disagrees wanted found)) (tested_at earlier a x.entry.home x.entry.node)) ≡ Some (place, why) → Goal
       holds true g = cc
       holds false g = there (tested_at earlier a x.entry.home x.entry.node) refl g
 
       whole : (t : Bool) → ltb (length octets) (x.at + 0) ≡ t
           → refused_if (ltb (length octets) (x.at + 0)) (length octets, reason.Truncated)
-          (cond (int_eq wanted found) None (option_map (λ p. (p, reason.Disagrees wanted found)) (tested_at earlier a x.entry.home x.entry.node))) ≡ Some (place, why)
+          (cond (int_eq wanted found) None (option_map {U = ℕ × Reason} (λ p. (p, reason.Disagrees wanted found)) (tested_at earlier a x.entry.home x.entry.node))) ≡ Some (place, why)
           → Goal
       whole true h g = let l = ltb-true (length octets) (x.at + 0) h in absurd (omega (arith, l, within))
       whole false h g =
           holds (int_eq wanted found)
           (ap (λ t. refused_if t (length octets, reason.Truncated)
-          (cond (int_eq wanted found) None (option_map (λ p. (p, reason.Disagrees wanted found)) (tested_at earlier a x.entry.home x.entry.node)))) (sym h) ∙ g)
+          (cond (int_eq wanted found) None (option_map {U = ℕ × Reason} (λ p. (p, reason.Disagrees wanted found)) (tested_at earlier a x.entry.home x.entry.node)))) (sym h) ∙ g)
 
 -- ## The item of a count or a tag
 
@@ -224,22 +232,16 @@ module _ (order : Order) (octets : List ℕ) where
   items_from at ms [] ys e = tt
   items_from at [] (x ∷ xs) ys e = cc
   items_from at (m ∷ ms) (x ∷ xs) ys e =
-      go (item_of order x.entry.kind (piece octets x.at x.entry.kind))
+      let first : record { at = at; entry = m } ≡ x = cc in
+      let rest : end_to_end (at + size_at at m.kind) ms ≡ xs ++ ys = cc in
+      go (item_of order x.entry.kind (piece octets x.at x.entry.kind)) (ap (λ (y : EntryAt). y.at) first)
+      (all_weaker (λ (i : Item). at + size_at at m.kind ≤ i.at) (λ (i : Item). at ≤ i.at) (λ i l. omega (arith, l)) (items order octets xs)
+      (items_from (at + size_at at m.kind) ms xs ys rest))
     where
-      first : record { at = at; entry = m } ≡ x
-      first = cc
-
-      rest : end_to_end (at + size_at at m.kind) ms ≡ xs ++ ys
-      rest = cc
-
-      later : AllByRecursion (λ (i : Item). at ≤ i.at) (items order octets xs)
-      later =
-          all_weaker (λ (i : Item). at + size_at at m.kind ≤ i.at) (λ (i : Item). at ≤ i.at) (λ i l. omega (arith, l)) (items order octets xs)
-          (items_from (at + size_at at m.kind) ms xs ys rest)
-
-      go : (o : Option (ItemKind × ℤ)) → AllByRecursion (λ (i : Item). at ≤ i.at) (item_at x o ++ items order octets xs)
-      go None = later
-      go (Some z) = let h = ap (λ (y : EntryAt). y.at) first in (omega (arith, h), later)
+      go : (o : Option (ItemKind × ℤ)) → at ≡ x.at → AllByRecursion (λ (i : Item). at ≤ i.at) (items order octets xs)
+          → AllByRecursion (λ (i : Item). at ≤ i.at) (item_at x o ++ items order octets xs)
+      go None h later = later
+      go (Some z) h later = (omega (arith, h), later)
 
   -- two items at one place are one
   pub one_item : (at : ℕ) (ms : List Entry) (xs ys : List EntryAt) → end_to_end at ms ≡ xs ++ ys → (n j : ℕ) (a b : Item) → slice_get (items order octets xs) n ≡ Some a

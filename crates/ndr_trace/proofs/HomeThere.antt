@@ -80,7 +80,7 @@ module _ (k : Known) (m : ℕ) (laid : HoistsLast k.setting.table) where
       let mine = its_max t types l ks ts o c' f in
       let kids = children k.setting.table laid t d l ks refl in (
         record { partial = first; max_is = λ e. own_known l (hoisted_max 0 ks) m (mine e) },
-        are_own (child_types d l ks) (child_agreements d ks) (n + 1) ks kids.0 b.0.0 b.0.1 (λ e. (let r = kids.1 e in of_record l (hoisted_max 0 ks) m r.1.0 (mine r.0))) parts.0,
+        are_own (child_types d l ks) (child_agreements d ks) (n + 1) ks kids.0 b.0.0 b.0.1 (λ e. (let r = kids.1 e in of_record l (hoisted_max 0 ks) m r.1 (mine r.0))) parts.0,
         are_own types (rest_agreements ags) (n + 1 + node_count ks) ts (fewer t types o) c' b.1 (others_max t types l ks ts c' f) parts.1,
       )
 

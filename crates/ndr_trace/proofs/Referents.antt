@@ -30,7 +30,7 @@ use Rattle.ndr_trace_value.specs.declared.nodes.Walker.{Walker}
 use Rattle.ndr_trace.specs.Homes.{HasHome, HasPassed, IsAwaiting, IsDeferring, IsNext, IsPart, home_due, pending_all, step_names}
 use Rattle.ndr_trace_value.specs.Naming.{HasType, IsNaming, Stand, names_in, pending_of, stands_at}
 use Rattle.ndr_trace_value.specs.Tracing.{IsTracing, Known}
-use Rattle.ndr_trace.proofs.Deferring.{Inverted, already_entries, due_joined, inverted, next_pending, nulls_skipped, pending_joined, referent_entries, referent_names}
+use Rattle.ndr_trace.proofs.Deferring.{Inverted, already_entries, due_joined, first_time, inverted, next_pending, nulls_skipped, pending_joined, referent_entries, referent_names}
 use Rattle.ndr_trace.proofs.HomeNames.{home_waits}
 use Rattle.ndr_trace_value.proofs.NamedCells.{same_naming}
 use Rattle.ndr_trace.proofs.PartialHomes.{cell_has_home, typed_cell}
@@ -235,36 +235,34 @@ module _ (k : Known) (due : List Due) (rest : List Entry) (names : Placed_cells)
     after = λ v t passed. stood u v (home.Cell c) p.to done vs ps d marks (in_cell k.setting k.graph c.0 p.to typed) all waiting t passed;
   }
 
+  entered : (s : IsPart k) (u v : Walker) (next : Pending) (n : IsNext k u next due rest names) (vs : List Step) → stands_at v.cells.stands.items next.cell.0 ≡ true
+      → ((d : ℕ) → (d ≡ next.cell.0 → ⊥) → stands_at v.cells.stands.items d ≡ stands_at u.cells.stands.items d) → v.cells.count ≡ u.cells.count
+      → v.cells.numbers ≡ u.cells.numbers → v.cells.pending ≡ u.cells.pending → v.progress ≡ u.progress
+      → Deferral k.setting k.graph ((n.pointer.class, next.cell.0) ∷ n.done)
+      (due_of k.setting.table (standing_cell k.graph n.pointer next.cell.0) ++ (map due_referent n.pointers ++ due)) vs
+      → n.steps ≡ referent_stands n.pointer next.cell.0 ∷ vs → Entering v (home.Cell next.cell) (named.Cell next.cell) n.pointer.to
+  entered s u v next n vs set others ec en eq ep d is =
+      enter_cell s v next.cell n.pointer ((n.pointer.class, next.cell.0) ∷ n.done) vs n.pointers (typed_cell k s n.pointer n.among next.cell.0 n.cell) d
+      (marked_more u.cells.stands.items v.cells.stands.items next.cell.0 n.pointer.class n.done n.deferring.stand set others) n.all_among
+      (ap reverse (ap (λ z. z.items) eq) ∙ n.pending)
+      (subst (λ us. IsTracing k v.progress (untested (flat_map (step_entries k.setting k.graph) us) ++ rest)) is
+      (subst (λ q. IsTracing k q (untested (flat_map (step_entries k.setting k.graph) n.steps) ++ rest)) (sym ep) n.deferring.tracing))
+      (subst (λ us. IsNaming k v.cells (flat_map (step_names k.setting k.graph) us ++ names)) is (same_naming k u.cells v.cells _ ec en n.deferring.naming))
+
+  -- a cell that is not marked does not stand
+  not_placed : (marks : List Bool) (done : Placed_cells) (c : ℕ) → Stand marks done → true ≡ not (stands_at marks c) → IsPlaced done c → ⊥
+  not_placed marks done c s first placed =
+      let was : stands_at marks c ≡ true = (s c).1 placed in
+      let never : stands_at marks c ≡ false = not_false (stands_at marks c) first in
+      let z : true ≡ false = sym was ∙ never in
+      cc
+
   pub entering : (u v : Walker) (next : Pending) → IsPart k → IsNext k u next due rest names → true ≡ not (stands_at u.cells.stands.items next.cell.0)
       → stands_at v.cells.stands.items next.cell.0 ≡ true
       → ((d : ℕ) → (d ≡ next.cell.0 → ⊥) → stands_at v.cells.stands.items d ≡ stands_at u.cells.stands.items d) → v.cells.count ≡ u.cells.count
       → v.cells.numbers ≡ u.cells.numbers → v.cells.pending ≡ u.cells.pending → v.progress ≡ u.progress → Entering v (home.Cell next.cell) (named.Cell next.cell) next.to.0
   entering u v next s n first set others ec en eq ep =
-      subst (λ t. Entering v (home.Cell next.cell) (named.Cell next.cell) t) n.to (go (inverted k.setting k.graph n.deferring.deferral))
-    where
-      entered : (vs : List Step) → Deferral k.setting k.graph ((n.pointer.class, next.cell.0) ∷ n.done)
-          (due_of k.setting.table (standing_cell k.graph n.pointer next.cell.0) ++ (map due_referent n.pointers ++ due)) vs
-          → n.steps ≡ referent_stands n.pointer next.cell.0 ∷ vs → Entering v (home.Cell next.cell) (named.Cell next.cell) n.pointer.to
-      entered vs d is =
-          enter_cell s v next.cell n.pointer ((n.pointer.class, next.cell.0) ∷ n.done) vs n.pointers (typed_cell k s n.pointer n.among next.cell.0 n.cell) d
-          (marked_more u.cells.stands.items v.cells.stands.items next.cell.0 n.pointer.class n.done n.deferring.stand set others) n.all_among
-          (ap reverse (ap (λ z. z.items) eq) ∙ n.pending)
-          (subst (λ us. IsTracing k v.progress (untested (flat_map (step_entries k.setting k.graph) us) ++ rest)) is
-          (subst (λ q. IsTracing k q (untested (flat_map (step_entries k.setting k.graph) n.steps) ++ rest)) (sym ep) n.deferring.tracing))
-          (subst (λ us. IsNaming k v.cells (flat_map (step_names k.setting k.graph) us ++ names)) is (same_naming k u.cells v.cells _ ec en n.deferring.naming))
-
-      go : Inverted k.setting k.graph n.done (due_referent n.pointer ∷ (map due_referent n.pointers ++ due)) n.steps
-          → Entering v (home.Cell next.cell) (named.Cell next.cell) n.pointer.to
-      go (inl (e, d)) = let z : None ≡ Some next.cell.0 = sym e ∙ n.cell in cc
-      go (inr (inl (c, vs, e, placed, d, is))) =
-          let same : next.cell.0 ≡ c = same_Some _ _ (sym n.cell ∙ e) in
-          let was : stands_at u.cells.stands.items next.cell.0 ≡ true =
-          ap (stands_at u.cells.stands.items) same ∙ (n.deferring.stand c).1 (full_stands n.done c placed) in
-          let never : stands_at u.cells.stands.items next.cell.0 ≡ false = not_false (stands_at u.cells.stands.items next.cell.0) first in
-          let z : true ≡ false = sym was ∙ never in
-          cc
-      go (inr (inr (c, vs, e, not_placed, d, is))) =
-          let same : c ≡ next.cell.0 = same_Some _ _ (sym e ∙ n.cell) in
-          entered vs
-          (subst (λ m. Deferral k.setting k.graph ((n.pointer.class, m) ∷ n.done) (due_of k.setting.table (standing_cell k.graph n.pointer m) ++ (map due_referent n.pointers ++ due)) vs) same d)
-          (is ∙ ap (λ m. referent_stands n.pointer m ∷ vs) same)
+      let f =
+      first_time k.setting k.graph n.done n.pointer (map due_referent n.pointers ++ due) n.steps next.cell.0 n.cell
+      (not_placed u.cells.stands.items n.done next.cell.0 n.deferring.stand first) (inverted k.setting k.graph n.deferring.deferral) in
+      subst (λ t. Entering v (home.Cell next.cell) (named.Cell next.cell) t) n.to (entered s u v next n f.0 set others ec en eq ep f.1 f.2)

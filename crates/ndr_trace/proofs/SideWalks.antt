@@ -100,7 +100,9 @@ pipe_or_not w i r e =
 drop_at : {X : Type 0} (xs : List X) (i : ℕ) (x : X) → slice_get xs i ≡ Some x → drop i xs ≡ x ∷ drop (i + 1) xs
 drop_at [] i x e = cc
 drop_at (y ∷ ys) zero x e = ap (λ z. z ∷ ys) (same_Some _ _ e)
-drop_at (y ∷ ys) (suc i) x e = drop_at ys i x e
+drop_at (y ∷ ys) (suc i) x e =
+    let n : suc (i + 1) ≡ suc i + 1 = omega arith in
+    drop_at ys i x e ∙ ap (λ j. x ∷ drop j (y ∷ ys)) n
 
 module _ (k : Known) where
   -- a root that is no pipe is due next
@@ -180,7 +182,7 @@ module _ (k : Known) where
     pub all_cut : AllCut (drop (at + 1) k.graph.roots) later
 
   pub next_pipe : (s : IsPart k) (u : Walker) (at : ℕ) (root : RootDef) → IsRoot k at root → root.pipe ≡ true → IsAtRoot k u at → NextPipe u at root
-  next_pipe s u at root r yes a = go (pipe_or_not k.setting at r.its r.there)
+  next_pipe s u at root r its_pipe a = go (pipe_or_not k.setting at r.its r.there)
     where
       few : at < length k.graph.roots
       few = let b = slice_get_within (root_list k.setting) at r.its r.there in let c = s.partial.all_roots in omega (arith, b, c)
@@ -210,7 +212,7 @@ module _ (k : Known) where
           }
 
       go : ((r.its.is_pipe ≡ false) × (at < before_pipes (root_list k.setting))) ⊎ ((r.its.is_pipe ≡ true) × (before_pipes (root_list k.setting) ≤ at)) → NextPipe u at root
-      go (inl (p, l)) = let z : true ≡ false = sym yes ∙ sym r.pipe ∙ p in cc
+      go (inl (p, l)) = let z : true ≡ false = sym its_pipe ∙ sym r.pipe ∙ p in cc
       go (inr (p, l)) = let (cuts, t) = at_pipes u at l a in with_cuts cuts t
 
   pub after_pipe : (u v : Walker) (at : ℕ) (root : RootDef) → (p : NextPipe u at root) → IsTracing k v.progress (pipes_due k (at + 1) p.later)

@@ -382,8 +382,8 @@ begins_walk k h max name types ways s same same_ways some n left there rest name
   };
 }
 
-named_on : (k : Known) (a b c : Cells) (xs ys : List Entry) (more names : Placed_cells) → HasNamed k a b xs more → HasNamed k b c ys names → HasNamed k a c (xs ++ ys) names
-named_on k a b c xs ys more names g h = record {
+named_on : (k : Known) (a b c : Cells) (xs ys : List Entry) (before names : Placed_cells) → HasNamed k a b xs before → HasNamed k b c ys names → HasNamed k a c (xs ++ ys) names
+named_on k a b c xs ys before names g h = record {
   naming = h.naming;
   pending =
       h.pending ∙ ap (λ ps. ps ++ pending_in ys) g.pending ∙ append_assoc a.pending.items (pending_in xs) (pending_in ys)
@@ -445,10 +445,10 @@ pub visits_around : (k : Known) (u : Ground) → IsGround k u → (s : Spot) (ma
     → (names : Placed_cells) → IsNaming k mid.cells (names_in (own_due k s.home n t l ks) ++ names)
     → IsSeen l (count ks) f × (IsTracing k p2 rest × HasNamed k mid.cells a2 (own_due k s.home n t l ks) names))
     → (after.progress ≡ p2) × (after.cells ≡ a2) → Visits k s max t n before after f
-visits_around k u ground s max t n before mid after p2 a2 f same ready own later l ks node rest tr names nm =
+visits_around k u ground s max t n before mid after p2 a2 f same ready own later l ks it rest tr names nm =
     let due = own_due k s.home n t l ks in
     let r =
-    own l ks node (ready_after k u ground before.progress mid.progress same.0 ready) rest (subst (λ p. IsTracing k p (due ++ rest)) (sym same.0) tr) names
+    own l ks it (ready_after k u ground before.progress mid.progress same.0 ready) rest (subst (λ p. IsTracing k p (due ++ rest)) (sym same.0) tr) names
     (subst (λ a. IsNaming k a (names_in due ++ names)) (sym same.1) nm) in
     (r.0, (subst (λ p. IsTracing k p rest) (sym later.0) r.1.0, named_around k before.cells mid.cells a2 after.cells due names same.1 later.1 r.1.1))
 

@@ -395,6 +395,6 @@ read_of k max t l ks own not = by_kind (read_node k.setting.table k.graph (recor
     by_kind (inl u) = absurd (not u)
     by_kind (inr r) = r
 
-is_bound_of : (bound : Option ℕ) (max m limit : ℕ) → is_bound bound m ≡ true → (bound ≡ None → m ≡ max) → limit ≡ unwrap_or bound max → limit ≡ m
+pub is_bound_of : (bound : Option ℕ) (max m limit : ℕ) → is_bound bound m ≡ true → (bound ≡ None → m ≡ max) → limit ≡ unwrap_or bound max → limit ≡ m
 is_bound_of None max m limit b e f = f ∙ sym (e refl)
 is_bound_of (Some c) max m limit b e f = f ∙ sym (eqb-true m c b)

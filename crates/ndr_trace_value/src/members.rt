@@ -282,7 +282,10 @@ fn state(search: &mut Search<'_>, wanted: i128, variable: Octets) -> Result<(), 
 
 /// Closes the structs around whose members there are so many levels or more.
 pub fn close<'a>(ground: &Ground<'a>, search: &mut Search<'a>, depth: usize) -> Result<(), Memory> {
-    while let Some(open) = search.open.pop() {
+    for _struct in 0..search.open.len() {
+        let Some(open) = search.open.pop() else {
+            return Ok(());
+        };
         if open.depth < depth {
             let Ok(()) = search.open.push(open) else {
                 return Err(Memory);

@@ -50,7 +50,7 @@ pub fn note_direct(search: &mut Search<'_>, cell: CellId) {
 // Notes the number that a cell is.
 fn seen_cell(search: &mut Search<'_>, cell: CellId, number: Option<i128>) -> Result<(), Memory> {
     let at = cell.0 as usize;
-    while search.cell_numbers.len() < at {
+    for _cell in search.cell_numbers.len()..at {
         let Ok(()) = search.cell_numbers.push(None) else {
             return Err(Memory);
         };

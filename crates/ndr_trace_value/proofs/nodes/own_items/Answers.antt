@@ -87,12 +87,12 @@ returns-in-Some-Array-clause-paid c = paid_same c.args.progress.now c.array.new.
 pub returns-in-Some-Union-clause-goes : goal.returns-in-Some-Union-clause-goes
 returns-in-Some-Union-clause-goes c k u n l ks node ready rest t names nm =
     union_goes k c.args.spot.now n c.args.max c.args.of.0 l ks node c.args.progress.now ready rest t names c.args.cells.now nm c.tagged.new.progress c.tagged.result _ _ _ _ (ap (λ ts. type_at ts c.args.of.0) (sym u.table) ∙ c.in-Some-Union.ensures.some ∙ ap (λ d. Some d) c.in-Some-Union.field-0-is) _
-    (c.tag_width-width.ensures.width ∙ ap (λ ts. width_by (type_at ts _)) u.table) (c.tagged.ensures.goes k u n node.spot)
+    (c.tag_width-width.ensures.width ∙ ap (λ ts. width_by (type_at ts c.in-Some-Union.tag.0)) u.table) (c.tagged.ensures.goes k u n node.spot)
 
 pub returns-in-Some-Union-clause-ends : goal.returns-in-Some-Union-clause-ends
 returns-in-Some-Union-clause-ends c k u n l ks node ready rest t names nm =
     union_ends k c.args.spot.now n c.args.max c.args.of.0 l ks node c.args.progress.now ready rest t _ _ _ _ (ap (λ ts. type_at ts c.args.of.0) (sym u.table) ∙ c.in-Some-Union.ensures.some ∙ ap (λ d. Some d) c.in-Some-Union.field-0-is) _
-    (c.tag_width-width.ensures.width ∙ ap (λ ts. width_by (type_at ts _)) u.table) (c.tagged.ensures.ends k u n node.spot)
+    (c.tag_width-width.ensures.width ∙ ap (λ ts. width_by (type_at ts c.in-Some-Union.tag.0)) u.table) (c.tagged.ensures.ends k u n node.spot)
 
 pub returns-in-Some-Union-clause-paid : goal.returns-in-Some-Union-clause-paid
 returns-in-Some-Union-clause-paid c = paid_same c.args.progress.now c.tagged.new.progress c.args.cells.now c.tagged.result c.tagged.ensures.later
