@@ -145,7 +145,7 @@ fn with_fault(
     why: OctetsFault,
     path: &[u8],
 ) -> Result<Octets, Memory>
-    ensures { IfOk result (λ text. text ≡ lines.entry ++ fault_line place why path.now) }
+    ensures { IfOk result (λ text. text ≡ lines ++ fault_line place why path.now) }
 {
     let mut lines = lines;
     append_count(&mut lines, place)?;
