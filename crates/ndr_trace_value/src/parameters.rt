@@ -152,6 +152,9 @@ fn given_value(ground: &Ground<'_>, by: AttrVar) -> Option<i128> {
     let Some(fit) = ground.given else {
         return None;
     };
+    let Some(_operation) = ground.interface.operations.get(ground.op as usize) else {
+        return None;
+    };
     let mut at = 0;
     for root in ground.interface.params(ground.op, Side::In) {
         if root.param == Some(by.var) {
