@@ -15,6 +15,7 @@ use Rattle.nd_flat.proofs.Forests.{flat-joined, joined-take-drop}
 use Rattle.nd_grammar.specs.Entry.{Align, Chunk, Entry, Kind}
 use Rattle.nd_grammar.specs.InPlace.{entries, in_place}
 use Rattle.nd_grammar.specs.Stream.{Cuts, chunk_entries, chunks}
+use Rattle.nd_grammar.proofs.next.NextPipes.{sum_first}
 use Rattle.text_grammar.specs.Paths.{element_path, node_paths}
 use Rattle.text_printer.specs.Walks.{Begins}
 use Rattle.ndr_explain.specs.declared.levels.Level.{Level}
@@ -144,7 +145,7 @@ module _ (k : Known) (h : Home) (name : List ℕ) (t before : ℕ) (rest : List 
   head_by own_path n (c ∷ cut) left cuts there tr nm =
       let ks = take_trees c left in
       let us = drop_trees c left in
-      let within : c ≤ count left = (let e : c + sum cut ≡ count left = cuts.0 in omega (arith, e)) in
+      let within : c ≤ count left = (let e : c + sum cut ≡ count left = sym (sum_first c cut) ∙ cuts.0 in omega (arith, e)) in
       let some : count ks ≡ c = taken c left within in
       let all : count left ≡ c + count us = dropped c left within in
       let whole : joined ks us ≡ left = joined-take-drop c left in
@@ -180,7 +181,7 @@ module _ (k : Known) (h : Home) (name : List ℕ) (t before : ℕ) (rest : List 
                 node = n + node_count ks;
                 cut = cut;
                 left = us;
-                cuts = ((let e : c + sum cut ≡ count left = cuts.0 in omega (arith, e, all)), cuts.1.1);
+                cuts = ((let e : c + sum cut ≡ count left = sym (sum_first c cut) ∙ cuts.0 in omega (arith, e, all)), cuts.1.1);
                 there = both.1;
                 tracing = tr1;
                 naming = nm1;

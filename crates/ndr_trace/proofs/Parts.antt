@@ -19,8 +19,8 @@ no_path_in : (xs ys : List (ℕ × List ℕ)) (m : ℕ) → path_in xs m ≡ [] 
 no_path_in [] ys m e f = f
 no_path_in (x ∷ xs) ys m e f = go (x.0 == m) (λ g. no_path_in xs ys m g f) e
   where
-    go : (b : Bool) → (path_in xs m ≡ [] → path_in (xs ++ ys) m ≡ []) → elim b [ true ↦ x.1 | false ↦ path_in xs m ] ≡ []
-        → elim b [ true ↦ x.1 | false ↦ path_in (xs ++ ys) m ] ≡ []
+    go : (b : Bool) → (path_in xs m ≡ [] → path_in (xs ++ ys) m ≡ []) → ◌≡◌ {A = List ℕ} (elim b [ true ↦ x.1 | false ↦ path_in xs m ]) []
+        → ◌≡◌ {A = List ℕ} (elim b [ true ↦ x.1 | false ↦ path_in (xs ++ ys) m ]) []
     go true h g = g
     go false h g = h g
 

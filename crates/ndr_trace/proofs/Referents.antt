@@ -239,7 +239,7 @@ module _ (k : Known) (due : List Due) (rest : List Entry) (names : Placed_cells)
       → ((d : ℕ) → (d ≡ next.cell.0 → ⊥) → stands_at v.cells.stands.items d ≡ stands_at u.cells.stands.items d) → v.cells.count ≡ u.cells.count
       → v.cells.numbers ≡ u.cells.numbers → v.cells.pending ≡ u.cells.pending → v.progress ≡ u.progress
       → Deferral k.setting k.graph ((n.pointer.class, next.cell.0) ∷ n.done)
-          (due_of k.setting.table (standing_cell k.graph n.pointer next.cell.0) ++ (map due_referent n.pointers ++ due)) vs
+      (due_of k.setting.table (standing_cell k.graph n.pointer next.cell.0) ++ (map due_referent n.pointers ++ due)) vs
       → n.steps ≡ referent_stands n.pointer next.cell.0 ∷ vs → Entering v (home.Cell next.cell) (named.Cell next.cell) n.pointer.to
   entered s u v next n vs set others ec en eq ep d is =
       enter_cell s v next.cell n.pointer ((n.pointer.class, next.cell.0) ∷ n.done) vs n.pointers (typed_cell k s n.pointer n.among next.cell.0 n.cell) d
