@@ -266,10 +266,6 @@ module _ (k : Known) (h : Home) (max : ℕ) (name : List ℕ) (L : Level) (Ls : 
         one_more : (m i : ℕ) → m + 1 + i ≡ m + suc i
         one_more m i = omega arith
 
-    pub due_after : values_due k h (types_from L Ls) n (more (node l ks) us)
-        ≡ own_due k h n t l ks ++ values_due k h (inner_types inner ++ types_after (L ∷ Ls)) (n + 1) (joined ks us)
-    due_after = due_is ∙ ap (λ ts. own_due k h n t l ks ++ values_due k h (ts ++ types_after (L ∷ Ls)) (n + 1) (joined ks us)) (sym same_types)
-
 -- ## Steps
 
 no_values : (k : Known) (h : Home) (n : ℕ) (w : Trees) → values_due k h [] n w ≡ []
