@@ -32,8 +32,6 @@ use Rattle.ndr_trace_value.specs.declared.cells.Pending.{Pending}
 use Rattle.ndr_trace_value.specs.Naming.{HasNamed, HasNumbers, HasType, InTurn, IsFine, IsNaming, full_one, names_of, pending_by, pending_of, stands_at}
 use Rattle.ndr_trace_value.specs.Tracing.{Known}
 
--- ## A pointer of a partial graph
-
 -- ## The numbers that are known
 
 same : (m n : ℕ) → nat_eq m n ≡ true → m ≡ n
