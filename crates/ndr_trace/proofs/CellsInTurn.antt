@@ -2,7 +2,8 @@
 -- `w` is a setting, `g` a partial graph, `p` and `q` are pointers, `ps` the pointers of a home, `seen` those that were passed, `n` is how many cells
 -- these name, `full` are the cells that the full ones among them name, `m` is how many cells there are, `done` are the cells that stand, `rs` the roots
 -- that do, `us` are steps.
-use Rattle.std.proofs.Common.{◌≡◌, ◌⊎◌, inl, inr, ◌∙◌, ℕ, zero, suc, ◌+◌, ◌<◌, ◌≤◌, true, false, List, [], ◌∷◌, ◌++◌, length, Option, Some, None, refl, sym, ap, ap₂, subst, append_assoc, arith, flat_map, map}
+use Rattle.std.proofs.Common.{◌≡◌, ◌⊎◌, inl, inr, ◌∙◌, ℕ, zero, suc, ◌+◌, ◌<◌, ◌≤◌, true, false, List, [], ◌∷◌, ◌++◌, length, Option, Some, None, refl, sym, ap, ap₂, subst, append_assoc, arith}
+use Rattle.std.proofs.Common.{flat_map, map}
 use Rattle.std.specs.List.{AllByRecursion, slice_get}
 use Rattle.std.proofs.lemmas.Option.{same_Some}
 use Rattle.std.proofs.lemmas.List.{map-append}
@@ -17,8 +18,10 @@ use Rattle.nd_value.specs.declared.item.Home.TheVariants as home
 use Rattle.nd_value.specs.declared.value.Graph.{Graph}
 use Rattle.nd_value.specs.Canon.{named, named_cells, own_cell, step_names as step_cells, target}
 use Rattle.nd_value.specs.Conforms.{AllEarlier, ShareOnlyIfFull}
-use Rattle.nd_value.specs.Deferral.{Deferral, Due, IsPlaced, Pending as Pointer, Placed_cells, Standing, Step, at_null, at_referent, at_root, at_standing, due_of, due_referent, due_root, home_pointers}
-use Rattle.nd_value.specs.Deferral.{AreFree, direct, due_roots, none_due, pointer, pointer_by, referent_stands, root_cell, root_stands, root_type, standing_by, standing_cell, standing_root, stands_already}
+use Rattle.nd_value.specs.Deferral.{Deferral, Due, IsPlaced, Pending as Pointer, Placed_cells, Standing, Step, at_null, at_referent, at_root, at_standing, due_of, due_referent, due_root}
+use Rattle.nd_value.specs.Deferral.{home_pointers}
+use Rattle.nd_value.specs.Deferral.{AreFree, direct, due_roots, none_due, pointer, pointer_by, referent_stands, root_cell, root_stands, root_type, standing_by, standing_cell, standing_root}
+use Rattle.nd_value.specs.Deferral.{stands_already}
 use Rattle.nd_value.specs.Homes.{all_pointers, cell_pointers, root_pointers}
 use Rattle.nd_value.specs.Setting.{Among, Setting, cell_at, cell_home, cell_of_number, cell_tree, or_unread, root_at, root_list}
 use Rattle.nd_value.specs.Tree as tree

@@ -105,7 +105,8 @@ module _ (order : Order) (octets : List ℕ) (earlier : List EntryAt) where
           let same : ◌≡◌ {A = ℕ × Reason} (p, reason.Disagrees wanted found) (place, why) = same_Some _ _ g in
           (sym (ap (λ (y : ℕ × Reason). y.1) same), f ∙ ap (λ (y : ℕ × Reason). Some y.0) same)
 
-      holds : (t : Bool) → cond {A = Option (ℕ × Reason)} t None (option_map {U = ℕ × Reason} (λ p. (p, reason.Disagrees wanted found)) (tested_at earlier a x.entry.home x.entry.node)) ≡ Some (place, why) → Goal
+      holds : (t : Bool)
+          → cond {A = Option (ℕ × Reason)} t None (option_map {U = ℕ × Reason} (λ p. (p, reason.Disagrees wanted found)) (tested_at earlier a x.entry.home x.entry.node)) ≡ Some (place, why) → Goal
       holds true g = cc
       holds false g = there (tested_at earlier a x.entry.home x.entry.node) refl g
 

@@ -1,7 +1,8 @@
 -- A walk over the value of a home.
 -- `k` are the octets with the partial graph in which they are refused, `h` is a home, `t` the number of its type, `p` how far a walk came, `s` where a
 -- node is, `rest` are the entries after those of the home, `names` the cells that are named after those.
-use Rattle.std.proofs.Common.{◌≡◌, ◌⊎◌, inl, inr, ◌∙◌, ℕ, ◌+◌, ◌<◌, ◌≤◌, Bool, true, false, List, [], ◌∷◌, ◌++◌, drop, length, reverse, take, Option, Some, None, refl, sym, ap, ap₂, subst, length-append, arith}
+use Rattle.std.proofs.Common.{◌≡◌, ◌⊎◌, inl, inr, ◌∙◌, ℕ, ◌+◌, ◌<◌, ◌≤◌, Bool, true, false, List, [], ◌∷◌, ◌++◌, drop, length, reverse, take, Option, Some, None, refl, sym, ap, ap₂, subst}
+use Rattle.std.proofs.Common.{length-append, arith}
 use Rattle.nd_types.specs.declared.types.TypeDef.{TypeDef}
 use Rattle.nd_types.specs.declared.types.TypeDef.TheVariants as def
 use Rattle.nd_types.specs.declared.types.TypeId.{TypeId}

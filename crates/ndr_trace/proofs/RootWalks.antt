@@ -2,7 +2,8 @@
 -- `k` are the octets with the partial graph in which they are refused, `u` and `v` are walks before and after a call, `at` is the index of a root,
 -- `r` the root, `d` its type, `t` its number, `c` is a cell, `due` is what is due after the root, `rest` and `names` are the entries and the names after
 -- all that is due.
-use Rattle.std.proofs.Common.{◌≡◌, ◌⊎◌, inl, inr, ◌∙◌, ℕ, suc, ◌+◌, ◌-◌, ◌^◌, Bool, true, false, List, [], ◌∷◌, ◌++◌, Option, Some, None, refl, sym, ap, ap₂, subst, append_assoc, append-nil, flat_map, map, reverse}
+use Rattle.std.proofs.Common.{◌≡◌, ◌⊎◌, inl, inr, ◌∙◌, ℕ, suc, ◌+◌, ◌-◌, ◌^◌, Bool, true, false, List, [], ◌∷◌, ◌++◌, Option, Some, None, refl, sym, ap, ap₂, subst, append_assoc, append-nil, flat_map}
+use Rattle.std.proofs.Common.{map, reverse}
 use Rattle.std.specs.Prelude.{min}
 use Rattle.std.specs.List.{AllByRecursion, list_all, slice_get}
 use Rattle.std.proofs.lemmas.Option.{same_Some}

@@ -1,7 +1,8 @@
 -- The roots of a side, one after the other.
 -- `k` are the octets with the partial graph in which they are refused, `u` and `v` are walks before and after a call, `i` is the index of a root, `r` a
 -- root, `rs` are roots, `vs` their values, `cut` and `cuts` are the counts of the chunks of pipes.
-use Rattle.std.proofs.Common.{◌≡◌, ◌⊎◌, inl, inr, ◌∙◌, ℕ, zero, suc, ◌+◌, ◌-◌, ◌<◌, ◌≤◌, Bool, true, false, not, cond, List, [], ◌∷◌, ◌++◌, drop, filter, length, Option, Some, None, refl, sym, ap, ap₂, subst, arith, flat_map}
+use Rattle.std.proofs.Common.{◌≡◌, ◌⊎◌, inl, inr, ◌∙◌, ℕ, zero, suc, ◌+◌, ◌-◌, ◌<◌, ◌≤◌, Bool, true, false, not, cond, List, [], ◌∷◌, ◌++◌, drop, filter, length, Option, Some, None, refl, sym, ap}
+use Rattle.std.proofs.Common.{ap₂, subst, arith, flat_map}
 use Rattle.std.specs.List.{AllByRecursion, slice_get}
 use Rattle.std.proofs.lemmas.Grind.{flat_map-append}
 use Rattle.std.proofs.lemmas.Option.{same_Some, slice_get-get_or, slice_get_within}

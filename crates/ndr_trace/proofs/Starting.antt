@@ -1,6 +1,7 @@
 -- The beginning of a walk.
 -- `k` are the octets with the partial graph in which they are refused, `u` is a walk, `ms` are the entries of a stream, `c` is a cell.
-use Rattle.std.proofs.Common.{◌≡◌, ◌⊎◌, inl, inr, ◌∙◌, ℕ, zero, suc, ◌+◌, ◌<◌, ◌≤◌, ◌^◌, List, [], ◌∷◌, ◌++◌, drop, length, Option, Some, None, refl, sym, ap, ap₂, subst, arith, append-nil, append_assoc, flat_map, map, ◌-◌, reverse, true}
+use Rattle.std.proofs.Common.{◌≡◌, ◌⊎◌, inl, inr, ◌∙◌, ℕ, zero, suc, ◌+◌, ◌<◌, ◌≤◌, ◌^◌, List, [], ◌∷◌, ◌++◌, drop, length, Option, Some, None, refl, sym, ap, ap₂, subst, arith, append-nil}
+use Rattle.std.proofs.Common.{append_assoc, flat_map, map, ◌-◌, reverse, true}
 use Rattle.std.specs.List.{AllByRecursion, slice_get}
 use Rattle.std.proofs.lemmas.Option.{slice_get_within}
 use Rattle.nd_types.specs.declared.types.Class.{Class}

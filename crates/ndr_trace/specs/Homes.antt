@@ -14,7 +14,8 @@ use Rattle.nd_value.specs.Conforms.{IsPartial}
 use Rattle.nd_value.specs.Homes.{all_pointers}
 use Rattle.nd_value.specs.declared.item.Home.{Home}
 use Rattle.nd_value.specs.declared.item.Home.TheVariants as home
-use Rattle.nd_value.specs.Deferral.{Deferral, Due, Pending as Pointer, Placed_cells, Standing, Step, due_referent, home_pointers, referent_stands, root_stands, standing_cell}
+use Rattle.nd_value.specs.Deferral.{Deferral, Due, Pending as Pointer, Placed_cells, Standing, Step, due_referent, home_pointers, referent_stands}
+use Rattle.nd_value.specs.Deferral.{root_stands, standing_cell}
 use Rattle.nd_value.specs.Deferral.{standing_root, stands_already}
 use Rattle.nd_value.specs.Misfit.{is_partial_node}
 use Rattle.nd_value.specs.Nodes.{home_nodes}

@@ -29,12 +29,14 @@ pub(crate) fn walk_pipe<'a>(
 ) -> Result<(), Halt>
     ensures goes { (k : Known) → IsGround k ground.now → IsPart k → IsRoot k at root.entry → (cut : List ℕ)
         → Cuts (count_of (kids_of (root_at k.graph at))) cut → (rest : List Entry) (names : Placed_cells)
-        → let due : List Entry = untested (pipe_entries k.setting.table (homes.Root at) (type_at k.setting.table root.entry.of.0) cut (root_at k.graph at)) in
+        → let due : List Entry = untested (pipe_entries k.setting.table (homes.Root at) (type_at k.setting.table root.entry.of.0) cut
+        (root_at k.graph at)) in
         IsTracing k walker.old.progress (due ++ rest) → IsNaming k walker.old.cells (names_in due ++ names)
         → IfOk result (λ _. IsTracing k walker.new.progress rest × IsNaming k walker.new.cells names) }
     ensures ends { (k : Known) → IsGround k ground.now → IsPart k → IsRoot k at root.entry → (cut : List ℕ)
         → Cuts (count_of (kids_of (root_at k.graph at))) cut → (rest : List Entry) (names : Placed_cells)
-        → let due : List Entry = untested (pipe_entries k.setting.table (homes.Root at) (type_at k.setting.table root.entry.of.0) cut (root_at k.graph at)) in
+        → let due : List Entry = untested (pipe_entries k.setting.table (homes.Root at) (type_at k.setting.table root.entry.of.0) cut
+        (root_at k.graph at)) in
         IsTracing k walker.old.progress (due ++ rest) → IsNaming k walker.old.cells (names_in due ++ names)
         → IsErrOf result halts.Here → IsEnded k walker.new.progress }
 {

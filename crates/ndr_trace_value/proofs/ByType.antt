@@ -35,7 +35,8 @@ use Rattle.ndr_trace_value.specs.declared.shapes.Shape.{Shape}
 use Rattle.ndr_trace_value.specs.Naming.{HasNamed, IsFine, IsNaming, named_by, names_in}
 use Rattle.ndr_trace_value.specs.Tracing.{IsTracing, Known, entry_at}
 use Rattle.ndr_trace_value.specs.Walking.{HavePaid, IsNode, IsReady, IsSeen, flat_shape, own_due, width_by}
-use Rattle.ndr_trace_value.proofs.OwnItems.{array_case, array_out, context_case, context_out, due_by, enum_case, enum_out, fine_pointer, is_bound_of, no_form, num_out, pipe_form, pointer_case, pointer_named, pointer_out, prim_case, read_of, struct_case, struct_out, text_case, text_out, union_case, union_out}
+use Rattle.ndr_trace_value.proofs.OwnItems.{array_case, array_out, context_case, context_out, due_by, enum_case, enum_out, fine_pointer, is_bound_of, no_form, num_out, pipe_form, pointer_case}
+use Rattle.ndr_trace_value.proofs.OwnItems.{pointer_named, pointer_out, prim_case, read_of, struct_case, struct_out, text_case, text_out, union_case, union_out}
 
 module _ (k : Known) (s : Spot) (n max t : ℕ) (l : Label) (ks : Trees) (node : IsNode k s max t n l ks) (p : Progress) (ready : IsReady k p) (rest : List Entry)
     (tr : IsTracing k p (own_due k s.home n t l ks ++ rest)) where

@@ -1,6 +1,7 @@
 -- What an item of the log is, by the entry that it stands for: its line, and the number that it holds.
 -- `k` are the octets with the partial graph in which they are refused, `x` is a kind, `os` are an entry's octets, `i` is an item.
-use Rattle.std.proofs.Common.{◌≡◌, ◌∙◌, ℕ, ◌+◌, ◌-◌, ◌^◌, ◌<◌, ◌≤◌, zero, suc, ℤ, Bool, true, false, List, [], ◌∷◌, ◌++◌, drop, length, take, Option, Some, None, codes, refl, sym, ap, ap₂, subst, append_assoc, arith}
+use Rattle.std.proofs.Common.{◌≡◌, ◌∙◌, ℕ, ◌+◌, ◌-◌, ◌^◌, ◌<◌, ◌≤◌, zero, suc, ℤ, Bool, true, false, List, [], ◌∷◌, ◌++◌, drop, length, take, Option, Some, None, codes, refl, sym, ap, ap₂, subst}
+use Rattle.std.proofs.Common.{append_assoc, arith}
 use Rattle.std.proofs.Common.{◌%◌, length-append, reverse}
 use Rattle.std.proofs.Math.Nat.{mod-eq_of_lt, mod-lt, mod_self}
 use Rattle.std.specs.Prelude.{IsSome, option_map, pos}
@@ -37,7 +38,8 @@ use Rattle.ndr_trace_value.specs.declared.progress.Progress.{Progress}
 use Rattle.ndr_trace_value.specs.declared.progress.Spot.{Spot}
 use Rattle.ndr_trace_value.specs.declared.search.Sought.{Sought}
 use Rattle.ndr_trace_value.specs.Traces.{entry_path}
-use Rattle.ndr_trace_value.specs.Tracing.{HasLabel, Holds, HoldsCount, IsCount, IsCounted, IsEnded, IsGround, IsItem, IsShown, IsSpot, IsTracing, Known, either_path, entry_at, is_sought, item_path, kept, kept_by}
+use Rattle.ndr_trace_value.specs.Tracing.{HasLabel, Holds, HoldsCount, IsCount, IsCounted, IsEnded, IsGround, IsItem, IsShown, IsSpot, IsTracing, Known, either_path, entry_at, is_sought, item_path}
+use Rattle.ndr_trace_value.specs.Tracing.{kept, kept_by}
 use Rattle.ndr_trace_value.proofs.Passing.{gap_passed, item_ended, item_passed, kept_next, kept_on, next_item, placed}
 
 -- ## Kinds

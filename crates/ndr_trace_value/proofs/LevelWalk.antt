@@ -1,7 +1,8 @@
 -- A walk from one node to the next.
 -- `k` are the octets with the partial graph in which they are refused, `h` is a home, `L` a level, `Ls` are those around it, the innermost first, `w` are
 -- the values that are left, `t` is the type of the first, `l` its label, `ks` are its children, `us` the values after it, `inner` is the children's level.
-use Rattle.std.proofs.Common.{◌≡◌, inl, ◌∙◌, le_trans, ℕ, ℤ, ◌+◌, ◌<◌, ◌≤◌, zero, suc, List, [], ◌∷◌, ◌++◌, drop, length, reverse, Option, Some, None, refl, sym, ap, ap₂, subst, append_assoc, append-nil, arith}
+use Rattle.std.proofs.Common.{◌≡◌, inl, ◌∙◌, le_trans, ℕ, ℤ, ◌+◌, ◌<◌, ◌≤◌, zero, suc, List, [], ◌∷◌, ◌++◌, drop, length, reverse, Option, Some, None, refl, sym, ap, ap₂, subst, append_assoc}
+use Rattle.std.proofs.Common.{append-nil, arith}
 use Rattle.std.proofs.Common.{length-append}
 use Rattle.std.specs.Prelude.{IsSome, flat_map}
 use Rattle.std.specs.List.{slice_get}
@@ -22,7 +23,8 @@ use Rattle.text_printer.specs.Walks.{Begins}
 use Rattle.ndr_explain.specs.declared.levels.Level.{Level}
 use Rattle.ndr_explain.specs.declared.levels.Levels.{Levels}
 use Rattle.ndr_explain.specs.Explained.{home_flats, home_paths, label_in, path_in}
-use Rattle.ndr_explain.specs.Cursors.{AreLevelsOf, HasChild, IsChildLevel, IsLevelOf, inner_paths, inner_types, level_paths, level_types, name_text, path_to, paths_after, paths_from, types_after, types_from}
+use Rattle.ndr_explain.specs.Cursors.{AreLevelsOf, HasChild, IsChildLevel, IsLevelOf, inner_paths, inner_types, level_paths, level_types, name_text, path_to, paths_after, paths_from, types_after}
+use Rattle.ndr_explain.specs.Cursors.{types_from}
 use Rattle.ndr_explain.proofs.LevelPaths.{path_first}
 use Rattle.ndr_explain.proofs.Walks.{ComesAfter, after_step, path_here, path_later}
 use Rattle.ndr_trace_laws.proofs.Nodes.{after_own}
@@ -263,10 +265,6 @@ module _ (k : Known) (h : Home) (max : ℕ) (name : List ℕ) (L : Level) (Ls : 
       where
         one_more : (m i : ℕ) → m + 1 + i ≡ m + suc i
         one_more m i = omega arith
-
-    pub due_after : values_due k h (types_from L Ls) n (more (node l ks) us)
-        ≡ own_due k h n t l ks ++ values_due k h (inner_types inner ++ types_after (L ∷ Ls)) (n + 1) (joined ks us)
-    due_after = due_is ∙ ap (λ ts. own_due k h n t l ks ++ values_due k h (ts ++ types_after (L ∷ Ls)) (n + 1) (joined ks us)) (sym same_types)
 
 -- ## Steps
 

@@ -1,7 +1,8 @@
 -- The cells that pointers name.
 -- `k` are the octets with the partial graph in which they are refused, `u` and `v` are cells before and after a call, `c` and `d` cells, `x` a cell or
 -- none, `t` is a type's number, `n` a pointer's number, `r` what is known of it, `names` are the cells that are named afterwards.
-use Rattle.std.proofs.Common.{◌≡◌, ◌≢◌, ◌⊎◌, inl, inr, ◌∙◌, ℕ, suc, zero, ◌+◌, ◌-◌, ◌<◌, ◌≤◌, ◌^◌, Bool, true, false, List, [], ◌∷◌, ◌++◌, Option, Some, None, Ok, Err, append-nil, refl, sym, ap, subst, arith}
+use Rattle.std.proofs.Common.{◌≡◌, ◌≢◌, ◌⊎◌, inl, inr, ◌∙◌, ℕ, suc, zero, ◌+◌, ◌-◌, ◌<◌, ◌≤◌, ◌^◌, Bool, true, false, List, [], ◌∷◌, ◌++◌, Option, Some, None, Ok, Err, append-nil, refl, sym, ap}
+use Rattle.std.proofs.Common.{subst, arith}
 use Rattle.std.specs.Prelude.{cond, min, max, nat_eq, option_map}
 use Rattle.std.specs.List.{AllByRecursion}
 use Rattle.std.proofs.Math.Nat.{max-eq_left, max-eq_right, min-eq_left}
@@ -30,17 +31,6 @@ use Rattle.ndr_trace_value.specs.declared.cells.Cells.{Cells}
 use Rattle.ndr_trace_value.specs.declared.cells.Pending.{Pending}
 use Rattle.ndr_trace_value.specs.Naming.{HasNamed, HasNumbers, HasType, InTurn, IsFine, IsNaming, full_one, names_of, pending_by, pending_of, stands_at}
 use Rattle.ndr_trace_value.specs.Tracing.{Known}
-
--- ## A pointer of a partial graph
-
-pub fine_pointer : (g : Graph) (class : Class) (to : TypeId) (x : Option ℕ) → is_no_null_ref (Some (def.Pointer class to)) (tree.Ptr x) ≡ true
-    → names_cell g (tree.Ptr x) ≡ true → names_pointee g (Some (def.Pointer class to)) (tree.Ptr x) ≡ true → IsFine g class to.0 x
-fine_pointer g Ref to None a b c = cc
-fine_pointer g Unique to None a b c = tt
-fine_pointer g Full to None a b c = tt
-fine_pointer g Ref to (Some d) a b c = pointee_of_cell g Ref to d b c
-fine_pointer g Unique to (Some d) a b c = pointee_of_cell g Unique to d b c
-fine_pointer g Full to (Some d) a b c = pointee_of_cell g Full to d b c
 
 -- ## The numbers that are known
 
@@ -254,32 +244,6 @@ module _ (k : Known) (u : Cells) (t n : ℕ) (names : Placed_cells) where
           let (z, at', tz) = fine in
           let one : Some y ≡ Some z = sym at ∙ ap (cell_of_number k.graph) (its_cell c i num r e) ∙ at' in
           other (ap (λ m. record { 0 = m }) (sym ty ∙ ap (λ (q : Referent). q.of) (same_Some _ _ one) ∙ tz))
-
--- a null full pointer
-pub null_named : (k : Known) (u : Cells) (n : ℕ) (x : Option ℕ) (names : Placed_cells) → n ≡ 0 → IsNaming k u (names_of Full x ++ names) → IsNumber k.numbering Full x n
-    → (None ≡ x) × IsNaming k u names
-null_named k u n None names e i num = (refl, i)
-null_named k u n (Some c) names e i num = absurd (not_zero k u 0 n names c i num e)
-
--- a unique pointer
-pub null_unique : (k : Known) (u : Cells) (n : ℕ) (x : Option ℕ) (names : Placed_cells) → n ≡ 0 → IsNaming k u (names_of Unique x ++ names) → IsNumber k.numbering Unique x n
-    → (None ≡ x) × IsNaming k u names
-null_unique k u n None names e i num = (refl, i)
-null_unique k u n (Some c) names e i num = absurd (omega (arith, e, num))
-
-pub some_unique : (k : Known) (u v : Cells) (n : ℕ) (x : Option ℕ) (next : ℕ) (names : Placed_cells) → (n ≡ 0 → ⊥) → IsNaming k u (names_of Unique x ++ names)
-    → IsNumber k.numbering Unique x n → next ≡ min (u.count + 1) (2 ^ 32 - 1) → v.count ≡ next → v.numbers ≡ u.numbers → (Some next ≡ x) × IsNaming k v names
-some_unique k u v n None next names positive i num is ec en = absurd (positive num)
-some_unique k u v n (Some c) next names positive i num is ec en =
-    let (a, b) = plain_named k u v Unique c next names (λ e. cc) refl i is ec en in
-    (ap Some a, b)
-
-pub some_ref : (k : Known) (u v : Cells) (t : ℕ) (x : Option ℕ) (next : ℕ) (names : Placed_cells) → IsNaming k u (names_of Ref x ++ names)
-    → IsFine k.graph Ref t x → next ≡ min (u.count + 1) (2 ^ 32 - 1) → v.count ≡ next → v.numbers ≡ u.numbers → (Some next ≡ x) × IsNaming k v names
-some_ref k u v t None next names i fine is ec en = absurd fine
-some_ref k u v t (Some c) next names i fine is ec en =
-    let (a, b) = plain_named k u v Ref c next names (λ e. cc) refl i is ec en in
-    (ap Some a, b)
 
 -- a pointer is pending then
 pub pending_added : (k : Known) (u v : Cells) (m : Entry) (class : Class) (t : ℕ) (x : Option ℕ) (names : Placed_cells) → m.kind ≡ Number class t x → IsNaming k v names

@@ -1,7 +1,8 @@
 -- A node's own entries, by its type: if they can be due, its label has the form of the type.
 -- `k` are the octets with the partial graph in which they are refused, `h` is a home, `n` a node's number, `t` its type's number, `d` the type, `l` its
 -- label, `ks` are its children, `rest` are the entries after its own.
-use Rattle.std.proofs.Common.{◌≡◌, ◌⊎◌, inl, inr, ◌∙◌, ℕ, zero, suc, ◌+◌, ◌<◌, ℤ, Bool, true, false, List, [], ◌∷◌, ◌++◌, drop, length, Option, Some, None, refl, sym, ap, ap₂, subst, append-nil, arith}
+use Rattle.std.proofs.Common.{◌≡◌, ◌⊎◌, inl, inr, ◌∙◌, ℕ, zero, suc, ◌+◌, ◌<◌, ℤ, Bool, true, false, List, [], ◌∷◌, ◌++◌, drop, length, Option, Some, None, refl, sym, ap, ap₂, subst, append-nil}
+use Rattle.std.proofs.Common.{arith}
 use Rattle.std.specs.Prelude.{◌&&◌, eqb, leb, not, option_map, unwrap_or}
 use Rattle.nd_value.specs.declared.value.CellId.{CellId}
 use Rattle.nd_value.specs.Seen.{cell_number}

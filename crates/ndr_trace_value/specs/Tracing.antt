@@ -1,7 +1,8 @@
 -- What a walk over the items of a log comes to.
 -- `k` are the octets with the partial graph in which they are refused, `u` what the walk is given, `p` how far it came, `s` where a node is, `ms`
 -- are the entries that are due, agreements apart.
-use Rattle.std.specs.Prelude.{◌≡◌, ◌⊎◌, ◌<◌, ◌≤◌, ◌+◌, ◌-◌, ◌^◌, ℕ, ℤ, pos, Bool, true, false, List, [], ◌∷◌, ◌++◌, drop, length, reverse, take, IsSome, Option, None, Some}
+use Rattle.std.specs.Prelude.{◌≡◌, ◌⊎◌, ◌<◌, ◌≤◌, ◌+◌, ◌-◌, ◌^◌, ℕ, ℤ, pos, Bool, true, false, List, [], ◌∷◌, ◌++◌, drop, length, reverse, take}
+use Rattle.std.specs.Prelude.{IsSome, Option, None, Some}
 use Rattle.std.specs.Prelude.{eqb, ltb, option_map}
 use Rattle.std.specs.List.{slice_get}
 use Rattle.nd_base.specs.declared.octets.Order.{Order}
@@ -158,5 +159,6 @@ abbrev pub IsShown : Ground → Item → ItemKind → Option Label → Type 0
 IsShown u i item.Text l = (0 < i.len) × (i.at + i.len ≤ length u.octets.now)
     × (string_shown l ≡ quoted_text (take (i.len - 1) (drop i.at u.octets.now)))
 IsShown u i item.Context l = (i.at + 20 ≤ length u.octets.now)
-    × (context_shown l ≡ context_text (attributes_of u.order (take 20 (drop i.at u.octets.now))) (identifier_of u.order (take 20 (drop i.at u.octets.now))))
+    × (context_shown l
+    ≡ context_text (attributes_of u.order (take 20 (drop i.at u.octets.now))) (identifier_of u.order (take 20 (drop i.at u.octets.now))))
 IsShown u i _ l = Unit {0}

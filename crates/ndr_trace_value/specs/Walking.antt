@@ -84,8 +84,8 @@ flat_shape (shape.Union tag armed) = (tree.Union tag, armed_count armed)
 flat_shape (shape.Ptr cell) = (tree.Ptr (cell_number cell), 0)
 flat_shape shape.Leaf = (tree.Ptr None, 0)
 
--- What a node says, as far as a walk needs it: a text and a context handle have no children, as a null pointer has none, and the members of a struct are
--- known by its type.
+-- What a node says, as far as a walk needs it: a text and a context handle have no children, as a null pointer has none, and the members of a struct
+-- are known by its type.
 abbrev pub IsSeen : Label → ℕ → Flat → Type 0
 IsSeen (tree.Num z) c f = f ≡ (tree.Num z, 0)
 IsSeen tree.Rec c f = f.0 ≡ tree.Rec
@@ -111,7 +111,8 @@ width_by _ = 2
 -- ## A walk that goes on
 
 -- The entries that were due are in part passed; the values from the node on at which levels are are due now.
-pub record GoesOn (k : Known) (h : Home) (max : ℕ) (name : List ℕ) (due rest : List Entry) (names : Placed_cells) (before after : Walker) (s : Levels) : Type 0 where
+pub record GoesOn (k : Known) (h : Home) (max : ℕ) (name : List ℕ) (due rest : List Entry) (names : Placed_cells) (before after : Walker) (s : Levels)
+    : Type 0 where
   pub some : 0 < length (level_types s.top)
   pub node : ℕ
   pub left : Trees

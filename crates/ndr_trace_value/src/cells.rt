@@ -107,7 +107,8 @@ pub fn name_cell(
 
 // The cell that a pointer's number names.
 fn named(cells: &mut Cells, class: Class, to: TypeId, number: u32) -> Result<Option<CellId>, Halt>
-    ensures names { (k : Known) (x : Option ℕ) (names : Placed_cells) → IsNaming k cells.old (names_of class x ++ names) → IsNumber k.numbering class x number
+    ensures names { (k : Known) (x : Option ℕ) (names : Placed_cells) → IsNaming k cells.old (names_of class x ++ names)
+        → IsNumber k.numbering class x number
         → IsFine k.graph class to.0 x → IfOk result (λ r. (option_map (λ c. c.0) r ≡ x) × IsNaming k cells.new names) }
     ensures memory { IfErr result (λ e. e ≡ halts.Memory) }
     ensures pending { cells.new.pending ≡ cells.old.pending }

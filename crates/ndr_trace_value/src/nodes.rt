@@ -1,5 +1,6 @@
 // The items of nodes, one node after the other.
-ghost use Rattle.std.specs.Prelude.{reverse, ◌≡◌, ◌<◌, ◌≤◌, ◌+◌, ◌++◌, ◌∷◌, [], ℕ, ℤ, true, false, List, length, Option, None, Some, option_copied, IfOk, IsErrOf, IsOk};
+ghost use Rattle.std.specs.Prelude.{reverse, ◌≡◌, ◌<◌, ◌≤◌, ◌+◌, ◌++◌, ◌∷◌, [], ℕ, ℤ, true, false, List, length, Option, None, Some, option_copied};
+ghost use Rattle.std.specs.Prelude.{IfOk, IsErrOf, IsOk};
 ghost use Rattle.nd_types.specs.declared.types.Primitive.{Primitive as PrimitiveValue};
 ghost use Rattle.nd_types.specs.Table.{selected as arm_selected, type_at};
 ghost use Rattle.nd_value.specs.Deferral.{Placed_cells};
@@ -13,7 +14,8 @@ ghost use Rattle.ndr_explain.specs.Explained.{home_flats, label_in};
 ghost use Rattle.ndr_trace_value.specs.declared.progress.Halt.TheVariants as halts;
 ghost use Rattle.ndr_trace_value.specs.Naming.{HasNamed, IsFine, IsNaming, named_by, names_in};
 ghost use Rattle.ndr_trace_value.specs.Tracing.{Known, IsEnded, IsGround, IsSpot, IsTracing, entry_at};
-ghost use Rattle.ndr_trace_value.specs.Walking.{AreThere, ComesTo, HavePaid, IsNode, IsPaid, IsReady, IsSeen, flat_shape, own_due, values_due, width_by};
+ghost use Rattle.ndr_trace_value.specs.Walking.{AreThere, ComesTo, HavePaid, IsNode, IsPaid, IsReady, IsSeen, flat_shape, own_due, values_due};
+ghost use Rattle.ndr_trace_value.specs.Walking.{width_by};
 
 use crate::cells::{Cells, name_cell};
 use crate::members::{reach, seen_node};
@@ -86,8 +88,8 @@ fn take_node<'a>(
         → IsTracing k walker.old.progress (values_due k home (types_from levels.entry.top (reverse levels.entry.below.items)) n left ++ rest)
         → (names : Placed_cells)
         → IsNaming k walker.old.cells (names_in (values_due k home (types_from levels.entry.top (reverse levels.entry.below.items)) n left) ++ names)
-        → IfOk result (ComesTo k home max (name_text name.entry) (values_due k home (types_from levels.entry.top (reverse levels.entry.below.items)) n left)
-        rest names walker.old walker.new) }
+        → IfOk result (ComesTo k home max (name_text name.entry)
+        (values_due k home (types_from levels.entry.top (reverse levels.entry.below.items)) n left) rest names walker.old walker.new) }
     ensures ends { 0 < length (level_types levels.entry.top) → (k : Known) → IsGround k ground.now → (n : ℕ) (left : Trees)
         → AreThere k home max (types_from levels.entry.top (reverse levels.entry.below.items))
         (paths_from (name_text name.entry) levels.entry.top (reverse levels.entry.below.items)) n left

@@ -4,7 +4,7 @@ use crate::progress::Ground;
 use crate::search::{Search, Sought, speaks_of, stated_by};
 use nd_base::{Memory, Octets};
 use nd_flat::{FlatGraph, Seen, Walk};
-use nd_types::{AttrVar, Param, Side};
+use nd_types::{AttrVar, Operation, Param, Side};
 use nd_value::{CellId, Home};
 
 /// A root that was read: its parameter, the number that it is, and the cell that it names.
@@ -105,7 +105,7 @@ fn append_parameter(
         let root = search.roots[at];
         if is_subject(at, root, sought)
             && let Some(param) = root.param
-            && let Some(by) = attribute(operation.params.get(param as usize), sought)
+            && let Some(by) = attribute(parameter_at(operation, param), sought)
             && states(ground, search, by, sought)
             && let Some(variable) = operation.params.get(by.var as usize)
         {
@@ -113,6 +113,11 @@ fn append_parameter(
         }
     }
     Ok(())
+}
+
+// A parameter by its number.
+fn parameter_at(operation: &Operation, param: u32) -> Option<&Param> {
+    operation.params.get(param as usize)
 }
 
 // Whether a variable states the number.
@@ -152,12 +157,15 @@ fn given_value(ground: &Ground<'_>, by: AttrVar) -> Option<i128> {
     let Some(fit) = ground.given else {
         return None;
     };
+    let Some(_operation) = ground.interface.operations.get(ground.op as usize) else {
+        return None;
+    };
     let mut at = 0;
     for root in ground.interface.params(ground.op, Side::In) {
         if root.param == Some(by.var) {
             return number_in(fit.flat(), at, by.star);
         }
-        at += 1;
+        at = at.saturating_add(1);
     }
     None
 }

@@ -1,5 +1,6 @@
 // How far the items of a log are traced.
-ghost use Rattle.std.specs.Prelude.{◌≡◌, ◌<◌, ◌≤◌, ◌+◌, ◌-◌, ◌^◌, ◌++◌, ℕ, List, ◌∷◌, drop, length, take, IfOk, IsErrOf, IsSome, None, OnOk, Option, reverse};
+ghost use Rattle.std.specs.Prelude.{◌≡◌, ◌<◌, ◌≤◌, ◌+◌, ◌-◌, ◌^◌, ◌++◌, ℕ, List, ◌∷◌, drop, length, take, IfOk, IsErrOf, IsSome, None, OnOk, Option};
+ghost use Rattle.std.specs.Prelude.{reverse};
 ghost use Rattle.nd_value.specs.Tree.{Label};
 ghost use Rattle.nd_grammar.specs.Entry.{Align, Entry, Kind};
 ghost use Rattle.ndr_prim.specs.Context.{attributes_of, identifier_of};
@@ -8,7 +9,8 @@ ghost use Rattle.text_printer.specs.Texts.{context_text};
 ghost use Rattle.ndr_explain.specs.Cursors.{name_text, path_to};
 ghost use Rattle.ndr_explain.specs.Explained.{value_shown};
 ghost use Rattle.ndr_trace_value.specs.declared.progress.Halt.TheVariants as halts;
-ghost use Rattle.ndr_trace_value.specs.Tracing.{Known, Holds, HoldsCount, HasLabel, IsCount, IsCounted, IsEnded, IsGround, IsItem, IsShown, IsSpot, IsTracing};
+ghost use Rattle.ndr_trace_value.specs.Tracing.{Known, Holds, HoldsCount, HasLabel, IsCount, IsCounted, IsEnded, IsGround, IsItem, IsShown, IsSpot};
+ghost use Rattle.ndr_trace_value.specs.Tracing.{IsTracing};
 ghost use Rattle.ndr_trace_value.specs.Tracing.{either_path, entry_at, is_sought as is_sought_item};
 
 use crate::search::Sought;

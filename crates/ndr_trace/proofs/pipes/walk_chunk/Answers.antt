@@ -11,7 +11,8 @@ returns-in_err-gap-clause-ends c k u rest names g e =
     let h = homes.Root c.args.at in
     let name = c.args.root.name.now in
     let d = head k h name c.args.elem.0 c.args.before rest names c.args.walker.now g in
-    c.in_err-gap.ensures.ends k u 0 (at_home k h name g.own_path c.args.root.of c.new-below.result.items c.new-below.ensures.items) (record { home = h; node = 0; kind = Chunk d.size } ∷ d.later) d.tracing
+    c.in_err-gap.ensures.ends k u 0 (at_home k h name g.own_path c.args.root.of c.new-below.result.items c.new-below.ensures.items)
+    (record { home = h; node = 0; kind = Chunk d.size } ∷ d.later) d.tracing
     (err_as c.from_residual.result c.in_err-gap.field-0.0 halts.Here c.from_residual.ensures.1 e)
 
 pub returns-in_err-size-clause-ends : goal.returns-in_err-size-clause-ends
