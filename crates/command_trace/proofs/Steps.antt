@@ -1,5 +1,5 @@
 -- The steps of tracing octets in memory, one after the other.
-use Rattle.std.proofs.Common.{◌≡◌, ◌∙◌, ℕ, ◌+◌, List, [], ◌∷◌, ◌++◌, length, Option, Some, None, Result, Ok, Err, IfOk, refl, ap, sym, subst, arith}
+use Rattle.std.proofs.Common.{◌≡◌, ◌∙◌, ℕ, ◌+◌, List, [], ◌∷◌, ◌++◌, length, Option, Some, None, Result, Ok, Err, IfOk, true, refl, ap, sym, subst, arith}
 use Rattle.std.specs.Io.KnownBytes.{Consumes, IsAtEnd}
 use Rattle.std.specs.List.{slice_get}
 use Rattle.std.proofs.lemmas.List.{append-nil, length-append}
@@ -36,7 +36,7 @@ use Rattle.command_trace.specs.declared.held.Traced.{Traced}
 
 -- ## What a decoder answers of octets that are lent
 
-rest_of : Option (List ℕ) → List ℕ
+abbrev rest_of : Option (List ℕ) → List ℕ
 rest_of None = []
 rest_of (Some octets) = octets
 
