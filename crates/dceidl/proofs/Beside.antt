@@ -17,7 +17,7 @@ module _ (x : Seen) where
 
   module _ (of : Subject) (given : Option (List ℕ)) (r : Refusal) (text : List ℕ) where
     traced_cause : (task : Task) → AreTraced x task of given r text → IsCause x (Values task of given) r
-    traced_cause (Read Trace word) (w, ready, rest, order, opened, place, why, is, source) =
+    traced_cause (Read Trace word) (w, ready, rest, order, opened, (place, why, is, source)) =
         subst (IsCause x (Values (Read Trace word) of given)) (sym is) (inr (w, ready, inr (rest, order, opened, (text, source))))
     traced_cause (Read Decode word) traced = absurd traced
     traced_cause (Read Explain word) traced = absurd traced
@@ -26,7 +26,7 @@ module _ (x : Seen) where
     traced_cause Migrate traced = absurd traced
 
     traced_status : (task : Task) → AreTraced x task of given r text → status_of r ≡ 1
-    traced_status (Read Trace word) (w, ready, rest, order, opened, place, why, is, source) = ap status_of is
+    traced_status (Read Trace word) (w, ready, rest, order, opened, (place, why, is, source)) = ap status_of is
     traced_status (Read Decode word) traced = absurd traced
     traced_status (Read Explain word) traced = absurd traced
     traced_status (Read Drain word) traced = absurd traced
