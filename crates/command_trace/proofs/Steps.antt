@@ -1,5 +1,5 @@
 -- The steps of tracing octets in memory, one after the other.
-use Rattle.std.proofs.Common.{◌≡◌, ◌∙◌, ℕ, ◌+◌, List, [], ◌∷◌, ◌++◌, length, Option, Some, None, Result, Ok, Err, IfOk, refl, ap, sym, subst, arith}
+use Rattle.std.proofs.Common.{◌≡◌, ◌∙◌, ℕ, ◌+◌, true, List, [], ◌∷◌, ◌++◌, length, Option, Some, None, Result, Ok, Err, IfOk, refl, ap, sym, subst, arith}
 use Rattle.std.specs.Io.KnownBytes.{Consumes, IsAtEnd}
 use Rattle.std.specs.List.{slice_get}
 use Rattle.std.proofs.lemmas.List.{append-nil, length-append}
@@ -29,14 +29,15 @@ use Rattle.ndr_decoder_state.specs.declared.fault.DecodeFault.TheVariants as fau
 use Rattle.ndr_explain.specs.Explained.{explanation}
 use Rattle.ndr_trace_value.specs.Traces.{IsTraceOf}
 use Rattle.command_explain.specs.Explanations.{IsExplanation}
-use Rattle.command_refusals.specs.declared.refusal.OctetsFault.TheVariants.{Refused}
+use Rattle.command_refusals.specs.declared.refusal.OctetsFault.TheVariants.{Refused, Trailing}
 use Rattle.command_trace.specs.Fronts.{IsLoggedFront, IsRefusedFront}
 use Rattle.command_trace.specs.Traced.{IsRefusedTrace, IsTrailedTrace, IsTraced, fault_line, trailing_line}
 use Rattle.command_trace.specs.declared.held.Traced.{Traced}
+use Rattle.command_trace.specs.declared.held.Traced.TheVariants as traced
 
 -- ## What a decoder answers of octets that are lent
 
-rest_of : Option (List ℕ) → List ℕ
+abbrev rest_of : Option (List ℕ) → List ℕ
 rest_of None = []
 rest_of (Some octets) = octets
 
@@ -130,6 +131,14 @@ module _ (w : Setting) (order : Order) (octets : List ℕ) (taken : ℕ) (g : Gr
         place_is = sym f.taken_is;
         lines_are = text_is;
       }
+
+-- what is answered of such octets
+pub trailed_answer : (w : Setting) (order : Order) (octets : List ℕ) (taken : ℕ) (g : Graph) (log : List Item) (f : IsLoggedFront w order octets taken g log)
+    (lines : List ℕ) → lines ≡ explanation w g log → (length octets ≡ taken → ⊥) → (r : Result Traced NoMemory)
+    → IfOk r (λ t. t ≡ traced.Refused (lines ++ trailing_line taken) taken Trailing) → IfOk r (IsTraced w order octets)
+trailed_answer w order octets taken g log f lines is more (Ok t) same =
+    subst (IsTraced w order octets) (sym same) (trailed_is w order octets taken g log f lines is more (lines ++ trailing_line taken) refl)
+trailed_answer w order octets taken g log f lines is more (Err e) same = tt
 
 -- on this side and beside this request
 pub explained_on : (i : Interface) (o : Operation) (side own : Side) (given its : Option Graph) (order : Order) (octets : List ℕ) (taken : ℕ) (g : Graph) (log : List Item)

@@ -99,14 +99,22 @@ fn explained(
 fn trailed(lines: Octets, place: u32) -> Result<Traced, Memory>
     ensures { IfOk result (λ t. t ≡ Traced.Refused (lines ++ trailing_line place) place OctetsFault.Trailing) }
 {
-    let mut lines = lines;
-    append_count(&mut lines, place)?;
-    lines.append(b" fault Trailing\n")?;
+    let lines = with_trailing(lines, place)?;
     Ok(Traced::Refused {
         lines,
         place,
         why: OctetsFault::Trailing,
     })
+}
+
+// Lines with that of an octet that follows the values at their end.
+fn with_trailing(lines: Octets, place: u32) -> Result<Octets, Memory>
+    ensures { IfOk result (λ text. text ≡ lines ++ trailing_line place) }
+{
+    let mut lines = lines;
+    append_count(&mut lines, place)?;
+    lines.append(b" fault Trailing\n")?;
+    Ok(lines)
 }
 
 // The items before a fault, and the fault.

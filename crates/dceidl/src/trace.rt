@@ -9,6 +9,7 @@ ghost use Rattle.ndr_pipe.specs.Ends.{EndsSeen, AreAsBefore};
 ghost use Rattle.command_line.specs.Commands.{command_of, subject_of, IsJudged, IsWellFormed};
 ghost use Rattle.command_line.specs.Words as words;
 ghost use Rattle.command_line.specs.Words.{Values, idl_of, op_of};
+ghost use Rattle.command_line.specs.declared.command.OrderWord.TheVariants.{Label};
 ghost use Rattle.command_line.specs.declared.command.Reading.TheVariants.{Trace};
 ghost use Rattle.command_line.specs.declared.command.Task.TheVariants.{Read};
 ghost use Rattle.dceidl.specs.Asked.{AsksFilesOf};
@@ -186,20 +187,39 @@ fn trace_values<S: Source>(
             named,
             input,
         ),
-        OrderWord::Label => match take_label(input) {
-            Ok(named) => trace_octets(
-                alloc,
-                &ready.interface,
-                ready.number,
-                ready.side,
-                given,
-                named,
-                input,
-            ),
-            Err(refusal) => Err(Stopped {
-                refusal,
-                lines: None,
-            }),
-        },
+        OrderWord::Label => trace_labelled(alloc, ready, given, input),
+    }
+}
+
+// Traces the octets of the input after their format label, in the order that it states.
+fn trace_labelled<S: Source>(
+    alloc: Global,
+    ready: &Ready,
+    given: Option<&Fit>,
+    input: &mut S,
+) -> Result<Octets, Stopped>
+    requires known { ready.now.number < length ready.now.interface.operations }
+    requires request { IsRequestOf ready.now.interface ready.now.number ready.now.side (option_map (λ f. f.now) given) }
+    ensures made { (o : Operation) → slice_get ready.now.interface.operations ready.now.number ≡ Some o
+        → IfOk result (λ made. (e : EndsSeen) → IsMadeOf (source_seen S.left S.ended S.faults input.old input.new) e (Read Trace Label)
+        (setting_beside ready.now.interface o ready.now.side (option_map (λ f. f.now.graph) given.entry)) made) }
+    ensures stopped { (o : Operation) → slice_get ready.now.interface.operations ready.now.number ≡ Some o
+        → IfErr result (IsStoppedTask (source_seen S.left S.ended S.faults input.old input.new) Label
+        (setting_beside ready.now.interface o ready.now.side (option_map (λ f. f.now.graph) given.entry))) }
+{
+    match take_label(input) {
+        Ok(named) => trace_octets(
+            alloc,
+            &ready.interface,
+            ready.number,
+            ready.side,
+            given,
+            named,
+            input,
+        ),
+        Err(refusal) => Err(Stopped {
+            refusal,
+            lines: None,
+        }),
     }
 }

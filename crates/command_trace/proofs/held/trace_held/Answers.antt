@@ -7,7 +7,7 @@ use Rattle.command_trace.proofs.Steps.{explained_on, logged_front, refused_front
 use Rattle.command_trace.proofs.held.trace_held.Goals as goal
 
 pub explained-requires : goal.explained-requires
-explained-requires c = c.in-Ok.ensures.of.2 ∙ c.in_ok-plan.ensures
+explained-requires c = record { tied = c.in-Ok.ensures.of.2 ∙ c.in_ok-plan.ensures }
 
 pub returns-in-Ok : goal.returns-in-Ok
 returns-in-Ok c o there =
