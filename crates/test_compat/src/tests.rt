@@ -361,7 +361,7 @@ const UNIONS: &[Row] = &[
     },
     Row {
         old: b"typedef union switch (long k) u { case 1: short x; case 2: ; default: long y; } w; void f([in] w a);",
-        new: b"typedef [switch_type(long)] union { [case(1)] short x; [case(2)] ; [default] long y; } w; void f([in] long k, [in, switch_is(k)] w a);",
+        new: b"typedef [switch_type(long)] union { [case(1)] short x; [case(2)] ; [default] long y; } w; void f([in] long k, [in,switch_is(k)] w a);",
         answer: Answer::Differs(0),
     },
 ];

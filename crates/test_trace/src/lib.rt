@@ -2,4 +2,6 @@
 #![tactic(auto)]
 
 #[cfg(test)]
+mod interface;
+#[cfg(test)]
 mod tests;
