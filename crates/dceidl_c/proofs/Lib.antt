@@ -2,3 +2,5 @@ pub mod Numbered
 pub mod Octets
 pub mod Texts
 pub mod Files
+mod Logs
+mod Types

@@ -2,8 +2,12 @@
 #![tactic(auto)]
 
 mod answers;
+mod description;
 mod faults;
 mod interfaces;
+mod items;
+mod nodes;
 mod numbers;
 mod reading;
+mod types;
 mod writing;

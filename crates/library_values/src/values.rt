@@ -68,6 +68,20 @@ impl Values {
         self.fit.side()
     }
 
+    /// The interface, with its plan. Takes no memory.
+    pub fn compiled(&self) -> &Compiled
+        ensures { result.now ≡ self.now.interface }
+    {
+        &self.compiled
+    }
+
+    /// The values as a fit. Takes no memory.
+    pub fn fit(&self) -> &Fit
+        ensures { result.now ≡ self.now }
+    {
+        &self.fit
+    }
+
     /// The text of the values, version 2 of the value text. Takes memory for the text and for the canonical graph; running out of it is the only
     /// refusal.
     pub fn text(&self, alloc: Global) -> Result<Octets, Memory>

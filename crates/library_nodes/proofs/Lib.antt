@@ -1,0 +1,4 @@
+mod Adding
+mod Walked
+mod Homes
+mod Passing

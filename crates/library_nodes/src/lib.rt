@@ -1,0 +1,13 @@
+//! The nodes of values as one list, which is read by the numbers of nodes.
+#![tactic(auto)]
+
+mod bits;
+mod contents;
+mod laying;
+mod node;
+mod nodes;
+mod parts;
+
+pub use bits::low;
+pub use node::{Elements, Node};
+pub use nodes::{NodeList, Nodes};
