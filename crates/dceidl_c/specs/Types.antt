@@ -7,7 +7,7 @@ use Rattle.nd_types.specs.declared.types.TypeDef.{TypeDef}
 use Rattle.nd_types.specs.declared.types.TypeDef.TheVariants.{Struct}
 use Rattle.nd_types.specs.Table.{type_at}
 use Rattle.nd_types.specs.Walk.{named_roots}
-use Rattle.library_types.specs.Finding.{IsRootNamed, HasNoRoot, IsMemberNamed, place_named}
+use Rattle.library_types.specs.Finding.{IsRootNamed, HasNoRoot, IsMemberNamed, HasNoMember}
 use Rattle.dceidl_c.specs.Answers.{OfSide}
 
 -- the root of that side has that name, and that type
@@ -31,4 +31,4 @@ IsMember i of name member member_of =
 
 -- no member of that struct has that name
 abbrev pub HasNoMemberNamed : Interface → ℕ → List ℕ → Type 0
-HasNoMemberNamed i of name = IsSomeAnd (members_of (type_at i.types of)) (λ fs. place_named fs name ≡ None)
+HasNoMemberNamed i of name = IsSomeAnd (members_of (type_at i.types of)) (λ fs. HasNoMember fs name)

@@ -30,7 +30,7 @@ low_more fs f = map-append low_flat fs (f ∷ [])
 
 -- ## Growing
 
-pub grows_none : (a : NodeList) → Grows a a
+abbrev pub grows_none : (a : NodeList) → Grows a a
 grows_none a = record {
   nodes = [];
   numbers = [];
@@ -40,7 +40,7 @@ grows_none a = record {
   octets_are = sym (append-nil a.octets);
 }
 
-pub grows_then : (a b c : NodeList) → Grows a b → Grows b c → Grows a c
+abbrev pub grows_then : (a b c : NodeList) → Grows a b → Grows b c → Grows a c
 grows_then a b c g h = record {
   nodes = g.nodes ++ h.nodes;
   numbers = g.numbers ++ h.numbers;
@@ -51,7 +51,7 @@ grows_then a b c g h = record {
 }
 
 -- these are added to what was added before
-grown : (a b c : NodeList) (ns : List Node) (zs os : List ℕ) → Grows a b → c.nodes.items ≡ b.nodes.items ++ ns → c.numbers.items ≡ b.numbers.items ++ zs
+abbrev grown : (a b c : NodeList) (ns : List Node) (zs os : List ℕ) → Grows a b → c.nodes.items ≡ b.nodes.items ++ ns → c.numbers.items ≡ b.numbers.items ++ zs
     → c.octets ≡ b.octets ++ os → Grows a c
 grown a b c ns zs os g en ez eo =
     grows_then a b c g (record { nodes = ns; numbers = zs; octets = os; nodes_are = en; numbers_are = ez; octets_are = eo })
@@ -100,10 +100,25 @@ opened fs f n a b last says h = record {
       said_more p q h.grows.nodes n ∙ ap₂ (λ x y. x ++ y) (h.say zs os) (says p q) ∙ sym (low_more fs f);
 }
 
+pub array_opened : (fs : List Flat) (max offset count : ℕ) (e : Elements) (xs : List ℕ) (a b : NodeList)
+    → e ≡ record { count = count; numbers = 0; from = length xs } → xs ≡ b.numbers.items → Adds fs a b
+    → AddsOpen (fs ++ (tree.Arr max offset, count) ∷ []) a b (Some (node.Array max offset e))
+array_opened fs max offset count e xs a b is same h =
+    subst (λ (d : Elements). AddsOpen (fs ++ (tree.Arr max offset, count) ∷ []) a b (Some (node.Array max offset d))) (sym is)
+    (opened fs (tree.Arr max offset, count) (node.Array max offset (record { count = count; numbers = 0; from = length xs })) a b
+    (let l : length xs ≡ length b.numbers.items = ap length same in omega (arith, l)) (λ zs os. refl) h)
+
+pub pipe_opened : (fs : List Flat) (count : ℕ) (e : Elements) (xs : List ℕ) (a b : NodeList) → e ≡ record { count = count; numbers = 0; from = length xs } → xs ≡ b.numbers.items
+    → Adds fs a b → AddsOpen (fs ++ (tree.Pipe, count) ∷ []) a b (Some (node.Pipe e))
+pipe_opened fs count e xs a b is same h =
+    subst (λ (d : Elements). AddsOpen (fs ++ (tree.Pipe, count) ∷ []) a b (Some (node.Pipe d))) (sym is)
+    (opened fs (tree.Pipe, count) (node.Pipe (record { count = count; numbers = 0; from = length xs })) a b
+    (let l : length xs ≡ length b.numbers.items = ap length same in omega (arith, l)) (λ zs os. refl) h)
+
 -- ## One number more
 
 -- the last numbers of a list, with one more
-last_more : (xs ys : List ℕ) (y from k : ℕ) → from + k ≡ length xs → take (k + 1) (drop from ((xs ++ y ∷ []) ++ ys)) ≡ take k (drop from (xs ++ (y ∷ ys))) ++ y ∷ []
+last_more : (xs ys : List ℕ) (y from k : ℕ) → from + k ≡ length xs → take (suc k) (drop from ((xs ++ y ∷ []) ++ ys)) ≡ take k (drop from (xs ++ (y ∷ ys))) ++ y ∷ []
 last_more [] ys y zero zero e = refl
 last_more [] ys y zero (suc k) e = absurd (omega (arith, e))
 last_more [] ys y (suc from) k e = absurd (omega (arith, e))
@@ -111,10 +126,13 @@ last_more (x ∷ xs) ys y zero zero e = absurd (omega (arith, e))
 last_more (x ∷ xs) ys y zero (suc k) e = ap (λ zs. x ∷ zs) (last_more xs ys y zero k (omega (arith, e)))
 last_more (x ∷ xs) ys y (suc from) k e = last_more xs ys y from k (omega (arith, e))
 
+one_after : (k : ℕ) → k + 1 ≡ suc k
+one_after k = omega arith
+
 elements_more : (xs ys : List ℕ) (y : ℕ) (e d : Elements) → d.numbers ≡ e.numbers + 1 → d.from ≡ e.from → e.from + e.numbers ≡ length xs
     → number_flats ((xs ++ y ∷ []) ++ ys) d ≡ number_flats (xs ++ (y ∷ ys)) e ++ number_flat y ∷ []
 elements_more xs ys y e d en ef l =
-    ap₂ (λ p q. map number_flat (take p (drop q ((xs ++ y ∷ []) ++ ys)))) en ef ∙ ap (λ zs. map number_flat zs) (last_more xs ys y e.from e.numbers l)
+    ap₂ (λ p q. map number_flat (take p (drop q ((xs ++ y ∷ []) ++ ys)))) (en ∙ one_after e.numbers) ef ∙ ap (λ zs. map number_flat zs) (last_more xs ys y e.from e.numbers l)
     ∙ map-append number_flat (take e.numbers (drop e.from (xs ++ (y ∷ ys)))) (y ∷ [])
 
 -- what one number more says of a node

@@ -1,6 +1,6 @@
 -- Roots and members by name, and the types of parts.
 -- `rs` are the roots of a side, `fs` the members of a struct, `x` is a root or a member that was found.
-use Rattle.std.specs.Prelude.{◌≡◌, ℕ, List, Option, Some, None, option_map, position, bytes_eq}
+use Rattle.std.specs.Prelude.{◌≡◌, ℕ, List, Option, Some, None}
 use Rattle.std.specs.List.{slice_get}
 use Rattle.nd_types.specs.declared.types.Field.{Field}
 use Rattle.nd_types.specs.declared.types.TypeDef.{TypeDef}
@@ -19,14 +19,16 @@ pub record IsRootNamed (rs : List NamedRoot) (name : List ℕ) (x : Named) : Typ
 abbrev pub HasNoRoot : List NamedRoot → List ℕ → Type 0
 HasNoRoot rs name = (i : ℕ) (r : NamedRoot) → slice_get rs i ≡ Some r → r.name ≡ name → ⊥
 
--- the place of the first member of that name
-abbrev pub place_named : List Field → List ℕ → Option ℕ
-place_named fs name = position (λ f. bytes_eq f.name name) fs
-
--- this is the place of the first member of that name, and its type
+-- this is the place of a member of that name, and its type
 pub record IsMemberNamed (fs : List Field) (name : List ℕ) (x : Named) : Type 0 where
-  pub place_is : place_named fs name ≡ Some x.at
-  pub type_is : option_map (λ f. f.of.0) (slice_get fs x.at) ≡ Some x.of.0
+  pub member : Field
+  pub there : slice_get fs x.at ≡ Some member
+  pub name_is : member.name ≡ name
+  pub type_is : x.of ≡ member.of
+
+-- no member has that name
+abbrev pub HasNoMember : List Field → List ℕ → Type 0
+HasNoMember fs name = (i : ℕ) (f : Field) → slice_get fs i ≡ Some f → f.name ≡ name → ⊥
 
 -- the type of the elements of an array or a pipe, or of what a pointer points to
 abbrev pub element_of : Option TypeDef → Option ℕ

@@ -4,9 +4,9 @@ ghost use Rattle.std.specs.List.{slice_get};
 ghost use Rattle.nd_types.specs.Table.{type_at};
 ghost use Rattle.nd_types.specs.Walk.{named_roots};
 ghost use Rattle.nd_types.specs.declared.types.Operation.{Operation};
-ghost use Rattle.library_types.specs.Finding.{IsRootNamed, HasNoRoot, IsMemberNamed, place_named, element_of};
+ghost use Rattle.library_types.specs.Finding.{IsRootNamed, HasNoRoot, IsMemberNamed, HasNoMember, element_of};
 
-use nd_types::{Field, Fields, Interface, Side, TypeDef, TypeId, Types};
+use nd_types::{Fields, Interface, Side, TypeDef, TypeId, Types};
 
 /// A root or a member: its place, from 0, and its type.
 #[derive(Clone, Copy, PartialEq, Drop)]
@@ -36,24 +36,17 @@ pub fn root_named(interface: &Interface, op: u32, side: Side, name: &[u8]) -> Op
 /// The first member of that name of a struct. Takes no memory.
 pub fn member_named(members: &Fields, name: &[u8]) -> Option<Named>
     ensures some { IfSome result (IsMemberNamed members.now name.now) }
-    ensures none { IfNone result (place_named members.now name.now ≡ None) }
+    ensures none { IfNone result (HasNoMember members.now name.now) }
 {
-    match place_of(members.as_slice(), name) {
-        Some(at) => Some(Named {
-            at,
-            of: members.as_slice()[at].of,
-        }),
-        None => None,
+    for at in 0..members.len() {
+        let Some(field) = members.get(at) else {
+            unreachable!()
+        };
+        if field.name.as_slice() == name {
+            return Some(Named { at, of: field.of });
+        }
     }
-}
-
-// The place of the first member of that name.
-fn place_of(members: &[Field], name: &[u8]) -> Option<usize>
-    ensures { result ≡ place_named members.now name.now }
-{
-    members
-        .iter()
-        .position(|field| field.name.as_slice() == name)
+    None
 }
 
 /// The type of the elements of an array or a pipe, or of what a pointer points to. Takes no memory.

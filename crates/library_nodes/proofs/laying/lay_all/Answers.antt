@@ -15,7 +15,7 @@ loop-seen-preserved c =
 
 pub returns : goal.returns
 returns c =
-    let w = walks_all (flat c.args.walk.now) c.loop-seen.walk c.args.list.now c.loop-seen.list c.loop-seen.unfinished c.in-None.ensures.none c.loop-seen.invariant in
+    let w = walks_all (flat c.args.walk.now) c.loop-seen.walk c.args.list.now c.loop-seen.list c.loop-seen.unfinished c.in_default.ensures.none c.loop-seen.invariant in
     on_ok_weaker c.close.result
     (λ e. closed (flat c.args.walk.now) c.args.list.now c.loop-seen.list c.close.new.list c.loop-seen.unfinished e c.close.ensures.numbers c.close.ensures.octets w)
     c.close.ensures.nodes
