@@ -1,6 +1,6 @@
 -- The nodes of several values are added, one after the other.
 -- `a`, `b`, `c` are lists of nodes one after the other, `ss` are numbers of nodes, `ts` and `us` trees.
-use Rattle.std.proofs.Common.{◌≡◌, ℕ, zero, suc, ◌+◌, ◌<◌, ◌≤◌, List, [], ◌∷◌, ◌++◌, map, length, take, drop, refl, ap, ap₂, sym, ◌∙◌, append_assoc, subst, arith}
+use Rattle.std.proofs.Common.{◌≡◌, ℕ, zero, suc, ◌+◌, ◌<◌, List, [], ◌∷◌, ◌++◌, map, length, take, drop, refl, ap, ap₂, sym, ◌∙◌, append_assoc, subst}
 use Rattle.std.proofs.lemmas.List.{append-nil, map-append}
 use Rattle.nd_value.specs.declared.value.Graph.{Graph}
 use Rattle.nd_value.specs.Setting.{root_at, cell_at, or_unread, cell_tree}
@@ -115,9 +115,3 @@ cell_next g i l =
     let t = item_at g.cells i l in
     let of = λ (x : Referent). x.val in
     ap (λ xs. map of xs) (take_next g.cells i t.0 t.1) ∙ map-append of (take i g.cells) (t.0 ∷ []) ∙ ap (λ x. map of (take i g.cells) ++ x ∷ []) (sym (ap cell_tree t.1))
-
-pub all_taken : {A : Type 0} (xs : List A) (i : ℕ) → length xs ≤ i → take i xs ≡ xs
-all_taken [] zero l = refl
-all_taken [] (suc i) l = refl
-all_taken (x ∷ xs) zero l = absurd (omega (arith, l))
-all_taken (x ∷ xs) (suc i) l = ap (λ ys. x ∷ ys) (all_taken xs i (omega (arith, l)))

@@ -1,4 +1,3 @@
 mod Adding
 mod Walked
 mod Homes
-mod Passing

@@ -1,5 +1,5 @@
 -- The nodes of all values of a graph.
--- `g` is a graph, `n` are the nodes, `l` is a list of nodes, `ss` are numbers of nodes, `ts` trees, `i` is the index of a root, `c` the number of a cell.
+-- `g` is a graph, `n` are the nodes, `l` is a list of nodes, `ss` are numbers of nodes, `ts` trees, `i` is the index of a root, `c` a cell's number.
 use Rattle.std.specs.Prelude.{◌≡◌, ℕ, suc, zero, ◌+◌, List, [], ◌∷◌, ◌++◌, length, map, Option, None, if◌then◌else◌, nat_lt}
 use Rattle.std.specs.List.{slice_get}
 use Rattle.nd_value.specs.declared.value.Graph.{Graph}

@@ -7,7 +7,7 @@ use crate::node::Node;
 use crate::nodes::{NodeList, Nodes};
 
 impl Nodes {
-    /// The elements of an array or a pipe that are in the list of numbers, each by its low 64 bits. None for another node, or where there is no node of
+    /// The elements of an array or a pipe that are in the list of numbers, each by its low 64 bits. None for another node, or where there is none of
     /// that number. Takes no memory.
     pub fn numbers_of(&self, node: usize) -> Option<&[u64]>
         ensures { option_map (λ s. s.now) result ≡ numbers_of self.now.list (slice_get self.now.list.nodes.items node) }

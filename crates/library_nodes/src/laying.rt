@@ -66,7 +66,7 @@ fn lay_all(list: &mut NodeList, walk: &mut Walk<'_>) -> Result<(), Memory>
     close(list, unfinished)
 }
 
-// Adds a node, or a number to an unfinished array or pipe, whose elements come next and were numbers so far. Gives the one that is unfinished after it,
+// Adds a node, or a number to an unfinished array or pipe, whose elements come next and were numbers so far. Gives the one that is unfinished then,
 // which is added to the list once its numbers are.
 fn add(
     list: &mut NodeList,

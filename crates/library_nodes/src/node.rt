@@ -2,8 +2,8 @@
 use nd_value::CellId;
 use uuid::Uuid;
 
-/// The elements of an array or a pipe: `count` of them, of which the first `numbers` are numbers, from the place `from` on in the list of numbers. The
-/// others are nodes.
+/// The elements of an array or a pipe: `count` of them, of which the first `numbers` are numbers, in the list of numbers from the place `from` on.
+/// The others are nodes.
 #[derive(Clone, Copy, PartialEq, Drop)]
 pub struct Elements {
     pub count: u32,

@@ -9,7 +9,7 @@ use nd_base::{Memory, Octets};
 use nd_flat::FlatGraph;
 use std::alloc::Global;
 
-/// Nodes, with the numbers that are elements of arrays and pipes, and the octets of strings. A node takes 32 octets, and a number that is an element 8.
+/// Nodes, with the numbers that are elements of arrays and pipes, and the octets of strings. A number that is an element takes 8 octets.
 #[derive(Drop)]
 pub struct NodeList {
     pub nodes: Vec<Node>,
