@@ -1,5 +1,5 @@
 // The pointers of a value that name cells, depth first.
-ghost use Rattle.std.specs.Prelude.{◌≡◌, ℕ, ◌+◌, ◌<◌, ◌^◌, ◌++◌, [], ◌∷◌, length, map, replicate, true, eqb, IfOk, OnOk};
+ghost use Rattle.std.specs.Prelude.{◌≡◌, ℕ, ◌+◌, ◌<◌, ◌^◌, ◌++◌, [], ◌∷◌, length, map, replicate, true, eqb, OnOk};
 ghost use Rattle.nd_types.specs.Table.{type_at};
 ghost use Rattle.nd_types.specs.Layout.{type_list};
 ghost use Rattle.nd_value.specs.Tree.{more, none, trees, node_count, count};
@@ -9,11 +9,11 @@ ghost use Rattle.nd_misfits.specs.Searched.{label_in, kids_in};
 ghost use Rattle.nd_value.specs.Seen.{tree_of, cell_number};
 ghost use Rattle.nd_misfits.specs.Pointers.{are_formed, named_by, pointers_of_home, Collects};
 
+use crate::homes::HomeValue;
 use crate::node::selected;
 use nd_base::Memory;
 use nd_types::{Class, Fields, TypeDef, TypeId, Types};
 use nd_value::{ArmVal, CellId, Home, Val, Vals};
-use std::alloc::Global;
 
 // A pointer that names a cell: where it is, its class, and the cell.
 #[derive(Clone, Copy, Debug, PartialEq, Eq)]
@@ -24,21 +24,19 @@ pub(crate) struct CellPointer {
     pub(crate) cell: CellId,
 }
 
-// The pointers of a home that name cells.
+// The pointers of a home that name cells, in place of those that were found before.
 pub(crate) fn cell_pointers(
-    alloc: Global,
     types: &Types,
-    home: Home,
-    of: TypeId,
-    val: &Val,
-) -> Result<Vec<CellPointer>, Memory>
-    requires few { node_count (more (tree_of val.now) none) < 2 ^ 32 }
-    requires formed { are_formed types.now (of.0 ∷ []) (more (tree_of val.now) none) ≡ true }
-    ensures { IfOk result (λ found. found.items ≡ pointers_of_home types.now home of.0 (tree_of val.now)) }
+    home: HomeValue<'_>,
+    found: &mut Vec<CellPointer>,
+) -> Result<(), Memory>
+    requires few { node_count (more (tree_of home.val.now) none) < 2 ^ 32 }
+    requires formed { are_formed types.now (home.of.0 ∷ []) (more (tree_of home.val.now) none) ≡ true }
+    ensures { OnOk result (found.new.items ≡ pointers_of_home types.now home.entry.home home.entry.of.0 (tree_of home.entry.val.now)) }
 {
-    let mut found = Vec::new(alloc);
-    value(types, home, of, val, 0, &mut found)?;
-    Ok(found)
+    found.clear();
+    value(types, home.home, home.of, home.val, 0, found)?;
+    Ok(())
 }
 
 // Goes through the nodes of a value of a type, which are numbered from `node` on, and adds the pointers that name cells to those
