@@ -13,6 +13,7 @@ ghost use Rattle.nd_misfits.specs.Disagreeing.{Compared};
 
 use crate::agreement::member;
 use crate::node::selected;
+use crate::plain::after_plain;
 use nd_types::{Fields, TypeDef, TypeId, Types};
 use nd_value::{ArmVal, Graph, NodeMisfit, Val, Vals};
 
@@ -62,7 +63,7 @@ fn by_form(
             let Some(TypeDef::Array { elem, .. }) = def else {
                 unreachable!()
             };
-            elements(types, graph, *elem, items, next)
+            list(types, graph, *elem, items, next)
         }
         Val::Union { tag, arm: value } => {
             let Some(TypeDef::Union { arms, default, .. }) = def else {
@@ -77,7 +78,7 @@ fn by_form(
             let Some(TypeDef::Pipe { elem }) = def else {
                 unreachable!()
             };
-            elements(types, graph, *elem, items, next)
+            list(types, graph, *elem, items, next)
         }
         Val::Num(_) | Val::Text { .. } | Val::Ptr(_) | Val::Context { .. } => Ok(next),
     }
@@ -114,7 +115,26 @@ fn members(
     Ok(next)
 }
 
-// The same of the elements of an array or a pipe.
+// The same of the elements of an array or a pipe. Plain ones are not searched.
+#[cycle(compared)]
+fn list(
+    types: &Types,
+    graph: &Graph,
+    elem: TypeId,
+    vals: &Vals,
+    node: u32,
+) -> Result<u32, NodeMisfit>
+    requires few { node + node_count (trees vals.now) < 2 ^ 32 }
+    requires formed { are_formed types.now (replicate (count (trees vals.now)) elem.0) (trees vals.now) ≡ true }
+    ensures { Compared types.now graph.now (replicate (count (trees vals.now)) elem.0) [] node (trees vals.now) result }
+{
+    match after_plain(types, elem, vals, node) {
+        Some(after) => Ok(after),
+        None => elements(types, graph, elem, vals, node),
+    }
+}
+
+// The same of elements one by one.
 #[cycle(compared)]
 fn elements(
     types: &Types,

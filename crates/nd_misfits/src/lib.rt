@@ -11,6 +11,7 @@ mod local;
 mod node;
 mod nodes;
 mod numbers;
+mod plain;
 mod pointers;
 mod shared;
 

@@ -11,6 +11,7 @@ ghost use Rattle.nd_misfits.specs.Pointers.{are_formed, named_by, pointers_of_ho
 
 use crate::homes::HomeValue;
 use crate::node::selected;
+use crate::plain::after_plain;
 use nd_base::Memory;
 use nd_types::{Class, Fields, TypeDef, TypeId, Types};
 use nd_value::{ArmVal, CellId, Home, Val, Vals};
@@ -87,7 +88,7 @@ fn by_form(
             let Some(TypeDef::Array { elem, .. }) = def else {
                 unreachable!()
             };
-            elements(types, home, *elem, items, next, found)
+            list(types, home, *elem, items, next, found)
         }
         Val::Union { tag, arm: value } => {
             let Some(TypeDef::Union { arms, default, .. }) = def else {
@@ -102,7 +103,7 @@ fn by_form(
             let Some(TypeDef::Pipe { elem }) = def else {
                 unreachable!()
             };
-            elements(types, home, *elem, items, next, found)
+            list(types, home, *elem, items, next, found)
         }
         Val::Ptr(cell) => {
             let Some(TypeDef::Pointer { class, .. }) = def else {
@@ -143,7 +144,27 @@ fn members(
     Ok(next)
 }
 
-// The same of the elements of an array or a pipe.
+// The same of the elements of an array or a pipe. Plain ones are not searched.
+#[cycle(pointers)]
+fn list(
+    types: &Types,
+    home: Home,
+    elem: TypeId,
+    vals: &Vals,
+    node: u32,
+    found: &mut Vec<CellPointer>,
+) -> Result<u32, Memory>
+    requires few { node + node_count (trees vals.now) < 2 ^ 32 }
+    requires formed { are_formed types.now (replicate (count (trees vals.now)) elem.0) (trees vals.now) ≡ true }
+    ensures { Collects types.now home (replicate (count (trees vals.now)) elem.0) node (trees vals.now) found.old.items found.new.items result }
+{
+    match after_plain(types, elem, vals, node) {
+        Some(after) => Ok(after),
+        None => elements(types, home, elem, vals, node, found),
+    }
+}
+
+// The same of elements one by one.
 #[cycle(pointers)]
 fn elements(
     types: &Types,

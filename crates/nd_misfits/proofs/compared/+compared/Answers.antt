@@ -12,6 +12,8 @@ use Rattle.nd_misfits.proofs.NodeTests.{count_trees}
 use Rattle.nd_misfits.proofs.NodeWalk.{get_replicate, get_field}
 use Rattle.nd_misfits.proofs.FormWalk.{next_few, next_smaller, formed_at, tree_formed}
 use Rattle.nd_misfits.proofs.AgreementWalk.{compare_on, compare_stop, compare_here, governs_none, governs_found, none_stated, get_agreements}
+use Rattle.nd_value.specs.declared.item.Home.TheVariants as home
+use Rattle.nd_misfits.proofs.PlainValues.{all_quiet, plain_few, plain_after}
 use Rattle.nd_misfits.proofs.SmallNumbers.{small_members}
 use Rattle.nd_misfits.proofs.compared.+compared.Goals as goal
 
@@ -19,6 +21,17 @@ pub value-by_form-requires : goal.value-by_form-requires
 value-by_form-requires t c =
     let f = tree_formed c.args.types.now c.args.of.0 (tree_of c.args.val.now) c.requires.formed in
     (omega (arith, c.decreases), (c.requires.few, (f.shape, (f.arm, f.kids))))
+
+pub list-after_plain-requires : goal.list-after_plain-requires
+list-after_plain-requires t c inside e =
+    let q = all_quiet c.args.types.now (home.Root 0) c.args.graph.now c.args.elem.0 inside _ c.args.node (trees c.args.vals.now) e c.requires.formed in
+    plain_few c.args.vals.now c.args.node inside q.many c.requires.few
+
+pub list-returns-in-Some : goal.list-returns-in-Some
+list-returns-in-Some t c =
+    let (inside, e) = c.in-Some.ensures in
+    let q = all_quiet c.args.types.now (home.Root 0) c.args.graph.now c.args.elem.0 inside _ c.args.node (trees c.args.vals.now) e.0 c.requires.formed in
+    (q.agree, e.1 ∙ plain_after c.args.vals.now c.args.node inside q.many)
 
 pub elements-value-requires : goal.elements-value-requires
 elements-value-requires t c =

@@ -1,5 +1,6 @@
-use Rattle.std.proofs.Common.{map, replicate, arith}
+use Rattle.std.proofs.Common.{◌++◌, ◌∙◌, map, replicate, ap, sym, arith}
 use Rattle.std.proofs.lemmas.Bool.{eqb-true}
+use Rattle.std.proofs.lemmas.List.{append-nil}
 use Rattle.nd_types.specs.declared.types.Field.{Field}
 use Rattle.nd_value.specs.Tree.{trees, count}
 use Rattle.nd_value.specs.Seen.{tree_of}
@@ -8,12 +9,24 @@ use Rattle.nd_misfits.proofs.NodeTests.{count_trees}
 use Rattle.nd_misfits.proofs.NodeWalk.{get_replicate, get_field}
 use Rattle.nd_misfits.proofs.FormWalk.{next_few, next_smaller, formed_at, tree_formed}
 use Rattle.nd_misfits.proofs.PointerWalk.{collect_on}
+use Rattle.nd_misfits.proofs.PlainValues.{no_graph, all_quiet, plain_few, plain_after}
 use Rattle.nd_misfits.proofs.pointers.+pointers.Goals as goal
 
 pub value-by_form-requires : goal.value-by_form-requires
 value-by_form-requires t c =
     let f = tree_formed c.args.types.now c.args.of.0 (tree_of c.args.val.now) c.requires.formed in
     (omega (arith, c.decreases), (c.requires.few, (f.shape, (f.arm, f.kids))))
+
+pub list-after_plain-requires : goal.list-after_plain-requires
+list-after_plain-requires t c inside e =
+    let q = all_quiet c.args.types.now c.args.home no_graph c.args.elem.0 inside _ c.args.node (trees c.args.vals.now) e c.requires.formed in
+    plain_few c.args.vals.now c.args.node inside q.many c.requires.few
+
+pub list-returns-in-Some : goal.list-returns-in-Some
+list-returns-in-Some t c =
+    let (inside, e) = c.in-Some.ensures in
+    let q = all_quiet c.args.types.now c.args.home no_graph c.args.elem.0 inside _ c.args.node (trees c.args.vals.now) e.0 c.requires.formed in
+    (sym (ap (λ ps. c.args.found.items ++ ps) q.named ∙ append-nil c.args.found.items), e.1 ∙ plain_after c.args.vals.now c.args.node inside q.many)
 
 pub elements-value-requires : goal.elements-value-requires
 elements-value-requires t c =
