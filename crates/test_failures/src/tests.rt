@@ -10,6 +10,7 @@ use crate::runs::{
 use dceidl::Status;
 use nd_base::{Memory, Octets};
 use std::alloc::Global;
+use std::process::Abort;
 use std::test::Fail;
 
 // More calls than a run makes.
@@ -336,11 +337,11 @@ fn first_wrong(alloc: Global, command: &Command, kind: Kind) -> Result<Option<u3
 }
 
 // Fails calls of a kind in turn, of each command. A failure names its command.
-fn each_fails(rt: &HostRuntime, kind: Kind) -> Result<(), Fail> {
+fn each_fails(rt: &impl Abort, alloc: Global, kind: Kind) -> Result<(), Fail> {
     for number in 0..COMMANDS {
         let command = command(number);
         let name = command.name;
-        assert_eq!(rt; first_wrong(rt.alloc(), &command, kind)?, None, "{name}");
+        assert_eq!(rt; first_wrong(alloc, &command, kind)?, None, "{name}");
     }
     Ok(())
 }
@@ -406,12 +407,12 @@ fn nothing_fails(rt: HostRuntime) -> Result<(), Fail> {
 
 #[test]
 fn each_load_fails(rt: HostRuntime) -> Result<(), Fail> {
-    each_fails(&rt, Kind::Load)
+    each_fails(&rt, rt.alloc(), Kind::Load)
 }
 
 #[test]
 fn each_file_is_absent(rt: HostRuntime) -> Result<(), Fail> {
-    each_fails(&rt, Kind::Absence)
+    each_fails(&rt, rt.alloc(), Kind::Absence)
 }
 
 #[test]
@@ -426,45 +427,45 @@ fn each_fetch_fails(rt: HostRuntime) -> Result<(), Fail> {
 
 #[test]
 fn each_put_fails(rt: HostRuntime) -> Result<(), Fail> {
-    each_fails(&rt, Kind::Put)
+    each_fails(&rt, rt.alloc(), Kind::Put)
 }
 
 #[test]
 fn each_put_and_the_notes_fail(rt: HostRuntime) -> Result<(), Fail> {
-    each_fails(&rt, Kind::PutAndNote)
+    each_fails(&rt, rt.alloc(), Kind::PutAndNote)
 }
 
 #[test]
 fn each_output_is_full(rt: HostRuntime) -> Result<(), Fail> {
-    each_fails(&rt, Kind::Out)
+    each_fails(&rt, rt.alloc(), Kind::Out)
 }
 
 #[test]
 fn each_note_fails(rt: HostRuntime) -> Result<(), Fail> {
-    each_fails(&rt, Kind::Note)
+    each_fails(&rt, rt.alloc(), Kind::Note)
 }
 
 #[test]
 fn all_notes_are_full_in_turn(rt: HostRuntime) -> Result<(), Fail> {
-    each_fails(&rt, Kind::Notes)
+    each_fails(&rt, rt.alloc(), Kind::Notes)
 }
 
 #[test]
 fn each_call_of_the_first_end_fails(rt: HostRuntime) -> Result<(), Fail> {
-    each_fails(&rt, Kind::Call(0))
+    each_fails(&rt, rt.alloc(), Kind::Call(0))
 }
 
 #[test]
 fn each_call_of_the_second_end_fails(rt: HostRuntime) -> Result<(), Fail> {
-    each_fails(&rt, Kind::Call(1))
+    each_fails(&rt, rt.alloc(), Kind::Call(1))
 }
 
 #[test]
 fn the_first_end_is_full(rt: HostRuntime) -> Result<(), Fail> {
-    each_fails(&rt, Kind::End(0))
+    each_fails(&rt, rt.alloc(), Kind::End(0))
 }
 
 #[test]
 fn the_second_end_is_full(rt: HostRuntime) -> Result<(), Fail> {
-    each_fails(&rt, Kind::End(1))
+    each_fails(&rt, rt.alloc(), Kind::End(1))
 }

@@ -305,7 +305,11 @@ fn rings_are_compared(rt: HostRuntime) -> Result<(), Fail> {
 
 // Whether an array of the octets AB and CD is kept as a row: it is given at once, with its full count.
 fn is_row(fit: &Fit) -> bool {
-    let mut walk = fit.walk(Home::Root(0));
+    let flat = fit.flat();
+    if flat.root_count() == 0 {
+        return false;
+    }
+    let mut walk = flat.root_walk(0);
     let array = Seen::Arr {
         max: 2,
         offset: 0,
