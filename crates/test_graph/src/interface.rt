@@ -24,6 +24,8 @@ pub(crate) const SIZED: u32 = 5;
 
 pub(crate) const SIZED_BY_POINTER: u32 = 6;
 
+pub(crate) const ADD: u32 = 7;
+
 // Its types are numbered from 12 on: a node, a pointer to one, a leaf, a pointer to one, a struct of two of these, a pointer to it, a pair.
 const IDL: &[u8] = b"[uuid(11111111-2222-3333-4444-555555555555)] interface t {
   typedef struct node { long v; [ptr] struct node *next; } node;
@@ -40,16 +42,22 @@ const IDL: &[u8] = b"[uuid(11111111-2222-3333-4444-555555555555)] interface t {
   void say([in, string] char *c);
   void r([in] unsigned long n, [out, size_is(n)] byte a[*]);
   void s([in, out] unsigned long *n, [out, size_is(*n)] byte a[*]);
+  void add([in] long a, [in] short b, [in] hyper c);
 }";
 
-/// The interface of all rows. It is out of memory too if the interface is not compiled.
-pub(crate) fn interface(alloc: Global) -> Result<Interface, Memory> {
+/// The interface of a text. It is out of memory too if the text is not compiled.
+pub(crate) fn compiled(alloc: Global, text: &[u8]) -> Result<Interface, Memory> {
     let mut files = MemFiles::new(alloc, &[])?;
-    files.add("t.idl", IDL)?;
+    files.add("t.idl", text)?;
     match compile(alloc, "t.idl", None, &mut files) {
         Ok(interface) => Ok(interface),
         Err(_) => Err(Memory),
     }
+}
+
+/// The interface of all rows.
+pub(crate) fn interface(alloc: Global) -> Result<Interface, Memory> {
+    compiled(alloc, IDL)
 }
 
 /// The graph of a text. It is out of memory too if the text is refused.

@@ -8,4 +8,8 @@ mod handmade;
 #[cfg(test)]
 mod interface;
 #[cfg(test)]
+mod rows;
+#[cfg(test)]
 mod tests;
+#[cfg(test)]
+mod types;

@@ -3,7 +3,7 @@ ghost use Rattle.std.specs.Prelude.{◌≡◌, ◌<◌, ◌^◌, length, IfOk};
 ghost use Rattle.nd_value.specs.Conforms.{HasFewNodes};
 
 use crate::handmade::{swapped, unreached};
-use crate::interface::{PAIR, RING, SAY, SIZED, SIZED_BY_POINTER, SUM, TWO, interface, read};
+use crate::interface::{ADD, PAIR, RING, SAY, SIZED, SIZED_BY_POINTER, SUM, TWO, interface, read};
 use nd_base::Memory;
 use nd_graph::{CellId, Fit, Graph, Home, Misfit, MisfitReason, Seen, Val, canonical, fit, same};
 use nd_types::{Interface, Side};
@@ -295,6 +295,28 @@ fn rings_are_compared(rt: HostRuntime) -> Result<(), Fail> {
     assert!(rt; is_same(rt.alloc(), &interface, &fit, DOUBLE)?);
     assert!(rt; !is_same(rt.alloc(), &interface, &fit, SINGLE)?);
     assert!(rt; is_canonical_ring(rt.alloc(), &fit)?);
+    Ok(())
+}
+
+// Whether the canonical form of a graph without cells is the same graph, with the numbers 1, 2 and 3.
+fn is_its_own_form(alloc: Global, fit: &Fit) -> Result<bool, Memory> {
+    let canon = canonical(alloc, fit)?;
+    let is_same = same(alloc, fit, &canon)?;
+    match canon.graph(alloc) {
+        Ok(graph) => Ok(
+            is_same && graph.roots.len() == 3 && matches!(graph.roots.get(2), Some(Val::Num(3))),
+        ),
+        Err(_) => Err(Memory),
+    }
+}
+
+#[test]
+fn conforming_graphs_fit(rt: HostRuntime) -> Result<(), Fail> {
+    let interface = interface(rt.alloc())?;
+    let text = b"values 2 op add in a = 1 b = 2 c = 3";
+    let fit = fit_of(rt.alloc(), &interface, ADD, Side::In, text)?;
+    assert_eq!(rt; fit.side(), Side::In);
+    assert!(rt; is_its_own_form(rt.alloc(), &fit)?);
     Ok(())
 }
 

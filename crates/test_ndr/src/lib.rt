@@ -6,4 +6,8 @@ mod chain;
 #[cfg(test)]
 mod interface;
 #[cfg(test)]
+mod plans;
+#[cfg(test)]
+mod referents;
+#[cfg(test)]
 mod tests;
