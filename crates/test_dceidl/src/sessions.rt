@@ -22,7 +22,9 @@ fn stock_of_one(alloc: Global) -> Result<Stock, Memory>
     ensures { IfOk result (λ stock. AreFresh (fresh_seen shows stock)) }
 {
     let resource = MemResource::new(alloc, 8, &[])?;
-    let resource = Box::new(alloc, resource)?;
+    let Ok(resource) = Box::new(alloc, resource) else {
+        return Err(Memory);
+    };
     let mut stock = Stock::new(alloc);
     let Ok(()) = stock.push(resource) else {
         return Err(Memory);

@@ -149,7 +149,7 @@ fn holds(
 
 // What comes of a command whose load fails: the input is not read.
 fn unloaded(command: &Command, number: u32, status: Status, word: &'static [u8]) -> Option<Wanted> {
-    let name = command.loads.get(number as usize)?;
+    let name = command.loads.get(number as usize).copied()?;
     Some(Wanted {
         status,
         out: b"",
@@ -178,10 +178,11 @@ fn out_is_full(command: &Command, number: u32) -> Option<Wanted> {
     if command.status != 0 || number > 2 {
         return None;
     }
-    let taken = (out_room(number) as usize).min(command.out.len());
+    let out: &'static [u8] = command.out;
+    let taken = (out_room(number) as usize).min(out.len());
     Some(Wanted {
         status: 4,
-        out: &command.out[..taken],
+        out: &out[..taken],
         notes: [b"write fault\n", b"", b""],
         ..done(command)
     })
@@ -192,10 +193,11 @@ fn notes_are_full(command: &Command, room: u32) -> Option<Wanted> {
     if command.status == 0 {
         return None;
     }
-    let taken = (room as usize).min(command.notes.len());
+    let notes: &'static [u8] = command.notes;
+    let taken = (room as usize).min(notes.len());
     Some(Wanted {
         status: 4,
-        notes: [&command.notes[..taken], b"", b""],
+        notes: [&notes[..taken], b"", b""],
         ..done(command)
     })
 }

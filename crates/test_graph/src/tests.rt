@@ -17,14 +17,16 @@ struct Row {
     /// The text of the request, if the graph is one of the outputs.
     request: Option<&'static [u8]>,
     text: &'static [u8],
-    misfit: Option<Misfit>,
+    wanted: Wanted,
 }
 
-const FIRST: Home = Home::Root(0);
-
-const SECOND: Home = Home::Root(1);
-
-const CELL: Home = Home::Cell(CellId(1));
+// Where a graph does not conform: at the node of a root, or of the first cell.
+#[derive(Clone, Copy)]
+enum Wanted {
+    Fits,
+    Root(u32, u32, MisfitReason),
+    Cell(u32, MisfitReason),
+}
 
 const ROWS: &[Row] = &[
     // A null reference pointer; a cell that is not there.
@@ -32,102 +34,85 @@ const ROWS: &[Row] = &[
         op: PAIR,
         request: None,
         text: b"values 2 op h in p = null",
-        misfit: Some(Misfit::At {
-            home: FIRST,
-            node: 0,
-            reason: MisfitReason::NullRef,
-        }),
+        wanted: Wanted::Root(0, 0, MisfitReason::NullRef),
     },
     Row {
         op: RING,
         request: None,
         text: b"values 2 op ring in p = @1",
-        misfit: Some(Misfit::At {
-            home: FIRST,
-            node: 0,
-            reason: MisfitReason::NoCell,
-        }),
+        wanted: Wanted::Root(0, 0, MisfitReason::NoCell),
     },
     // Two unique pointers to cells of their own, and to one cell.
     Row {
         op: TWO,
         request: None,
         text: b"values 2 op two in a = @1 b = @2 @1 = 5 @2 = 5",
-        misfit: None,
+        wanted: Wanted::Fits,
     },
     Row {
         op: TWO,
         request: None,
         text: b"values 2 op two in a = @1 b = @1 @1 = 5",
-        misfit: Some(Misfit::At {
-            home: SECOND,
-            node: 0,
-            reason: MisfitReason::Shared,
-        }),
+        wanted: Wanted::Root(1, 0, MisfitReason::Shared),
     },
     // A count that disagrees with its array, at the array; a zero within a string, at the string.
     Row {
         op: SUM,
         request: None,
         text: b"values 2 op sum in p = @1 @1 = {n = 3, a = [1, 2]}",
-        misfit: Some(Misfit::At {
-            home: CELL,
-            node: 2,
-            reason: MisfitReason::Disagrees {
+        wanted: Wanted::Cell(
+            2,
+            MisfitReason::Disagrees {
                 wanted: 3,
                 found: 2,
             },
-        }),
+        ),
     },
     Row {
         op: SAY,
         request: None,
         text: b"values 2 op say in c = @1 @1 = 3:\"h\\x00\"",
-        misfit: Some(Misfit::At {
-            home: CELL,
-            node: 0,
-            reason: MisfitReason::Zero,
-        }),
+        wanted: Wanted::Cell(0, MisfitReason::Zero),
     },
     // The size of an output by a number of the request.
     Row {
         op: SIZED,
         request: Some(b"values 2 op r in n = 2"),
         text: b"values 2 op r out a = [171, 205]",
-        misfit: None,
+        wanted: Wanted::Fits,
     },
     Row {
         op: SIZED,
         request: Some(b"values 2 op r in n = 3"),
         text: b"values 2 op r out a = [171, 205]",
-        misfit: Some(Misfit::At {
-            home: FIRST,
-            node: 0,
-            reason: MisfitReason::Disagrees {
+        wanted: Wanted::Root(
+            0,
+            0,
+            MisfitReason::Disagrees {
                 wanted: 3,
                 found: 2,
             },
-        }),
+        ),
     },
     // Where the variable travels back too, the response's own number counts.
     Row {
         op: SIZED_BY_POINTER,
         request: Some(b"values 2 op s in n = @1 @1 = 5"),
         text: b"values 2 op s out n = @1 a = [7] @1 = 1",
-        misfit: None,
+        wanted: Wanted::Fits,
     },
     Row {
         op: SIZED_BY_POINTER,
         request: Some(b"values 2 op s in n = @1 @1 = 5"),
         text: b"values 2 op s out n = @1 a = [7] @1 = 5",
-        misfit: Some(Misfit::At {
-            home: SECOND,
-            node: 0,
-            reason: MisfitReason::Disagrees {
+        wanted: Wanted::Root(
+            1,
+            0,
+            MisfitReason::Disagrees {
                 wanted: 5,
                 found: 1,
             },
-        }),
+        ),
     },
 ];
 
@@ -202,6 +187,23 @@ fn misfit_beside(
     }
 }
 
+// The misfit that is wanted.
+fn misfit_at(wanted: Wanted) -> Option<Misfit> {
+    match wanted {
+        Wanted::Fits => None,
+        Wanted::Root(root, node, reason) => Some(Misfit::At {
+            home: Home::Root(root),
+            node,
+            reason,
+        }),
+        Wanted::Cell(node, reason) => Some(Misfit::At {
+            home: Home::Cell(CellId(1)),
+            node,
+            reason,
+        }),
+    }
+}
+
 // The misfit of a row.
 fn misfit_of(alloc: Global, interface: &Interface, row: &Row) -> Result<Option<Misfit>, Memory> {
     if row.op as usize >= interface.operations.len() {
@@ -267,7 +269,10 @@ fn is_canonical_ring(alloc: Global, fit: &Fit) -> Result<bool, Memory> {
 fn misfits_are_found(rt: HostRuntime) -> Result<(), Fail> {
     let interface = interface(rt.alloc())?;
     for row in ROWS {
-        assert_eq!(rt; misfit_of(rt.alloc(), &interface, row)?, row.misfit);
+        assert_eq!(rt;
+            misfit_of(rt.alloc(), &interface, row)?,
+            misfit_at(row.wanted)
+        );
     }
     Ok(())
 }

@@ -68,6 +68,17 @@ const TURNS_LITTLE: &[u8] = b"\x02\0\0\0\x03\0\0\0\x03\0\0\0\x04\0\0\0\x05\0\0\0
 
 const TURNS_BIG: &[u8] = b"\0\0\0\x02\0\0\0\x03\0\0\0\x03\0\0\0\x04\0\0\0\x05\0\0\0\x06";
 
+// A node of a value.
+#[derive(Clone, Copy)]
+enum Node {
+    Num(i128),
+    Rec(u32),
+    Arr { max: u32, offset: u32, count: u32 },
+    Null,
+    /// The number of the cell.
+    Ptr(u32),
+}
+
 // Octets of an operation's inputs, and the graph that they are decoded to.
 #[derive(Clone, Copy)]
 struct Row {
@@ -80,8 +91,8 @@ struct Row {
     /// Each item but gaps is a step, and so is each cell.
     steps: u64,
     /// The nodes of each root, and of each cell.
-    roots: &'static [&'static [Seen<'static>]],
-    cells: &'static [&'static [Seen<'static>]],
+    roots: &'static [&'static [Node]],
+    cells: &'static [&'static [Node]],
 }
 
 const ROWS: &[Row] = &[
@@ -94,27 +105,27 @@ const ROWS: &[Row] = &[
         left: b"\xff\xff",
         steps: 12,
         roots: &[
-            &[Seen::Num(3)],
+            &[Node::Num(3)],
             &[
-                Seen::Arr {
+                Node::Arr {
                     max: 3,
                     offset: 0,
                     count: 3,
                 },
-                Seen::Rec(2),
-                Seen::Num(1),
-                Seen::Ptr(Some(CellId(1))),
-                Seen::Rec(2),
-                Seen::Num(2),
-                Seen::Ptr(None),
-                Seen::Rec(2),
-                Seen::Num(3),
-                Seen::Ptr(Some(CellId(2))),
+                Node::Rec(2),
+                Node::Num(1),
+                Node::Ptr(1),
+                Node::Rec(2),
+                Node::Num(2),
+                Node::Null,
+                Node::Rec(2),
+                Node::Num(3),
+                Node::Ptr(2),
             ],
         ],
         cells: &[
-            &[Seen::Rec(1), Seen::Num(11)],
-            &[Seen::Rec(1), Seen::Num(12)],
+            &[Node::Rec(1), Node::Num(11)],
+            &[Node::Rec(1), Node::Num(12)],
         ],
     },
     // A ring of 7 and 8, and an octet after it.
@@ -125,10 +136,10 @@ const ROWS: &[Row] = &[
         taken: 20,
         left: b"\xff",
         steps: 7,
-        roots: &[&[Seen::Ptr(Some(CellId(1)))]],
+        roots: &[&[Node::Ptr(1)]],
         cells: &[
-            &[Seen::Rec(2), Seen::Num(7), Seen::Ptr(Some(CellId(2)))],
-            &[Seen::Rec(2), Seen::Num(8), Seen::Ptr(Some(CellId(1)))],
+            &[Node::Rec(2), Node::Num(7), Node::Ptr(2)],
+            &[Node::Rec(2), Node::Num(8), Node::Ptr(1)],
         ],
     },
 ];
@@ -236,14 +247,22 @@ fn decoded(
     Ok(decoded)
 }
 
+// A node as a walk sees it.
+fn seen_of(node: Node) -> Seen<'static> {
+    match node {
+        Node::Num(number) => Seen::Num(number),
+        Node::Rec(members) => Seen::Rec(members),
+        Node::Arr { max, offset, count } => Seen::Arr { max, offset, count },
+        Node::Null => Seen::Ptr(None),
+        Node::Ptr(cell) => Seen::Ptr(Some(CellId(cell))),
+    }
+}
+
 // Whether a walk sees these nodes.
-fn sees(walk: Walk<'_>, nodes: &[Seen<'_>]) -> bool {
+fn sees(walk: Walk<'_>, nodes: &[Node]) -> bool {
     let mut walk = walk;
     for node in nodes {
-        let Some(seen) = walk.step() else {
-            return false;
-        };
-        if seen != *node {
+        if walk.step() != Some(seen_of(*node)) {
             return false;
         }
     }
@@ -251,7 +270,7 @@ fn sees(walk: Walk<'_>, nodes: &[Seen<'_>]) -> bool {
 }
 
 // Whether the roots of a graph have these nodes.
-fn has_roots(fit: &Fit, roots: &[&[Seen<'_>]]) -> bool {
+fn has_roots(fit: &Fit, roots: &[&[Node]]) -> bool {
     let flat = fit.flat();
     for (at, nodes) in roots.iter().enumerate() {
         if at >= flat.root_count() || !sees(flat.root_walk(at), nodes) {
@@ -262,7 +281,7 @@ fn has_roots(fit: &Fit, roots: &[&[Seen<'_>]]) -> bool {
 }
 
 // Whether the cells of a graph have these nodes.
-fn has_cells(fit: &Fit, cells: &[&[Seen<'_>]]) -> bool {
+fn has_cells(fit: &Fit, cells: &[&[Node]]) -> bool {
     let flat = fit.flat();
     for (at, nodes) in cells.iter().enumerate() {
         if at >= flat.cell_count() || !sees(flat.cell_walk(at), nodes) {

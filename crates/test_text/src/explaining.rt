@@ -6,48 +6,31 @@ use ndr_explain::explain;
 use std::alloc::Global;
 use std::test::Fail;
 
-const ITEMS: &[Item] = &[
+// An item of a root.
+fn item(at: u32, len: u32, kind: ItemKind, root: u32, value: i128) -> Item {
     Item {
-        at: 0,
-        len: 4,
-        kind: ItemKind::Num,
-        home: Home::Root(0),
+        at,
+        len,
+        kind,
+        home: Home::Root(root),
         node: 0,
-        value: 1,
-    },
-    Item {
-        at: 4,
-        len: 2,
-        kind: ItemKind::Num,
-        home: Home::Root(1),
-        node: 0,
-        value: 2,
-    },
-    Item {
-        at: 6,
-        len: 2,
-        kind: ItemKind::Gap,
-        home: Home::Root(2),
-        node: 0,
-        value: 0,
-    },
-    Item {
-        at: 8,
-        len: 8,
-        kind: ItemKind::Num,
-        home: Home::Root(2),
-        node: 0,
-        value: 3,
-    },
-];
+        value,
+    }
+}
 
 fn noted(alloc: Global) -> Result<ItemLog, Memory> {
-    let mut items = ItemLog::keeping(alloc);
+    let items = [
+        item(0, 4, ItemKind::Num, 0, 1),
+        item(4, 2, ItemKind::Num, 1, 2),
+        item(6, 2, ItemKind::Gap, 2, 0),
+        item(8, 8, ItemKind::Num, 2, 3),
+    ];
+    let mut log = ItemLog::keeping(alloc);
     let mut steps = Steps::new(Uncounted::new());
-    for item in ITEMS {
-        items.note(*item, &mut steps)?;
+    for item in items {
+        log.note(item, &mut steps)?;
     }
-    Ok(items)
+    Ok(log)
 }
 
 #[test]
