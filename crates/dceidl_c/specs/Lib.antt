@@ -1,5 +1,6 @@
 pub mod Answers
-pub mod Places
 pub mod Compiling
 pub mod Octets
 pub mod Texts
+pub mod Fragments
+pub mod Versions

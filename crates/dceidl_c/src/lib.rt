@@ -3,7 +3,9 @@
 
 mod answers;
 mod faults;
+mod fragments;
 mod interfaces;
 mod numbers;
 mod reading;
+mod versions;
 mod writing;
