@@ -3,4 +3,4 @@ use Rattle.std.specs.Prelude.{ℕ, ◌+◌, ◌*◌, ◌^◌}
 use Rattle.wide_numbers.specs.declared.wide.Wide.{Wide}
 
 abbrev pub joined_halves : Wide → ℕ
-joined_halves w = w.low + 2 ^ 64 * w.high
+joined_halves w = w.high * 2 ^ 64 + w.low
