@@ -1,6 +1,6 @@
 """The commands `call` and `wrap`: the fragments of a request or response (C706, section 12.6)."""
 
-from case import CLOSED, Case, OneAtATime, example, interface, lines, octets
+from case import CLOSED, Case, Late, OneAtATime, example, interface, lines, octets
 
 FILE = interface("void add([in] long a, [in] short b, [in] hyper c);", "void ping();", "long sum([in] short n);")
 ADD = lines("values 2", "op add in", "a = 1", "b = 2", "c = 3")
@@ -118,4 +118,20 @@ THREE = pdu(STUB[:5], flags=1, hint=16) + pdu(STUB[5:8], flags=0, hint=16) + pdu
 CUT = [call("three fragments", THREE, lines("call 7") + ADD),
        *(refused(f"three fragments cut after {n} octets", THREE[:n], n, "Short") for n in range(len(THREE)))]
 
-CASES = READ + REFUSED + WRAPPED + OUTSIDE + CUT
+# stub data up to the limit of a stream, and one octet more: fragments as large as there may be, of which each has 65,511 octets
+STREAM_LIMIT = 67_108_864
+WHOLE_ONES, REST = divmod(STREAM_LIMIT, 65_511)
+
+
+def long_request(more):
+    """A request of `ping` with so many octets more than the limit."""
+    part = bytes(65_511)
+    return pdu(part, flags=1, number=1) + pdu(part, flags=0, number=1) * (WHOLE_ONES - 1) + pdu(bytes(REST + more), flags=2, number=1)
+
+
+LONG = [Late("call: as many stub data as a stream may have",
+             lambda: call("as many stub data as a stream may have", long_request(0), status=1, notes=lines("refused: octets at 0: Trailing"))),
+        Late("call: one octet of stub data too many",
+             lambda: refused("one octet of stub data too many", long_request(1), WHOLE_ONES * 65_535 + 8, "StubLong"))]
+
+CASES = READ + REFUSED + WRAPPED + OUTSIDE + CUT + LONG

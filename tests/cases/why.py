@@ -85,6 +85,8 @@ def of_pages():
     for reason, when in table(section(page("docs/IDL.md"), "13."), "Answer", "When"):
         word = reason.strip("`").split()[0]
         yield from differs(f"docs/IDL.md, {word}", when, word, "refused: compat")
+    for reason, when, _ in table(section(page("docs/FROM-A-CAPTURE.md"), "4."), "Reason", "Reported if", "Place"):
+        yield from differs(f"docs/FROM-A-CAPTURE.md, {reason}", when, reason.strip("`"), "refused: pdu")
     for reason, when, _ in table(section(page("docs/NDR.md"), "17."), "Reason", "Exactly if", "Place"):
         yield from differs(f"docs/NDR.md, {reason}", when, reason, "refused: octets")
     text = page("docs/TEXT.md")

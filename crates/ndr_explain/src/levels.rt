@@ -339,11 +339,7 @@ fn append_element(text: &mut Octets, offset: u32, at: u32) -> Result<(), Memory>
 }
 
 /// Adds the steps from a home's value to the node at which levels are.
-pub fn append_steps(
-    text: &mut Octets,
-    top: Level<'_>,
-    below: &Vec<Level<'_>>,
-) -> Result<(), Memory>
+pub fn append_steps(text: &mut Octets, top: Level<'_>, below: &Vec<Level<'_>>) -> Result<(), Memory>
     ensures { OnOk result (text.new ≡ path_to text.old (top.entry ∷ reverse below.now.items)) }
 {
     append_outer(text, below)?;
