@@ -9,9 +9,9 @@ pub returns-clause-refused : goal.returns-clause-refused
 returns-clause-refused c =
     let i = c.args.older.now in
     let j = c.args.newer.now in
-    let d = c.in_ok-compare.field-0 in
-    let compared = c.in_ok-compare.ensures.compared in
-    elim c.match-branch-2.branch [
+    let d = c.in_ok-old.field-0 in
+    let compared = c.in_ok-old.ensures.compared in
+    elim c.match-branch-3.branch [
       | in-Yes w ↦ rw w.result-is tt
       | in-OtherUuid w ↦ rw w.result-is (answered i j d compared _ (ap (fault_of i) w.in-OtherUuid.is))
       | in-OtherMajor w ↦ rw w.result-is (answered i j d compared _ (ap (fault_of i) w.in-OtherMajor.is))
