@@ -57,7 +57,7 @@ fn run_over(rt: &HostRuntime, ends: &mut PipeEnds, stock: &mut Stock) -> Result<
 {
     let words = words_of(rt)?;
     let mut files = FolderFiles::new(rt);
-    let mut input = StandardInput::new(rt.stdin());
+    let mut input = StandardInput::new(rt.alloc(), rt.stdin())?;
     let mut out = OutputSink::new(rt.stdout());
     let mut notes = OutputSink::new(rt.stderr());
     Ok(run_with(

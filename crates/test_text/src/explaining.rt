@@ -1,32 +1,60 @@
 // A stream is explained with ample memory.
 use crate::fits::{fit, interface};
-use nd_base::{Steps, Uncounted};
+use nd_base::{Memory, Steps, Uncounted};
 use nd_value::{Home, Item, ItemKind, ItemLog};
 use ndr_explain::explain;
+use std::alloc::Global;
 use std::test::Fail;
 
-// An item of a root.
-fn item(at: u32, len: u32, kind: ItemKind, root: u32, value: i128) -> Item {
+const ITEMS: &[Item] = &[
     Item {
-        at,
-        len,
-        kind,
-        home: Home::Root(root),
+        at: 0,
+        len: 4,
+        kind: ItemKind::Num,
+        home: Home::Root(0),
         node: 0,
-        value,
+        value: 1,
+    },
+    Item {
+        at: 4,
+        len: 2,
+        kind: ItemKind::Num,
+        home: Home::Root(1),
+        node: 0,
+        value: 2,
+    },
+    Item {
+        at: 6,
+        len: 2,
+        kind: ItemKind::Gap,
+        home: Home::Root(2),
+        node: 0,
+        value: 0,
+    },
+    Item {
+        at: 8,
+        len: 8,
+        kind: ItemKind::Num,
+        home: Home::Root(2),
+        node: 0,
+        value: 3,
+    },
+];
+
+fn noted(alloc: Global) -> Result<ItemLog, Memory> {
+    let mut items = ItemLog::keeping(alloc);
+    let mut steps = Steps::new(Uncounted::new());
+    for item in ITEMS {
+        items.note(*item, &mut steps)?;
     }
+    Ok(items)
 }
 
 #[test]
 fn a_stream_is_explained(rt: HostRuntime) -> Result<(), Fail> {
     let interface = interface(rt.alloc())?;
     let fit = fit(rt.alloc(), &interface)?;
-    let mut items = ItemLog::keeping(rt.alloc());
-    let mut steps = Steps::new(Uncounted::new());
-    items.note(item(0, 4, ItemKind::Num, 0, 1), &mut steps)?;
-    items.note(item(4, 2, ItemKind::Num, 1, 2), &mut steps)?;
-    items.note(item(6, 2, ItemKind::Gap, 2, 0), &mut steps)?;
-    items.note(item(8, 8, ItemKind::Num, 2, 3), &mut steps)?;
+    let items = noted(rt.alloc())?;
     let text = explain(rt.alloc(), &interface, &fit, &items)?;
     assert_eq!(rt;
         text.as_slice(),
