@@ -3,4 +3,3 @@ pub mod Compiling
 pub mod Octets
 pub mod Texts
 pub mod Fragments
-pub mod Versions

@@ -7,5 +7,4 @@ mod fragments;
 mod interfaces;
 mod numbers;
 mod reading;
-mod versions;
 mod writing;

@@ -27,8 +27,6 @@ impl Model for Handle {
     ghost also_owns = { λ h. handle_owns h.at h.full h.value };
 }
 
-unsafe impl Send for Handle {}
-
 impl Handle {
     // The handle that holds what a loose box does.
     fn of(loose: Loose<Held, Global>) -> Handle
