@@ -91,6 +91,7 @@ pub(crate) fn lay_out(octets: &[u8], out: &mut [u8], len: &mut usize) -> u32
     ensures known { result ≤ ABSENT }
     ensures not_empty { result ≡ EMPTY → ⊥ }
     ensures not_argument { result ≡ ARGUMENT → ⊥ }
+    ensures not_refused { result ≡ REFUSED → ⊥ }
     ensures len { len.new ≡ length octets.now }
     ensures done { result ≡ OK → take len.new out.new ≡ octets.now }
     ensures short { result ≡ SHORT → length out.old < len.new }
