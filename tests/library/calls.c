@@ -39,12 +39,12 @@ static dceidl_cause cause_of(dceidl_fault *fault, uint32_t kind, uint32_t reason
 static void files(dceidl_fault *fault) {
     dceidl_interface interface = DCEIDL_NONE;
     dceidl_cause cause;
-    need(compile("interface t {\n  void f([in] other a);\n}\n", &interface, fault) == DCEIDL_REFUSED, "an unknown type");
+    need(compile("[local] interface t {\n  void f([in] other a);\n}\n", &interface, fault) == DCEIDL_REFUSED, "an unknown type");
     cause = cause_of(fault, DCEIDL_FILE, DCEIDL_FILE_UNKNOWN, "other");
     need(cause.line == 2 && cause.column == 15 && !cause.place && !cause.rule, "line and column");
-    need(compile("import \"base.idl\"; interface t { void f(); }", &interface, fault) == DCEIDL_REFUSED, "no such import");
+    need(compile("[local] interface t { import \"base.idl\"; void f(); }", &interface, fault) == DCEIDL_REFUSED, "no such import");
     cause_of(fault, DCEIDL_NO_FILE, 0, "");
-    need(compile("interface t { void f([in] long a[0]); }", &interface, fault) == DCEIDL_REFUSED, "a rule");
+    need(compile("[local] interface t { void f([in] long a[0]); }", &interface, fault) == DCEIDL_REFUSED, "a rule");
     need(cause_of(fault, DCEIDL_FILE, DCEIDL_FILE_RULE, "").rule > 0, "its number");
     need(dceidl_fault_cause((dceidl_fault *)&interface, &cause) == DCEIDL_EMPTY, "an empty fault");
 }
@@ -62,7 +62,7 @@ static void values(dceidl_interface *interface, dceidl_fault *fault) {
     need(cause.line == 2 && cause.column == 4, "line and column of a text");
     need(dceidl_read(interface, 0, DCEIDL_IN, dceidl_some("values 2 op add in a = 1 b = 99999"), 34, &made, fault) == DCEIDL_REFUSED, "no short");
     cause_of(fault, DCEIDL_VALUE, DCEIDL_VALUE_RANGE, "b");
-    need(compile("interface t { void f([in, size_is(n)] long *a, [in] long n); }", &counted, fault) == DCEIDL_OK, "a count");
+    need(compile("[local] interface t { void f([in, size_is(n)] long a[*], [in] long n); }", &counted, fault) == DCEIDL_OK, "a count");
     need(dceidl_decode(&counted, 0, DCEIDL_IN, DCEIDL_LITTLE, (const uint8_t *)"\1\0\0\0\7\0\0\0\xfe\xff\xff\xff", 12, &made, &taken, fault) == DCEIDL_REFUSED, "a count that disagrees");
     cause = cause_of(fault, DCEIDL_OCTETS, DCEIDL_OCTETS_DISAGREES, "");
     need((int64_t)cause.wanted.low == -2 && cause.wanted.high == UINT64_MAX && cause.found.low == 1 && cause.found.high == 0, "wanted and found");
