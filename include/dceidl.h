@@ -223,7 +223,8 @@ uint32_t dceidl_decode(dceidl_interface *interface, uint32_t operation, uint32_t
 uint32_t dceidl_decode_response(dceidl_values *request, uint32_t order, const uint8_t *octets, size_t length, dceidl_values *values, size_t *taken,
                                 dceidl_fault *fault);
 
-/* The values of a side of an operation that a text is read as (docs/TEXT.md).
+/* The values of a side of an operation that a text is read as (docs/TEXT.md): the form is that which dceidl_text writes, so the text of similar values
+   shows it; blanks and line feeds may be anywhere between tokens.
    REFUSED: the fault has the line and column of the first place at which the text is refused, or the path of the first value that does not conform.
    EMPTY; ARGUMENT: operation or side; MEMORY. */
 uint32_t dceidl_read(dceidl_interface *interface, uint32_t operation, uint32_t side, const uint8_t *text, size_t length, dceidl_values *values,
