@@ -103,10 +103,16 @@ def one_copy(rng: random.Random, declarations: List[str]) -> List[str]:
     return declarations[:at + 1] + [copy] + later
 
 
+def one_less(rng: random.Random, declarations: List[str]) -> List[str]:
+    """An operation without its last parameter."""
+    at = rng.choice([at for at, text in enumerate(declarations) if "typedef" not in text])
+    return declarations[:at] + [re.sub(r", \[[\w, ()]*\] [\w *\[\]]*\);$", ");", declarations[at])] + declarations[at + 1:]
+
+
 def second_version(rng: random.Random, declarations: List[str]) -> List[str]:
     """Nearly the same declarations."""
-    for _ in range(rng.choice([0, 1, 1, 2])):
-        declarations = rng.choice([one_word, one_word, one_copy])(rng, declarations)
+    for _ in range(rng.choice([0, 1, 2, 3])):
+        declarations = rng.choice([one_word, one_word, one_word, one_copy, one_less])(rng, declarations)
     if rng.random() < 0.3:
         declarations = ["typedef struct { long z; } more;"] + declarations
     return declarations

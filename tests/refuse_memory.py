@@ -6,7 +6,7 @@ is refused, and it is one that the program can do without, the run may also end 
     tests/refuse_memory.py --program PATH     runs another program
     tests/refuse_memory.py --most N           at most N growths of each command, spread over all of them (default: all)
 
-The commands are an encoding and a decoding, the directory interface's compile, encode, decode and explain, a drain, a response beside its request, a
+The commands are an encoding and a decoding, the directory interface's compile, encode, decode, explain and trace, a drain, a response beside its request, a
 call, a wrap, comparisons, a session and the sample. In the run of number N the Nth call of `malloc` or `realloc` is refused; then all calls from the
 Nth on are. The gate does not run this. It needs a C compiler, `cc`, for what refuses, and a program that is linked with the C library as a shared object.
 
@@ -108,6 +108,8 @@ DIFFERING = {"old.idl": interface("typedef struct s { [unique] struct s *n; } s;
                                   "void g([in] r b);")}
 PLACE = ["op g parameter b", "old struct 1", "new struct 1", "earlier", "op f parameter a", "old struct 1", "new struct 1"]
 SCRIPT = lines("open 1 00112233-4455-6677-8899-aabbccddeeff", "use 00112233-4455-6677-8899-aabbccddeeff hi", "down 1")
+PUT_TRACED = PUT_LINES[:PUT_LINES.rindex(b"89 1 num")] + lines("89 fault Truncated data[1]")
+PUT_FAULT = lines("refused: octets at 89: Truncated")
 SAMPLED = lines("cells 2", "octets 28", "sum 178", "same yes")
 
 
@@ -122,6 +124,7 @@ COMMANDS = [
     Command("directory: encode", directory("encode", "1"), DIRECTORY_FILES, PUT_TEXT, PUT),
     Command("directory: decode", directory("decode"), DIRECTORY_FILES, PUT, PUT_TEXT),
     Command("directory: explain", directory("explain"), DIRECTORY_FILES, PUT, PUT_LINES),
+    Command("directory: trace", directory("trace"), DIRECTORY_FILES, PUT[:-1], PUT_TRACED, status=1, notes=PUT_FAULT),
     Command("drain", ["drain", "t.idl", "-", "feed", "in", "little"], PIPES, PIPE_OCTETS, lines("values 2", "op feed in", "d = []"),
             {"pipe0.out": lines("1", "2", "3")}),
     Command("response", ["decode", "t.idl", "-", "r", "out", "little", "given", "request.txt"], BESIDE, octets("02000000 ABCD"),

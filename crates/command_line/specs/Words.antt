@@ -8,7 +8,7 @@ use Rattle.nd_types.specs.declared.types.Side.{Side}
 use Rattle.nd_types.specs.declared.types.Side.TheVariants.{In, Out}
 use Rattle.command_line.specs.declared.TheConstants.{CHUNK_LIMIT, COUNT_LIMIT, LEAST_MAX}
 use Rattle.command_line.specs.declared.command.Reading.{Reading}
-use Rattle.command_line.specs.declared.command.Reading.TheVariants.{Decode, Explain, Drain}
+use Rattle.command_line.specs.declared.command.Reading.TheVariants.{Decode, Explain, Trace, Drain}
 use Rattle.command_line.specs.declared.command.OrderWord.{OrderWord}
 use Rattle.command_line.specs.declared.command.OrderWord.TheVariants.{Fixed, Label}
 use Rattle.command_line.specs.declared.command.Task.{Task}
@@ -99,6 +99,7 @@ abbrev pub reading_of : List ℕ → Option Reading
 reading_of word =
     if is_word word (codes "decode") then Some Decode
     else if is_word word (codes "explain") then Some Explain
+    else if is_word word (codes "trace") then Some Trace
     else if is_word word (codes "drain") then Some Drain else None
 
 -- the side that a word names
@@ -190,7 +191,7 @@ compat_why old old_acf new new_acf why =
 -- The command that words are by their number, if they are one: `compile IDL ACF`, `plan IDL ACF`, `sample SEED COUNT`,
 -- `call IDL ACF OP` or `call IDL ACF -`, `migrate IDL ACF OP SIDE`, `compat OLD OLDACF NEW NEWACF`, the same with `why`,
 -- `decode IDL ACF OP SIDE ORDER`,
--- `decode IDL ACF OP out ORDER given TEXT`, the same of `explain` and `drain`, `encode IDL ACF OP SIDE ORDER CHUNK`,
+-- `decode IDL ACF OP out ORDER given TEXT`, the same of `explain`, `trace` and `drain`, `encode IDL ACF OP SIDE ORDER CHUNK`,
 -- `encode IDL ACF OP out ORDER CHUNK given TEXT`, `wrap IDL ACF OP SIDE ORDER CALL MAX`, `--help` or `--version`.
 -- No words are `sample 1 2`.
 abbrev pub counted_command : List (List ℕ) → Option Command

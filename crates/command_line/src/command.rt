@@ -12,6 +12,8 @@ pub enum Reading {
     Decode,
     /// A line for each item of their stream is written.
     Explain,
+    /// The same, up to the first fault if they are refused, and the fault is shown.
+    Trace,
     /// The elements of their pipes go to ends, and the text of the values is written with empty pipes.
     Drain,
 }

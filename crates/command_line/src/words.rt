@@ -640,6 +640,7 @@ fn reading_named(word: &str) -> Option<Reading>
     match word {
         "decode" => Some(Reading::Decode),
         "explain" => Some(Reading::Explain),
+        "trace" => Some(Reading::Trace),
         "drain" => Some(Reading::Drain),
         _ => None,
     }

@@ -1166,7 +1166,8 @@ refused: compat: REASON
     $ echo '[version(2.0), uuid(11111111-2222-3333-4444-555555555555)] interface t { void f(); }' > new.idl
     $ dceidl compat old.idl - new.idl -
     refused: compat: OtherMajor 1 2
-  `dceidl why REASON` explains the reason. Status 1.
+  `dceidl why REASON` explains the reason. If an operation differs, the command
+  with `why` as one more word prints the place. Status 1.
 \x0c\
 OtherUuid
 refused: compat: OtherUuid
@@ -1215,7 +1216,8 @@ refused: compat: Differs NAME
     $ echo '[version(1.1), uuid(11111111-2222-3333-4444-555555555555)] interface t { void f([in] hyper x); }' > new.idl
     $ dceidl compat old.idl - new.idl -
     refused: compat: Differs f
-  Leave the operation as it was, and add a new one at the end.
+  `dceidl compat old.idl - new.idl - why` prints the first place at which it
+  differs. Leave the operation as it was, and add a new one at the end.
 \x0c\
 script
 refused: script LINE

@@ -7,7 +7,7 @@ use Rattle.nd_grammar.specs.LegalSide.{IsLegalSide}
 use Rattle.text_grammar.specs.declared.TheConstants.{TEXT_LIMIT}
 use Rattle.ndr_pipe.specs.Ends.{EndsSeen}
 use Rattle.command_line.specs.declared.command.Reading.{Reading}
-use Rattle.command_line.specs.declared.command.Reading.TheVariants.{Decode, Explain, Drain}
+use Rattle.command_line.specs.declared.command.Reading.TheVariants.{Decode, Explain, Trace, Drain}
 use Rattle.command_line.specs.declared.command.OrderWord.{OrderWord}
 use Rattle.command_line.specs.declared.command.OrderWord.TheVariants.{Fixed, Label}
 use Rattle.command_line.specs.declared.command.Task.{Task}
@@ -17,7 +17,6 @@ use Rattle.command_refusals.specs.declared.refusal.Refusal.{Refusal}
 use Rattle.command_refusals.specs.declared.refusal.Refusal.TheVariants.{Memory, Absent, FileFailed, BadIdl, NoOperation, ReadFault, BadOctets, BadText, BadValue, TooLong, BadRequest, BadLabel}
 use Rattle.command_refusals.specs.declared.refusal.Refusal.TheVariants.{ShortLabel, TooFewEnds, EndFailed}
 use Rattle.command_refusals.specs.declared.refusal.Refusal.TheVariants.{BadPdu, NotCompatible, BadScript, LongScript}
-use Rattle.command_refusals.specs.declared.refusal.CompatFault.TheVariants.{Differs}
 use Rattle.command_refusals.specs.declared.refusal.OctetsFault.TheVariants.{Refused, Trailing}
 use Rattle.command_refusals.specs.declared.refusal.RequestFault.{RequestFault}
 use Rattle.command_refusals.specs.Lines.{status_of, line_of}
@@ -26,10 +25,11 @@ use Rattle.ndr_drain.specs.Given.{pipe_count}
 use Rattle.command_drain.specs.Printed as draining
 use Rattle.command_drain.specs.Printed.{IsDrainRefusal}
 use Rattle.command_explain.specs.Explanations.{IsExplained}
+use Rattle.command_trace.specs.Stopped.{IsTraceCause}
 use Rattle.command_decode.specs.Printed.{IsPrinted, IsInputCause}
 use Rattle.command_text.specs.Fitted.{IsTextCause}
 use Rattle.command_text.proofs.OneText.{good_cause, fault_cause, misfit_cause}
-use Rattle.dceidl.specs.Causes.{IsMade, IsCause, IsPlaceTold, IsUnexplained, tells}
+use Rattle.dceidl.specs.Causes.{IsMade, IsCause, IsWrittenBeside, IsUnexplained}
 use Rattle.command_why.specs.declared.lookup.Explained.TheVariants.{Found, Nearest}
 use Rattle.dceidl.proofs.Compats.{compat_done, compat_settled}
 use Rattle.dceidl.specs.Encode.{IsLabelledEncoding, IsLongEncoding, IsEncodingCause, IsMigration}
@@ -57,6 +57,8 @@ use Rattle.command_streams.proofs.OneInput.{same_octets}
 use Rattle.dceidl.proofs.Labels.{given_after, one_order, never_unopened, bad_opened, bad_cause, short_opened, short_cause}
 use Rattle.dceidl.proofs.HeldRequests.{legal_all, all_one, all_cause, all_unready, all_unready_cause, no_request, no_request_cause}
 use Rattle.dceidl.proofs.OneReading.{IsOctetsCause, read_causes, whole_here, decoded_cause, refused_value, refused_cause}
+use Rattle.dceidl.proofs.Tracings.{trace_causes}
+use Rattle.dceidl.proofs.Beside.{beside_cause, beside_one, beside_tells}
 use Rattle.dceidl.proofs.Drains.{drain_causes, few_made, few_cause}
 use Rattle.dceidl.proofs.OneWriting.{IsGood, migrated_good, fault_good, misfit_good, encodes_cause, text_cause, long_cause, labelled_good, long_labelled}
 use Rattle.dceidl.proofs.Rows.{Ended, ended_done, ended_refused, ended_unknown, ended_untold, ended_told, ended_cut, ended_wanting, ended_unwritten, ended_unreported}
@@ -126,6 +128,9 @@ module _ (s : SourceSeen) (e : EndsSeen) (w : Setting) (legal : IsLegalSide w) w
   made_cause (Read Explain word) (order, octets, g, given, represents, conforms, ends) r (inr (rest, other, opened, cause)) =
       read_causes rest w order octets (given_after s order octets word given rest other opened) (λ p. p ≡ Memory) refl
       (decoded_cause w legal order octets g represents conforms) r (subst (λ o. IsInputCause rest w o r) (one_order s order octets word given rest other opened) cause)
+  made_cause (Read Trace word) (order, octets, g, given, represents, conforms, ends) r (inr (rest, other, opened, cause)) =
+      trace_causes rest octets (given_after s order octets word given rest other opened) w order (λ p. p ≡ Memory) refl
+      (decoded_cause w legal order octets g represents conforms) r (subst (λ o. IsTraceCause rest w o r) (one_order s order octets word given rest other opened) cause)
   made_cause (Read Drain word) (order, octets, g, given, represents, conforms, ends) r (inr (rest, other, opened, cause)) =
       drain_causes rest e w order octets (given_after s order octets word given rest other opened) ends (λ p. p ≡ Memory) refl
       (decoded_cause w legal order octets g represents conforms) r (subst (λ o. IsDrainRefusal rest e w o r) (one_order s order octets word given rest other opened) cause)
@@ -192,6 +197,11 @@ module _ (s : SourceSeen) (e : EndsSeen) (w : Setting) (legal : IsLegalSide w) w
         let input = given_after s order octets word given rest other opened in
         refused_value w legal order octets place why refused p.explanation.graph
         (whole_here rest octets input w order (λ os. Represents w order os p.explanation.graph) p.octets p.whole p.explanation.represents) p.explanation.conforms
+    unmade Trace made (rest, other, opened, m) =
+        let p = subst (λ o. IsExplained rest w o made) (one_order s order octets word given rest other opened) m in
+        let input = given_after s order octets word given rest other opened in
+        refused_value w legal order octets place why refused p.explanation.graph
+        (whole_here rest octets input w order (λ os. Represents w order os p.explanation.graph) p.octets p.whole p.explanation.represents) p.explanation.conforms
     unmade Drain made (rest, other, opened, m) =
         let p = subst (λ o. draining.IsPrinted rest e w o made) (one_order s order octets word given rest other opened) m in
         let input = given_after s order octets word given rest other opened in
@@ -206,6 +216,9 @@ module _ (s : SourceSeen) (e : EndsSeen) (w : Setting) (legal : IsLegalSide w) w
     only_refused Explain ends q (inr (rest, other, opened, cause)) =
         read_causes rest w order octets (given_after s order octets word given rest other opened) (Only (BadOctets place why)) (inl refl)
         (refused_cause w legal order octets place why refused) q (subst (λ o. IsInputCause rest w o q) (one_order s order octets word given rest other opened) cause)
+    only_refused Trace ends q (inr (rest, other, opened, cause)) =
+        trace_causes rest octets (given_after s order octets word given rest other opened) w order (Only (BadOctets place why)) (inl refl)
+        (refused_cause w legal order octets place why refused) q (subst (λ o. IsTraceCause rest w o q) (one_order s order octets word given rest other opened) cause)
     only_refused Drain ends q (inr (rest, other, opened, cause)) =
         drain_causes rest e w order octets (given_after s order octets word given rest other opened) ends (Only (BadOctets place why)) (inl refl)
         (refused_cause w legal order octets place why refused) q (subst (λ o. IsDrainRefusal rest e w o q) (one_order s order octets word given rest other opened) cause)
@@ -241,6 +254,7 @@ module _ (s : SourceSeen) (e : EndsSeen) (w : Setting) (legal : IsLegalSide w) w
   no_octets Drain word (TooFewEnds wanted found) (order, octets, given, wanted_is, found_is, less) = too_few word wanted found order octets given wanted_is found_is less
   no_octets Decode word (TooFewEnds wanted found) must = absurd must
   no_octets Explain word (TooFewEnds wanted found) must = absurd must
+  no_octets Trace word (TooFewEnds wanted found) must = absurd must
   no_octets how word (EndFailed which) must = absurd must
   no_octets how word (BadPdu spot because) must = absurd must
   no_octets how word (NotCompatible differing) must = absurd must
@@ -616,49 +630,22 @@ caused_once x (Sample seed count) r must text nearest = nearest
 caused_once x Help r must text nearest = nearest
 caused_once x Version r must text nearest = nearest
 
--- the place of a difference is told only by `compat .. why`
-tells_place : (x : Seen) (c : Command) (name text : List ℕ) → IsPlaceTold x c name text → tells c ≡ true
-tells_place x (Compat old old_acf new new_acf true) name text told = refl
-tells_place x (Compat old old_acf new new_acf false) name text told = absurd told
-tells_place x (Why words) name text told = absurd told
-tells_place x (Values task of given) name text told = absurd told
-tells_place x (Compile idl acf) name text told = absurd told
-tells_place x (Plan idl acf) name text told = absurd told
-tells_place x (Call idl acf op) name text told = absurd told
-tells_place x (Wrap of order call max) name text told = absurd told
-tells_place x (Sample seed count) name text told = absurd told
-tells_place x Help name text told = absurd told
-tells_place x Version name text told = absurd told
+module _ (x : Seen) (c : Command) (loads : HasRisen x.files.faults → ⊥) where
+  -- nothing is written beside a line where a command must be done
+  beside_once : CanBeDone x c → (r : Refusal) (text : List ℕ) → IsWrittenBeside x c r text → ⊥
+  beside_once can r text beside =
+      never (sym (ap status_of (not_refused x loads c can r (beside_cause x c r text beside))) ∙ beside_one x c r text beside)
+    where
+      never : status_of Memory ≡ 1 → ⊥
+      never e = cc
 
-module _ (x : Seen) where
-  -- where a place is told, its operation differs
-  place_cause : (c : Command) (name text : List ℕ) → IsPlaceTold x c name text → IsCause x c (NotCompatible (Differs name))
-  place_cause (Compat old old_acf new new_acf true) name text told =
-      record { older = told.older; newer = told.newer; compiled = told.compiled; different = told.different }
-  place_cause (Compat old old_acf new new_acf false) name text told = absurd told
-  place_cause (Why words) name text told = absurd told
-  place_cause (Values task of given) name text told = absurd told
-  place_cause (Compile idl acf) name text told = absurd told
-  place_cause (Plan idl acf) name text told = absurd told
-  place_cause (Call idl acf op) name text told = absurd told
-  place_cause (Wrap of order call max) name text told = absurd told
-  place_cause (Sample seed count) name text told = absurd told
-  place_cause Help name text told = absurd told
-  place_cause Version name text told = absurd told
-
-  module _ (c : Command) (loads : HasRisen x.files.faults → ⊥) where
-    placed_once : CanBeDone x c → (name text : List ℕ) → IsPlaceTold x c name text → ⊥
-    placed_once can name text told = never (not_refused x loads c can (NotCompatible (Differs name)) (place_cause c name text told))
-      where
-        never : NotCompatible (Differs name) ≡ Memory → ⊥
-        never e = cc
-
-    placed_as : (r : Refusal) → MustBeRefused x c r → (name text : List ℕ) → IsPlaceTold x c name text → NotCompatible (Differs name) ≡ r
-    placed_as r must name text told = by ((settled x loads c r must).1 (NotCompatible (Differs name)) (place_cause c name text told))
-      where
-        by : (NotCompatible (Differs name) ≡ Memory) ⊎ (NotCompatible (Differs name) ≡ r) → NotCompatible (Differs name) ≡ r
-        by (inl e) = cc
-        by (inr e) = e
+  -- and where it must be refused, beside that line alone
+  beside_as : (r : Refusal) → MustBeRefused x c r → (q : Refusal) (text : List ℕ) → IsWrittenBeside x c q text → q ≡ r
+  beside_as r must q text beside = by ((settled x loads c r must).1 q (beside_cause x c q text beside)) (beside_one x c q text beside)
+    where
+      by : (q ≡ Memory) ⊎ (q ≡ r) → status_of q ≡ 1 → q ≡ r
+      by (inl e) one = let never : status_of Memory ≡ 1 = sym (ap status_of e) ∙ one in cc
+      by (inr e) one = e
 
 module _ (x : Seen) (out notes : SinkSeen) (c : Command) (status : ℕ) (sound : IsSound x notes) (end : Ended x out notes c status) where
   pub complete : CanBeDone x c → IsCompleted out status
@@ -669,8 +656,8 @@ module _ (x : Seen) (out notes : SinkSeen) (c : Command) (status : ℕ) (sound :
       by (ended_refused r) = inr (inl (r.own_status ∙ ap status_of (not_refused x sound.loads c can r.refusal r.cause)))
       by (ended_unknown is text nearest given told) = absurd (explained_once x c can text nearest)
       by (ended_untold is rose text nearest) = inr (inr (is, rose))
-      by (ended_told t) = absurd (placed_once x c sound.loads can t.name t.text t.told)
-      by (ended_cut is rose name text told) = inr (inr (is, rose))
+      by (ended_told t) = absurd (beside_once x c sound.loads can t.refusal t.text t.beside)
+      by (ended_cut is rose q text beside) = inr (inr (is, rose))
       by (ended_wanting is) = inr (inl is)
       by (ended_unwritten is rose made is_made) = inr (inr (is, rose))
       by (ended_unreported is rose) = absurd (sound.reports rose)
@@ -687,8 +674,8 @@ module _ (x : Seen) (out notes : SinkSeen) (c : Command) (status : ℕ) (sound :
       by (ended_refused q) = by_cause q.refusal q.own_status q.line ((settled x sound.loads c r must).1 q.refusal q.cause)
       by (ended_unknown is text nearest given told) = absurd (caused_once x c r must text nearest)
       by (ended_untold is rose text nearest) = absurd (caused_once x c r must text nearest)
-      by (ended_told t) = by_cause (NotCompatible (Differs t.name)) t.own_status t.line (inr (placed_as x c sound.loads r must t.name t.text t.told))
-      by (ended_cut is rose name text told) = inr (inr (tells_place x c name text told, is))
+      by (ended_told t) = by_cause t.refusal t.own_status t.line (inr (beside_as x c sound.loads r must t.refusal t.text t.beside))
+      by (ended_cut is rose q text beside) = inr (inr (beside_tells x c q text beside, is))
       by (ended_wanting is) = inr (inl is)
       by (ended_unwritten is rose made is_made) = absurd ((settled x sound.loads c r must).0 made is_made)
       by (ended_unreported is rose) = absurd (sound.reports rose)

@@ -17,3 +17,6 @@ pub mod Calling
 pub mod Exact
 pub mod Explanations
 pub mod WrappedCalls
+pub mod Beside
+pub mod Tracings
+pub mod Traces

@@ -15,7 +15,7 @@ use Rattle.command_streams.specs.declared.outcome.Outcome.{Outcome}
 use Rattle.command_streams.specs.declared.outcome.Outcome.TheVariants.{Done, Refused, Reported, Wanting}
 use Rattle.dceidl.specs.Causes.{IsUntold}
 use Rattle.dceidl.specs.Compat.{IsComparedOutcome}
-use Rattle.dceidl.specs.Run.{IsCommandOutcome, IsOutcome}
+use Rattle.dceidl.specs.Run.{IsCommandOutcome}
 use Rattle.dceidl.specs.Seen.{Seen}
 
 -- a place is beside the refusal of an operation alone
@@ -84,8 +84,9 @@ module _ (x : Seen) (old : List ℕ) (old_acf : Option (List ℕ)) (new : List �
   as_outcome (Done made) h = h
   as_outcome (Refused status line) (r, cause, beside, s, l) =
       record { refusal = r; cause = cause; status_is = s; line_is = l; untold = untold x.files first second r beside }
-  as_outcome (Reported text status line) (name, written, s, l) = inr (record { name = name; told = written; status_is = s; line_is = l })
+  as_outcome (Reported text status line) (name, written, s, l) =
+      inr (record { refusal = NotCompatible (fault.Differs name); beside = (name, refl, written); status_is = s; line_is = l })
   as_outcome Wanting h = h
 
-  pub compared_outcome : (c : Option Command) (o : Outcome) → c ≡ Some (Compat old old_acf new new_acf true) → IsComparedOutcome x.files first second o → IsOutcome x c o
-  compared_outcome c o is h = subst (λ k. IsOutcome x k o) (sym is) (as_outcome o h)
+  pub compared_outcome : (c : Command) (o : Outcome) → c ≡ Compat old old_acf new new_acf true → IsComparedOutcome x.files first second o → IsCommandOutcome x c o
+  compared_outcome c o is h = subst (λ k. IsCommandOutcome x k o) (sym is) (as_outcome o h)

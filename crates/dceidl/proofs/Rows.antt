@@ -9,7 +9,7 @@ use Rattle.command_refusals.specs.declared.refusal.Refusal.{Refusal}
 use Rattle.command_refusals.specs.declared.refusal.Refusal.TheVariants.{Memory, Absent, FileFailed, BadIdl, NoOperation, ReadFault, BadOctets, BadText, BadValue, TooLong, BadRequest, BadLabel}
 use Rattle.command_refusals.specs.declared.refusal.Refusal.TheVariants.{ShortLabel, TooFewEnds, EndFailed}
 use Rattle.command_refusals.specs.declared.refusal.Refusal.TheVariants.{BadPdu, NotCompatible, BadScript, LongScript}
-use Rattle.dceidl.specs.Causes.{IsMade, IsCause, IsPlaceTold, IsUnexplained, statuses_of, values_statuses, tells}
+use Rattle.dceidl.specs.Causes.{IsMade, IsCause, IsWrittenBeside, IsUnexplained, statuses_of, values_statuses, tells}
 use Rattle.dceidl.specs.Wrapped.{IsNoCall, IsNoWrap}
 use Rattle.command_refusals.specs.Lines.{status_of, line_of}
 use Rattle.command_compile.specs.Compiled.{IsIdlCause}
@@ -22,18 +22,19 @@ use Rattle.dceidl.specs.Ready.{HasAsked}
 use Rattle.ndr_pipe.specs.Ends.{EndsSeen}
 use Rattle.nd_base.specs.declared.octets.Order.{Order}
 use Rattle.command_line.specs.declared.command.Reading.{Reading}
-use Rattle.command_line.specs.declared.command.Reading.TheVariants.{Decode, Explain, Drain}
+use Rattle.command_line.specs.declared.command.Reading.TheVariants.{Decode, Explain, Trace, Drain}
 use Rattle.command_line.specs.declared.command.OrderWord.{OrderWord}
 use Rattle.command_line.specs.declared.command.OrderWord.TheVariants.{Fixed, Label}
 use Rattle.command_line.specs.declared.command.Task.{Task}
 use Rattle.command_line.specs.declared.command.Task.TheVariants.{Read, Encode, Migrate}
-use Rattle.dceidl.specs.Rows.{IsDone, IsRefusedWith, IsRefusedAtPlace, IsRefused, AreUnknown, tells_refused, ReadsInput}
+use Rattle.dceidl.specs.Rows.{IsDone, IsRefusedWith, IsRefusedBeside, IsRefused, AreUnknown, tells_refused, ReadsInput}
 use Rattle.dceidl.specs.Rows.{IsDueOf, IsDueNext, IsDueAndMissing, IsDueAndReported, EndRose, IsEndReported, HasNotFailed}
 use Rattle.command_streams.specs.Delivery.{IsOneOf, IsDelivered}
 use Rattle.dceidl.specs.Run.{HasRun, IsOutcome, IsCommandOutcome}
 use Rattle.dceidl.specs.Seen.{Seen}
 use Rattle.nd_value.specs.Setting.{Setting}
 use Rattle.command_line.specs.Words.{Command, Subject, Values, Compile, Plan, Call, Wrap, Compat, Why, Sample, Help, Version, command, idl_of, op_of}
+use Rattle.dceidl.proofs.Beside.{beside_one, beside_quiet, one_in}
 use Rattle.dceidl.proofs.Compats.{compat_status, compat_read, compat_end, compat_absent, compat_failed}
 
 -- a refusal has none of the statuses 0, 2 and 4
@@ -64,8 +65,8 @@ pub data Ended (x : Seen) (out notes : SinkSeen) (c : Command) (status : ℕ) : 
   ended_refused : IsRefusedWith x out notes c status → Ended x out notes c status
   ended_unknown : status ≡ 2 → (text : List ℕ) → IsUnexplained c text → Got out text → Got notes (codes "words refused\n") → Ended x out notes c status
   ended_untold : status ≡ 4 → HasRisen out.faults → (text : List ℕ) → IsUnexplained c text → Ended x out notes c status
-  ended_told : IsRefusedAtPlace x out notes c status → Ended x out notes c status
-  ended_cut : status ≡ 4 → HasRisen out.faults → (name text : List ℕ) → IsPlaceTold x c name text → Ended x out notes c status
+  ended_told : IsRefusedBeside x out notes c status → Ended x out notes c status
+  ended_cut : status ≡ 4 → HasRisen out.faults → (r : Refusal) (text : List ℕ) → IsWrittenBeside x c r text → Ended x out notes c status
   ended_wanting : status ≡ 5 → Ended x out notes c status
   ended_unwritten : status ≡ 4 → HasRisen out.faults → (made : List ℕ) → IsMade x c made → Ended x out notes c status
   ended_unreported : status ≡ 4 → HasRisen notes.faults → Ended x out notes c status
@@ -83,10 +84,10 @@ module _ (x : Seen) (out notes : SinkSeen) (c : Command) (status : ℕ) where
   by_outcome (Reported text own line) (inl (nearest, two, same)) (inl (given, inl (is, told))) =
       ended_unknown (is ∙ two) text nearest given (subst (Got notes) same told)
   by_outcome (Reported text own line) (inr d) (inl (given, inl (is, told))) =
-      ended_told (record { name = d.name; text = text; told = d.told; own_status = is ∙ d.status_is; line = subst (Got notes) d.line_is told; given = given })
+      ended_told (record { refusal = d.refusal; text = text; beside = d.beside; own_status = is ∙ d.status_is; line = subst (Got notes) d.line_is told; given = given })
   by_outcome (Reported text own line) r (inl (given, inr (is, rose, some))) = ended_unreported is rose
   by_outcome (Reported text own line) (inl (nearest, two, same)) (inr (is, rose, some, warned)) = ended_untold is rose text nearest
-  by_outcome (Reported text own line) (inr d) (inr (is, rose, some, warned)) = ended_cut is rose d.name text d.told
+  by_outcome (Reported text own line) (inr d) (inr (is, rose, some, warned)) = ended_cut is rose d.refusal text d.beside
   by_outcome Wanting caused (before, inl (is, told)) = ended_wanting is
   by_outcome Wanting caused (before, inr (is, rose, some)) = ended_unreported is rose
 
@@ -105,11 +106,8 @@ module _ (x : Seen) (out notes : SinkSeen) (c : Command) (status : ℕ) where
     where
       never : status ≡ 4 → status ≡ 0 → ⊥
       never a b = cc
-  done_is (ended_told t) e = absurd (never t.own_status e)
-    where
-      never : status ≡ 1 → status ≡ 0 → ⊥
-      never a b = cc
-  done_is (ended_cut is rose name text told) e = absurd (never is e)
+  done_is (ended_told t) e = absurd (not_zero t.refusal (sym t.own_status ∙ e))
+  done_is (ended_cut is rose r text beside) e = absurd (never is e)
     where
       never : status ≡ 4 → status ≡ 0 → ⊥
       never a b = cc
@@ -132,8 +130,8 @@ module _ (x : Seen) (out notes : SinkSeen) (c : Command) (status : ℕ) where
   has_cause (ended_refused r) zero one two four five = r
   has_cause (ended_unknown is text nearest given told) zero one two four five = absurd (two is)
   has_cause (ended_untold is rose text nearest) zero one two four five = absurd (four is)
-  has_cause (ended_told t) zero one two four five = absurd (one t.own_status)
-  has_cause (ended_cut is rose name text told) zero one two four five = absurd (four is)
+  has_cause (ended_told t) zero one two four five = absurd (one (t.own_status ∙ beside_one x c t.refusal t.text t.beside))
+  has_cause (ended_cut is rose r text beside) zero one two four five = absurd (four is)
   has_cause (ended_wanting is) zero one two four five = absurd (five is)
   has_cause (ended_unwritten is rose made is_made) zero one two four five = absurd (four is)
   has_cause (ended_unreported is rose) zero one two four five = absurd (four is)
@@ -145,16 +143,15 @@ memory_of_why x out notes words status r = r.own_status ∙ ap status_of r.cause
 -- what a command that is refused says
 refused_as : (x : Seen) (out notes : SinkSeen) (c : Command) (status : ℕ) → status ≢ 5 → IsRefusedWith x out notes c status → IsRefused x out notes c status
 refused_as x out notes (Why words) status five r = absurd (five (memory_of_why x out notes words status r))
-refused_as x out notes (Values task of given) status five r = r
-refused_as x out notes (Compile idl acf) status five r = r
-refused_as x out notes (Plan idl acf) status five r = r
-refused_as x out notes (Call idl acf op) status five r = r
-refused_as x out notes (Wrap of order call max) status five r = r
-refused_as x out notes (Compat old old_acf new new_acf false) status five r = r
-refused_as x out notes (Compat old old_acf new new_acf true) status five r = inl r
-refused_as x out notes (Sample seed count) status five r = r
-refused_as x out notes Help status five r = r
-refused_as x out notes Version status five r = r
+refused_as x out notes (Values task of given) status five r = inl r
+refused_as x out notes (Compile idl acf) status five r = inl r
+refused_as x out notes (Plan idl acf) status five r = inl r
+refused_as x out notes (Call idl acf op) status five r = inl r
+refused_as x out notes (Wrap of order call max) status five r = inl r
+refused_as x out notes (Compat old old_acf new new_acf why) status five r = inl r
+refused_as x out notes (Sample seed count) status five r = inl r
+refused_as x out notes Help status five r = inl r
+refused_as x out notes Version status five r = inl r
 
 nearest_as : (x : Seen) (out notes : SinkSeen) (c : Command) (status : ℕ) → status ≡ 2 → (text : List ℕ) → IsUnexplained c text → Got out text
     → Got notes (codes "words refused\n") → IsRefused x out notes c status
@@ -170,18 +167,17 @@ nearest_as x out notes (Sample seed count) status is text nearest given told = a
 nearest_as x out notes Help status is text nearest given told = absurd nearest
 nearest_as x out notes Version status is text nearest given told = absurd nearest
 
-place_as : (x : Seen) (out notes : SinkSeen) (c : Command) (status : ℕ) → IsRefusedAtPlace x out notes c status → IsRefused x out notes c status
-place_as x out notes (Compat old old_acf new new_acf true) status t = inr t
-place_as x out notes (Compat old old_acf new new_acf false) status t = absurd t.told
-place_as x out notes (Why words) status t = absurd t.told
-place_as x out notes (Values task of given) status t = absurd t.told
-place_as x out notes (Compile idl acf) status t = absurd t.told
-place_as x out notes (Plan idl acf) status t = absurd t.told
-place_as x out notes (Call idl acf op) status t = absurd t.told
-place_as x out notes (Wrap of order call max) status t = absurd t.told
-place_as x out notes (Sample seed count) status t = absurd t.told
-place_as x out notes Help status t = absurd t.told
-place_as x out notes Version status t = absurd t.told
+beside_as : (x : Seen) (out notes : SinkSeen) (c : Command) (status : ℕ) → IsRefusedBeside x out notes c status → IsRefused x out notes c status
+beside_as x out notes (Why words) status t = absurd t.beside
+beside_as x out notes (Values task of given) status t = inr t
+beside_as x out notes (Compile idl acf) status t = inr t
+beside_as x out notes (Plan idl acf) status t = inr t
+beside_as x out notes (Call idl acf op) status t = inr t
+beside_as x out notes (Wrap of order call max) status t = inr t
+beside_as x out notes (Compat old old_acf new new_acf why) status t = inr t
+beside_as x out notes (Sample seed count) status t = inr t
+beside_as x out notes Help status t = inr t
+beside_as x out notes Version status t = inr t
 
 -- any other status than 0, 4 and 5 is a refusal
 pub refused_is : (x : Seen) (out notes : SinkSeen) (c : Command) (status : ℕ) → Ended x out notes c status → status ≢ 0 → status ≢ 4 → status ≢ 5
@@ -190,8 +186,8 @@ refused_is x out notes c status (ended_done is d) zero four five = absurd (zero 
 refused_is x out notes c status (ended_refused r) zero four five = refused_as x out notes c status five r
 refused_is x out notes c status (ended_unknown is text nearest given told) zero four five = nearest_as x out notes c status is text nearest given told
 refused_is x out notes c status (ended_untold is rose text nearest) zero four five = absurd (four is)
-refused_is x out notes c status (ended_told t) zero four five = place_as x out notes c status t
-refused_is x out notes c status (ended_cut is rose name text told) zero four five = absurd (four is)
+refused_is x out notes c status (ended_told t) zero four five = beside_as x out notes c status t
+refused_is x out notes c status (ended_cut is rose r text beside) zero four five = absurd (four is)
 refused_is x out notes c status (ended_wanting is) zero four five = absurd (five is)
 refused_is x out notes c status (ended_unwritten is rose made is_made) zero four five = absurd (four is)
 refused_is x out notes c status (ended_unreported is rose) zero four five = absurd (four is)
@@ -285,8 +281,11 @@ ends_drain x (Read Decode (Fixed order)) of given which (inr (w, ready, inl (cau
 ends_drain x (Read Decode Label) of given which (inr (w, ready, inl (cause, kept))) = absurd cause
 ends_drain x (Read Decode word) of given which (inr (w, ready, inr (rest, order, opened, cause))) = absurd cause
 ends_drain x (Read Explain (Fixed order)) of given which (inr (w, ready, inl (cause, kept))) = absurd cause
+ends_drain x (Read Trace (Fixed order)) of given which (inr (w, ready, inl (cause, kept))) = absurd cause
 ends_drain x (Read Explain Label) of given which (inr (w, ready, inl (cause, kept))) = absurd cause
+ends_drain x (Read Trace Label) of given which (inr (w, ready, inl (cause, kept))) = absurd cause
 ends_drain x (Read Explain word) of given which (inr (w, ready, inr (rest, order, opened, cause))) = absurd cause
+ends_drain x (Read Trace word) of given which (inr (w, ready, inr (rest, order, opened, cause))) = absurd cause
 ends_drain x (Encode word chunk) of given which (inr (w, ready, (text, read, cause))) = absurd cause
 ends_drain x Migrate of given which (inr (w, ready, (text, read, cause))) = absurd cause
 
@@ -351,20 +350,6 @@ five_in (Sample seed count) status e = inr (inr (inl e))
 five_in Help status e = inr (inr (inl e))
 five_in Version status e = inr (inr (inl e))
 
--- status 1 is one of a command that writes the place at which operations differ
-one_in : (x : Seen) (c : Command) (name text : List ℕ) → IsPlaceTold x c name text → (status : ℕ) → status ≡ 1 → IsOneOf (statuses_of c) status
-one_in x (Compat old old_acf new new_acf true) name text told status e = inr (inl e)
-one_in x (Compat old old_acf new new_acf false) name text told status e = absurd told
-one_in x (Why words) name text told status e = absurd told
-one_in x (Values task of given) name text told status e = absurd told
-one_in x (Compile idl acf) name text told status e = absurd told
-one_in x (Plan idl acf) name text told status e = absurd told
-one_in x (Call idl acf op) name text told status e = absurd told
-one_in x (Wrap of order call max) name text told status e = absurd told
-one_in x (Sample seed count) name text told status e = absurd told
-one_in x Help name text told status e = absurd told
-one_in x Version name text told status e = absurd told
-
 -- only the words of `why` can have no entry
 two_in : (c : Command) (text : List ℕ) → IsUnexplained c text → (status : ℕ) → status ≡ 2 → IsOneOf (statuses_of c) status
 two_in (Why words) text nearest status e = inr (inl e)
@@ -383,8 +368,8 @@ status_in x out notes c status (ended_done is d) = zero_in c status is
 status_in x out notes c status (ended_refused r) = refused_status x c status r.refusal r.cause r.own_status
 status_in x out notes c status (ended_unknown is text nearest given told) = two_in c text nearest status is
 status_in x out notes c status (ended_untold is rose text nearest) = four_in c status is
-status_in x out notes c status (ended_told t) = one_in x c t.name t.text t.told status t.own_status
-status_in x out notes c status (ended_cut is rose name text told) = four_in c status is
+status_in x out notes c status (ended_told t) = one_in x c t.refusal t.text t.beside status (t.own_status ∙ beside_one x c t.refusal t.text t.beside)
+status_in x out notes c status (ended_cut is rose r text beside) = four_in c status is
 status_in x out notes c status (ended_wanting is) = five_in c status is
 status_in x out notes c status (ended_unwritten is rose made is_made) = four_in c status is
 status_in x out notes c status (ended_unreported is rose) = four_in c status is
@@ -475,6 +460,7 @@ module _ (x : Seen) where
   octets_failed s ends how Label w (inl (rose, kept)) = rose
   octets_failed s ends Decode word w (inr (rest, order, opened, rose)) = opened_failed s rest word order opened rose
   octets_failed s ends Explain word w (inr (rest, order, opened, rose)) = opened_failed s rest word order opened rose
+  octets_failed s ends Trace word w (inr (rest, order, opened, rose)) = opened_failed s rest word order opened rose
   octets_failed s ends Drain word w (inr (rest, order, opened, (rose, enough, cause))) = opened_failed s rest word order opened rose
 
   call_read : (idl : List ℕ) (acf op : Option (List ℕ)) (r : Refusal) → IsNoCall x.files x.input idl acf op r → status_of r ≡ 3 → HasRisen x.input.faults
@@ -652,12 +638,15 @@ module _ (x : Seen) where
       (rose, (file, refl, inr (is, request_due of name u.own u.has_asked), subst (IsMissing x.files.held) (sym is) missing))
   absent_is (Values (Read Decode (Fixed order)) of given) (Absent file) (inr (w, ready, inl (cause, kept))) e = absurd cause
   absent_is (Values (Read Explain (Fixed order)) of given) (Absent file) (inr (w, ready, inl (cause, kept))) e = absurd cause
+  absent_is (Values (Read Trace (Fixed order)) of given) (Absent file) (inr (w, ready, inl (cause, kept))) e = absurd cause
   absent_is (Values (Read Drain (Fixed order)) of given) (Absent file) (inr (w, ready, inl (cause, kept))) e = absurd cause
   absent_is (Values (Read Decode Label) of given) (Absent file) (inr (w, ready, inl (cause, kept))) e = absurd cause
   absent_is (Values (Read Explain Label) of given) (Absent file) (inr (w, ready, inl (cause, kept))) e = absurd cause
+  absent_is (Values (Read Trace Label) of given) (Absent file) (inr (w, ready, inl (cause, kept))) e = absurd cause
   absent_is (Values (Read Drain Label) of given) (Absent file) (inr (w, ready, inl (cause, kept))) e = absurd cause
   absent_is (Values (Read Decode word) of given) (Absent file) (inr (w, ready, inr (rest, order, opened, cause))) e = absurd cause
   absent_is (Values (Read Explain word) of given) (Absent file) (inr (w, ready, inr (rest, order, opened, cause))) e = absurd cause
+  absent_is (Values (Read Trace word) of given) (Absent file) (inr (w, ready, inr (rest, order, opened, cause))) e = absurd cause
   absent_is (Values (Read Drain word) of given) (Absent file) (inr (w, ready, inr (rest, order, opened, cause))) e = absurd cause
   absent_is (Values (Encode word chunk) of given) (Absent file) (inr (w, ready, (text, read, cause))) e = absurd cause
   absent_is (Values Migrate of given) (Absent file) (inr (w, ready, (text, read, cause))) e = absurd cause
@@ -768,12 +757,15 @@ module _ (x : Seen) where
       let (is, rose) = u.cause in (rose, (file, refl, inr (is, request_due of name u.own u.has_asked)))
   failed_is (Values (Read Decode (Fixed order)) of given) (FileFailed file) (inr (w, ready, inl (cause, kept))) e = absurd cause
   failed_is (Values (Read Explain (Fixed order)) of given) (FileFailed file) (inr (w, ready, inl (cause, kept))) e = absurd cause
+  failed_is (Values (Read Trace (Fixed order)) of given) (FileFailed file) (inr (w, ready, inl (cause, kept))) e = absurd cause
   failed_is (Values (Read Drain (Fixed order)) of given) (FileFailed file) (inr (w, ready, inl (cause, kept))) e = absurd cause
   failed_is (Values (Read Decode Label) of given) (FileFailed file) (inr (w, ready, inl (cause, kept))) e = absurd cause
   failed_is (Values (Read Explain Label) of given) (FileFailed file) (inr (w, ready, inl (cause, kept))) e = absurd cause
+  failed_is (Values (Read Trace Label) of given) (FileFailed file) (inr (w, ready, inl (cause, kept))) e = absurd cause
   failed_is (Values (Read Drain Label) of given) (FileFailed file) (inr (w, ready, inl (cause, kept))) e = absurd cause
   failed_is (Values (Read Decode word) of given) (FileFailed file) (inr (w, ready, inr (rest, order, opened, cause))) e = absurd cause
   failed_is (Values (Read Explain word) of given) (FileFailed file) (inr (w, ready, inr (rest, order, opened, cause))) e = absurd cause
+  failed_is (Values (Read Trace word) of given) (FileFailed file) (inr (w, ready, inr (rest, order, opened, cause))) e = absurd cause
   failed_is (Values (Read Drain word) of given) (FileFailed file) (inr (w, ready, inr (rest, order, opened, cause))) e = absurd cause
   failed_is (Values (Encode word chunk) of given) (FileFailed file) (inr (w, ready, (text, read, cause))) e = absurd cause
   failed_is (Values Migrate of given) (FileFailed file) (inr (w, ready, (text, read, cause))) e = absurd cause
@@ -853,6 +845,7 @@ module _ (x : Seen) where
   end_failed (Values (Read how Label) of given) which (inr (w, ready, inl (cause, kept))) = absurd cause
   end_failed (Values (Read Decode word) of given) which (inr (w, ready, inr (rest, order, opened, cause))) = absurd cause
   end_failed (Values (Read Explain word) of given) which (inr (w, ready, inr (rest, order, opened, cause))) = absurd cause
+  end_failed (Values (Read Trace word) of given) which (inr (w, ready, inr (rest, order, opened, cause))) = absurd cause
   end_failed (Values (Read Drain word) of given) which (inr (w, ready, inr (rest, order, opened, cause))) = refused_rose rest x.ends w order which cause
   end_failed (Values (Encode word chunk) of given) which (inr (w, ready, (text, read, cause))) = absurd cause
   end_failed (Values Migrate of given) which (inr (w, ready, (text, read, cause))) = absurd cause
@@ -926,8 +919,8 @@ module _ (x : Seen) (out notes : SinkSeen) (status : ℕ) (nothing : HasNotFaile
   by_command c (ended_refused r) = refused_unfailed c r.refusal r.cause r.own_status
   by_command c (ended_unknown is text nearest given told) = inr (inr (inl is))
   by_command c (ended_untold is rose text nearest) = absurd (nothing.writes rose)
-  by_command c (ended_told t) = inr (inl t.own_status)
-  by_command c (ended_cut is rose name text told) = absurd (nothing.writes rose)
+  by_command c (ended_told t) = inr (inl (t.own_status ∙ beside_one x c t.refusal t.text t.beside))
+  by_command c (ended_cut is rose r text beside) = absurd (nothing.writes rose)
   by_command c (ended_wanting is) = inr (inr (inr (inl is)))
   by_command c (ended_unwritten is rose made is_made) = absurd (nothing.writes rose)
   by_command c (ended_unreported is rose) = absurd (nothing.reports rose)
@@ -1007,8 +1000,8 @@ module _ (x : Seen) (out notes : SinkSeen) (status : ℕ) (words : List (List �
       by_end c (ended_refused r) = absurd (not_two r.refusal (sym r.own_status ∙ e))
       by_end c (ended_unknown is text nearest given told) = (text, nearest)
       by_end c (ended_untold is rose text nearest) = (text, nearest)
-      by_end c (ended_told t) = absurd (apart status 1 2 t.own_status e (λ h. cc))
-      by_end c (ended_cut is rose name text told) = absurd (apart status 4 2 is e (λ h. cc))
+      by_end c (ended_told t) = absurd (apart status 1 2 (t.own_status ∙ beside_one x c t.refusal t.text t.beside) e (λ h. cc))
+      by_end c (ended_cut is rose r text beside) = absurd (apart status 4 2 is e (λ h. cc))
       by_end c (ended_wanting is) = absurd (apart status 5 2 is e (λ h. cc))
       by_end c (ended_unwritten is rose made is_made) = absurd (apart status 4 2 is e (λ h. cc))
       by_end c (ended_unreported is rose) = absurd (apart status 4 2 is e (λ h. cc))
@@ -1026,8 +1019,8 @@ module _ (x : Seen) (out notes : SinkSeen) (status : ℕ) (words : List (List �
       by_end c (ended_refused r) = absurd (not_two r.refusal (sym r.own_status ∙ e))
       by_end c (ended_unknown is text nearest given told) = told
       by_end c (ended_untold is rose text nearest) = absurd (apart status 4 2 is e (λ h. cc))
-      by_end c (ended_told t) = absurd (apart status 1 2 t.own_status e (λ h. cc))
-      by_end c (ended_cut is rose name text told) = absurd (apart status 4 2 is e (λ h. cc))
+      by_end c (ended_told t) = absurd (apart status 1 2 (t.own_status ∙ beside_one x c t.refusal t.text t.beside) e (λ h. cc))
+      by_end c (ended_cut is rose r text beside) = absurd (apart status 4 2 is e (λ h. cc))
       by_end c (ended_wanting is) = absurd (apart status 5 2 is e (λ h. cc))
       by_end c (ended_unwritten is rose made is_made) = absurd (apart status 4 2 is e (λ h. cc))
       by_end c (ended_unreported is rose) = absurd (apart status 4 2 is e (λ h. cc))
@@ -1056,8 +1049,8 @@ module _ (x : Seen) (out notes : SinkSeen) (status : ℕ) (words : List (List �
       by_end c (ended_refused r) = absurd (not_four r.refusal (sym r.own_status ∙ e))
       by_end c (ended_unknown is text nearest given told) = absurd (apart status 2 4 is e (λ h. cc))
       by_end c (ended_untold is rose text nearest) = inl rose
-      by_end c (ended_told t) = absurd (apart status 1 4 t.own_status e (λ h. cc))
-      by_end c (ended_cut is rose name text told) = inl rose
+      by_end c (ended_told t) = absurd (apart status 1 4 (t.own_status ∙ beside_one x c t.refusal t.text t.beside) e (λ h. cc))
+      by_end c (ended_cut is rose r text beside) = inl rose
       by_end c (ended_wanting is) = absurd (apart status 5 4 is e (λ h. cc))
       by_end c (ended_unwritten is rose made is_made) = inl rose
       by_end c (ended_unreported is rose) = inr rose
@@ -1086,8 +1079,8 @@ module _ (x : Seen) (out notes : SinkSeen) (status : ℕ) (words : List (List �
       by_end c (ended_refused r) = absurd (not_zero r.refusal (sym r.own_status ∙ e))
       by_end c (ended_unknown is text nearest given told) = absurd (apart status 2 0 is e (λ h. cc))
       by_end c (ended_untold is rose text nearest) = absurd (apart status 4 0 is e (λ h. cc))
-      by_end c (ended_told t) = absurd (apart status 1 0 t.own_status e (λ h. cc))
-      by_end c (ended_cut is rose name text told) = absurd (apart status 4 0 is e (λ h. cc))
+      by_end c (ended_told t) = absurd (apart status 1 0 (t.own_status ∙ beside_one x c t.refusal t.text t.beside) e (λ h. cc))
+      by_end c (ended_cut is rose r text beside) = absurd (apart status 4 0 is e (λ h. cc))
       by_end c (ended_wanting is) = absurd (apart status 5 0 is e (λ h. cc))
       by_end c (ended_unwritten is rose made is_made) = absurd (apart status 4 0 is e (λ h. cc))
       by_end c (ended_unreported is rose) = absurd (apart status 4 0 is e (λ h. cc))
@@ -1110,7 +1103,7 @@ module _ (x : Seen) (out notes : SinkSeen) (status : ℕ) (words : List (List �
       by (idle_four h) = inr (inl h)
       by (idle_five h) = inr (inr (inl h))
 
-  -- nothing is given with another status than 0 and 4, unless words of `why` have no entry, or `compat .. why` finds operations that differ
+  -- nothing is given with another status than 0 and 4, unless the command writes something beside a refusal
   pub nothing_given : tells_refused (command words) ≡ false → status ≢ 0 → status ≢ 4 → out.written_now ≡ out.written
   nothing_given quiet zero four = by (command words) quiet run.outcome run.caused run.delivered
     where
@@ -1126,19 +1119,6 @@ module _ (x : Seen) (out notes : SinkSeen) (status : ℕ) (words : List (List �
       silent Help never text nearest = nearest
       silent Version never text nearest = nearest
 
-      unplaced : (c : Command) → tells c ≡ false → (name text : List ℕ) → IsPlaceTold x c name text → ⊥
-      unplaced (Compat old old_acf new new_acf true) never name text told = cc
-      unplaced (Compat old old_acf new new_acf false) never name text told = told
-      unplaced (Why asked) never name text told = told
-      unplaced (Values task of given) never name text told = told
-      unplaced (Compile idl acf) never name text told = told
-      unplaced (Plan idl acf) never name text told = told
-      unplaced (Call idl acf op) never name text told = told
-      unplaced (Wrap of order call max) never name text told = told
-      unplaced (Sample seed count) never name text told = told
-      unplaced Help never name text told = told
-      unplaced Version never name text told = told
-
       by : (o : Option Command) → tells_refused o ≡ false → (outcome : Outcome) → IsOutcome x o outcome → IsDelivered out notes outcome status
           → out.written_now ≡ out.written
       by o never (Done made) caused (inl (is, given, noted)) = absurd (zero is)
@@ -1147,5 +1127,5 @@ module _ (x : Seen) (out notes : SinkSeen) (status : ℕ) (words : List (List �
       by None never (Reported text own line) (inl e) d = cc
       by None never (Reported text own line) (inr e) d = cc
       by (Some c) never (Reported text own line) (inl (nearest, two, same)) d = absurd (silent c never text nearest)
-      by (Some c) never (Reported text own line) (inr place) d = absurd (unplaced c never place.name text place.told)
+      by (Some c) never (Reported text own line) (inr b) d = absurd (beside_quiet x c b.refusal text never b.beside)
       by o never Wanting caused (before, told) = before.written

@@ -7,7 +7,7 @@ use Rattle.nd_types.specs.declared.interface.Interface.{Interface}
 use Rattle.nd_types.specs.Operations.{operation_named}
 use Rattle.dceidl.specs.Seen.{Seen}
 use Rattle.command_line.specs.Words.{Command, Subject, Values, Compile, Plan, Call, Wrap, Compat, Why, Sample, Help, Version}
-use Rattle.command_line.specs.declared.command.Reading.TheVariants.{Decode, Explain, Drain}
+use Rattle.command_line.specs.declared.command.Reading.TheVariants.{Decode, Explain, Trace, Drain}
 use Rattle.command_line.specs.declared.command.Task.{Task}
 use Rattle.command_line.specs.declared.command.Task.TheVariants.{Read, Encode, Migrate}
 use Rattle.command_compile.specs.Asked.{AsksFiles, FileNames, AreAsked, all_due}
@@ -39,6 +39,7 @@ asks_input _ = false
 abbrev pub drains : Task → Bool
 drains (Read Decode order) = false
 drains (Read Explain order) = false
+drains (Read Trace order) = false
 drains (Read Drain order) = true
 drains (Encode order chunk) = false
 drains Migrate = false

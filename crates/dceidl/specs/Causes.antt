@@ -1,21 +1,26 @@
 -- What each command makes, and why it is refused: a line for each command in each of these tables.
-use Rattle.std.specs.Prelude.{◌≡◌, ◌⊎◌, ℕ, Bool, true, false, List, [], ◌∷◌, ⊤}
-use Rattle.nd_base.specs.Over.{IsUntouched}
+use Rattle.std.specs.Prelude.{◌≡◌, ◌⊎◌, ℕ, Bool, true, false, List, [], ◌∷◌, Option, ⊤}
+use Rattle.nd_base.specs.declared.octets.Order.{Order}
+use Rattle.nd_base.specs.Over.{SourceSeen, IsUntouched}
 use Rattle.nd_value.specs.Setting.{Setting}
 use Rattle.ndr_pipe.specs.Ends.{AreAsBefore}
 use Rattle.dceidl.specs.Asked.{drains}
-use Rattle.dceidl.specs.Input.{IsMadeOf, IsTaskCause}
+use Rattle.dceidl.specs.Input.{IsMadeOf, IsOpened, IsTaskCause}
 use Rattle.command_compile.specs.Compiled.{IsListed, IsPlanned, IsIdlCause}
 use Rattle.command_compat.specs.Compat.{IsCompatible, IsCompatCause, IsPlaceWritten}
+use Rattle.command_trace.specs.Stopped.{AreLines}
 use Rattle.command_why.specs.Explained.{explained}
 use Rattle.command_why.specs.declared.lookup.Explained.TheVariants.{Found, Nearest}
 use Rattle.dceidl.specs.Ready.{IsAllReady, IsUnready}
 use Rattle.dceidl.specs.Wrapped.{HasCalled, IsNoCall, IsWrapped, IsNoWrap}
 use Rattle.dceidl.specs.Seen.{Seen}
-use Rattle.command_line.specs.Words.{Command, Values, Compile, Plan, Call, Wrap, Compat, Why, Sample, Help, Version}
+use Rattle.command_line.specs.Words.{Command, Subject, Values, Compile, Plan, Call, Wrap, Compat, Why, Sample, Help, Version}
+use Rattle.command_line.specs.declared.command.Reading.TheVariants.{Trace}
+use Rattle.command_line.specs.declared.command.Task.{Task}
+use Rattle.command_line.specs.declared.command.Task.TheVariants.{Read}
 use Rattle.command_sample.specs.Summary.{sample_lines}
 use Rattle.command_refusals.specs.declared.refusal.Refusal.{Refusal}
-use Rattle.command_refusals.specs.declared.refusal.Refusal.TheVariants.{Memory, NotCompatible}
+use Rattle.command_refusals.specs.declared.refusal.Refusal.TheVariants.{Memory, BadOctets, NotCompatible}
 use Rattle.command_refusals.specs.declared.refusal.CompatFault.TheVariants.{Differs}
 use Rattle.dceidl.specs.declared.TheConstants.{HELP, VERSION}
 
@@ -54,19 +59,36 @@ abbrev pub IsUnexplained : Command → List ℕ → Type 0
 IsUnexplained (Why words) text = explained words ≡ Nearest text
 IsUnexplained _ text = ⊥
 
--- Where operations differ, `compat .. why` writes to out the first place at which they do, beside the line of the operation of this name.
-abbrev pub IsPlaceTold : Seen → Command → List ℕ → List ℕ → Type 0
-IsPlaceTold x (Compat old old_acf new new_acf true) name text =
-    IsPlaceWritten x.files (record { idl = old; acf = old_acf }) (record { idl = new; acf = new_acf }) name text
-IsPlaceTold x _ name text = ⊥
+-- Where octets are refused, `trace` writes to out the lines of the items before the fault, and the fault.
+abbrev pub AreTraced : Seen → Task → Subject → Option (List ℕ) → Refusal → List ℕ → Type 0
+AreTraced x (Read Trace word) of given r text =
+    (w : Setting) × IsAllReady x.files of given w × (rest : SourceSeen) × (order : Order) × IsOpened word x.input rest order
+    × AreLines rest w order r text
+AreTraced x _ of given r text = ⊥
 
--- a command is refused in this way with nothing beside it: `compat .. why` is, unless operations differ
+-- What a command writes to out beside the line of a refusal: `trace` the lines of octets that are refused, `compat .. why`, where operations differ,
+-- the first place at which they do.
+abbrev pub IsWrittenBeside : Seen → Command → Refusal → List ℕ → Type 0
+IsWrittenBeside x (Values task of given) r text = AreTraced x task of given r text
+IsWrittenBeside x (Compat old old_acf new new_acf true) r text =
+    (name : List ℕ) × (r ≡ NotCompatible (Differs name))
+    × IsPlaceWritten x.files (record { idl = old; acf = old_acf }) (record { idl = new; acf = new_acf }) name text
+IsWrittenBeside x _ r text = ⊥
+
+-- a command is refused in this way with nothing beside it: `trace` is, unless octets are refused, and `compat .. why`, unless operations differ
 abbrev pub IsUntold : Command → Refusal → Type 0
+IsUntold (Values (Read Trace word) of given) (BadOctets place why) = ⊥
 IsUntold (Compat old old_acf new new_acf true) (NotCompatible (Differs name)) = ⊥
 IsUntold _ r = ⊤
 
+-- whether a task is that of `trace`
+abbrev pub traces : Task → Bool
+traces (Read Trace word) = true
+traces _ = false
+
 -- whether a command can write to out although it is refused
 abbrev pub tells : Command → Bool
+tells (Values task of given) = traces task
 tells (Compat old old_acf new new_acf why) = why
 tells (Why words) = true
 tells _ = false

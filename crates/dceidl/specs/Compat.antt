@@ -1,6 +1,6 @@
 -- When two versions of an interface must be found compatible, and when they must be refused, where no load fails.
 -- `f` are files over a run, `old` and `new` the names of the files of the versions, `i` and `j` the interfaces.
-use Rattle.std.specs.Prelude.{◌≡◌, ◌⊎◌, ℕ, List, [], Option, None}
+use Rattle.std.specs.Prelude.{◌≡◌, ◌⊎◌, ℕ, false, List, [], Option, None, ⊤}
 use Rattle.nd_base.specs.Outside.{IsContent}
 use Rattle.nd_base.specs.Over.{FilesSeen}
 use Rattle.nd_types.specs.declared.interface.Interface.{Interface}
@@ -10,6 +10,7 @@ use Rattle.idl_compat.specs.Comparison.{IsCompared}
 use Rattle.command_compile.specs.Asked.{FileNames}
 use Rattle.command_compile.specs.Idl.{Means, IsDueFile}
 use Rattle.command_compat.specs.Compat.{IsDifferent, IsCompatible, IsCompatCause, IsBeside, IsPlaceWritten}
+use Rattle.command_line.specs.Words.{Command, Compat}
 use Rattle.command_refusals.specs.declared.refusal.Refusal.{Refusal}
 use Rattle.command_refusals.specs.declared.refusal.Refusal.TheVariants.{BadIdl, NotCompatible}
 use Rattle.command_refusals.specs.declared.refusal.CompatFault.TheVariants.{Differs}
@@ -45,6 +46,11 @@ MustBeIncomparable f old new _ = ⊥
 abbrev pub IsDueSecond : Option (List ℕ → Option (List ℕ)) → FileNames → FileNames → List ℕ → Type 0
 IsDueSecond held old new name =
     (text : List ℕ) × (i : Interface) × IsContent held old.idl text × Means held old.idl text old.acf i × IsDueFile held new.idl new.acf name
+
+-- a command does not ask for the first place at which versions differ
+abbrev pub HasNoPlace : Command → Type 0
+HasNoPlace (Compat old old_acf new new_acf why) = why ≡ false
+HasNoPlace c = ⊤
 
 -- What the comparison of two versions comes to, if the first place at which they differ is asked for: it is written exactly where an operation
 -- differs.

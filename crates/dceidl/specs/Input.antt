@@ -8,6 +8,7 @@ use Rattle.nd_value.specs.declared.value.Graph.{Graph}
 use Rattle.nd_value.specs.Setting.{Setting}
 use Rattle.command_drain.specs.Printed as draining
 use Rattle.command_explain.specs.Explanations.{IsExplained}
+use Rattle.command_trace.specs.Stopped.{IsTraceCause}
 use Rattle.command_decode.specs.Printed.{IsPrinted, IsInputCause}
 use Rattle.command_text.specs.Fitted.{IsTextCause}
 use Rattle.command_text.specs.Request.{beside, HoldsRequest, HoldsNoRequest}
@@ -17,7 +18,7 @@ use Rattle.ndr_prim.specs.Label.{order_of_label}
 use Rattle.ndr_pipe.specs.Ends.{EndsSeen, AreAsBefore}
 use Rattle.dceidl.specs.Encode.{IsLabelledEncoding, IsLongEncoding, IsMigration}
 use Rattle.command_line.specs.declared.command.Reading.{Reading}
-use Rattle.command_line.specs.declared.command.Reading.TheVariants.{Decode, Explain, Drain}
+use Rattle.command_line.specs.declared.command.Reading.TheVariants.{Decode, Explain, Trace, Drain}
 use Rattle.command_line.specs.declared.command.OrderWord.{OrderWord}
 use Rattle.command_line.specs.declared.command.OrderWord.TheVariants.{Fixed, Label}
 use Rattle.command_line.specs.declared.command.Task.{Task}
@@ -71,12 +72,14 @@ IsUnopened Label s r = IsLabelCause s r
 abbrev pub IsMadeReading : Reading → SourceSeen → EndsSeen → Setting → Order → List ℕ → Type 0
 IsMadeReading Decode s e w order made = IsPrinted s w order made
 IsMadeReading Explain s e w order made = IsExplained s w order made
+IsMadeReading Trace s e w order made = IsExplained s w order made
 IsMadeReading Drain s e w order made = draining.IsPrinted s e w order made
 
 -- why these octets are refused
 abbrev pub IsReadingCause : Reading → SourceSeen → EndsSeen → Setting → Order → Refusal → Type 0
 IsReadingCause Decode s e w order r = IsInputCause s w order r
 IsReadingCause Explain s e w order r = IsInputCause s w order r
+IsReadingCause Trace s e w order r = IsTraceCause s w order r
 IsReadingCause Drain s e w order r = draining.IsDrainRefusal s e w order r
 
 -- ## The input, by what is done

@@ -20,7 +20,7 @@ use Rattle.command_encode.specs.Written.{IsWritten, IsLong}
 use Rattle.text_grammar.specs.declared.TheConstants.{TEXT_LIMIT}
 use Rattle.text_grammar.specs.Reads.{ReadsAs, IsTextFault}
 use Rattle.nd_base.specs.Text.{joined}
-use Rattle.dceidl.specs.Causes.{IsMade, IsCause, IsPlaceTold, IsUntold, IsUnexplained, tells}
+use Rattle.dceidl.specs.Causes.{IsMade, IsCause, IsWrittenBeside, IsUntold, IsUnexplained, tells}
 use Rattle.dceidl.specs.Compat.{CanBeCompared, MustBeIncomparable, IsDueSecond}
 use Rattle.command_why.specs.Explained.{explained}
 use Rattle.command_why.specs.declared.lookup.Explained.TheVariants.{Found}
@@ -50,7 +50,7 @@ use Rattle.command_drain.specs.Printed.{AreEnough}
 use Rattle.ndr_pipe.specs.End.{EndSeen}
 use Rattle.ndr_pipe.specs.Ends.{EndsSeen}
 use Rattle.command_line.specs.declared.command.Reading.{Reading}
-use Rattle.command_line.specs.declared.command.Reading.TheVariants.{Decode, Explain, Drain}
+use Rattle.command_line.specs.declared.command.Reading.TheVariants.{Decode, Explain, Trace, Drain}
 use Rattle.command_line.specs.declared.command.OrderWord.{OrderWord}
 use Rattle.command_line.specs.declared.command.OrderWord.TheVariants.{Fixed, Label}
 use Rattle.command_line.specs.declared.command.Task.{Task}
@@ -58,8 +58,7 @@ use Rattle.command_line.specs.declared.command.Task.TheVariants.{Read, Encode, M
 use Rattle.command_refusals.specs.declared.refusal.Refusal.{Refusal}
 use Rattle.command_refusals.specs.declared.refusal.Refusal.TheVariants.{BadIdl, NoOperation, BadOctets, BadText, BadValue, TooLong, BadRequest}
 use Rattle.command_refusals.specs.declared.refusal.Refusal.TheVariants.{BadLabel, ShortLabel, TooFewEnds}
-use Rattle.command_refusals.specs.declared.refusal.Refusal.TheVariants.{BadPdu, NotCompatible}
-use Rattle.command_refusals.specs.declared.refusal.CompatFault.TheVariants.{Differs}
+use Rattle.command_refusals.specs.declared.refusal.Refusal.TheVariants.{BadPdu}
 use Rattle.command_refusals.specs.declared.refusal.FragmentsFault.{FragmentsFault}
 use Rattle.command_refusals.specs.declared.refusal.FragmentsFault.TheVariants as fragments
 use Rattle.command_refusals.specs.declared.refusal.OctetsFault.{OctetsFault}
@@ -84,13 +83,13 @@ pub record IsRefusedWith (x : Seen) (out notes : SinkSeen) (c : Command) (status
   pub nothing_given : IsAsBefore out
   pub untold : IsUntold c refusal
 
--- `compat .. why` was refused since operations differ: under its status and with its line on notes, and out got the first place at which they do.
-pub record IsRefusedAtPlace (x : Seen) (out notes : SinkSeen) (c : Command) (status : ℕ) : Type 0 where
-  pub name : List ℕ
+-- A command was refused: under its status and with its line on notes, and out got what it writes beside the line.
+pub record IsRefusedBeside (x : Seen) (out notes : SinkSeen) (c : Command) (status : ℕ) : Type 0 where
+  pub refusal : Refusal
   pub text : List ℕ
-  pub told : IsPlaceTold x c name text
-  pub own_status : status ≡ 1
-  pub line : Got notes (line_of (idl_of c) (op_of c) (NotCompatible (Differs name)))
+  pub beside : IsWrittenBeside x c refusal text
+  pub own_status : status ≡ status_of refusal
+  pub line : Got notes (line_of (idl_of c) (op_of c) refusal)
   pub given : Got out text
 
 -- The words of `why` have no entry: the names that are nearest were given, and notes got the line of refused words.
@@ -104,9 +103,7 @@ pub record IsAnsweredNearest (out notes : SinkSeen) (c : Command) (status : ℕ)
 -- what any other status than 0, 4 and 5 says of a command
 abbrev pub IsRefused : Seen → SinkSeen → SinkSeen → Command → ℕ → Type 0
 IsRefused x out notes (Why words) status = IsAnsweredNearest out notes (Why words) status
-IsRefused x out notes (Compat old old_acf new new_acf true) status =
-    IsRefusedWith x out notes (Compat old old_acf new new_acf true) status ⊎ IsRefusedAtPlace x out notes (Compat old old_acf new new_acf true) status
-IsRefused x out notes c status = IsRefusedWith x out notes c status
+IsRefused x out notes c status = IsRefusedWith x out notes c status ⊎ IsRefusedBeside x out notes c status
 
 -- the words are no command, or those of `why` have no entry
 abbrev pub AreUnknown : Option Command → Type 0
@@ -227,6 +224,7 @@ pub record AreSound (w : Setting) (e : EndsSeen) : Type 0 where
 abbrev pub HasEnds : Reading → Setting → EndsSeen → Type 0
 HasEnds Decode w e = ⊤
 HasEnds Explain w e = ⊤
+HasEnds Trace w e = ⊤
 HasEnds Drain w e = AreSound w e
 
 -- something is made of the input, unless memory runs out

@@ -3,15 +3,13 @@ use Rattle.std.specs.Prelude.{◌≡◌, ◌⊎◌, ℕ, List, Option, None, Som
 use Rattle.nd_base.specs.Over.{SinkSeen}
 use Rattle.command_streams.specs.Delivery.{IsDelivered}
 use Rattle.dceidl.specs.Asked.{Asks}
-use Rattle.dceidl.specs.Causes.{IsMade, IsCause, IsPlaceTold, IsUntold, IsUnexplained}
+use Rattle.dceidl.specs.Causes.{IsMade, IsCause, IsWrittenBeside, IsUntold, IsUnexplained}
 use Rattle.command_refusals.specs.Lines.{line_of, status_of}
 use Rattle.command_why.specs.Explained.{explained}
 use Rattle.command_why.specs.declared.lookup.Explained.TheVariants.{Found, Nearest}
 use Rattle.dceidl.specs.Seen.{Seen}
 use Rattle.command_line.specs.Words.{Command, command, idl_of, op_of}
 use Rattle.command_refusals.specs.declared.refusal.Refusal.{Refusal}
-use Rattle.command_refusals.specs.declared.refusal.Refusal.TheVariants.{NotCompatible}
-use Rattle.command_refusals.specs.declared.refusal.CompatFault.TheVariants.{Differs}
 use Rattle.command_streams.specs.declared.outcome.Outcome.{Outcome}
 use Rattle.command_streams.specs.declared.outcome.Outcome.TheVariants.{Done, Refused, Reported, Wanting}
 
@@ -23,19 +21,19 @@ pub record IsRefusal (x : Seen) (c : Command) (status : ℕ) (line : List ℕ) :
   pub line_is : line ≡ line_of (idl_of c) (op_of c) refusal
   pub untold : IsUntold c refusal
 
--- The operation of this name is the first that differs, and the first place at which it does is written beside its line.
-pub record IsPlaceReported (x : Seen) (c : Command) (text : List ℕ) (status : ℕ) (line : List ℕ) : Type 0 where
-  pub name : List ℕ
-  pub told : IsPlaceTold x c name text
-  pub status_is : status ≡ 1
-  pub line_is : line ≡ line_of (idl_of c) (op_of c) (NotCompatible (Differs name))
+-- A command is refused with a line, under a status, and a text is written beside the line.
+pub record IsReportedBeside (x : Seen) (c : Command) (text : List ℕ) (status : ℕ) (line : List ℕ) : Type 0 where
+  pub refusal : Refusal
+  pub beside : IsWrittenBeside x c refusal text
+  pub status_is : status ≡ status_of refusal
+  pub line_is : line ≡ line_of (idl_of c) (op_of c) refusal
 
 -- What a command comes to. Without memory for a line there is a refusal with its cause all the same.
 abbrev pub IsCommandOutcome : Seen → Command → Outcome → Type 0
 IsCommandOutcome x c (Done made) = IsMade x c made
 IsCommandOutcome x c (Refused status line) = IsRefusal x c status line
 IsCommandOutcome x c (Reported text status line) =
-    (IsUnexplained c text × (status ≡ 2) × (line ≡ codes "words refused\n")) ⊎ IsPlaceReported x c text status line
+    (IsUnexplained c text × (status ≡ 2) × (line ≡ codes "words refused\n")) ⊎ IsReportedBeside x c text status line
 IsCommandOutcome x c Wanting = (refusal : Refusal) × IsCause x c refusal
 
 -- what words of `why` come to

@@ -5,8 +5,7 @@ ghost use Rattle.command_compile.specs.Asked.{FileNames};
 ghost use Rattle.command_compat.specs.Compat.{AsksBoth, IsIncompatible};
 ghost use Rattle.command_line.specs.Commands.{command_of};
 ghost use Rattle.command_line.specs.Words.{Compat};
-ghost use Rattle.dceidl.specs.Causes.{tells};
-ghost use Rattle.dceidl.specs.Compat.{IsComparedOutcome};
+ghost use Rattle.dceidl.specs.Compat.{HasNoPlace, IsComparedOutcome};
 
 use command_compat::{Incompatible, compat_why};
 use command_line::Command;
@@ -28,7 +27,7 @@ pub(crate) struct Versions<'a> {
 pub(crate) fn asked_versions(command: Command<'_>) -> Option<Versions<'_>>
     ensures some { IfSome result (λ v. command_of command.entry
         ≡ Compat v.old.now (option_map (λ a. a.now) v.old_acf) v.new.now (option_map (λ a. a.now) v.new_acf) true) }
-    ensures none { IfNone result (tells (command_of command.entry) ≡ false) }
+    ensures none { IfNone result (HasNoPlace (command_of command.entry)) }
 {
     match command {
         Command::Compat {

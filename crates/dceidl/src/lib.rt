@@ -6,10 +6,12 @@ mod compared;
 mod encode;
 pub mod laws;
 mod perform;
+mod prepared;
 mod reading;
 mod ready;
 mod sessions;
 mod top;
+mod trace;
 mod wrap;
 
 pub use command_line::{CHUNK_LIMIT, Words};
@@ -28,6 +30,7 @@ usage: dceidl compile IDL ACF
        dceidl plan IDL ACF
        dceidl decode IDL ACF OP SIDE ORDER [given TEXT]
        dceidl explain IDL ACF OP SIDE ORDER [given TEXT]
+       dceidl trace IDL ACF OP SIDE ORDER [given TEXT]
        dceidl drain IDL ACF OP SIDE ORDER [given TEXT]
        dceidl encode IDL ACF OP SIDE ORDER CHUNK [given TEXT]
        dceidl migrate IDL ACF OP SIDE
@@ -50,6 +53,9 @@ decode   reads the octets of a request (SIDE `in`) or a response (SIDE `out`) in
          a response is checked against the request that it answers.
 explain  reads the same octets, and writes a line for each item: its place, its
          length, what it is, where it is in the values, and its value.
+trace    does the same; if the octets are refused, it writes the lines of the
+         items before the fault, and then a line with the place of the fault,
+         the reason, and where in the values it is.
 drain    reads the same octets, and writes the elements of their pipes to the
          files pipe0.out to pipe7.out of the current folder, a line each. The
          text of the values is written with empty pipes.

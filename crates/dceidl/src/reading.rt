@@ -7,6 +7,8 @@ ghost use Rattle.nd_value.specs.Fitting.{setting_beside};
 ghost use Rattle.nd_value.specs.Request.{IsRequestOf};
 ghost use Rattle.ndr_pipe.specs.Ends.{AreOpen, ends_over};
 ghost use Rattle.ndr_pipe.specs.Seen.{ends_seen};
+ghost use Rattle.command_explain.specs.Explanations.{IsExplained};
+ghost use Rattle.command_trace.specs.Stopped.{IsTraceCause};
 ghost use Rattle.command_line.specs.declared.command.OrderWord.TheVariants.{Fixed, Label};
 ghost use Rattle.command_line.specs.declared.command.Task.TheVariants.{Read};
 ghost use Rattle.dceidl.specs.Asked.{AsksEnds, drains};
@@ -19,8 +21,10 @@ use command_explain::explain_octets;
 use command_label::take_label;
 use command_line::{OrderWord, Reading};
 use command_refusals::Refusal;
+use command_trace::{Stopped, trace_octets};
 use nd_base::{Octets, Order, Source};
 use nd_graph::Fit;
+use nd_types::{Interface, Side};
 use ndr_pipe::{Ends, PipeEnd};
 use std::alloc::Global;
 
@@ -106,6 +110,15 @@ fn read_values<S: Source, E: PipeEnd>(
             order,
             input,
         ),
+        Reading::Trace => traced_alone(
+            alloc,
+            &ready.interface,
+            ready.number,
+            ready.side,
+            given,
+            order,
+            input,
+        ),
         Reading::Drain => drain_octets(
             alloc,
             &ready.interface,
@@ -125,5 +138,35 @@ fn read_values<S: Source, E: PipeEnd>(
             order,
             input,
         ),
+    }
+}
+
+// The items of the octets of the input; where they are refused, the refusal alone.
+fn traced_alone<S: Source>(
+    alloc: Global,
+    interface: &Interface,
+    op: u32,
+    side: Side,
+    given: Option<&Fit>,
+    order: Order,
+    input: &mut S,
+) -> Result<Octets, Refusal>
+    requires known { op < length interface.now.operations }
+    requires request { IsRequestOf interface.now op side (option_map (λ f. f.now) given) }
+    ensures explained { (o : Operation) → slice_get interface.now.operations op ≡ Some o
+        → IfOk result
+        (IsExplained (source_seen S.left S.ended S.faults input.old input.new)
+        (setting_beside interface.now o side (option_map (λ f. f.now.graph) given.entry)) order) }
+    ensures refused { (o : Operation) → slice_get interface.now.operations op ≡ Some o
+        → IfErr result
+        (IsTraceCause (source_seen S.left S.ended S.faults input.old input.new)
+        (setting_beside interface.now o side (option_map (λ f. f.now.graph) given.entry)) order) }
+{
+    match trace_octets(alloc, interface, op, side, given, order, input) {
+        Ok(text) => Ok(text),
+        Err(stopped) => {
+            let Stopped { refusal, .. } = stopped;
+            Err(refusal)
+        }
     }
 }

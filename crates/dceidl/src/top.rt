@@ -21,6 +21,7 @@ ghost use Rattle.command_line.specs.Words.{Command as Wanted, command, counted_c
 
 use crate::compared::{asked_versions, compared};
 use crate::perform::perform;
+use crate::trace::{asked_trace, traced};
 use command_line::{Command, Words};
 use command_refusals::{Refusal, Status, line, status};
 use command_streams::{Outcome, deliver};
@@ -38,14 +39,15 @@ pub(crate) const WORDS_REFUSED: Status = 2;
 /// file, the files that it imports, and then the attribute configuration file if one is named (C706, chapter 4), and check the rules of the language.
 /// `compile` writes the listing of the interface to `out`, `plan` that of its plan. `decode` writes the values of one side of the operation as text
 /// to `out`: its `[in]` parameters, or its `[out]` parameters and its result (C706, chapter 14); it asks for no octet past the values but one.
-/// `explain` writes a line for each item of the same octets. `drain` gives the elements of their pipes to `ends`, the i-th pipe to the i-th end, and
-/// writes the text of the values with empty pipes. With ORDER `label` four octets, a format label (C706, section 14.1), are before the octets and
-/// state their order. `encode` and `migrate` read such a text to its end, or to one octet past its limit, [`TEXT_LIMIT`](value_text::TEXT_LIMIT)
-/// octets. `encode` writes the octets of its values, at most [`STREAM_LIMIT`](nd_base::STREAM_LIMIT), after a label if one is asked for, and
-/// `migrate` writes it as it is printed. `call` reads the fragments of a request or response (C706, section 12.6), and writes the call id and the
-/// values of their stub data; `wrap` reads a text and writes such fragments. `compat` compares the interfaces of two files, the second of which is
-/// loaded once the first means an interface; a file that both need is loaded for each; as `compat .. why` it writes to `out`, where an operation
-/// differs, the first place at which it does. `why` writes what words of a refusal mean.
+/// `explain` writes a line for each item of the same octets, and `trace` too, which reads the input to its end, or to one octet past the limit of a
+/// stream, and writes the lines before a fault and the fault where the octets are refused. `drain` gives the elements of their pipes to `ends`, the
+/// i-th pipe to the i-th end, and writes the text of the values with empty pipes. With ORDER `label` four octets, a format label (C706, section
+/// 14.1), are before the octets and state their order. `encode` and `migrate` read such a text to its end, or to one octet past its limit,
+/// [`TEXT_LIMIT`](value_text::TEXT_LIMIT) octets. `encode` writes the octets of its values, at most [`STREAM_LIMIT`](nd_base::STREAM_LIMIT), after a
+/// label if one is asked for, and `migrate` writes it as it is printed. `call` reads the fragments of a request or response (C706, section 12.6), and
+/// writes the call id and the values of their stub data; `wrap` reads a text and writes such fragments. `compat` compares the interfaces of two
+/// files, the second of which is loaded once the first means an interface; a file that both need is loaded for each; as `compat .. why` it writes to
+/// `out`, where an operation differs, the first place at which it does. `why` writes what words of a refusal mean.
 ///
 /// Nothing is requested before it is needed, and no file more than once: no file for an invalid command line, `--help` or
 /// `--version`, an import when its declaration is reached, the attribute configuration file when all names are resolved (it is loaded
@@ -53,9 +55,9 @@ pub(crate) const WORDS_REFUSED: Status = 2;
 /// operation is found.
 ///
 /// A successful run writes its text to `out` and nothing to `notes`. A refused run writes nothing to `out` (except `why` the names that are nearest
-/// to words that have no entry, and `compat .. why` a place) and one line to `notes`; if there are several reasons, the first in the order of work
-/// is reported. If `out` fails, it may have received a prefix of the text, a line on `notes` says so, and the status is 4; if `notes` fails, the
-/// status is 4 too.
+/// to words that have no entry, `trace` its lines, and `compat .. why` a place) and one line to `notes`; if there are several reasons, the first in
+/// the order of work is reported. If `out` fails, it may have received a prefix of the text, a line on `notes` says so, and the status is 4; if
+/// `notes` fails, the status is 4 too.
 ///
 /// No end may be finished before. Only `drain` calls ends, once the label is read and there are enough of them: each chunk's lines are given once the
 /// chunk is read, and an end is finished where its pipe ends. If an end fails, the status is 8.
@@ -214,7 +216,30 @@ fn performed<F: Files, S: Source, E: PipeEnd>(
 {
     match words.command() {
         None => refused(alloc, WORDS_REFUSED, b"words refused\n"),
-        Some(command) => match asked_versions(command) {
+        Some(command) => performed_command(alloc, command, files, input, ends),
+    }
+}
+
+// What a command comes to.
+fn performed_command<F: Files, S: Source, E: PipeEnd>(
+    alloc: Global,
+    command: Command<'_>,
+    files: &mut F,
+    input: &mut S,
+    ends: &mut Ends<E>,
+) -> Outcome
+    requires open { AreOpen (ends_seen E.seen ends.old) }
+    requires formed { IsWellFormed command }
+    ensures asked { AsksFor
+        (seen_over (files_seen F.held F.absences F.faults F.asked files.old files.new) (source_seen S.left S.ended S.faults input.old input.new)
+        (ends_over E.seen ends.old ends.new)) (command_of command.entry) }
+    ensures outcome { IsCommandOutcome
+        (seen_over (files_seen F.held F.absences F.faults F.asked files.old files.new) (source_seen S.left S.ended S.faults input.old input.new)
+        (ends_over E.seen ends.old ends.new)) (command_of command.entry) result }
+{
+    match asked_trace(command) {
+        Some(tracing) => traced(alloc, tracing, files, input),
+        None => match asked_versions(command) {
             Some(versions) => compared(alloc, versions, files),
             None => performed_plainly(alloc, command, files, input, ends),
         },

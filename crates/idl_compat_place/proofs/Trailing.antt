@@ -22,7 +22,7 @@ use Rattle.idl_compat_place.specs.declared.origins.Origin.{Origin}
 use Rattle.idl_compat_place.specs.declared.origins.Origin.TheVariants as origin
 use Rattle.idl_compat_place.specs.declared.trail.Trail.{Trail}
 use Rattle.idl_compat_place.specs.Differences.{AreUnlike, AreClashing, IsUpTo}
-use Rattle.idl_compat_place.specs.Trails.{IsOrigin, IsTrail, IsOther, IsRefuted, IsEnd, HasWalked, IsWalkedTo}
+use Rattle.idl_compat_place.specs.Trails.{IsOrigin, IsTrail, AreOtherBasic, AreApart, IsOther, IsRefuted, IsEnd, HasWalked, IsWalkedTo}
 
 -- ## Lists with one item more
 
@@ -110,7 +110,7 @@ no_other_next pairs p q n is f a i r l e c = by (or_last i n (omega (arith, l)))
     by (inl l') = a i r l' e c
     by (inr same) = f (subst (AreClashing p) (same_Some r q (sym e ∙ ap (λ x. slice_get pairs x) same ∙ is)) c)
 
-pub no_other : (pairs : List TypePair) (p : TypePair) (n : ℕ) → length pairs ≤ n → AreNoOther pairs p n → IsOther pairs p None
+pub no_other : (pairs : List TypePair) (p : TypePair) (n : ℕ) → length pairs ≤ n → AreNoOther pairs p n → AreApart pairs p
 no_other pairs p n l a t u h = (new, old)
   where
     at : PairAt pairs t u
@@ -129,7 +129,7 @@ module _ (old new : Interface) (k n base : ℕ) (s : Trail) (a : IsTrail old new
   abbrev last : List TypePair
   last = p ∷ []
 
-  module _ (none : IsOther s.pairing.pairs p None) (m : List TypePair) (one : IsOneToOne m) (pair : IsPair m p.old.0 p.new.0) where
+  module _ (none : AreApart s.pairing.pairs p) (m : List TypePair) (one : IsOneToOne m) (pair : IsPair m p.old.0 p.new.0) where
     here : (t u : ℕ) → (t ≡ p.old.0) × (u ≡ p.new.0) → IsPair m t u
     here t u e = subst (λ x. IsPair m x u) (sym e.0) (subst (λ y. IsPair m p.old.0 y) (sym e.1) pair)
 
@@ -172,15 +172,20 @@ module _ (old new : Interface) (k n base : ℕ) (s : Trail) (a : IsTrail old new
     has_last = pair_right s.pairing.pairs (p ∷ []) p.old.0 p.new.0 (inl (refl, refl))
 
   -- a pair that cannot be placed although none of its types has another partner differs by itself
-  unlike : (x : Pairing) → IsPlacing s.pairing x p.old.0 p.new.0 placing.Clash → IsOther s.pairing.pairs p None → AreUnlike old new p
+  unlike : (x : Pairing) → IsPlacing s.pairing x p.old.0 p.new.0 placing.Clash → AreApart s.pairing.pairs p → AreUnlike old new p
   unlike x h none m one pair alike =
       let (d, e) = both_there (IsPair m) alike in
       let few : p.old.0 < length s.pairing.forward = subst (λ z. p.old.0 < z) (sym a.as_many_old) (slice_get_within old.types p.old.0 d.0 d.1) in
       let few' : p.new.0 < length s.pairing.backward = subst (λ z. p.new.0 < z) (sym a.as_many_new) (slice_get_within new.types p.new.0 e.0 e.1) in
       h.1 (s.pairing.pairs ++ p ∷ []) (with_last none m one pair) (includes none m one pair) (has_last none m one pair) few few'
 
+  -- so does one of which one type has no partner but itself
+  basic_unlike : AreOtherBasic p → AreUnlike old new p
+  basic_unlike b m one pair alike = b.1 (one.basic p.old.0 p.new.0 pair b.0)
+
   refuted : (x : Pairing) → IsPlacing s.pairing x p.old.0 p.new.0 placing.Clash → (o : Option ℕ) → IsOther s.pairing.pairs p o → IsRefuted old new s.pairing.pairs p o
-  refuted x h None c = unlike x h c
+  refuted x h None (inl b) = basic_unlike b
+  refuted x h None (inr c) = unlike x h c
   refuted x h (Some at) c = c
 
   module _ (g : Origin) (o : IsOrigin old new k n base s.pairing.pairs (length s.pairing.pairs) p g) where

@@ -1,7 +1,7 @@
 -- Pairs of types that are placed one after the other, each with how it was come to.
 -- `s` is a trail before a call and `s'` after it, `k` and `n` are the numbers of the operation and of the part that is walked, `base` is how many
 -- pairs there were before it, `p` is a pair and `g` its origin, `before` is how many pairs were there before it.
-use Rattle.std.specs.Prelude.{◌≡◌, ℕ, suc, ◌<◌, ◌≤◌, Bool, true, false, List, ◌++◌, length, Option, Some, None, slice_get}
+use Rattle.std.specs.Prelude.{◌≡◌, ◌⊎◌, ℕ, suc, ◌<◌, ◌≤◌, Bool, true, false, List, ◌++◌, length, Option, Some, None, slice_get}
 use Rattle.nd_types.specs.declared.interface.Interface.{Interface}
 use Rattle.nd_types.specs.declared.types.TypeId.{TypeId}
 use Rattle.nd_types.specs.declared.types.TypeDef.{TypeDef}
@@ -64,9 +64,17 @@ pub record IsPlaced (old new : Interface) (k n base before : ℕ) (l : Place) (p
   pub up_to : IsUpTo k n l.op l.part
   pub own : base ≤ before → (l.op ≡ k) × (l.part ≡ n)
 
--- the pairs share no type with this one, or the pair of this number does
+-- two types that differ, of which one has no partner but itself
+abbrev pub AreOtherBasic : TypePair → Type 0
+AreOtherBasic p = ((p.old.0 < 12) ⊎ (p.new.0 < 12)) × (p.old.0 ≡ p.new.0 → ⊥)
+
+-- none of the pairs shares one type alone with this one
+abbrev pub AreApart : List TypePair → TypePair → Type 0
+AreApart pairs p = (t u : ℕ) → IsPair pairs t u → ((t ≡ p.old.0) → (u ≡ p.new.0)) × ((u ≡ p.new.0) → (t ≡ p.old.0))
+
+-- the pair of this number shares one type alone with this one; without a number none does, or these types differ whatever the pairs are
 abbrev pub IsOther : List TypePair → TypePair → Option ℕ → Type 0
-IsOther pairs p None = (t u : ℕ) → IsPair pairs t u → ((t ≡ p.old.0) → (u ≡ p.new.0)) × ((u ≡ p.new.0) → (t ≡ p.old.0))
+IsOther pairs p None = AreOtherBasic p ⊎ AreApart pairs p
 IsOther pairs p (Some at) = (r : TypePair) × (slice_get pairs at ≡ Some r) × AreClashing p r
 
 -- a pair cannot be alike, by itself or beside the pair of this number

@@ -6,13 +6,13 @@ ghost use Rattle.idl_compat.specs.Alike.{IsPair};
 ghost use Rattle.idl_compat_place.specs.declared.origins.Origin.{Origin as TheOrigin};
 ghost use Rattle.idl_compat_place.specs.declared.origins.Origin.TheVariants as origins;
 ghost use Rattle.idl_compat_place.specs.Differences.{AreClashing};
-ghost use Rattle.idl_compat_place.specs.Trails.{IsTrail, IsOrigin, IsOther, IsPlaced, Walks, IsWalkedTo};
+ghost use Rattle.idl_compat_place.specs.Trails.{IsTrail, IsOrigin, AreOtherBasic, IsOther, IsPlaced, Walks, IsWalkedTo};
 
 use crate::origins::{Origin, Origins};
 use crate::{Place, Steps};
 use idl_compat::{Pairing, Placing, TypePair};
 use nd_base::Memory;
-use nd_types::Interface;
+use nd_types::{BASIC_TYPES, Interface};
 use std::alloc::Global;
 
 // The pairs of types that are placed so far, and the origin of each by its number.
@@ -22,7 +22,8 @@ pub(crate) struct Trail {
     pub(crate) origins: Origins,
 }
 
-// Where a walk ends: two types that cannot be partners, how they were come to, and the pair with which theirs clashes, if there is one.
+// Where a walk ends: two types that cannot be partners, how they were come to, and the pair with which theirs clashes, or None where they differ by
+// themselves.
 #[derive(Clone, Copy, Debug, PartialEq, Eq)]
 pub(crate) struct End {
     pub(crate) pair: TypePair,
@@ -57,6 +58,13 @@ fn are_clashing(pair: TypePair, other: TypePair) -> bool
     (pair.old.0 == other.old.0) != (pair.new.0 == other.new.0)
 }
 
+// Whether two types differ of which one has no partner but itself.
+fn are_other_basic(pair: TypePair) -> bool
+    ensures { result ≡ true → AreOtherBasic pair }
+{
+    pair.old.0 != pair.new.0 && (pair.old.0 < BASIC_TYPES || pair.new.0 < BASIC_TYPES)
+}
+
 impl Trail {
     // No pairs yet of the types of two interfaces. Running out of memory is the only refusal.
     pub(crate) fn new(alloc: Global, old: &Interface, new: &Interface) -> Result<Trail, Memory>
@@ -68,10 +76,14 @@ impl Trail {
         })
     }
 
-    // The first pair that shares one of its types with this one and not the other.
+    // The first pair that shares one of its types with this one and not the other. None also where these types differ by themselves, as one of them
+    // has no partner but itself.
     fn other(&self, pair: TypePair) -> Option<usize>
         ensures { IsOther self.now.pairing.pairs pair result }
     {
+        if are_other_basic(pair) {
+            return None;
+        }
         for at in 0..self.pairing.pairs.len() {
             let Some(other) = self.pairing.pairs.get(at) else {
                 return None;

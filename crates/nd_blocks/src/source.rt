@@ -7,14 +7,14 @@ use std::io::{BufRead, Read, StdinLock};
 use std::rt::Stdin;
 use std::{io, mem};
 
-/// Standard input as a source. If the system can move its position, as that of a file, it is read in blocks of 4,096 octets, of which at most two are kept,
-/// and the octets of these that were not fetched are at hand; when the source is dropped, the position is moved back to where the octets that were fetched
-/// end. From a pipe or a terminal it takes no more than it is asked for. It shows nothing of what it has left, and fails where the system does, at an
-/// interruption too.
+/// Standard input as a source. If the system can move its position, as that of a file, it is read in blocks of 4,096 octets, of which at most two
+/// are kept, and the octets of these that were not fetched are at hand; when the source is dropped, the position is moved back to where the octets
+/// that were fetched end. From a pipe or a terminal it takes no more than it is asked for. It shows nothing of what it has left, and fails where the
+/// system does, at an interruption too.
 #[derive(Drop)]
 pub struct StandardInput {
-    // Each lock holds what is left of a block, and gives it back to the system when it is dropped. The block of `first` comes first, and it is fetched
-    // whole before that of `second`: no lock holds octets unless `first` does.
+    // Each lock holds what is left of a block, and gives it back to the system when it is dropped. The block of `first` comes first, and it is
+    // fetched whole before that of `second`: no lock holds octets unless `first` does.
     first: Box<StdinLock<'static>>,
     second: Box<StdinLock<'static>>,
     // how many octets of each block were not fetched
@@ -43,7 +43,8 @@ impl StandardInput {
         })
     }
 
-    // Moves the first octets that are left to the front of a buffer, those of one block at most, and says how many. Where none is at hand a block is read.
+    // Moves the first octets that are left to the front of a buffer, those of one block at most, and says how many. Where none is at hand a block
+    // is read.
     fn take(&mut self, buf: &mut [u8]) -> io::Result<usize>
         ensures bound { IfOk result (λ count. count ≤ length buf.new) }
         ensures wide { length buf.new ≡ length buf.old }
@@ -79,8 +80,8 @@ impl StandardInput {
         }
     }
 
-    // Fills a buffer with the octets that are left of the first block, fewer than it takes, and the first ones of the second, which is read if none of it is
-    // kept; says whether so many are there. A failure of the system here is left to a later fetch.
+    // Fills a buffer with the octets that are left of the first block, fewer than it takes, and the first ones of the second, which is read if none
+    // of it is kept; says whether so many are there. A failure of the system here is left to a later fetch.
     #[inline(never)]
     fn fill_from_both(&mut self, buf: &mut [u8]) -> bool
         requires { self.old.in_first < length buf.old }

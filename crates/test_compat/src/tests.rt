@@ -2,9 +2,9 @@
 use command_compile::compile;
 use idl_compat::{Compared, compare};
 use nd_base::{MemFiles, Memory, Octets};
+use nd_types::Interface;
 use std::alloc::Global;
 use std::process::Abort;
-use std::test::Fail;
 
 // What a comparison comes to, in a form that tests compare.
 #[derive(Clone, Copy, Debug, PartialEq, Eq)]
@@ -19,21 +19,26 @@ enum Answer {
     Nothing,
 }
 
-// What the comparison of two files comes to.
-fn compared(alloc: Global, old: &[u8], new: &[u8]) -> Answer {
+// The interface of a text, or None if it is not compiled.
+fn interface(alloc: Global, text: &[u8]) -> Option<Interface> {
     let Ok(mut files) = MemFiles::new(alloc, &[]) else {
+        return None;
+    };
+    let Ok(()) = files.add("t.idl", text) else {
+        return None;
+    };
+    match compile(alloc, "t.idl", None, &mut files) {
+        Ok(interface) => Some(interface),
+        Err(_) => None,
+    }
+}
+
+// What the comparison of two texts comes to.
+fn compared(alloc: Global, old: &[u8], new: &[u8]) -> Answer {
+    let Some(old) = interface(alloc, old) else {
         return Answer::Nothing;
     };
-    let Ok(()) = files.add("old.idl", old) else {
-        return Answer::Nothing;
-    };
-    let Ok(()) = files.add("new.idl", new) else {
-        return Answer::Nothing;
-    };
-    let Ok(old) = compile(alloc, "old.idl", None, &mut files) else {
-        return Answer::Nothing;
-    };
-    let Ok(new) = compile(alloc, "new.idl", None, &mut files) else {
+    let Some(new) = interface(alloc, new) else {
         return Answer::Nothing;
     };
     match compare(alloc, &old, &new) {
@@ -55,18 +60,12 @@ fn answered(compared: Compared) -> Answer {
 
 // An interface of version 1.0 with these declarations.
 fn version(alloc: Global, declarations: &[u8]) -> Result<Octets, Memory> {
-    let Ok(mut text) = Octets::copy(
+    let mut text = Octets::copy(
         alloc,
         b"[uuid(11111111-2222-3333-4444-555555555555), version(1.0)] interface t { ",
-    ) else {
-        return Err(Memory);
-    };
-    let Ok(()) = text.append(declarations) else {
-        return Err(Memory);
-    };
-    let Ok(()) = text.append(b" }") else {
-        return Err(Memory);
-    };
+    )?;
+    text.append(declarations)?;
+    text.append(b" }")?;
     Ok(text)
 }
 
@@ -108,540 +107,477 @@ const FEWER: &[u8] =
 const MAJOR: &[u8] =
     b"[uuid(11111111-2222-3333-4444-555555555555), version(2.0)] interface t { void ping(); }";
 
-// The new file compared with the old one, and the other way round.
-fn versions(rt: &impl Abort, alloc: Global, old: &[u8], new: &[u8], there: Answer, back: Answer) {
-    assert_eq!(rt; compared(alloc, old, new), there);
-    assert_eq!(rt; compared(alloc, new, old), back);
+// Two files, and what comes of the new one compared with the old one, and the other way round.
+#[derive(Clone, Copy)]
+struct Versions {
+    old: &'static [u8],
+    new: &'static [u8],
+    there: Answer,
+    back: Answer,
 }
 
-// Two lists of declarations, which differ in their first operation or have so many pairs, in both directions.
-fn both(rt: &impl Abort, alloc: Global, old: &[u8], new: &[u8], answer: Answer) {
-    assert_eq!(rt; between(alloc, old, new), answer);
-    assert_eq!(rt; between(alloc, new, old), answer);
+const VERSIONS: &[Versions] = &[
+    Versions {
+        old: FIRST,
+        new: SECOND,
+        there: Answer::Yes(5),
+        back: Answer::OlderMinor(1, 0),
+    },
+    Versions {
+        old: FIRST,
+        new: FIRST,
+        there: Answer::Yes(5),
+        back: Answer::Yes(5),
+    },
+    Versions {
+        old: FIRST,
+        new: WIDER,
+        there: Answer::Differs(0),
+        back: Answer::OlderMinor(1, 0),
+    },
+    Versions {
+        old: FIRST,
+        new: OTHER,
+        there: Answer::OtherUuid,
+        back: Answer::OtherUuid,
+    },
+    Versions {
+        old: NAMELESS,
+        new: NAMELESS,
+        there: Answer::OtherUuid,
+        back: Answer::OtherUuid,
+    },
+    Versions {
+        old: FIRST,
+        new: MAJOR,
+        there: Answer::OtherMajor(1, 2),
+        back: Answer::OtherMajor(2, 1),
+    },
+    Versions {
+        old: FIRST,
+        new: FEWER,
+        there: Answer::Fewer(1, 0),
+        back: Answer::Yes(0),
+    },
+];
+
+#[test]
+fn each_answer(rt: HostRuntime) {
+    for row in VERSIONS {
+        assert_eq!(rt; compared(rt.alloc(), row.old, row.new), row.there);
+        assert_eq!(rt; compared(rt.alloc(), row.new, row.old), row.back);
+    }
+}
+
+// Two lists of declarations, which differ at an operation or have so many pairs, in both directions.
+#[derive(Clone, Copy)]
+struct Row {
+    old: &'static [u8],
+    new: &'static [u8],
+    answer: Answer,
+}
+
+const PRIMITIVES: &[Row] = &[
+    Row {
+        old: b"void f([in] long a);",
+        new: b"void g([in] long b);",
+        answer: Answer::Yes(1),
+    },
+    Row {
+        old: b"void f([in] long a);",
+        new: b"void f([in] short a);",
+        answer: Answer::Differs(0),
+    },
+    Row {
+        old: b"void f([in] long a);",
+        new: b"void f([in] unsigned long a);",
+        answer: Answer::Differs(0),
+    },
+    Row {
+        old: b"void f([in] long a);",
+        new: b"typedef enum { A } e; void f([in] e a);",
+        answer: Answer::Differs(0),
+    },
+];
+
+const ENUMERATED_TYPES: &[Row] = &[
+    Row {
+        old: b"typedef enum { A, B } e; void f([in] e a);",
+        new: b"typedef struct { long x; } s; typedef enum { C, D } e; void f([in] e a);",
+        answer: Answer::Yes(1),
+    },
+    Row {
+        old: b"typedef enum { A, B } e; void f([in] e a);",
+        new: b"typedef enum { A, B, C } e; void f([in] e a);",
+        answer: Answer::Differs(0),
+    },
+    Row {
+        old: b"typedef enum { A, B } e; void f([in] e a);",
+        new: b"void f([in] short a);",
+        answer: Answer::Differs(0),
+    },
+];
+
+const STRUCTS: &[Row] = &[
+    Row {
+        old: b"typedef struct { long x; short y; } s; void f([in] s a);",
+        new: b"typedef struct { long v; short w; } r; void f([in] r a);",
+        answer: Answer::Yes(3),
+    },
+    Row {
+        old: b"typedef struct { long x; short y; } s; void f([in] s a);",
+        new: b"typedef struct { long x; } s; void f([in] s a);",
+        answer: Answer::Differs(0),
+    },
+    Row {
+        old: b"typedef struct { long x; short y; } s; void f([in] s a);",
+        new: b"typedef struct { short y; long x; } s; void f([in] s a);",
+        answer: Answer::Differs(0),
+    },
+    Row {
+        old: b"typedef struct { long x; short y; } s; void f([in] s a);",
+        new: b"typedef struct { long x; short y; short z; } s; void f([in] s a);",
+        answer: Answer::Differs(0),
+    },
+];
+
+const ARRAYS: &[Row] = &[
+    Row {
+        old: b"void f([in] long a[3]);",
+        new: b"typedef long row[3]; void f([in] row a);",
+        answer: Answer::Yes(2),
+    },
+    Row {
+        old: b"void f([in] long a[3]);",
+        new: b"void f([in] long a[4]);",
+        answer: Answer::Differs(0),
+    },
+    Row {
+        old: b"void f([in] long a[3]);",
+        new: b"void f([in] short a[3]);",
+        answer: Answer::Differs(0),
+    },
+    Row {
+        old: b"void f([in] long a[3]);",
+        new: b"void f([in] long n, [in, length_is(n)] long a[3]);",
+        answer: Answer::Differs(0),
+    },
+];
+
+const CONFORMANT_ARRAYS: &[Row] = &[
+    Row {
+        old: b"void f([in] long n, [in, size_is(n)] short a[*]);",
+        new: b"void f([in] long m, [in, size_is(m)] short a[*]);",
+        answer: Answer::Yes(3),
+    },
+    Row {
+        old: b"void f([in] long n, [in, size_is(n)] short a[*]);",
+        new: b"void f([in] long n, [in, max_is(n)] short a[*]);",
+        answer: Answer::Differs(0),
+    },
+    Row {
+        old: b"void f([in] long n, [in, size_is(n)] short a[*]);",
+        new: b"void f([in] short n, [in, size_is(n)] short a[*]);",
+        answer: Answer::Differs(0),
+    },
+    Row {
+        old: b"void f([in] long n, [in, size_is(n)] short a[*]);",
+        new: b"void f([in] long n, [in, size_is(n), length_is(n)] short a[*]);",
+        answer: Answer::Differs(0),
+    },
+];
+
+const POINTED_TO_AND_OTHER_VARIABLES: &[Row] = &[
+    Row {
+        old: b"void f([in] long n, [in] long m, [in, size_is(n)] short a[*]);",
+        new: b"void f([in] long m, [in] long n, [in, size_is(m)] short a[*]);",
+        answer: Answer::Yes(3),
+    },
+    Row {
+        old: b"void f([in] long n, [in] long m, [in, size_is(n)] short a[*]);",
+        new: b"void f([in] long n, [in] long m, [in, size_is(m)] short a[*]);",
+        answer: Answer::Differs(0),
+    },
+];
+
+const TEXTS: &[Row] = &[
+    Row {
+        old: b"void f([in, string] char a[4]);",
+        new: b"void f([in, string] char b[4]);",
+        answer: Answer::Yes(2),
+    },
+    Row {
+        old: b"void f([in, string] char a[4]);",
+        new: b"void f([in, string] char a[5]);",
+        answer: Answer::Differs(0),
+    },
+    Row {
+        old: b"void f([in, string] char a[4]);",
+        new: b"void f([in, string] byte a[4]);",
+        answer: Answer::Differs(0),
+    },
+    Row {
+        old: b"void f([in, string] char a[4]);",
+        new: b"void f([in, string] char a[*]);",
+        answer: Answer::Differs(0),
+    },
+];
+
+const UNIONS: &[Row] = &[
+    Row {
+        old: b"typedef union switch (long k) u { case 1: short x; case 2: ; default: long y; } w; void f([in] w a);",
+        new: b"typedef union switch (long t) v { case 1: short p; case 2: ; default: long q; } w; void f([in] w a);",
+        answer: Answer::Yes(3),
+    },
+    Row {
+        old: b"typedef union switch (long k) u { case 1: short x; case 2: ; default: long y; } w; void f([in] w a);",
+        new: b"typedef union switch (long k) u { case 1: short x; case 3: ; default: long y; } w; void f([in] w a);",
+        answer: Answer::Differs(0),
+    },
+    Row {
+        old: b"typedef union switch (long k) u { case 1: short x; case 2: ; default: long y; } w; void f([in] w a);",
+        new: b"typedef union switch (long k) u { case 2: ; case 1: short x; default: long y; } w; void f([in] w a);",
+        answer: Answer::Differs(0),
+    },
+    Row {
+        old: b"typedef union switch (long k) u { case 1: short x; case 2: ; default: long y; } w; void f([in] w a);",
+        new: b"typedef union switch (long k) u { case 1: short x; case 2: ; } w; void f([in] w a);",
+        answer: Answer::Differs(0),
+    },
+    Row {
+        old: b"typedef union switch (long k) u { case 1: short x; case 2: ; default: long y; } w; void f([in] w a);",
+        new: b"typedef union switch (long k) u { case 1: short x; case 2: ; default: ; } w; void f([in] w a);",
+        answer: Answer::Differs(0),
+    },
+    Row {
+        old: b"typedef union switch (long k) u { case 1: short x; case 2: ; default: long y; } w; void f([in] w a);",
+        new: b"typedef union switch (long k) u { case 1: short x; case 2: short z; default: long y; } w; void f([in] w a);",
+        answer: Answer::Differs(0),
+    },
+    Row {
+        old: b"typedef union switch (long k) u { case 1: short x; case 2: ; default: long y; } w; void f([in] w a);",
+        new: b"typedef union switch (short k) u { case 1: short x; case 2: ; default: long y; } w; void f([in] w a);",
+        answer: Answer::Differs(0),
+    },
+    Row {
+        old: b"typedef union switch (long k) u { case 1: short x; case 2: ; default: long y; } w; void f([in] w a);",
+        new: b"typedef [switch_type(long)] union { [case(1)] short x; [case(2)] ; [default] long y; } w; void f([in] long k, [in,switch_is(k)] w a);",
+        answer: Answer::Differs(0),
+    },
+];
+
+const POINTERS: &[Row] = &[
+    Row {
+        old: b"void f([in, unique] long *a);",
+        new: b"void f([in, unique] long *b);",
+        answer: Answer::Yes(2),
+    },
+    Row {
+        old: b"void f([in, unique] long *a);",
+        new: b"void f([in, ptr] long *a);",
+        answer: Answer::Differs(0),
+    },
+    Row {
+        old: b"void f([in, unique] long *a);",
+        new: b"void f([in] long *a);",
+        answer: Answer::Differs(0),
+    },
+    Row {
+        old: b"void f([in, unique] long *a);",
+        new: b"void f([in, unique] short *a);",
+        answer: Answer::Differs(0),
+    },
+];
+
+const CONTEXT_HANDLES: &[Row] = &[
+    Row {
+        old: b"typedef [context_handle] void *c; void f([in] c a);",
+        new: b"typedef [context_handle] void *d; void f([in] d a);",
+        answer: Answer::Yes(1),
+    },
+    Row {
+        old: b"typedef [context_handle] void *c; void f([in] c a);",
+        new: b"void f([in, unique] long *a);",
+        answer: Answer::Differs(0),
+    },
+];
+
+const PIPES: &[Row] = &[
+    Row {
+        old: b"typedef pipe long p; void f([in] p a);",
+        new: b"typedef pipe long q; void f([in] q a);",
+        answer: Answer::Yes(2),
+    },
+    Row {
+        old: b"typedef pipe long p; void f([in] p a);",
+        new: b"typedef pipe short p; void f([in] p a);",
+        answer: Answer::Differs(0),
+    },
+    Row {
+        old: b"typedef pipe long p; void f([in] p a);",
+        new: b"typedef pipe long p; void f([out] p a);",
+        answer: Answer::Differs(0),
+    },
+];
+
+const HANDLES: &[Row] = &[
+    Row {
+        old: b"void f([in] handle_t h, [in] long a);",
+        new: b"void f([in] handle_t g, [in] long b);",
+        answer: Answer::Yes(1),
+    },
+    Row {
+        old: b"void f([in] handle_t h, [in] long a);",
+        new: b"void f([in] long a);",
+        answer: Answer::Differs(0),
+    },
+    Row {
+        old: b"void f([in] handle_t h, [in] long a);",
+        new: b"void f([in] long h, [in] long a);",
+        answer: Answer::Differs(0),
+    },
+];
+
+const WAYS_AND_RESULTS: &[Row] = &[
+    Row {
+        old: b"long f([in, out] long *a);",
+        new: b"long g([in, out] long *b);",
+        answer: Answer::Yes(2),
+    },
+    Row {
+        old: b"long f([in, out] long *a);",
+        new: b"void f([in, out] long *a);",
+        answer: Answer::Differs(0),
+    },
+    Row {
+        old: b"long f([in, out] long *a);",
+        new: b"short f([in, out] long *a);",
+        answer: Answer::Differs(0),
+    },
+    Row {
+        old: b"long f([in, out] long *a);",
+        new: b"long f([in] long *a);",
+        answer: Answer::Differs(0),
+    },
+    Row {
+        old: b"long f([in, out] long *a);",
+        new: b"long f([in, out] long *a, [in] long b);",
+        answer: Answer::Differs(0),
+    },
+];
+
+const ONE_STRUCT_FOR_TWO: &[Row] = &[Row {
+    old: b"typedef struct { long x; } s; void f([in] s a, [in] s b);",
+    new: b"typedef struct { long x; } s; typedef struct { long x; } r; void f([in] s a, [in] r b);",
+    answer: Answer::Differs(0),
+}];
+
+const OPERATIONS_IN_ORDER: &[Row] = &[
+    Row {
+        old: b"typedef struct { long x; } s; void f([in] s a); void g([in] s a);",
+        new: b"typedef struct { long x; } s; typedef struct { long x; } r; void f([in] s a); void g([in] r a);",
+        answer: Answer::Differs(1),
+    },
+    Row {
+        old: b"void f([in] long a); void g([in] long a); void h([in] long a);",
+        new: b"void f([in] long a); void g([in] long a); void h([in] short a);",
+        answer: Answer::Differs(2),
+    },
+    Row {
+        old: b"typedef struct s { long x; [unique] struct s *next; } s; void f([in] s a);",
+        new: b"typedef struct r { long y; [unique] struct r *rest; } r; void f([in] r a);",
+        answer: Answer::Yes(3),
+    },
+    Row {
+        old: b"typedef struct s { long x; [unique] struct s *next; } s; void f([in] s a);",
+        new: b"typedef struct r { long y; [ptr] struct r *rest; } r; void f([in] r a);",
+        answer: Answer::Differs(0),
+    },
+];
+
+// Whether each row comes to what it has to. A failure names its row.
+fn expect_all(rt: &impl Abort, alloc: Global, rows: &[Row]) {
+    for (at, row) in rows.iter().enumerate() {
+        assert_eq!(rt; between(alloc, row.old, row.new), row.answer, "row {at}");
+        assert_eq!(rt;
+            between(alloc, row.new, row.old),
+            row.answer,
+            "row {at}, back"
+        );
+    }
 }
 
 #[test]
-fn a_later_version_has_the_streams_of_an_older_one(rt: HostRuntime) -> Result<(), Fail> {
-    versions(
-        &rt,
-        rt.alloc(),
-        FIRST,
-        SECOND,
-        Answer::Yes(5),
-        Answer::OlderMinor(1, 0),
-    );
-    versions(
-        &rt,
-        rt.alloc(),
-        FIRST,
-        FIRST,
-        Answer::Yes(5),
-        Answer::Yes(5),
-    );
-    Ok(())
+fn primitives(rt: HostRuntime) {
+    expect_all(&rt, rt.alloc(), PRIMITIVES);
 }
 
 #[test]
-fn each_answer_before_operations_are_compared(rt: HostRuntime) -> Result<(), Fail> {
-    versions(
-        &rt,
-        rt.alloc(),
-        FIRST,
-        WIDER,
-        Answer::Differs(0),
-        Answer::OlderMinor(1, 0),
-    );
-    versions(
-        &rt,
-        rt.alloc(),
-        FIRST,
-        OTHER,
-        Answer::OtherUuid,
-        Answer::OtherUuid,
-    );
-    versions(
-        &rt,
-        rt.alloc(),
-        NAMELESS,
-        NAMELESS,
-        Answer::OtherUuid,
-        Answer::OtherUuid,
-    );
-    versions(
-        &rt,
-        rt.alloc(),
-        FIRST,
-        MAJOR,
-        Answer::OtherMajor(1, 2),
-        Answer::OtherMajor(2, 1),
-    );
-    versions(
-        &rt,
-        rt.alloc(),
-        FIRST,
-        FEWER,
-        Answer::Fewer(1, 0),
-        Answer::Yes(0),
-    );
-    Ok(())
+fn enumerated_types(rt: HostRuntime) {
+    expect_all(&rt, rt.alloc(), ENUMERATED_TYPES);
 }
 
 #[test]
-fn primitives(rt: HostRuntime) -> Result<(), Fail> {
-    both(
-        &rt,
-        rt.alloc(),
-        b"void f([in] long a);",
-        b"void g([in] long b);",
-        Answer::Yes(1),
-    );
-    both(
-        &rt,
-        rt.alloc(),
-        b"void f([in] long a);",
-        b"void f([in] short a);",
-        Answer::Differs(0),
-    );
-    both(
-        &rt,
-        rt.alloc(),
-        b"void f([in] long a);",
-        b"void f([in] unsigned long a);",
-        Answer::Differs(0),
-    );
-    both(
-        &rt,
-        rt.alloc(),
-        b"void f([in] long a);",
-        b"typedef enum { A } e; void f([in] e a);",
-        Answer::Differs(0),
-    );
-    Ok(())
+fn structs(rt: HostRuntime) {
+    expect_all(&rt, rt.alloc(), STRUCTS);
 }
 
 #[test]
-fn enumerated_types(rt: HostRuntime) -> Result<(), Fail> {
-    both(
-        &rt,
-        rt.alloc(),
-        b"typedef enum { A, B } e; void f([in] e a);",
-        b"typedef struct { long x; } s; typedef enum { C, D } e; void f([in] e a);",
-        Answer::Yes(1),
-    );
-    both(
-        &rt,
-        rt.alloc(),
-        b"typedef enum { A, B } e; void f([in] e a);",
-        b"typedef enum { A, B, C } e; void f([in] e a);",
-        Answer::Differs(0),
-    );
-    both(
-        &rt,
-        rt.alloc(),
-        b"typedef enum { A, B } e; void f([in] e a);",
-        b"void f([in] short a);",
-        Answer::Differs(0),
-    );
-    Ok(())
+fn arrays(rt: HostRuntime) {
+    expect_all(&rt, rt.alloc(), ARRAYS);
 }
 
 #[test]
-fn structs(rt: HostRuntime) -> Result<(), Fail> {
-    both(
-        &rt,
-        rt.alloc(),
-        b"typedef struct { long x; short y; } s; void f([in] s a);",
-        b"typedef struct { long v; short w; } r; void f([in] r a);",
-        Answer::Yes(3),
-    );
-    both(
-        &rt,
-        rt.alloc(),
-        b"typedef struct { long x; short y; } s; void f([in] s a);",
-        b"typedef struct { long x; } s; void f([in] s a);",
-        Answer::Differs(0),
-    );
-    both(
-        &rt,
-        rt.alloc(),
-        b"typedef struct { long x; short y; } s; void f([in] s a);",
-        b"typedef struct { short y; long x; } s; void f([in] s a);",
-        Answer::Differs(0),
-    );
-    both(
-        &rt,
-        rt.alloc(),
-        b"typedef struct { long x; short y; } s; void f([in] s a);",
-        b"typedef struct { long x; short y; short z; } s; void f([in] s a);",
-        Answer::Differs(0),
-    );
-    Ok(())
+fn conformant_arrays(rt: HostRuntime) {
+    expect_all(&rt, rt.alloc(), CONFORMANT_ARRAYS);
 }
 
 #[test]
-fn arrays(rt: HostRuntime) -> Result<(), Fail> {
-    both(
-        &rt,
-        rt.alloc(),
-        b"void f([in] long a[3]);",
-        b"typedef long row[3]; void f([in] row a);",
-        Answer::Yes(2),
-    );
-    both(
-        &rt,
-        rt.alloc(),
-        b"void f([in] long a[3]);",
-        b"void f([in] long a[4]);",
-        Answer::Differs(0),
-    );
-    both(
-        &rt,
-        rt.alloc(),
-        b"void f([in] long a[3]);",
-        b"void f([in] short a[3]);",
-        Answer::Differs(0),
-    );
-    both(
-        &rt,
-        rt.alloc(),
-        b"void f([in] long a[3]);",
-        b"void f([in] long n, [in, length_is(n)] long a[3]);",
-        Answer::Differs(0),
-    );
-    Ok(())
+fn pointed_to_and_other_variables(rt: HostRuntime) {
+    expect_all(&rt, rt.alloc(), POINTED_TO_AND_OTHER_VARIABLES);
 }
 
 #[test]
-fn conformant_arrays(rt: HostRuntime) -> Result<(), Fail> {
-    both(
-        &rt,
-        rt.alloc(),
-        b"void f([in] long n, [in, size_is(n)] short a[*]);",
-        b"void f([in] long m, [in, size_is(m)] short a[*]);",
-        Answer::Yes(3),
-    );
-    both(
-        &rt,
-        rt.alloc(),
-        b"void f([in] long n, [in, size_is(n)] short a[*]);",
-        b"void f([in] long n, [in, max_is(n)] short a[*]);",
-        Answer::Differs(0),
-    );
-    both(
-        &rt,
-        rt.alloc(),
-        b"void f([in] long n, [in, size_is(n)] short a[*]);",
-        b"void f([in] short n, [in, size_is(n)] short a[*]);",
-        Answer::Differs(0),
-    );
-    both(
-        &rt,
-        rt.alloc(),
-        b"void f([in] long n, [in, size_is(n)] short a[*]);",
-        b"void f([in] long n, [in, size_is(n), length_is(n)] short a[*]);",
-        Answer::Differs(0),
-    );
-    Ok(())
+fn texts(rt: HostRuntime) {
+    expect_all(&rt, rt.alloc(), TEXTS);
 }
 
 #[test]
-fn pointed_to_and_other_variables(rt: HostRuntime) -> Result<(), Fail> {
-    both(
-        &rt,
-        rt.alloc(),
-        b"void f([in] long n, [in] long m, [in, size_is(n)] short a[*]);",
-        b"void f([in] long m, [in] long n, [in, size_is(m)] short a[*]);",
-        Answer::Yes(3),
-    );
-    both(
-        &rt,
-        rt.alloc(),
-        b"void f([in] long n, [in] long m, [in, size_is(n)] short a[*]);",
-        b"void f([in] long n, [in] long m, [in, size_is(m)] short a[*]);",
-        Answer::Differs(0),
-    );
-    Ok(())
+fn unions(rt: HostRuntime) {
+    expect_all(&rt, rt.alloc(), UNIONS);
 }
 
 #[test]
-fn texts(rt: HostRuntime) -> Result<(), Fail> {
-    both(
-        &rt,
-        rt.alloc(),
-        b"void f([in, string] char a[4]);",
-        b"void f([in, string] char b[4]);",
-        Answer::Yes(2),
-    );
-    both(
-        &rt,
-        rt.alloc(),
-        b"void f([in, string] char a[4]);",
-        b"void f([in, string] char a[5]);",
-        Answer::Differs(0),
-    );
-    both(
-        &rt,
-        rt.alloc(),
-        b"void f([in, string] char a[4]);",
-        b"void f([in, string] byte a[4]);",
-        Answer::Differs(0),
-    );
-    both(
-        &rt,
-        rt.alloc(),
-        b"void f([in, string] char a[4]);",
-        b"void f([in, string] char a[*]);",
-        Answer::Differs(0),
-    );
-    Ok(())
+fn pointers(rt: HostRuntime) {
+    expect_all(&rt, rt.alloc(), POINTERS);
 }
 
 #[test]
-fn unions(rt: HostRuntime) -> Result<(), Fail> {
-    both(
-        &rt,
-        rt.alloc(),
-        b"typedef union switch (long k) u { case 1: short x; case 2: ; default: long y; } w; void f([in] w a);",
-        b"typedef union switch (long t) v { case 1: short p; case 2: ; default: long q; } w; void f([in] w a);",
-        Answer::Yes(3),
-    );
-    both(
-        &rt,
-        rt.alloc(),
-        b"typedef union switch (long k) u { case 1: short x; case 2: ; default: long y; } w; void f([in] w a);",
-        b"typedef union switch (long k) u { case 1: short x; case 3: ; default: long y; } w; void f([in] w a);",
-        Answer::Differs(0),
-    );
-    both(
-        &rt,
-        rt.alloc(),
-        b"typedef union switch (long k) u { case 1: short x; case 2: ; default: long y; } w; void f([in] w a);",
-        b"typedef union switch (long k) u { case 2: ; case 1: short x; default: long y; } w; void f([in] w a);",
-        Answer::Differs(0),
-    );
-    both(
-        &rt,
-        rt.alloc(),
-        b"typedef union switch (long k) u { case 1: short x; case 2: ; default: long y; } w; void f([in] w a);",
-        b"typedef union switch (long k) u { case 1: short x; case 2: ; } w; void f([in] w a);",
-        Answer::Differs(0),
-    );
-    both(
-        &rt,
-        rt.alloc(),
-        b"typedef union switch (long k) u { case 1: short x; case 2: ; default: long y; } w; void f([in] w a);",
-        b"typedef union switch (long k) u { case 1: short x; case 2: ; default: ; } w; void f([in] w a);",
-        Answer::Differs(0),
-    );
-    both(
-        &rt,
-        rt.alloc(),
-        b"typedef union switch (long k) u { case 1: short x; case 2: ; default: long y; } w; void f([in] w a);",
-        b"typedef union switch (long k) u { case 1: short x; case 2: short z; default: long y; } w; void f([in] w a);",
-        Answer::Differs(0),
-    );
-    both(
-        &rt,
-        rt.alloc(),
-        b"typedef union switch (long k) u { case 1: short x; case 2: ; default: long y; } w; void f([in] w a);",
-        b"typedef union switch (short k) u { case 1: short x; case 2: ; default: long y; } w; void f([in] w a);",
-        Answer::Differs(0),
-    );
-    both(
-        &rt,
-        rt.alloc(),
-        b"typedef union switch (long k) u { case 1: short x; case 2: ; default: long y; } w; void f([in] w a);",
-        b"typedef [switch_type(long)] union { [case(1)] short x; [case(2)] ; [default] long y; } w; void f([in] long k, [in, switch_is(k)] w a);",
-        Answer::Differs(0),
-    );
-    Ok(())
+fn context_handles(rt: HostRuntime) {
+    expect_all(&rt, rt.alloc(), CONTEXT_HANDLES);
 }
 
 #[test]
-fn pointers(rt: HostRuntime) -> Result<(), Fail> {
-    both(
-        &rt,
-        rt.alloc(),
-        b"void f([in, unique] long *a);",
-        b"void f([in, unique] long *b);",
-        Answer::Yes(2),
-    );
-    both(
-        &rt,
-        rt.alloc(),
-        b"void f([in, unique] long *a);",
-        b"void f([in, ptr] long *a);",
-        Answer::Differs(0),
-    );
-    both(
-        &rt,
-        rt.alloc(),
-        b"void f([in, unique] long *a);",
-        b"void f([in] long *a);",
-        Answer::Differs(0),
-    );
-    both(
-        &rt,
-        rt.alloc(),
-        b"void f([in, unique] long *a);",
-        b"void f([in, unique] short *a);",
-        Answer::Differs(0),
-    );
-    Ok(())
+fn pipes(rt: HostRuntime) {
+    expect_all(&rt, rt.alloc(), PIPES);
 }
 
 #[test]
-fn context_handles(rt: HostRuntime) -> Result<(), Fail> {
-    both(
-        &rt,
-        rt.alloc(),
-        b"typedef [context_handle] void *c; void f([in] c a);",
-        b"typedef [context_handle] void *d; void f([in] d a);",
-        Answer::Yes(1),
-    );
-    both(
-        &rt,
-        rt.alloc(),
-        b"typedef [context_handle] void *c; void f([in] c a);",
-        b"void f([in, unique] long *a);",
-        Answer::Differs(0),
-    );
-    Ok(())
+fn handles(rt: HostRuntime) {
+    expect_all(&rt, rt.alloc(), HANDLES);
 }
 
 #[test]
-fn pipes(rt: HostRuntime) -> Result<(), Fail> {
-    both(
-        &rt,
-        rt.alloc(),
-        b"typedef pipe long p; void f([in] p a);",
-        b"typedef pipe long q; void f([in] q a);",
-        Answer::Yes(2),
-    );
-    both(
-        &rt,
-        rt.alloc(),
-        b"typedef pipe long p; void f([in] p a);",
-        b"typedef pipe short p; void f([in] p a);",
-        Answer::Differs(0),
-    );
-    both(
-        &rt,
-        rt.alloc(),
-        b"typedef pipe long p; void f([in] p a);",
-        b"typedef pipe long p; void f([out] p a);",
-        Answer::Differs(0),
-    );
-    Ok(())
+fn ways_and_results(rt: HostRuntime) {
+    expect_all(&rt, rt.alloc(), WAYS_AND_RESULTS);
 }
 
 #[test]
-fn handles(rt: HostRuntime) -> Result<(), Fail> {
-    both(
-        &rt,
-        rt.alloc(),
-        b"void f([in] handle_t h, [in] long a);",
-        b"void f([in] handle_t g, [in] long b);",
-        Answer::Yes(1),
-    );
-    both(
-        &rt,
-        rt.alloc(),
-        b"void f([in] handle_t h, [in] long a);",
-        b"void f([in] long a);",
-        Answer::Differs(0),
-    );
-    both(
-        &rt,
-        rt.alloc(),
-        b"void f([in] handle_t h, [in] long a);",
-        b"void f([in] long h, [in] long a);",
-        Answer::Differs(0),
-    );
-    Ok(())
+fn one_struct_for_two(rt: HostRuntime) {
+    expect_all(&rt, rt.alloc(), ONE_STRUCT_FOR_TWO);
 }
 
 #[test]
-fn ways_and_results(rt: HostRuntime) -> Result<(), Fail> {
-    both(
-        &rt,
-        rt.alloc(),
-        b"long f([in, out] long *a);",
-        b"long g([in, out] long *b);",
-        Answer::Yes(2),
-    );
-    both(
-        &rt,
-        rt.alloc(),
-        b"long f([in, out] long *a);",
-        b"void f([in, out] long *a);",
-        Answer::Differs(0),
-    );
-    both(
-        &rt,
-        rt.alloc(),
-        b"long f([in, out] long *a);",
-        b"short f([in, out] long *a);",
-        Answer::Differs(0),
-    );
-    both(
-        &rt,
-        rt.alloc(),
-        b"long f([in, out] long *a);",
-        b"long f([in] long *a);",
-        Answer::Differs(0),
-    );
-    both(
-        &rt,
-        rt.alloc(),
-        b"long f([in, out] long *a);",
-        b"long f([in, out] long *a, [in] long b);",
-        Answer::Differs(0),
-    );
-    Ok(())
-}
-
-#[test]
-fn one_struct_for_two(rt: HostRuntime) -> Result<(), Fail> {
-    both(
-        &rt,
-        rt.alloc(),
-        b"typedef struct { long x; } s; void f([in] s a, [in] s b);",
-        b"typedef struct { long x; } s; typedef struct { long x; } r; void f([in] s a, [in] r b);",
-        Answer::Differs(0),
-    );
-    Ok(())
-}
-
-#[test]
-fn operations_in_order(rt: HostRuntime) -> Result<(), Fail> {
-    both(
-        &rt,
-        rt.alloc(),
-        b"typedef struct { long x; } s; void f([in] s a); void g([in] s a);",
-        b"typedef struct { long x; } s; typedef struct { long x; } r; void f([in] s a); void g([in] r a);",
-        Answer::Differs(1),
-    );
-    both(
-        &rt,
-        rt.alloc(),
-        b"void f([in] long a); void g([in] long a); void h([in] long a);",
-        b"void f([in] long a); void g([in] long a); void h([in] short a);",
-        Answer::Differs(2),
-    );
-    both(
-        &rt,
-        rt.alloc(),
-        b"typedef struct s { long x; [unique] struct s *next; } s; void f([in] s a);",
-        b"typedef struct r { long y; [unique] struct r *rest; } r; void f([in] r a);",
-        Answer::Yes(3),
-    );
-    both(
-        &rt,
-        rt.alloc(),
-        b"typedef struct s { long x; [unique] struct s *next; } s; void f([in] s a);",
-        b"typedef struct r { long y; [ptr] struct r *rest; } r; void f([in] r a);",
-        Answer::Differs(0),
-    );
-    Ok(())
+fn operations_in_order(rt: HostRuntime) {
+    expect_all(&rt, rt.alloc(), OPERATIONS_IN_ORDER);
 }

@@ -3,47 +3,44 @@ ghost use Rattle.std.specs.Prelude.{◌≡◌, IfOk, false};
 ghost use Rattle.ndr_pipe.specs.Ends.{AreOpen};
 ghost use Rattle.ndr_pipe.specs.Seen.{ends_seen};
 
-use command_compile::compile;
-use nd_base::{MemFiles, MemSource, Memory, Order, Steps, Uncounted};
+use crate::interface::interface;
+use nd_base::{MemSource, Memory, Order, Steps, Uncounted};
 use nd_grammar::Reason;
-use nd_types::Side;
+use nd_types::{Interface, Side};
 use nd_value::ItemLog;
 use ndr_drain::{DrainFault, drain};
 use ndr_pipe::{MemEnd, PipeEnd, PipeEnds};
 use ndr_plan::make;
 use std::alloc::Global;
-use std::process::Abort;
 use std::test::Fail;
-
-const IDL: &[u8] = b"[uuid(11111111-2222-3333-4444-555555555555)] interface t {
-  typedef pipe long lp;
-  void feed([in] lp d);
-}";
-
-const FEED: u32 = 0;
 
 // The elements 1, 2 and 3 in chunks of 2 and 1, and the end.
 const ROW: &[u8] = b"\x02\0\0\0\x01\0\0\0\x02\0\0\0\x01\0\0\0\x03\0\0\0\0\0\0\0";
 
-// How many octets were taken. It is out of memory too where the interface is not compiled.
-fn drained(alloc: Global, op: u32, octets: &[u8], ends: &mut PipeEnds) -> Result<u32, DrainFault>
+// How many octets were taken. It is out of memory too if the interface has no operation.
+fn drained(alloc: Global, octets: &[u8], ends: &mut PipeEnds) -> Result<u32, DrainFault>
     requires { AreOpen (ends_seen seen ends.old) }
 {
-    let Ok(mut files) = MemFiles::new(alloc, &[]) else {
+    let Ok(interface) = interface(alloc) else {
         return Err(DrainFault::Memory);
     };
-    let Ok(()) = files.add("t.idl", IDL) else {
-        return Err(DrainFault::Memory);
-    };
-    let Ok(interface) = compile(alloc, "t.idl", None, &mut files) else {
-        return Err(DrainFault::Memory);
-    };
-    let Ok(plan) = make(alloc, &interface) else {
-        return Err(DrainFault::Memory);
-    };
-    if op as usize >= interface.operations.len() {
+    drained_by(alloc, &interface, octets, ends)
+}
+
+fn drained_by(
+    alloc: Global,
+    interface: &Interface,
+    octets: &[u8],
+    ends: &mut PipeEnds,
+) -> Result<u32, DrainFault>
+    requires { AreOpen (ends_seen seen ends.old) }
+{
+    if interface.operations.len() == 0 {
         return Err(DrainFault::Memory);
     }
+    let Ok(plan) = make(alloc, interface) else {
+        return Err(DrainFault::Memory);
+    };
     let Ok(mut source) = MemSource::new(alloc, octets, 5, &[]) else {
         return Err(DrainFault::Memory);
     };
@@ -51,9 +48,9 @@ fn drained(alloc: Global, op: u32, octets: &[u8], ends: &mut PipeEnds) -> Result
     let mut steps = Steps::new(Uncounted::new());
     match drain(
         alloc,
-        &interface,
+        interface,
         &plan,
-        op,
+        0,
         Side::In,
         Order::Little,
         None,
@@ -90,41 +87,55 @@ fn add(ends: &mut PipeEnds, end: Box<dyn PipeEnd>) -> Result<(), Memory>
     }
 }
 
-// The first end has taken these octets, and is finished or not.
-fn has_taken(rt: &impl Abort, ends: &PipeEnds, octets: &[u8], finished: bool) {
+// Whether the first end has taken these octets, and is finished or not.
+fn has_taken(ends: &PipeEnds, octets: &[u8], finished: bool) -> bool {
     match ends.get(0) {
-        Some(end) => {
-            assert!(rt; end.finished() == finished);
-            match end.shown() {
-                Some(shown) => assert!(rt; shown == octets),
-                None => assert!(rt; false),
-            }
-        }
-        None => assert!(rt; false),
+        Some(end) => end.finished() == finished && end.shown() == Some(octets),
+        None => false,
     }
+}
+
+// Octets, what they come to, and what the end has taken then.
+#[derive(Clone, Copy)]
+struct Row {
+    octets: &'static [u8],
+    wanted: Result<u32, DrainFault>,
+    taken: &'static [u8],
+    finished: bool,
+}
+
+const ROWS: &[Row] = &[
+    Row {
+        octets: ROW,
+        wanted: Ok(24),
+        taken: b"1\n2\n3\n",
+        finished: true,
+    },
+    // The first octets of the same end after the first chunk, whose elements the end has; it is not finished.
+    Row {
+        octets: b"\x02\0\0\0\x01\0\0\0\x02\0\0\0\x01\0\0\0",
+        wanted: Err(DrainFault::Bad {
+            place: 16,
+            reason: Reason::Truncated,
+        }),
+        taken: b"1\n2\n",
+        finished: false,
+    },
+];
+
+// Whether the octets of a row come to what they have to.
+fn is_drained(alloc: Global, row: &Row) -> Result<bool, Memory> {
+    let mut ends = PipeEnds::new(alloc);
+    add(&mut ends, mem_end(alloc)?)?;
+    let found = drained(alloc, row.octets, &mut ends);
+    Ok(found == row.wanted && has_taken(&ends, row.taken, row.finished))
 }
 
 #[test]
 fn pipes_go_to_ends(rt: HostRuntime) -> Result<(), Fail> {
-    let mut ends = PipeEnds::new(rt.alloc());
-    add(&mut ends, mem_end(rt.alloc())?)?;
-    assert_eq!(rt; drained(rt.alloc(), FEED, ROW, &mut ends), Ok(24));
-    has_taken(&rt, &ends, b"1\n2\n3\n", true);
-    Ok(())
-}
-
-// The first octets of the same end after the first chunk, whose elements the end has; it is not finished.
-#[test]
-fn whole_chunks_go_to_ends(rt: HostRuntime) -> Result<(), Fail> {
-    let cut = b"\x02\0\0\0\x01\0\0\0\x02\0\0\0\x01\0\0\0";
-    let mut ends = PipeEnds::new(rt.alloc());
-    add(&mut ends, mem_end(rt.alloc())?)?;
-    let wanted = DrainFault::Bad {
-        place: 16,
-        reason: Reason::Truncated,
-    };
-    assert_eq!(rt; drained(rt.alloc(), FEED, cut, &mut ends), Err(wanted));
-    has_taken(&rt, &ends, b"1\n2\n", false);
+    for row in ROWS {
+        assert!(rt; is_drained(rt.alloc(), row)?);
+    }
     Ok(())
 }
 
@@ -136,5 +147,5 @@ fn ends_are_too_few(rt: HostRuntime) {
         wanted: 1,
         found: 0,
     };
-    assert_eq!(rt; drained(rt.alloc(), FEED, ROW, &mut ends), Err(wanted));
+    assert_eq!(rt; drained(rt.alloc(), ROW, &mut ends), Err(wanted));
 }

@@ -4,8 +4,8 @@ ghost use Rattle.ndr_drain_reader.specs.Ready.{IsReady};
 ghost use Rattle.ndr_drain_reader.specs.Seen.{intake_seen};
 ghost use Rattle.ndr_drain_reader.specs.declared.intake.Phase.TheVariants.{Reading};
 
-use command_compile::compile;
-use nd_base::{Counted, MemFiles, MemSource, Memory, Order, Steps};
+use crate::interface::interface;
+use nd_base::{Counted, MemSource, Memory, Order, Steps};
 use nd_grammar::Reason;
 use nd_types::Side;
 use nd_value::{ItemLog, Val, Vals};
@@ -15,26 +15,17 @@ use ndr_plan::make;
 use std::alloc::Global;
 use std::test::Fail;
 
-const IDL: &[u8] = b"[uuid(11111111-2222-3333-4444-555555555555)] interface t {
-  typedef pipe long lp;
-  void feed([in] lp d);
-}";
-
 // The elements 1, 2 and 3 in chunks of 2 and 1, and the end; then an octet of another stream.
 const ROW: &[u8] = b"\x02\0\0\0\x01\0\0\0\x02\0\0\0\x01\0\0\0\x03\0\0\0\0\0\0\0\xff";
 
 // The first octets of the same: the second chunk has no element.
 const CUT: &[u8] = b"\x02\0\0\0\x01\0\0\0\x02\0\0\0\x01\0\0\0";
 
-// The plan of the interface. It is out of memory too where the interface is not compiled.
+// The plan of the interface.
 fn plan(alloc: Global) -> Result<Plan, Memory>
     ensures known { IfOk result (λ p. 0 < length p.tie.operations) }
 {
-    let mut files = MemFiles::new(alloc, &[])?;
-    files.add("t.idl", IDL)?;
-    let Ok(interface) = compile(alloc, "t.idl", None, &mut files) else {
-        return Err(Memory);
-    };
+    let interface = interface(alloc)?;
     let plan = make(alloc, &interface)?;
     if interface.operations.len() == 0 {
         return Err(Memory);

@@ -5,3 +5,5 @@
 mod drain;
 #[cfg(test)]
 mod intake;
+#[cfg(test)]
+mod interface;

@@ -4,7 +4,7 @@
 #[cfg(test)]
 mod builder;
 #[cfg(test)]
-mod graphs;
+mod handmade;
 #[cfg(test)]
 mod interface;
 #[cfg(test)]

@@ -1,11 +1,9 @@
 // What expressions come to, by examples.
+use crate::files::tree_of;
 use idl_grammar::{Export, Expr, Init, Tree};
-use idl_lexer::lex;
 use idl_names::{ConstFault, Meaning, Names, evaluate, value, value_of};
-use idl_parser::parse;
-use nd_base::Octets;
+use nd_base::{Memory, Octets};
 use std::alloc::Global;
-use std::process::Abort;
 use std::test::Fail;
 
 /// What is before an expression.
@@ -33,12 +31,64 @@ impl Names for Example {
     }
 }
 
-fn tree_of(alloc: Global, expression: &[u8]) -> Result<Tree, Fail> {
+/// An expression, and its value or why it has none.
+struct Row {
+    text: &'static [u8],
+    wanted: Result<i128, ConstFault>,
+}
+
+const ROWS: &[Row] = &[
+    Row {
+        text: b"1 ? (N - 10) / 2 * 2 + 'a' : M",
+        wanted: Ok(95),
+    },
+    // Numbers are cut towards zero.
+    Row {
+        text: b"7 / 2 * 2",
+        wanted: Ok(6),
+    },
+    Row {
+        text: b"-7 / 2",
+        wanted: Ok(-3),
+    },
+    Row {
+        text: b"-7 % 2",
+        wanted: Ok(-1),
+    },
+    // Bits are of unlimited width.
+    Row {
+        text: b"-1 >> 1",
+        wanted: Ok(-1),
+    },
+    Row {
+        text: b"~0",
+        wanted: Ok(-1),
+    },
+    Row {
+        text: b"1 << 63",
+        wanted: Ok(9_223_372_036_854_775_808),
+    },
+    // What is decided is not evaluated.
+    Row {
+        text: b"0 && 5 % 0",
+        wanted: Ok(0),
+    },
+    Row {
+        text: b"1 << 64",
+        wanted: Err(ConstFault::OutOfRange),
+    },
+    Row {
+        text: b"5 % 0",
+        wanted: Err(ConstFault::ZeroDivisor),
+    },
+];
+
+/// The tree of an interface with a constant of this value.
+fn constant(alloc: Global, expression: &[u8]) -> Result<Tree, Memory> {
     let mut text = Octets::copy(alloc, FRONT)?;
     text.append(expression)?;
     text.append(b"; }")?;
-    let tokens = lex(alloc, text.as_slice())?;
-    Ok(parse(alloc, &tokens)?)
+    tree_of(alloc, text.as_slice())
 }
 
 fn expression_of(tree: &Tree) -> Option<&Expr> {
@@ -53,54 +103,26 @@ fn expression_of(tree: &Tree) -> Option<&Expr> {
     }
 }
 
+/// Whether an expression comes to what it has to. Its value is that of each call.
+fn holds(alloc: Global, row: &Row) -> Result<bool, Memory> {
+    let tree = constant(alloc, row.text)?;
+    let Some(expression) = expression_of(&tree) else {
+        return Ok(false);
+    };
+    match row.wanted {
+        Ok(wanted) => Ok(
+            value(&Example, expression) == Ok(wanted)
+                && value_of(&Example, expression) == Ok(wanted)
+                && evaluate(&Example, expression) == Ok(wanted),
+        ),
+        Err(fault) => Ok(value_of(&Example, expression) == Err(fault)),
+    }
+}
+
 #[test]
 fn expressions_have_values(rt: HostRuntime) -> Result<(), Fail> {
-    let tree = tree_of(rt.alloc(), b"1 ? (N - 10) / 2 * 2 + 'a' : M")?;
-    let Some(expression) = expression_of(&tree) else {
-        return Err(Fail::new("no expression"));
-    };
-    assert_eq!(rt; value(&Example, expression), Ok(95));
-    assert_eq!(rt; value_of(&Example, expression), Ok(95));
-    assert_eq!(rt; evaluate(&Example, expression), Ok(95));
+    for row in ROWS {
+        assert!(rt; holds(rt.alloc(), row)?);
+    }
     Ok(())
-}
-
-/// That an expression has this value, or none for this reason.
-fn assert_value(
-    rt: &impl Abort,
-    alloc: Global,
-    text: &[u8],
-    wanted: Result<i128, ConstFault>,
-) -> Result<(), Fail> {
-    let tree = tree_of(alloc, text)?;
-    let Some(expression) = expression_of(&tree) else {
-        return Err(Fail::new("no expression"));
-    };
-    assert_eq!(rt; value_of(&Example, expression), wanted);
-    Ok(())
-}
-
-#[test]
-fn numbers_are_cut_towards_zero(rt: HostRuntime) -> Result<(), Fail> {
-    assert_value(&rt, rt.alloc(), b"7 / 2 * 2", Ok(6))?;
-    assert_value(&rt, rt.alloc(), b"-7 / 2", Ok(-3))?;
-    assert_value(&rt, rt.alloc(), b"-7 % 2", Ok(-1))
-}
-
-#[test]
-fn bits_are_of_unlimited_width(rt: HostRuntime) -> Result<(), Fail> {
-    assert_value(&rt, rt.alloc(), b"-1 >> 1", Ok(-1))?;
-    assert_value(&rt, rt.alloc(), b"~0", Ok(-1))?;
-    assert_value(&rt, rt.alloc(), b"1 << 63", Ok(9_223_372_036_854_775_808))
-}
-
-#[test]
-fn what_is_decided_is_not_evaluated(rt: HostRuntime) -> Result<(), Fail> {
-    assert_value(&rt, rt.alloc(), b"0 && 5 % 0", Ok(0))
-}
-
-#[test]
-fn some_expressions_have_no_value(rt: HostRuntime) -> Result<(), Fail> {
-    assert_value(&rt, rt.alloc(), b"1 << 64", Err(ConstFault::OutOfRange))?;
-    assert_value(&rt, rt.alloc(), b"5 % 0", Err(ConstFault::ZeroDivisor))
 }

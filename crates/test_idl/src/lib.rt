@@ -6,9 +6,9 @@ mod attribute_files;
 #[cfg(test)]
 mod checking;
 #[cfg(test)]
-mod directory;
-#[cfg(test)]
 mod expressions;
+#[cfg(test)]
+mod files;
 #[cfg(test)]
 mod imports;
 #[cfg(test)]

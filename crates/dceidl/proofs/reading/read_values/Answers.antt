@@ -1,4 +1,4 @@
-use Rattle.command_line.specs.declared.command.Reading.TheVariants.{Decode, Explain, Drain}
+use Rattle.command_line.specs.declared.command.Reading.TheVariants.{Decode, Explain, Trace, Drain}
 use Rattle.dceidl.proofs.Labels.{made_reading}
 use Rattle.dceidl.proofs.reading.read_values.Goals as goal
 
@@ -13,3 +13,7 @@ returns-in-Drain-clause-done g c o there =
 pub returns-in-Explain-clause-done : goal.returns-in-Explain-clause-done
 returns-in-Explain-clause-done g c o there =
     made_reading _ _ _ _ c.args.how Explain c.in-Explain.is c.explain_octets.result (c.explain_octets.ensures.explained o there)
+
+pub returns-in-Trace-clause-done : goal.returns-in-Trace-clause-done
+returns-in-Trace-clause-done g c o there =
+    made_reading _ _ _ _ c.args.how Trace c.in-Trace.is c.traced_alone.result (c.traced_alone.ensures.explained o there)

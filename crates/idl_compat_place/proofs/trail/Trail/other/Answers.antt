@@ -1,4 +1,4 @@
-use Rattle.std.proofs.Common.{rules, arith, ◌≡◌, ◌≤◌, length, Some, false}
+use Rattle.std.proofs.Common.{rules, arith, ◌≡◌, ◌≤◌, length, Some, false, inr}
 use Rattle.std.specs.Prelude.{slice_get}
 use Rattle.idl_compat_place.proofs.Trailing.{no_other_next, no_other}
 use Rattle.idl_compat_place.proofs.trail.Trail.other.Goals as goal
@@ -15,4 +15,4 @@ loop-at-preserved c =
 pub returns : goal.returns
 returns c =
     let past : length c.args.self.now.pairing.pairs ≤ c.loop-at.at = search rules in
-    no_other c.args.self.now.pairing.pairs c.args.pair c.loop-at.at past c.loop-at.invariant
+    inr (no_other c.args.self.now.pairing.pairs c.args.pair c.loop-at.at past c.loop-at.invariant)

@@ -1,0 +1,21 @@
+mod Worked
+pub mod CellsInTurn
+pub mod ChunkWalk
+pub mod Deferring
+pub mod Faults
+pub mod Grounds
+pub mod HomeNames
+pub mod HomeThere
+pub mod HomeWalks
+pub mod PartialHomes
+pub mod Parts
+pub mod PipeNames
+pub mod PipeStart
+pub mod Referents
+pub mod RootWalks
+pub mod SideRoots
+pub mod SideWalks
+pub mod SmallCells
+pub mod Starting
+pub mod TracedWhole
+pub mod WholeWalk

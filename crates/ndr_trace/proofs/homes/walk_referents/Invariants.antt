@@ -1,0 +1,11 @@
+use Rattle.nd_value.specs.Deferral.{Due, Placed_cells}
+use Rattle.std.proofs.Common.{List}
+use Rattle.nd_grammar.specs.Entry.{Entry}
+use Rattle.ndr_trace.specs.Homes.{IsAwaiting, IsPart}
+use Rattle.ndr_trace_value.specs.Tracing.{IsGround, Known}
+use Rattle.ndr_trace.proofs.homes.walk_referents.Given as goal
+
+abbrev pub invariant-loop-turn : goal.invariant-loop-turn
+invariant-loop-turn l =
+    (k : Known) → IsGround k l.fn.ground → IsPart k → (due : List Due) (rest : List Entry) (names : Placed_cells) → IsAwaiting k l.initial.walker due rest names
+    → IsAwaiting k l.walker due rest names

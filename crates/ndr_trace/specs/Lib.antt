@@ -1,0 +1,4 @@
+pub mod Examples
+pub mod Homes
+pub mod Chunks
+pub mod Sides

@@ -1,0 +1,3 @@
+pub mod Untested
+pub mod Due
+pub mod Counting

@@ -1,0 +1,4 @@
+pub mod Traces
+pub mod Tracing
+pub mod Naming
+pub mod Walking

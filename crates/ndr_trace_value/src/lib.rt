@@ -1,0 +1,17 @@
+//! Walks over the items of the value of a home, by the log of refused octets: a line for each item, and the path of what is refused.
+#![tactic(auto)]
+
+mod cells;
+mod members;
+mod nodes;
+mod parameters;
+mod progress;
+mod search;
+mod shapes;
+
+pub use cells::{Cells, Pending, come_to, new_cell};
+pub use members::{at_end, close, note_front};
+pub use nodes::{Walker, walk_level};
+pub use parameters::{RootSeen, agreement_tail, note_direct};
+pub use progress::{Ground, Halt, Progress, Spot, count, gap};
+pub use search::{Search, Sought, find_agreement};

@@ -1,0 +1,222 @@
+// The variables of parameters, where an agreement is sought.
+use crate::members::number_of;
+use crate::progress::Ground;
+use crate::search::{Search, Sought, speaks_of, stated_by};
+use nd_base::{Memory, Octets};
+use nd_flat::{FlatGraph, Seen, Walk};
+use nd_types::{AttrVar, Operation, Param, Side};
+use nd_value::{CellId, Home};
+
+/// A root that was read: its parameter, the number that it is, and the cell that it names.
+#[derive(Clone, Copy, Drop)]
+pub struct RootSeen {
+    pub param: Option<u32>,
+    pub number: Option<i128>,
+    pub cell: Option<CellId>,
+}
+
+impl RootSeen {
+    /// A root of this parameter, of which nothing is known yet.
+    pub fn of(param: Option<u32>) -> RootSeen {
+        RootSeen {
+            param,
+            number: None,
+            cell: None,
+        }
+    }
+}
+
+/// Notes what the own value of a home says.
+pub fn seen_home(search: &mut Search<'_>, home: Home, seen: &Seen<'_>) -> Result<(), Memory> {
+    match home {
+        Home::Root(_) => {
+            if let Some(root) = search.roots.last_mut() {
+                root.number = number_of(seen);
+                root.cell = seen.named_cell();
+            }
+            Ok(())
+        }
+        Home::Cell(cell) => seen_cell(search, cell, number_of(seen)),
+    }
+}
+
+/// Notes the cell that a top-level reference pointer names.
+pub fn note_direct(search: &mut Search<'_>, cell: CellId) {
+    if let Some(root) = search.roots.last_mut() {
+        root.cell = Some(cell);
+    }
+}
+
+// Notes the number that a cell is.
+fn seen_cell(search: &mut Search<'_>, cell: CellId, number: Option<i128>) -> Result<(), Memory> {
+    let at = cell.0 as usize;
+    for _cell in search.cell_numbers.len()..at {
+        let Ok(()) = search.cell_numbers.push(None) else {
+            return Err(Memory);
+        };
+    }
+    if at > 0
+        && let Some(place) = search.cell_numbers.get_mut(at - 1)
+    {
+        *place = number;
+    }
+    Ok(())
+}
+
+/// What follows the path of the item at a failed agreement: the steps to the value that disagrees, a blank, and the path of the variable that states
+/// the number.
+pub fn agreement_tail(
+    ground: &Ground<'_>,
+    search: &Search<'_>,
+    sought: Sought,
+) -> Result<Octets, Memory> {
+    let mut text = Octets::copy(ground.alloc, search.steps.as_slice())?;
+    text.append(b" ")?;
+    append_variable(ground, search, sought, &mut text)?;
+    Ok(text)
+}
+
+// Adds the path of the variable that states the number.
+fn append_variable(
+    ground: &Ground<'_>,
+    search: &Search<'_>,
+    sought: Sought,
+    text: &mut Octets,
+) -> Result<(), Memory> {
+    for stated in search.stated.as_slice() {
+        if stated.wanted == sought.wanted {
+            return text.append(stated.variable.as_slice());
+        }
+    }
+    append_parameter(ground, search, sought, text)
+}
+
+// Adds the name of the parameter that states the number.
+fn append_parameter(
+    ground: &Ground<'_>,
+    search: &Search<'_>,
+    sought: Sought,
+    text: &mut Octets,
+) -> Result<(), Memory> {
+    let Some(operation) = ground.interface.operations.get(ground.op as usize) else {
+        return Ok(());
+    };
+    for at in 0..search.roots.len() {
+        let root = search.roots[at];
+        if is_subject(at, root, sought)
+            && let Some(param) = root.param
+            && let Some(by) = attribute(parameter_at(operation, param), sought)
+            && states(ground, search, by, sought)
+            && let Some(variable) = operation.params.get(by.var as usize)
+        {
+            return text.append(variable.field.name.as_slice());
+        }
+    }
+    Ok(())
+}
+
+// A parameter by its number.
+fn parameter_at(operation: &Operation, param: u32) -> Option<&Param> {
+    operation.params.get(param as usize)
+}
+
+// Whether a variable states the number.
+fn states(ground: &Ground<'_>, search: &Search<'_>, by: AttrVar, sought: Sought) -> bool {
+    match value(ground, search, by) {
+        Some(value) => stated_by(by.attr, value) == sought.wanted,
+        None => false,
+    }
+}
+
+// The value of a variable.
+fn value(ground: &Ground<'_>, search: &Search<'_>, by: AttrVar) -> Option<i128> {
+    for root in search.roots.as_slice() {
+        if root.param == Some(by.var) {
+            return root_value(search, *root, by.star);
+        }
+    }
+    given_value(ground, by)
+}
+
+// The number that a root is, or with a star that in the cell that it names.
+fn root_value(search: &Search<'_>, root: RootSeen, star: bool) -> Option<i128> {
+    if !star {
+        return root.number;
+    }
+    let Some(cell) = root.cell else {
+        return None;
+    };
+    match search.cell_numbers.get((cell.0 as usize).saturating_sub(1)) {
+        Some(number) => *number,
+        None => None,
+    }
+}
+
+// The value of a variable that travels in the request alone.
+fn given_value(ground: &Ground<'_>, by: AttrVar) -> Option<i128> {
+    let Some(fit) = ground.given else {
+        return None;
+    };
+    let Some(_operation) = ground.interface.operations.get(ground.op as usize) else {
+        return None;
+    };
+    let mut at = 0;
+    for root in ground.interface.params(ground.op, Side::In) {
+        if root.param == Some(by.var) {
+            return number_in(fit.flat(), at, by.star);
+        }
+        at = at.saturating_add(1);
+    }
+    None
+}
+
+// Whether a root, or the cell that it names, is what is sought.
+fn is_subject(at: usize, root: RootSeen, sought: Sought) -> bool {
+    match sought.home {
+        Home::Root(other) => at == other as usize,
+        Home::Cell(cell) => root.cell == Some(cell),
+    }
+}
+
+// The attribute of a parameter that speaks of what is sought.
+fn attribute(param: Option<&Param>, sought: Sought) -> Option<AttrVar> {
+    let Some(param) = param else {
+        return None;
+    };
+    for at in 0..param.field.vars.len() {
+        if let Some(by) = param.field.vars.get(at)
+            && speaks_of(by.attr, sought.kind)
+        {
+            return Some(*by);
+        }
+    }
+    None
+}
+
+// The number that a root of a request is, or with a star that in the cell that it names.
+fn number_in(graph: &FlatGraph, root: usize, star: bool) -> Option<i128> {
+    if root >= graph.root_count() {
+        return None;
+    }
+    let first = first_of(graph.root_walk(root));
+    if !star {
+        return first.0;
+    }
+    let Some(cell) = first.1 else {
+        return None;
+    };
+    let at = (cell.0 as usize).saturating_sub(1);
+    if at >= graph.cell_count() {
+        return None;
+    }
+    first_of(graph.cell_walk(at)).0
+}
+
+// The number that the value of a walk is, and the cell that it names.
+fn first_of(walk: Walk<'_>) -> (Option<i128>, Option<CellId>) {
+    let mut walk = walk;
+    match walk.step() {
+        Some(seen) => (number_of(&seen), seen.named_cell()),
+        None => (None, None),
+    }
+}

@@ -1,0 +1,7 @@
+//! Tests of traces on worked octets.
+#![tactic(auto)]
+
+#[cfg(test)]
+mod interface;
+#[cfg(test)]
+mod tests;
