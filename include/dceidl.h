@@ -40,12 +40,85 @@ enum dceidl_status {
 };
 
 enum dceidl_kind {
-    DCEIDL_NO_FILE = 1,  /* a file that is due is not among those given */
-    DCEIDL_FILE = 2,     /* a file, at a line and column */
-    DCEIDL_OCTETS = 3,   /* octets, at a place */
-    DCEIDL_TEXT = 4,     /* a text, at a line and column */
-    DCEIDL_VALUE = 5,    /* a value of a text, whose path is in the line */
-    DCEIDL_TOO_LONG = 6  /* values, whose octets would be more than 67,108,864 */
+    DCEIDL_NO_FILE = 1,   /* a file that is due is not among those given */
+    DCEIDL_FILE = 2,      /* a file, at a line and column */
+    DCEIDL_OCTETS = 3,    /* octets, at a place */
+    DCEIDL_TEXT = 4,      /* a text, at a line and column */
+    DCEIDL_VALUE = 5,     /* a value, at a path */
+    DCEIDL_TOO_LONG = 6,  /* values, whose octets would be more than 67,108,864 */
+    DCEIDL_FRAGMENTS = 7, /* fragments, at a place */
+    DCEIDL_LABEL = 8      /* a format label */
+};
+
+/* Why: the hundreds are the kind. Where the kind says all, the reason is 0. */
+enum dceidl_reason {
+    /* a file (docs/IDL.md) */
+    DCEIDL_FILE_BAD_OCTET = 201,       /* an octet that cannot be there */
+    DCEIDL_FILE_OPEN_COMMENT = 202,    /* a comment without an end */
+    DCEIDL_FILE_OPEN_TEXT = 203,       /* a literal without its closing quote */
+    DCEIDL_FILE_LONG_NAME = 204,       /* a word of more than 31 octets */
+    DCEIDL_FILE_BAD_NUMBER = 205,      /* letters and digits that are no number */
+    DCEIDL_FILE_TOO_LONG = 206,        /* more than 1,048,576 octets */
+    DCEIDL_FILE_SYNTAX = 207,          /* no file of the language goes on so */
+    DCEIDL_FILE_DEEP = 208,            /* brackets or operators nested more than 64 deep */
+    DCEIDL_FILE_LEFT_OUT = 209,        /* a word of the language that the compiler leaves out; it is the name */
+    DCEIDL_FILE_UNKNOWN = 210,         /* an unknown name */
+    DCEIDL_FILE_TWICE = 211,           /* a name that is declared twice */
+    DCEIDL_FILE_IMPORT_CYCLE = 212,    /* files that import each other */
+    DCEIDL_FILE_TOO_MANY = 213,        /* the 65th file */
+    DCEIDL_FILE_OUT_OF_RANGE = 214,    /* a value of an expression out of range */
+    DCEIDL_FILE_ZERO_DIVISOR = 215,    /* a division by zero */
+    DCEIDL_FILE_NOT_CONSTANT = 216,    /* a name that is no integer constant */
+    DCEIDL_FILE_RULE = 217,            /* a rule that is broken; its number is set */
+    /* octets (docs/NDR.md) */
+    DCEIDL_OCTETS_TRUNCATED = 301,     /* they end too early */
+    DCEIDL_OCTETS_TOO_LONG = 302,      /* the values would end after octet 67,108,864 */
+    DCEIDL_OCTETS_ENUM_VALUE = 303,    /* no enumerator */
+    DCEIDL_OCTETS_PAST_BOUND = 304,    /* offset and actual count end past the maximum count */
+    DCEIDL_OCTETS_TEXT_OFFSET = 305,   /* the offset of a string is not 0 */
+    DCEIDL_OCTETS_TEXT_EMPTY = 306,    /* the actual count of a string is 0 */
+    DCEIDL_OCTETS_TEXT_UNENDED = 307,  /* the last element of a string is not zero */
+    DCEIDL_OCTETS_TEXT_ZERO = 308,     /* an earlier element of a string is zero */
+    DCEIDL_OCTETS_NO_ARM = 309,        /* a tag selects no arm */
+    DCEIDL_OCTETS_OTHER_TYPE = 310,    /* a full pointer's number names a referent of another type */
+    DCEIDL_OCTETS_DISAGREES = 311,     /* an attribute states another number: wanted and found are set */
+    /* a text (docs/TEXT.md) */
+    DCEIDL_TEXT_TOO_LONG = 401,        /* more than 536,870,912 octets */
+    DCEIDL_TEXT_BAD_TOKEN = 402,       /* no token begins here */
+    DCEIDL_TEXT_EXPECTED = 403,        /* another token is due here */
+    DCEIDL_TEXT_OTHER_NAME = 404,      /* another name is due here */
+    DCEIDL_TEXT_OUT_OF_ORDER = 405,    /* a cell that has not the next number */
+    DCEIDL_TEXT_UNNAMED = 406,         /* a cell that no pointer before it names */
+    /* a value (docs/TEXT.md) */
+    DCEIDL_VALUE_SHAPE = 501,          /* not the form of its type */
+    DCEIDL_VALUE_RANGE = 502,          /* a number or tag that is no value of its type */
+    DCEIDL_VALUE_NULL_REF = 503,       /* a reference pointer that is null */
+    DCEIDL_VALUE_NO_CELL = 504,        /* a pointer names a cell that is not there */
+    DCEIDL_VALUE_CELL_TYPE = 505,      /* a pointer names a cell of another type */
+    DCEIDL_VALUE_BOUND = 506,          /* counts that have not the form of the type */
+    DCEIDL_VALUE_ZERO = 507,           /* a text holds a zero octet */
+    DCEIDL_VALUE_NO_ARM = 508,         /* a tag selects no arm */
+    DCEIDL_VALUE_SHARED = 509,         /* two pointers name one cell, and not both are full */
+    DCEIDL_VALUE_UNREACHED = 510,      /* nothing that is reached names the cell */
+    DCEIDL_VALUE_DISAGREES = 511,      /* an attribute states another number: wanted and found are set */
+    /* fragments (C706, section 12.6) */
+    DCEIDL_FRAGMENTS_SHORT = 701,      /* the octets end before the next fragment is whole */
+    DCEIDL_FRAGMENTS_VERSION = 702,    /* the major version is not 5 */
+    DCEIDL_FRAGMENTS_KIND = 703,       /* another type of PDU */
+    DCEIDL_FRAGMENTS_FLAGS = 704,      /* the flag of a first fragment is not on the first alone */
+    DCEIDL_FRAGMENTS_LABEL = 705,      /* the format label is refused */
+    DCEIDL_FRAGMENTS_OTHER_ORDER = 706,     /* another order of octets than that of the first */
+    DCEIDL_FRAGMENTS_LENGTH = 707,     /* the fragment is shorter than its header */
+    DCEIDL_FRAGMENTS_AUTH = 708,       /* authentication data */
+    DCEIDL_FRAGMENTS_OTHER_CALL = 709, /* another call id than that of the first */
+    DCEIDL_FRAGMENTS_OTHER_OPERATION = 710, /* another operation than that of the first */
+    DCEIDL_FRAGMENTS_EMPTY = 711,      /* no stub data, and it is not the last */
+    DCEIDL_FRAGMENTS_STUB_LONG = 712,  /* more than 67,108,864 octets of stub data */
+    /* a format label (C706, section 14.1) */
+    DCEIDL_LABEL_BAD_ORDER = 801,      /* no known order of octets */
+    DCEIDL_LABEL_EBCDIC = 802,         /* EBCDIC */
+    DCEIDL_LABEL_BAD_CHARSET = 803,    /* no known characters */
+    DCEIDL_LABEL_TRUNCATED = 804       /* fewer than four octets */
 };
 
 enum dceidl_side { DCEIDL_IN = 0, DCEIDL_OUT = 1 };      /* request, response */
@@ -72,6 +145,32 @@ typedef struct {
     {                                                                                                                                                 \
         { NULL, 0 }                                                                                                                                   \
     }
+
+/* A number of 128 bits in two's complement: its lower 64 bits and its upper ones. Where it fits in 64 bits, (int64_t)low is the number. */
+typedef struct {
+    uint64_t low;
+    uint64_t high;
+} dceidl_number;
+
+/* Why a call was refused, in numbers. What does not apply is 0. */
+typedef struct {
+    uint32_t kind;   /* of enum dceidl_kind */
+    uint32_t reason; /* of enum dceidl_reason */
+    uint32_t rule;   /* the number of the rule of docs/IDL.md that a file breaks */
+    uint32_t place;  /* OCTETS, FRAGMENTS: the number of the octet that is refused, from 0 */
+    uint64_t line;   /* FILE, TEXT: the line and column, from 1, in octets */
+    uint64_t column;
+    dceidl_number wanted; /* DISAGREES: the number that an attribute states, and the one that was found, both signed */
+    dceidl_number found;  /* TOO_LONG: the most octets that are allowed, and how many they would be */
+} dceidl_cause;
+
+/* What the fragments of a call state for all of it. */
+typedef struct {
+    uint32_t order;     /* of enum dceidl_order */
+    uint32_t call;      /* the call id */
+    uint32_t operation; /* of a request; 0 of a response */
+    uint32_t taken;     /* how many octets the fragments have */
+} dceidl_call;
 
 /* A file in memory. */
 typedef struct {
@@ -146,14 +245,38 @@ uint32_t dceidl_text(dceidl_values *values, uint8_t *out, size_t room, size_t *l
    REFUSED: they would be more than 67,108,864. EMPTY; ARGUMENT: order, or chunk is 0; SHORT; MEMORY. */
 uint32_t dceidl_encode(dceidl_values *values, uint32_t order, uint32_t chunk, uint8_t *out, size_t room, size_t *length, dceidl_fault *fault);
 
+/* ---- Fragments and format labels ---- */
+
+/* Joins the fragments of a request or response (C706, section 12.6) that octets begin with: writes their stub data, sets their length and what the
+   fragments state. More octets may follow. Stub data are shorter than their fragments, so a buffer as long as the octets is never too short.
+   REFUSED: the fault has the place in the octets, and the reason. ARGUMENT: side; SHORT; MEMORY. */
+uint32_t dceidl_join(uint32_t side, const uint8_t *octets, size_t length, uint8_t *out, size_t room, size_t *stub_length, dceidl_call *call,
+                     dceidl_fault *fault);
+
+/* Splits stub data into the fragments of a request or response, each but the last of `most` octets with its header of 24; writes these and sets their
+   length. Of a response the operation is not used. ARGUMENT: side, order, an operation of a request above 65,535, `most` below 1,024 or above 65,535,
+   or more than 67,108,864 octets of stub data; SHORT; MEMORY. */
+uint32_t dceidl_split(uint32_t side, uint32_t operation, uint32_t order, uint32_t call, uint32_t most, const uint8_t *stub, size_t stub_length,
+                      uint8_t *out, size_t room, size_t *length);
+
+/* Sets the order of octets that a format label (C706, section 14.1) states, the first four of these octets: values that come with one follow it, and are
+   decoded from the octets after these four. REFUSED; MEMORY. */
+uint32_t dceidl_label_order(const uint8_t *octets, size_t length, uint32_t *order, dceidl_fault *fault);
+
 /* ---- Faults ---- */
 
 /* Writes the line that the command would report, with its line feed, and sets its length. EMPTY, SHORT, MEMORY. */
 uint32_t dceidl_fault_line(dceidl_fault *fault, uint8_t *out, size_t room, size_t *length);
 
-/* What is refused, of enum dceidl_kind, and where. Where octets are refused: `place` is the number of the octet, from 0. Where files or a text are refused:
-   line and column, from 1, in octets. What does not apply is set to 0. EMPTY. */
-uint32_t dceidl_fault_place(dceidl_fault *fault, uint32_t *kind, uint64_t *place, uint64_t *line, uint64_t *column);
+/* Sets the numbers of the fault: what is refused, why and where. EMPTY. */
+uint32_t dceidl_fault_cause(dceidl_fault *fault, dceidl_cause *cause);
+
+/* Writes the name of the file that is refused or is not among those given, and sets its length; 0 where no file is. EMPTY, SHORT. */
+uint32_t dceidl_fault_file(dceidl_fault *fault, uint8_t *out, size_t room, size_t *length);
+
+/* Writes the name that belongs to the reason, and sets its length: a word or name of a file; the path of a value, as `a.b[3]` or `@2.n`. The length is 0
+   where there is none. EMPTY, SHORT. */
+uint32_t dceidl_fault_name(dceidl_fault *fault, uint8_t *out, size_t room, size_t *length);
 
 void dceidl_fault_free(dceidl_fault *fault);
 

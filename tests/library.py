@@ -1,11 +1,11 @@
 #!/usr/bin/env python3
 """Builds the library and tries it in programs in C, under valgrind and AddressSanitizer.
 
-    tests/library.py [--prefix FOLDER] [--copies COUNT] [examples|streams ..]
+    tests/library.py [--prefix FOLDER] [--copies COUNT] [examples|calls|streams ..]
 
-`examples` runs the program of README.md and those of examples/c, examples/python and examples/rust, and compares what they print. `streams` decodes the
-octets of tests/outside and mutated copies of them (tests/library/streams.c): COUNT copies of each under AddressSanitizer, 800 if it is left out, and a
-twentieth of these under valgrind. The library is built and installed in a folder of its own, or taken from FOLDER, as bin/dceidl-lib fills it.
+`examples` runs the program of README.md and those of examples/c, examples/python and examples/rust, and compares what they print. `calls` tries what
+tests/library/calls.c asks of faults, fragments and labels. `streams` decodes the octets of tests/outside and mutated copies of them
+(tests/library/streams.c): COUNT copies of each under AddressSanitizer, 800 if it is left out, and a twentieth of these under valgrind. The library is built and installed in a folder of its own, or taken from FOLDER, as bin/dceidl-lib fills it.
 
 It needs `cc`; what is missing besides is named and left out. The last line is `N passed, M failed, K left out`, and the status is 1 if one failed.
 """
@@ -90,6 +90,25 @@ def examples(run: Run) -> None:
     run.expect("examples/python/greet.py", [sys.executable, str(ROOT / "examples/python/greet.py"), f"{run.prefix}/lib/libdceidl.so.0"], GREET)
 
 
+def sanitized(run: Run, source: Path, counts: Sequence[str], wanted: Optional[str], given: str) -> None:
+    """A program in C under AddressSanitizer, with the first of the counts, and under valgrind, with the last."""
+    name = source.stem
+    made = run.compile(source, f"{name}-sanitized", SANITIZED)
+    if made:
+        run.expect(f"{name} under AddressSanitizer", [str(made), *counts[:1]], wanted, given)
+    if not shutil.which("valgrind"):
+        run.leave_out(f"{name} under valgrind", "valgrind")
+        return
+    made = run.compile(source, name, ["-g", "-O1"])
+    if made:
+        run.expect(f"{name} under valgrind", [*VALGRIND, str(made), *counts[-1:]], wanted, given)
+
+
+def calls(run: Run) -> None:
+    """The calls on faults, fragments and labels."""
+    sanitized(run, ROOT / "tests" / "library" / "calls.c", [], "", "")
+
+
 def stream_lines() -> List[str]:
     """The octets of tests/outside, a line each as streams.c reads them."""
     found = []
@@ -102,20 +121,11 @@ def stream_lines() -> List[str]:
 
 def streams(run: Run) -> None:
     """The octets of tests/outside and mutated copies of them."""
-    given = "".join(stream_lines())
-    source = ROOT / "tests" / "library" / "streams.c"
-    sanitized = run.compile(source, "sanitized", SANITIZED)
-    if sanitized:
-        run.expect("streams under AddressSanitizer", [str(sanitized), str(run.copies)], None, given)
-    if not shutil.which("valgrind"):
-        run.leave_out("streams under valgrind", "valgrind")
-        return
-    made = run.compile(source, "streams", ["-g", "-O1"])
-    if made:
-        run.expect("streams under valgrind", [*VALGRIND, str(made), str(run.copies // 20)], None, given)
+    counts = [str(run.copies), str(run.copies // 20)]
+    sanitized(run, ROOT / "tests" / "library" / "streams.c", counts, None, "".join(stream_lines()))
 
 
-PARTS: Dict[str, object] = {"examples": examples, "streams": streams}
+PARTS: Dict[str, object] = {"examples": examples, "calls": calls, "streams": streams}
 
 
 def main() -> int:

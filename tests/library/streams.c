@@ -67,9 +67,9 @@ static void decode(dceidl_interface *interface, uint32_t operation, uint32_t sid
     dceidl_values values = DCEIDL_NONE;
     dceidl_fault fault = DCEIDL_NONE;
     uint8_t line[256], *copy = malloc(length + 1);
-    uint64_t place, at_line, column;
+    dceidl_cause cause;
     size_t taken, written;
-    uint32_t status, kind;
+    uint32_t status;
     memcpy(copy, octets, length);
     status = dceidl_decode(interface, operation, side, order, copy, length, &values, &taken, &fault);
     if (status == DCEIDL_OK) {
@@ -78,8 +78,8 @@ static void decode(dceidl_interface *interface, uint32_t operation, uint32_t sid
         decoded_count++;
     } else {
         need(status == DCEIDL_REFUSED, "decode");
-        need(dceidl_fault_place(&fault, &kind, &place, &at_line, &column) == DCEIDL_OK && kind == DCEIDL_OCTETS
-                 && (place <= length || place == STREAM_LIMIT), "place");
+        need(dceidl_fault_cause(&fault, &cause) == DCEIDL_OK && cause.kind == DCEIDL_OCTETS && cause.reason / 100 == DCEIDL_OCTETS
+                 && (cause.place <= length || cause.place == STREAM_LIMIT), "cause");
         need(dceidl_fault_line(&fault, line, sizeof line, &written) == DCEIDL_OK && line[written - 1] == '\n', "line");
         refused_count++;
     }

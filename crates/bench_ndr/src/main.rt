@@ -6,14 +6,11 @@
 //! The words are the interface file, the number of the operation, and how many times the octets are decoded.
 #![tactic(auto)]
 
-ghost use Rattle.std.specs.Prelude.{◌<◌, length};
-
 mod measure;
 
 use command_compile::compile;
 use measure::{decoded, measured};
 use nd_base::{FolderFiles, InputSource, Octets, Source};
-use ndr_code::Plan;
 use ndr_plan::make;
 use std::{env, io};
 
@@ -26,38 +23,27 @@ const PIECE: usize = 33_500_000;
 
 fn main(rt: HostRuntime) -> io::Result<()> {
     let mut words = env::args(&rt)?.skip(1);
-    let idl = words.next();
-    let op = number(words.next());
-    let rounds = number(words.next());
-    match idl {
-        Some(idl) => measured_file(&rt, idl.as_str(), op, rounds),
-        None => Err(invalid()),
-    }
-}
-
-fn measured_file(rt: &HostRuntime, idl: &str, op: u32, rounds: u32) -> io::Result<()> {
-    let mut files = FolderFiles::new(rt);
-    let Ok(interface) = compile(rt.alloc(), idl, None, &mut files) else {
+    let Some(idl) = words.next() else {
+        return Err(invalid());
+    };
+    let mut files = FolderFiles::new(&rt);
+    let Ok(interface) = compile(rt.alloc(), idl.as_str(), None, &mut files) else {
         return Err(invalid());
     };
     let Ok(plan) = make(rt.alloc(), &interface) else {
-        return Err(out_of_memory());
+        return Err(io::Error::from(io::ErrorKind::OutOfMemory));
     };
+    let op = number(words.next());
+    let rounds = number(words.next());
     if op as usize >= interface.operations.len() {
         return Err(invalid());
     }
-    measured_plan(rt, &plan, op, rounds)
-}
-
-fn measured_plan(rt: &HostRuntime, plan: &Plan, op: u32, rounds: u32) -> io::Result<()>
-    requires known { op < length plan.now.tie.operations }
-{
     if rounds == 0 {
-        let _fit = decoded(rt, plan, op, &mut InputSource::new(rt.stdin()))?;
+        let _fit = decoded(&rt, &plan, op, &mut InputSource::new(rt.stdin()))?;
         return Ok(());
     }
-    let octets = input(rt)?;
-    measured(rt, plan, op, rounds, octets)
+    let octets = input(&rt)?;
+    measured(&rt, &plan, op, rounds, octets)
 }
 
 // The number that a word says; 0 where there is none.
@@ -81,7 +67,7 @@ fn input(rt: &HostRuntime) -> io::Result<Octets> {
             return Ok(octets);
         }
         if octets.append(&buf[..count]).is_err() {
-            return Err(out_of_memory());
+            return Err(io::Error::from(io::ErrorKind::OutOfMemory));
         }
     }
     Err(invalid())
@@ -89,8 +75,4 @@ fn input(rt: &HostRuntime) -> io::Result<Octets> {
 
 fn invalid() -> io::Error {
     io::Error::from(io::ErrorKind::InvalidInput)
-}
-
-fn out_of_memory() -> io::Error {
-    io::Error::from(io::ErrorKind::OutOfMemory)
 }

@@ -104,24 +104,15 @@ fn encode_once(
     let Ok(mut work) = Work::for_graph(rt.alloc(), plan, fit, 1) else {
         return Err(io::Error::from(io::ErrorKind::InvalidData));
     };
-    spent(rt, start, &mut least.prepare)?;
+    least.prepare = least.prepare.min(start.elapsed(rt)?);
     let mut out = vec![in rt.alloc(); 0u8; work.length() as usize]?;
     let start = Instant::now(rt)?;
     encode_with(&mut work, plan, fit, Order::Little, out.as_mut_slice());
-    spent(rt, start, &mut least.encode)?;
-    copy_once(rt, octets, out.as_mut_slice(), least)
-}
-
-// The time since a moment, if it is the least.
-fn spent(rt: &HostRuntime, start: Instant, least: &mut Duration) -> io::Result<()> {
-    *least = (*least).min(start.elapsed(rt)?);
-    Ok(())
-}
-
-fn copy_once(rt: &HostRuntime, octets: &[u8], to: &mut [u8], least: &mut Least) -> io::Result<()> {
+    least.encode = least.encode.min(start.elapsed(rt)?);
     let start = Instant::now(rt)?;
-    copy(octets, to);
-    spent(rt, start, &mut least.copy)
+    copy(octets, out.as_mut_slice());
+    least.copy = least.copy.min(start.elapsed(rt)?);
+    Ok(())
 }
 
 // Copies octets to where as many are.

@@ -2,3 +2,4 @@ pub mod Numbered
 pub mod Octets
 pub mod Texts
 pub mod Files
+pub mod Calls

@@ -43,6 +43,10 @@ number_of_side Out = 1
 abbrev pub order_numbered : ℕ → Option Order
 order_numbered n = if n == 0 then Some Little else (if n == 1 then Some Big else None)
 
+abbrev pub number_of_order : Order → ℕ
+number_of_order Little = 0
+number_of_order Big = 1
+
 -- these are the numbers of an operation and of a side, and this holds of both
 abbrev pub OfSide : Interface → ℕ → ℕ → (Operation → Side → Type 0) → Type 0
 OfSide i operation side P = IsSomeAnd (slice_get i.operations operation) (λ o. IsSomeAnd (side_numbered side) (P o))

@@ -1,5 +1,5 @@
 pub mod Answers
-pub mod Places
 pub mod Compiling
 pub mod Octets
 pub mod Texts
+pub mod Fragments

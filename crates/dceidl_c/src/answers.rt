@@ -28,8 +28,25 @@ pub(crate) const REFUSED: u32 = 5;
 /// No operation has that name.
 pub(crate) const ABSENT: u32 = 6;
 
-// Fills a handle.
+// Fills a handle. The box of a full one is kept.
 pub(crate) fn fill(alloc: Global, handle: &mut Handle, held: Held) -> u32
+    ensures known { result ≤ ABSENT }
+    ensures not_empty { result ≡ EMPTY → ⊥ }
+    ensures not_argument { result ≡ ARGUMENT → ⊥ }
+    ensures not_refused { result ≡ REFUSED → ⊥ }
+    ensures filled { result ≡ OK → handle.new.value ≡ Some held }
+    ensures kept { (result ≡ OK → ⊥) → handle.new.value ≡ handle.old.value }
+{
+    let Some(mut full) = handle.take(alloc) else {
+        return fill_empty(alloc, handle, held);
+    };
+    *full = held;
+    handle.put(alloc, full);
+    OK
+}
+
+// Fills a handle with a box of its own.
+fn fill_empty(alloc: Global, handle: &mut Handle, held: Held) -> u32
     ensures known { result ≤ ABSENT }
     ensures not_empty { result ≡ EMPTY → ⊥ }
     ensures not_argument { result ≡ ARGUMENT → ⊥ }
@@ -74,6 +91,7 @@ pub(crate) fn lay_out(octets: &[u8], out: &mut [u8], len: &mut usize) -> u32
     ensures known { result ≤ ABSENT }
     ensures not_empty { result ≡ EMPTY → ⊥ }
     ensures not_argument { result ≡ ARGUMENT → ⊥ }
+    ensures not_refused { result ≡ REFUSED → ⊥ }
     ensures len { len.new ≡ length octets.now }
     ensures done { result ≡ OK → take len.new out.new ≡ octets.now }
     ensures short { result ≡ SHORT → length out.old < len.new }

@@ -3,6 +3,7 @@
 
 mod answers;
 mod faults;
+mod fragments;
 mod interfaces;
 mod numbers;
 mod reading;

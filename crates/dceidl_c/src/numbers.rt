@@ -1,6 +1,6 @@
 // Sides and orders by their numbers.
 ghost use Rattle.std.specs.Prelude.{◌≡◌};
-ghost use Rattle.dceidl_c.specs.Answers.{side_numbered, order_numbered, number_of_side};
+ghost use Rattle.dceidl_c.specs.Answers.{side_numbered, order_numbered, number_of_side, number_of_order as order_number};
 
 use nd_base::Order;
 use nd_types::Side;
@@ -38,5 +38,15 @@ pub(crate) fn order_of(number: u32) -> Option<Order>
         Some(Order::Big)
     } else {
         None
+    }
+}
+
+// The number of an order.
+pub(crate) fn number_of_order(order: Order) -> u32
+    ensures { result ≡ order_number order }
+{
+    match order {
+        Order::Little => 0,
+        Order::Big => 1,
     }
 }

@@ -4,7 +4,7 @@
 #[cfg(test)]
 mod builder;
 #[cfg(test)]
-mod handmade;
+mod graphs;
 #[cfg(test)]
 mod interface;
 #[cfg(test)]

@@ -4,6 +4,4 @@
 #[cfg(test)]
 mod chain;
 #[cfg(test)]
-mod interface;
-#[cfg(test)]
 mod tests;

@@ -1,0 +1,3 @@
+pub mod Reasons
+pub mod Causes
+pub mod Names
