@@ -9,8 +9,6 @@ mod numbers;
 mod script;
 mod session;
 mod stock;
-#[cfg(test)]
-mod tests;
 
 pub use session::{SCRIPT_LIMIT, SessionFault, run_script};
 pub use stock::{Stock, StockOf};

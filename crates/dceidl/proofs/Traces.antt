@@ -16,7 +16,7 @@ use Rattle.command_refusals.specs.declared.refusal.Refusal.{Refusal}
 use Rattle.command_refusals.specs.declared.refusal.Refusal.TheVariants.{Memory, Absent, FileFailed, BadIdl, NoOperation, ReadFault, BadOctets, BadText, BadValue, TooLong, BadRequest, BadLabel}
 use Rattle.command_refusals.specs.declared.refusal.Refusal.TheVariants.{ShortLabel, TooFewEnds, EndFailed}
 use Rattle.command_refusals.specs.declared.refusal.Refusal.TheVariants.{BadPdu, NotCompatible, BadScript, LongScript}
-use Rattle.command_streams.specs.declared.outcome.Outcome.TheVariants.{Refused, Reported}
+use Rattle.command_streams.specs.declared.outcome.Outcome.TheVariants.{Reported}
 use Rattle.command_text.specs.Request.{HoldsNoRequest}
 use Rattle.command_trace.specs.declared.tracing.Stopped.{Stopped}
 use Rattle.command_trace.specs.Stopped.{AreLines, IsBeside, IsOther, IsStopped}
@@ -184,15 +184,6 @@ module _ (x : Seen) (c : Command) (h : Stopped) (b : IsStoppedCommand x c h) (st
     status_is = s;
     line_is = line_is (idl_of c) (op_of c) idl op line h.refusal a o l;
   })
-
-  pub refused : h.lines ≡ None → IsCommandOutcome x c (Refused status line)
-  refused is = record {
-    refusal = h.refusal;
-    cause = b.cause;
-    status_is = s;
-    line_is = line_is (idl_of c) (op_of c) idl op line h.refusal a o l;
-    untold = subst (IsAllBeside x c h.refusal) is b.beside;
-  }
 
 -- an answer at one list of ends
 pub at_ends : (x : EndsSeen → Seen) (c : Command) (answer : Result (List ℕ) Stopped) → IfOk answer (λ made. (e : EndsSeen) → IsMade (x e) c made) → (e : EndsSeen)

@@ -11,8 +11,6 @@ mod lexing;
 mod literals;
 mod numbers;
 mod runs;
-#[cfg(test)]
-mod tests;
 mod tokens;
 
 pub use lexing::lex;

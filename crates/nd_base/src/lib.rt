@@ -16,8 +16,6 @@ mod pieces;
 mod plain;
 mod pushing;
 mod real;
-#[cfg(test)]
-mod tests;
 pub mod text;
 
 pub use files::MemFiles;

@@ -13,8 +13,6 @@ mod rebuilt;
 mod records;
 mod renumbered;
 mod row;
-#[cfg(test)]
-mod tests;
 mod walk;
 
 pub use builder::Builder;

@@ -6,8 +6,6 @@ mod item;
 mod item_log;
 pub mod laws;
 mod misfit;
-#[cfg(test)]
-mod tests;
 mod value;
 
 pub use item::{Home, Item, ItemKind};

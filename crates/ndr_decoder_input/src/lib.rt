@@ -2,8 +2,6 @@
 #![tactic(auto)]
 
 mod intake;
-#[cfg(test)]
-mod tests;
 
 pub use intake::{Intake, IntakeFault};
 

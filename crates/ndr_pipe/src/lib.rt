@@ -7,8 +7,6 @@ mod end;
 mod ends;
 mod file_end;
 mod mem_end;
-#[cfg(test)]
-mod tests;
 
 pub use end::{EndFailed, PipeEnd};
 pub use ends::{Ends, PipeEnds};

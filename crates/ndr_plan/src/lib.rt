@@ -21,9 +21,6 @@ pub use ndr_code::{
 };
 pub use plan_lines::listing;
 
-#[cfg(test)]
-mod tests;
-
 /// The alignment of a type, by its number, which must be that of a type of the interface (C706, 14.2.2). It takes no memory.
 pub fn align_of(interface: &Interface, of: TypeId) -> u8
     requires { of.0 < length interface.now.types }

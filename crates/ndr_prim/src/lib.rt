@@ -7,8 +7,6 @@ mod label;
 pub mod laws;
 mod number;
 mod range;
-#[cfg(test)]
-mod tests;
 
 pub use context::{read_context, write_context};
 pub use label::{LabelFault, read_label};

@@ -3,7 +3,5 @@
 
 pub mod laws;
 mod referents;
-#[cfg(test)]
-mod tests;
 
 pub use referents::{RefFault, Referents};

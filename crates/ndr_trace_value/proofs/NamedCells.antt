@@ -127,9 +127,6 @@ module _ (k : Known) (u : Cells) (t n : ℕ) (names : Placed_cells) where
     has_number : Among k.full c
     has_number = i.named.0.1 refl
 
-    pub not_zero : n ≡ 0 → ⊥
-    not_zero e = let p = (i.is_numbering.in_range c has_number).0 in absurd (omega (arith, p, is, e))
-
     its_cell : (r : KnownNumber) → known n u.numbers ≡ Some r → r.cell.0 ≡ c
     its_cell r e =
         i.is_numbering.one_to_one r.cell.0 c (all_among (Among k.full) i.full r.cell.0 (i.numbers.among n r e) i.have_numbers) has_number (i.numbers.number n r e ∙ is)

@@ -6,8 +6,6 @@ mod joining;
 pub mod laws;
 mod pdu;
 mod splitting;
-#[cfg(test)]
-mod tests;
 
 pub use joining::join;
 pub use pdu::{Head, Joined, PduFault, PduReason, Wanted};

@@ -97,6 +97,17 @@ const EXPLAINED: Case = Case {
     ..DECODED
 };
 
+// The items before a gap that is cut short.
+const TRACED: Case = Case {
+    name: "trace",
+    words: &["trace", "add.idl", "-", "add", "in", "little"],
+    input: b"\x01\0\0\0\x02\0\0",
+    status: 1,
+    out: b"0 4 num a 1\n4 2 num b 2\n7 fault Truncated c\n",
+    notes: "refused: octets at 7: Truncated\n",
+    ..DECODED
+};
+
 // The summary of the sample.
 const SAMPLED: Case = Case {
     name: "no words",
@@ -122,25 +133,79 @@ const REFUSED: Case = Case {
     ..DECODED
 };
 
-fn run_case(alloc: Global, case: &Case) -> Result<Ran, Memory> {
+// A file.
+#[derive(Clone, Copy)]
+struct File {
+    name: &'static str,
+    content: &'static [u8],
+}
+
+const FILES: &[File] = &[
+    File {
+        name: "add.idl",
+        content: ADD_IDL,
+    },
+    File {
+        name: "importing.idl",
+        content: IMPORTING_IDL,
+    },
+    File {
+        name: "alone.idl",
+        content: ALONE_IDL,
+    },
+    File {
+        name: "add.acf",
+        content: ADD_ACF,
+    },
+];
+
+fn words_of(alloc: Global, given: &[&str]) -> Result<Words, Memory> {
     let mut words = Words::new(alloc);
-    for word in case.words {
+    for word in given {
         words.push(word)?;
     }
-    let mut files = MemFiles::new(alloc, case.failing_loads)?;
-    files.add("add.idl", ADD_IDL)?;
-    files.add("importing.idl", IMPORTING_IDL)?;
-    files.add("alone.idl", ALONE_IDL)?;
-    files.add("add.acf", ADD_ACF)?;
+    Ok(words)
+}
+
+fn files_of(alloc: Global, failing: &[u32]) -> Result<MemFiles, Memory> {
+    let mut files = MemFiles::new(alloc, failing)?;
+    for file in FILES {
+        files.add(file.name, file.content)?;
+    }
+    Ok(files)
+}
+
+// The outcome of a command line, without what else its contract says.
+fn status_of(
+    alloc: Global,
+    words: &Words,
+    files: &mut MemFiles,
+    input: &mut MemSource,
+    out: &mut MemSink,
+    notes: &mut MemSink,
+) -> Status {
+    let mut ends = PipeEnds::new(alloc);
+    run(alloc, words, files, input, out, notes, &mut ends)
+}
+
+fn run_over(
+    alloc: Global,
+    case: &Case,
+    words: &Words,
+    files: &mut MemFiles,
+) -> Result<Ran, Memory> {
     let piece = case.piece.max(1);
     let mut input = MemSource::new(alloc, case.input, piece, case.failing_fetches)?;
     let mut out = MemSink::new(alloc, case.room, case.failing_puts)?;
     let mut notes = MemSink::new(alloc, case.room, case.failing_notes)?;
-    let mut ends = PipeEnds::new(alloc);
-    let status = run(
-        alloc, &words, &mut files, &mut input, &mut out, &mut notes, &mut ends,
-    );
+    let status = status_of(alloc, words, files, &mut input, &mut out, &mut notes);
     Ok(Ran { status, out, notes })
+}
+
+fn run_case(alloc: Global, case: &Case) -> Result<Ran, Memory> {
+    let words = words_of(alloc, case.words)?;
+    let mut files = files_of(alloc, case.failing_loads)?;
+    run_over(alloc, case, &words, &mut files)
 }
 
 // Runs each case. A failure names its case.
@@ -158,52 +223,66 @@ fn expect_all(rt: &impl Abort, alloc: Global, cases: &[Case]) {
     }
 }
 
+const DONE: &[Case] = &[
+    DECODED,
+    ENCODED,
+    MIGRATED,
+    LISTED,
+    EXPLAINED,
+    TRACED,
+    Case {
+        name: "drain",
+        words: &["drain", "add.idl", "-", "add", "in", "little"],
+        ..DECODED
+    },
+    Case {
+        name: "label",
+        words: &["decode", "add.idl", "-", "add", "in", "label"],
+        input: b"\x10\0\0\0\x01\0\0\0\x02\0AA\x03\0\0\0\0\0\0\0",
+        ..DECODED
+    },
+    Case {
+        name: "encode with a label",
+        words: &["encode", "add.idl", "-", "add", "in", "label", "1"],
+        out: b"\x10\0\0\0\x01\0\0\0\x02\0\0\0\x03\0\0\0\0\0\0\0",
+        ..ENCODED
+    },
+    Case {
+        name: "call",
+        words: &["call", "add.idl", "-", "-"],
+        input: b"\x05\0\0\x03\x10\0\0\0\x28\0\0\0\x07\0\0\0\x10\0\0\0\0\0\0\0\x01\0\0\0\x02\0\0\0\x03\0\0\0\0\0\0\0",
+        out: b"call 7\nvalues 2\nop add in\na = 1\nb = 2\nc = 3\n",
+        ..DECODED
+    },
+    Case {
+        name: "wrap",
+        words: &["wrap", "add.idl", "-", "add", "in", "little", "7", "1024"],
+        out: b"\x05\0\0\x03\x10\0\0\0\x28\0\0\0\x07\0\0\0\x10\0\0\0\0\0\0\0\x01\0\0\0\x02\0\0\0\x03\0\0\0\0\0\0\0",
+        ..ENCODED
+    },
+    Case {
+        name: "compat",
+        words: &["compat", "add.idl", "-", "add.idl", "add.acf"],
+        out: b"compatible 2\n",
+        ..DECODED
+    },
+    SAMPLED,
+    NO_COMMAND,
+    Case {
+        name: "decode octet by octet",
+        piece: 1,
+        ..DECODED
+    },
+];
+
 #[test]
 fn commands_are_done(rt: HostRuntime) {
+    expect_all(&rt, rt.alloc(), DONE);
+}
+
+#[test]
+fn the_program_tells_of_itself(rt: HostRuntime) {
     let cases = [
-        DECODED,
-        ENCODED,
-        MIGRATED,
-        LISTED,
-        EXPLAINED,
-        Case {
-            name: "drain",
-            words: &["drain", "add.idl", "-", "add", "in", "little"],
-            ..DECODED
-        },
-        Case {
-            name: "label",
-            words: &["decode", "add.idl", "-", "add", "in", "label"],
-            input: b"\x10\0\0\0\x01\0\0\0\x02\0AA\x03\0\0\0\0\0\0\0",
-            ..DECODED
-        },
-        Case {
-            name: "encode with a label",
-            words: &["encode", "add.idl", "-", "add", "in", "label", "1"],
-            out: b"\x10\0\0\0\x01\0\0\0\x02\0\0\0\x03\0\0\0\0\0\0\0",
-            ..ENCODED
-        },
-        Case {
-            name: "call",
-            words: &["call", "add.idl", "-", "-"],
-            input: b"\x05\0\0\x03\x10\0\0\0\x28\0\0\0\x07\0\0\0\x10\0\0\0\0\0\0\0\x01\0\0\0\x02\0\0\0\x03\0\0\0\0\0\0\0",
-            out: b"call 7\nvalues 2\nop add in\na = 1\nb = 2\nc = 3\n",
-            ..DECODED
-        },
-        Case {
-            name: "wrap",
-            words: &["wrap", "add.idl", "-", "add", "in", "little", "7", "1024"],
-            out: b"\x05\0\0\x03\x10\0\0\0\x28\0\0\0\x07\0\0\0\x10\0\0\0\0\0\0\0\x01\0\0\0\x02\0\0\0\x03\0\0\0\0\0\0\0",
-            ..ENCODED
-        },
-        Case {
-            name: "compat",
-            words: &["compat", "add.idl", "-", "add.idl", "add.acf"],
-            out: b"compatible 2\n",
-            ..DECODED
-        },
-        SAMPLED,
-        NO_COMMAND,
         Case {
             name: "help",
             words: &["--help"],
@@ -216,150 +295,148 @@ fn commands_are_done(rt: HostRuntime) {
             out: VERSION.as_bytes(),
             ..DECODED
         },
-        Case {
-            name: "decode octet by octet",
-            piece: 1,
-            ..DECODED
-        },
     ];
     expect_all(&rt, rt.alloc(), &cases);
 }
+
+const LOADS: &[Case] = &[
+    Case {
+        name: "the main file does not exist",
+        words: &["decode", "none.idl", "-", "add", "in", "little"],
+        status: 7,
+        notes: "absent: none.idl\n",
+        ..REFUSED
+    },
+    Case {
+        name: "an import does not exist",
+        words: &["compile", "alone.idl", "add.acf"],
+        status: 7,
+        notes: "absent: none.idl\n",
+        ..REFUSED
+    },
+    Case {
+        name: "the attribute file does not exist",
+        words: &["encode", "add.idl", "none.acf", "add", "in", "little", "1"],
+        status: 7,
+        notes: "absent: none.acf\n",
+        ..REFUSED
+    },
+    Case {
+        name: "the main file fails",
+        failing_loads: &[1],
+        status: 9,
+        notes: "file fault: add.idl\n",
+        ..REFUSED
+    },
+    Case {
+        name: "an import fails",
+        words: &["decode", "importing.idl", "-", "f", "in", "little"],
+        failing_loads: &[2],
+        status: 9,
+        notes: "file fault: add.idl\n",
+        ..REFUSED
+    },
+    Case {
+        name: "the attribute file fails",
+        words: &["compile", "add.idl", "add.acf"],
+        failing_loads: &[2],
+        status: 9,
+        notes: "file fault: add.acf\n",
+        ..REFUSED
+    },
+    // Two loads are due, so the third is not asked for.
+    Case {
+        name: "no third load",
+        failing_loads: &[3],
+        ..LISTED
+    },
+];
 
 #[test]
 fn loads_fail(rt: HostRuntime) {
-    let cases = [
-        Case {
-            name: "the main file does not exist",
-            words: &["decode", "none.idl", "-", "add", "in", "little"],
-            status: 7,
-            notes: "absent: none.idl\n",
-            ..REFUSED
-        },
-        Case {
-            name: "an import does not exist",
-            words: &["compile", "alone.idl", "add.acf"],
-            status: 7,
-            notes: "absent: none.idl\n",
-            ..REFUSED
-        },
-        Case {
-            name: "the attribute file does not exist",
-            words: &["encode", "add.idl", "none.acf", "add", "in", "little", "1"],
-            status: 7,
-            notes: "absent: none.acf\n",
-            ..REFUSED
-        },
-        Case {
-            name: "the main file fails",
-            failing_loads: &[1],
-            status: 9,
-            notes: "file fault: add.idl\n",
-            ..REFUSED
-        },
-        Case {
-            name: "an import fails",
-            words: &["decode", "importing.idl", "-", "f", "in", "little"],
-            failing_loads: &[2],
-            status: 9,
-            notes: "file fault: add.idl\n",
-            ..REFUSED
-        },
-        Case {
-            name: "the attribute file fails",
-            words: &["compile", "add.idl", "add.acf"],
-            failing_loads: &[2],
-            status: 9,
-            notes: "file fault: add.acf\n",
-            ..REFUSED
-        },
-        // Two loads are due, so the third is not asked for.
-        Case {
-            name: "no third load",
-            failing_loads: &[3],
-            ..LISTED
-        },
-    ];
-    expect_all(&rt, rt.alloc(), &cases);
+    expect_all(&rt, rt.alloc(), LOADS);
 }
+
+const FETCHES: &[Case] = &[
+    Case {
+        name: "the first fetch fails",
+        failing_fetches: &[1],
+        status: 3,
+        notes: "read fault\n",
+        ..REFUSED
+    },
+    Case {
+        name: "a later fetch fails",
+        piece: 8,
+        failing_fetches: &[2],
+        status: 3,
+        notes: "read fault\n",
+        ..REFUSED
+    },
+    // The text before the fault would be refused.
+    Case {
+        name: "a fetch fails after a bad text",
+        words: &["encode", "add.idl", "-", "add", "in", "little", "1"],
+        input: b"value 1\nop",
+        piece: 8,
+        failing_fetches: &[2],
+        status: 3,
+        notes: "read fault\n",
+        ..REFUSED
+    },
+    Case {
+        name: "a listing does not read the input",
+        failing_fetches: &[1],
+        ..LISTED
+    },
+    Case {
+        name: "an unknown operation comes before the input",
+        words: &["decode", "add.idl", "-", "sub", "in", "little"],
+        failing_fetches: &[1],
+        status: 6,
+        notes: "idl add.idl: NoOperation sub\n",
+        ..REFUSED
+    },
+];
 
 #[test]
 fn fetches_fail(rt: HostRuntime) {
-    let cases = [
-        Case {
-            name: "the first fetch fails",
-            failing_fetches: &[1],
-            status: 3,
-            notes: "read fault\n",
-            ..REFUSED
-        },
-        Case {
-            name: "a later fetch fails",
-            piece: 8,
-            failing_fetches: &[2],
-            status: 3,
-            notes: "read fault\n",
-            ..REFUSED
-        },
-        // The text before the fault would be refused.
-        Case {
-            name: "a fetch fails after a bad text",
-            words: &["encode", "add.idl", "-", "add", "in", "little", "1"],
-            input: b"value 1\nop",
-            piece: 8,
-            failing_fetches: &[2],
-            status: 3,
-            notes: "read fault\n",
-            ..REFUSED
-        },
-        Case {
-            name: "a listing does not read the input",
-            failing_fetches: &[1],
-            ..LISTED
-        },
-        Case {
-            name: "an unknown operation comes before the input",
-            words: &["decode", "add.idl", "-", "sub", "in", "little"],
-            failing_fetches: &[1],
-            status: 6,
-            notes: "idl add.idl: NoOperation sub\n",
-            ..REFUSED
-        },
-    ];
-    expect_all(&rt, rt.alloc(), &cases);
+    expect_all(&rt, rt.alloc(), FETCHES);
 }
+
+const PUTS: &[Case] = &[
+    Case {
+        name: "out fails",
+        failing_puts: &[1],
+        status: 4,
+        notes: "write fault\n",
+        ..REFUSED
+    },
+    Case {
+        name: "out and notes fail",
+        failing_puts: &[1],
+        failing_notes: &[1],
+        status: 4,
+        ..REFUSED
+    },
+    Case {
+        name: "notes fail",
+        failing_notes: &[1],
+        status: 4,
+        notes: "",
+        ..NO_COMMAND
+    },
+    Case {
+        name: "out is full",
+        room: 12,
+        status: 4,
+        out: b"values 2\nop ",
+        notes: "write fault\n",
+        ..DECODED
+    },
+];
 
 #[test]
 fn puts_fail(rt: HostRuntime) {
-    let cases = [
-        Case {
-            name: "out fails",
-            failing_puts: &[1],
-            status: 4,
-            notes: "write fault\n",
-            ..REFUSED
-        },
-        Case {
-            name: "out and notes fail",
-            failing_puts: &[1],
-            failing_notes: &[1],
-            status: 4,
-            ..REFUSED
-        },
-        Case {
-            name: "notes fail",
-            failing_notes: &[1],
-            status: 4,
-            notes: "",
-            ..NO_COMMAND
-        },
-        Case {
-            name: "out is full",
-            room: 12,
-            status: 4,
-            out: b"values 2\nop ",
-            notes: "write fault\n",
-            ..DECODED
-        },
-    ];
-    expect_all(&rt, rt.alloc(), &cases);
+    expect_all(&rt, rt.alloc(), PUTS);
 }

@@ -4,8 +4,12 @@
 #[cfg(test)]
 mod builder;
 #[cfg(test)]
-mod graphs;
+mod handmade;
 #[cfg(test)]
 mod interface;
 #[cfg(test)]
+mod rows;
+#[cfg(test)]
 mod tests;
+#[cfg(test)]
+mod types;

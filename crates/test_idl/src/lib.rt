@@ -17,3 +17,5 @@ mod integers;
 mod listing;
 #[cfg(test)]
 mod parsing;
+#[cfg(test)]
+mod tokens;

@@ -4,8 +4,8 @@ ghost use Rattle.nd_value.specs.Conforms.{HasFewNodes};
 ghost use Rattle.nd_value.specs.Seen.{cell_of};
 ghost use Rattle.test_ndr.specs.Chain.{IsNode, AreNodes, to_first};
 
-use command_compile::compile;
-use nd_base::{MemFiles, Memory, Octets, Order, PlainSource, Steps, Uncounted};
+use crate::interface::interface;
+use nd_base::{Memory, Octets, Order, PlainSource, Steps, Uncounted};
 use nd_graph::{Cell, CellId, Cells, Fit, Graph, ItemLog, Val, Vals, fit, same};
 use nd_types::{Interface, Side, TypeId};
 use ndr_code::Plan;
@@ -82,16 +82,6 @@ fn cell(alloc: Global, at: u32, count: u32) -> Result<Cell, Memory>
     })
 }
 
-// The interface of the chain. It is out of memory too if the interface is not compiled.
-fn interface(alloc: Global) -> Result<Interface, Memory> {
-    let mut files = MemFiles::new(alloc, &[])?;
-    files.add("t.idl", IDL)?;
-    match compile(alloc, "t.idl", None, &mut files) {
-        Ok(interface) => Ok(interface),
-        Err(_) => Err(Memory),
-    }
-}
-
 // The octets of a graph, in little order; none if they are more than a stream may have.
 fn encoded(alloc: Global, plan: &Plan, fit: &Fit) -> Result<Octets, Memory>
     requires tied { plan.now.tie ≡ fit.now.interface }
@@ -156,7 +146,7 @@ fn is_kept(alloc: Global, plan: &Plan, fit: &Fit, size: usize) -> Result<bool, M
 
 // Whether a chain of so many cells takes so many octets, which are decoded to the same graph.
 fn comes_back(alloc: Global, count: u32, size: usize) -> Result<bool, Memory> {
-    let interface = interface(alloc)?;
+    let interface = interface(alloc, IDL)?;
     let plan = make(alloc, &interface)?;
     if interface.operations.len() == 0 {
         return Ok(false);

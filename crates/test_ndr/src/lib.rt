@@ -4,4 +4,10 @@
 #[cfg(test)]
 mod chain;
 #[cfg(test)]
+mod interface;
+#[cfg(test)]
+mod plans;
+#[cfg(test)]
+mod referents;
+#[cfg(test)]
 mod tests;

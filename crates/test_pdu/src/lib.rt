@@ -7,3 +7,5 @@ mod cuts;
 mod reasons;
 #[cfg(test)]
 mod streams;
+#[cfg(test)]
+mod whole;

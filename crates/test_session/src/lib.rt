@@ -6,4 +6,6 @@ mod full;
 #[cfg(test)]
 mod runs;
 #[cfg(test)]
+mod scripts;
+#[cfg(test)]
 mod tests;

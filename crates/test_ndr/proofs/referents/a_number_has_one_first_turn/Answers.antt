@@ -1,7 +1,7 @@
 use Rattle.std.proofs.Common.{ap, ◌∙◌}
 use Rattle.ndr_refs.specs.Naming.{cell_of}
 use Rattle.ndr_refs.proofs.Naming.{as_before, has_met, is_known}
-use Rattle.ndr_refs.proofs.tests.a_number_has_one_first_turn.Goals as goal
+use Rattle.test_ndr.proofs.referents.a_number_has_one_first_turn.Goals as goal
 
 pub turn-first-requires : goal.turn-first-requires
 turn-first-requires c d = record {

@@ -1,4 +1,5 @@
-use crate::{SessionFault, StockOf, run_script};
+// Scripts over resources in memory.
+use ctx_session::{SessionFault, StockOf, run_script};
 use ctx_store::{MemResource, Resource};
 use std::test::Fail;
 

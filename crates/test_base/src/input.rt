@@ -1,6 +1,6 @@
 // A stream that is cut into pieces of three octets.
-use crate::{Intake, IntakeFault};
 use nd_base::{MemSource, STREAM_LIMIT};
+use ndr_decoder_input::{Intake, IntakeFault};
 use std::test::Fail;
 
 #[test]

@@ -1,7 +1,7 @@
 // Each call once with ample memory.
-use crate::{RefFault, Referents};
 use nd_types::TypeId;
 use nd_value::CellId;
+use ndr_refs::{RefFault, Referents};
 use std::test::Fail;
 
 // void f([in, ptr] long *a, [in, ptr] short *b), where both pointers have the number 1: it stands for the long.

@@ -1,4 +1,5 @@
-use crate::{
+// Resources, and a store of them.
+use ctx_store::{
     FileResource, MemResource, OpenFault, Resource, ResourceFailed, Store, Unknown, UseFault,
 };
 use std::fs;
@@ -19,16 +20,16 @@ fn resources_in_memory_fail_at_listed_calls(rt: HostRuntime) -> Result<(), Fail>
 
 #[test]
 fn files_are_appended_to(rt: HostRuntime) -> Result<(), Fail> {
-    fs::write(&rt, "ctx_store_file_resource.tmp", b"1\n")?;
-    let name = String::from_str(rt.alloc(), "ctx_store_file_resource.tmp")?;
+    fs::write(&rt, "test_base_file_resource.tmp", b"1\n")?;
+    let name = String::from_str(rt.alloc(), "test_base_file_resource.tmp")?;
     let mut resource = FileResource::new(rt, name);
     assert_eq!(rt; resource.apply(b"2"), Ok(()));
     assert_eq!(rt; resource.apply(b""), Ok(()));
     assert_eq!(rt; resource.end(), Ok(()));
     assert!(rt; resource.lines() == None);
-    let octets = fs::read(&rt, "ctx_store_file_resource.tmp")?;
+    let octets = fs::read(&rt, "test_base_file_resource.tmp")?;
     assert_eq!(rt; octets.as_slice(), b"1\n2\n\n".as_slice());
-    fs::remove_file(&rt, "ctx_store_file_resource.tmp")?;
+    fs::remove_file(&rt, "test_base_file_resource.tmp")?;
     Ok(())
 }
 

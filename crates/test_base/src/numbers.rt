@@ -1,7 +1,9 @@
 // The octets are those of C706 sections 14.1 and 14.2, spelled by hand.
-use crate::{LabelFault, read_context, read_label, read_num, width_of, write_context, write_num};
 use nd_base::Order;
 use nd_types::Prim;
+use ndr_prim::{
+    LabelFault, read_context, read_label, read_num, width_of, write_context, write_num,
+};
 use uuid::Uuid;
 
 #[test]

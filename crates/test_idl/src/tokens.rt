@@ -1,5 +1,5 @@
 // What the tokens of a text are, by examples of the language.
-use crate::{TokenKind, lex, number_of};
+use idl_lexer::{TokenKind, lex, number_of};
 use std::alloc::Global;
 use std::process::Abort;
 use std::test::Fail;

@@ -1,6 +1,6 @@
 // A request of 16 octets of stub data, in one fragment and in two.
-use crate::{Head, PduFault, PduReason, Wanted, join, split};
 use nd_base::{MemSource, Order};
+use rpc_pdu::{Head, PduFault, PduReason, Wanted, join, split};
 use std::test::Fail;
 
 const STUB: [u8; 16] = [1, 0, 0, 0, 2, 0, 0, 0, 3, 0, 0, 0, 0, 0, 0, 0];

@@ -1,7 +1,7 @@
 // Each call once with ample memory.
-use crate::{ArmVal, Cell, CellId, Cells, Home, Item, ItemKind, ItemLog, Val, Vals};
 use nd_base::{Counted, Steps};
 use nd_types::TypeId;
+use nd_value::{ArmVal, Cell, CellId, Cells, Home, Item, ItemKind, ItemLog, Val, Vals};
 use std::test::Fail;
 
 fn is_number(val: Option<&Val>, number: i128) -> bool {

@@ -1,30 +1,14 @@
 // The alignments of the basic types, and the plan of an interface without operations.
-use crate::{align_of, listing, make};
-use nd_base::{Memory, Name};
-use nd_types::{Interface, Operations, TypeId, Types};
-use std::alloc::Global;
-use std::process::Abort;
+use crate::interface::interface;
+use nd_types::TypeId;
+use ndr_plan::{align_of, listing, make};
 use std::test::Fail;
 
-// [local] interface t { }
-#[tactic(auto, unfolding(nd_types::specs::Legal::is_shallow, nd_types::specs::Legal::element_count))]
-fn interface(alloc: Global) -> Result<Interface, Memory> {
-    let types = Types::basic(alloc)?;
-    let layouts = types.layouts(alloc)?;
-    Ok(Interface {
-        name: Name::copy(alloc, b"t")?,
-        uuid: None,
-        major: 0,
-        minor: 0,
-        types,
-        layouts,
-        operations: Operations::new(alloc),
-    })
-}
+const IDL: &[u8] = b"[local] interface t { const long C = 1; }";
 
 #[test]
 fn basic_types_are_aligned(rt: HostRuntime) -> Result<(), Fail> {
-    let interface = interface(rt.alloc())?;
+    let interface = interface(rt.alloc(), IDL)?;
     let wanted: [u8; 12] = [1, 1, 1, 1, 1, 2, 2, 4, 4, 8, 8, 4];
     for (of, align) in wanted.iter().enumerate() {
         let of = of as u32;
@@ -43,7 +27,7 @@ const BASIC: &[u8] = b"0 void\n1 ret\n2 num 0\n3 ret\n4 num 1\n5 ret\n6 num 2\n7
 
 #[test]
 fn basic_types_are_planned(rt: HostRuntime) -> Result<(), Fail> {
-    let interface = interface(rt.alloc())?;
+    let interface = interface(rt.alloc(), IDL)?;
     let plan = make(rt.alloc(), &interface)?;
     assert_eq!(rt; plan.code.len(), 33);
     let text = listing(rt.alloc(), &plan)?;
