@@ -47,7 +47,8 @@ enum dceidl_kind {
     DCEIDL_VALUE = 5,     /* a value, at a path */
     DCEIDL_TOO_LONG = 6,  /* values, whose octets would be more than 67,108,864 */
     DCEIDL_FRAGMENTS = 7, /* fragments, at a place */
-    DCEIDL_LABEL = 8      /* a format label */
+    DCEIDL_LABEL = 8,     /* a format label */
+    DCEIDL_NEWER = 9      /* a newer version of an interface */
 };
 
 /* Why: the hundreds are the kind. Where the kind says all, the reason is 0. */
@@ -118,7 +119,13 @@ enum dceidl_reason {
     DCEIDL_LABEL_BAD_ORDER = 801,      /* no known order of octets */
     DCEIDL_LABEL_EBCDIC = 802,         /* EBCDIC */
     DCEIDL_LABEL_BAD_CHARSET = 803,    /* no known characters */
-    DCEIDL_LABEL_TRUNCATED = 804       /* fewer than four octets */
+    DCEIDL_LABEL_TRUNCATED = 804,      /* fewer than four octets */
+    /* a newer version: wanted is of the older one, found of the newer */
+    DCEIDL_VERSION_OTHER_UUID = 901,   /* the UUIDs differ, or one is absent */
+    DCEIDL_VERSION_OTHER_MAJOR = 902,  /* the major versions differ */
+    DCEIDL_VERSION_OLDER_MINOR = 903,  /* the minor version is less */
+    DCEIDL_VERSION_FEWER = 904,        /* fewer operations */
+    DCEIDL_VERSION_DIFFERS = 905       /* an operation differs; it is the name */
 };
 
 enum dceidl_side { DCEIDL_IN = 0, DCEIDL_OUT = 1 };      /* request, response */
@@ -211,6 +218,10 @@ uint32_t dceidl_operation_number(dceidl_interface *interface, const uint8_t *nam
 /* Writes the name of an operation, without an end mark, and sets its length, at most 31. EMPTY; ARGUMENT: no such operation; SHORT. */
 uint32_t dceidl_operation_name(dceidl_interface *interface, uint32_t operation, uint8_t *out, size_t room, size_t *length);
 
+/* Compares two versions of an interface. OK: the newer one has all operations of the older, and octets of these represent the same values under both.
+   REFUSED: the fault has the first reason why not. EMPTY, MEMORY. */
+uint32_t dceidl_compare(dceidl_interface *older, dceidl_interface *newer, dceidl_fault *fault);
+
 /* ---- Values ---- */
 
 /* The values of a side of an operation that octets begin with; `taken` is how many octets these are. More may follow them. A response is judged beside no
@@ -275,8 +286,8 @@ uint32_t dceidl_fault_cause(dceidl_fault *fault, dceidl_cause *cause);
 /* Writes the name of the file that is refused or is not among those given, and sets its length; 0 where no file is. EMPTY, SHORT. */
 uint32_t dceidl_fault_file(dceidl_fault *fault, uint8_t *out, size_t room, size_t *length);
 
-/* Writes the name that belongs to the reason, and sets its length: a word or name of a file; the path of a value, as `a.b[3]` or `@2.n`. The length is 0
-   where there is none. EMPTY, SHORT. */
+/* Writes the name that belongs to the reason, and sets its length: a word or name of a file; the path of a value, as `a.b[3]` or `@2.n`; the operation
+   that differs. The length is 0 where there is none. EMPTY, SHORT. */
 uint32_t dceidl_fault_name(dceidl_fault *fault, uint8_t *out, size_t room, size_t *length);
 
 void dceidl_fault_free(dceidl_fault *fault);

@@ -1,4 +1,4 @@
-/* Tries the calls on faults, fragments and format labels, each answer of each: prints nothing, and ends with 0 if all are as they should be. */
+/* Tries the calls on faults, fragments, format labels and versions, each answer of each: prints nothing, and ends with 0 if all are as they should be. */
 #include "dceidl.h"
 
 #include <stdio.h>
@@ -107,6 +107,22 @@ static void labels(dceidl_fault *fault) {
     cause_of(fault, DCEIDL_LABEL, DCEIDL_LABEL_TRUNCATED, "");
 }
 
+static void versions(dceidl_interface *older, dceidl_fault *fault) {
+    dceidl_interface newer = DCEIDL_NONE;
+    dceidl_cause cause;
+    need(dceidl_compare(older, &newer, fault) == DCEIDL_EMPTY && dceidl_compare(&newer, older, fault) == DCEIDL_EMPTY, "no interface");
+    need(dceidl_interface_again(older, &newer) == DCEIDL_OK && dceidl_compare(older, &newer, fault) == DCEIDL_OK, "the same");
+    compile("[uuid(11111111-2222-3333-4444-555555555555), version(1.1)] interface t { void add([in] long a, [in] short b); }", &newer, fault);
+    need(dceidl_compare(older, &newer, fault) == DCEIDL_REFUSED, "older minor");
+    cause = cause_of(fault, DCEIDL_NEWER, DCEIDL_VERSION_OLDER_MINOR, "");
+    need(cause.wanted.low == 2 && cause.found.low == 1, "minor versions");
+    need(dceidl_compare(&newer, older, fault) == DCEIDL_OK, "compatible");
+    compile("[uuid(11111111-2222-3333-4444-555555555555), version(1.3)] interface t { void add([in] long a, [in] long b); void ping(); }", &newer, fault);
+    need(dceidl_compare(older, &newer, fault) == DCEIDL_REFUSED, "an operation");
+    cause_of(fault, DCEIDL_NEWER, DCEIDL_VERSION_DIFFERS, "add");
+    dceidl_interface_free(&newer);
+}
+
 int main(void) {
     dceidl_interface interface = DCEIDL_NONE;
     dceidl_fault fault = DCEIDL_NONE;
@@ -115,6 +131,7 @@ int main(void) {
     values(&interface, &fault);
     fragments(&fault);
     labels(&fault);
+    versions(&interface, &fault);
     dceidl_interface_free(&interface);
     dceidl_fault_free(&fault);
     return 0;

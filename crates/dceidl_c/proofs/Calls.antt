@@ -1,8 +1,9 @@
--- What is answered of fragments and of labels, from what the calls below answer.
+-- What is answered of fragments, of labels and of versions, from what the calls below answer.
 use Rattle.std.proofs.Common.{◌≡◌, ◌∙◌, ℕ, ◌<◌, ◌≤◌, List, length, Option, Some, None, Ok, Bool, true, false, ◌&&◌, is_some, nat_le, IsSomeAnd, IsOkAnd, refl, sym, ap, subst}
 use Rattle.std.proofs.lemmas.Bool.{lt-leb}
 use Rattle.nd_base.specs.declared.TheConstants.{STREAM_LIMIT}
 use Rattle.nd_base.specs.declared.octets.Order.{Order}
+use Rattle.nd_types.specs.declared.interface.Interface.{Interface}
 use Rattle.nd_types.specs.declared.types.Side.{Side}
 use Rattle.ndr_prim.specs.Label.{order_of_label}
 use Rattle.rpc_pdu.specs.declared.pdu.Head.{Head}
@@ -12,6 +13,7 @@ use Rattle.rpc_pdu.specs.Fragments as pdu
 use Rattle.rpc_pdu.specs.Pieces.{Pieces, want_of, opnum_of}
 use Rattle.command_refusals.specs.declared.refusal.Refusal.{Refusal}
 use Rattle.command_refusals.specs.declared.refusal.Refusal.TheVariants.{Memory}
+use Rattle.command_compat.specs.Compat.{IsRefusal}
 use Rattle.library_calls.specs.Fragments.{IsJoinedOf, IsFragmentsCause}
 use Rattle.library_calls.specs.Labels.{IsLabelCause}
 use Rattle.library_handles.specs.declared.held.Held.{Held}
@@ -19,6 +21,7 @@ use Rattle.dceidl_c.specs.declared.fragments.Call.{Call}
 use Rattle.dceidl_c.specs.Answers.{side_numbered, order_numbered, number_of_order, refusal_in}
 use Rattle.dceidl_c.specs.Fragments.{wanted_of, AreStated, AreJoined, IsJoin, HasStub, IsJoinRefusal, head_numbered, IsSplitOf, IsSplit, HasPieces, can_split}
 use Rattle.dceidl_c.specs.Fragments.{IsLabelOrder, IsLabelRefusal}
+use Rattle.dceidl_c.specs.Versions.{IsCompareRefusal}
 use Rattle.dceidl_c.proofs.Numbered.{there_and}
 
 -- ## Joining
@@ -100,3 +103,9 @@ label_is octets r order is same = subst (λ x. IsOkAnd x (λ y. order ≡ number
 pub label_refused : (octets : List ℕ) (e : Refusal) (held : Option Held) → IsLabelCause octets e → (e ≡ Memory → ⊥) → refusal_in held ≡ Some e
     → IsSomeAnd (refusal_in held) (λ x. IsLabelRefusal octets x)
 label_refused octets e held cause reason filled = there_and (refusal_in held) e (λ x. IsLabelRefusal octets x) filled (reason, cause)
+
+-- ## Versions
+
+pub compare_refused : (i j : Interface) (e : Refusal) (held : Option Held) → IsRefusal i j e → (e ≡ Memory → ⊥) → refusal_in held ≡ Some e
+    → IsSomeAnd (refusal_in held) (λ x. IsCompareRefusal i j x)
+compare_refused i j e held cause reason filled = there_and (refusal_in held) e (λ x. IsCompareRefusal i j x) filled (reason, cause)

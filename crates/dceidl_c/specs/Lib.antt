@@ -3,3 +3,4 @@ pub mod Compiling
 pub mod Octets
 pub mod Texts
 pub mod Fragments
+pub mod Versions

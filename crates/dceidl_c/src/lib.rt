@@ -7,4 +7,5 @@ mod fragments;
 mod interfaces;
 mod numbers;
 mod reading;
+mod versions;
 mod writing;
