@@ -23,6 +23,7 @@ from typing import Dict, List, Optional, Sequence
 ROOT = Path(__file__).resolve().parent.parent
 OUTSIDE = ROOT / "tests" / "outside"
 ADD = "values 2\nop add in\na = 1\nb = 2\n"
+TOTAL = "readme 10\n(none) -3\ndata 35\ntotal 42\n"
 GREET = 'values 2\nop greet in\nname = @1\n@1 = 4:"Ada"\n03000000\n'
 SANITIZED = ["-g", "-O1", "-fsanitize=address,undefined", "-fno-sanitize-recover=all"]
 VALGRIND = ["valgrind", "-q", "--leak-check=full", "--show-leak-kinds=all", "--error-exitcode=9"]
@@ -79,6 +80,9 @@ def examples(run: Run) -> None:
     made = run.compile(ROOT / "examples" / "c" / "greet.c", "greet")
     if made:
         run.expect("examples/c/greet.c", [str(made)], GREET)
+    made = run.compile(ROOT / "examples" / "c" / "total.c", "total")
+    if made:
+        run.expect("examples/c/total.c", [str(made)], TOTAL)
     if shutil.which("rustc"):
         made = run.folder / "greet-rust"
         words = ["rustc", "--edition", "2021", str(ROOT / "examples/rust/greet.rs"), "-L", f"{run.prefix}/lib", "-o", str(made)]

@@ -3,4 +3,7 @@ pub mod Compiling
 pub mod Octets
 pub mod Texts
 pub mod Fragments
+pub mod Nodes
+pub mod Items
+pub mod Types
 pub mod Versions
