@@ -36,7 +36,8 @@ enum dceidl_status {
     DCEIDL_MEMORY = 3,   /* out of memory */
     DCEIDL_SHORT = 4,    /* the buffer has too little room; the length that is needed is set */
     DCEIDL_REFUSED = 5,  /* the files, octets, text or values are refused; the fault says why */
-    DCEIDL_ABSENT = 6    /* no operation, root or member has that name */
+    DCEIDL_ABSENT = 6,   /* no operation, root or member has that name */
+    DCEIDL_WRONG_NODE = 7 /* a node of a listing is wrong; its number is set */
 };
 
 enum dceidl_kind {
@@ -359,6 +360,35 @@ uint32_t dceidl_node_bytes(dceidl_nodes *nodes, size_t number, uint8_t *out, siz
 /* Copies the octets of a string, without an end mark, or the 16 of the identifier of a context handle, and sets their length. EMPTY; ARGUMENT: no such
    node, or another one; SHORT. */
 uint32_t dceidl_node_octets(dceidl_nodes *nodes, size_t number, uint8_t *out, size_t room, size_t *length);
+
+/* Sets the type of a cell, by its number from 1; in constant time. EMPTY; ARGUMENT: no such cell. */
+uint32_t dceidl_cell_type(dceidl_values *values, uint32_t cell, uint32_t *type);
+
+/* ---- Listings ---- */
+
+/* Values that a program makes or changes are given as nodes, in the order in which values are read as nodes. What the calls above copy of values, node by
+   node, is their listing. Of each node the kind and the parts are looked at, and what applies to its kind. Cells are numbered from 1, in the order of `cells`. */
+typedef struct {
+    const dceidl_node *nodes; /* all nodes of the roots and then of the cells */
+    size_t node_count;
+    const uint64_t *numbers;  /* all elements of arrays and pipes that are numbers */
+    size_t number_count;
+    const uint8_t *octets;    /* the octets of all strings, without end marks, and of all identifiers of context handles */
+    size_t octet_count;
+    const uint32_t *cells;    /* the type of each cell */
+    size_t cell_count;
+} dceidl_listing;
+
+/* The values of a side of an operation that a listing says; it is read during the call only. A response is judged beside no request.
+   WRONG_NODE: `node` is the number of the first node that is wrong: with those before it, no listing of that side begins so. It is node_count where nodes are
+   missing, or numbers or octets are left. REFUSED: the fault has the path of the first value that does not conform. EMPTY; ARGUMENT: operation or side, or
+   more than 1,073,741,824 nodes, numbers or cells; MEMORY. */
+uint32_t dceidl_build(dceidl_interface *interface, uint32_t operation, uint32_t side, const dceidl_listing *listing, dceidl_values *values, size_t *node,
+                      dceidl_fault *fault);
+
+/* The same of the response to a request, judged beside it. WRONG_NODE; REFUSED; EMPTY; ARGUMENT: the values are not of a request, or more nodes, numbers or
+   cells; MEMORY. */
+uint32_t dceidl_build_response(dceidl_values *request, const dceidl_listing *listing, dceidl_values *values, size_t *node, dceidl_fault *fault);
 
 /* ---- Items ---- */
 

@@ -2,7 +2,7 @@
 
    A line is `IDL OPERATION SIDE ORDER OCTETS`: the path of an interface file, a name, `in` or `out`, `little` or `big`, hexadecimal digits. Each stream is
    decoded, and so are COPIES of it in which some octets are others. Octets that are decoded must come back from their text, and be encoded to octets that
-   are decoded to the same text. Then come the calls that a careless program makes. Prints how many were decoded and refused; the status is 1 at the
+   are decoded to the same text; and their values must come back from their nodes. Then come the calls that a careless program makes. Prints how many were decoded and refused; the status is 1 at the
    first call that answers what it may not. */
 #include "dceidl.h"
 
@@ -124,6 +124,78 @@ static void same_again(dceidl_interface *interface, uint32_t operation, uint32_t
     dceidl_values_free(&back);
 }
 
+/* The listing of values, in blocks of exactly their lengths. */
+static dceidl_listing listing_of(dceidl_values *values) {
+    dceidl_nodes nodes = DCEIDL_NONE;
+    dceidl_listing listing = {NULL, 0, NULL, 0, NULL, 0, NULL, 0};
+    dceidl_node *node, last;
+    uint64_t *numbers;
+    uint8_t *octets;
+    uint32_t *cells;
+    size_t roots, i, at = 0, from = 0, count;
+    need(dceidl_nodes_of(values, &nodes) == DCEIDL_OK && dceidl_home_counts(&nodes, &roots, &listing.cell_count) == DCEIDL_OK, "nodes to list");
+    while (dceidl_node_at(&nodes, listing.node_count, &last) == DCEIDL_OK) {
+        listing.node_count++;
+        listing.number_count += last.numbers;
+        listing.octet_count += last.length;
+    }
+    node = malloc(listing.node_count * sizeof *node + 1);
+    numbers = malloc(listing.number_count * sizeof *numbers + 1);
+    octets = malloc(listing.octet_count + 1);
+    cells = malloc(listing.cell_count * sizeof *cells + 1);
+    need(node && numbers && octets && cells, "memory");
+    for (i = 0; i < listing.node_count; i++) {
+        need(dceidl_node_at(&nodes, i, &node[i]) == DCEIDL_OK, "node to list");
+        if (node[i].numbers)
+            need(dceidl_node_numbers(&nodes, i, numbers + at, node[i].numbers, &count) == DCEIDL_OK, "numbers to list");
+        if (node[i].length)
+            need(dceidl_node_octets(&nodes, i, octets + from, node[i].length, &count) == DCEIDL_OK, "octets to list");
+        at += node[i].numbers;
+        from += node[i].length;
+    }
+    for (i = 0; i < listing.cell_count; i++)
+        need(dceidl_cell_type(values, (uint32_t)i + 1, &cells[i]) == DCEIDL_OK, "cell to list");
+    need(dceidl_cell_type(values, 0, &cells[0]) == DCEIDL_ARGUMENT || !listing.cell_count, "type of no cell");
+    listing.nodes = node;
+    listing.numbers = numbers;
+    listing.octets = octets;
+    listing.cells = cells;
+    dceidl_nodes_free(&nodes);
+    return listing;
+}
+
+/* Values that are built of their own listing are the same; with a node of another kind they are refused at that node. */
+static void built_again(dceidl_interface *interface, uint32_t operation, uint32_t side, uint32_t order, dceidl_values *values) {
+    dceidl_values built = DCEIDL_NONE;
+    dceidl_fault fault = DCEIDL_NONE;
+    dceidl_listing listing = listing_of(values);
+    dceidl_node *node = (dceidl_node *)listing.nodes;
+    size_t length, again, wrong, at;
+    uint8_t *octets = octets_of(values, order, &length), *other;
+    uint32_t kind;
+    need(dceidl_build(interface, operation, side, &listing, &built, &wrong, &fault) == DCEIDL_OK, "build");
+    other = octets_of(&built, order, &again);
+    need(again == length && memcmp(octets, other, length) == 0, "other octets are built");
+    need(dceidl_build(interface, operation, 2, &listing, &built, &wrong, &fault) == DCEIDL_ARGUMENT, "build of no side");
+    if (listing.node_count) {
+        at = drawn((uint32_t)listing.node_count);
+        kind = node[at].kind;
+        node[at].kind = kind % 8 + 1;
+        need(dceidl_build(interface, operation, side, &listing, &built, &wrong, &fault) == DCEIDL_WRONG_NODE && wrong == at, "a node of another kind");
+        node[at].kind = kind;
+        listing.node_count--;
+        need(dceidl_build(interface, operation, side, &listing, &built, &wrong, &fault) == DCEIDL_WRONG_NODE, "a node too few");
+    }
+    free((void *)listing.nodes);
+    free((void *)listing.numbers);
+    free((void *)listing.octets);
+    free((void *)listing.cells);
+    free(octets);
+    free(other);
+    dceidl_values_free(&built);
+    dceidl_fault_free(&fault);
+}
+
 /* The items of octets that are decoded: they follow each other to the end of the values. */
 static void add_up(dceidl_interface *interface, uint32_t operation, uint32_t side, uint32_t order, const uint8_t *octets, size_t length, size_t taken) {
     dceidl_items items = DCEIDL_NONE;
@@ -155,6 +227,7 @@ static void decode(dceidl_interface *interface, uint32_t operation, uint32_t sid
         need(taken <= length, "too many octets taken");
         same_again(interface, operation, side, order, &values);
         add_up(interface, operation, side, order, copy, length, taken);
+        built_again(interface, operation, side, order, &values);
         visit_all(&values);
         decoded_count++;
     } else {

@@ -6,3 +6,4 @@ pub mod Calls
 pub mod Logs
 pub mod Nodes
 pub mod Types
+pub mod Building

@@ -7,3 +7,4 @@ pub mod Nodes
 pub mod Items
 pub mod Types
 pub mod Versions
+pub mod Building

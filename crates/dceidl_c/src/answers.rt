@@ -28,6 +28,9 @@ pub(crate) const REFUSED: u32 = 5;
 /// No operation, root or member has that name.
 pub(crate) const ABSENT: u32 = 6;
 
+/// A node of a listing is wrong.
+pub(crate) const WRONG_NODE: u32 = 7;
+
 // Fills a handle. The box of a full one is kept.
 pub(crate) fn fill(alloc: Global, handle: &mut Handle, held: Held) -> u32
     ensures known { result ≤ ABSENT }

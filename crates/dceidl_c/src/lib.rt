@@ -2,6 +2,7 @@
 #![tactic(auto)]
 
 mod answers;
+mod building;
 mod faults;
 mod fragments;
 mod interfaces;

@@ -248,7 +248,7 @@ fn read(
 }
 
 // Fills a handle with values.
-fn fill_values(alloc: Global, made: Values, values: &mut Handle) -> u32
+pub(crate) fn fill_values(alloc: Global, made: Values, values: &mut Handle) -> u32
     ensures known { result ≤ ABSENT }
     ensures not_empty { result ≡ EMPTY → ⊥ }
     ensures not_argument { result ≡ ARGUMENT → ⊥ }

@@ -1,0 +1,5 @@
+mod Outcomes
+mod Lists
+mod Nodes
+mod Counts
+mod Graphs

@@ -1,0 +1,4 @@
+pub mod Left
+pub mod Said
+pub mod Steps
+pub mod Built

@@ -1,0 +1,18 @@
+//! Values that a program gives as a listing: their nodes, with the numbers and octets that belong to these.
+#![tactic(auto)]
+
+mod build;
+mod fault;
+mod forms;
+mod homes;
+mod listing;
+mod reader;
+mod stop;
+mod values;
+
+pub use build::{build, build_response};
+pub use fault::BuildFault;
+pub use listing::Listing;
+
+/// The most nodes, numbers and cells that a listing may have.
+pub const LISTING_LIMIT: usize = 1_073_741_824;
