@@ -24,6 +24,7 @@ ROOT = Path(__file__).resolve().parent.parent
 OUTSIDE = ROOT / "tests" / "outside"
 ADD = "values 2\nop add in\na = 1\nb = 2\n"
 TOTAL = "readme 10\n(none) -3\ndata 35\ntotal 42\n"
+MADE = "02000000020000000a000000000000000100000000000000fdffffffffffffff00000000070000000000000007000000726561646d6500\n"
 GREET = 'values 2\nop greet in\nname = @1\n@1 = 4:"Ada"\n03000000\n'
 SANITIZED = ["-g", "-O1", "-fsanitize=address,undefined", "-fno-sanitize-recover=all"]
 VALGRIND = ["valgrind", "-q", "--leak-check=full", "--show-leak-kinds=all", "--error-exitcode=9"]
@@ -83,6 +84,9 @@ def examples(run: Run) -> None:
     made = run.compile(ROOT / "examples" / "c" / "total.c", "total")
     if made:
         run.expect("examples/c/total.c", [str(made)], TOTAL)
+    made = run.compile(ROOT / "examples" / "c" / "make.c", "make")
+    if made:
+        run.expect("examples/c/make.c", [str(made)], MADE)
     if shutil.which("rustc"):
         made = run.folder / "greet-rust"
         words = ["rustc", "--edition", "2021", str(ROOT / "examples/rust/greet.rs"), "-L", f"{run.prefix}/lib", "-o", str(made)]

@@ -72,8 +72,8 @@ module _ (w : Setting) (l : Listing) where
       both m n vs cs a b ∙ ap (after fs) (over w.table n.nodes n.numbers n.octets xs zs os) ∙ ap Said (append-nil fs ∙ sym (flat_both vs (map (λ c. c.val) cs))) in
       record {
         nodes =
-          all ∙ ap (λ (ts : List Tree). Said (flat (trees (ts ++ map (λ c. c.val) cs)))) (sym roots_are)
-          ∙ ap (λ (ks : List Referent). Said (flat (trees (g.roots ++ map (λ c. c.val) ks)))) (sym cells_are);
+            all ∙ ap (λ (ts : List Tree). Said (flat (trees (ts ++ map (λ c. c.val) cs)))) (sym roots_are)
+            ∙ ap (λ (ks : List Referent). Said (flat (trees (g.roots ++ map (λ c. c.val) ks)))) (sym cells_are);
         root_count = ap (λ (ts : List Tree). length ts) roots_are ∙ a.count;
         cell_types = ap (λ (ks : List Referent). map (λ c. c.of) ks) cells_are ∙ b.types;
       }
@@ -92,8 +92,7 @@ pub within : (l : Listing) → has_too_many l ≡ false → (length l.nodes.now 
 within l e =
     let a : Bool = nat_lt LISTING_LIMIT (length l.nodes.now) in
     let b : Bool = nat_lt LISTING_LIMIT (length l.numbers.now) in
-    let c : Bool = nat_lt LISTING_LIMIT (length l.cells.now) in
-    (
+    let c : Bool = nat_lt LISTING_LIMIT (length l.cells.now) in (
       ltb-false 1073741824 (length l.nodes.now) (first_no a b (first_no (a || b) c e)),
       ltb-false 1073741824 (length l.numbers.now) (second_no a b (first_no (a || b) c e)),
       ltb-false 1073741824 (length l.cells.now) (second_no (a || b) c e),

@@ -80,10 +80,10 @@ pub plain_built : (table : Table) (test : Bool) (label : Label) (us zs os : List
 plain_built table test label us zs os l n ks yes many k =
     record {
       goes = λ ts.
-        ap (λ (b : Bool). going table (plain b label us zs os) l.nodes ts) yes
-        ∙ ap (after ((label, length us) ∷ [])) (k.goes ts)
-        ∙ after-after ((label, length us) ∷ []) (flat ks) (said table ts n)
-        ∙ ap (λ (fs : List Flat). after fs (said table ts n)) (own_flat label (length us) ks many);
+          ap (λ (b : Bool). going table (plain b label us zs os) l.nodes ts) yes
+          ∙ ap (after ((label, length us) ∷ [])) (k.goes ts)
+          ∙ after-after ((label, length us) ∷ []) (flat ks) (said table ts n)
+          ∙ ap (λ (fs : List Flat). after fs (said table ts n)) (own_flat label (length us) ks many);
       less = k.less;
     }
 
@@ -102,9 +102,9 @@ parts_built table test label us l n (Ok vs) yes a =
     plain_built table test label us l.numbers l.octets l n (trees vs) yes (count_trees vs ∙ a.count) a.come
 parts_built table test label us l n (Err e) yes h =
     λ ts. subst (IsStop e) (sym (ap (λ (b : Bool). going table (plain b label us l.numbers l.octets) l.nodes ts) yes)) (stopped e ts (h ts)) where
-  stopped : (e : Stop) (ts : List ℕ) → IsStop e (said table (us ++ ts) l) → IsStop e (after ((label, length us) ∷ []) (said table (us ++ ts) l))
-  stopped Memory ts h = tt
-  stopped (At k) ts h = ap (after ((label, length us) ∷ [])) h
+      stopped : (e : Stop) (ts : List ℕ) → IsStop e (said table (us ++ ts) l) → IsStop e (after ((label, length us) ∷ []) (said table (us ++ ts) l))
+      stopped Memory ts h = tt
+      stopped (At k) ts h = ap (after ((label, length us) ∷ [])) h
 
 -- a node with one part
 pub part_built : (table : Table) (test : Bool) (label : Label) (t : ℕ) (l n : Left) (v : Tree) (vs : List Tree) → test ≡ true → Comes table (t ∷ []) l (more v none) n
@@ -145,9 +145,9 @@ numeric_built table wide kind label x l n vs us yes enough us_are vs_are left_is
     ∙ ap (λ (ws : List Tree). (label, k) ∷ flat (trees ws)) (sym vs_are) ∙ own_flat label k (trees vs) many in
     record {
       goes = λ ts.
-        ap (λ (b : Bool). going table (numbered b wide label k l.numbers l.octets) l.nodes ts) yes
-        ∙ ap (λ (m : Left). after ((label, k) ∷ map (number_flat wide) (take k l.numbers)) (said table ts m)) (sym left_is)
-        ∙ ap (λ (fs : List Flat). after fs (said table ts n)) own;
+          ap (λ (b : Bool). going table (numbered b wide label k l.numbers l.octets) l.nodes ts) yes
+          ∙ ap (λ (m : Left). after ((label, k) ∷ map (number_flat wide) (take k l.numbers)) (said table ts m)) (sym left_is)
+          ∙ ap (λ (fs : List Flat). after fs (said table ts n)) own;
       less = subst (λ (m : Left). length m.nodes ≤ length l.nodes) (sym left_is) (omega arith);
     }
 

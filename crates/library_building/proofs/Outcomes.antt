@@ -40,11 +40,11 @@ pub one_more : (table : Table) (us : List ℕ) (t : ℕ) (l m n : Left) (vs : Li
 one_more table us t l m n vs v a b =
     record {
       goes = λ ts.
-        ap (λ (ws : List ℕ). said table ws l) (append_assoc us (t ∷ []) ts)
-        ∙ a.goes (t ∷ ts)
-        ∙ ap (after (flat (trees vs))) (b.goes ts)
-        ∙ after-after (flat (trees vs)) (flat (more v none)) (said table ts n)
-        ∙ ap (λ (fs : List Flat). after fs (said table ts n)) (sym (flat_both vs (v ∷ [])));
+          ap (λ (ws : List ℕ). said table ws l) (append_assoc us (t ∷ []) ts)
+          ∙ a.goes (t ∷ ts)
+          ∙ ap (after (flat (trees vs))) (b.goes ts)
+          ∙ after-after (flat (trees vs)) (flat (more v none)) (said table ts n)
+          ∙ ap (λ (fs : List Flat). after fs (said table ts n)) (sym (flat_both vs (v ∷ [])));
       less = omega (arith, a.less, b.less);
     }
 

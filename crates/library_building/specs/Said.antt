@@ -1,6 +1,7 @@
--- What the nodes of a listing say, of values whose types are due: a node says a value of the type that is due first, and then the types of its parts are
--- due before the others. So it is known of each node what type it is of, and where the first wrong one is.
--- `table` are the types of an interface, `d` is a type, `x` a node, `ts` are types that are due, `us` those of parts, `xs` nodes, `zs` numbers, `os` octets.
+-- What the nodes of a listing say of values whose types are due: a node says a value of the type that is due first, and then the types of its parts
+-- are due before the others. So the type of each node is known, and where the first wrong one is.
+-- `table` are the types of an interface, `d` is a type, `x` a node, `ts` are types that are due, `us` those of parts, `xs` nodes, `zs` numbers,
+-- `os` octets.
 use Rattle.std.specs.Prelude.{ℕ, suc, ◌-◌, ◌^◌, ℤ, pos, negsuc, Bool, true, false, ◌&&◌, eqb, leb, if◌then◌else◌, nat_lt}
 use Rattle.std.specs.Prelude.{List, [], ◌∷◌, ◌++◌, length, map, take, drop, replicate, Option, Some, None}
 use Rattle.nd_types.specs.declared.types.Arm.{Arm}

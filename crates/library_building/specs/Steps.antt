@@ -1,6 +1,6 @@
 -- What a call that reads values takes from a listing.
--- `table` are the types of an interface, `l` is what was left, `m` what is left, `ts` are types that are due, `us` those of values, `s` is what a node says,
--- `r` what a call answers.
+-- `table` are the types of an interface, `l` is what was left, `m` what is left, `ts` are types that are due, `us` those of values, `s` is what a
+-- node says, `r` what a call answers.
 use Rattle.std.specs.Prelude.{◌≡◌, ◌≤◌, ℕ, suc, List, [], ◌∷◌, ◌++◌, length, map, Option, Result, MatchResult, Bool, ⊤}
 use Rattle.nd_types.specs.Table.{Table}
 use Rattle.nd_value.specs.declared.value.Val.{Val}

@@ -13,12 +13,19 @@ use text_grammar::selected;
 
 /// The kinds of nodes, as [`Description`] has them.
 pub(crate) const NUMBER: u32 = 1;
+
 pub(crate) const STRUCT: u32 = 2;
+
 pub(crate) const ARRAY: u32 = 3;
+
 pub(crate) const STRING: u32 = 4;
+
 pub(crate) const UNION: u32 = 5;
+
 pub(crate) const POINTER: u32 = 6;
+
 pub(crate) const CONTEXT: u32 = 7;
+
 pub(crate) const PIPE: u32 = 8;
 
 // Whether a node is of a kind, and so many of its parts are nodes.

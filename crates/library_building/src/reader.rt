@@ -25,11 +25,7 @@ impl<'a> Model for Reader<'a> {
 
 impl<'a> Reader<'a> {
     // All of these.
-    pub(crate) fn of(
-        nodes: &'a [Description],
-        numbers: &'a [u64],
-        octets: &'a [u8],
-    ) -> Reader<'a>
+    pub(crate) fn of(nodes: &'a [Description], numbers: &'a [u64], octets: &'a [u8]) -> Reader<'a>
         ensures { result ≡ left nodes.now numbers.now octets.now }
     {
         Reader {

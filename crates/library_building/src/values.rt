@@ -5,7 +5,8 @@ ghost use Rattle.nd_types.specs.Table.{Table, type_at};
 ghost use Rattle.nd_value.specs.Seen.{tree_of};
 ghost use Rattle.nd_value.specs.Tree as tree;
 ghost use Rattle.nd_value.specs.Tree.{Label};
-ghost use Rattle.library_building.specs.Said.{has_form, is_pointer, is_context, is_wide, meant, cell_numbered, plain, numeric, elements, united, saying};
+ghost use Rattle.library_building.specs.Said.{has_form, is_pointer, is_context, is_wide, meant, cell_numbered};
+ghost use Rattle.library_building.specs.Said.{plain, numeric, elements, united, saying};
 ghost use Rattle.library_building.specs.Steps.{IsValue, AreValues, IsBuilt, AreBuilt, number_trees};
 ghost use Rattle.library_building.specs.declared.stop.Stop.TheVariants as stop;
 
@@ -59,7 +60,10 @@ fn by_type(
         TypeDef::Array { elem, .. } => array(alloc, types, *elem, node, reader),
         TypeDef::Text { .. } => string(alloc, node, reader),
         TypeDef::Union {
-            tag, arms, default, ..
+            tag,
+            arms,
+            default,
+            ..
         } => union(alloc, types, *tag, arms, default, node, reader),
         TypeDef::Pointer { .. } => pointer(node, reader),
         TypeDef::Context => context(node, reader),

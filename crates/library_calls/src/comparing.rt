@@ -11,8 +11,8 @@ use nd_base::Octets;
 use nd_types::Interface;
 use std::alloc::Global;
 
-/// Compares two versions of an interface. Where it answers Ok, the newer one has all operations of the older, and octets represent a graph that conforms
-/// to a side of an operation of the older exactly if they represent the same graph, and it conforms, under the newer.
+/// Compares two versions of an interface. Where it answers Ok, the newer one has all operations of the older, and octets represent a graph that
+/// conforms to a side of an operation of the older exactly if they represent the same graph, and it conforms, under the newer.
 ///
 /// # Errors
 /// NotCompatible, for the first reason in this order: the UUIDs differ or one is absent; the major versions differ; the minor version of the newer is
