@@ -125,7 +125,8 @@ fn find_member(
     ensures absent { result ≡ ABSENT → HasNoMemberNamed compiled.now of name.now }
     ensures argument { result ≡ ARGUMENT → members_of (type_at compiled.now.types of) ≡ None }
 {
-    let Some(members) = members_in(&compiled.interface().types, of) else {
+    let interface = compiled.interface();
+    let Some(members) = members_in(&interface.types, of) else {
         return ARGUMENT;
     };
     match member_named(members, name) {
@@ -176,7 +177,8 @@ fn find_element(compiled: &Compiled, of: u32, part: &mut u32) -> u32
     ensures found { result ≡ OK → element_of (type_at compiled.now.types of) ≡ Some part.new }
     ensures argument { result ≡ ARGUMENT → element_of (type_at compiled.now.types of) ≡ None }
 {
-    match element_type(&compiled.interface().types, TypeId(of)) {
+    let interface = compiled.interface();
+    match element_type(&interface.types, TypeId(of)) {
         Some(found) => {
             *part = found.0;
             OK

@@ -1,15 +1,14 @@
 -- The nodes of several values are added, one after the other.
 -- `a`, `b`, `c` are lists of nodes one after the other, `ss` are numbers of nodes, `ts` and `us` trees.
-use Rattle.std.proofs.Common.{◌≡◌, ℕ, zero, suc, ◌+◌, ◌<◌, List, [], ◌∷◌, ◌++◌, map, length, take, drop, refl, ap, ap₂, sym, ◌∙◌, append_assoc, subst}
+use Rattle.std.proofs.Common.{◌≡◌, ℕ, suc, ◌+◌, ◌<◌, List, [], ◌∷◌, ◌++◌, map, length, take, drop, refl, ap, ap₂, sym, ◌∙◌, append_assoc, subst}
 use Rattle.std.proofs.lemmas.List.{append-nil, map-append}
 use Rattle.nd_value.specs.declared.value.Graph.{Graph}
 use Rattle.nd_value.specs.Setting.{root_at, cell_at, or_unread, cell_tree}
-use Rattle.nd_value.specs.Tree.{Flat, Tree, Referent, flat, more, none}
+use Rattle.nd_value.specs.Tree.{Tree, Referent, flat, more, none}
 use Rattle.nd_lemmas.proofs.Lists.{item_at, take_next}
 use Rattle.library_nodes.specs.declared.node.Node.{Node}
 use Rattle.library_nodes.specs.declared.nodes.NodeList.{NodeList}
 use Rattle.library_nodes.specs.declared.nodes.Nodes.{Nodes}
-use Rattle.library_nodes.specs.Low.{low_flats}
 use Rattle.library_nodes.specs.Said.{flats_said, SaysFirst}
 use Rattle.library_nodes.specs.Listed.{ArePaired, Begins, IsListOf, home_trees}
 use Rattle.library_nodes.specs.Laying.{Grows, Adds, BeginsEver, AddsHomes}

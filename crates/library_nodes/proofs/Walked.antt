@@ -1,12 +1,12 @@
 -- A walk whose nodes are added one by one.
 -- `old` and `now` are what is left of it, `a` and `b` lists of nodes, `o` is the node that is open.
-use Rattle.std.proofs.Common.{◌≡◌, ℕ, List, [], ◌∷◌, ◌++◌, Option, None, refl, ap, sym, ◌∙◌, append_assoc, subst}
+use Rattle.std.proofs.Common.{◌≡◌, List, [], ◌∷◌, ◌++◌, Option, None, refl, ap, sym, ◌∙◌, append_assoc, subst}
 use Rattle.std.proofs.lemmas.List.{append-nil}
 use Rattle.nd_value.specs.Tree.{Flat, Trees, flat, none}
 use Rattle.library_nodes.specs.declared.node.Node.{Node}
 use Rattle.library_nodes.specs.declared.nodes.NodeList.{NodeList}
 use Rattle.library_nodes.specs.Laying.{Adds, AddsOpen}
-use Rattle.library_nodes.proofs.Adding.{open_none, closed}
+use Rattle.library_nodes.proofs.Adding.{open_none}
 
 -- the first nodes of a walk are added, and the others are left
 pub record Walks (old : List Flat) (a : NodeList) (now : List Flat) (b : NodeList) (o : Option Node) : Type 0 where

@@ -1,9 +1,9 @@
 -- The parts of nodes by their numbers.
 -- `n` is a node, `ns` are nodes, `s` is the number of a node, `k` how many values.
-use Rattle.std.specs.Prelude.{◌≡◌, ◌≤◌, ℕ, zero, suc, ◌+◌, ◌-◌, Bool, true, false, List, [], ◌∷◌, length, drop, Option, Some, None, nat_lt}
+use Rattle.std.specs.Prelude.{◌≡◌, ◌≤◌, ℕ, zero, suc, ◌+◌, ◌-◌, Bool, false, List, [], ◌∷◌, length, drop, Option, Some, None, nat_lt}
 use Rattle.nd_flat.specs.FlatForm.{armed_count}
 use Rattle.library_nodes.specs.declared.node.Node.{Node}
-use Rattle.library_nodes.specs.declared.node.Node.TheVariants.{Number, Struct, Array, Text, Union, Pointer, Context, Pipe}
+use Rattle.library_nodes.specs.declared.node.Node.TheVariants.{Struct, Array, Union, Pipe}
 
 -- how many parts of a node are nodes: members, elements that are no numbers, the value of an arm
 abbrev pub part_count : Node → ℕ

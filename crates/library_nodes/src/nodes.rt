@@ -1,5 +1,5 @@
 // The nodes of all values of a graph.
-ghost use Rattle.std.specs.Prelude.{◌≡◌, ◌+◌, [], length, IfOk};
+ghost use Rattle.std.specs.Prelude.{◌≡◌, ◌+◌, [], IfOk};
 ghost use Rattle.std.specs.List.{slice_get};
 ghost use Rattle.library_nodes.specs.Listed.{IsListOf, root_start, cell_start};
 

@@ -75,6 +75,13 @@ impl Values {
         &self.compiled
     }
 
+    /// The same, as it is shared. Takes no memory.
+    pub fn shared(&self) -> &Arc<Compiled>
+        ensures { arc_value result.now ≡ self.now.interface }
+    {
+        &self.compiled
+    }
+
     /// The values as a fit. Takes no memory.
     pub fn fit(&self) -> &Fit
         ensures { result.now ≡ self.now }

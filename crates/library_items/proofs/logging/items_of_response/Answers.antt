@@ -1,7 +1,7 @@
 use Rattle.std.proofs.Common.{◌≡◌, ◌∙◌, Some, IfOk, IfErr, ap, sym, subst}
 use Rattle.std.specs.List.{slice_get}
 use Rattle.nd_types.specs.declared.types.Operation.{Operation}
-use Rattle.nd_types.specs.declared.types.Side.TheVariants.{In, Out}
+use Rattle.nd_types.specs.declared.types.Side.TheVariants.{Out}
 use Rattle.nd_value.specs.Fitting.{Fitting, setting_beside}
 use Rattle.library_values.specs.Decoded.{IsOctetsCause}
 use Rattle.library_items.specs.Logged.{IsLoggedOf}

@@ -1,4 +1,4 @@
-use Rattle.std.proofs.Common.{◌<◌, ℕ, length, sym, subst, option_map}
+use Rattle.std.proofs.Common.{◌<◌, length, sym, subst, option_map}
 use Rattle.nd_types.specs.declared.interface.Interface.{Interface}
 use Rattle.nd_value.specs.Request.{IsRequestOf}
 use Rattle.library_items.proofs.logging.log_beside.Goals as goal
