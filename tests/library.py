@@ -4,10 +4,10 @@
     tests/library.py [--prefix FOLDER] [--copies COUNT] [examples|calls|streams ..]
 
 `examples` runs the program of README.md and those of examples/c, examples/python and examples/rust, and compares what they print. `calls` tries what
-tests/library/calls.c asks of faults, fragments, labels and versions, and tests/library/nodes.c of types, nodes and items. `streams` decodes the octets
-of tests/outside and mutated copies of them (tests/library/streams.c), and reads the values by their nodes and items: COUNT copies of each under
-AddressSanitizer, 800 if it is left out, and a twentieth of these under valgrind. The library is built and installed in a folder of its own, or taken
-from FOLDER, as bin/dceidl-lib fills it.
+tests/library/calls.c asks of faults, fragments, labels, versions and listings, and tests/library/nodes.c of types, nodes and items. `streams` decodes
+the octets of tests/outside and mutated copies of them (tests/library/streams.c), reads the values by their nodes and items, and builds them of their
+nodes: COUNT copies of each under AddressSanitizer, 800 if it is left out, and a twentieth of these under valgrind. The library is built and installed
+in a folder of its own, or taken from FOLDER, as bin/dceidl-lib fills it.
 
 It needs `cc`; what is missing besides is named and left out. The last line is `N passed, M failed, K left out`, and the status is 1 if one failed.
 """
@@ -115,7 +115,7 @@ def sanitized(run: Run, source: Path, counts: Sequence[str], wanted: Optional[st
 
 
 def calls(run: Run) -> None:
-    """The calls on faults, fragments, labels and versions, and on types, nodes and items."""
+    """The calls on faults, fragments, labels, versions and listings, and on types, nodes and items."""
     for name in ("calls.c", "nodes.c"):
         sanitized(run, ROOT / "tests" / "library" / name, [], "", "")
 

@@ -1,4 +1,4 @@
-/* Tries the calls on faults, fragments, format labels and versions, each answer of each: prints nothing, and ends with 0 if all are as they should be. */
+/* Tries the calls on faults, fragments, format labels, versions and listings, each answer of each: prints nothing, and ends with 0 if all are as they should be. */
 #include "dceidl.h"
 
 #include <stdio.h>
@@ -123,6 +123,63 @@ static void versions(dceidl_interface *older, dceidl_fault *fault) {
     dceidl_interface_free(&newer);
 }
 
+static const char COUNTED[] = "[local] interface t { unsigned hyper f([in] long n, [out, size_is(n)] long a[*]); }";
+
+/* Values that are made of nodes. */
+static void listings(dceidl_interface *interface, dceidl_fault *fault) {
+    static const uint8_t wanted[] = {5, 0, 0, 0, 0xfe, 0xff};
+    static const uint64_t numbers[] = {7, (uint64_t)-8, 9};
+    static const uint32_t cells[] = {0};
+    dceidl_node nodes[] = {{.kind = DCEIDL_NUMBER, .number = 5}, {.kind = DCEIDL_NUMBER, .number = (uint64_t)-2}};
+    dceidl_node reply[] = {{.kind = DCEIDL_ARRAY, .count = 2, .numbers = 2, .max = 2}, {.kind = DCEIDL_NUMBER, .number = UINT64_MAX}};
+    dceidl_listing listing = {nodes, 2, numbers, 0, wanted, 0, cells, 0};
+    dceidl_interface counted = DCEIDL_NONE;
+    dceidl_values request = DCEIDL_NONE, made = DCEIDL_NONE;
+    dceidl_cause cause;
+    uint8_t out[64];
+    size_t length, node = 9;
+    uint32_t type;
+    need(dceidl_build(interface, 0, DCEIDL_IN, &listing, &made, &node, fault) == DCEIDL_OK, "a request of nodes");
+    need(dceidl_encode(&made, DCEIDL_LITTLE, 1, out, sizeof out, &length, fault) == DCEIDL_OK && length == 6 && !memcmp(out, wanted, 6), "its octets");
+    need(dceidl_cell_type(&made, 1, &type) == DCEIDL_ARGUMENT && dceidl_cell_type(&request, 1, &type) == DCEIDL_EMPTY, "no cell");
+    nodes[1].number = 70000;
+    need(dceidl_build(interface, 0, DCEIDL_IN, &listing, &made, &node, fault) == DCEIDL_REFUSED, "no short in a node");
+    cause_of(fault, DCEIDL_VALUE, DCEIDL_VALUE_RANGE, "b");
+    nodes[1].kind = DCEIDL_STRUCT;
+    need(dceidl_build(interface, 0, DCEIDL_IN, &listing, &made, &node, fault) == DCEIDL_WRONG_NODE && node == 1, "a wrong node");
+    listing.node_count = 1;
+    need(dceidl_build(interface, 0, DCEIDL_IN, &listing, &made, &node, fault) == DCEIDL_WRONG_NODE && node == 1, "too few nodes");
+    nodes[1].kind = DCEIDL_NUMBER;
+    listing.node_count = 2;
+    listing.number_count = 1;
+    need(dceidl_build(interface, 0, DCEIDL_IN, &listing, &made, &node, fault) == DCEIDL_WRONG_NODE && node == 2, "a number that is left");
+    listing.number_count = 0;
+    listing.cell_count = 1;
+    need(dceidl_build(interface, 0, DCEIDL_IN, &listing, &made, &node, fault) == DCEIDL_WRONG_NODE && node == 2, "a cell that is not there");
+    need(dceidl_build(interface, 2, DCEIDL_IN, &listing, &made, &node, fault) == DCEIDL_ARGUMENT, "nodes of no operation");
+    need(dceidl_build(&counted, 0, DCEIDL_IN, &listing, &made, &node, fault) == DCEIDL_EMPTY, "nodes of no interface");
+    need(compile(COUNTED, &counted, fault) == DCEIDL_OK, "a count");
+    listing.cell_count = 0;
+    listing.node_count = 1;
+    nodes[0].number = 2;
+    need(dceidl_build(&counted, 0, DCEIDL_IN, &listing, &request, &node, fault) == DCEIDL_OK, "a count of nodes");
+    listing.nodes = reply;
+    listing.node_count = 2;
+    listing.number_count = 2;
+    need(dceidl_build_response(&request, &listing, &made, &node, fault) == DCEIDL_OK, "a response of nodes");
+    need(dceidl_text(&made, out, sizeof out, &length) == DCEIDL_OK && length > 20 && !memcmp(out + length - 21, "18446744073709551615\n", 21), "a wide number");
+    need(dceidl_build_response(&made, &listing, &request, &node, fault) == DCEIDL_ARGUMENT, "a response to a response");
+    reply[0].max = reply[0].count = reply[0].numbers = 3;
+    need(dceidl_build_response(&request, &listing, &made, &node, fault) == DCEIDL_WRONG_NODE && node == 0, "too few numbers");
+    listing.number_count = 3;
+    need(dceidl_build_response(&request, &listing, &made, &node, fault) == DCEIDL_REFUSED, "a count that disagrees in nodes");
+    cause = cause_of(fault, DCEIDL_VALUE, DCEIDL_VALUE_DISAGREES, "a");
+    need(cause.wanted.low == 2 && cause.found.low == 3, "wanted and found in nodes");
+    dceidl_interface_free(&counted);
+    dceidl_values_free(&request);
+    dceidl_values_free(&made);
+}
+
 int main(void) {
     dceidl_interface interface = DCEIDL_NONE;
     dceidl_fault fault = DCEIDL_NONE;
@@ -132,6 +189,7 @@ int main(void) {
     fragments(&fault);
     labels(&fault);
     versions(&interface, &fault);
+    listings(&interface, &fault);
     dceidl_interface_free(&interface);
     dceidl_fault_free(&fault);
     return 0;

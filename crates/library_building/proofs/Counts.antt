@@ -1,14 +1,14 @@
 -- How many nodes of values a listing says: at most as many as it has nodes and numbers.
 -- `table` are the types of an interface, `d` is a type, `x` a node, `xs` are nodes, `zs` numbers, `os` octets, `y` is what a node says, `fs` are nodes of values.
-use Rattle.std.proofs.Common.{◌≡◌, ◌∙◌, ◌≤◌, ◌<◌, ◌^◌, ℕ, zero, suc, ◌+◌, Bool, true, false, leb, ◌&&◌, List, [], ◌∷◌, ◌++◌, length, map, take, drop, replicate}
+use Rattle.std.proofs.Common.{◌≡◌, ◌∙◌, ◌≤◌, ◌<◌, ◌^◌, ℕ, zero, suc, ◌+◌, ℤ, Bool, true, false, leb, ◌&&◌, List, [], ◌∷◌, ◌++◌, length, map, take, drop, replicate}
 use Rattle.std.proofs.Common.{Option, Some, None, refl, sym, ap, subst, arith, length-append}
 use Rattle.std.specs.List.{AllByRecursion}
 use Rattle.std.proofs.lemmas.List.{take-append-drop}
 use Rattle.std.proofs.lemmas.Option.{same_Some}
+use Rattle.nd_types.specs.declared.types.Field.{Field}
 use Rattle.nd_types.specs.declared.types.TypeDef.{TypeDef}
 use Rattle.nd_types.specs.declared.types.TypeDef.TheVariants as def
-use Rattle.nd_types.specs.Table.{Table, type_at}
-use Rattle.nd_types.specs.Table.{selected}
+use Rattle.nd_types.specs.Table.{Table, type_at, selected}
 use Rattle.nd_value.specs.Conforms.{FewNodes}
 use Rattle.nd_value.specs.Nodes.{selected_types}
 use Rattle.nd_value.specs.Tree as tree
@@ -16,7 +16,8 @@ use Rattle.nd_value.specs.Tree.{Flat, Label, Tree, Trees, flat, more, node, node
 use Rattle.nd_lemmas.proofs.Lists.{length_map}
 use Rattle.library_nodes.specs.declared.description.Description.{Description}
 use Rattle.library_building.specs.Left.{Left}
-use Rattle.library_building.specs.Said.{Saying, Outcome, Said, Wrong, after, goes_on, no_more, at_end, said_from, said, saying, plain, numbered, elements_by, has_form, has_parts, has_numbers}
+use Rattle.library_building.specs.Said.{Saying, Outcome, Said, Wrong, after, goes_on, no_more, said_from, said, saying, plain, numbered, elements_by}
+use Rattle.library_building.specs.Said.{has_form, has_parts, has_numbers}
 use Rattle.library_building.specs.Said.{is_numeral, is_wide, is_pointer, is_context, meant, number_flat, cell_numbered}
 
 -- a node says itself and its numbers, of which it leaves the others
@@ -40,19 +41,21 @@ elements_few false wide kind elem label x zs os y e = plain_few (has_parts x kin
 
 saying_few : (table : Table) (d : Option TypeDef) (x : Description) (zs os : List ℕ) (y : Saying) → saying table d x zs os ≡ Some y
     → length y.flats + length y.numbers ≤ suc (length zs)
-saying_few table (Some (def.Prim p)) x zs os y e = plain_few _ _ [] zs os y e
-saying_few table (Some (def.Enum values)) x zs os y e = plain_few _ _ [] zs os y e
-saying_few table (Some (def.Struct members)) x zs os y e = plain_few _ _ (map (λ f. f.of.0) members) zs os y e
+saying_few table (Some (def.Prim p)) x zs os y e = plain_few (has_form x 1 0) (tree.Num (meant (is_wide (Some (def.Prim p))) x.number)) [] zs os y e
+saying_few table (Some (def.Enum values)) x zs os y e = plain_few (has_form x 1 0) (tree.Num (meant (is_wide (Some (def.Enum values))) x.number)) [] zs os y e
+saying_few table (Some (def.Struct members)) x zs os y e = plain_few (has_form x 2 (length members)) tree.Rec (map (λ (f : Field). f.of.0) members) zs os y e
 saying_few table (Some (def.Array elem bound varying)) x zs os y e =
     elements_few (is_numeral (type_at table elem.0)) (is_wide (type_at table elem.0)) 3 elem.0 (tree.Arr x.max x.offset) x zs os y e
-saying_few table (Some (def.Text elem bound)) x zs os y e = plain_few _ _ [] zs (drop x.length os) y e
+saying_few table (Some (def.Text elem bound)) x zs os y e =
+    plain_few (has_form x 4 0 && leb x.length (length os)) (tree.Text x.max (take x.length os)) [] zs (drop x.length os) y e
 saying_few table (Some (def.Union tag encapsulated arms default)) x zs os y e =
-    let z = meant (is_wide (type_at table tag.0)) x.number in
-    let us = selected_types (selected arms default z) in
+    let z : ℤ = meant (is_wide (type_at table tag.0)) x.number in
+    let us : List ℕ = selected_types (selected arms default z) in
     plain_few (has_form x 5 (length us)) (tree.Union z) us zs os y e
-saying_few table (Some (def.Pointer class to)) x zs os y e = plain_few _ _ [] zs os y e
-saying_few table (Some def.Context) x zs os y e = plain_few _ _ [] zs (drop 16 os) y e
-saying_few table (Some (def.Pipe elem)) x zs os y e = elements_few (is_numeral (type_at table elem.0)) (is_wide (type_at table elem.0)) 8 elem.0 tree.Pipe x zs os y e
+saying_few table (Some (def.Pointer class to)) x zs os y e = plain_few (is_pointer x) (tree.Ptr (cell_numbered x.number)) [] zs os y e
+saying_few table (Some def.Context) x zs os y e = plain_few (is_context x && leb 16 (length os)) (tree.Context x.number (take 16 os)) [] zs (drop 16 os) y e
+saying_few table (Some (def.Pipe elem)) x zs os y e =
+    elements_few (is_numeral (type_at table elem.0)) (is_wide (type_at table elem.0)) 8 elem.0 tree.Pipe x zs os y e
 saying_few table None x zs os y e = cc
 
 none_said : (ts zs os : List ℕ) (fs : List Flat) → no_more ts zs os ≡ Said fs → length fs ≤ 0 + length zs

@@ -52,7 +52,7 @@ get_replicate (suc n) (suc i) t h = get_replicate n i t (omega (arith, h))
 
 -- the cells of the first types were read
 pub record CellsCame (table : Table) (all : List ℕ) (i : ℕ) (l : Left) (cs : List Referent) (m : Left) : Type 0 where
-  pub come : Came table all i l (map (λ c. c.val) cs) m
+  pub come : Came table all i l (map (λ (d : Referent). d.val) cs) m
   pub types : map (λ c. c.of) cs ≡ take i all
 
 pub no_cells : (table : Table) (all : List ℕ) (l : Left) (cs : List Referent) → cs ≡ [] → CellsCame table all 0 l cs l
@@ -68,14 +68,14 @@ pub next_cell : (table : Table) (all : List ℕ) (i : ℕ) (l m n : Left) (cs ds
 next_cell table all i l m n cs ds c there a b e =
     subst (λ (xs : List Referent). CellsCame table all (i + 1) l xs n) (sym e)
     (record {
-      come = next_came table all i c.of l m n (map (λ d. d.val) cs) _ c.val there a.come b (map_push (λ d. d.val) cs c);
-      types = map_push (λ d. d.of) cs c ∙ ap (λ (us : List ℕ). us ++ c.of ∷ []) a.types ∙ sym (take_next all i c.of there);
+      come = next_came table all i c.of l m n (map (λ (d : Referent). d.val) cs) _ c.val there a.come b (map_push (λ (d : Referent). d.val) cs c);
+      types = map_push (λ (d : Referent). d.of) cs c ∙ ap (λ (us : List ℕ). us ++ c.of ∷ []) a.types ∙ sym (take_next all i c.of there);
     })
 
 pub all_cells : (table : Table) (all : List ℕ) (i : ℕ) (l m : Left) (cs : List Referent) → length all ≡ i → CellsCame table all i l cs m → AreCellsOf table all l cs m
 all_cells table all i l m cs e a =
     record {
-      come = (all_came table all i l m (map (λ c. c.val) cs) e a.come).come;
+      come = (all_came table all i l m (map (λ (d : Referent). d.val) cs) e a.come).come;
       types = a.types ∙ take_all i all (omega (arith, e));
     }
 

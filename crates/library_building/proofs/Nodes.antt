@@ -19,7 +19,7 @@ use Rattle.library_building.specs.Left.{Left, left, with_node}
 use Rattle.library_building.specs.Said.{Saying, Outcome, Said, Wrong, after, goes_on, said_from, said, saying, plain, numbered, numeric, elements_by, elements, united, armed}
 use Rattle.library_building.specs.Said.{has_form, has_parts, has_numbers, is_wide, is_numeral, meant, number_flat}
 use Rattle.library_building.specs.Steps.{IsStop, Comes, Stops, IsValue, AreOf, AreValues, going, Builds, Halts, IsBuilt, AreBuilt, number_trees}
-use Rattle.library_building.proofs.Outcomes.{after-after, none_come}
+use Rattle.library_building.proofs.Outcomes.{after-after, stop-after, none_come}
 
 -- ## Tests
 
@@ -101,10 +101,8 @@ pub parts_built : (table : Table) (test : Bool) (label : Label) (us : List ℕ) 
 parts_built table test label us l n (Ok vs) yes a =
     plain_built table test label us l.numbers l.octets l n (trees vs) yes (count_trees vs ∙ a.count) a.come
 parts_built table test label us l n (Err e) yes h =
-    λ ts. subst (IsStop e) (sym (ap (λ (b : Bool). going table (plain b label us l.numbers l.octets) l.nodes ts) yes)) (stopped e ts (h ts)) where
-      stopped : (e : Stop) (ts : List ℕ) → IsStop e (said table (us ++ ts) l) → IsStop e (after ((label, length us) ∷ []) (said table (us ++ ts) l))
-      stopped Memory ts h = tt
-      stopped (At k) ts h = ap (after ((label, length us) ∷ [])) h
+    λ ts. subst (IsStop e) (sym (ap (λ (b : Bool). going table (plain b label us l.numbers l.octets) l.nodes ts) yes))
+    (stop-after ((label, length us) ∷ []) e (said table (us ++ ts) l) (h ts))
 
 -- a node with one part
 pub part_built : (table : Table) (test : Bool) (label : Label) (t : ℕ) (l n : Left) (v : Tree) (vs : List Tree) → test ≡ true → Comes table (t ∷ []) l (more v none) n

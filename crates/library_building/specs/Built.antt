@@ -45,7 +45,7 @@ Says w l g = IsSaid w.table (root_types w) l g
 abbrev pub IsRead : Setting → Listing → Result Graph Stop → Type 0
 IsRead w l r = MatchResult r (Says w l) (λ e. IsStop e (said w.table (root_types w ++ l.cells.now) (whole l)))
 
--- this is the number of the first node that is wrong; it is how many nodes there are where they end too early, or numbers or octets are left
+-- This is the number of the first node that is wrong. It is how many nodes there are, where they end too early or numbers or octets are left.
 pub record IsWrong (w : Setting) (l : Listing) (node : ℕ) : Type 0 where
   pub rest : ℕ
   pub wrong : said w.table (root_types w ++ l.cells.now) (whole l) ≡ Wrong rest

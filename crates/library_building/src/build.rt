@@ -25,8 +25,8 @@ use std::sync::Arc;
 /// The values of a side of an operation that a listing says. `op` must be the number of an operation. A response is judged beside no request.
 ///
 /// # Errors
-/// TooMany; WrongNode, the first node that is wrong, where the listing says no graph of the side; Refused by BadValue, the path of the first misfit of
-/// the graph that it says, or by Memory where memory was refused.
+/// TooMany; WrongNode, the first node that is wrong, where the listing says no graph of the side; Refused by BadValue, the path of the first misfit
+/// of the graph that it says, or by Memory where memory was refused.
 ///
 /// Takes memory for the values. The time is in proportion to the listing.
 pub fn build(
@@ -46,7 +46,7 @@ pub fn build(
     build_beside(alloc, compiled, op, side, None, listing)
 }
 
-/// The values of the response to a request that a listing says, judged beside the request. The request must be one, the values of an input side.
+/// The values of the response to a request that a listing says, judged beside the request. The request must be the values of an input side.
 ///
 /// # Errors
 /// As those of [`build`].

@@ -50,7 +50,7 @@ impl<'a> Reader<'a> {
     pub(crate) fn numbers(&mut self, count: usize) -> Option<&'a [u64]>
         ensures some { IfSome result (λ zs. zs.now ≡ take count self.old.numbers) }
         ensures enough { IfSome result (λ _. count ≤ length self.old.numbers) }
-        ensures left { IfSome result (λ _. self.new ≡ left self.old.nodes (drop count self.old.numbers) self.old.octets) }
+        ensures rest { IfSome result (λ _. self.new ≡ left self.old.nodes (drop count self.old.numbers) self.old.octets) }
         ensures none { IfNone result (length self.old.numbers < count) }
     {
         if count > self.numbers.len() {
@@ -65,7 +65,7 @@ impl<'a> Reader<'a> {
     pub(crate) fn octets(&mut self, count: usize) -> Option<&'a [u8]>
         ensures some { IfSome result (λ os. os.now ≡ take count self.old.octets) }
         ensures enough { IfSome result (λ _. count ≤ length self.old.octets) }
-        ensures left { IfSome result (λ _. self.new ≡ left self.old.nodes self.old.numbers (drop count self.old.octets)) }
+        ensures rest { IfSome result (λ _. self.new ≡ left self.old.nodes self.old.numbers (drop count self.old.octets)) }
         ensures none { IfNone result (length self.old.octets < count) }
     {
         if count > self.octets.len() {

@@ -11,7 +11,7 @@ pub build_given-requires-clause-tied : goal.build_given-requires-clause-tied
 build_given-requires-clause-tied c = c.shared.ensures ∙ ap (λ (f : Fitting). f.interface) (sym c.fit.ensures)
 
 pub build_given-requires-clause-request : goal.build_given-requires-clause-request
-build_given-requires-clause-request c = ap (λ (f : Fitting). f.side) c.fit.ensures ∙ c.requires
+build_given-requires-clause-request c = ap (λ (f : Fitting). f.side) c.fit.ensures ∙ c.requires.request
 
 pub returns-clause-built : goal.returns-clause-built
 returns-clause-built c =

@@ -1,5 +1,6 @@
-use Rattle.std.proofs.Common.{◌≡◌, ◌∙◌, ◌<◌, ◌≤◌, ℕ, List, ◌&&◌, leb, length, take, drop, sym, ap}
+use Rattle.std.proofs.Common.{◌≡◌, ◌∙◌, ◌<◌, ◌≤◌, ℕ, List, false, true, ◌&&◌, leb, length, take, drop, sym, ap}
 use Rattle.std.proofs.lemmas.Bool.{le-leb, lt-leb}
+use Rattle.std.proofs.lemmas.List.{length-take-le}
 use Rattle.nd_value.specs.Tree as tree
 use Rattle.nd_value.specs.Tree.{node, none}
 use Rattle.library_building.specs.Said.{is_context}
@@ -26,4 +27,11 @@ returns-in-Ok c =
     let l = c.args.reader.now in
     λ table. leaf_built table (is_context x && leb 16 (length l.octets)) (tree.Context x.number (take 16 l.octets)) l.numbers (drop 16 l.octets) l c.octets.new.self _
     (both_true (is_context x) (leb 16 (length l.octets)) (sym c.is_context.ensures ∙ c.if-not-is_context.false) (le-leb 16 (length l.octets) c.in-Some.ensures.enough))
-    (ap (λ (os : List ℕ). node (tree.Context x.number os) none) (c.in-Ok.ensures.bytes ∙ c.in-Some.ensures.some)) c.in-Some.ensures.left
+    (ap (λ (os : List ℕ). node (tree.Context x.number os) none) (c.in-Ok.ensures.bytes ∙ c.in-Some.ensures.some)) c.in-Some.ensures.rest
+
+pub unreachable-requires : goal.unreachable-requires
+unreachable-requires c =
+    let l = c.args.reader.now in
+    let no : false ≡ true =
+    c.in-Err.ensures.ok.1 (ap (λ (os : List ℕ). length os) c.in-Some.ensures.some ∙ length-take-le 16 l.octets c.in-Some.ensures.enough) in
+    cc

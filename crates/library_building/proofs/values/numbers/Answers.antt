@@ -25,7 +25,7 @@ returns-in-Ok c =
     λ table label. numeric_built table c.args.wide c.args.kind label x l c.numbers.new.self c.in-Ok.vals c.in-Some.taken.now
     (both_true (has_numbers x c.args.kind) (leb x.count (length l.numbers)) (sym c.has_numbers.ensures ∙ c.if-not-has_numbers.false)
     (le-leb x.count (length l.numbers) c.in-Some.ensures.enough))
-    c.in-Some.ensures.enough c.in-Some.ensures.some c.in-Ok.ensures c.in-Some.ensures.left
+    c.in-Some.ensures.enough c.in-Some.ensures.some c.in-Ok.ensures c.in-Some.ensures.rest
 
 pub returns-in-Err : goal.returns-in-Err
 returns-in-Err c = λ table label ts. tt

@@ -1,4 +1,5 @@
-use Rattle.std.proofs.Common.{◌≡◌, ◌∙◌, ◌≤◌, ℕ, true, Option, refl, sym, ap, arith, leb-true}
+use Rattle.std.proofs.Common.{◌≡◌, ◌∙◌, ◌≤◌, ℕ, true, Option, refl, sym, ap, arith}
+use Rattle.std.proofs.lemmas.Bool.{leb-true}
 use Rattle.nd_lemmas.proofs.Booleans.{second_true}
 use Rattle.nd_value.specs.Tree as tree
 use Rattle.nd_value.specs.Tree.{node, none}

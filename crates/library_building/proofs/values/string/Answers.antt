@@ -26,7 +26,7 @@ returns-in-Ok c =
     let l = c.args.reader.now in
     λ table. leaf_built table (has_form x 4 0 && leb x.length (length l.octets)) (tree.Text x.max (take x.length l.octets)) l.numbers (drop x.length l.octets) l c.octets.new.self _
     (both_true (has_form x 4 0) (leb x.length (length l.octets)) (sym c.has_form.ensures ∙ c.if-not-has_form.false) (le-leb x.length (length l.octets) c.in-Some.ensures.enough))
-    (ap (λ (os : List ℕ). node (tree.Text x.max os) none) (c.in-Ok.ensures ∙ c.in-Some.ensures.some)) c.in-Some.ensures.left
+    (ap (λ (os : List ℕ). node (tree.Text x.max os) none) (c.in-Ok.ensures ∙ c.in-Some.ensures.some)) c.in-Some.ensures.rest
 
 pub returns-in-Err : goal.returns-in-Err
 returns-in-Err c = λ table ts. tt
