@@ -3,3 +3,4 @@ mod Lists
 mod Nodes
 mod Counts
 mod Graphs
+mod OneGraph

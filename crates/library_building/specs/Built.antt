@@ -31,7 +31,7 @@ has_too_many l =
 abbrev pub root_types : Setting → List ℕ
 root_types w = map (λ r. r.of) (named_roots w.table w.side w.op)
 
--- The nodes are those of the roots and then of the cells, each with the numbers that belong to its type; and the cells are of the types that are given.
+-- The nodes say the roots and then the cells, each number as its type has it; the cells are of the types that are given.
 pub record IsSaid (table : Table) (roots : List ℕ) (l : Listing) (g : Graph) : Type 0 where
   pub nodes : said table (roots ++ l.cells.now) (whole l) ≡ Said (flat (trees (g.roots ++ map (λ c. c.val) g.cells)))
   pub root_count : length g.roots ≡ length roots

@@ -5,6 +5,7 @@ mod build;
 mod fault;
 mod forms;
 mod homes;
+pub mod laws;
 mod listing;
 mod reader;
 mod stop;
