@@ -4,7 +4,8 @@ ghost use Rattle.std.specs.Arc.{arc_value};
 ghost use Rattle.nd_types.specs.declared.types.Side.TheVariants.{In, Out};
 ghost use Rattle.library_building.specs.Built.{has_too_many};
 ghost use Rattle.dceidl_c.specs.Answers.{interface_in, values_in, refusal_in, is_side};
-ghost use Rattle.dceidl_c.specs.Building.{IsBuild, IsBuildRefusal, IsWrongNode, IsBuiltReply, IsBuiltReplyRefusal, IsWrongReplyNode, IsCellType, has_cell};
+ghost use Rattle.dceidl_c.specs.Building.{IsBuild, IsBuildRefusal, IsWrongNode, IsBuiltReply, IsBuiltReplyRefusal, IsWrongReplyNode};
+ghost use Rattle.dceidl_c.specs.Building.{IsCellType, has_cell};
 
 use crate::answers::{ABSENT, ARGUMENT, EMPTY, OK, REFUSED, WRONG_NODE, refuse};
 use crate::numbers::side_of;
