@@ -4,7 +4,7 @@ ghost use Rattle.nd_types.specs.Layout.{type_list};
 ghost use Rattle.nd_types.specs.Table.{type_at, selected as selected_arm};
 ghost use Rattle.nd_value.specs.Nodes.{selected_types};
 ghost use Rattle.nd_value.specs.Seen.{cell_number};
-ghost use Rattle.library_building.specs.Said.{has_form, has_parts, has_numbers, is_pointer, is_context, meant, is_wide, is_numeral, cell_numbered};
+ghost use Rattle.library_building.specs.Said.{has_form, has_parts, has_numbers, is_pointer, is_context, meant, signed, is_wide, is_numeral, cell_numbered};
 
 use library_nodes::Description;
 use nd_types::{Arm, Arms, Prim, TypeDef, TypeId, Types};
@@ -67,7 +67,18 @@ pub(crate) fn is_context(node: &Description) -> bool
 pub(crate) fn meant(wide: bool, number: u64) -> i128
     ensures { result ≡ meant wide number }
 {
-    if wide || number < 9_223_372_036_854_775_808 {
+    if wide {
+        i128::from(number)
+    } else {
+        signed(number)
+    }
+}
+
+// The number that 64 bits mean in two's complement.
+fn signed(number: u64) -> i128
+    ensures { result ≡ signed number }
+{
+    if number < 9_223_372_036_854_775_808 {
         i128::from(number)
     } else {
         -1 - i128::from(u64::MAX - number)
