@@ -1,7 +1,7 @@
 //! Values that a program gives as a listing: their nodes, with the numbers and octets that belong to these.
 #![tactic(auto)]
 
-mod build;
+mod building;
 mod fault;
 mod forms;
 mod homes;
@@ -11,7 +11,7 @@ mod reader;
 mod stop;
 mod values;
 
-pub use build::{build, build_response};
+pub use building::{build, build_response};
 pub use fault::BuildFault;
 pub use listing::Listing;
 

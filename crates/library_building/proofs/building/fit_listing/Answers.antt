@@ -3,7 +3,7 @@ use Rattle.std.proofs.lemmas.Result.{err_from_is_err_and}
 use Rattle.nd_value.specs.Fitting.{Fitting, setting_beside}
 use Rattle.library_building.specs.Built.{Says}
 use Rattle.library_building.proofs.Graphs.{refused_is}
-use Rattle.library_building.proofs.build.fit_listing.Goals as goal
+use Rattle.library_building.proofs.building.fit_listing.Goals as goal
 
 pub returns-in_err-graph-clause-refused : goal.returns-in_err-graph-clause-refused
 returns-in_err-graph-clause-refused c =

@@ -9,7 +9,7 @@ use Rattle.library_values.specs.Decoded.{IsOf}
 use Rattle.library_interface.proofs.Results.{same_ok, same_err}
 use Rattle.library_building.specs.declared.fault.BuildFault.TheVariants as fault
 use Rattle.library_building.specs.Built.{Says, IsBuildCause}
-use Rattle.library_building.proofs.build.build_beside.Goals as goal
+use Rattle.library_building.proofs.building.build_beside.Goals as goal
 
 pub fit_listing-requires-clause-known : goal.fit_listing-requires-clause-known
 fit_listing-requires-clause-known c = subst (λ (i : Interface). c.args.op < length i.operations) (sym c.interface_of-interface.ensures) c.requires.known

@@ -5,7 +5,7 @@ use Rattle.nd_types.specs.declared.types.Side.TheVariants.{Out}
 use Rattle.nd_value.specs.Fitting.{Fitting, setting_beside}
 use Rattle.library_values.specs.Decoded.{IsOf}
 use Rattle.library_building.specs.Built.{Says, IsBuildCause}
-use Rattle.library_building.proofs.build.build_response.Goals as goal
+use Rattle.library_building.proofs.building.build_response.Goals as goal
 
 pub build_given-requires-clause-tied : goal.build_given-requires-clause-tied
 build_given-requires-clause-tied c = c.shared.ensures ∙ ap (λ (f : Fitting). f.interface) (sym c.fit.ensures)

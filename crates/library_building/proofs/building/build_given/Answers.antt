@@ -7,7 +7,7 @@ use Rattle.nd_value.specs.Fitting.{setting_beside}
 use Rattle.library_values.specs.Decoded.{IsOf}
 use Rattle.library_values.proofs.Requests.{request_is}
 use Rattle.library_building.specs.Built.{Says, IsBuildCause}
-use Rattle.library_building.proofs.build.build_given.Goals as goal
+use Rattle.library_building.proofs.building.build_given.Goals as goal
 
 pub build_beside-requires-clause-request : goal.build_beside-requires-clause-request
 build_beside-requires-clause-request c =
