@@ -38,12 +38,12 @@ both_true false b e f = cc
 -- ## A node that is wrong
 
 pub halted : (table : Table) (s : Option Saying) (l : Left) (e : Stop) → s ≡ None → e ≡ At (suc (length l.nodes)) → Halts table s l e
-halted table s l e none is =
-    λ ts. subst (λ (x : Stop). IsStop x (going table s l.nodes ts)) (sym is) (ap (λ (o : Option Saying). going table o l.nodes ts) none)
+halted table s l e nothing is =
+    λ ts. subst (λ (x : Stop). IsStop x (going table s l.nodes ts)) (sym is) (ap (λ (o : Option Saying). going table o l.nodes ts) nothing)
 
 pub plain_wrong : (table : Table) (test : Bool) (label : Label) (us zs os : List ℕ) (l : Left) (e : Stop) → test ≡ false → e ≡ At (suc (length l.nodes))
     → Halts table (plain test label us zs os) l e
-plain_wrong table test label us zs os l e no is = halted table (plain test label us zs os) l e (ap (λ (b : Bool). plain b label us zs os) no) is
+plain_wrong table test label us zs os l e fails is = halted table (plain test label us zs os) l e (ap (λ (b : Bool). plain b label us zs os) fails) is
 
 -- ## A node of a type
 
@@ -77,10 +77,10 @@ own_flat label k ks e =
 
 pub plain_built : (table : Table) (test : Bool) (label : Label) (us zs os : List ℕ) (l n : Left) (ks : Trees) → test ≡ true → count ks ≡ length us
     → Comes table us (left l.nodes zs os) ks n → Builds table (plain test label us zs os) l (node label ks) n
-plain_built table test label us zs os l n ks yes many k =
+plain_built table test label us zs os l n ks holds many k =
     record {
       goes = λ ts.
-          ap (λ (b : Bool). going table (plain b label us zs os) l.nodes ts) yes
+          ap (λ (b : Bool). going table (plain b label us zs os) l.nodes ts) holds
           ∙ ap (after ((label, length us) ∷ [])) (k.goes ts)
           ∙ after-after ((label, length us) ∷ []) (flat ks) (said table ts n)
           ∙ ap (λ (fs : List Flat). after fs (said table ts n)) (own_flat label (length us) ks many);
@@ -90,31 +90,31 @@ plain_built table test label us zs os l n ks yes many k =
 -- a node without parts
 pub leaf_built : (table : Table) (test : Bool) (label : Label) (zs os : List ℕ) (l n : Left) (v : Tree) → test ≡ true → v ≡ node label none → n ≡ left l.nodes zs os
     → Builds table (plain test label [] zs os) l v n
-leaf_built table test label zs os l n v yes value_is left_is =
+leaf_built table test label zs os l n v holds value_is left_is =
     subst (λ (u : Tree). Builds table (plain test label [] zs os) l u n) (sym value_is)
     (subst (λ (k : Left). Builds table (plain test label [] zs os) l (node label none) k) (sym left_is)
-    (plain_built table test label [] zs os l (left l.nodes zs os) none yes refl (none_come table (left l.nodes zs os))))
+    (plain_built table test label [] zs os l (left l.nodes zs os) none holds refl (none_come table (left l.nodes zs os))))
 
 -- a node whose parts are a list of values
 pub parts_built : (table : Table) (test : Bool) (label : Label) (us : List ℕ) (l n : Left) (r : Result (List Tree) Stop) → test ≡ true → AreValues table us l n r
     → AreBuilt table (plain test label us l.numbers l.octets) label l n r
-parts_built table test label us l n (Ok vs) yes a =
-    plain_built table test label us l.numbers l.octets l n (trees vs) yes (count_trees vs ∙ a.count) a.come
-parts_built table test label us l n (Err e) yes h =
-    λ ts. subst (IsStop e) (sym (ap (λ (b : Bool). going table (plain b label us l.numbers l.octets) l.nodes ts) yes))
+parts_built table test label us l n (Ok vs) holds a =
+    plain_built table test label us l.numbers l.octets l n (trees vs) holds (count_trees vs ∙ a.count) a.come
+parts_built table test label us l n (Err e) holds h =
+    λ ts. subst (IsStop e) (sym (ap (λ (b : Bool). going table (plain b label us l.numbers l.octets) l.nodes ts) holds))
     (stop-after ((label, length us) ∷ []) e (said table (us ++ ts) l) (h ts))
 
 -- a node with one part
 pub part_built : (table : Table) (test : Bool) (label : Label) (t : ℕ) (l n : Left) (v : Tree) (vs : List Tree) → test ≡ true → Comes table (t ∷ []) l (more v none) n
     → vs ≡ v ∷ [] → Builds table (plain test label (t ∷ []) l.numbers l.octets) l (node label (trees vs)) n
-part_built table test label t l n v vs yes a e =
+part_built table test label t l n v vs holds a e =
     subst (λ (ws : List Tree). Builds table (plain test label (t ∷ []) l.numbers l.octets) l (node label (trees ws)) n) (sym e)
-    (plain_built table test label (t ∷ []) l.numbers l.octets l n (more v none) yes refl a)
+    (plain_built table test label (t ∷ []) l.numbers l.octets l n (more v none) holds refl a)
 
 pub part_halts : (table : Table) (test : Bool) (label : Label) (t : ℕ) (l : Left) (e : Stop) → test ≡ true → Stops table (t ∷ []) l e
     → Halts table (plain test label (t ∷ []) l.numbers l.octets) l e
-part_halts table test label t l e yes h =
-    parts_built table test label (t ∷ []) l l (Err e) yes h
+part_halts table test label t l e holds h =
+    parts_built table test label (t ∷ []) l l (Err e) holds h
 
 -- ## Numbers
 
@@ -128,13 +128,13 @@ number_count wide (u ∷ us) = ap suc (number_count wide us)
 
 pub numeric_wrong : (table : Table) (wide : Bool) (kind : ℕ) (label : Label) (x : Description) (l : Left) (e : Stop)
     → (has_numbers x kind && leb x.count (length l.numbers)) ≡ false → e ≡ At (suc (length l.nodes)) → Halts table (numeric wide kind label x l.numbers l.octets) l e
-numeric_wrong table wide kind label x l e no is =
-    halted table (numeric wide kind label x l.numbers l.octets) l e (ap (λ (b : Bool). numbered b wide label x.count l.numbers l.octets) no) is
+numeric_wrong table wide kind label x l e fails is =
+    halted table (numeric wide kind label x l.numbers l.octets) l e (ap (λ (b : Bool). numbered b wide label x.count l.numbers l.octets) fails) is
 
 pub numeric_built : (table : Table) (wide : Bool) (kind : ℕ) (label : Label) (x : Description) (l n : Left) (vs : List Tree) (us : List ℕ)
     → (has_numbers x kind && leb x.count (length l.numbers)) ≡ true → x.count ≤ length l.numbers → us ≡ take x.count l.numbers → vs ≡ number_trees wide us
     → n ≡ left l.nodes (drop x.count l.numbers) l.octets → Builds table (numeric wide kind label x l.numbers l.octets) l (node label (trees vs)) n
-numeric_built table wide kind label x l n vs us yes enough us_are vs_are left_is =
+numeric_built table wide kind label x l n vs us holds enough us_are vs_are left_is =
     let k = x.count in
     let many : count (trees vs) ≡ k =
     count_trees vs ∙ ap (λ (ws : List Tree). length ws) vs_are ∙ number_count wide us ∙ ap (λ (ws : List ℕ). length ws) us_are ∙ length-take-le k l.numbers enough in
@@ -143,7 +143,7 @@ numeric_built table wide kind label x l n vs us yes enough us_are vs_are left_is
     ∙ ap (λ (ws : List Tree). (label, k) ∷ flat (trees ws)) (sym vs_are) ∙ own_flat label k (trees vs) many in
     record {
       goes = λ ts.
-          ap (λ (b : Bool). going table (numbered b wide label k l.numbers l.octets) l.nodes ts) yes
+          ap (λ (b : Bool). going table (numbered b wide label k l.numbers l.octets) l.nodes ts) holds
           ∙ ap (λ (m : Left). after ((label, k) ∷ map (number_flat wide) (take k l.numbers)) (said table ts m)) (sym left_is)
           ∙ ap (λ (fs : List Flat). after fs (said table ts n)) own;
       less = subst (λ (m : Left). length m.nodes ≤ length l.nodes) (sym left_is) (omega arith);
@@ -185,6 +185,6 @@ union_halts table wide arms default x us tag l e tag_is us_are h =
 pub arm_built : (table : Table) (test : Bool) (label : Label) (t : ℕ) (l n : Left) (v : Tree) (r : Result (List Tree) Stop) → test ≡ true
     → Comes table (t ∷ []) l (more v none) n → IfOk r (λ a. a ≡ v ∷ []) → IfErr r (λ e. e ≡ Memory)
     → AreBuilt table (plain test label (t ∷ []) l.numbers l.octets) label l n r
-arm_built table test label t l n v (Ok vs) yes a one err = part_built table test label t l n v vs yes a one
-arm_built table test label t l n v (Err e) yes a one err =
+arm_built table test label t l n v (Ok vs) holds a one err = part_built table test label t l n v vs holds a one
+arm_built table test label t l n v (Err e) holds a one err =
     λ ts. subst (λ (x : Stop). IsStop x (going table (plain test label (t ∷ []) l.numbers l.octets) l.nodes ts)) (sym err) tt

@@ -17,9 +17,6 @@ returns-in_err-val c =
     (stops_at c.args.types.now c.args.numbers.now i (get_or c.args.numbers.now i 0) c.args.reader.now c.loop-number.reader _ c.in_err-val.field-0.0
     (slice_get-get_or c.args.numbers.now i 0 (omega arith)) c.loop-number.invariant.come c.in_err-val.ensures)
 
-pub returns-in_default : goal.returns-in_default
-returns-in_default c = λ ts. tt
-
 pub loop-number-preserved : goal.loop-number-preserved
 loop-number-preserved c =
     let i : ℕ = c.loop-number.number-index in

@@ -27,9 +27,6 @@ returns-in_err-val c =
     stops_at i.types (map (λ (r : NamedRoot). r.of) all) (length c.loop-root.yielded) c.in-Some.root.of.0 c.args.reader.now c.loop-root.reader c.loop-root.vals c.in_err-val.field-0.0
     (slice_get-map (λ (r : NamedRoot). r.of) all (length c.loop-root.yielded) ∙ ap (option_map (λ (r : NamedRoot). r.of)) root) (c.loop-root.invariant o there) c.in_err-val.ensures)
 
-pub returns-in_default : goal.returns-in_default
-returns-in_default c = λ o there ts. tt
-
 pub loop-root-preserved : goal.loop-root-preserved
 loop-root-preserved c =
     λ o there.

@@ -27,8 +27,8 @@ value-returns-in_default t c = no_node c.args.types.now c.args.of.0 c.args.reade
 pub value-by_type-requires : goal.value-by_type-requires
 value-by_type-requires t c = omega (arith, c.decreases, c.in-Some.ensures.less)
 
-pub value-returns-in-Some : goal.value-returns-in-Some
-value-returns-in-Some t c =
+pub value-returns-in-Some-get : goal.value-returns-in-Some-get
+value-returns-in-Some-get t c =
     value_of c.args.types.now c.args.of.0 c.in-Some-get.definition.now c.in-Some.node c.args.reader.now c.node.new.self c.by_type.new.reader c.by_type.result c.in-Some.ensures.some
     c.in-Some-get.ensures.some c.in-Some.ensures.less c.by_type.ensures
 
@@ -141,9 +141,6 @@ member_values-returns-in_err-val t c =
     (stops_at c.args.types.now all c.loop-at.at c.in-Some.member.now.of.0 c.args.reader.now c.loop-at.reader c.loop-at.vals c.in_err-val.field-0.0
     (slice_get-map (λ (f : Field). f.of.0) c.args.members.now c.loop-at.at ∙ ap (option_map (λ (f : Field). f.of.0)) c.in-Some.ensures.some) c.loop-at.invariant c.in_err-val.ensures)
 
-pub member_values-returns-in_default : goal.member_values-returns-in_default
-member_values-returns-in_default t c = λ ts. tt
-
 pub member_values-loop-at-preserved : goal.member_values-loop-at-preserved
 member_values-loop-at-preserved t c =
     let all = map (λ (f : Field). f.of.0) c.args.members.now in
@@ -203,41 +200,38 @@ elements-returns t c =
     (parts_built table (has_parts x c.args.kind) label (replicate x.count c.args.elem.0) l c.element_values.new.reader c.element_values.result
     (sym c.has_parts.ensures ∙ c.if-not-has_parts.false) c.element_values.ensures)
 
-pub element_values-loop-vals-init : goal.element_values-loop-vals-init
-element_values-loop-vals-init t c =
+pub element_values-loop-alloc-init : goal.element_values-loop-alloc-init
+element_values-loop-alloc-init t c =
     let none : length c.new-vals.result ≡ 0 = ap length c.new-vals.ensures in
     (begun c.args.types.now (replicate c.args.count c.args.elem.0) c.args.reader.now c.new-vals.result c.new-vals.ensures, omega (arith, none))
 
 pub element_values-value-requires : goal.element_values-value-requires
-element_values-value-requires t c = omega (arith, c.decreases, c.loop-vals.invariant.0.come.less)
+element_values-value-requires t c = omega (arith, c.decreases, c.loop-alloc.invariant.0.come.less)
 
 pub element_values-returns-in_err-val : goal.element_values-returns-in_err-val
 element_values-returns-in_err-val t c =
-    let few : length c.loop-vals.vals < c.args.count = omega (arith, c.loop-vals-test.true, c.len.ensures) in
+    let few : length c.loop-alloc.vals < c.args.count = omega (arith, c.loop-alloc-test.true, c.len.ensures) in
     let p = err_from_is_err_and c.from_residual.result c.from_residual.ensures.1 in
     rw (p.1, p.2)
-    (stops_at c.args.types.now (replicate c.args.count c.args.elem.0) (length c.loop-vals.vals) c.args.elem.0 c.args.reader.now c.loop-vals.reader c.loop-vals.vals c.in_err-val.field-0.0
-    (get_replicate c.args.count (length c.loop-vals.vals) c.args.elem.0 few) c.loop-vals.invariant.0 c.in_err-val.ensures)
+    (stops_at c.args.types.now (replicate c.args.count c.args.elem.0) (length c.loop-alloc.vals) c.args.elem.0 c.args.reader.now c.loop-alloc.reader c.loop-alloc.vals c.in_err-val.field-0.0
+    (get_replicate c.args.count (length c.loop-alloc.vals) c.args.elem.0 few) c.loop-alloc.invariant.0 c.in_err-val.ensures)
 
-pub element_values-returns-in_default : goal.element_values-returns-in_default
-element_values-returns-in_default t c = λ ts. tt
-
-pub element_values-loop-vals-preserved : goal.element_values-loop-vals-preserved
-element_values-loop-vals-preserved t c =
-    let few : length c.loop-vals.vals < c.args.count = omega (arith, c.loop-vals-test.true, c.len.ensures) in (
-      next_counted c.args.types.now (replicate c.args.count c.args.elem.0) c.args.elem.0 c.args.reader.now c.loop-vals.reader c.value.new.reader c.loop-vals.vals c.push.new.self
-          (tree_of c.in_ok-val.val) (get_replicate c.args.count (length c.loop-vals.vals) c.args.elem.0 few) c.loop-vals.invariant.0 c.in_ok-val.ensures c.in-Ok.ensures.ok,
-      omega (arith, few, pushed c.loop-vals.vals c.push.new.self (tree_of c.in_ok-val.val) c.in-Ok.ensures.ok),
+pub element_values-loop-alloc-preserved : goal.element_values-loop-alloc-preserved
+element_values-loop-alloc-preserved t c =
+    let few : length c.loop-alloc.vals < c.args.count = omega (arith, c.loop-alloc-test.true, c.len.ensures) in (
+      next_counted c.args.types.now (replicate c.args.count c.args.elem.0) c.args.elem.0 c.args.reader.now c.loop-alloc.reader c.value.new.reader c.loop-alloc.vals c.push.new.self
+          (tree_of c.in_ok-val.val) (get_replicate c.args.count (length c.loop-alloc.vals) c.args.elem.0 few) c.loop-alloc.invariant.0 c.in_ok-val.ensures c.in-Ok.ensures.ok,
+      omega (arith, few, pushed c.loop-alloc.vals c.push.new.self (tree_of c.in_ok-val.val) c.in-Ok.ensures.ok),
     )
 
-pub element_values-loop-vals-smaller : goal.element_values-loop-vals-smaller
-element_values-loop-vals-smaller t c =
-    omega (arith, c.loop-vals-test.true, c.len.ensures, pushed c.loop-vals.vals c.push.new.self (tree_of c.in_ok-val.val) c.in-Ok.ensures.ok)
+pub element_values-loop-alloc-smaller : goal.element_values-loop-alloc-smaller
+element_values-loop-alloc-smaller t c =
+    omega (arith, c.loop-alloc-test.true, c.len.ensures, pushed c.loop-alloc.vals c.push.new.self (tree_of c.in_ok-val.val) c.in-Ok.ensures.ok)
 
 pub element_values-returns : goal.element_values-returns
 element_values-returns t c =
-    all_came c.args.types.now (replicate c.args.count c.args.elem.0) (length c.loop-vals.vals) c.args.reader.now c.loop-vals.reader c.loop-vals.vals
-    (omega (arith, length-replicate c.args.count c.args.elem.0, c.loop-vals-test.false, c.len.ensures, c.loop-vals.invariant.1)) c.loop-vals.invariant.0
+    all_came c.args.types.now (replicate c.args.count c.args.elem.0) (length c.loop-alloc.vals) c.args.reader.now c.loop-alloc.reader c.loop-alloc.vals
+    (omega (arith, length-replicate c.args.count c.args.elem.0, c.loop-alloc-test.false, c.len.ensures, c.loop-alloc.invariant.1)) c.loop-alloc.invariant.0
 
 pub union-arm_value-requires : goal.union-arm_value-requires
 union-arm_value-requires t c = omega (arith, c.decreases)

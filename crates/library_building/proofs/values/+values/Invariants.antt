@@ -40,8 +40,8 @@ abbrev pub invariant-member_values-loop-at : goal.invariant-member_values-loop-a
 invariant-member_values-loop-at l = Came l.fn.types (map (λ f. f.of.0) l.members) l.at l.fn.reader l.vals l.reader
 
 -- the elements so far
-abbrev pub invariant-element_values-loop-vals : goal.invariant-element_values-loop-vals
-invariant-element_values-loop-vals l = Came l.fn.types (replicate l.count l.fn.elem.0) (length l.vals) l.fn.reader l.vals l.reader × (length l.vals ≤ l.count)
+abbrev pub invariant-element_values-loop-alloc : goal.invariant-element_values-loop-alloc
+invariant-element_values-loop-alloc l = Came l.fn.types (replicate l.count l.fn.elem.0) (length l.vals) l.fn.reader l.vals l.reader × (length l.vals ≤ l.count)
 
-abbrev pub decreases-element_values-loop-vals : goal.decreases-element_values-loop-vals
-decreases-element_values-loop-vals l = l.count - length l.vals
+abbrev pub decreases-element_values-loop-alloc : goal.decreases-element_values-loop-alloc
+decreases-element_values-loop-alloc l = l.count - length l.vals

@@ -1,4 +1,4 @@
-use Rattle.std.proofs.Common.{◌≡◌, ◌∙◌, ◌<◌, ◌≤◌, ℕ, List, false, true, ◌&&◌, leb, length, take, drop, sym, ap}
+use Rattle.std.proofs.Common.{◌≡◌, ◌∙◌, ◌<◌, ◌≤◌, ℕ, List, [], false, true, ◌&&◌, leb, length, take, drop, sym, ap}
 use Rattle.std.proofs.lemmas.Bool.{le-leb, lt-leb}
 use Rattle.std.proofs.lemmas.List.{length-take-le}
 use Rattle.nd_value.specs.Tree as tree
@@ -11,18 +11,18 @@ pub returns-then-not-is_context : goal.returns-then-not-is_context
 returns-then-not-is_context c =
     let x = c.args.node.now in
     let l = c.args.reader.now in
-    λ table. plain_wrong table (is_context x && leb 16 (length l.octets)) (tree.Context x.number (take 16 l.octets)) _ l.numbers (drop 16 l.octets) l c.wrong-wrong.result
+    λ table. plain_wrong table (is_context x && leb 16 (length l.octets)) (tree.Context x.number (take 16 l.octets)) [] l.numbers (drop 16 l.octets) l c.wrong-wrong.result
     (first_false (is_context x) (leb 16 (length l.octets)) (sym c.is_context.ensures ∙ c.if-not-is_context.true)) c.wrong-wrong.ensures
 
 pub returns-in_default : goal.returns-in_default
 returns-in_default c =
     let x = c.args.node.now in
     let l = c.args.reader.now in
-    λ table. plain_wrong table (is_context x && leb 16 (length l.octets)) (tree.Context x.number (take 16 l.octets)) _ l.numbers (drop 16 l.octets) l c.wrong-wrong.result
+    λ table. plain_wrong table (is_context x && leb 16 (length l.octets)) (tree.Context x.number (take 16 l.octets)) [] l.numbers (drop 16 l.octets) l c.wrong-wrong.result
     (second_false (is_context x) (leb 16 (length l.octets)) (lt-leb 16 (length l.octets) c.in_default.ensures.none)) c.wrong-wrong.ensures
 
-pub returns-in-Ok : goal.returns-in-Ok
-returns-in-Ok c =
+pub returns : goal.returns
+returns c =
     let x = c.args.node.now in
     let l = c.args.reader.now in
     λ table. leaf_built table (is_context x && leb 16 (length l.octets)) (tree.Context x.number (take 16 l.octets)) l.numbers (drop 16 l.octets) l c.octets.new.self _

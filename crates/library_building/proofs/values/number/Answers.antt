@@ -1,4 +1,4 @@
-use Rattle.std.proofs.Common.{◌∙◌, ℤ, Some, refl, sym, ap, rules}
+use Rattle.std.proofs.Common.{◌∙◌, ℤ, [], Some, refl, sym, ap, rules}
 use Rattle.std.proofs.lemmas.Int.{to_z-of_z}
 use mir.Val.{SFits}
 use mir.Syntax.{w128}
@@ -12,7 +12,7 @@ pub returns-then-not-has_form : goal.returns-then-not-has_form
 returns-then-not-has_form c =
     let x = c.args.node.now in
     let l = c.args.reader.now in
-    λ table. plain_wrong table (has_form x 1 0) (tree.Num (meant (is_wide (Some c.args.definition.now)) x.number)) _ l.numbers l.octets l c.wrong.result
+    λ table. plain_wrong table (has_form x 1 0) (tree.Num (meant (is_wide (Some c.args.definition.now)) x.number)) [] l.numbers l.octets l c.wrong.result
     (sym c.has_form.ensures ∙ c.if-not-has_form.true) c.wrong.ensures
 
 pub returns : goal.returns

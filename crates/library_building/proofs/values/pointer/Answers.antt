@@ -1,6 +1,4 @@
-use Rattle.std.proofs.Common.{◌≡◌, ◌∙◌, ◌≤◌, ℕ, true, Option, refl, sym, ap, arith}
-use Rattle.std.proofs.lemmas.Bool.{leb-true}
-use Rattle.nd_lemmas.proofs.Booleans.{second_true}
+use Rattle.std.proofs.Common.{◌≡◌, ◌∙◌, ◌≤◌, ℕ, [], Option, refl, sym, ap, arith}
 use Rattle.nd_value.specs.Tree as tree
 use Rattle.nd_value.specs.Tree.{node, none}
 use Rattle.library_building.specs.Said.{has_form, is_pointer, cell_numbered}
@@ -11,7 +9,7 @@ pub returns-then-not-is_pointer : goal.returns-then-not-is_pointer
 returns-then-not-is_pointer c =
     let x = c.args.node.now in
     let l = c.args.reader.now in
-    λ table. plain_wrong table (is_pointer x) (tree.Ptr (cell_numbered x.number)) _ l.numbers l.octets l c.wrong.result
+    λ table. plain_wrong table (is_pointer x) (tree.Ptr (cell_numbered x.number)) [] l.numbers l.octets l c.wrong.result
     (sym c.is_pointer.ensures ∙ c.if-not-is_pointer.true) c.wrong.ensures
 
 pub returns : goal.returns
