@@ -4,5 +4,5 @@ pub mod Texts
 pub mod Files
 pub mod Calls
 pub mod Logs
-pub mod Nodes
-pub mod Types
+pub mod Copies
+pub mod Named
