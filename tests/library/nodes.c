@@ -9,7 +9,8 @@ static const char IDL[] = "[uuid(11111111-2222-3333-4444-555555555555), pointer_
                           "typedef struct { short low; hyper high; } pair;\n"
                           "typedef union switch (short k) { case -1: long a; case 2: ; } pick;\n"
                           "typedef pipe long longs;\n"
-                          "pair f([in] long n, [in, size_is(n)] pair pairs[*], [in] pick one, [in] pick none, [in, string] char *word, [in] byte four[4], [in] longs all);\n"
+                          "long f([in] long n, [in, size_is(n)] pair pairs[*], [in] pick one, [in] pick none, [in, string] char *word, [in] byte four[4], [in] longs all,\n"
+                          "  [out] pair *first);\n"
                           "void g([in] long n, [out, size_is(n)] byte bytes[*]); }";
 
 static const char TEXT[] = "values 2 op f in n = 2 pairs = [{low = -1, high = 5}, {low = 2, high = -6}] one = -1:7 none = 2:void\n"
@@ -30,7 +31,7 @@ static size_t root_of(dceidl_interface *interface, uint32_t operation, uint32_t 
 
 static void types(dceidl_interface *interface) {
     dceidl_interface none = DCEIDL_NONE;
-    uint32_t pair, pairs, element, type;
+    uint32_t first, pair, pairs, element, type;
     size_t at;
     need(dceidl_root_named(&none, 0, DCEIDL_IN, dceidl_some("n"), 1, &at, &type) == DCEIDL_EMPTY, "root of nothing");
     need(dceidl_root_named(interface, 2, DCEIDL_IN, dceidl_some("n"), 1, &at, &type) == DCEIDL_ARGUMENT, "no operation");
@@ -38,7 +39,8 @@ static void types(dceidl_interface *interface) {
     need(dceidl_root_named(interface, 0, DCEIDL_IN, dceidl_some(NULL), 0, &at, &type) == DCEIDL_ABSENT, "no name");
     need(dceidl_root_named(interface, 0, DCEIDL_IN, dceidl_some("pair"), 4, &at, &type) == DCEIDL_ABSENT, "another name");
     need(root_of(interface, 0, DCEIDL_IN, "n", &type) == 0 && root_of(interface, 0, DCEIDL_IN, "pairs", &pairs) == 1, "roots");
-    need(root_of(interface, 0, DCEIDL_IN, "all", &type) == 6 && root_of(interface, 0, DCEIDL_OUT, "return", &pair) == 0, "the last root and the result");
+    need(root_of(interface, 0, DCEIDL_IN, "all", &type) == 6 && root_of(interface, 0, DCEIDL_OUT, "return", &type) == 1, "the last root and the result");
+    need(root_of(interface, 0, DCEIDL_OUT, "first", &first) == 0 && dceidl_element_type(interface, first, &pair) == DCEIDL_OK, "a pointer");
     need(dceidl_element_type(interface, pairs, &element) == DCEIDL_OK && element == pair, "the elements are pairs");
     need(dceidl_member_named(interface, pair, dceidl_some("high"), 4, &at, &type) == DCEIDL_OK && at == 1, "member");
     need(dceidl_element_type(interface, type, &element) == DCEIDL_ARGUMENT, "no elements");

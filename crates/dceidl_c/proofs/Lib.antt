@@ -4,6 +4,6 @@ pub mod Texts
 pub mod Files
 pub mod Calls
 pub mod Logs
-pub mod Nodes
-pub mod Types
-pub mod Building
+pub mod Copies
+pub mod Named
+pub mod Listings

@@ -56,7 +56,7 @@ pub extern "C" fn dceidl_build(
 }
 
 // Fills a handle with values of a listing.
-#[tactic(auto, using(crate::proofs::Building::no_side, crate::proofs::Building::no_operation, crate::proofs::Building::built_is, crate::proofs::Building::build_refused, crate::proofs::Building::wrong_node))]
+#[tactic(auto, using(crate::proofs::Listings::no_side, crate::proofs::Listings::no_operation, crate::proofs::Listings::built_is, crate::proofs::Listings::build_refused, crate::proofs::Listings::wrong_node))]
 fn build_values(
     alloc: Global,
     compiled: &Arc<Compiled>,
@@ -129,7 +129,7 @@ pub extern "C" fn dceidl_build_response(
 }
 
 // Fills a handle with the values of the response to a request.
-#[tactic(auto, using(crate::proofs::Building::no_request, crate::proofs::Building::reply_is, crate::proofs::Building::reply_refused, crate::proofs::Building::wrong_reply))]
+#[tactic(auto, using(crate::proofs::Listings::no_request, crate::proofs::Listings::reply_is, crate::proofs::Listings::reply_refused, crate::proofs::Listings::wrong_reply))]
 fn build_reply(
     alloc: Global,
     given: &Values,
@@ -187,7 +187,7 @@ pub extern "C" fn dceidl_cell_type(
 }
 
 // The type of a cell.
-#[tactic(auto, using(crate::proofs::Building::no_cell, crate::proofs::Building::past_cells))]
+#[tactic(auto, using(crate::proofs::Listings::no_cell, crate::proofs::Listings::past_cells))]
 fn set_cell_type(values: &Values, cell: u32, of: &mut u32) -> u32
     ensures known { result ≤ ABSENT }
     ensures not_empty { result ≡ EMPTY → ⊥ }

@@ -43,7 +43,7 @@ pub extern "C" fn dceidl_root_named(
 }
 
 // The number of a root, and its type.
-#[tactic(auto, using(crate::proofs::Numbered::no_side, crate::proofs::Numbered::no_operation, crate::proofs::Types::root_is, crate::proofs::Types::no_root))]
+#[tactic(auto, using(crate::proofs::Numbered::no_side, crate::proofs::Numbered::no_operation, crate::proofs::Named::root_is, crate::proofs::Named::no_root))]
 fn find_root(
     compiled: &Compiled,
     operation: u32,
@@ -111,7 +111,7 @@ pub extern "C" fn dceidl_member_named(
 }
 
 // The index of a member, and its type.
-#[tactic(auto, using(crate::proofs::Types::member_is, crate::proofs::Types::no_member))]
+#[tactic(auto, using(crate::proofs::Named::member_is, crate::proofs::Named::no_member))]
 fn find_member(
     compiled: &Compiled,
     of: u32,

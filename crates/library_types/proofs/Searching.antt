@@ -9,10 +9,10 @@ use Rattle.std.specs.Str.{bytes_eq}
 -- ## Names
 
 pub same_names : (xs ys : List ℕ) (r : Bool) → r ≡ bytes_eq xs ys → r ≡ true → xs ≡ ys
-same_names xs ys r is yes = (bytes_eq-Decides xs ys).0 (sym is ∙ yes)
+same_names xs ys r is same = (bytes_eq-Decides xs ys).0 (sym is ∙ same)
 
 pub other_names : (xs ys : List ℕ) (r : Bool) → r ≡ bytes_eq xs ys → r ≡ false → xs ≡ ys → ⊥
-other_names xs ys r is no same = let e : false ≡ true = sym no ∙ is ∙ (bytes_eq-Decides xs ys).1 same in cc
+other_names xs ys r is differ same = let e : false ≡ true = sym differ ∙ is ∙ (bytes_eq-Decides xs ys).1 same in cc
 
 -- ## Places
 

@@ -1,5 +1,5 @@
 use Rattle.std.proofs.Common.{◌≡◌, ◌<◌, ◌≤◌, length, arith}
-use Rattle.dceidl_c.proofs.Nodes.{octets_more, octets_all}
+use Rattle.dceidl_c.proofs.Copies.{octets_more, octets_all}
 use Rattle.dceidl_c.proofs.nodes.lay_out_bytes.Goals as goal
 
 pub loop-at-preserved : goal.loop-at-preserved

@@ -1,6 +1,6 @@
 use Rattle.std.proofs.Common.{◌∙◌, ap}
 use Rattle.nd_value.specs.Fitting.{Fitting}
-use Rattle.dceidl_c.proofs.Nodes.{nodes_are}
+use Rattle.dceidl_c.proofs.Copies.{nodes_are}
 use Rattle.dceidl_c.proofs.nodes.list.Goals as goal
 
 pub returns-in-Ok-clause-listed : goal.returns-in-Ok-clause-listed

@@ -18,6 +18,7 @@ returns-in-Ok-clause-logged c i o is there =
 pub returns-clause-refused : goal.returns-clause-refused
 returns-clause-refused c i o is there =
     let q = option_map (λ f. f.now.graph) c.args.given in
-    subst (λ (j : Interface). Bad (setting_beside j o c.args.side q) c.args.order c.args.octets.now c.in-Err-Bad.place c.in-Err-Bad.reason) is
+    rw c.in-Err-Bad.field-0-is
+    (subst (λ (j : Interface). Bad (setting_beside j o c.args.side q) c.args.order c.args.octets.now c.in-Err-Bad.place c.in-Err-Bad.reason) is
     (fault_is _ _ c.args.octets.now _ _ (ap (λ os. Some os) c.new-source.ensures.left) _ _ _ c.in-Err-Bad.field-0-is
-    (c.in-Err-Bad.ensures.fault o (subst (λ (j : Interface). slice_get j.operations c.args.op ≡ Some o) (sym is) there)))
+    (c.in-Err-Bad.ensures.fault o (subst (λ (j : Interface). slice_get j.operations c.args.op ≡ Some o) (sym is) there))))
