@@ -1,7 +1,7 @@
 -- What a walk over the roots of a side comes to.
 -- `k` are the octets with the partial graph in which they are refused, `u` is what the walk is given, or the walk, `i` is the index of a root,
 -- `cuts` are the counts of the chunks of pipes.
-use Rattle.std.specs.Prelude.{◌≡◌, ◌⊎◌, ◌≤◌, ◌-◌, ℕ, List, [], ◌++◌, drop, Option, None, Some}
+use Rattle.std.specs.Prelude.{◌≡◌, ◌⊎◌, ◌≤◌, ◌-◌, ℕ, List, [], ◌++◌, drop, Option, None, Some, codes}
 use Rattle.std.specs.List.{slice_get}
 use Rattle.nd_types.specs.declared.types.Operation.{Operation}
 use Rattle.nd_value.specs.declared.value.Graph.{Graph}
@@ -69,7 +69,7 @@ pub record IsBeginning (u : Walker) : Type 0 where
   pub none_pending : u.cells.pending.items ≡ []
   pub unmarked : u.cells.stands.items ≡ []
 
--- the path that is shown: that at which a walk ended, or where an agreement is sought that of the item, and a text
+-- the path that is shown: that at which a walk ended; where an agreement is sought a blank and a text follow
 abbrev pub IsFinished : Option Sought → List ℕ → List ℕ → Type 0
 IsFinished None path shown = shown ≡ path
-IsFinished (Some s) path shown = (rest : List ℕ) × (shown ≡ path ++ rest)
+IsFinished (Some s) path shown = (variable : List ℕ) × (shown ≡ path ++ (codes " " ++ variable))

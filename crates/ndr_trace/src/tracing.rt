@@ -1,5 +1,5 @@
 // The trace of octets that are refused.
-ghost use Rattle.std.specs.Prelude.{◌≡◌, ◌<◌, ◌++◌, ℕ, List, length, Some, option_map, IfOk, None};
+ghost use Rattle.std.specs.Prelude.{◌≡◌, ◌<◌, ◌++◌, ℕ, List, codes, length, Some, option_map, IfOk, None};
 ghost use Rattle.std.specs.List.{slice_get};
 ghost use Rattle.nd_types.specs.declared.types.Operation.{Operation};
 ghost use Rattle.nd_types.specs.Number.{AreOctets};
@@ -23,7 +23,7 @@ use nd_types::{Interface, Side};
 use nd_value::ItemLog;
 use ndr_refs::Referents;
 use ndr_trace_value::{
-    Cells, Ground, Halt, Progress, Search, Sought, Walker, agreement_tail, find_agreement,
+    Cells, Ground, Halt, Progress, Search, Sought, Walker, find_agreement, variable_path,
 };
 use std::alloc::Global;
 
@@ -32,8 +32,8 @@ use std::alloc::Global;
 pub struct Traced {
     /// A line for each item before the fault, as an explanation has it.
     pub lines: Octets,
-    /// The path of the value that is refused or lacks octets. At a failed agreement a blank and the path of the variable that states the number
-    /// follow.
+    /// The path of the value that is refused or lacks octets. At a failed agreement that of the value that disagrees, a blank, and the path of the
+    /// variable that states the number.
     pub path: Octets,
 }
 
@@ -115,7 +115,6 @@ fn begin<'a>(alloc: Global) -> Walker<'a>
             stands: Vec::new(alloc),
         },
         search: Search {
-            steps: Octets::new(alloc),
             stated: Vec::new(alloc),
             open: Vec::new(alloc),
             roots: Vec::new(alloc),
@@ -124,7 +123,7 @@ fn begin<'a>(alloc: Global) -> Walker<'a>
     }
 }
 
-// The lines, and the path at which the walk ended; where an agreement fails, that of its item, and what follows.
+// The lines, and the path at which the walk ended; where an agreement fails, a blank and the path of the variable follow.
 fn finish<'a>(ground: &Ground<'a>, walker: Walker<'a>) -> Result<Traced, Memory>
     ensures lines { IfOk result (λ t. t.lines ≡ walker.entry.progress.lines) }
     ensures path { IfOk result (λ t. IsFinished ground.now.sought walker.entry.progress.path t.path) }
@@ -150,10 +149,11 @@ fn finish_at(
     path: Octets,
 ) -> Result<Traced, Memory>
     ensures lines { IfOk result (λ t. t.lines ≡ lines) }
-    ensures path { IfOk result (λ t. (rest : List ℕ) × (t.path ≡ path ++ rest)) }
+    ensures path { IfOk result (λ t. (variable : List ℕ) × (t.path ≡ path ++ (codes " " ++ variable))) }
 {
-    let tail = agreement_tail(ground, search, sought)?;
+    let variable = variable_path(ground, search, sought)?;
     let mut path = path;
-    path.append(tail.as_slice())?;
+    path.append(b" ")?;
+    path.append(variable.as_slice())?;
     Ok(Traced { lines, path })
 }

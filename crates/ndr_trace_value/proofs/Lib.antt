@@ -2,6 +2,7 @@ pub mod Alignments
 pub mod ByType
 pub mod Ending
 pub mod Items
+pub mod LastSteps
 pub mod LevelWalk
 pub mod NamedCells
 pub mod OwnItems

@@ -21,7 +21,7 @@ use Rattle.ndr_trace_value.specs.declared.progress.Halt.{Halt}
 use Rattle.ndr_trace_value.specs.declared.progress.Halt.TheVariants as halts
 use Rattle.ndr_trace_value.specs.declared.progress.Progress.{Progress}
 use Rattle.ndr_trace_value.specs.declared.search.Sought.{Sought}
-use Rattle.ndr_trace_value.specs.Tracing.{IsEnded, IsTracing, Known, either_path, is_sought, item_path, kept, kept_by}
+use Rattle.ndr_trace_value.specs.Tracing.{IsEnded, IsTracing, Known, either_path, is_sought, sought_path, kept, kept_by}
 use Rattle.ndr_trace_value.specs.Traces.{entry_path}
 
 module _ (k : Known) where
@@ -67,7 +67,7 @@ module _ (k : Known) where
     where
       by : (o : Option ℕ) → kept_by k o n ≡ []
       by None = refl
-      by (Some j) = ap (λ b. elim b [ true ↦ item_path k (slice_get k.log j) | false ↦ [] ]) (le-ltb j n (omega (arith, e)))
+      by (Some j) = ap (λ b. elim b [ true ↦ sought_path k (slice_get k.log j) | false ↦ [] ]) (le-ltb j n (omega (arith, e)))
 
   -- another item is passed
   pub kept_on : (n : ℕ) → (k.sought ≡ Some n → ⊥) → kept k n ≡ kept k (n + 1)
@@ -75,11 +75,11 @@ module _ (k : Known) where
     where
       by : (o : Option ℕ) → (o ≡ Some n → ⊥) → kept_by k o n ≡ kept_by k o (n + 1)
       by None f = refl
-      by (Some j) f = ap (λ b. elim b [ true ↦ item_path k (slice_get k.log j) | false ↦ [] ]) (same_test j n (λ e. f (ap Some e)))
+      by (Some j) f = ap (λ b. elim b [ true ↦ sought_path k (slice_get k.log j) | false ↦ [] ]) (same_test j n (λ e. f (ap Some e)))
 
   -- an item is passed, with its path if it is the one that is sought
   pub kept_next : (n : ℕ) (i : Item) → slice_get k.log n ≡ Some i → (o : Option Sought) → option_map (λ (s : Sought). s.item) o ≡ k.sought → (old new path : List ℕ) → old ≡ kept k n
-      → (old ≡ [] → path ≡ item_path k (Some i)) → new ≡ either_path (is_sought o n) path old → new ≡ kept k (n + 1)
+      → (old ≡ [] → path ≡ sought_path k (Some i)) → new ≡ either_path (is_sought o n) path old → new ≡ kept k (n + 1)
   kept_next n i got None is old new path was shown now =
       now ∙ was ∙ kept_on n (λ e. (let z : None ≡ Some n = is ∙ e in cc))
   kept_next n i got (Some s) is old new path was shown now = by (eqb s.item n) refl
@@ -92,9 +92,9 @@ module _ (k : Known) where
           let same : s.item ≡ n = eqb-true s.item n e in
           let mine : k.sought ≡ Some n = sym is ∙ ap Some same in
           let before : kept k n ≡ [] =
-          ap (λ o. kept_by k o n) mine ∙ ap (λ b. elim b [ true ↦ item_path k (slice_get k.log n) | false ↦ [] ]) (le-ltb n n (omega arith)) in
-          let after : kept k (n + 1) ≡ item_path k (Some i) =
-          ap (λ o. kept_by k o (n + 1)) mine ∙ ap (λ b. elim b [ true ↦ item_path k (slice_get k.log n) | false ↦ [] ]) (lt-ltb n (n + 1) (omega arith)) ∙ ap (item_path k) got in
+          ap (λ o. kept_by k o n) mine ∙ ap (λ b. elim b [ true ↦ sought_path k (slice_get k.log n) | false ↦ [] ]) (le-ltb n n (omega arith)) in
+          let after : kept k (n + 1) ≡ sought_path k (Some i) =
+          ap (λ o. kept_by k o (n + 1)) mine ∙ ap (λ b. elim b [ true ↦ sought_path k (slice_get k.log n) | false ↦ [] ]) (lt-ltb n (n + 1) (omega arith)) ∙ ap (sought_path k) got in
           now ∙ ap (λ b. either_path b path old) e ∙ shown (was ∙ before) ∙ sym after
 
   -- all items were passed

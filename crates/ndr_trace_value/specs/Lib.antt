@@ -1,3 +1,4 @@
+pub mod LastMembers
 pub mod Traces
 pub mod Tracing
 pub mod Naming

@@ -240,7 +240,7 @@ fn find_last<'a>(
         let Some(TypeDef::Struct { members }) = ground.interface.types.get(of.0 as usize) else {
             return Ok(());
         };
-        let Some(last) = find_member(ground.alloc, search, sought, path.as_slice(), members)? else {
+        let Some(last) = find_member(ground.alloc, search, sought, &mut path, members)? else {
             return Ok(());
         };
         of = last;
@@ -253,19 +253,18 @@ fn find_member(
     alloc: Global,
     search: &mut Search<'_>,
     sought: Sought,
-    path: &[u8],
+    path: &mut Octets,
     members: &Fields,
 ) -> Result<Option<TypeId>, Memory> {
     let Some(at) = members.len().checked_sub(1) else {
         return Ok(None);
     };
     if let Some(by) = attribute(members, at, sought.kind) {
-        let mut variable = Octets::copy(alloc, path)?;
-        variable.append(search.steps.as_slice())?;
+        let mut variable = Octets::copy(alloc, path.as_slice())?;
         append_member(&mut variable, members, by.var as usize)?;
         state(search, sought.wanted, variable)?;
     }
-    append_member(&mut search.steps, members, at)?;
+    append_member(path, members, at)?;
     match members.get(at) {
         Some(last) => Ok(Some(last.of)),
         None => Ok(None),

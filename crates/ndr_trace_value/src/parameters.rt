@@ -63,17 +63,15 @@ fn seen_cell(search: &mut Search<'_>, cell: CellId, number: Option<i128>) -> Res
     Ok(())
 }
 
-/// What follows the path of the item at a failed agreement: the steps to the value that disagrees, a blank, and the path of the variable that states
-/// the number.
-pub fn agreement_tail(
+/// The path of the variable that states the number at a failed agreement.
+pub fn variable_path(
     ground: &Ground<'_>,
     search: &Search<'_>,
     sought: Sought,
 ) -> Result<Octets, Memory> {
-    let mut text = Octets::copy(ground.alloc, search.steps.as_slice())?;
-    text.append(b" ")?;
-    append_variable(ground, search, sought, &mut text)?;
-    Ok(text)
+    let mut path = Octets::new(ground.alloc);
+    append_variable(ground, search, sought, &mut path)?;
+    Ok(path)
 }
 
 // Adds the path of the variable that states the number.

@@ -34,9 +34,6 @@ pub struct Stated {
 /// What is kept while an agreement is sought; else it stays empty, but for the roots.
 #[derive(Drop)]
 pub struct Search<'a> {
-    /// The steps from the value that has the item to the one that disagrees: those to the last member, if the item is a maximum count in front of a
-    /// struct.
-    pub steps: Octets,
     pub stated: Vec<Stated>,
     /// The structs that are open.
     pub open: Vec<Open<'a>>,
