@@ -23,3 +23,6 @@ pub mod Starting
 pub mod Subjects
 pub mod TracedWhole
 pub mod WholeWalk
+pub mod Named
+pub mod OwnTests
+pub mod RootAttributes

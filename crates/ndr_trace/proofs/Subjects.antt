@@ -30,6 +30,7 @@ use Rattle.text_grammar.specs.Paths.{home_name, home_types, home_value, node_pat
 use Rattle.ndr_explain.specs.Explained.{home_paths, path_in}
 use Rattle.ndr_explain.proofs.Walks.{path_here}
 use Rattle.ndr_trace_laws.specs.Untested.{is_test}
+use Rattle.ndr_trace_value.specs.Attributes.{spoken as kind_of}
 use Rattle.ndr_trace_value.specs.LastMembers.{counted_path}
 use Rattle.ndr_trace_value.specs.Traces.{entry_path}
 use Rattle.ndr_trace_value.specs.Tracing.{sought_path}
@@ -40,15 +41,6 @@ use Rattle.ndr_trace.proofs.FrontTests.{IsTestOfFront}
 use Rattle.ndr_trace.proofs.Grounds.{as_test, begins_within}
 
 -- ## The item of a count or a tag
-
--- the kind of the item that an attribute speaks of
-abbrev kind_of : Attr → ItemKind
-kind_of attr.Size = kinds.Max
-kind_of attr.Max = kinds.Max
-kind_of attr.First = kinds.Offset
-kind_of attr.Length = kinds.Actual
-kind_of attr.Last = kinds.Actual
-kind_of attr.Switch = kinds.Tag
 
 -- an entry that an attribute speaks of is an item of that kind, of the entry's node
 spoken_item : (order : Order) (a : Attr) (found : ℤ) (k : Kind) (os : List ℕ) (n : ℕ) → HoldsFound a found k
@@ -150,3 +142,26 @@ module _ (w : Setting) (order : Order) (fetched : List ℕ) (place : ℕ) (why :
           let (j, logged) = in_log order fetched bad.earlier x (kind_of a) z among item_is in
           by_item a wanted found is x spoken z
           (one_item order fetched 0 bad.entries bad.earlier (bad.here ∷ bad.later) bad.split n j i (item_for x (kind_of a) z) there logged (at ∙ sym its_place)) own
+
+  -- the item at the place is that of the count or tag that the agreement speaks of
+  pub tested_item : (a : Attr) (wanted found : ℤ) → bad.here.entry.kind ≡ Test a wanted found → (n : ℕ) (i : Item) → slice_get (items order fetched bad.earlier) n ≡ Some i
+      → i.at ≡ place → (i.kind ≡ kind_of a) × (i.home ≡ bad.here.entry.home) × (i.node ≡ node_of a bad.here.entry.node)
+  tested_item a wanted found is n i there at =
+      by_entry
+      (test_finds w legal bad.partial (sound_partial w bad.partial bad.is_partial) bad.entries bad.stream bad.earlier bad.here bad.later bad.split read a wanted found is)
+    where
+      by_entry : (x : EntryAt) × Among bad.earlier x × IsSpokenOf a bad.here.entry.home bad.here.entry.node found x
+          × (tested_at bad.earlier a bad.here.entry.home bad.here.entry.node ≡ Some x.at)
+          → (i.kind ≡ kind_of a) × (i.home ≡ bad.here.entry.home) × (i.node ≡ node_of a bad.here.entry.node)
+      by_entry (x, among, spoken, tested) =
+          let within = begins_within order fetched bad.numbering 0 bad.entries bad.earlier bad.here bad.later bad.split bad.rendered (omega arith) in
+          let fault = agreement_fault order fetched bad.earlier bad.here place why a wanted found is within bad.refused in
+          let its_place : x.at ≡ place = same_Some _ _ (sym tested ∙ fault.1) in
+          let (z, item_is, own) = spoken_item order a found x.entry.kind (piece fetched x.at x.entry.kind) x.entry.node spoken.holds in
+          let (j, logged) = in_log order fetched bad.earlier x (kind_of a) z among item_is in
+          let same : i ≡ item_for x (kind_of a) z =
+          one_item order fetched 0 bad.entries bad.earlier (bad.here ∷ bad.later) bad.split n j i (item_for x (kind_of a) z) there logged (at ∙ sym its_place) in (
+            ap (λ (y : Item). y.kind) same,
+            ap (λ (y : Item). y.home) same ∙ spoken.home,
+            ap (λ (y : Item). y.node) same ∙ own ∙ spoken.node,
+          )

@@ -16,6 +16,7 @@ use Rattle.ndr_trace_laws.specs.Untested.{untested}
 use Rattle.ndr_trace_value.specs.declared.nodes.Walker.{Walker}
 use Rattle.ndr_trace_value.specs.declared.progress.Ground.{Ground}
 use Rattle.ndr_trace_value.specs.declared.search.Sought.{Sought}
+use Rattle.ndr_trace_value.specs.Attributes.{IsOwnName}
 use Rattle.ndr_trace.specs.Homes.{IsAwaiting}
 use Rattle.ndr_trace_value.specs.Naming.{IsNaming, names_in}
 use Rattle.ndr_trace_value.specs.Tracing.{IsTracing, Known}
@@ -69,7 +70,7 @@ pub record IsBeginning (u : Walker) : Type 0 where
   pub none_pending : u.cells.pending.items ≡ []
   pub unmarked : u.cells.stands.items ≡ []
 
--- the path that is shown: that at which a walk ended; where an agreement is sought a blank and a text follow
-abbrev pub IsFinished : Option Sought → List ℕ → List ℕ → Type 0
-IsFinished None path shown = shown ≡ path
-IsFinished (Some s) path shown = (variable : List ℕ) × (shown ≡ path ++ (codes " " ++ variable))
+-- the path that is shown: that at which a walk ended; where an agreement is sought a blank and the variable follow
+abbrev pub IsFinished : Ground → Option Sought → List ℕ → List ℕ → Type 0
+IsFinished u None path shown = shown ≡ path
+IsFinished u (Some s) path shown = (variable : List ℕ) × IsOwnName u s variable × (shown ≡ path ++ (codes " " ++ variable))

@@ -12,6 +12,7 @@ ghost use Rattle.nd_grammar.specs.LegalSide.{IsLegalSide};
 ghost use Rattle.ndr_decoder_laws.specs.verdict.InOrder.{HasOwnNumbers};
 ghost use Rattle.ndr_trace.specs.Homes.{IsPart};
 ghost use Rattle.ndr_trace.specs.Sides.{IsBeginning, IsFinished, IsSide, IsStream};
+ghost use Rattle.ndr_trace_value.specs.Attributes.{IsOwnName};
 ghost use Rattle.ndr_trace_value.specs.Traces.{IsTraceOf};
 ghost use Rattle.ndr_trace_value.specs.Tracing.{IsEnded, IsGround, Known};
 
@@ -126,7 +127,7 @@ fn begin<'a>(alloc: Global) -> Walker<'a>
 // The lines, and the path at which the walk ended; where an agreement fails, a blank and the path of the variable follow.
 fn finish<'a>(ground: &Ground<'a>, walker: Walker<'a>) -> Result<Traced, Memory>
     ensures lines { IfOk result (λ t. t.lines ≡ walker.entry.progress.lines) }
-    ensures path { IfOk result (λ t. IsFinished ground.now.sought walker.entry.progress.path t.path) }
+    ensures path { IfOk result (λ t. IsFinished ground.now ground.now.sought walker.entry.progress.path t.path) }
 {
     let Walker {
         progress,
@@ -149,7 +150,7 @@ fn finish_at(
     path: Octets,
 ) -> Result<Traced, Memory>
     ensures lines { IfOk result (λ t. t.lines ≡ lines) }
-    ensures path { IfOk result (λ t. (variable : List ℕ) × (t.path ≡ path ++ (codes " " ++ variable))) }
+    ensures path { IfOk result (λ t. (variable : List ℕ) × IsOwnName ground.now sought variable × (t.path ≡ path ++ (codes " " ++ variable))) }
 {
     let variable = variable_path(ground, search, sought)?;
     let mut path = path;

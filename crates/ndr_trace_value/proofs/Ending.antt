@@ -17,7 +17,7 @@ use Rattle.ndr_trace_laws.specs.Due.{EndsBefore}
 use Rattle.ndr_trace_laws.specs.Untested.{is_test}
 use Rattle.ndr_trace_value.specs.declared.progress.Progress.{Progress}
 use Rattle.ndr_trace_value.specs.Tracing.{IsAt, IsEnded, IsTracing, Known, kept, kept_by, sought_path}
-use Rattle.ndr_trace_value.specs.Traces.{IsShownPath, IsTraceOf, entry_path}
+use Rattle.ndr_trace_value.specs.Traces.{IsShownPath, IsTraceOf, IsVariableOf, entry_path}
 use Rattle.ndr_trace_value.proofs.Passing.{all_lines, kept_all}
 
 -- what is known of octets that are refused
@@ -91,21 +91,21 @@ traced_plain w order fetched place why bad sought p plain ended = record {
 
 -- ## Octets that are refused at an agreement
 
--- their trace has the path of the entry, a blank and a text
-shown_test : (w : Setting) (g : Graph) (m : Entry) (x : Kind) (path variable : List ℕ) → is_test x ≡ true → path ≡ entry_path w g m ++ (codes " " ++ variable)
+-- their trace has the path of the entry, a blank and its variable
+shown_test : (w : Setting) (g : Graph) (m : Entry) (x : Kind) (path variable : List ℕ) → is_test x ≡ true → IsVariableOf w g m x variable → path ≡ entry_path w g m ++ (codes " " ++ variable)
     → IsShownPath w g m x path
-shown_test w g m (Test a wanted found) path variable e f = (variable, f)
-shown_test w g m (Align n) path variable e f = cc
-shown_test w g m (Max v) path variable e f = cc
-shown_test w g m (Offset t v) path variable e f = cc
-shown_test w g m (Actual t offset limit v) path variable e f = cc
-shown_test w g m (Chunk v) path variable e f = cc
-shown_test w g m (Number class to cell) path variable e f = cc
-shown_test w g m (Num p values v) path variable e f = cc
-shown_test w g m (Tag p values arms default v) path variable e f = cc
-shown_test w g m (Text octets) path variable e f = cc
-shown_test w g m (Context attributes id) path variable e f = cc
-shown_test w g m Unread path variable e f = cc
+shown_test w g m (Test a wanted found) path variable e v f = (variable, v, f)
+shown_test w g m (Align n) path variable e v f = cc
+shown_test w g m (Max v) path variable e v f = cc
+shown_test w g m (Offset t v) path variable e v f = cc
+shown_test w g m (Actual t offset limit v) path variable e v f = cc
+shown_test w g m (Chunk v) path variable e v f = cc
+shown_test w g m (Number class to cell) path variable e v f = cc
+shown_test w g m (Num p values v) path variable e v f = cc
+shown_test w g m (Tag p values arms default v) path variable e v f = cc
+shown_test w g m (Text octets) path variable e v f = cc
+shown_test w g m (Context attributes id) path variable e v f = cc
+shown_test w g m Unread path variable e v f = cc
 
 -- the path that is kept, once all items were passed
 kept_whole : (k : Known) (n : ℕ) (i : Item) → k.sought ≡ Some n → slice_get k.log n ≡ Some i → kept k (length k.log) ≡ sought_path k (Some i)
@@ -117,11 +117,12 @@ pub traced_test : (w : Setting) (order : Order) (fetched : List ℕ) (place : �
     → is_test bad.here.entry.kind ≡ true → IsAt (items order fetched bad.earlier) n place
     → ((i : Item) → slice_get (items order fetched bad.earlier) n ≡ Some i
     → sought_path (known_of w order fetched place why bad (Some n)) (Some i) ≡ entry_path w bad.partial bad.here.entry)
-    → IsEnded (known_of w order fetched place why bad (Some n)) p → path ≡ p.path ++ (codes " " ++ variable) → IsTraceOf w order fetched place why bad p.lines path
-traced_test w order fetched place why bad n p path variable test (i, there, at) subject ended is = record {
+    → IsVariableOf w bad.partial bad.here.entry bad.here.entry.kind variable → IsEnded (known_of w order fetched place why bad (Some n)) p
+    → path ≡ p.path ++ (codes " " ++ variable) → IsTraceOf w order fetched place why bad p.lines path
+traced_test w order fetched place why bad n p path variable test (i, there, at) subject named ended is = record {
   lines_are = ended.lines;
   path_is =
-      shown_test w bad.partial bad.here.entry bad.here.entry.kind path variable test
+      shown_test w bad.partial bad.here.entry bad.here.entry.kind path variable test named
       (is ∙ ap (λ q. q ++ (codes " " ++ variable)) (by_path ended.path ∙ subject i there));
 }
   where

@@ -8,3 +8,5 @@ pub mod NamedCells
 pub mod OwnItems
 pub mod Partial
 pub mod Passing
+pub mod Attributes
+pub mod OwnNames

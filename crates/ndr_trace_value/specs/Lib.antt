@@ -3,3 +3,5 @@ pub mod Traces
 pub mod Tracing
 pub mod Naming
 pub mod Walking
+pub mod Attributes
+pub mod Variable

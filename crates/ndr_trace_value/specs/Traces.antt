@@ -11,13 +11,20 @@ use Rattle.nd_grammar.specs.Entry.{Entry, Kind, Test}
 use Rattle.nd_grammar.specs.Items.{items}
 use Rattle.ndr_decoder_laws.specs.verdict.InOrder.{HasOwnNumbers}
 use Rattle.ndr_explain.specs.Explained.{explanation, home_paths, path_in}
+use Rattle.ndr_trace_value.specs.Variable.{IsVariable}
 
 abbrev pub entry_path : Setting → Graph → Entry → List ℕ
 entry_path w g m = path_in (home_paths w g m.home) m.node
 
--- The path of the entry that is refused. At a failed agreement, whose entry is at the value that disagrees, a blank and a text follow.
+-- what follows the path of an agreement: its variable
+abbrev pub IsVariableOf : Setting → Graph → Entry → Kind → List ℕ → Type 0
+IsVariableOf w g m (Test a wanted found) q = IsVariable w g m a wanted q
+IsVariableOf w g m _ q = Unit {0}
+
+-- The path of the entry that is refused. At a failed agreement, whose entry is at the value that disagrees, a blank and the variable follow.
 abbrev pub IsShownPath : Setting → Graph → Entry → Kind → List ℕ → Type 0
-IsShownPath w g m (Test a wanted found) path = (variable : List ℕ) × (path ≡ entry_path w g m ++ (codes " " ++ variable))
+IsShownPath w g m (Test a wanted found) path =
+    (variable : List ℕ) × IsVariable w g m a wanted variable × (path ≡ entry_path w g m ++ (codes " " ++ variable))
 IsShownPath w g m _ path = path ≡ entry_path w g m
 
 -- The octets are refused, and this is their trace, by a partial graph: a line for each item before the fault, and the path of what is refused.

@@ -5,7 +5,7 @@ ghost use Rattle.ndr_trace_value.specs.declared.progress.Halt.TheVariants as hal
 use crate::nodes::Walker;
 use crate::parameters::seen_home;
 use crate::progress::{Ground, Halt, Progress, Spot, append_path};
-use crate::search::{Search, Sought, Stated, speaks_of, stated_by};
+use crate::search::{Search, Sought, Stated, attribute, stated_by};
 use nd_base::{Memory, Octets};
 use nd_flat::Seen;
 use nd_types::{AttrVar, Fields, NESTING_LIMIT, TypeDef, TypeId};
@@ -218,7 +218,7 @@ fn find<'a>(
     let Level::Members { members, at } = spot.top else {
         return Ok(());
     };
-    let Some(by) = attribute(members, at, sought.kind) else {
+    let Some(by) = member_attribute(members, at, sought.kind) else {
         return Ok(());
     };
     let mut variable = struct_path(ground.alloc, spot)?;
@@ -259,7 +259,7 @@ fn find_member(
     let Some(at) = members.len().checked_sub(1) else {
         return Ok(None);
     };
-    if let Some(by) = attribute(members, at, sought.kind) {
+    if let Some(by) = member_attribute(members, at, sought.kind) {
         let mut variable = Octets::copy(alloc, path.as_slice())?;
         append_member(&mut variable, members, by.var as usize)?;
         state(search, sought.wanted, variable)?;
@@ -319,7 +319,7 @@ fn close_pointer(
     open: &Open<'_>,
     at: usize,
 ) -> Result<(), Memory> {
-    let Some(by) = attribute(open.members, at, sought.kind) else {
+    let Some(by) = member_attribute(open.members, at, sought.kind) else {
         return Ok(());
     };
     let Some(Some(value)) = open.numbers.get(by.var as usize).copied() else {
@@ -331,18 +331,11 @@ fn close_pointer(
 }
 
 // The attribute of a member that speaks of an item of this kind.
-fn attribute(members: &Fields, at: usize, kind: ItemKind) -> Option<AttrVar> {
-    let Some(member) = members.get(at) else {
-        return None;
-    };
-    for place in 0..member.vars.len() {
-        if let Some(by) = member.vars.get(place)
-            && speaks_of(by.attr, kind)
-        {
-            return Some(*by);
-        }
+fn member_attribute(members: &Fields, at: usize, kind: ItemKind) -> Option<AttrVar> {
+    match members.get(at) {
+        Some(member) => attribute(&member.vars, kind),
+        None => None,
     }
-    None
 }
 
 // Adds the step to a member.
