@@ -10,3 +10,4 @@ pub mod Partial
 pub mod Passing
 pub mod Attributes
 pub mod OwnNames
+pub mod LastVariables

@@ -1,14 +1,20 @@
 // The values that have the counts and tags which items are.
-ghost use Rattle.std.specs.Prelude.{◌≡◌, OnOk, option_map};
+ghost use Rattle.std.specs.Prelude.{◌≡◌, ◌++◌, ◌∷◌, IfOk, OnOk, option_map, reverse};
 ghost use Rattle.nd_types.specs.Table.{type_at};
 ghost use Rattle.nd_value.specs.declared.item.ItemKind.TheVariants as kinds;
 ghost use Rattle.text_grammar.specs.Paths.{member_path};
-ghost use Rattle.ndr_trace_value.specs.LastMembers.{counted_path, last_field, last_member, last_path, last_within, whole_types};
+ghost use Rattle.ndr_explain.specs.Cursors.{name_text, path_to};
+ghost use Rattle.ndr_trace_value.specs.LastMembers.{counted_path, counted_variable, last_field, last_member, last_path, last_variable};
+ghost use Rattle.ndr_trace_value.specs.LastMembers.{last_within, struct_of, variable_within, whole_types};
+ghost use Rattle.ndr_trace_value.specs.Variable.{field_name, numbered_path};
 
+use crate::progress::{Spot, append_path};
+use crate::search::attribute;
 use nd_base::{Memory, Octets};
 use nd_types::{Field, Fields, NESTING_LIMIT, TypeDef, TypeId, Types};
 use nd_value::ItemKind;
 use ndr_explain::Level;
+use std::alloc::Global;
 
 /// Adds the steps from the value at which an item is to the one that has this count or tag: from a home's value to the last of its last members, if the
 /// item is a maximum count; there are none else.
@@ -64,6 +70,127 @@ fn append_within(
         at = last.of;
     }
     Ok(())
+}
+
+/// The path of the variable that states a maximum count in front of a home's value: a member of the struct that ends the value. It is empty if the item is
+/// of another kind, or the value does not end with a member that has an attribute for its maximum count.
+pub fn stated_path(
+    alloc: Global,
+    types: &Types,
+    kind: ItemKind,
+    spot: &Spot<'_, '_>,
+) -> Result<Octets, Memory>
+    ensures { IfOk result (λ text. text ≡ counted_variable types.now kind (whole_types spot.now.top)
+        (path_to (name_text spot.now.name) (spot.now.top ∷ reverse spot.now.below.now.items))) }
+{
+    let mut text = Octets::new(alloc);
+    append_path(&mut text, spot)?;
+    let stated = stated_of(alloc, types, kind, spot.top, text)?;
+    Ok(stated)
+}
+
+// The same from the path of the item.
+fn stated_of(
+    alloc: Global,
+    types: &Types,
+    kind: ItemKind,
+    top: Level<'_>,
+    path: Octets,
+) -> Result<Octets, Memory>
+    ensures { IfOk result (λ text. text ≡ counted_variable types.now kind (whole_types top.entry) path) }
+{
+    match kind {
+        ItemKind::Max => stated_front(alloc, types, top, path),
+        _ => Ok(Octets::new(alloc)),
+    }
+}
+
+// The same of a maximum count.
+fn stated_front(
+    alloc: Global,
+    types: &Types,
+    top: Level<'_>,
+    path: Octets,
+) -> Result<Octets, Memory>
+    ensures { IfOk result (λ text. text ≡ counted_variable types.now kinds.Max (whole_types top.entry) path) }
+{
+    match top {
+        Level::Whole { of } => stated_last(alloc, types, of, path),
+        Level::Arm { .. } => Ok(Octets::new(alloc)),
+        Level::Members { .. } => Ok(Octets::new(alloc)),
+        Level::Elements { .. } => Ok(Octets::new(alloc)),
+    }
+}
+
+// The same of a home's value of this type.
+fn stated_last(
+    alloc: Global,
+    types: &Types,
+    of: TypeId,
+    path: Octets,
+) -> Result<Octets, Memory>
+    ensures { IfOk result (λ text. text ≡ last_variable types.now of.0 path) }
+{
+    let stated = stated_within(alloc, types, of, path, NESTING_LIMIT)?;
+    Ok(stated)
+}
+
+// The same of a type that nests at most so deep.
+fn stated_within(
+    alloc: Global,
+    types: &Types,
+    of: TypeId,
+    path: Octets,
+    depth: u32,
+) -> Result<Octets, Memory>
+    ensures { IfOk result (λ text. text ≡ variable_within depth types.now of.0 path) }
+{
+    let mut text = path;
+    let mut at = of;
+    for _level in 0..depth {
+        let Some(members) = members_in(types, at) else {
+            return Ok(Octets::new(alloc));
+        };
+        let Some(last) = last_of(members) else {
+            return Ok(Octets::new(alloc));
+        };
+        if let Some(by) = attribute(&last.vars, ItemKind::Max) {
+            append_numbered(&mut text, members, by.var)?;
+            return Ok(text);
+        }
+        append_member(&mut text, last)?;
+        at = last.of;
+    }
+    Ok(Octets::new(alloc))
+}
+
+// The members of a struct.
+fn members_in(types: &Types, of: TypeId) -> Option<&Fields>
+    ensures { option_map (λ m. m.now) result ≡ struct_of (type_at types.now of.0) }
+{
+    match types.get(of.0 as usize) {
+        Some(TypeDef::Struct { members }) => Some(members),
+        _ => None,
+    }
+}
+
+// Adds the step to a member by its number.
+fn append_numbered(text: &mut Octets, members: &Fields, at: u32) -> Result<(), Memory>
+    ensures { OnOk result (text.new ≡ numbered_path text.old members.now at) }
+{
+    text.append(b".")?;
+    append_name(text, members.get(at as usize))?;
+    Ok(())
+}
+
+// Adds the name of a member, if it is there.
+fn append_name(text: &mut Octets, member: Option<&Field>) -> Result<(), Memory>
+    ensures { OnOk result (text.new ≡ text.old ++ field_name (option_map (λ f. f.now) member.entry)) }
+{
+    match member {
+        Some(member) => text.append(member.name.as_slice()),
+        None => Ok(()),
+    }
 }
 
 // The last member of a struct.
