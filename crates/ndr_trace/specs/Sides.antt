@@ -65,6 +65,7 @@ pub record IsBeginning (u : Walker) : Type 0 where
   pub at : u.progress.at ≡ 0
   pub lines : u.progress.lines ≡ []
   pub path : u.progress.path ≡ []
+  pub variable : u.progress.variable ≡ []
   pub count : u.cells.count ≡ 0
   pub numbers : u.cells.numbers ≡ []
   pub none_pending : u.cells.pending.items ≡ []

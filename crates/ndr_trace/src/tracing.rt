@@ -108,6 +108,7 @@ fn begin<'a>(alloc: Global) -> Walker<'a>
             at: 0,
             lines: Octets::new(alloc),
             path: Octets::new(alloc),
+            variable: Octets::new(alloc),
         },
         cells: Cells {
             count: 0,

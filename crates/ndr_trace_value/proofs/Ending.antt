@@ -18,7 +18,7 @@ use Rattle.ndr_trace_laws.specs.Untested.{is_test}
 use Rattle.ndr_trace_value.specs.declared.progress.Progress.{Progress}
 use Rattle.ndr_trace_value.specs.Tracing.{IsAt, IsEnded, IsTracing, Known, kept, kept_by, sought_path}
 use Rattle.ndr_trace_value.specs.Traces.{IsShownPath, IsTraceOf, IsVariableOf, entry_path}
-use Rattle.ndr_trace_value.proofs.Passing.{all_lines, kept_all}
+use Rattle.ndr_trace_value.proofs.Passing.{all_lines, kept_all, variable_all}
 
 -- what is known of octets that are refused
 abbrev pub known_of : (w : Setting) (order : Order) (fetched : List ℕ) (place : ℕ) (why : Reason) → Bad w order fetched place why → Option ℕ → Known
@@ -48,7 +48,7 @@ no_drop (suc n) (x ∷ xs) e = let h = no_drop n xs e in omega (arith, h)
 
 -- then reading stopped at an agreement
 pub all_passed : (k : Known) (p : Progress) → IsTracing k p [] → IsEnded k p
-all_passed k p t = record { lines = all_lines k p.next p.lines over t.lines; path = inl (at_test t.due.ends, kept_all k p [] t over) }
+all_passed k p t = record { lines = all_lines k p.next p.lines over t.lines; path = inl (at_test t.due.ends, kept_all k p [] t over); variable = variable_all k p [] t over }
   where
     none : (t.due.passed ≡ []) × (t.due.later ≡ [])
     none = no_more t.due.passed t.due.later t.due.split
@@ -107,11 +107,12 @@ shown_test w g m (Text octets) path variable e v f = cc
 shown_test w g m (Context attributes id) path variable e v f = cc
 shown_test w g m Unread path variable e v f = cc
 
--- the path that is kept, once all items were passed
-kept_whole : (k : Known) (n : ℕ) (i : Item) → k.sought ≡ Some n → slice_get k.log n ≡ Some i → kept k (length k.log) ≡ sought_path k (Some i)
-kept_whole k n i mine there =
-    ap (λ o. kept_by k o (length k.log)) mine
-    ∙ ap (λ b. elim b [ true ↦ sought_path k (slice_get k.log n) | false ↦ [] ]) (lt-ltb n (length k.log) (slice_get_within k.log n i there)) ∙ ap (sought_path k) there
+-- what is kept, once all items were passed
+pub kept_whole : (k : Known) (its : Option Item → List ℕ) (n : ℕ) (i : Item) → k.sought ≡ Some n → slice_get k.log n ≡ Some i
+    → kept_by its k.log k.sought (length k.log) ≡ its (Some i)
+kept_whole k its n i mine there =
+    ap (λ o. kept_by its k.log o (length k.log)) mine
+    ∙ ap (λ b. elim b [ true ↦ its (slice_get k.log n) | false ↦ [] ]) (lt-ltb n (length k.log) (slice_get_within k.log n i there)) ∙ ap its there
 
 pub traced_test : (w : Setting) (order : Order) (fetched : List ℕ) (place : ℕ) (why : Reason) (bad : Bad w order fetched place why) (n : ℕ) (p : Progress) (path variable : List ℕ)
     → is_test bad.here.entry.kind ≡ true → IsAt (items order fetched bad.earlier) n place
@@ -131,5 +132,5 @@ traced_test w order fetched place why bad n p path variable test (i, there, at) 
 
     by_path : ((is_test bad.here.entry.kind ≡ true) × (p.path ≡ kept k (length (items order fetched bad.earlier))))
         ⊎ ((is_test bad.here.entry.kind ≡ false) × (p.path ≡ entry_path w bad.partial bad.here.entry)) → p.path ≡ sought_path k (Some i)
-    by_path (inl (t, e)) = e ∙ kept_whole k n i refl there
+    by_path (inl (t, e)) = e ∙ kept_whole k (sought_path k) n i refl there
     by_path (inr (t, e)) = let z : true ≡ false = sym test ∙ t in cc

@@ -9,12 +9,12 @@ ghost use Rattle.text_printer.specs.Texts.{context_text};
 ghost use Rattle.ndr_explain.specs.Cursors.{name_text, path_to};
 ghost use Rattle.ndr_explain.specs.Explained.{value_shown};
 ghost use Rattle.ndr_trace_value.specs.declared.progress.Halt.TheVariants as halts;
-ghost use Rattle.ndr_trace_value.specs.LastMembers.{counted_path, whole_types};
+ghost use Rattle.ndr_trace_value.specs.LastMembers.{counted_path, counted_variable, whole_types};
 ghost use Rattle.ndr_trace_value.specs.Tracing.{Known, Holds, HoldsCount, HasLabel, IsCount, IsCounted, IsEnded, IsGround, IsInFront, IsItem, IsShown, IsSpot};
 ghost use Rattle.ndr_trace_value.specs.Tracing.{IsTracing};
 ghost use Rattle.ndr_trace_value.specs.Tracing.{either_path, entry_at, is_sought as is_sought_item};
 
-use crate::counted::append_counted;
+use crate::counted::{append_counted, append_stated};
 use crate::search::Sought;
 use nd_base::{Memory, Octets, Order};
 use nd_flat::Fit;
@@ -51,6 +51,8 @@ pub struct Progress {
     /// The path of what is refused, once the walk has ended there. Where an agreement is sought, that of the value that disagrees, once its count or tag
     /// was passed.
     pub path: Octets,
+    /// The path of the variable that states the maximum count in front of a struct, once that was passed and if it is sought.
+    pub variable: Octets,
 }
 
 /// Why a walk over the items ends.
@@ -133,13 +135,13 @@ pub fn item(ground: &Ground<'_>, progress: &mut Progress, spot: &Spot<'_, '_>) -
     progress.lines.append(b" ")?;
     append_held(ground, &mut progress.lines, item)?;
     progress.lines.append(b"\n")?;
-    keep_path(ground, progress, spot, item.kind)?;
+    keep(ground, progress, spot, item.kind)?;
     pass(progress, item);
     Ok(item.value)
 }
 
-// Keeps the path of the value that has the count or tag which the next item is, if it is the one that is sought.
-fn keep_path(
+// Keeps the path of the value that has the count or tag which the next item is, and of the variable that states it, if it is the one that is sought.
+fn keep(
     ground: &Ground<'_>,
     progress: &mut Progress,
     spot: &Spot<'_, '_>,
@@ -148,6 +150,9 @@ fn keep_path(
     ensures path { OnOk result (progress.new.path ≡ either_path (is_sought_item ground.now.sought progress.old.next)
         (counted_path ground.now.interface.now.types kind (whole_types spot.now.top)
         (path_to (progress.old.path ++ name_text spot.now.name) (spot.now.top ∷ reverse spot.now.below.now.items))) progress.old.path) }
+    ensures variable { OnOk result (progress.new.variable ≡ either_path (is_sought_item ground.now.sought progress.old.next)
+        (counted_variable ground.now.interface.now.types kind (whole_types spot.now.top)
+        (path_to (progress.old.variable ++ name_text spot.now.name) (spot.now.top ∷ reverse spot.now.below.now.items))) progress.old.variable) }
     ensures lines { progress.new.lines ≡ progress.old.lines }
     ensures next { progress.new.next ≡ progress.old.next }
     ensures at { progress.new.at ≡ progress.old.at }
@@ -157,6 +162,8 @@ fn keep_path(
     }
     append_path(&mut progress.path, spot)?;
     append_counted(&ground.interface.types, &mut progress.path, kind, spot.top)?;
+    append_path(&mut progress.variable, spot)?;
+    append_stated(&ground.interface.types, &mut progress.variable, kind, spot.top)?;
     Ok(())
 }
 
@@ -239,6 +246,7 @@ fn pass(progress: &mut Progress, item: &Item)
     ensures at { progress.new.at ≡ item.now.at + item.now.len }
     ensures lines { progress.new.lines ≡ progress.old.lines }
     ensures path { progress.new.path ≡ progress.old.path }
+    ensures variable { progress.new.variable ≡ progress.old.variable }
 {
     progress.next += 1;
     progress.at = u64::from(item.at) + u64::from(item.len);
@@ -250,6 +258,7 @@ fn end(ground: &Ground<'_>, progress: &mut Progress, spot: &Spot<'_, '_>) -> Hal
     ensures path { ground.now.sought ≡ None → result ≡ halts.Here
         → progress.new.path ≡ path_to (progress.old.path ++ name_text spot.now.name) (spot.now.top ∷ reverse spot.now.below.now.items) }
     ensures same { IsSome ground.now.sought → progress.new.path ≡ progress.old.path }
+    ensures variable { progress.new.variable ≡ progress.old.variable }
 {
     if ground.sought.is_some() {
         return Halt::Here;
