@@ -1,14 +1,13 @@
 // The values that have the counts and tags which items are.
-ghost use Rattle.std.specs.Prelude.{◌≡◌, ◌++◌, ◌∷◌, IfOk, OnOk, option_map, reverse};
+ghost use Rattle.std.specs.Prelude.{◌≡◌, ◌++◌, IfOk, OnOk, option_map};
 ghost use Rattle.nd_types.specs.Table.{type_at};
 ghost use Rattle.nd_value.specs.declared.item.ItemKind.TheVariants as kinds;
 ghost use Rattle.text_grammar.specs.Paths.{member_path};
-ghost use Rattle.ndr_explain.specs.Cursors.{name_text, path_to};
-ghost use Rattle.ndr_trace_value.specs.LastMembers.{counted_path, counted_variable, last_field, last_member, last_path, last_variable};
-ghost use Rattle.ndr_trace_value.specs.LastMembers.{last_within, struct_of, variable_within, whole_types};
+ghost use Rattle.ndr_trace_value.specs.LastMembers.{counted_path, counted_variable, last_field, last_member, last_path};
+ghost use Rattle.ndr_trace_value.specs.LastMembers.{last_variable as last_variable_path, last_within, struct_of};
+ghost use Rattle.ndr_trace_value.specs.LastMembers.{variable_within as variable_path_within, whole_types};
 ghost use Rattle.ndr_trace_value.specs.Variable.{field_name, numbered_path};
 
-use crate::progress::{Spot, append_path};
 use crate::search::attribute;
 use nd_base::{Memory, Octets};
 use nd_types::{Field, Fields, NESTING_LIMIT, TypeDef, TypeId, Types};
@@ -72,50 +71,49 @@ fn append_within(
     Ok(())
 }
 
-/// The path of the variable that states a maximum count in front of a home's value: a member of the struct that ends the value. It is empty if the item is
-/// of another kind, or the value does not end with a member that has an attribute for its maximum count.
-pub fn stated_path(
+/// Turns the path of an item into that of the variable that states it, if the item is a maximum count in front of a home's value that a struct ends: the
+/// variable is a member of this struct. Else, or if the struct's last member has no attribute for its maximum count, the path is then empty.
+pub fn turn_to_variable(
     alloc: Global,
     types: &Types,
-    kind: ItemKind,
-    spot: &Spot<'_, '_>,
-) -> Result<Octets, Memory>
-    ensures { IfOk result (λ text. text ≡ counted_variable types.now kind (whole_types spot.now.top)
-        (path_to (name_text spot.now.name) (spot.now.top ∷ reverse spot.now.below.now.items))) }
-{
-    let mut text = Octets::new(alloc);
-    append_path(&mut text, spot)?;
-    let stated = stated_of(alloc, types, kind, spot.top, text)?;
-    Ok(stated)
-}
-
-// The same from the path of the item.
-fn stated_of(
-    alloc: Global,
-    types: &Types,
+    path: &mut Octets,
     kind: ItemKind,
     top: Level<'_>,
-    path: Octets,
+) -> Result<(), Memory>
+    ensures { OnOk result (path.new ≡ counted_variable types.now kind (whole_types top.entry) path.old) }
+{
+    let variable = variable_of(alloc, types, path.as_slice(), kind, top)?;
+    *path = variable;
+    Ok(())
+}
+
+// The path of the variable.
+fn variable_of(
+    alloc: Global,
+    types: &Types,
+    path: &[u8],
+    kind: ItemKind,
+    top: Level<'_>,
 ) -> Result<Octets, Memory>
-    ensures { IfOk result (λ text. text ≡ counted_variable types.now kind (whole_types top.entry) path) }
+    ensures { IfOk result (λ text. text ≡ counted_variable types.now kind (whole_types top.entry) path.now) }
 {
     match kind {
-        ItemKind::Max => stated_front(alloc, types, top, path),
+        ItemKind::Max => variable_of_front(alloc, types, path, top),
         _ => Ok(Octets::new(alloc)),
     }
 }
 
 // The same of a maximum count.
-fn stated_front(
+fn variable_of_front(
     alloc: Global,
     types: &Types,
+    path: &[u8],
     top: Level<'_>,
-    path: Octets,
 ) -> Result<Octets, Memory>
-    ensures { IfOk result (λ text. text ≡ counted_variable types.now kinds.Max (whole_types top.entry) path) }
+    ensures { IfOk result (λ text. text ≡ counted_variable types.now kinds.Max (whole_types top.entry) path.now) }
 {
     match top {
-        Level::Whole { of } => stated_last(alloc, types, of, path),
+        Level::Whole { of } => last_variable(alloc, types, path, of),
         Level::Arm { .. } => Ok(Octets::new(alloc)),
         Level::Members { .. } => Ok(Octets::new(alloc)),
         Level::Elements { .. } => Ok(Octets::new(alloc)),
@@ -123,29 +121,29 @@ fn stated_front(
 }
 
 // The same of a home's value of this type.
-fn stated_last(
+fn last_variable(
     alloc: Global,
     types: &Types,
+    path: &[u8],
     of: TypeId,
-    path: Octets,
 ) -> Result<Octets, Memory>
-    ensures { IfOk result (λ text. text ≡ last_variable types.now of.0 path) }
+    ensures { IfOk result (λ text. text ≡ last_variable_path types.now of.0 path.now) }
 {
-    let stated = stated_within(alloc, types, of, path, NESTING_LIMIT)?;
-    Ok(stated)
+    let variable = variable_within(alloc, types, path, of, NESTING_LIMIT)?;
+    Ok(variable)
 }
 
 // The same of a type that nests at most so deep.
-fn stated_within(
+fn variable_within(
     alloc: Global,
     types: &Types,
+    path: &[u8],
     of: TypeId,
-    path: Octets,
     depth: u32,
 ) -> Result<Octets, Memory>
-    ensures { IfOk result (λ text. text ≡ variable_within depth types.now of.0 path) }
+    ensures { IfOk result (λ text. text ≡ variable_path_within depth types.now of.0 path.now) }
 {
-    let mut text = path;
+    let mut text = Octets::copy(alloc, path)?;
     let mut at = of;
     for _level in 0..depth {
         let Some(members) = members_in(types, at) else {

@@ -14,7 +14,7 @@ ghost use Rattle.ndr_trace_value.specs.Tracing.{Known, Holds, HoldsCount, HasLab
 ghost use Rattle.ndr_trace_value.specs.Tracing.{IsTracing};
 ghost use Rattle.ndr_trace_value.specs.Tracing.{either_path, entry_at, is_sought as is_sought_item};
 
-use crate::counted::{append_counted, append_stated};
+use crate::counted::{append_counted, turn_to_variable};
 use crate::search::Sought;
 use nd_base::{Memory, Octets, Order};
 use nd_flat::Fit;
@@ -163,7 +163,13 @@ fn keep(
     append_path(&mut progress.path, spot)?;
     append_counted(&ground.interface.types, &mut progress.path, kind, spot.top)?;
     append_path(&mut progress.variable, spot)?;
-    append_stated(&ground.interface.types, &mut progress.variable, kind, spot.top)?;
+    turn_to_variable(
+        ground.alloc,
+        &ground.interface.types,
+        &mut progress.variable,
+        kind,
+        spot.top,
+    )?;
     Ok(())
 }
 

@@ -42,4 +42,4 @@ returns-clause-variable c =
     let its : List ℕ → List ℕ = counted_variable c.args.ground.now.interface.now.types c.args.kind (whole_types s.top) in
     let text : List ℕ = its (path_to (p.variable ++ name_text s.name) (s.top ∷ reverse s.below.now.items)) in
     let always : is_sought c.args.ground.now.sought p.next ≡ true = sym c.is_sought.ensures ∙ yes in
-    c.in_ok-append_stated.ensures ∙ ap its c.in_ok-append_path-2.ensures ∙ sym (ap (λ b. either_path b text p.variable) always)
+    c.in_ok-turn_to_variable.ensures ∙ ap its c.in_ok-append_path-2.ensures ∙ sym (ap (λ b. either_path b text p.variable) always)

@@ -1,6 +1,6 @@
 use Rattle.std.proofs.Common.{◌≡◌, ◌-◌}
 use Rattle.ndr_trace_value.specs.LastMembers.{variable_within}
-use Rattle.ndr_trace_value.proofs.counted.stated_within.Given as goal
+use Rattle.ndr_trace_value.proofs.counted.variable_within.Given as goal
 
 -- what the levels that are left come to is what all come to
 abbrev pub invariant-loop-level : goal.invariant-loop-level
