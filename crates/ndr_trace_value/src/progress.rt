@@ -14,7 +14,7 @@ ghost use Rattle.ndr_trace_value.specs.Tracing.{Known, Holds, HoldsCount, HasLab
 ghost use Rattle.ndr_trace_value.specs.Tracing.{IsTracing};
 ghost use Rattle.ndr_trace_value.specs.Tracing.{either_path, entry_at, is_sought as is_sought_item};
 
-use crate::counted::{append_counted, append_stated};
+use crate::counted::{append_counted, stated_path};
 use crate::search::Sought;
 use nd_base::{Memory, Octets, Order};
 use nd_flat::Fit;
@@ -152,7 +152,7 @@ fn keep(
         (path_to (progress.old.path ++ name_text spot.now.name) (spot.now.top ∷ reverse spot.now.below.now.items))) progress.old.path) }
     ensures variable { OnOk result (progress.new.variable ≡ either_path (is_sought_item ground.now.sought progress.old.next)
         (counted_variable ground.now.interface.now.types kind (whole_types spot.now.top)
-        (path_to (progress.old.variable ++ name_text spot.now.name) (spot.now.top ∷ reverse spot.now.below.now.items))) progress.old.variable) }
+        (path_to (name_text spot.now.name) (spot.now.top ∷ reverse spot.now.below.now.items))) progress.old.variable) }
     ensures lines { progress.new.lines ≡ progress.old.lines }
     ensures next { progress.new.next ≡ progress.old.next }
     ensures at { progress.new.at ≡ progress.old.at }
@@ -162,8 +162,7 @@ fn keep(
     }
     append_path(&mut progress.path, spot)?;
     append_counted(&ground.interface.types, &mut progress.path, kind, spot.top)?;
-    append_path(&mut progress.variable, spot)?;
-    append_stated(&ground.interface.types, &mut progress.variable, kind, spot.top)?;
+    progress.variable = stated_path(ground.alloc, &ground.interface.types, kind, spot)?;
     Ok(())
 }
 
