@@ -40,8 +40,8 @@ use Rattle.ndr_trace_value.specs.declared.progress.Spot.{Spot}
 use Rattle.ndr_trace_value.specs.declared.search.Sought.{Sought}
 use Rattle.ndr_trace_value.specs.LastMembers.{counted_path, counted_variable, whole_types}
 use Rattle.ndr_trace_value.specs.Traces.{entry_path}
-use Rattle.ndr_trace_value.specs.Tracing.{HasLabel, Holds, HoldsCount, IsCount, IsCounted, IsEnded, IsGround, IsInFront, IsItem, IsShown, IsSpot, IsTracing, Known, either_path, entry_at, is_sought, sought_path, sought_variable}
-use Rattle.ndr_trace_value.specs.Tracing.{kept, kept_by}
+use Rattle.ndr_trace_value.specs.Tracing.{HasLabel, Holds, HoldsCount, IsCount, IsCounted, IsEnded, IsGround, IsInFront, IsItem, IsShown, IsSpot, IsTracing, Known, either_path, entry_at, is_sought}
+use Rattle.ndr_trace_value.specs.Tracing.{kept, kept_by, sought_path, sought_variable}
 use Rattle.ndr_trace_value.proofs.Passing.{gap_passed, held_next, held_on, item_ended, item_passed, next_item, placed}
 
 -- ## Kinds

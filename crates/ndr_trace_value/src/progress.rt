@@ -10,8 +10,8 @@ ghost use Rattle.ndr_explain.specs.Cursors.{name_text, path_to};
 ghost use Rattle.ndr_explain.specs.Explained.{value_shown};
 ghost use Rattle.ndr_trace_value.specs.declared.progress.Halt.TheVariants as halts;
 ghost use Rattle.ndr_trace_value.specs.LastMembers.{counted_path, counted_variable, whole_types};
-ghost use Rattle.ndr_trace_value.specs.Tracing.{Known, Holds, HoldsCount, HasLabel, IsCount, IsCounted, IsEnded, IsGround, IsInFront, IsItem, IsShown, IsSpot};
-ghost use Rattle.ndr_trace_value.specs.Tracing.{IsTracing};
+ghost use Rattle.ndr_trace_value.specs.Tracing.{Known, Holds, HoldsCount, HasLabel, IsCount, IsCounted, IsEnded, IsGround, IsInFront, IsItem};
+ghost use Rattle.ndr_trace_value.specs.Tracing.{IsShown, IsSpot, IsTracing};
 ghost use Rattle.ndr_trace_value.specs.Tracing.{either_path, entry_at, is_sought as is_sought_item};
 
 use crate::counted::{append_counted, stated_path};
@@ -48,8 +48,8 @@ pub struct Progress {
     /// The place after the last of these.
     pub at: u64,
     pub lines: Octets,
-    /// The path of what is refused, once the walk has ended there. Where an agreement is sought, that of the value that disagrees, once its count or tag
-    /// was passed.
+    /// The path of what is refused, once the walk has ended there. Where an agreement is sought, that of the value that disagrees, once its count or
+    /// tag was passed.
     pub path: Octets,
     /// The path of the variable that states the maximum count in front of a struct, once that was passed and if it is sought.
     pub variable: Octets,
