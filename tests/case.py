@@ -122,6 +122,14 @@ class Check:
     runs_script: bool = False
 
 
+@dataclass(frozen=True)
+class CheckOf:
+    """A case of the program that is tested: `find` takes its path, and answers what is wrong, a line each."""
+
+    name: str
+    find: Callable[[str], Sequence[str]]
+
+
 def octets(text: str) -> bytes:
     """Octets from hexadecimal digits; spaces mean nothing."""
     return bytes.fromhex(text)

@@ -30,9 +30,9 @@ from typing import BinaryIO, List, Mapping, Optional, Sequence, Union
 sys.dont_write_bytecode = True
 sys.path.append(str(Path(__file__).resolve().parent / "cases"))  # files of cases may take cases of each other
 
-from case import ROOT, Begins, Case, Check, Command, Folder, Late, LinkTo, OneAtATime, Sparse, Stream, Unreadable, printable
+from case import ROOT, Begins, Case, Check, CheckOf, Command, Folder, Late, LinkTo, OneAtATime, Sparse, Stream, Unreadable, printable
 
-AnyCase = Union[Case, Late, Command, Check]
+AnyCase = Union[Case, Late, Command, Check, CheckOf]
 SECONDS = 300
 SHOWN = 400  # octets of a long text that a failure shows
 
@@ -241,6 +241,8 @@ def faults(program: str, case: AnyCase) -> List[str]:
     """What is wrong, a line each."""
     if isinstance(case, Check):
         return ["  " + fault for fault in case.find()]
+    if isinstance(case, CheckOf):
+        return ["  " + fault for fault in case.find(program)]
     if isinstance(case, Command):
         return difference("shown", case.shown, run_command(program, case))
     if isinstance(case, Late):

@@ -1,9 +1,9 @@
-"""The command `trace`: the items before the first fault, and the fault with its path; and the program beside a plain model of it."""
+"""The command `trace`: the items before the first fault, and the fault with its path; and the program compared with a plain model of it."""
 
 import subprocess
 
 import tracing
-from case import CLOSED, ROOT, Case, Check, example, interface, lines, octets
+from case import CLOSED, ROOT, Case, CheckOf, example, interface, lines, octets
 
 COUNTED = interface("typedef struct { short n; [size_is(n)] long a[*]; } s;", "void put([in] s *p);")
 ARMED = interface("typedef [switch_type(short)] union { [case(1)] long x; [case(2)] ; } u; typedef struct { short k; [switch_is(k)] u v; } e;",
@@ -62,7 +62,7 @@ CASES = [
            "4 fault Disagrees wanted 3 found 1 a n"),
 ]
 
-# Streams that are cut short everywhere, and with each octet changed, beside the plain model
+# Streams that are cut short everywhere, and with each octet changed, for the program and the plain model
 STREAMS = [
     ("parcels.idl", "send", "in", "02000000 0200 0000 05000000 06000000"),
     ("parcels.idl", "measure", "in", "0100 0100 07000000 0200 0200"),
@@ -70,9 +70,9 @@ STREAMS = [
 ]
 
 
-def answer(words, given):
-    """The program's status and both outputs."""
-    done = subprocess.run([ROOT / "bin" / "dceidl", *words], input=given, cwd=ROOT, stdout=subprocess.PIPE, stderr=subprocess.PIPE)
+def answer(program, words, given):
+    """A program's status and both outputs."""
+    done = subprocess.run([program, *words], input=given, cwd=ROOT, stdout=subprocess.PIPE, stderr=subprocess.PIPE)
     return done.returncode, done.stdout.decode(), done.stderr.decode()
 
 
@@ -84,17 +84,17 @@ def spoilt(given):
         yield given[:at] + bytes([given[at] ^ 3]) + given[at + 1:]
 
 
-def beside_model():
+def unlike_model(program):
     """Where the program and the model differ."""
     for file, operation, side, text in STREAMS:
-        _, listing, _ = answer(["compile", f"examples/{file}", "-"], b"")
+        _, listing, _ = answer(program, ["compile", f"examples/{file}", "-"], b"")
         of = tracing.interface(listing)
         for given in spoilt(octets(text)):
             shown, refusal = tracing.trace(of, operation, side, "little", given)
             notes = f"refused: octets at {refusal[0]}: {refusal[1]}\n" if refusal else ""
-            found = answer(["trace", f"examples/{file}", "-", operation, side, "little"], given)
+            found = answer(program, ["trace", f"examples/{file}", "-", operation, side, "little"], given)
             if found != (1 if refusal else 0, shown, notes):
                 yield f"{operation} of {given.hex()}: wanted {shown!r}, found {found!r}"
 
 
-CASES.append(Check("trace: beside the plain model", lambda: list(beside_model())))
+CASES.append(CheckOf("trace: as the plain model", lambda program: list(unlike_model(program))))

@@ -40,8 +40,8 @@ use Rattle.ndr_trace_value.specs.declared.progress.Spot.{Spot}
 use Rattle.ndr_trace_value.specs.declared.search.Sought.{Sought}
 use Rattle.ndr_trace_value.specs.LastMembers.{counted_path, counted_variable, whole_types}
 use Rattle.ndr_trace_value.specs.Traces.{entry_path}
-use Rattle.ndr_trace_value.specs.Tracing.{HasLabel, Holds, HoldsCount, IsCount, IsCounted, IsEnded, IsGround, IsInFront, IsItem, IsShown, IsSpot, IsTracing, Known, either_path, entry_at, is_sought, sought_path, sought_variable}
-use Rattle.ndr_trace_value.specs.Tracing.{kept, kept_by}
+use Rattle.ndr_trace_value.specs.Tracing.{HasLabel, Holds, HoldsCount, IsCount, IsCounted, IsEnded, IsGround, IsInFront, IsItem, IsShown, IsSpot, IsTracing, Known, either_path, entry_at, is_sought}
+use Rattle.ndr_trace_value.specs.Tracing.{kept, kept_by, sought_path, sought_variable}
 use Rattle.ndr_trace_value.proofs.Passing.{gap_passed, held_next, held_on, item_ended, item_passed, next_item, placed}
 
 -- ## Kinds
@@ -349,12 +349,12 @@ module _ (k : Known) (u : Ground) (ground : IsGround k u) where
       (counted_path u.interface.now.types i.kind (whole_types s.top) (path_to (p.path ++ name_text s.name) (s.top ∷ reverse s.below.now.items))) p.path
       → p1.variable
       ≡ either_path (is_sought u.sought p.next)
-      (counted_variable u.interface.now.types i.kind (whole_types s.top) (path_to (p.variable ++ name_text s.name) (s.top ∷ reverse s.below.now.items))) p.variable
+      (counted_variable u.interface.now.types i.kind (whole_types s.top) (path_to (name_text s.name) (s.top ∷ reverse s.below.now.items))) p.variable
       → IsTracing k p1 rest × Holds k x i.value
   item_goes s n spot x item label front rest p p1 t i got t1 t2 t3 t4 t5 t6 e1 e2 e3 e4 e5 e6 lines next at path variable = (
     item_passed k p p1 (entry_at s n x) rest z i one t there next at
         (held_next k (sought_path k) p.next i there u.sought ground.sought_is p.path p1.path _ t.path its_path path)
-        (held_next k (sought_variable k) p.next i there u.sought ground.sought_is p.variable p1.variable _ t.variable its_variable variable) line,
+        (held_next k (sought_variable k) p.next i there u.sought ground.sought_is p.variable p1.variable _ t.variable (λ empty. its_variable) variable) line,
     subst (Holds k x) (sym value) (holds k p.at x item ground.are_octets one.rendered.0 one.rendered.1),
   )
     where
@@ -401,12 +401,10 @@ module _ (k : Known) (u : Ground) (ground : IsGround k u) where
           ∙ ap (λ m. counted_path k.setting.table m (home_types k.setting k.graph s.home) here) (sym kind)
           ∙ ap (λ h. counted_path k.setting.table i.kind (home_types k.setting k.graph h) here) (sym home)
 
-      its_variable : p.variable ≡ []
-          → counted_variable u.interface.now.types i.kind (whole_types s.top) (path_to (p.variable ++ name_text s.name) (s.top ∷ reverse s.below.now.items))
+      its_variable : counted_variable u.interface.now.types i.kind (whole_types s.top) (path_to (name_text s.name) (s.top ∷ reverse s.below.now.items))
           ≡ sought_variable k (Some i)
-      its_variable empty =
-          ap (λ q. counted_variable u.interface.now.types i.kind (whole_types s.top) (path_to (q ++ name_text s.name) (s.top ∷ reverse s.below.now.items))) empty
-          ∙ ap (counted_variable u.interface.now.types i.kind (whole_types s.top))
+      its_variable =
+          ap (counted_variable u.interface.now.types i.kind (whole_types s.top))
           (spot ∙ ap₂ (λ (h : Home) (m : ℕ). path_in (home_paths k.setting k.graph h) m) (sym home) (sym node))
           ∙ ap (λ table. counted_variable table i.kind (whole_types s.top) here) ground.table ∙ ap (λ m. counted_variable k.setting.table m (whole_types s.top) here) kind
           ∙ variable_by_home s x (piece k.fetched p.at x) here item front

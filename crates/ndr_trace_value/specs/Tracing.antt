@@ -105,8 +105,8 @@ pub record IsTracing (k : Known) (p : Progress) (ms : List Entry) : Type 0 where
   pub variable : p.variable ≡ kept_variable k p.next
   pub due : Stops k.order k.fetched k.numbering k.here (end_to_end p.at ms) (drop p.next k.log)
 
--- All items have their lines, and the path is that of the entry at which reading stopped; if it stopped at an agreement, that of the value which has the
--- count or tag that is sought.
+-- All items have their lines, and the path is that of the entry at which reading stopped; if it stopped at an agreement, that of the value which has
+-- the count or tag that is sought.
 pub record IsEnded (k : Known) (p : Progress) : Type 0 where
   pub lines : p.lines ≡ explanation k.setting k.graph k.log
   pub path : ((is_test k.here.entry.kind ≡ true) × (p.path ≡ kept k (length k.log)))

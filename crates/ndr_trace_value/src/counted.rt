@@ -15,8 +15,8 @@ use nd_value::ItemKind;
 use ndr_explain::Level;
 use std::alloc::Global;
 
-/// Adds the steps from the value at which an item is to the one that has this count or tag: from a home's value to the last of its last members, if the
-/// item is a maximum count; there are none else.
+/// Adds the steps from the value at which an item is to the one that has this count or tag: if the item is a maximum count, from a home's value to
+/// its last member, to that one's, and so on; there are none else.
 pub fn append_counted(
     types: &Types,
     text: &mut Octets,

@@ -10,11 +10,11 @@ ghost use Rattle.ndr_explain.specs.Cursors.{name_text, path_to};
 ghost use Rattle.ndr_explain.specs.Explained.{value_shown};
 ghost use Rattle.ndr_trace_value.specs.declared.progress.Halt.TheVariants as halts;
 ghost use Rattle.ndr_trace_value.specs.LastMembers.{counted_path, counted_variable, whole_types};
-ghost use Rattle.ndr_trace_value.specs.Tracing.{Known, Holds, HoldsCount, HasLabel, IsCount, IsCounted, IsEnded, IsGround, IsInFront, IsItem, IsShown, IsSpot};
-ghost use Rattle.ndr_trace_value.specs.Tracing.{IsTracing};
+ghost use Rattle.ndr_trace_value.specs.Tracing.{Known, Holds, HoldsCount, HasLabel, IsCount, IsCounted, IsEnded, IsGround, IsInFront, IsItem};
+ghost use Rattle.ndr_trace_value.specs.Tracing.{IsShown, IsSpot, IsTracing};
 ghost use Rattle.ndr_trace_value.specs.Tracing.{either_path, entry_at, is_sought as is_sought_item};
 
-use crate::counted::{append_counted, turn_to_variable};
+use crate::counted::{append_counted, stated_path};
 use crate::search::Sought;
 use nd_base::{Memory, Octets, Order};
 use nd_flat::Fit;
@@ -48,8 +48,8 @@ pub struct Progress {
     /// The place after the last of these.
     pub at: u64,
     pub lines: Octets,
-    /// The path of what is refused, once the walk has ended there. Where an agreement is sought, that of the value that disagrees, once its count or tag
-    /// was passed.
+    /// The path of what is refused, once the walk has ended there. Where an agreement is sought, that of the value that disagrees, once its count or
+    /// tag was passed.
     pub path: Octets,
     /// The path of the variable that states the maximum count in front of a struct, once that was passed and if it is sought.
     pub variable: Octets,
@@ -152,7 +152,7 @@ fn keep(
         (path_to (progress.old.path ++ name_text spot.now.name) (spot.now.top ∷ reverse spot.now.below.now.items))) progress.old.path) }
     ensures variable { OnOk result (progress.new.variable ≡ either_path (is_sought_item ground.now.sought progress.old.next)
         (counted_variable ground.now.interface.now.types kind (whole_types spot.now.top)
-        (path_to (progress.old.variable ++ name_text spot.now.name) (spot.now.top ∷ reverse spot.now.below.now.items))) progress.old.variable) }
+        (path_to (name_text spot.now.name) (spot.now.top ∷ reverse spot.now.below.now.items))) progress.old.variable) }
     ensures lines { progress.new.lines ≡ progress.old.lines }
     ensures next { progress.new.next ≡ progress.old.next }
     ensures at { progress.new.at ≡ progress.old.at }
@@ -162,14 +162,7 @@ fn keep(
     }
     append_path(&mut progress.path, spot)?;
     append_counted(&ground.interface.types, &mut progress.path, kind, spot.top)?;
-    append_path(&mut progress.variable, spot)?;
-    turn_to_variable(
-        ground.alloc,
-        &ground.interface.types,
-        &mut progress.variable,
-        kind,
-        spot.top,
-    )?;
+    progress.variable = stated_path(ground.alloc, &ground.interface.types, kind, spot)?;
     Ok(())
 }
 

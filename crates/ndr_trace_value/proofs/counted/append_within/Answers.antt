@@ -23,5 +23,7 @@ returns-in_default c =
 
 pub returns : goal.returns
 returns c =
-    sym (c.loop-level.invariant
-    ∙ ap (λ n. last_within n c.args.types.now c.loop-level.at.0 c.loop-level.text) (let z : c.args.depth - c.args.depth ≡ 0 = omega arith in z))
+    let past = c.loop-level-test.false in
+    let within = c.loop-level.auto._level-end in
+    let none : c.args.depth - c.loop-level._level ≡ 0 = omega (arith, past, within) in
+    sym (c.loop-level.invariant ∙ ap (λ n. last_within n c.args.types.now c.loop-level.at.0 c.loop-level.text) none)

@@ -20,7 +20,7 @@ returns-then-not-is_sought-clause-variable c =
     let s = c.args.spot.now in
     let p = c.args.progress.now in
     let text : List ℕ =
-    counted_variable c.args.ground.now.interface.now.types c.args.kind (whole_types s.top) (path_to (p.variable ++ name_text s.name) (s.top ∷ reverse s.below.now.items)) in
+    counted_variable c.args.ground.now.interface.now.types c.args.kind (whole_types s.top) (path_to (name_text s.name) (s.top ∷ reverse s.below.now.items)) in
     let never : is_sought c.args.ground.now.sought p.next ≡ false = sym c.is_sought.ensures ∙ no in
     sym (ap (λ b. either_path b text p.variable) never)
 
@@ -39,7 +39,7 @@ returns-clause-variable c =
     let yes : c.is_sought.result ≡ true = search rules in
     let s = c.args.spot.now in
     let p = c.args.progress.now in
-    let its : List ℕ → List ℕ = counted_variable c.args.ground.now.interface.now.types c.args.kind (whole_types s.top) in
-    let text : List ℕ = its (path_to (p.variable ++ name_text s.name) (s.top ∷ reverse s.below.now.items)) in
+    let text : List ℕ =
+    counted_variable c.args.ground.now.interface.now.types c.args.kind (whole_types s.top) (path_to (name_text s.name) (s.top ∷ reverse s.below.now.items)) in
     let always : is_sought c.args.ground.now.sought p.next ≡ true = sym c.is_sought.ensures ∙ yes in
-    c.in_ok-turn_to_variable.ensures ∙ ap its c.in_ok-append_path-2.ensures ∙ sym (ap (λ b. either_path b text p.variable) always)
+    c.in_ok-stated_path.ensures ∙ sym (ap (λ b. either_path b text p.variable) always)
