@@ -9,6 +9,7 @@ use Rattle.std.proofs.lemmas.Bool.{both_ways}
 use Rattle.nd_lemmas.proofs.Lists.{all_at}
 use Rattle.nd_types.specs.declared.types.AttrVar.{AttrVar}
 use Rattle.nd_types.specs.declared.types.Class.{Class}
+use Rattle.nd_types.specs.declared.types.Field.{Field}
 use Rattle.nd_types.specs.declared.types.TypeDef.{TypeDef}
 use Rattle.nd_types.specs.declared.types.TypeDef.TheVariants as def
 use Rattle.nd_types.specs.declared.types.TypeId.{TypeId}
@@ -49,8 +50,10 @@ use Rattle.nd_grammar.proofs.next.NextStream.{IsLaidOut, IsPipeRoot, drop_at}
 use Rattle.nd_grammar.proofs.next.PointerPlaces.{root_there}
 use Rattle.text_grammar.specs.Paths.{cell_types, home_types, home_value, root_types}
 use Rattle.ndr_trace.proofs.FrontTests.{AreTestsOfFront, IsTestOfFront, both_parts, in_place_there, no_tests, own_value_there, whole_there}
-use Rattle.ndr_trace.proofs.LastPaths.{last_path-legal, no_member, no_member_behind}
-use Rattle.ndr_trace_value.specs.LastMembers.{last_member, last_path, onward}
+use Rattle.ndr_trace.proofs.LastPaths.{last_path-legal, last_variable-legal, no_member, no_member_behind}
+use Rattle.ndr_trace.proofs.RootAttributes.{members_one}
+use Rattle.ndr_trace_value.specs.LastMembers.{last_member, last_path, last_variable, onward, stated_in, struct_of}
+use Rattle.ndr_trace_value.proofs.Attributes.{OneEach}
 
 -- what has the shape of a pointer is one
 as_pointer : (d : Option TypeDef) (c : Option ℕ) (ks : Trees) → has_shape d (tree.Ptr c) ks ≡ true → (k : Class) × (to : TypeId) × (d ≡ Some (def.Pointer k to))
@@ -67,6 +70,12 @@ module _ (w : Setting) (side : IsLegalSide w) (g : Graph) (s : IsSound w g) wher
 
   unfolds : (t : ℕ) (p : List ℕ) → last_path w.table t p ≡ onward (last_path w.table) p (last_member (type_at w.table t))
   unfolds t p = last_path-legal w.table side.operations side.legal t p
+
+  stated : (t : ℕ) (p : List ℕ) → last_variable w.table t p ≡ stated_in (last_variable w.table) p (struct_of (type_at w.table t))
+  stated t p = last_variable-legal w.table side.operations side.legal t p
+
+  one_each : (t : ℕ) (fs : List Field) → type_at w.table t ≡ Some (def.Struct fs) → AllByRecursion (λ (f : Field). OneEach f.vars) fs
+  one_each t fs e = members_one w.table side.operations side.legal t fs e
 
   abbrev There : List Entry → Type 0
   There ms = AreTestsOfFront w g ms
@@ -105,13 +114,13 @@ module _ (w : Setting) (side : IsLegalSide w) (g : Graph) (s : IsSound w g) wher
       (root_of_home i r there (root_at g i) refl (known_roots w g s i r there))
 
   standing_there : (x : Standing) → IsOfHome x → AreKnown g w.table (x.of ∷ []) (more x.val none) → There (whole_value w.table x.home x.of x.val)
-  standing_there x h k = whole_there w g laid.hoisting subjects unfolds x.home x.of x.val h.0 h.1 k
+  standing_there x h k = whole_there w g laid.hoisting subjects unfolds stated one_each x.home x.of x.val h.0 h.1 k
 
   -- the agreements of a pointer's member
   step_there : (p : Pending) (c : ℕ) → Fits p → p.cell ≡ Some c → There (step_tests g p c)
   step_there p c f e =
       let (y, ey, ty) = f.pointee c e in
-      own_value_there w g laid.hoisting subjects unfolds (cell_home c) p.to (type_at w.table p.to) (cell_at g c) p.agreements (cell_of_home c p.to y ey ty)
+      own_value_there w g laid.hoisting subjects unfolds stated one_each (cell_home c) p.to (type_at w.table p.to) (cell_at g c) p.agreements (cell_of_home c p.to y ey ty)
       (no_member (type_at w.table p.to)) f.fits
 
   -- ## The order of deferral
@@ -163,7 +172,7 @@ module _ (w : Setting) (side : IsLegalSide w) (g : Graph) (s : IsSound w g) wher
     -- on the value of a root itself
     own_root : (v : Tree) → There (tests (home.Root i) 0 v (root_agreements w g r.vars))
     own_root v =
-        own_value_there w g laid.hoisting subjects unfolds (home.Root i) r.of (type_at w.table (pointee w.table r.of)) v (root_agreements w g r.vars) (ap root_types there)
+        own_value_there w g laid.hoisting subjects unfolds stated one_each (home.Root i) r.of (type_at w.table (pointee w.table r.of)) v (root_agreements w g r.vars) (ap root_types there)
         (no_member_behind w.table r.of (type_at w.table r.of) refl) (agreements_fit (type_at w.table (pointee w.table r.of)) r.vars fits)
 
     -- on the cell that a root names
@@ -181,7 +190,7 @@ module _ (w : Setting) (side : IsLegalSide w) (g : Graph) (s : IsSound w g) wher
             let fit : AllFit (type_at w.table to.0) (root_agreements w g r.vars) =
             subst (λ u. AllFit (type_at w.table u) (root_agreements w g r.vars)) (ap (pointee_by r.of) is)
             (agreements_fit (type_at w.table (pointee w.table r.of)) r.vars fits) in
-            own_value_there w g laid.hoisting subjects unfolds (cell_home c) to.0 (type_at w.table to.0) (cell_at g c) (root_agreements w g r.vars)
+            own_value_there w g laid.hoisting subjects unfolds stated one_each (cell_home c) to.0 (type_at w.table to.0) (cell_at g c) (root_agreements w g r.vars)
             (cell_of_home c to.0 y ey ty) (no_member (type_at w.table to.0)) fit
 
     root_test_there : (v : Tree) → AreKnown g w.table (r.of ∷ []) (more v none) → There (root_test g i v (root_agreements w g r.vars))
@@ -220,7 +229,7 @@ module _ (w : Setting) (side : IsLegalSide w) (g : Graph) (s : IsSound w g) wher
       joined_there (chunk_entries w.table h t n c (take_trees c ts)) (chunks w.table h t (n + node_count (take_trees c ts)) cut (drop_trees c ts))
       (joined_there (entries h 0 (Align 4 ∷ Chunk c ∷ [])) (in_place w.table h (replicate c t) n (take_trees c ts))
       (no_tests w g h 0 (Align 4 ∷ Chunk c ∷ []) (tt, (tt, tt)))
-      (in_place_there w g laid.hoisting subjects unfolds h (replicate c t) n (take_trees c ts) (replicate_only (hoists w.table) t plain c)
+      (in_place_there w g laid.hoisting subjects unfolds stated one_each h (replicate c t) n (take_trees c ts) (replicate_only (hoists w.table) t plain c)
       (known_take g w.table t c ts low k) (λ e. absurd (both_ways _ (replicate_last (hoists w.table) t plain c) e))))
       (chunks_there h t (n + node_count (take_trees c ts)) cut (drop_trees c ts) plain left (known_drop g w.table t c ts k))
 

@@ -1,7 +1,7 @@
 -- Agreements on a maximum count, over the values of a home: each is tried at the value whose maximum count is in front of the home's value.
 -- `w` is a setting, `g` a partial graph, `h` a home, `n` a node's number, `t` a type's number, `d` what it is, `l` a label, `ks` are its children, `ts` values
 -- of some types, `ags` are agreements, `m` is an entry, `v` a value.
-use Rattle.std.proofs.Common.{◌≡◌, ◌⊎◌, inl, inr, ◌∙◌, ℕ, ◌+◌, ◌<◌, ◌≤◌, Bool, true, false, List, [], ◌∷◌, ◌++◌, Option, Some, None, map, refl, sym, ap, ap₂, subst, arith}
+use Rattle.std.proofs.Common.{◌≡◌, ◌⊎◌, inl, inr, ◌∙◌, ℕ, zero, suc, ℤ, ◌+◌, ◌<◌, ◌≤◌, Bool, true, false, List, [], ◌∷◌, ◌++◌, Option, Some, None, map, refl, sym, ap, ap₂, subst, arith}
 use Rattle.std.specs.Prelude.{◌==◌, ◌||◌}
 use Rattle.std.specs.List.{AllByRecursion, slice_get}
 use Rattle.nd_types.specs.declared.types.Attr.{Attr}
@@ -40,7 +40,7 @@ use Rattle.ndr_trace_value.proofs.Attributes.{OneEach, first_is}
 -- ## Attributes of members
 
 -- an attribute on a maximum count
-maximum_spoken : (a : Attr) → is_maximum a ≡ true → spoken a ≡ kind.Max
+pub maximum_spoken : (a : Attr) → is_maximum a ≡ true → spoken a ≡ kind.Max
 maximum_spoken attr.Size e = refl
 maximum_spoken attr.Max e = refl
 maximum_spoken attr.First e = cc
@@ -78,7 +78,7 @@ says_of g ks (v ∷ vs) a e = go (number_in ks v.var) refl e (says_of g ks vs a)
     go (Some z) f (inr k) later = one_more (later k)
 
 -- a struct has no attribute on a maximum count
-none_on_struct : (d : Option TypeDef) (ms : List Field) → d ≡ Some (def.Struct ms) → (vs : List AttrVar) → AllByRecursion (λ (v : AttrVar). AttrFits v.attr d) vs
+pub none_on_struct : (d : Option TypeDef) (ms : List Field) → d ≡ Some (def.Struct ms) → (vs : List AttrVar) → AllByRecursion (λ (v : AttrVar). AttrFits v.attr d) vs
     → first_of kind.Max vs ≡ None
 none_on_struct d ms e [] f = refl
 none_on_struct d ms e (v ∷ vs) f = by_attr v.attr refl (subst (AttrFits v.attr) e f.0) (none_on_struct d ms e vs f.1)

@@ -16,7 +16,7 @@ use Rattle.ndr_trace_laws.specs.Untested.{untested}
 use Rattle.ndr_trace_value.specs.declared.nodes.Walker.{Walker}
 use Rattle.ndr_trace_value.specs.declared.progress.Ground.{Ground}
 use Rattle.ndr_trace_value.specs.declared.search.Sought.{Sought}
-use Rattle.ndr_trace_value.specs.Attributes.{IsOwnName}
+use Rattle.ndr_trace_value.specs.Attributes.{IsKeptName, IsOwnName}
 use Rattle.ndr_trace.specs.Homes.{IsAwaiting}
 use Rattle.ndr_trace_value.specs.Naming.{IsNaming, names_in}
 use Rattle.ndr_trace_value.specs.Tracing.{IsTracing, Known}
@@ -72,6 +72,7 @@ pub record IsBeginning (u : Walker) : Type 0 where
   pub unmarked : u.cells.stands.items ≡ []
 
 -- the path that is shown: that at which a walk ended; where an agreement is sought a blank and the variable follow
-abbrev pub IsFinished : Ground → Option Sought → List ℕ → List ℕ → Type 0
-IsFinished u None path shown = shown ≡ path
-IsFinished u (Some s) path shown = (variable : List ℕ) × IsOwnName u s variable × (shown ≡ path ++ (codes " " ++ variable))
+abbrev pub IsFinished : Ground → Option Sought → List ℕ → List ℕ → List ℕ → Type 0
+IsFinished u None path kept shown = shown ≡ path
+IsFinished u (Some s) path kept shown =
+    (variable : List ℕ) × IsOwnName u s variable × IsKeptName u s kept variable × (shown ≡ path ++ (codes " " ++ variable))

@@ -12,7 +12,7 @@ ghost use Rattle.nd_grammar.specs.LegalSide.{IsLegalSide};
 ghost use Rattle.ndr_decoder_laws.specs.verdict.InOrder.{HasOwnNumbers};
 ghost use Rattle.ndr_trace.specs.Homes.{IsPart};
 ghost use Rattle.ndr_trace.specs.Sides.{IsBeginning, IsFinished, IsSide, IsStream};
-ghost use Rattle.ndr_trace_value.specs.Attributes.{IsOwnName};
+ghost use Rattle.ndr_trace_value.specs.Attributes.{IsKeptName, IsOwnName};
 ghost use Rattle.ndr_trace_value.specs.Traces.{IsTraceOf};
 ghost use Rattle.ndr_trace_value.specs.Tracing.{IsEnded, IsGround, Known};
 
@@ -128,16 +128,21 @@ fn begin<'a>(alloc: Global) -> Walker<'a>
 // The lines, and the path at which the walk ended; where an agreement fails, a blank and the path of the variable follow.
 fn finish<'a>(ground: &Ground<'a>, walker: Walker<'a>) -> Result<Traced, Memory>
     ensures lines { IfOk result (λ t. t.lines ≡ walker.entry.progress.lines) }
-    ensures path { IfOk result (λ t. IsFinished ground.now ground.now.sought walker.entry.progress.path t.path) }
+    ensures path { IfOk result (λ t. IsFinished ground.now ground.now.sought walker.entry.progress.path walker.entry.progress.variable t.path) }
 {
     let Walker {
         progress,
         search,
         ..
     } = walker;
-    let Progress { lines, path, .. } = progress;
+    let Progress {
+        lines,
+        path,
+        variable,
+        ..
+    } = progress;
     match ground.sought {
-        Some(sought) => finish_at(ground, &search, sought, lines, path),
+        Some(sought) => finish_at(ground, &search, sought, lines, path, &variable),
         None => Ok(Traced { lines, path }),
     }
 }
@@ -149,11 +154,13 @@ fn finish_at(
     sought: Sought,
     lines: Octets,
     path: Octets,
+    kept: &Octets,
 ) -> Result<Traced, Memory>
     ensures lines { IfOk result (λ t. t.lines ≡ lines) }
-    ensures path { IfOk result (λ t. (variable : List ℕ) × IsOwnName ground.now sought variable × (t.path ≡ path ++ (codes " " ++ variable))) }
+    ensures path { IfOk result (λ t. (variable : List ℕ) × IsOwnName ground.now sought variable × IsKeptName ground.now sought kept.now variable
+        × (t.path ≡ path ++ (codes " " ++ variable))) }
 {
-    let variable = variable_path(ground, search, sought)?;
+    let variable = variable_path(ground, search, sought, kept)?;
     let mut path = path;
     path.append(b" ")?;
     path.append(variable.as_slice())?;

@@ -1,13 +1,15 @@
 // The values that have the counts and tags which items are.
-ghost use Rattle.std.specs.Prelude.{◌≡◌, ◌++◌, IfOk, OnOk, option_map};
+ghost use Rattle.std.specs.Prelude.{◌≡◌, ◌++◌, ◌∷◌, IfOk, OnOk, option_map, reverse};
 ghost use Rattle.nd_types.specs.Table.{type_at};
 ghost use Rattle.nd_value.specs.declared.item.ItemKind.TheVariants as kinds;
 ghost use Rattle.text_grammar.specs.Paths.{member_path};
+ghost use Rattle.ndr_explain.specs.Cursors.{name_text, path_to};
 ghost use Rattle.ndr_trace_value.specs.LastMembers.{counted_path, counted_variable, last_field, last_member, last_path};
 ghost use Rattle.ndr_trace_value.specs.LastMembers.{last_variable as last_variable_path, last_within, struct_of};
 ghost use Rattle.ndr_trace_value.specs.LastMembers.{variable_within as variable_path_within, whole_types};
 ghost use Rattle.ndr_trace_value.specs.Variable.{field_name, numbered_path};
 
+use crate::progress::{Spot, append_path};
 use crate::search::attribute;
 use nd_base::{Memory, Octets};
 use nd_types::{Field, Fields, NESTING_LIMIT, TypeDef, TypeId, Types};
@@ -71,23 +73,24 @@ fn append_within(
     Ok(())
 }
 
-/// Turns the path of an item into that of the variable that states it, if the item is a maximum count in front of a home's value that a struct ends: the
-/// variable is a member of this struct. Else, or if the struct's last member has no attribute for its maximum count, the path is then empty.
-pub fn turn_to_variable(
+/// The path of the variable that states an item, if it is a maximum count in front of a home's value that a struct ends: the variable is a member of this
+/// struct. Else, or if the struct's last member has no attribute for its maximum count, it is empty.
+pub fn stated_path(
     alloc: Global,
     types: &Types,
-    path: &mut Octets,
     kind: ItemKind,
-    top: Level<'_>,
-) -> Result<(), Memory>
-    ensures { OnOk result (path.new ≡ counted_variable types.now kind (whole_types top.entry) path.old) }
+    spot: &Spot<'_, '_>,
+) -> Result<Octets, Memory>
+    ensures { IfOk result (λ text. text ≡ counted_variable types.now kind (whole_types spot.now.top)
+        (path_to (name_text spot.now.name) (spot.now.top ∷ reverse spot.now.below.now.items))) }
 {
-    let variable = variable_of(alloc, types, path.as_slice(), kind, top)?;
-    *path = variable;
-    Ok(())
+    let mut path = Octets::new(alloc);
+    append_path(&mut path, spot)?;
+    let variable = variable_of(alloc, types, path.as_slice(), kind, spot.top)?;
+    Ok(variable)
 }
 
-// The path of the variable.
+// The same from the path of the item.
 fn variable_of(
     alloc: Global,
     types: &Types,

@@ -11,7 +11,7 @@ mod search;
 mod shapes;
 
 pub use cells::{Cells, Pending, come_to, new_cell};
-pub use members::{at_end, close, note_front};
+pub use members::{at_end, close};
 pub use nodes::{Walker, walk_level};
 pub use parameters::{RootSeen, variable_path, note_direct};
 pub use progress::{Ground, Halt, Progress, Spot, count, gap};

@@ -1,10 +1,10 @@
 // The variables of parameters, where an agreement is sought.
-ghost use Rattle.std.specs.Prelude.{◌≡◌, IfOk, Some, option_map};
+ghost use Rattle.std.specs.Prelude.{◌≡◌, [], IfOk, None, Some, option_map};
 ghost use Rattle.std.specs.List.{slice_get};
 ghost use Rattle.nd_types.specs.Walk.{named_roots, root_value};
 ghost use Rattle.text_grammar.specs.Written.{parameter_name as name_of_param};
-ghost use Rattle.ndr_trace_value.specs.Attributes.{IsOwnName, home_attribute, number_attribute as by_number, param_attribute as by_param};
-ghost use Rattle.ndr_trace_value.specs.Attributes.{root_attribute as by_root};
+ghost use Rattle.ndr_trace_value.specs.Attributes.{IsKeptName, IsOwnName, home_attribute, number_attribute as by_number};
+ghost use Rattle.ndr_trace_value.specs.Attributes.{param_attribute as by_param, root_attribute as by_root};
 
 use crate::members::number_of;
 use crate::progress::Ground;
@@ -72,13 +72,16 @@ fn seen_cell(search: &mut Search<'_>, cell: CellId, number: Option<i128>) -> Res
     Ok(())
 }
 
-/// The path of the variable that states the number at a failed agreement.
+/// The path of the variable that states the number at a failed agreement, where the walk kept this path for a maximum count, or else found what the
+/// variables of members state.
 pub fn variable_path(
     ground: &Ground<'_>,
     search: &Search<'_>,
     sought: Sought,
+    kept: &Octets,
 ) -> Result<Octets, Memory>
     ensures own { IfOk result (λ path. IsOwnName ground.now sought path) }
+    ensures kept { IfOk result (λ path. IsKeptName ground.now sought kept.now path) }
 {
     let Some(operation) = ground.interface.operations.get(ground.op as usize) else {
         return Ok(Octets::new(ground.alloc));
@@ -89,7 +92,7 @@ pub fn variable_path(
             Ok(name)
         }
         None => {
-            let path = searched_path(ground, search, sought)?;
+            let path = other_path(ground, search, sought, kept.as_slice())?;
             Ok(path)
         }
     }
@@ -102,8 +105,10 @@ fn own_attribute(
     sought: Sought,
 ) -> Option<AttrVar>
     requires there { slice_get ground.now.interface.now.operations ground.now.op ≡ Some operation.now }
-    ensures { sought.node ≡ 0 → result
+    ensures own { sought.node ≡ 0 → result
         ≡ home_attribute operation.now sought.kind (named_roots ground.now.interface.now.types ground.now.side operation.now) sought.home }
+    ensures none { home_attribute operation.now sought.kind (named_roots ground.now.interface.now.types ground.now.side operation.now) sought.home ≡ None
+        → result ≡ None }
 {
     if sought.node != 0 {
         return None;
@@ -162,11 +167,18 @@ fn parameter_name(alloc: Global, operation: &Operation, by: AttrVar) -> Result<O
 }
 
 // The path of a variable that states the number of what is no parameter's own value.
-fn searched_path(
+fn other_path(
     ground: &Ground<'_>,
     search: &Search<'_>,
     sought: Sought,
-) -> Result<Octets, Memory> {
+    kept: &[u8],
+) -> Result<Octets, Memory>
+    ensures { IfOk result (λ path. (kept.now ≡ [] → ⊥) → path ≡ kept.now) }
+{
+    if kept.len() > 0 {
+        let path = Octets::copy(ground.alloc, kept)?;
+        return Ok(path);
+    }
     let mut path = Octets::new(ground.alloc);
     append_variable(ground, search, sought, &mut path)?;
     Ok(path)
