@@ -1,7 +1,7 @@
 -- Agreements on a maximum count, over the values of a home: each is tried at the value whose maximum count is in front of the home's value.
 -- `w` is a setting, `g` a partial graph, `h` a home, `n` a node's number, `t` a type's number, `d` what it is, `l` a label, `ks` are its children, `ts` values
 -- of some types, `ags` are agreements, `m` is an entry, `v` a value.
-use Rattle.std.proofs.Common.{◌≡◌, ◌⊎◌, inl, inr, ◌∙◌, ℕ, zero, suc, ℤ, ◌+◌, ◌<◌, ◌≤◌, Bool, true, false, List, [], ◌∷◌, ◌++◌, Option, Some, None, map, refl, sym, ap, ap₂, subst, arith}
+use Rattle.std.proofs.Common.{◌≡◌, ◌⊎◌, inl, inr, ◌∙◌, ℕ, suc, ℤ, ◌+◌, ◌<◌, ◌≤◌, Bool, true, false, List, [], ◌∷◌, ◌++◌, Option, Some, None, map, refl, sym, ap, ap₂, subst, arith}
 use Rattle.std.specs.Prelude.{◌==◌, ◌||◌}
 use Rattle.std.specs.List.{AllByRecursion, slice_get}
 use Rattle.nd_types.specs.declared.types.Attr.{Attr}
@@ -52,7 +52,7 @@ maximum_spoken attr.Switch e = cc
 record SaysOf (ks : Trees) (vs : List AttrVar) (a : Agreement) : Type 0 where
   by : AttrVar
   among : Among vs by
-  attr : by.attr ≡ a.attr
+  attr_is : by.attr ≡ a.attr
   value : ℤ
   value_is : number_in ks by.var ≡ Some value
   wanted_is : a.wanted ≡ wanted_by a.attr value
@@ -62,7 +62,7 @@ says_of g ks [] a e = absurd e
 says_of g ks (v ∷ vs) a e = go (number_in ks v.var) refl e (says_of g ks vs a)
   where
     one_more : SaysOf ks vs a → SaysOf ks (v ∷ vs) a
-    one_more s = record { by = s.by; among = inr s.among; attr = s.attr; value = s.value; value_is = s.value_is; wanted_is = s.wanted_is }
+    one_more s = record { by = s.by; among = inr s.among; attr_is = s.attr_is; value = s.value; value_is = s.value_is; wanted_is = s.wanted_is }
 
     go : (o : Option ℤ) → number_in ks v.var ≡ o → Among (agreement v.attr o ++ member_agreements ks vs) a → (Among (member_agreements ks vs) a → SaysOf ks vs a)
         → SaysOf ks (v ∷ vs) a
@@ -70,7 +70,7 @@ says_of g ks (v ∷ vs) a e = go (number_in ks v.var) refl e (says_of g ks vs a)
     go (Some z) f (inl k) later = record {
       by = v;
       among = inl refl;
-      attr = ap (λ (y : Agreement). y.attr) (sym k);
+      attr_is = ap (λ (y : Agreement). y.attr) (sym k);
       value = z;
       value_is = f;
       wanted_is = ap (λ (y : Agreement). y.wanted) k ∙ ap (λ b. wanted_by b z) (ap (λ (y : Agreement). y.attr) (sym k));
@@ -381,7 +381,7 @@ module _ (w : Setting) (g : Graph) where
           let struct : TypedNode = record { node = n; of = t; agreements = first_agreements ags; label = l; kids = ks } in
           let (of, home_is, in_home) = nodes struct (inl refl) in
           let s = says_of g ks f.vars a among in
-          let counts : spoken s.by.attr ≡ kind.Max = ap spoken s.attr ∙ maximum_spoken a.attr e in
+          let counts : spoken s.by.attr ≡ kind.Max = ap spoken s.attr_is ∙ maximum_spoken a.attr e in
           let first : first_of kind.Max f.vars ≡ Some s.by = first_is kind.Max f.vars s.by one s.among counts in
           let text : front_variable w g h ≡ numbered_path p fs s.by.var =
           struct_says h t p fs d says ∙ ap (stated_by_last (last_variable w.table) p fs) final ∙ ap (stated_by (last_variable w.table) p fs f) first in
@@ -398,7 +398,7 @@ module _ (w : Setting) (g : Graph) where
             place = place;
             by = s.by;
             among = s.among;
-            attr = s.attr;
+            attr_is = s.attr_is;
             value = s.value;
             value_is = s.value_is;
             wanted_is = s.wanted_is;

@@ -64,7 +64,7 @@ module _ (w : Setting) (g : Graph) (legal : IsLegalSide w) where
   stated k same u side s q name a wanted at at_home own_value of_kind test root there = record {
     by = says.by;
     among = says.among;
-    attr = says.attr;
+    attr_is = says.attr_is;
     value = says.value;
     value_is = says.value_is;
     wanted_is = says.wanted_is ∙ refl;
@@ -83,7 +83,7 @@ module _ (w : Setting) (g : Graph) (legal : IsLegalSide w) where
       found : home_attribute w.op s.kind (named_roots w.table w.side w.op) s.home ≡ Some says.by
       found =
           ap (home_attribute w.op s.kind (named_roots w.table w.side w.op)) at_home
-          ∙ attribute_found w legal at root there says.by says.among s.kind (ap spoken says.attr ∙ sym of_kind)
+          ∙ attribute_found w legal at root there says.by says.among s.kind (ap spoken says.attr_is ∙ sym of_kind)
 
 some_path : (p : List ℕ) (ms : List Field) (i : ℕ) → numbered_path p ms i ≡ [] → ⊥
 some_path [] ms i e = absurd (let z : ⊥ = cc in z)

@@ -1,10 +1,9 @@
 -- The agreements that are tried at a root's own value: they are those of the root's attributes.
 -- `w` is a setting, `g` a partial graph, `h` a home, `n` a node's number, `m` an entry, `a` an agreement or an attribute, `r` a root, `i` and `j` are places
 -- of roots, `vs` are attributes with their variables, `t` is a type's number or a tree.
-use Rattle.std.proofs.Common.{◌≡◌, ◌⊎◌, inl, inr, ◌∙◌, ℕ, zero, suc, ◌+◌, ◌<◌, ◌≤◌, ℤ, Bool, true, false, List, [], ◌∷◌, ◌++◌, drop, length, replicate, Option, Some, None, refl, sym, ap, subst, arith}
+use Rattle.std.proofs.Common.{◌≡◌, ◌⊎◌, inl, inr, ◌∙◌, ℕ, suc, ◌+◌, ◌<◌, ◌≤◌, ℤ, Bool, true, false, List, [], ◌∷◌, ◌++◌, drop, replicate, Option, Some, None, refl, sym, ap, subst, arith}
 use Rattle.std.specs.Prelude.{flat_map}
 use Rattle.std.specs.List.{AllByRecursion, slice_get}
-use Rattle.std.proofs.lemmas.Option.{same_Some}
 use Rattle.nd_types.specs.declared.types.Attr.{Attr}
 use Rattle.nd_types.specs.declared.types.AttrVar.{AttrVar}
 use Rattle.nd_types.specs.declared.types.TypeDef.{TypeDef}
@@ -23,7 +22,7 @@ use Rattle.nd_value.specs.Tree as tree
 use Rattle.nd_value.specs.Tree.{Label, Tree, Trees, drop_trees, is_pointer, more, node, node_count, none, take_trees}
 use Rattle.nd_value.specs.Variables.{root_agreements, variable}
 use Rattle.nd_value.proofs.Apart.{all_among, all_append, all_weaker}
-use Rattle.nd_grammar.specs.Entry.{Align, Chunk, Entry, EntryAt, Kind, Max, Test, Unread, end_to_end, size_at}
+use Rattle.nd_grammar.specs.Entry.{Align, Chunk, Entry, EntryAt, Kind, Test, Unread, end_to_end, size_at}
 use Rattle.nd_grammar.specs.InPlace.{before_children, child_tests, entries, hoisted, hoisted_max, in_place, own_tests, tests, whole_value}
 use Rattle.nd_grammar.specs.Stream.{Stream, chunk_entries, chunks, pipe_entries, pipes_entries, root_test, root_tests, standing_entries, step_entries, step_tests}
 use Rattle.nd_grammar.proofs.Placed.{among_split}
@@ -129,7 +128,7 @@ tests_tell h n v (a ∷ ags) m (inr e) = let (b, k, is) = tests_tell h n v ags m
 pub record Says (w : Setting) (g : Graph) (vs : List AttrVar) (a : Attr) (wanted : ℤ) : Type 0 where
   pub by : AttrVar
   pub among : Among vs by
-  pub attr : by.attr ≡ a
+  pub attr_is : by.attr ≡ a
   pub value : ℤ
   pub value_is : variable w g by ≡ Some value
   pub wanted_is : wanted ≡ wanted_by a value
@@ -148,7 +147,7 @@ same_wanted a b v u f g e = cc
 
 module _ (w : Setting) (g : Graph) where
   one_more : (v : AttrVar) (vs : List AttrVar) (a : Attr) (wanted : ℤ) → Says w g vs a wanted → Says w g (v ∷ vs) a wanted
-  one_more v vs a wanted s = record { by = s.by; among = inr s.among; attr = s.attr; value = s.value; value_is = s.value_is; wanted_is = s.wanted_is }
+  one_more v vs a wanted s = record { by = s.by; among = inr s.among; attr_is = s.attr_is; value = s.value; value_is = s.value_is; wanted_is = s.wanted_is }
 
   agreements_tell : (vs : List AttrVar) (x : Agreement) → Among (root_agreements w g vs) x → Says w g vs x.attr x.wanted
   agreements_tell [] x e = absurd e
@@ -160,7 +159,7 @@ module _ (w : Setting) (g : Graph) where
       go (Some z) f (inl k) later = record {
         by = v;
         among = inl refl;
-        attr = ap (λ (y : Agreement). y.attr) (sym k);
+        attr_is = ap (λ (y : Agreement). y.attr) (sym k);
         value = z;
         value_is = f;
         wanted_is = ap (λ (y : Agreement). y.wanted) k ∙ ap (λ b. wanted_by b z) (ap (λ (y : Agreement). y.attr) (sym k));

@@ -23,7 +23,6 @@ use Rattle.nd_types.specs.Roots.{Root, params_from, pipe_of, result_root, root_b
 use Rattle.nd_types.specs.Table.{Table, type_at}
 use Rattle.nd_types.specs.Walk.{named_root, named_roots}
 use Rattle.nd_types.proofs.LegalLaws.{passes_at}
-use Rattle.nd_value.specs.declared.item.Home.{Home}
 use Rattle.nd_value.specs.declared.item.Home.TheVariants as home
 use Rattle.nd_value.specs.declared.item.ItemKind.{ItemKind}
 use Rattle.nd_value.specs.declared.item.ItemKind.TheVariants as kind

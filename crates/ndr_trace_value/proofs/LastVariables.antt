@@ -1,7 +1,7 @@
 -- From a struct to the attribute of its last member, and from that to its own last member.
 -- `table` are the types, `t` is a type's number, `ms` are the members of a struct, `f` is the last, `p` and `q` are the paths of the struct and of a member, `by`
 -- is an attribute with its variable.
-use Rattle.std.proofs.Common.{◌≡◌, ◌∙◌, ℕ, zero, suc, List, [], Option, Some, None, refl, sym, ap}
+use Rattle.std.proofs.Common.{◌≡◌, ◌∙◌, ℕ, zero, suc, List, [], Some, None, refl, sym, ap}
 use Rattle.nd_types.specs.declared.types.AttrVar.{AttrVar}
 use Rattle.nd_types.specs.declared.types.Field.{Field}
 use Rattle.nd_types.specs.Table.{Table, type_at}

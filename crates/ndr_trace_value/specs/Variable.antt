@@ -29,7 +29,7 @@ use Rattle.ndr_explain.specs.Explained.{home_paths, path_in}
 pub record IsStated (w : Setting) (g : Graph) (root : Root) (a : Attr) (wanted : ℤ) (q : List ℕ) : Type 0 where
   pub by : AttrVar
   pub among : Among root.vars by
-  pub attr : by.attr ≡ a
+  pub attr_is : by.attr ≡ a
   pub value : ℤ
   pub value_is : variable w g by ≡ Some value
   pub wanted_is : wanted ≡ wanted_by a value
@@ -69,7 +69,7 @@ pub record OfMember (w : Setting) (g : Graph) (h : Home) (n : ℕ) (a : Attr) (w
   pub place : n ≡ member_node struct.node index struct.kids
   pub by : AttrVar
   pub among : Among field.vars by
-  pub attr : by.attr ≡ a
+  pub attr_is : by.attr ≡ a
   pub value : ℤ
   pub value_is : number_in struct.kids by.var ≡ Some value
   pub wanted_is : wanted ≡ wanted_by a value
