@@ -1,5 +1,5 @@
 // The values that have the counts and tags which items are.
-ghost use Rattle.std.specs.Prelude.{◌≡◌, ◌++◌, ◌∷◌, IfOk, OnOk, option_map, reverse};
+ghost use Rattle.std.specs.Prelude.{◌≡◌, ◌∷◌, IfOk, OnOk, option_map, reverse};
 ghost use Rattle.nd_types.specs.Table.{type_at};
 ghost use Rattle.nd_value.specs.declared.item.ItemKind.TheVariants as kinds;
 ghost use Rattle.text_grammar.specs.Paths.{member_path};
@@ -7,7 +7,7 @@ ghost use Rattle.ndr_explain.specs.Cursors.{name_text, path_to};
 ghost use Rattle.ndr_trace_value.specs.LastMembers.{counted_path, counted_variable, last_field, last_member, last_path};
 ghost use Rattle.ndr_trace_value.specs.LastMembers.{last_variable as last_variable_path, last_within, struct_of};
 ghost use Rattle.ndr_trace_value.specs.LastMembers.{variable_within as variable_path_within, whole_types};
-ghost use Rattle.ndr_trace_value.specs.Variable.{field_name, numbered_path};
+ghost use Rattle.ndr_trace_value.specs.Variable.{numbered_path};
 
 use crate::progress::{Spot, append_path};
 use crate::search::attribute;
@@ -179,18 +179,9 @@ fn members_in(types: &Types, of: TypeId) -> Option<&Fields>
 fn append_numbered(text: &mut Octets, members: &Fields, at: u32) -> Result<(), Memory>
     ensures { OnOk result (text.new ≡ numbered_path text.old members.now at) }
 {
-    text.append(b".")?;
-    append_name(text, members.get(at as usize))?;
-    Ok(())
-}
-
-// Adds the name of a member, if it is there.
-fn append_name(text: &mut Octets, member: Option<&Field>) -> Result<(), Memory>
-    ensures { OnOk result (text.new ≡ text.old ++ field_name (option_map (λ f. f.now) member.entry)) }
-{
-    match member {
-        Some(member) => text.append(member.name.as_slice()),
-        None => Ok(()),
+    match members.get(at as usize) {
+        Some(member) => append_member(text, member),
+        None => text.append(b"."),
     }
 }
 

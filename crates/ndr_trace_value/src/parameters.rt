@@ -11,7 +11,7 @@ use crate::progress::Ground;
 use crate::search::{Search, Sought, attribute, stated_by};
 use nd_base::{Memory, Octets};
 use nd_flat::{FlatGraph, Seen, Walk};
-use nd_types::{AttrVar, Operation, Param, RootDef, Side};
+use nd_types::{AttrVar, Operation, RootDef, Side};
 use nd_value::{CellId, Home, ItemKind};
 use std::alloc::Global;
 use text_paths::root_at;
@@ -136,21 +136,21 @@ fn root_attribute(
     }
 }
 
-// The same of a parameter by its number.
+// The same of a root by its parameter, if it is one.
 fn number_attribute(operation: &Operation, param: Option<u32>, kind: ItemKind) -> Option<AttrVar>
     ensures { result ≡ by_number operation.now kind param }
 {
     match param {
-        Some(at) => param_attribute(operation.params.get(at as usize), kind),
+        Some(at) => param_attribute(operation, at, kind),
         None => None,
     }
 }
 
 // The same of a parameter.
-fn param_attribute(param: Option<&Param>, kind: ItemKind) -> Option<AttrVar>
-    ensures { result ≡ by_param kind (option_map (λ p. p.now) param.entry) }
+fn param_attribute(operation: &Operation, at: u32, kind: ItemKind) -> Option<AttrVar>
+    ensures { result ≡ by_param kind (slice_get operation.now.params at) }
 {
-    match param {
+    match operation.params.get(at as usize) {
         Some(param) => attribute(&param.field.vars, kind),
         None => None,
     }
@@ -212,7 +212,7 @@ fn append_parameter(
     for root in search.roots.as_slice() {
         if is_subject(*root, sought)
             && let Some(param) = root.param
-            && let Some(by) = number_attribute(operation, Some(param), sought.kind)
+            && let Some(by) = param_attribute(operation, param, sought.kind)
             && states(ground, search, by, sought)
             && let Some(variable) = operation.params.get(by.var as usize)
         {
