@@ -128,11 +128,11 @@ AreTestsOfFront w g (m ∷ ms) = (m.kind ≡ Unread) ⊎ (IsReadKind m.kind × I
 
 -- a path that is there twice
 path_twice : (n m : ℕ) (p : List ℕ) (xs : List (ℕ × List ℕ)) → path_in ((n, p) ∷ (n, p) ∷ xs) m ≡ path_in ((n, p) ∷ xs) m
-path_twice n m p xs = go (n == m)
+path_twice n m p xs = go (n == m) (n == m) refl
   where
-    go : (b : Bool) → ◌≡◌ {A = List ℕ} (elim b [ true ↦ p | false ↦ elim b [ true ↦ p | false ↦ path_in xs m ] ]) (elim b [ true ↦ p | false ↦ path_in xs m ])
-    go true = refl
-    go false = refl
+    go : (b c : Bool) → c ≡ b → ◌≡◌ {A = List ℕ} (elim b [ true ↦ p | false ↦ elim c [ true ↦ p | false ↦ path_in xs m ] ]) (elim b [ true ↦ p | false ↦ path_in xs m ])
+    go true c e = refl
+    go false c e = ap (λ u. elim u [ true ↦ p | false ↦ path_in xs m ]) e
 
 clash : {A : Type 0} (b : Bool) → b ≡ true → b ≡ false → A
 clash true e f = cc
