@@ -25,8 +25,25 @@ returns-in_default c =
     ∙ no_struct c.args.types.now (c.args.depth - c.loop-level._level) c.loop-level.at.0 c.loop-level.text
     (sym c.members_in.ensures ∙ ap (option_map (λ m. m.now)) c.in_default.is))
 
+pub returns-in_default-last_of : goal.returns-in_default-last_of
+returns-in_default-last_of c =
+    c.new-in-Some.ensures
+    ∙ sym (c.loop-level.invariant
+    ∙ no_last c.args.types.now (c.args.depth - c.loop-level._level) c.loop-level.at.0 c.in-Some.members.now c.loop-level.text
+    (sym c.members_in.ensures ∙ ap (option_map (λ m. m.now)) c.in-Some.is) (sym c.last_of.ensures ∙ ap (option_map (λ f. f.now)) c.in_default-last_of.is))
+
+pub returns-in-Some-attribute : goal.returns-in-Some-attribute
+returns-in-Some-attribute c =
+    let low = c.loop-level-test.true in
+    let n : c.args.depth - c.loop-level._level ≡ suc (c.args.depth - (c.loop-level._level + 1)) = omega (arith, low) in
+    sym (c.loop-level.invariant
+    ∙ variable_found c.args.types.now (c.args.depth - c.loop-level._level) (c.args.depth - (c.loop-level._level + 1)) c.loop-level.at.0 c.in-Some.members.now
+    c.in-Some-last_of.last.now c.in-Some-attribute.by c.loop-level.text c.append_numbered.new.text n
+    (sym c.members_in.ensures ∙ ap (option_map (λ m. m.now)) c.in-Some.is) (sym c.last_of.ensures ∙ ap (option_map (λ f. f.now)) c.in-Some-last_of.is)
+    (sym c.attribute.ensures ∙ c.in-Some-attribute.is) c.in_ok-append_numbered.ensures)
+
 pub returns : goal.returns
 returns c =
-    c.new.ensures
+    c.new-2.ensures
     ∙ sym (c.loop-level.invariant
     ∙ ap (λ n. variable_within n c.args.types.now c.loop-level.at.0 c.loop-level.text) (let z : c.args.depth - c.args.depth ≡ 0 = omega arith in z))

@@ -20,5 +20,5 @@ returns-then-speaks_of c =
 
 pub returns : goal.returns
 returns c =
-    let all : length c.args.vars.now ≤ c.loop-at.at = omega (arith, c.len.ensures) in
+    let all : length c.args.vars.now ≤ c.loop-at.at = omega (arith, c.len-at-end.ensures) in
     sym (c.loop-at.invariant ∙ first_none c.args.kind c.args.vars.now c.loop-at.at all)
