@@ -94,18 +94,18 @@ traced_plain w order fetched place why bad sought p plain ended = record {
 -- their trace has the path of the entry, a blank and its variable
 shown_test : (w : Setting) (g : Graph) (m : Entry) (x : Kind) (path variable : List ℕ) → is_test x ≡ true → IsVariableOf w g m x variable → path ≡ entry_path w g m ++ (codes " " ++ variable)
     → IsShownPath w g m x path
-shown_test w g m (Test a wanted found) path variable e v f = (variable, v, f)
-shown_test w g m (Align n) path variable e v f = cc
-shown_test w g m (Max v) path variable e v f = cc
-shown_test w g m (Offset t v) path variable e v f = cc
-shown_test w g m (Actual t offset limit v) path variable e v f = cc
-shown_test w g m (Chunk v) path variable e v f = cc
-shown_test w g m (Number class to cell) path variable e v f = cc
-shown_test w g m (Num p values v) path variable e v f = cc
-shown_test w g m (Tag p values arms default v) path variable e v f = cc
-shown_test w g m (Text octets) path variable e v f = cc
-shown_test w g m (Context attributes id) path variable e v f = cc
-shown_test w g m Unread path variable e v f = cc
+shown_test w g m (Test a wanted found) path variable e named f = (variable, named, f)
+shown_test w g m (Align n) path variable e named f = cc
+shown_test w g m (Max v) path variable e named f = cc
+shown_test w g m (Offset t v) path variable e named f = cc
+shown_test w g m (Actual t offset limit v) path variable e named f = cc
+shown_test w g m (Chunk v) path variable e named f = cc
+shown_test w g m (Number class to cell) path variable e named f = cc
+shown_test w g m (Num p values v) path variable e named f = cc
+shown_test w g m (Tag p values arms default v) path variable e named f = cc
+shown_test w g m (Text octets) path variable e named f = cc
+shown_test w g m (Context attributes id) path variable e named f = cc
+shown_test w g m Unread path variable e named f = cc
 
 -- what is kept, once all items were passed
 pub kept_whole : (k : Known) (its : Option Item → List ℕ) (n : ℕ) (i : Item) → k.sought ≡ Some n → slice_get k.log n ≡ Some i

@@ -42,4 +42,4 @@ returns-clause-variable c =
     let text : List ℕ =
     counted_variable c.args.ground.now.interface.now.types c.args.kind (whole_types s.top) (path_to (name_text s.name) (s.top ∷ reverse s.below.now.items)) in
     let always : is_sought c.args.ground.now.sought p.next ≡ true = sym c.is_sought.ensures ∙ yes in
-    c.in_ok-stated_path.ensures ∙ sym (ap (λ b. either_path b text p.variable) always)
+    c.in_ok-progress.ensures ∙ sym (ap (λ b. either_path b text p.variable) always)
