@@ -27,7 +27,7 @@ returns-in_default c =
 
 pub returns-in_default-last_of : goal.returns-in_default-last_of
 returns-in_default-last_of c =
-    c.new-in-Some.ensures
+    c.new-in_default-last_of.ensures
     ∙ sym (c.loop-level.invariant
     ∙ no_last c.args.types.now (c.args.depth - c.loop-level._level) c.loop-level.at.0 c.in-Some.members.now c.loop-level.text
     (sym c.members_in.ensures ∙ ap (option_map (λ m. m.now)) c.in-Some.is) (sym c.last_of.ensures ∙ ap (option_map (λ f. f.now)) c.in_default-last_of.is))
@@ -46,4 +46,5 @@ pub returns : goal.returns
 returns c =
     c.new-2.ensures
     ∙ sym (c.loop-level.invariant
-    ∙ ap (λ n. variable_within n c.args.types.now c.loop-level.at.0 c.loop-level.text) (let z : c.args.depth - c.args.depth ≡ 0 = omega arith in z))
+    ∙ ap (λ n. variable_within n c.args.types.now c.loop-level.at.0 c.loop-level.text)
+    (let over = c.loop-level-test.false in let z : c.args.depth - c.loop-level._level ≡ 0 = omega (arith, over) in z))
