@@ -9,5 +9,4 @@ pub mod OwnItems
 pub mod Partial
 pub mod Passing
 pub mod Attributes
-pub mod OwnNames
 pub mod LastVariables

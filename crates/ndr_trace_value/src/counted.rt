@@ -54,12 +54,7 @@ fn append_last(types: &Types, text: &mut Octets, of: TypeId) -> Result<(), Memor
 }
 
 // The same of a type that nests at most so deep.
-fn append_within(
-    types: &Types,
-    text: &mut Octets,
-    of: TypeId,
-    depth: u32,
-) -> Result<(), Memory>
+fn append_within(types: &Types, text: &mut Octets, of: TypeId, depth: u32) -> Result<(), Memory>
     ensures { OnOk result (text.new ≡ last_within depth types.now of.0 text.old) }
 {
     let mut at = of;
@@ -73,8 +68,8 @@ fn append_within(
     Ok(())
 }
 
-/// The path of the variable that states an item, if it is a maximum count in front of a home's value that a struct ends: the variable is a member of this
-/// struct. Else, or if the struct's last member has no attribute for its maximum count, it is empty.
+/// The path of the variable that states an item, if it is a maximum count in front of a home's value that a struct ends: the variable is a member of
+/// this struct. Else, or if the struct's last member has no attribute for its maximum count, it is empty.
 pub fn stated_path(
     alloc: Global,
     types: &Types,
@@ -124,12 +119,7 @@ fn variable_of_front(
 }
 
 // The same of a home's value of this type.
-fn last_variable(
-    alloc: Global,
-    types: &Types,
-    path: &[u8],
-    of: TypeId,
-) -> Result<Octets, Memory>
+fn last_variable(alloc: Global, types: &Types, path: &[u8], of: TypeId) -> Result<Octets, Memory>
     ensures { IfOk result (λ text. text ≡ last_variable_path types.now of.0 path.now) }
 {
     let variable = variable_within(alloc, types, path, of, NESTING_LIMIT)?;

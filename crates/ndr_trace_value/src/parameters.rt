@@ -99,16 +99,12 @@ pub fn variable_path(
 }
 
 // The attribute that speaks of what is sought, if that is a parameter's own value.
-fn own_attribute(
-    ground: &Ground<'_>,
-    operation: &Operation,
-    sought: Sought,
-) -> Option<AttrVar>
+fn own_attribute(ground: &Ground<'_>, operation: &Operation, sought: Sought) -> Option<AttrVar>
     requires there { slice_get ground.now.interface.now.operations ground.now.op ≡ Some operation.now }
     ensures own { sought.node ≡ 0 → result
         ≡ home_attribute operation.now sought.kind (named_roots ground.now.interface.now.types ground.now.side operation.now) sought.home }
-    ensures none { home_attribute operation.now sought.kind (named_roots ground.now.interface.now.types ground.now.side operation.now) sought.home ≡ None
-        → result ≡ None }
+    ensures none { home_attribute operation.now sought.kind (named_roots ground.now.interface.now.types ground.now.side operation.now) sought.home
+        ≡ None → result ≡ None }
 {
     if sought.node != 0 {
         return None;
