@@ -114,7 +114,12 @@ fn comes_to_stand(home: Home, stands: &mut Vec<bool>) -> bool
 }
 
 // The cells that a home names are named in order, and listed.
-fn name_home(graph: &FlatGraph, home: Home, order: &mut Order, met: &mut Vec<u32>) -> Result<(), Memory>
+fn name_home(
+    graph: &FlatGraph,
+    home: Home,
+    order: &mut Order,
+    met: &mut Vec<u32>,
+) -> Result<(), Memory>
     requires home { HasHome graph.now home }
     requires numbers { HaveNumbers order.old.numbers.items order.old.cells.items (named_by (home_tree graph.now home)) }
     ensures order { OnOk result (numbering order.new.numbers.items order.new.cells.items
