@@ -68,8 +68,15 @@ fn text_refused(fault: TextFault) -> Refusal
     }
 }
 
-// A graph, if it conforms.
-fn fit_graph(
+/// A graph, if it conforms to a side of an operation. `op` must be the number of an operation of the interface, and there must be fewer than 2^32
+/// cells, and in each home fewer than 2^32 nodes. A request that is given must be one of that operation, and the side is then that of its outputs:
+/// the values are judged beside it.
+///
+/// # Errors
+/// BadValue, the path of the first misfit of the graph; Memory where memory was refused.
+///
+/// Takes memory for the values, as [`fit`] does. The time is in proportion to the graph.
+pub fn fit_graph(
     alloc: Global,
     interface: &Interface,
     op: u32,

@@ -4,5 +4,5 @@
 mod fitting;
 mod request;
 
-pub use fitting::fit_text;
+pub use fitting::{fit_graph, fit_text};
 pub use request::load_request;
