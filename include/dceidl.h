@@ -9,8 +9,10 @@
 
    Answers. Each call but the frees answers a status. Unless DCEIDL_OK, the handles that it would fill and the octets of a buffer are as before, except
    where a comment says otherwise; numbers that it would set may be either. The fault is set at DCEIDL_REFUSED alone.
+   To learn how long a buffer must be, call with room 0 and the address of any octet: the length is set, and the answer is DCEIDL_SHORT, or
+   DCEIDL_OK where the length is 0.
 
-   What the caller owes; without it the behaviour is undefined:
+   What a program must do; otherwise the behaviour is undefined:
    - A pointer is never null and is valid for its length, for a length of 0 too: dceidl_some makes such a pointer of a null one.
    - No two arguments of a call overlap, unless both are const.
    - A handle is DCEIDL_NONE before its first use, is not copied, and its parts are neither read nor written.
@@ -138,7 +140,7 @@ typedef struct {
 } dceidl_handle_;
 
 /* An interface with what is prepared for its octets; values of a side of an operation; the nodes of values; the items of octets; why a call was
-   refused. They differ by name alone, so that a compiler tells one from another. */
+   refused. They differ only in their names, so that a compiler does not take one for another. */
 typedef struct {
     dceidl_handle_ handle_;
 } dceidl_interface;
@@ -194,7 +196,7 @@ typedef struct {
     size_t text_length;
 } dceidl_file;
 
-/* A pointer that is not null, for octets that are none. */
+/* A pointer that is not null, also where there are no octets. */
 static inline const uint8_t *dceidl_some(const void *octets) {
     static const uint8_t none = 0;
     return octets ? (const uint8_t *)octets : &none;
@@ -231,13 +233,13 @@ uint32_t dceidl_compare(dceidl_interface *older, dceidl_interface *newer, dceidl
 
 /* ---- Values ---- */
 
-/* The values of a side of an operation that octets begin with; `taken` is how many octets these are. More may follow them. A response is judged beside no
-   request: a count or a tag that its request alone has is taken as read.
+/* The values of a side of an operation that octets begin with; `taken` is how many octets these are. More may follow them. A response is not
+   checked against its request: a count or a tag that only the request has is taken as it is read.
    REFUSED: the fault has the place of the first octet that is refused, and the reason. EMPTY; ARGUMENT: operation, side or order; MEMORY. */
 uint32_t dceidl_decode(dceidl_interface *interface, uint32_t operation, uint32_t side, uint32_t order, const uint8_t *octets, size_t length,
                        dceidl_values *values, size_t *taken, dceidl_fault *fault);
 
-/* The same of the response to a request, judged beside it. EMPTY; ARGUMENT: the values are not of a request, or order; REFUSED; MEMORY. */
+/* The same of the response to a request, checked against it. EMPTY; ARGUMENT: the values are not of a request, or order; REFUSED; MEMORY. */
 uint32_t dceidl_decode_response(dceidl_values *request, uint32_t order, const uint8_t *octets, size_t length, dceidl_values *values, size_t *taken,
                                 dceidl_fault *fault);
 
@@ -248,7 +250,7 @@ uint32_t dceidl_decode_response(dceidl_values *request, uint32_t order, const ui
 uint32_t dceidl_read(dceidl_interface *interface, uint32_t operation, uint32_t side, const uint8_t *text, size_t length, dceidl_values *values,
                      dceidl_fault *fault);
 
-/* The same of the response to a request, judged beside it. EMPTY; ARGUMENT: the values are not of a request; REFUSED; MEMORY. */
+/* The same of the response to a request, checked against it. EMPTY; ARGUMENT: the values are not of a request; REFUSED; MEMORY. */
 uint32_t dceidl_read_response(dceidl_values *request, const uint8_t *text, size_t length, dceidl_values *values, dceidl_fault *fault);
 
 void dceidl_values_free(dceidl_values *values);
@@ -422,7 +424,7 @@ typedef struct {
 uint32_t dceidl_items_of(dceidl_interface *interface, uint32_t operation, uint32_t side, uint32_t order, const uint8_t *octets, size_t length,
                          dceidl_items *items, dceidl_fault *fault);
 
-/* The same of the response to a request, judged beside it. The answers are those of dceidl_decode_response. */
+/* The same of the response to a request, checked against it. The answers are those of dceidl_decode_response. */
 uint32_t dceidl_items_of_response(dceidl_values *request, uint32_t order, const uint8_t *octets, size_t length, dceidl_items *items, dceidl_fault *fault);
 
 void dceidl_items_free(dceidl_items *items);
@@ -441,7 +443,7 @@ uint32_t dceidl_fault_line(dceidl_fault *fault, uint8_t *out, size_t room, size_
 /* Sets the numbers of the fault: what is refused, why and where. EMPTY. */
 uint32_t dceidl_fault_cause(dceidl_fault *fault, dceidl_cause *cause);
 
-/* Writes the name of the file that is refused or is not among those given, and sets its length; 0 where no file is. EMPTY, SHORT. */
+/* Writes the name of the file that is refused or is not among those given, and sets its length; 0 where there is no file. EMPTY, SHORT. */
 uint32_t dceidl_fault_file(dceidl_fault *fault, uint8_t *out, size_t room, size_t *length);
 
 /* Writes the name that belongs to the reason, and sets its length: a word or name of a file; the path of a value, as `a.b[3]` or `@2.n`; the operation

@@ -1,8 +1,10 @@
 """Each text of docs/BRINGING-YOUR-IDL.md is refused or accepted as the page says."""
 
 import re
+import subprocess
+import tempfile
 
-from case import ROOT, Begins, Case, Check, lines
+from case import ROOT, Begins, Case, Check, CheckOf, lines, octets
 
 HEAD = "[uuid(11111111-2222-3333-4444-555555555555), version(1.0), pointer_default(unique)]\ninterface t {\n"
 BASE = {"base.idl": b"[local] interface base { }"}
@@ -81,6 +83,48 @@ def of_pointers():
     return found
 
 
+# A file of Windows, to which examples/real/windows.sed does all, and the octets of a request by MIDL
+WINDOWS = """import "ms-dtyp.idl";
+[
+    uuid("11111111-2222-3333-4444-555555555555"),
+    version(1.0),
+    ms_union,
+    pointer_default(unique)
+]
+interface t
+{
+typedef [handle, string] WCHAR *SERVER;
+typedef struct _NAME
+{
+    unsigned short Length;
+    unsigned short MaximumLength;
+    [size_is(MaximumLength / 2), length_is(Length / 2)]
+    wchar_t* Buffer;
+} NAME, *PNAME;
+typedef struct _INFO { [string] wchar_t * name; DWORD kind; } INFO, *PINFO, *LPINFO;
+NET_API_STATUS f([in, string, unique] SERVER Server, [in, string] WCHAR * Share, [in, unique] LPDWORD Level, [in] PNAME Name, [out] LPINFO Info);
+}
+"""
+REQUEST = lines("values 2 op f in Server = @1 Share = @2 Level = @3 Name = @4", "@1 = {offset = 0, actual = 2, letters = [115, 0]}",
+                "@2 = {offset = 0, actual = 1, letters = [0]}", "@3 = 7", "@4 = {Length = 2, MaximumLength = 2, Buffer = @5}",
+                "@5 = {offset = 0, actual = 1, letters = [110]}")
+OCTETS = octets("01000000 02000000 00000000 02000000 73000000"  # Server: a unique pointer, and a string
+                "01000000 00000000 01000000 0000 0000"  # Share: a string
+                "03000000 07000000"  # Level: a unique pointer, and a number
+                "0200 0200 05000000 01000000 00000000 01000000 6e00")  # Name: a struct, and the referent of its member
+
+
+def by_sed(program):
+    """What is wrong with what examples/real/windows.sed makes of a file of Windows: its request, encoded."""
+    made = subprocess.run(["sed", "-E", "-f", "examples/real/windows.sed"], input=WINDOWS.encode(), cwd=ROOT, stdout=subprocess.PIPE).stdout
+    with tempfile.NamedTemporaryFile(suffix=".idl") as file:
+        file.write(made)
+        file.flush()
+        words = [program, "encode", file.name, "-", "f", "in", "little", "1"]
+        ran = subprocess.run(words, input=REQUEST, cwd=ROOT, stdout=subprocess.PIPE, stderr=subprocess.PIPE)
+    return [] if ran.stdout == OCTETS and ran.returncode == 0 else [f"found {ran.stdout.hex(' ')} {ran.stderr.decode()}"]
+
+
 POINTERS = of_pointers()
 TABLES = list(of_rows())
 CASES = [
@@ -88,5 +132,6 @@ CASES = [
     Check("bringing: the table of pointers was read", lambda: [] if len(POINTERS) == 8 else [f"it has {len(POINTERS)} cases, not 8"]),
     *POINTERS,
     *of_whole_files(),
+    CheckOf("bringing: a file of Windows by examples/real/windows.sed", by_sed),
     *TABLES,
 ]

@@ -8,7 +8,7 @@ from case import ROOT, Begins, Case, Check, lines
 
 FOLDER = ROOT / "examples" / "real"
 FILES = {f"examples/real/{path.name}": path.read_bytes() for path in FOLDER.iterdir() if path.suffix in (".idl", ".acf")}
-INTERFACES = {"srvsvc": 12, "samr": 12, "winreg": 14, "epm": 2, "mgmt": 1, "rdacl": 3}  # operations that have octets, at least
+INTERFACES = {"srvsvc": 12, "samr": 12, "winreg": 15, "epm": 2, "mgmt": 1, "rdacl": 3}  # operations that have octets, at least
 
 
 def acf(file):
@@ -55,6 +55,6 @@ def too_few():
 
 CASES = [
     Check("real: operations of each interface have octets", lambda: list(too_few())),
-    *(compiled(file) for file in [*INTERFACES, "wide", "dce"]),
+    *(compiled(file) for file in [*INTERFACES, "wide", "windows", "dce"]),
     *(read(*stream) for stream in STREAMS),
 ]

@@ -69,8 +69,8 @@ fn text_refused(fault: TextFault) -> Refusal
 }
 
 /// A graph, if it conforms to a side of an operation. `op` must be the number of an operation of the interface, and there must be fewer than 2^32
-/// cells, and in each home fewer than 2^32 nodes. A request that is given must be one of that operation, and then the side is that of its outputs: the
-/// values are judged beside it.
+/// cells, and in each home fewer than 2^32 nodes. A request that is given must be one of that operation, and the side is then that of its outputs:
+/// the values are judged beside it.
 ///
 /// # Errors
 /// BadValue, the path of the first misfit of the graph; Memory where memory was refused.

@@ -291,13 +291,16 @@ idl FILE:LINE:COLUMN: Rule 9
 \x0c\
 Rule 10
 idl FILE:LINE:COLUMN: Rule 10
-  Context handles: the same as rule 8, for context handles.
+  Context handles: a context handle is only a parameter's type, or what a
+  reference pointer that is a parameter points to. A typedef may name either,
+  and is checked where it is used.
     $ echo '[local] interface t { typedef [context_handle] void *c; struct s{c a;}; }' > t.idl
     $ dceidl compile t.idl -
     idl t.idl:1:66: Rule 10
   Pass the context handle as a parameter, as `[in] c x` or `[out] c *x`; it is
-  not a member or an element. This breaks no rule: `typedef [context_handle]
-  void *c; void f([in]c a,[out]c*b);`
+  not a member or an element. A typedef of a pointer to it needs `[ref]`, as
+  in `typedef [ref] c *p`. This breaks no rule: `typedef [context_handle] void
+  *c; void f([in]c a,[out]c*b);`
 \x0c\
 Rule 11
 idl FILE:LINE:COLUMN: Rule 11
@@ -604,8 +607,9 @@ idl FILE:LINE:COLUMN: Rule 37
     $ dceidl compile t.idl -
     idl t.idl:1:39: Rule 37
   Make the variable an integer, as `unsigned small` for an unsigned char. With
-  `*` it is a parameter that is a reference pointer. This breaks no rule:
-  `struct s{small n;[size_is(n)]long a[*];};`
+  `*` it is a parameter that is a reference pointer; where MIDL has a unique
+  one, name a parameter of the other side (docs/BRINGING-YOUR-IDL.md). This
+  breaks no rule: `struct s{small n;[size_is(n)]long a[*];};`
 \x0c\
 Rule 38
 idl FILE:LINE:COLUMN: Rule 38
@@ -665,7 +669,7 @@ refused: octets at PLACE: Truncated
     $ printf '\\1\\0' | dceidl decode t.idl - f in little
     refused: octets at 2: Truncated
   Check that no fragment is missing, and the byte order, the side and the
-  operation.
+  operation. `dceidl trace` shows what was read before.
 
 refused: label: Truncated
   Fewer than four octets came, with ORDER `label`.
@@ -761,8 +765,9 @@ refused: octets at PLACE: Disagrees wanted W found F
     $ echo '[local] interface t { void f([in] long n, [in, size_is(n)] byte d[*]); }' > t.idl
     $ printf '\\3\\0\\0\\0\\2\\0\\0\\0ab' | dceidl decode t.idl - f in little
     refused: octets at 4: Disagrees wanted 3 found 2
-  Check the variable that the attribute names: `max_is(n)` states n + 1
-  elements, and `last_is(n)` ends at n.
+  `dceidl trace` names the array, string or union and the variable that
+  states another number. `max_is(n)` states n + 1 elements, and `last_is(n)`
+  ends at n.
 
 refused: value at PATH: Disagrees wanted W found F
   An attribute states another count or tag.

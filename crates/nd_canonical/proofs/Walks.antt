@@ -1,11 +1,12 @@
 -- The cells that a walk meets, and the homes that become due.
 -- `old` and `new` are what is left of a walk before and after, `xs` the cells that a node names, `s` and `r` numberings before and after.
-use Rattle.std.proofs.Common.{◌≡◌, ℕ, ◌+◌, ◌-◌, ◌<◌, ◌≤◌, suc, zero, List, [], ◌∷◌, ◌++◌, length, reverse, get_or, refl, ap, sym, ◌∙◌, subst, arith, append_assoc}
+use Rattle.std.proofs.Common.{◌≡◌, ℕ, ◌+◌, ◌-◌, ◌<◌, ◌≤◌, suc, zero, List, [], ◌∷◌, ◌++◌, length, reverse, get_or, flat_map, refl, ap, sym, ◌∙◌, subst, arith, append_assoc}
 use Rattle.std.specs.List.{AllByRecursion}
 use Rattle.std.proofs.lemmas.List.{reverse-append}
 use Rattle.nd_value.specs.declared.item.Home.{Home}
 use Rattle.nd_value.specs.declared.item.Home.TheVariants as home
-use Rattle.nd_value.specs.Tree.{Trees}
+use Rattle.nd_value.specs.Canon.{target}
+use Rattle.nd_value.specs.Tree.{Trees, Label, Flat, flat, cell_in}
 use Rattle.nd_value.specs.Names.{cells_in}
 use Rattle.nd_value.proofs.Apart.{all_left}
 use Rattle.nd_canonical.specs.Naming.{root_homes}
@@ -43,6 +44,13 @@ pub have_rest : (s r : Numbering) (old new : Trees) (xs : List ℕ) → cells_in
 have_rest s r old new xs e n h =
     subst (λ (u : Numbering). HaveNumbers u.numbers u.cells (cells_in new)) (sym n)
     (have_after xs (cells_in new) s (subst (HaveNumbers s.numbers s.cells) e h))
+
+-- the node that comes first names the first cell, if it names one
+pub names_first : (old new : Trees) (l : Label) (k : ℕ) → flat old ≡ (l, k) ∷ flat new → cells_in old ≡ target (cell_in l) ++ cells_in new
+names_first old new l k e = ap (flat_map (λ (f : Flat). target (cell_in f.0))) e
+
+pub one_less : (old new : Trees) (f : Flat) → flat old ≡ f ∷ flat new → length (flat new) < length (flat old)
+one_less old new f e = let m : length (flat old) ≡ suc (length (flat new)) = ap (λ (fs : List Flat). length fs) e in omega (arith, m)
 
 -- ## Homes that become due
 

@@ -1,6 +1,7 @@
 // The order in which the cells of a graph are named.
-ghost use Rattle.std.specs.Prelude.{◌≡◌, ◌+◌, ◌-◌, ◌<◌, ◌^◌, ◌++◌, [], false, length, replicate, reverse, OnOk, IfOk};
+ghost use Rattle.std.specs.Prelude.{◌≡◌, ◌+◌, ◌-◌, ◌<◌, ◌^◌, ◌++◌, [], false, length, replicate, reverse, OnOk, IfOk, IfSome, IfNone};
 ghost use Rattle.nd_value.specs.Seen.{cell_number};
+ghost use Rattle.nd_value.specs.Tree.{flat};
 ghost use Rattle.nd_value.specs.Canon.{target};
 ghost use Rattle.nd_value.specs.Names.{HasNames, cells_in, named_by};
 ghost use Rattle.nd_flat.specs.Building.{HasHome, home_tree};
@@ -8,7 +9,7 @@ ghost use Rattle.nd_canonical.specs.Naming.{cell_homes, root_homes};
 ghost use Rattle.nd_canonical.specs.Order.{IsOrder, IsAllNamed, numbering, name, ordering, visited, is_deferred, with_mark, HaveNumbers, HasMark};
 
 use nd_base::Memory;
-use nd_flat::{FlatGraph, Walk};
+use nd_flat::{FlatGraph, PlainWalk, Walk};
 use nd_value::{CellId, Home};
 use std::alloc::Global;
 
@@ -91,8 +92,7 @@ fn visit(
     if !comes_to_stand(home, stands) {
         return Ok(());
     }
-    let mut walk = graph.walk(home);
-    name_all(&mut walk, order, met)?;
+    name_home(graph, home, order, met)?;
     make_due(met, due)
 }
 
@@ -111,6 +111,59 @@ fn comes_to_stand(home: Home, stands: &mut Vec<bool>) -> bool
             !stood
         }
     }
+}
+
+// The cells that a home names are named in order, and listed.
+fn name_home(
+    graph: &FlatGraph,
+    home: Home,
+    order: &mut Order,
+    met: &mut Vec<u32>,
+) -> Result<(), Memory>
+    requires home { HasHome graph.now home }
+    requires numbers { HaveNumbers order.old.numbers.items order.old.cells.items (named_by (home_tree graph.now home)) }
+    ensures order { OnOk result (numbering order.new.numbers.items order.new.cells.items
+        ≡ name (named_by (home_tree graph.now home)) (numbering order.old.numbers.items order.old.cells.items)) }
+    ensures met { OnOk result (met.new.items ≡ met.old.items ++ named_by (home_tree graph.now home)) }
+{
+    let mut plain = graph.plain_walk(home);
+    name_plain(&mut plain, order, met)?;
+    let mut walk = plain.walk();
+    name_all(&mut walk, order, met)
+}
+
+// The same of the cells that a walk meets as long as it gives nodes.
+fn name_plain(walk: &mut PlainWalk<'_>, order: &mut Order, met: &mut Vec<u32>) -> Result<(), Memory>
+    requires { HaveNumbers order.old.numbers.items order.old.cells.items (cells_in walk.old) }
+    ensures have { OnOk result (HaveNumbers order.new.numbers.items order.new.cells.items (cells_in walk.new)) }
+    ensures order { OnOk result (name (cells_in walk.new) (numbering order.new.numbers.items order.new.cells.items)
+        ≡ name (cells_in walk.old) (numbering order.old.numbers.items order.old.cells.items)) }
+    ensures met { OnOk result (met.new.items ++ cells_in walk.new ≡ met.old.items ++ cells_in walk.old) }
+{
+    while let Some(cell) = next_plain(walk) {
+        name_one(cell, order, met)?;
+    }
+    Ok(())
+}
+
+// The cell that the next node names, where it is a struct, a number or a pointer that is kept by itself, and `Some(None)` where it
+// names none. None says nothing of what comes next.
+#[inline]
+fn next_plain(walk: &mut PlainWalk<'_>) -> Option<Option<CellId>>
+    ensures some { IfSome result (λ c. cells_in walk.old ≡ target (cell_number c) ++ cells_in walk.new) }
+    ensures less { IfSome result (λ c. length (flat walk.new) < length (flat walk.old)) }
+    ensures none { IfNone result (cells_in walk.new ≡ cells_in walk.old) }
+{
+    if let Some(cell) = walk.pointer() {
+        return Some(cell);
+    }
+    if let Some(_members) = walk.members() {
+        return Some(None);
+    }
+    if let Some(_number) = walk.number() {
+        return Some(None);
+    }
+    None
 }
 
 // The cells that a walk meets are named in order, and listed.

@@ -1,7 +1,8 @@
 -- The cells that a walk meets, and marks.
 -- `old` and `new` are what is left of a walk before and after, `xs` the cells that a node names, `ms` are marks.
-use Rattle.std.proofs.Common.{◌≡◌, ℕ, ◌+◌, ◌<◌, Bool, List, ◌++◌, length, ap, sym, ◌∙◌, subst}
-use Rattle.nd_value.specs.Tree.{Trees}
+use Rattle.std.proofs.Common.{◌≡◌, ℕ, ◌+◌, ◌<◌, suc, Bool, List, ◌∷◌, ◌++◌, length, flat_map, ap, sym, ◌∙◌, subst, arith}
+use Rattle.nd_value.specs.Canon.{target}
+use Rattle.nd_value.specs.Tree.{Trees, Label, Flat, flat, cell_in}
 use Rattle.nd_value.specs.Names.{cells_in}
 use Rattle.nd_fit.specs.Reach.{Search, note, HaveMarks}
 use Rattle.nd_fit.proofs.Searches.{note-append, have_on, all_back, all_front}
@@ -16,3 +17,10 @@ marks_first ms old new xs e h = all_front (λ c. c < length ms) xs (cells_in new
 
 pub marks_rest : (ms ms' : List Bool) (old new : Trees) (xs : List ℕ) → cells_in old ≡ xs ++ cells_in new → length ms' ≡ length ms → HaveMarks ms (cells_in old) → HaveMarks ms' (cells_in new)
 marks_rest ms ms' old new xs e l h = have_on (cells_in new) ms ms' l (all_back (λ c. c < length ms) xs (cells_in new) (subst (HaveMarks ms) e h))
+
+-- the node that comes first names the first cell, if it names one
+pub names_first : (old new : Trees) (l : Label) (k : ℕ) → flat old ≡ (l, k) ∷ flat new → cells_in old ≡ target (cell_in l) ++ cells_in new
+names_first old new l k e = ap (flat_map (λ (f : Flat). target (cell_in f.0))) e
+
+pub one_less : (old new : Trees) (f : Flat) → flat old ≡ f ∷ flat new → length (flat new) < length (flat old)
+one_less old new f e = let m : length (flat old) ≡ suc (length (flat new)) = ap (λ (fs : List Flat). length fs) e in omega (arith, m)

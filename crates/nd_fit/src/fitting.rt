@@ -27,7 +27,7 @@ use std::alloc::Global;
 /// Four passes go over the graph in this order, each over the roots and then the cells, and in each home over its nodes in order: nodes
 /// that have a misfit by themselves, cells that are shared, cells that are not reached, attributes that disagree (C706, 4.2.18 to
 /// 4.2.20). The first failing place of the first failing pass is reported. A wrong number of roots is a Shape at the first that is
-/// missing or too many, after the misfits of the roots that are there. It takes memory for a list of the homes, a mark and a number for
+/// missing or too many, after the misfits of the roots that are there. It takes memory for a list of the roots, a mark and a number for
 /// each cell, the pointers of one home at a time, the numbers of the parameters, and for the nodes, texts and cells of the answer.
 pub fn fit(
     alloc: Global,

@@ -102,6 +102,7 @@ fn written_numbers(alloc: Global, vals: &Vals, prim: Prim) -> Result<Octets, Mem
     ensures { IfOk result (λ os. os ≡ written_all prim (numbers_of vals.now)) }
 {
     let mut octets = Octets::new(alloc);
+    octets.make_room(vals.len().saturating_mul(width_of(prim)));
     for at in 0..vals.len() {
         let Some(val) = vals.get(at) else {
             unreachable!()

@@ -1,12 +1,15 @@
 // Which cells are reached: the third pass of a fit.
-ghost use Rattle.std.specs.Prelude.{◌≡◌, ◌+◌, ◌<◌, ◌≤◌, ◌^◌, true, false, length, replicate, get_or, suc, Option, OnOk, IfOk, MatchOption};
+ghost use Rattle.std.specs.Prelude.{◌≡◌, ◌+◌, ◌<◌, ◌≤◌, ◌^◌, ◌++◌, true, false, length, replicate, get_or, suc};
+ghost use Rattle.std.specs.Prelude.{Option, OnOk, IfOk, IfSome, IfNone, MatchOption};
 ghost use Rattle.nd_value.specs.Seen.{cell_number};
 ghost use Rattle.nd_value.specs.Canon.{target};
-ghost use Rattle.nd_value.specs.Names.{cells_in, HasNames};
+ghost use Rattle.nd_value.specs.Tree.{flat};
+ghost use Rattle.nd_value.specs.Names.{cells_in, named_by, HasNames};
+ghost use Rattle.nd_flat.specs.Building.{HasHome, home_tree};
 ghost use Rattle.nd_fit.specs.Reach.{searched, note, note_roots, HaveMarks, Searching, TellsMark, TellsReach};
 
 use nd_base::Memory;
-use nd_flat::{FlatGraph, Walk};
+use nd_flat::{FlatGraph, PlainWalk, Walk};
 use nd_value::{CellId, Home};
 use std::alloc::Global;
 
@@ -39,8 +42,7 @@ fn from_roots(graph: &FlatGraph, marks: &mut Vec<bool>, queue: &mut Vec<u32>) ->
     ensures { OnOk result (searched marks.new.items queue.new.items ≡ note_roots graph.now.roots (searched marks.old.items queue.old.items)) }
 {
     for at in 0..graph.root_count() {
-        let mut walk = graph.walk(Home::Root(at as u32));
-        note_all(&mut walk, marks, queue)?;
+        note_home(graph, Home::Root(at as u32), marks, queue)?;
     }
     Ok(())
 }
@@ -56,8 +58,7 @@ fn from_cells(graph: &FlatGraph, marks: &mut Vec<bool>, queue: &mut Vec<u32>) ->
         let Some(cell) = item(queue.as_slice(), at) else {
             return Ok(());
         };
-        let mut walk = graph.walk(Home::Cell(CellId(cell)));
-        note_all(&mut walk, marks, queue)?;
+        note_home(graph, Home::Cell(CellId(cell)), marks, queue)?;
     }
     Ok(())
 }
@@ -71,6 +72,61 @@ fn item(list: &[u32], at: usize) -> Option<u32>
     } else {
         None
     }
+}
+
+// Marks the cells that a home names.
+fn note_home(
+    graph: &FlatGraph,
+    home: Home,
+    marks: &mut Vec<bool>,
+    queue: &mut Vec<u32>,
+) -> Result<(), Memory>
+    requires there { HasHome graph.now home }
+    requires have { HaveMarks marks.old.items (named_by (home_tree graph.now home)) }
+    ensures { OnOk result (searched marks.new.items queue.new.items
+        ≡ note (named_by (home_tree graph.now home)) (searched marks.old.items queue.old.items)) }
+{
+    let mut plain = graph.plain_walk(home);
+    note_plain(&mut plain, marks, queue)?;
+    let mut walk = plain.walk();
+    note_all(&mut walk, marks, queue)
+}
+
+// Marks the cells that a walk meets as long as it gives nodes.
+fn note_plain(
+    walk: &mut PlainWalk<'_>,
+    marks: &mut Vec<bool>,
+    queue: &mut Vec<u32>,
+) -> Result<(), Memory>
+    requires { HaveMarks marks.old.items (cells_in walk.old) }
+    ensures have { OnOk result (HaveMarks marks.new.items (cells_in walk.new)) }
+    ensures left { OnOk result (note (cells_in walk.new) (searched marks.new.items queue.new.items)
+        ≡ note (cells_in walk.old) (searched marks.old.items queue.old.items)) }
+{
+    while let Some(cell) = next_plain(walk) {
+        note_one(cell, marks, queue)?;
+    }
+    Ok(())
+}
+
+// The cell that the next node names, where it is a struct, a number or a pointer that is kept by itself, and `Some(None)` where it
+// names none. None says nothing of what comes next.
+#[inline]
+fn next_plain(walk: &mut PlainWalk<'_>) -> Option<Option<CellId>>
+    ensures some { IfSome result (λ c. cells_in walk.old ≡ target (cell_number c) ++ cells_in walk.new) }
+    ensures less { IfSome result (λ c. length (flat walk.new) < length (flat walk.old)) }
+    ensures none { IfNone result (cells_in walk.new ≡ cells_in walk.old) }
+{
+    if let Some(cell) = walk.pointer() {
+        return Some(cell);
+    }
+    if let Some(_members) = walk.members() {
+        return Some(None);
+    }
+    if let Some(_number) = walk.number() {
+        return Some(None);
+    }
+    None
 }
 
 // Marks the cells that a walk meets.

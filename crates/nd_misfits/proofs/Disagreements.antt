@@ -1,6 +1,6 @@
 -- The fourth pass, as it goes over the homes of a graph, finds the first disagreement.
 use Rattle.std.proofs.Common.{◌≡◌, ℕ, ◌+◌, ◌<◌, get_or, drop, List, [], ◌∷◌, ◌++◌, length, Option, Some, None, refl, ap, ap₂, sym, ◌∙◌, map}
-use Rattle.std.specs.List.{AllByRecursion}
+use Rattle.std.specs.List.{slice_get, AllByRecursion}
 use Rattle.std.proofs.lemmas.List.{map-append, drop_more}
 use Rattle.nd_types.specs.Table.{Table, type_at}
 use Rattle.nd_types.specs.Roots.{Root}
@@ -22,9 +22,10 @@ use Rattle.nd_value.specs.FirstMisfit.{or_later, first_node, disagreement_of, fi
 use Rattle.nd_value.specs.Passes.{or_next, at_number, at_home}
 use Rattle.nd_value.proofs.LocalPass.{or_later-assoc, at_home-or, at_home-number, first-append}
 use Rattle.nd_misfits.specs.declared.homes.HomeValue.{HomeValue}
-use Rattle.nd_misfits.specs.HomeList.{HomeTree, home_tree, root_homes, cell_homes, homes_of}
+use Rattle.nd_misfits.specs.HomeList.{HomeTree, home_tree, root_homes, home_of_cell, cell_homes, homes_of}
 use Rattle.nd_misfits.specs.Disagreeing.{subject_of, disagreeing_in, home_vars, own_disagreement, disagreeing_home, disagreeing_homes}
 use Rattle.nd_misfits.proofs.AgreementWalk.{one_more, or_next-none}
+use Rattle.nd_misfits.proofs.HomeWalk.{cell_more}
 use Rattle.nd_misfits.proofs.Numbered.{IsOfParam, roots_own}
 
 subject_same : (g : Graph) (n t : ℕ) (a : List Agreement) (l : Label) (ks : Trees)
@@ -87,7 +88,7 @@ module _ (w : Setting) (g : Graph) where
       ∙ ap (λ us. at_home (home.Root i) (disagreeing_in w.table g (r.of ∷ []) (root_agreements w g us ∷ []) 0 (more v none))) (sym a.0.0))
       (roots_first (i + 1) rs vs a.1)
 
-  homes_append : (xs ys : List HomeTree) → disagreeing_homes w g (xs ++ ys) ≡ or_later (disagreeing_homes w g xs) (disagreeing_homes w g ys)
+  pub homes_append : (xs ys : List HomeTree) → disagreeing_homes w g (xs ++ ys) ≡ or_later (disagreeing_homes w g xs) (disagreeing_homes w g ys)
   homes_append [] ys = refl
   homes_append (x ∷ xs) ys =
       ap (or_later (disagreeing_home w g x)) (homes_append xs ys)
@@ -131,3 +132,11 @@ module _ (w : Setting) (g : Graph) where
   homes_left hs i x e h =
       ap (λ xs. disagreeing_homes w g (map home_tree xs)) (drop_more hs i x h)
       ∙ ap (λ (y : HomeValue). disagreeing_homes w g (map home_tree (y ∷ drop (i + 1) hs))) (sym e)
+
+  -- the cells that are left, the first of which is given twice
+  pub cells_left : (xs : List Referent) (i : ℕ) (x : Referent) (h : HomeTree) → home_of_cell (i + 1) x ≡ h → slice_get xs i ≡ Some x
+      → disagreeing_homes w g (cell_homes (i + 1) (drop i xs))
+      ≡ or_later (disagreeing_home w g h) (disagreeing_homes w g (cell_homes (i + 1 + 1) (drop (i + 1) xs)))
+  cells_left xs i x h e there =
+      ap (disagreeing_homes w g) (cell_more xs i x there)
+      ∙ ap (λ (k : HomeTree). or_later (disagreeing_home w g k) (disagreeing_homes w g (cell_homes (i + 1 + 1) (drop (i + 1) xs)))) e

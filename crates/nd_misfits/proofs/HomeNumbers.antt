@@ -1,5 +1,5 @@
 -- The roots of a graph as variables, and that their numbers are small.
-use Rattle.std.proofs.Common.{◌≡◌, ℕ, ◌+◌, ◌<◌, zero, suc, Bool, true, false, List, [], ◌∷◌, ◌++◌, length, get_or, Some, None, refl, ap, sym, ◌∙◌, arith, subst, map}
+use Rattle.std.proofs.Common.{◌≡◌, ℕ, ◌+◌, ◌<◌, zero, suc, Bool, true, false, List, [], ◌∷◌, length, get_or, Some, None, refl, ap, sym, ◌∙◌, arith, subst, map}
 use Rattle.std.specs.List.{slice_get, list_all, AllByRecursion}
 use Rattle.std.proofs.lemmas.Bool.{and_parts}
 use Rattle.std.specs.Cmp.Derive.{both_true}
@@ -14,31 +14,26 @@ use Rattle.nd_value.specs.Agreement.{number_of}
 use Rattle.nd_value.specs.Setting.{Setting, root_list, cell_tree, cell_at}
 use Rattle.nd_value.specs.Conforms.{HasFewNodes}
 use Rattle.nd_value.specs.Variables.{starred}
-use Rattle.nd_value.specs.FirstMisfit.{first_local, first_disagreeing}
+use Rattle.nd_value.specs.FirstMisfit.{or_later, first_local, first_disagreeing}
 use Rattle.nd_value.specs.Passes.{first_in_home, first_in_roots, first_in_cells}
 use Rattle.nd_value.proofs.LocalPass.{local_first}
 use Rattle.nd_value.proofs.Misfits.{neither}
 use Rattle.nd_misfits.specs.declared.homes.HomeValue.{HomeValue}
 use Rattle.nd_misfits.specs.declared.numbers.ParamNumber.{ParamNumber}
 use Rattle.nd_misfits.specs.declared.numbers.RootNumber.{RootNumber}
-use Rattle.nd_misfits.specs.HomeList.{HomeTree, home_tree, root_homes, cell_homes, homes_of}
+use Rattle.nd_misfits.specs.HomeList.{HomeTree, home_tree, root_homes, cell_homes}
 use Rattle.nd_misfits.specs.Pointers.{IsWalkable}
 use Rattle.nd_misfits.specs.Disagreeing.{is_small_or_none, disagreeing_homes}
 use Rattle.nd_misfits.specs.Numbers.{number_at, no_number, numbers_of, given_numbers, is_param, number_among, home_number, AreNumbers, is_small_number, are_small_roots, are_small_numbers}
 use Rattle.nd_misfits.proofs.SmallNumbers.{small_alone}
 use Rattle.nd_misfits.proofs.Numbered.{are_numbers}
-use Rattle.nd_misfits.proofs.Disagreements.{disagreeing_first}
-use Rattle.nd_misfits.proofs.Walkable.{walkable, walkable_cells}
+use Rattle.nd_misfits.proofs.Disagreements.{homes_append, disagreeing_first}
+use Rattle.nd_misfits.proofs.Walkable.{walkable_roots, walkable_cells}
 
--- cells are no parameters
-cells_among : (g : Graph) (j : ℕ) (other : ParamNumber) (c : ℕ) (xs : List Referent) → number_among (map (home_number g) (cell_homes c xs)) j other ≡ other
-cells_among g j other c [] = refl
-cells_among g j other c (x ∷ xs) = cells_among g j other (c + 1) xs
-
-module _ (table : Table) (g : Graph) (j : ℕ) (other : ParamNumber) (cells : List HomeTree) (past : number_among (map (home_number g) cells) j other ≡ other) where
+module _ (table : Table) (g : Graph) (j : ℕ) (other : ParamNumber) where
   homes_among : (i : ℕ) (rs : List NamedRoot) (vs : List Tree) → first_in_roots table g i rs vs ≡ None
-      → number_among (map (home_number g) (root_homes i rs vs ++ cells)) j other ≡ number_among (numbers_of g rs vs) j other
-  homes_among i [] [] e = past
+      → number_among (map (home_number g) (root_homes i rs vs)) j other ≡ number_among (numbers_of g rs vs) j other
+  homes_among i [] [] e = refl
   homes_among i [] (v ∷ vs) e = cc
   homes_among i (r ∷ rs) [] e = cc
   homes_among i (r ∷ rs) (v ∷ vs) e =
@@ -109,36 +104,37 @@ mapped : (g : Graph) (homes : List HomeValue) → map (λ (h : HomeValue). home_
 mapped g [] = refl
 mapped g (h ∷ hs) = ap (λ ns. home_number g (home_tree h) ∷ ns) (mapped g hs)
 
--- A graph in which the first pass has found no misfit: its homes, and the numbers of its parameters.
+-- A graph in which the first pass has found no misfit: its roots, and the numbers of its parameters.
 module _ (w : Setting) (g : Graph) (legal : list_all has_small_values w.table ≡ true) (few : HasFewNodes g) (local : first_local w g ≡ None)
-    (homes : List HomeValue) (all : map home_tree homes ≡ homes_of (map (named_root w.op) (root_list w)) g) where
+    (homes : List HomeValue) (all : map home_tree homes ≡ root_homes 0 (map (named_root w.op) (root_list w)) g.roots) where
   abbrev roots : List NamedRoot
   roots = map (named_root w.op) (root_list w)
 
-  -- its homes can be gone over
-  pub homes_walkable : AllByRecursion (IsWalkable w.table (length g.cells + 1)) (map home_tree homes)
-  homes_walkable = subst (AllByRecursion (IsWalkable w.table (length g.cells + 1))) (sym all) (walkable w g legal few local)
+  -- its roots can be gone over
+  pub roots_walkable : AllByRecursion (IsWalkable w.table (length g.cells + 1)) (map home_tree homes)
+  roots_walkable = subst (AllByRecursion (IsWalkable w.table (length g.cells + 1))) (sym all) (walkable_roots w g legal few local)
 
-  -- the fourth pass goes over them
-  pub homes_disagree : disagreeing_homes w g (map home_tree homes) ≡ first_disagreeing w g
-  homes_disagree = ap (disagreeing_homes w g) all ∙ sym (disagreeing_first w g)
+  -- the fourth pass goes over them, and then over the cells
+  pub homes_disagree : or_later (disagreeing_homes w g (map home_tree homes)) (disagreeing_homes w g (cell_homes 1 g.cells)) ≡ first_disagreeing w g
+  homes_disagree =
+      ap (λ hs. or_later (disagreeing_homes w g hs) (disagreeing_homes w g (cell_homes 1 g.cells))) all
+      ∙ sym (homes_append w g (root_homes 0 roots g.roots) (cell_homes 1 g.cells)) ∙ sym (disagreeing_first w g)
 
   module _ (own given : List RootNumber) (numbers : List ParamNumber) (owns : own ≡ map (λ (h : HomeValue). home_number g (home_tree h)) homes)
       (many : length numbers ≡ length w.op.params)
       (placed : (j : ℕ) → j < length numbers → get_or numbers j no_number ≡ number_among own j (number_among given j no_number)) where
-    own_homes : own ≡ map (home_number g) (homes_of roots g)
+    own_homes : own ≡ map (home_number g) (root_homes 0 roots g.roots)
     own_homes = owns ∙ mapped g homes ∙ ap (map (home_number g)) all
 
     own_small : are_small_roots own ≡ true
     own_small =
         subst (λ ns. are_small_roots ns ≡ true) (sym own_homes)
-        (homes_small w.table (length g.cells + 1) g (walkable_cells w g legal few local) (homes_of roots g) (walkable w g legal few local))
+        (homes_small w.table (length g.cells + 1) g (walkable_cells w g legal few local) (root_homes 0 roots g.roots) (walkable_roots w g legal few local))
 
     own_among : (j : ℕ) (other : ParamNumber) → number_among own j other ≡ number_among (numbers_of g roots g.roots) j other
     own_among j other =
         let none_local = neither (first_in_roots w.table g 0 roots g.roots) (first_in_cells w.table g 1 g.cells) (sym (local_first w g) ∙ local) in
-        ap (λ ns. number_among ns j other) own_homes
-        ∙ homes_among w.table g j other (cell_homes 1 g.cells) (cells_among g j other 1 g.cells) 0 roots g.roots none_local.0
+        ap (λ ns. number_among ns j other) own_homes ∙ homes_among w.table g j other 0 roots g.roots none_local.0
 
     -- the numbers by the places of the parameters are small, where those of the request are
     pub numbers_small : are_small_roots given ≡ true → are_small_numbers numbers ≡ true

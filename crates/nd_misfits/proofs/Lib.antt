@@ -11,3 +11,4 @@ pub mod Disagreements
 pub mod Attributes
 pub mod SmallNumbers
 pub mod HomeNumbers
+pub mod SimpleValues

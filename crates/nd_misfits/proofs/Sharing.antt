@@ -32,8 +32,8 @@ use Rattle.nd_value.specs.Homes.{root_pointers, cell_pointers, all_pointers}
 use Rattle.nd_value.specs.FirstMisfit.{MisfitAt, is_full, same_cell, clashes, first_shared}
 use Rattle.nd_value.specs.Passes.{Tells}
 use Rattle.nd_misfits.specs.HomeList.{HomeTree, root_homes, cell_homes, homes_of}
-use Rattle.nd_misfits.specs.Pointers.{named_by, named_here, pointers_in, pointers_of_home, pointers_of_homes, NamesBelow, IsWalkable, naming_by, is_clash, naming_of, first_clash}
-use Rattle.nd_value.proofs.Misfits.{all_right, all_both}
+use Rattle.nd_misfits.specs.Pointers.{named_by, named_here, pointers_in, pointers_of_home, pointers_at, pointers_of_homes, NamesBelow, IsWalkable, naming_by, is_clash, naming_of, first_clash}
+use Rattle.nd_value.proofs.Misfits.{all_left, all_right, all_both}
 use Rattle.std.proofs.lemmas.Grind.{flat_map-append as flat-append}
 
 -- the cell that a pointer names
@@ -253,6 +253,11 @@ clash_all w g limit h =
 pub tells_same : (o a : Option MisfitAt) (e : Misfit) → o ≡ a → Tells a e → Tells o e
 tells_same o a e s h = subst (λ x. Tells x e) (sym s) h
 
+-- the pointers of a home before those of others, the home being given twice
+pub first_with : (table : Table) (names : List Naming) (x y : HomeTree) (hs : List HomeTree) → x ≡ y
+    → first_clash names (pointers_of_homes table (x ∷ hs)) ≡ first_clash names (pointers_at table y ++ pointers_of_homes table hs)
+first_with table names x y hs e = ap (λ (h : HomeTree). first_clash names (pointers_at table h ++ pointers_of_homes table hs)) e
+
 -- if memory runs out nothing is said
 pub tells_memory : (o : Option MisfitAt) (e : Misfit) → e ≡ answer.Memory → Tells o e
 tells_memory o e s = subst (Tells o) (sym s) tt
@@ -263,15 +268,24 @@ homes_named table limit (h ∷ hs) a =
     all_both (NamesBelow limit) (pointers_of_home table h.home h.of h.val) (pointers_of_homes table hs) a.0.named (homes_named table limit hs a.1)
 
 module _ (w : Setting) (g : Graph) (limit : ℕ) (names : List Naming) (hs : List HomeTree) (none : names ≡ replicate limit NotYet)
-    (all : hs ≡ homes_of (map (named_root w.op) (root_list w)) g) (can : AllByRecursion (IsWalkable w.table limit) (homes_of (map (named_root w.op) (root_list w)) g)) where
-  -- the homes are those of the graph
-  pub homes_walkable : AllByRecursion (IsWalkable w.table (length names)) hs
-  homes_walkable =
+    (all : hs ≡ root_homes 0 (map (named_root w.op) (root_list w)) g.roots)
+    (can : AllByRecursion (IsWalkable w.table limit) (homes_of (map (named_root w.op) (root_list w)) g)) where
+  -- the roots can be gone over
+  pub roots_walkable : AllByRecursion (IsWalkable w.table (length names)) hs
+  roots_walkable =
       subst (λ n. AllByRecursion (IsWalkable w.table n) hs) (sym (ap length none ∙ length-replicate limit NotYet))
-      (subst (AllByRecursion (IsWalkable w.table limit)) (sym all) can)
+      (subst (AllByRecursion (IsWalkable w.table limit)) (sym all)
+      (all_left (IsWalkable w.table limit) (root_homes 0 (map (named_root w.op) (root_list w)) g.roots) (cell_homes 1 g.cells) can))
 
-  -- the second pass, where no cell is named before
-  pub clash_is_shared : first_clash names (pointers_of_homes w.table hs) ≡ first_shared [] (all_pointers w g)
+  -- and the cells, where so many cells are named so far
+  pub cells_walkable : (many : ℕ) → many ≡ length names → AllByRecursion (IsWalkable w.table many) (cell_homes 1 g.cells)
+  cells_walkable many e =
+      subst (λ n. AllByRecursion (IsWalkable w.table n) (cell_homes 1 g.cells)) (sym (e ∙ ap length none ∙ length-replicate limit NotYet))
+      (all_right (IsWalkable w.table limit) (root_homes 0 (map (named_root w.op) (root_list w)) g.roots) (cell_homes 1 g.cells) can)
+
+  -- the second pass goes over the roots and then the cells, where no cell is named before
+  pub clash_is_shared : first_clash names (pointers_of_homes w.table hs ++ pointers_of_homes w.table (cell_homes 1 g.cells)) ≡ first_shared [] (all_pointers w g)
   clash_is_shared =
-      ap₂ (λ ns xs. first_clash ns (pointers_of_homes w.table xs)) none all
+      ap₂ (λ ns xs. first_clash ns (pointers_of_homes w.table xs ++ pointers_of_homes w.table (cell_homes 1 g.cells))) none all
+      ∙ ap (first_clash (replicate limit NotYet)) (sym (flat-append (pointers_at w.table) (root_homes 0 (map (named_root w.op) (root_list w)) g.roots) (cell_homes 1 g.cells)))
       ∙ clash_all w g limit (homes_named w.table limit (homes_of (map (named_root w.op) (root_list w)) g) can)

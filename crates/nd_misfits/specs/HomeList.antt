@@ -26,10 +26,14 @@ abbrev pub root_homes : ℕ → List NamedRoot → List Tree → List HomeTree
 root_homes i (r ∷ rs) (v ∷ vs) = record { home = home.Root i; of = r.of; param = r.param; val = v } ∷ root_homes (i + 1) rs vs
 root_homes i _ _ = []
 
+-- a cell as a home
+abbrev pub home_of_cell : ℕ → Referent → HomeTree
+home_of_cell c x = record { home = cell_home c; of = x.of; param = None; val = x.val }
+
 -- the cells from number c on
 abbrev pub cell_homes : ℕ → List Referent → List HomeTree
 cell_homes c [] = []
-cell_homes c (x ∷ xs) = record { home = cell_home c; of = x.of; param = None; val = x.val } ∷ cell_homes (c + 1) xs
+cell_homes c (x ∷ xs) = home_of_cell c x ∷ cell_homes (c + 1) xs
 
 -- all homes of a graph with these roots
 abbrev pub homes_of : List NamedRoot → Graph → List HomeTree

@@ -3,3 +3,4 @@ pub mod HomeList
 pub mod Pointers
 pub mod Disagreeing
 pub mod Numbers
+pub mod Simple

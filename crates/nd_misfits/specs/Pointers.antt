@@ -58,9 +58,13 @@ Collects table h types n vs before after (Err e) = Unit {0}
 abbrev pub pointers_of_home : Table → Home → ℕ → Tree → List CellPointer
 pointers_of_home table h t v = pointers_in table h (t ∷ []) 0 (more v none)
 
+-- the same of a home with its type and its value
+abbrev pub pointers_at : Table → HomeTree → List CellPointer
+pointers_at table h = pointers_of_home table h.home h.of h.val
+
 -- the same of some homes
 abbrev pub pointers_of_homes : Table → List HomeTree → List CellPointer
-pointers_of_homes table hs = flat_map (λ h. pointers_of_home table h.home h.of h.val) hs
+pointers_of_homes table hs = flat_map (λ h. pointers_at table h) hs
 
 -- a pointer names a cell that is there, where the numbers from 1 to below a limit are those of cells
 abbrev pub NamesBelow : ℕ → CellPointer → Type 0

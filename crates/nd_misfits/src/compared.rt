@@ -13,19 +13,31 @@ ghost use Rattle.nd_misfits.specs.Disagreeing.{Compared};
 
 use crate::agreement::member;
 use crate::node::selected;
+use crate::simple::{after_values, simple_nodes};
 use nd_types::{Fields, TypeDef, TypeId, Types};
 use nd_value::{ArmVal, Graph, NodeMisfit, Val, Vals};
 
-// Goes through the nodes of a value of a type, which are numbered from `node` on and of which none governs the first: the number
-// after them, or the first node whose attributes do not all hold.
-#[cycle(compared)]
-pub(crate) fn value(
+// Goes through the nodes of a home's value of a type, which are numbered from 0 on: the number after them, or the first node whose
+// attributes do not all hold, where none governs the value itself. A simple value is not searched.
+pub(crate) fn home_value(
     types: &Types,
     graph: &Graph,
     of: TypeId,
     val: &Val,
-    node: u32,
 ) -> Result<u32, NodeMisfit>
+    requires few { node_count (more (tree_of val.now) none) < 2 ^ 32 }
+    requires formed { are_formed types.now (of.0 ∷ []) (more (tree_of val.now) none) ≡ true }
+    ensures { Compared types.now graph.now (of.0 ∷ []) [] 0 (more (tree_of val.now) none) result }
+{
+    match simple_nodes(types, of, true) {
+        Some(inside) => Ok(after_values(1, inside, 0)),
+        None => value(types, graph, of, val, 0),
+    }
+}
+
+// The same of a value whose nodes are numbered from `node` on.
+#[cycle(compared)]
+fn value(types: &Types, graph: &Graph, of: TypeId, val: &Val, node: u32) -> Result<u32, NodeMisfit>
     requires few { node + node_count (more (tree_of val.now) none) < 2 ^ 32 }
     requires formed { are_formed types.now (of.0 ∷ []) (more (tree_of val.now) none) ≡ true }
     ensures { Compared types.now graph.now (of.0 ∷ []) [] node (more (tree_of val.now) none) result }
@@ -62,7 +74,7 @@ fn by_form(
             let Some(TypeDef::Array { elem, .. }) = def else {
                 unreachable!()
             };
-            elements(types, graph, *elem, items, next)
+            list(types, graph, *elem, items, next)
         }
         Val::Union { tag, arm: value } => {
             let Some(TypeDef::Union { arms, default, .. }) = def else {
@@ -77,7 +89,7 @@ fn by_form(
             let Some(TypeDef::Pipe { elem }) = def else {
                 unreachable!()
             };
-            elements(types, graph, *elem, items, next)
+            list(types, graph, *elem, items, next)
         }
         Val::Num(_) | Val::Text { .. } | Val::Ptr(_) | Val::Context { .. } => Ok(next),
     }
@@ -114,7 +126,30 @@ fn members(
     Ok(next)
 }
 
-// The same of the elements of an array or a pipe.
+// The same of the elements of an array or a pipe. Simple ones are not searched.
+#[cycle(compared)]
+fn list(
+    types: &Types,
+    graph: &Graph,
+    elem: TypeId,
+    vals: &Vals,
+    node: u32,
+) -> Result<u32, NodeMisfit>
+    requires few { node + node_count (trees vals.now) < 2 ^ 32 }
+    requires formed { are_formed types.now (replicate (count (trees vals.now)) elem.0) (trees vals.now) ≡ true }
+    ensures { Compared types.now graph.now (replicate (count (trees vals.now)) elem.0) [] node (trees vals.now) result }
+{
+    let count = vals.len();
+    if count == 0 {
+        return elements(types, graph, elem, vals, node);
+    }
+    match simple_nodes(types, elem, true) {
+        Some(inside) => Ok(after_values(count, inside, node)),
+        None => elements(types, graph, elem, vals, node),
+    }
+}
+
+// The same of elements one by one.
 #[cycle(compared)]
 fn elements(
     types: &Types,

@@ -8,16 +8,16 @@ ghost use Rattle.nd_value.specs.Seen.{tree_of};
 ghost use Rattle.nd_value.specs.Setting.{Setting};
 ghost use Rattle.nd_value.specs.Conforms.{HasFewNodes};
 ghost use Rattle.nd_value.specs.Fitting.{setting_beside};
-ghost use Rattle.nd_value.specs.FirstMisfit.{first_local, first_disagreeing};
+ghost use Rattle.nd_value.specs.FirstMisfit.{or_later, first_local, first_disagreeing};
 ghost use Rattle.nd_value.specs.Passes.{Tells};
-ghost use Rattle.nd_misfits.specs.HomeList.{home_tree};
+ghost use Rattle.nd_misfits.specs.HomeList.{home_tree, cell_homes};
 ghost use Rattle.nd_misfits.specs.Pointers.{IsWalkable};
 ghost use Rattle.nd_misfits.specs.Disagreeing.{disagreeing_home, disagreeing_homes, home_vars, own_disagreement};
 ghost use Rattle.nd_misfits.specs.Numbers.{given_numbers, are_small_roots, are_small_numbers, AreNumbers};
 
 use crate::agreement::parameter;
-use crate::compared::value;
-use crate::homes::{HomeValue, homes};
+use crate::compared::home_value;
+use crate::homes::{HomeValue, cell_home, roots};
 use crate::numbers::{ParamNumber, RootNumber, numbers, roots_as_numbers};
 use nd_base::Memory;
 use nd_types::{AttrVars, Interface, Operation, Side, Types};
@@ -25,7 +25,7 @@ use nd_value::{Graph, Misfit, MisfitReason, NodeMisfit};
 use std::alloc::Global;
 
 /// The first node whose attributes do not all hold, as the misfit Disagrees, if there is one. `given` are the inputs of the request
-/// beside which the graph is judged, as variables. It looks at each node once, and takes memory for a list of the homes and for the
+/// beside which the graph is judged, as variables. It looks at each node once, and takes memory for a list of the roots and for the
 /// numbers of the parameters.
 pub fn disagreeing_attribute(
     alloc: Global,
@@ -49,19 +49,41 @@ pub fn disagreeing_attribute(
     let Some(operation) = interface.operations.get(op as usize) else {
         unreachable!()
     };
-    let homes = homes(alloc, interface, op, side, graph)?;
-    let own = roots_as_numbers(alloc, graph, homes.as_slice())?;
+    let roots = roots(alloc, interface, op, side, graph)?;
+    let own = roots_as_numbers(alloc, graph, roots.as_slice())?;
     let numbers = numbers(alloc, operation.params.len(), given, own.as_slice())?;
-    among(
+    among_all(
         &interface.types,
         operation,
         numbers.as_slice(),
         graph,
-        homes.as_slice(),
+        roots.as_slice(),
     )
 }
 
-// The same of some homes, by the numbers of the parameters.
+// The same of the roots and then the cells, by the numbers of the parameters.
+fn among_all(
+    types: &Types,
+    operation: &Operation,
+    numbers: &[ParamNumber],
+    graph: &Graph,
+    roots: &[HomeValue<'_>],
+) -> Result<(), Misfit>
+    requires few { length graph.now.cells < 2 ^ 32 }
+    requires walkable { AllByRecursion (IsWalkable types.now (length graph.now.cells + 1)) (map home_tree roots.now) }
+    requires cells { AllByRecursion (IsWalkable types.now (length graph.now.cells + 1)) (cell_homes 1 graph.now.cells) }
+    requires small { are_small_numbers numbers.now ≡ true }
+    ensures none { OnOk result ((w : Setting) → w.table ≡ types.now → w.op ≡ operation.now → AreNumbers w graph.now numbers.now
+        → or_later (disagreeing_homes w graph.now (map home_tree roots.now)) (disagreeing_homes w graph.now (cell_homes 1 graph.now.cells)) ≡ None) }
+    ensures first { IfErr result (λ e. (w : Setting) → w.table ≡ types.now → w.op ≡ operation.now → AreNumbers w graph.now numbers.now
+        → Tells (or_later (disagreeing_homes w graph.now (map home_tree roots.now))
+        (disagreeing_homes w graph.now (cell_homes 1 graph.now.cells))) e) }
+{
+    among(types, operation, numbers, graph, roots)?;
+    among_cells(types, operation, numbers, graph)
+}
+
+// The same of some homes.
 fn among(
     types: &Types,
     operation: &Operation,
@@ -78,6 +100,30 @@ fn among(
 {
     for at in 0..homes.len() {
         one(types, operation, numbers, graph, homes[at])?;
+    }
+    Ok(())
+}
+
+// The same of the cells.
+fn among_cells(
+    types: &Types,
+    operation: &Operation,
+    numbers: &[ParamNumber],
+    graph: &Graph,
+) -> Result<(), Misfit>
+    requires few { length graph.now.cells < 2 ^ 32 }
+    requires walkable { AllByRecursion (IsWalkable types.now (length graph.now.cells + 1)) (cell_homes 1 graph.now.cells) }
+    requires small { are_small_numbers numbers.now ≡ true }
+    ensures none { OnOk result ((w : Setting) → w.table ≡ types.now → w.op ≡ operation.now → AreNumbers w graph.now numbers.now
+        → disagreeing_homes w graph.now (cell_homes 1 graph.now.cells) ≡ None) }
+    ensures first { IfErr result (λ e. (w : Setting) → w.table ≡ types.now → w.op ≡ operation.now → AreNumbers w graph.now numbers.now
+        → Tells (disagreeing_homes w graph.now (cell_homes 1 graph.now.cells)) e) }
+{
+    for at in 0..graph.cells.len() {
+        let Some(cell) = graph.cells.get(at) else {
+            unreachable!()
+        };
+        one(types, operation, numbers, graph, cell_home(at, cell))?;
     }
     Ok(())
 }
@@ -104,7 +150,7 @@ fn one(
             reason,
         });
     }
-    match value(types, graph, home.of, home.val, 0) {
+    match home_value(types, graph, home.of, home.val) {
         Ok(_) => Ok(()),
         Err(NodeMisfit { node, reason }) => Err(Misfit::At {
             home: home.home,

@@ -1,12 +1,13 @@
 // The homes of a graph.
-ghost use Rattle.std.specs.Prelude.{◌≡◌, ◌<◌, ◌^◌, length, map, slice_get, Some, IfOk};
+ghost use Rattle.std.specs.Prelude.{◌≡◌, ◌+◌, ◌<◌, ◌^◌, length, map, slice_get, Some, IfOk};
 ghost use Rattle.nd_types.specs.declared.types.Operation.{Operation};
 ghost use Rattle.nd_types.specs.Walk.{named_roots};
-ghost use Rattle.nd_misfits.specs.HomeList.{home_tree, root_homes, homes_of};
+ghost use Rattle.nd_value.specs.Seen.{cell_of};
+ghost use Rattle.nd_misfits.specs.HomeList.{home_tree, root_homes, home_of_cell};
 
 use nd_base::Memory;
 use nd_types::{Interface, Side, TypeId};
-use nd_value::{CellId, Graph, Home, Val};
+use nd_value::{Cell, CellId, Graph, Home, Val};
 use std::alloc::Global;
 
 // A home with its type, the parameter that it is, if it is one, and its value.
@@ -51,34 +52,16 @@ pub(crate) fn roots<'a>(
     Ok(homes)
 }
 
-// The roots, then the cells.
-pub(crate) fn homes<'a>(
-    alloc: Global,
-    interface: &Interface,
-    op: u32,
-    side: Side,
-    graph: &'a Graph,
-) -> Result<Vec<HomeValue<'a>>, Memory>
-    requires known { op < length interface.now.operations }
-    requires few_cells { length graph.now.cells < 2 ^ 32 }
-    ensures { IfOk result (λ homes. (o : Operation) → slice_get interface.now.operations op ≡ Some o
-        → map home_tree homes.items ≡ homes_of (named_roots interface.now.types side o) graph.now) }
+// The cell at a place, from 0, as a home.
+#[inline]
+pub(crate) fn cell_home(at: usize, cell: &Cell) -> HomeValue<'_>
+    requires { at + 1 < 2 ^ 32 }
+    ensures { home_tree result ≡ home_of_cell (at + 1) (cell_of cell.now) }
 {
-    let mut homes = roots(alloc, interface, op, side, graph)?;
-    for at in 0..graph.cells.len() {
-        let Some(cell) = graph.cells.get(at) else {
-            unreachable!()
-        };
-        let home = HomeValue {
-            home: Home::Cell(CellId(at as u32 + 1)),
-            of: cell.of,
-            param: None,
-            val: &cell.val,
-        };
-        match homes.push(home) {
-            Ok(()) => {}
-            Err(_) => return Err(Memory),
-        }
+    HomeValue {
+        home: Home::Cell(CellId(at as u32 + 1)),
+        of: cell.of,
+        param: None,
+        val: &cell.val,
     }
-    Ok(homes)
 }

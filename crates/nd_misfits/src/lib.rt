@@ -13,6 +13,7 @@ mod nodes;
 mod numbers;
 mod pointers;
 mod shared;
+mod simple;
 
 pub use disagreeing::disagreeing_attribute;
 pub use local::local_misfit;

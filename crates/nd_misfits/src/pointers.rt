@@ -1,5 +1,5 @@
 // The pointers of a value that name cells, depth first.
-ghost use Rattle.std.specs.Prelude.{◌≡◌, ℕ, ◌+◌, ◌<◌, ◌^◌, ◌++◌, [], ◌∷◌, length, map, replicate, true, eqb, IfOk, OnOk};
+ghost use Rattle.std.specs.Prelude.{◌≡◌, ℕ, ◌+◌, ◌<◌, ◌^◌, ◌++◌, [], ◌∷◌, length, map, replicate, true, eqb, OnOk};
 ghost use Rattle.nd_types.specs.Table.{type_at};
 ghost use Rattle.nd_types.specs.Layout.{type_list};
 ghost use Rattle.nd_value.specs.Tree.{more, none, trees, node_count, count};
@@ -9,11 +9,12 @@ ghost use Rattle.nd_misfits.specs.Searched.{label_in, kids_in};
 ghost use Rattle.nd_value.specs.Seen.{tree_of, cell_number};
 ghost use Rattle.nd_misfits.specs.Pointers.{are_formed, named_by, pointers_of_home, Collects};
 
+use crate::homes::HomeValue;
 use crate::node::selected;
+use crate::simple::{after_values, simple_nodes};
 use nd_base::Memory;
 use nd_types::{Class, Fields, TypeDef, TypeId, Types};
 use nd_value::{ArmVal, CellId, Home, Val, Vals};
-use std::alloc::Global;
 
 // A pointer that names a cell: where it is, its class, and the cell.
 #[derive(Clone, Copy, Debug, PartialEq, Eq)]
@@ -24,21 +25,19 @@ pub(crate) struct CellPointer {
     pub(crate) cell: CellId,
 }
 
-// The pointers of a home that name cells.
+// The pointers of a home that name cells, in place of those that were found before.
 pub(crate) fn cell_pointers(
-    alloc: Global,
     types: &Types,
-    home: Home,
-    of: TypeId,
-    val: &Val,
-) -> Result<Vec<CellPointer>, Memory>
-    requires few { node_count (more (tree_of val.now) none) < 2 ^ 32 }
-    requires formed { are_formed types.now (of.0 ∷ []) (more (tree_of val.now) none) ≡ true }
-    ensures { IfOk result (λ found. found.items ≡ pointers_of_home types.now home of.0 (tree_of val.now)) }
+    home: HomeValue<'_>,
+    found: &mut Vec<CellPointer>,
+) -> Result<(), Memory>
+    requires few { node_count (more (tree_of home.val.now) none) < 2 ^ 32 }
+    requires formed { are_formed types.now (home.of.0 ∷ []) (more (tree_of home.val.now) none) ≡ true }
+    ensures { OnOk result (found.new.items ≡ pointers_of_home types.now home.entry.home home.entry.of.0 (tree_of home.entry.val.now)) }
 {
-    let mut found = Vec::new(alloc);
-    value(types, home, of, val, 0, &mut found)?;
-    Ok(found)
+    found.clear();
+    value(types, home.home, home.of, home.val, 0, found)?;
+    Ok(())
 }
 
 // Goes through the nodes of a value of a type, which are numbered from `node` on, and adds the pointers that name cells to those
@@ -89,7 +88,7 @@ fn by_form(
             let Some(TypeDef::Array { elem, .. }) = def else {
                 unreachable!()
             };
-            elements(types, home, *elem, items, next, found)
+            list(types, home, *elem, items, next, found)
         }
         Val::Union { tag, arm: value } => {
             let Some(TypeDef::Union { arms, default, .. }) = def else {
@@ -104,7 +103,7 @@ fn by_form(
             let Some(TypeDef::Pipe { elem }) = def else {
                 unreachable!()
             };
-            elements(types, home, *elem, items, next, found)
+            list(types, home, *elem, items, next, found)
         }
         Val::Ptr(cell) => {
             let Some(TypeDef::Pointer { class, .. }) = def else {
@@ -145,7 +144,31 @@ fn members(
     Ok(next)
 }
 
-// The same of the elements of an array or a pipe.
+// The same of the elements of an array or a pipe. Simple ones are not searched.
+#[cycle(pointers)]
+fn list(
+    types: &Types,
+    home: Home,
+    elem: TypeId,
+    vals: &Vals,
+    node: u32,
+    found: &mut Vec<CellPointer>,
+) -> Result<u32, Memory>
+    requires few { node + node_count (trees vals.now) < 2 ^ 32 }
+    requires formed { are_formed types.now (replicate (count (trees vals.now)) elem.0) (trees vals.now) ≡ true }
+    ensures { Collects types.now home (replicate (count (trees vals.now)) elem.0) node (trees vals.now) found.old.items found.new.items result }
+{
+    let count = vals.len();
+    if count == 0 {
+        return elements(types, home, elem, vals, node, found);
+    }
+    match simple_nodes(types, elem, false) {
+        Some(inside) => Ok(after_values(count, inside, node)),
+        None => elements(types, home, elem, vals, node, found),
+    }
+}
+
+// The same of elements one by one.
 #[cycle(pointers)]
 fn elements(
     types: &Types,

@@ -25,10 +25,10 @@ use Rattle.ndr_trace_value.proofs.Ending.{known_of}
 use Rattle.ndr_trace.proofs.Faults.{Logged, agreement_fault, is_disagreement, logged_there, one_item, plain_fault, tested_entry}
 
 -- an agreement, or another kind
-abbrev IsTest : Kind → Type 0
+abbrev pub IsTest : Kind → Type 0
 IsTest k = (a : Attr) × (wanted : ℤ) × (found : ℤ) × (k ≡ Test a wanted found)
 
-as_test : (k : Kind) → is_test k ≡ true → IsTest k
+pub as_test : (k : Kind) → is_test k ≡ true → IsTest k
 as_test (Test a wanted found) e = (a, wanted, found, refl)
 as_test (Align n) e = cc
 as_test (Max v) e = cc
@@ -43,7 +43,7 @@ as_test (Context attributes id) e = cc
 as_test Unread e = cc
 
 -- the refused entry begins within the octets
-begins_within : (order : Order) (octets : List ℕ) (nums : ℕ → ℕ) (at : ℕ) (ms : List Entry) (earlier : List EntryAt) (here : EntryAt) (later : List EntryAt)
+pub begins_within : (order : Order) (octets : List ℕ) (nums : ℕ → ℕ) (at : ℕ) (ms : List Entry) (earlier : List EntryAt) (here : EntryAt) (later : List EntryAt)
     → end_to_end at ms ≡ earlier ++ here ∷ later → AllByRecursion (IsRendered order nums octets) earlier → at ≤ length octets → here.at ≤ length octets
 begins_within order octets nums at [] [] here later e r l = cc
 begins_within order octets nums at [] (y ∷ ys) here later e r l = cc

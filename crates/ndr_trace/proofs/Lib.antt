@@ -3,10 +3,13 @@ pub mod CellsInTurn
 pub mod ChunkWalk
 pub mod Deferring
 pub mod Faults
+pub mod FrontStreams
+pub mod FrontTests
 pub mod Grounds
 pub mod HomeNames
 pub mod HomeThere
 pub mod HomeWalks
+pub mod LastPaths
 pub mod PartialHomes
 pub mod Parts
 pub mod PipeNames
@@ -17,5 +20,9 @@ pub mod SideRoots
 pub mod SideWalks
 pub mod SmallCells
 pub mod Starting
+pub mod Subjects
 pub mod TracedWhole
 pub mod WholeWalk
+pub mod Named
+pub mod OwnTests
+pub mod RootAttributes

@@ -24,12 +24,12 @@ no_path_in (x ∷ xs) ys m e f = go (x.0 == m) (λ g. no_path_in xs ys m g f) e
     go true h g = g
     go false h g = h g
 
-front_path_in : (xs ys : List (ℕ × List ℕ)) (m : ℕ) → path_in ys m ≡ [] → path_in (xs ++ ys) m ≡ path_in xs m
+pub front_path_in : (xs ys : List (ℕ × List ℕ)) (m : ℕ) → path_in ys m ≡ [] → path_in (xs ++ ys) m ≡ path_in xs m
 front_path_in [] ys m e = e
 front_path_in (x ∷ xs) ys m e = ap (λ q. elim (x.0 == m) [ true ↦ x.1 | false ↦ q ]) (front_path_in xs ys m e)
 
 -- nodes that are numbered from a number on have none before it
-none_before : (table : Table) (types : List ℕ) (paths : List (List ℕ)) (n m : ℕ) (w : Trees) → m < n → path_in (node_paths table types paths n w) m ≡ []
+pub none_before : (table : Table) (types : List ℕ) (paths : List (List ℕ)) (n m : ℕ) (w : Trees) → m < n → path_in (node_paths table types paths n w) m ≡ []
 none_before table [] paths n m w h = refl
 none_before table (t ∷ types) [] n m w h = refl
 none_before table (t ∷ types) (p ∷ paths) n m none h = refl
@@ -77,7 +77,7 @@ flat_of_first ks us i h =
 
 -- ## Past some values
 
-skip_nodes : (table : Table) (types : List ℕ) (paths : List (List ℕ)) (n m : ℕ) (w : Trees) (xs : List (ℕ × List ℕ)) → n + node_count w ≤ m
+pub skip_nodes : (table : Table) (types : List ℕ) (paths : List (List ℕ)) (n m : ℕ) (w : Trees) (xs : List (ℕ × List ℕ)) → n + node_count w ≤ m
     → path_in (node_paths table types paths n w ++ xs) m ≡ path_in xs m
 skip_nodes table [] paths n m w xs h = refl
 skip_nodes table (t ∷ types) [] n m w xs h = refl

@@ -9,12 +9,12 @@ use Rattle.ndr_trace_laws.specs.Untested.{untested}
 use Rattle.ndr_trace_value.specs.declared.nodes.Walker.{Walker}
 use Rattle.ndr_trace.specs.Homes.{IsPart}
 use Rattle.ndr_trace.specs.Sides.{IsAtRoot, IsBeginning, IsStream}
-use Rattle.ndr_trace_value.specs.Tracing.{IsGround, IsTracing, Known}
+use Rattle.ndr_trace_value.specs.Tracing.{IsGround, IsTracing, Known, sought_path, sought_variable}
 use Rattle.ndr_trace_value.specs.declared.progress.Ground.{Ground}
 use Rattle.ndr_trace_value.specs.declared.progress.Halt.{Halt}
 use Rattle.ndr_trace_value.specs.declared.progress.Halt.TheVariants as halts
 use Rattle.ndr_trace.proofs.Starting.{at_first_root}
-use Rattle.ndr_trace_value.proofs.Passing.{not_kept}
+use Rattle.ndr_trace_value.proofs.Passing.{not_held}
 
 -- at the beginning all entries are due
 pub begins : (k : Known) (u : Walker) → IsPart k → (g : IsStream k) → (v : Ground) → IsGround k v → IsBeginning u → IsAtRoot k u 0
@@ -25,7 +25,8 @@ begins k u s g v ground b =
     tracing = record {
       within = (let z = b.next in omega (arith, z));
       lines = b.lines ∙ ap (λ n. explanation k.setting k.graph (take n k.log)) (sym b.next);
-      path = b.path ∙ sym (not_kept k u.progress.next b.next);
+      path = b.path ∙ sym (not_held k (sought_path k) u.progress.next b.next);
+      variable = b.variable ∙ sym (not_held k (sought_variable k) u.progress.next b.next);
       due =
           subst (λ n. Stops k.order k.fetched k.numbering k.here (end_to_end u.progress.at (untested g.entries)) (drop n k.log)) (sym b.next)
           (subst (λ n. Stops k.order k.fetched k.numbering k.here (end_to_end n (untested g.entries)) k.log) (sym b.at) g.due);

@@ -1,7 +1,7 @@
 -- What a walk over the roots of a side comes to.
 -- `k` are the octets with the partial graph in which they are refused, `u` is what the walk is given, or the walk, `i` is the index of a root,
 -- `cuts` are the counts of the chunks of pipes.
-use Rattle.std.specs.Prelude.{◌≡◌, ◌⊎◌, ◌≤◌, ◌-◌, ℕ, List, [], ◌++◌, drop, Option, None, Some}
+use Rattle.std.specs.Prelude.{◌≡◌, ◌⊎◌, ◌≤◌, ◌-◌, ℕ, List, [], ◌++◌, drop, Option, None, Some, codes}
 use Rattle.std.specs.List.{slice_get}
 use Rattle.nd_types.specs.declared.types.Operation.{Operation}
 use Rattle.nd_value.specs.declared.value.Graph.{Graph}
@@ -16,6 +16,7 @@ use Rattle.ndr_trace_laws.specs.Untested.{untested}
 use Rattle.ndr_trace_value.specs.declared.nodes.Walker.{Walker}
 use Rattle.ndr_trace_value.specs.declared.progress.Ground.{Ground}
 use Rattle.ndr_trace_value.specs.declared.search.Sought.{Sought}
+use Rattle.ndr_trace_value.specs.Attributes.{IsKeptName, IsOwnName}
 use Rattle.ndr_trace.specs.Homes.{IsAwaiting}
 use Rattle.ndr_trace_value.specs.Naming.{IsNaming, names_in}
 use Rattle.ndr_trace_value.specs.Tracing.{IsTracing, Known}
@@ -64,12 +65,14 @@ pub record IsBeginning (u : Walker) : Type 0 where
   pub at : u.progress.at ≡ 0
   pub lines : u.progress.lines ≡ []
   pub path : u.progress.path ≡ []
+  pub variable : u.progress.variable ≡ []
   pub count : u.cells.count ≡ 0
   pub numbers : u.cells.numbers ≡ []
   pub none_pending : u.cells.pending.items ≡ []
   pub unmarked : u.cells.stands.items ≡ []
 
--- the path that is shown: that at which a walk ended, or where an agreement is sought that of the item, and a text
-abbrev pub IsFinished : Option Sought → List ℕ → List ℕ → Type 0
-IsFinished None path shown = shown ≡ path
-IsFinished (Some s) path shown = (rest : List ℕ) × (shown ≡ path ++ rest)
+-- the path that is shown: that at which a walk ended; where an agreement is sought a blank and the variable follow
+abbrev pub IsFinished : Ground → Option Sought → List ℕ → List ℕ → List ℕ → Type 0
+IsFinished u None path kept shown = shown ≡ path
+IsFinished u (Some s) path kept shown =
+    (variable : List ℕ) × IsOwnName u s variable × IsKeptName u s kept variable × (shown ≡ path ++ (codes " " ++ variable))

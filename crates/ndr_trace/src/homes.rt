@@ -21,7 +21,7 @@ use nd_value::Home;
 use ndr_explain::{HomeName, Level};
 use ndr_trace_value::{
     Ground, Halt, Pending, RootSeen, Spot, Walker, at_end, close, come_to, count, gap, new_cell,
-    note_direct, note_front, walk_level,
+    note_direct, walk_level,
 };
 
 /// Walks over a root and the referents that it makes due.
@@ -178,9 +178,7 @@ fn front<'a>(
         below: &below,
     };
     gap(ground, &mut walker.progress, 4, &spot)?;
-    let item = walker.progress.next;
     let max = count(ground, &mut walker.progress, &spot)?;
-    note_front(ground, &mut walker.search, item, &spot)?;
     Ok(max)
 }
 

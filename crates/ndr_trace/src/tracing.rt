@@ -1,5 +1,5 @@
 // The trace of octets that are refused.
-ghost use Rattle.std.specs.Prelude.{◌≡◌, ◌<◌, ◌++◌, ℕ, List, length, Some, option_map, IfOk, None};
+ghost use Rattle.std.specs.Prelude.{◌≡◌, ◌<◌, ◌++◌, ℕ, List, codes, length, Some, option_map, IfOk, None};
 ghost use Rattle.std.specs.List.{slice_get};
 ghost use Rattle.nd_types.specs.declared.types.Operation.{Operation};
 ghost use Rattle.nd_types.specs.Number.{AreOctets};
@@ -12,6 +12,7 @@ ghost use Rattle.nd_grammar.specs.LegalSide.{IsLegalSide};
 ghost use Rattle.ndr_decoder_laws.specs.verdict.InOrder.{HasOwnNumbers};
 ghost use Rattle.ndr_trace.specs.Homes.{IsPart};
 ghost use Rattle.ndr_trace.specs.Sides.{IsBeginning, IsFinished, IsSide, IsStream};
+ghost use Rattle.ndr_trace_value.specs.Attributes.{IsKeptName, IsOwnName};
 ghost use Rattle.ndr_trace_value.specs.Traces.{IsTraceOf};
 ghost use Rattle.ndr_trace_value.specs.Tracing.{IsEnded, IsGround, Known};
 
@@ -23,7 +24,7 @@ use nd_types::{Interface, Side};
 use nd_value::ItemLog;
 use ndr_refs::Referents;
 use ndr_trace_value::{
-    Cells, Ground, Halt, Progress, Search, Sought, Walker, agreement_tail, find_agreement,
+    Cells, Ground, Halt, Progress, Search, Sought, Walker, find_agreement, variable_path,
 };
 use std::alloc::Global;
 
@@ -32,8 +33,8 @@ use std::alloc::Global;
 pub struct Traced {
     /// A line for each item before the fault, as an explanation has it.
     pub lines: Octets,
-    /// The path of the value that is refused or lacks octets. At a failed agreement a blank and the path of the variable that states the number
-    /// follow.
+    /// The path of the value that is refused or lacks octets. At a failed agreement that of the value that disagrees, a blank, and the path of the
+    /// variable that states the number.
     pub path: Octets,
 }
 
@@ -107,6 +108,7 @@ fn begin<'a>(alloc: Global) -> Walker<'a>
             at: 0,
             lines: Octets::new(alloc),
             path: Octets::new(alloc),
+            variable: Octets::new(alloc),
         },
         cells: Cells {
             count: 0,
@@ -115,7 +117,6 @@ fn begin<'a>(alloc: Global) -> Walker<'a>
             stands: Vec::new(alloc),
         },
         search: Search {
-            steps: Octets::new(alloc),
             stated: Vec::new(alloc),
             open: Vec::new(alloc),
             roots: Vec::new(alloc),
@@ -124,19 +125,24 @@ fn begin<'a>(alloc: Global) -> Walker<'a>
     }
 }
 
-// The lines, and the path at which the walk ended; where an agreement fails, that of its item, and what follows.
+// The lines, and the path at which the walk ended; where an agreement fails, a blank and the path of the variable follow.
 fn finish<'a>(ground: &Ground<'a>, walker: Walker<'a>) -> Result<Traced, Memory>
     ensures lines { IfOk result (λ t. t.lines ≡ walker.entry.progress.lines) }
-    ensures path { IfOk result (λ t. IsFinished ground.now.sought walker.entry.progress.path t.path) }
+    ensures path { IfOk result (λ t. IsFinished ground.now ground.now.sought walker.entry.progress.path walker.entry.progress.variable t.path) }
 {
     let Walker {
         progress,
         search,
         ..
     } = walker;
-    let Progress { lines, path, .. } = progress;
+    let Progress {
+        lines,
+        path,
+        variable,
+        ..
+    } = progress;
     match ground.sought {
-        Some(sought) => finish_at(ground, &search, sought, lines, path),
+        Some(sought) => finish_at(ground, &search, sought, lines, path, &variable),
         None => Ok(Traced { lines, path }),
     }
 }
@@ -148,12 +154,15 @@ fn finish_at(
     sought: Sought,
     lines: Octets,
     path: Octets,
+    kept: &Octets,
 ) -> Result<Traced, Memory>
     ensures lines { IfOk result (λ t. t.lines ≡ lines) }
-    ensures path { IfOk result (λ t. (rest : List ℕ) × (t.path ≡ path ++ rest)) }
+    ensures path { IfOk result (λ t. (variable : List ℕ) × IsOwnName ground.now sought variable × IsKeptName ground.now sought kept.now variable
+        × (t.path ≡ path ++ (codes " " ++ variable))) }
 {
-    let tail = agreement_tail(ground, search, sought)?;
+    let variable = variable_path(ground, search, sought, kept)?;
     let mut path = path;
-    path.append(tail.as_slice())?;
+    path.append(b" ")?;
+    path.append(variable.as_slice())?;
     Ok(Traced { lines, path })
 }

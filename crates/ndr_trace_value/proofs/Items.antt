@@ -23,6 +23,7 @@ use Rattle.nd_grammar.proofs.reader.Ranges.{below_4}
 use Rattle.ndr_prim.specs.Context.{attributes_of, identifier, identifier_of, identifier_octets}
 use Rattle.ndr_prim.proofs.Contexts.{context_after_write}
 use Rattle.nd_lemmas.proofs.Lists.{four_parts, take_front}
+use Rattle.text_grammar.specs.Paths.{home_types}
 use Rattle.text_grammar.specs.Printed.{quoted_text}
 use Rattle.text_printer.specs.Texts.{context_text}
 use Rattle.ndr_explain.specs.Cursors.{IsNoGap, name_text, path_to}
@@ -37,10 +38,11 @@ use Rattle.ndr_trace_value.specs.declared.progress.Ground.{Ground}
 use Rattle.ndr_trace_value.specs.declared.progress.Progress.{Progress}
 use Rattle.ndr_trace_value.specs.declared.progress.Spot.{Spot}
 use Rattle.ndr_trace_value.specs.declared.search.Sought.{Sought}
+use Rattle.ndr_trace_value.specs.LastMembers.{counted_path, counted_variable, whole_types}
 use Rattle.ndr_trace_value.specs.Traces.{entry_path}
-use Rattle.ndr_trace_value.specs.Tracing.{HasLabel, Holds, HoldsCount, IsCount, IsCounted, IsEnded, IsGround, IsItem, IsShown, IsSpot, IsTracing, Known, either_path, entry_at, is_sought, item_path}
-use Rattle.ndr_trace_value.specs.Tracing.{kept, kept_by}
-use Rattle.ndr_trace_value.proofs.Passing.{gap_passed, item_ended, item_passed, kept_next, kept_on, next_item, placed}
+use Rattle.ndr_trace_value.specs.Tracing.{HasLabel, Holds, HoldsCount, IsCount, IsCounted, IsEnded, IsGround, IsInFront, IsItem, IsShown, IsSpot, IsTracing, Known, either_path, entry_at, is_sought}
+use Rattle.ndr_trace_value.specs.Tracing.{kept, kept_by, sought_path, sought_variable}
+use Rattle.ndr_trace_value.proofs.Passing.{gap_passed, held_next, held_on, item_ended, item_passed, next_item, placed}
 
 -- ## Kinds
 
@@ -303,16 +305,56 @@ module _ (k : Known) (u : Ground) (ground : IsGround k u) where
           ≡ context_text (attributes_of u.order (take 20 (drop a u.octets.now))) (identifier_of u.order (take 20 (drop a u.octets.now))))) (sym e1)
           (context_is at attributes id (label_in (home_flats k.graph s.home) n) c d b)
 
+  -- the path of what has the count or tag is by the types of the home
+  by_home : (s : Spot) (x : Kind) (os path : List ℕ) → IsItem x → IsInFront k s x
+      → counted_path k.setting.table (item_as k.order x os).0 (whole_types s.top) path
+      ≡ counted_path k.setting.table (item_as k.order x os).0 (home_types k.setting k.graph s.home) path
+  by_home s (Max v) os path h e = ap (λ ts. counted_path k.setting.table item.Max ts path) e
+  by_home s (Align m) os path h e = absurd h
+  by_home s (Test a wanted found) os path h e = absurd h
+  by_home s Unread os path h e = absurd h
+  by_home s (Offset t v) os path h e = refl
+  by_home s (Actual t offset limit v) os path h e = refl
+  by_home s (Chunk v) os path h e = refl
+  by_home s (Number class to cell) os path h e = refl
+  by_home s (Num p values v) os path h e = refl
+  by_home s (Tag p values arms default v) os path h e = refl
+  by_home s (Text octets) os path h e = refl
+  by_home s (Context attributes id) os path h e = refl
+
+  variable_by_home : (s : Spot) (x : Kind) (os path : List ℕ) → IsItem x → IsInFront k s x
+      → counted_variable k.setting.table (item_as k.order x os).0 (whole_types s.top) path
+      ≡ counted_variable k.setting.table (item_as k.order x os).0 (home_types k.setting k.graph s.home) path
+  variable_by_home s (Max v) os path h e = ap (λ ts. counted_variable k.setting.table item.Max ts path) e
+  variable_by_home s (Align m) os path h e = absurd h
+  variable_by_home s (Test a wanted found) os path h e = absurd h
+  variable_by_home s Unread os path h e = absurd h
+  variable_by_home s (Offset t v) os path h e = refl
+  variable_by_home s (Actual t offset limit v) os path h e = refl
+  variable_by_home s (Chunk v) os path h e = refl
+  variable_by_home s (Number class to cell) os path h e = refl
+  variable_by_home s (Num p values v) os path h e = refl
+  variable_by_home s (Tag p values arms default v) os path h e = refl
+  variable_by_home s (Text octets) os path h e = refl
+  variable_by_home s (Context attributes id) os path h e = refl
+
   -- an item with its line: the next entry is due, and it holds what its entry says
-  pub item_goes : (s : Spot) (n : ℕ) → IsSpot k s n → (x : Kind) → IsItem x → HasLabel k s.home n x → (rest : List Entry) (p p1 : Progress)
+  pub item_goes : (s : Spot) (n : ℕ) → IsSpot k s n → (x : Kind) → IsItem x → HasLabel k s.home n x → IsInFront k s x → (rest : List Entry) (p p1 : Progress)
       → IsTracing k p (entry_at s n x ∷ rest) → (i : Item) → slice_get u.items.now.items p.next ≡ Some i → (t1 t2 t3 t4 t5 t6 : List ℕ)
       → t1 ≡ p.lines ++ item_head i → t2 ≡ t1 ++ codes " " → t3 ≡ path_to (t2 ++ name_text s.name) (s.top ∷ reverse s.below.now.items)
       → t4 ≡ t3 ++ codes " " → ((l : Option Label) → IsShown u i i.kind l → t5 ≡ t4 ++ value_shown i.kind l i.value) → t6 ≡ t5 ++ codes "\n"
       → p1.lines ≡ t6 → p1.next ≡ p.next + 1 → p1.at ≡ i.at + i.len
-      → p1.path ≡ either_path (is_sought u.sought p.next) (path_to (p.path ++ name_text s.name) (s.top ∷ reverse s.below.now.items)) p.path
+      → p1.path
+      ≡ either_path (is_sought u.sought p.next)
+      (counted_path u.interface.now.types i.kind (whole_types s.top) (path_to (p.path ++ name_text s.name) (s.top ∷ reverse s.below.now.items))) p.path
+      → p1.variable
+      ≡ either_path (is_sought u.sought p.next)
+      (counted_variable u.interface.now.types i.kind (whole_types s.top) (path_to (name_text s.name) (s.top ∷ reverse s.below.now.items))) p.variable
       → IsTracing k p1 rest × Holds k x i.value
-  item_goes s n spot x item label rest p p1 t i got t1 t2 t3 t4 t5 t6 e1 e2 e3 e4 e5 e6 lines next at path = (
-    item_passed k p p1 (entry_at s n x) rest z i one t there next at (kept_next k p.next i there u.sought ground.sought_is p.path p1.path _ t.path its_path path) line,
+  item_goes s n spot x item label front rest p p1 t i got t1 t2 t3 t4 t5 t6 e1 e2 e3 e4 e5 e6 lines next at path variable = (
+    item_passed k p p1 (entry_at s n x) rest z i one t there next at
+        (held_next k (sought_path k) p.next i there u.sought ground.sought_is p.path p1.path _ t.path its_path path)
+        (held_next k (sought_variable k) p.next i there u.sought ground.sought_is p.variable p1.variable _ t.variable (λ empty. its_variable) variable) line,
     subst (Holds k x) (sym value) (holds k p.at x item ground.are_octets one.rendered.0 one.rendered.1),
   )
     where
@@ -345,10 +387,29 @@ module _ (k : Known) (u : Ground) (ground : IsGround k u) where
           subst (λ l. IsShown u i i.kind l) same_label
           (shown x s n p.at i item label one.rendered.0 one.rendered.1 (ap (λ (y : Item). y.at) one.is_item) (ap (λ (y : Item). y.len) one.is_item) kind)
 
-      its_path : p.path ≡ [] → path_to (p.path ++ name_text s.name) (s.top ∷ reverse s.below.now.items) ≡ item_path k (Some i)
+      here : List ℕ
+      here = path_in (home_paths k.setting k.graph i.home) i.node
+
+      its_path : p.path ≡ []
+          → counted_path u.interface.now.types i.kind (whole_types s.top) (path_to (p.path ++ name_text s.name) (s.top ∷ reverse s.below.now.items)) ≡ sought_path k (Some i)
       its_path empty =
-          ap (λ q. path_to (q ++ name_text s.name) (s.top ∷ reverse s.below.now.items)) empty ∙ spot
-          ∙ ap₂ (λ (h : Home) (m : ℕ). path_in (home_paths k.setting k.graph h) m) (sym home) (sym node)
+          ap (λ q. counted_path u.interface.now.types i.kind (whole_types s.top) (path_to (q ++ name_text s.name) (s.top ∷ reverse s.below.now.items))) empty
+          ∙ ap (counted_path u.interface.now.types i.kind (whole_types s.top))
+          (spot ∙ ap₂ (λ (h : Home) (m : ℕ). path_in (home_paths k.setting k.graph h) m) (sym home) (sym node))
+          ∙ ap (λ table. counted_path table i.kind (whole_types s.top) here) ground.table ∙ ap (λ m. counted_path k.setting.table m (whole_types s.top) here) kind
+          ∙ by_home s x (piece k.fetched p.at x) here item front
+          ∙ ap (λ m. counted_path k.setting.table m (home_types k.setting k.graph s.home) here) (sym kind)
+          ∙ ap (λ h. counted_path k.setting.table i.kind (home_types k.setting k.graph h) here) (sym home)
+
+      its_variable : counted_variable u.interface.now.types i.kind (whole_types s.top) (path_to (name_text s.name) (s.top ∷ reverse s.below.now.items))
+          ≡ sought_variable k (Some i)
+      its_variable =
+          ap (counted_variable u.interface.now.types i.kind (whole_types s.top))
+          (spot ∙ ap₂ (λ (h : Home) (m : ℕ). path_in (home_paths k.setting k.graph h) m) (sym home) (sym node))
+          ∙ ap (λ table. counted_variable table i.kind (whole_types s.top) here) ground.table ∙ ap (λ m. counted_variable k.setting.table m (whole_types s.top) here) kind
+          ∙ variable_by_home s x (piece k.fetched p.at x) here item front
+          ∙ ap (λ m. counted_variable k.setting.table m (home_types k.setting k.graph s.home) here) (sym kind)
+          ∙ ap (λ h. counted_variable k.setting.table i.kind (home_types k.setting k.graph h) here) (sym home)
 
       path_shown : t3 ≡ t2 ++ path_in (home_paths k.setting k.graph i.home) i.node
       path_shown =
@@ -367,9 +428,10 @@ module _ (k : Known) (u : Ground) (ground : IsGround k u) where
   -- a gap with its line: the next entry is due
   pub gap_goes : (s : Spot) (n align : ℕ) (rest : List Entry) (p p1 : Progress) → 0 < gap p.at align → IsTracing k p (entry_at s n (Align align) ∷ rest)
       → (i : Item) → slice_get u.items.now.items p.next ≡ Some i → (t1 t2 : List ℕ) → t1 ≡ p.lines ++ item_head i → t2 ≡ t1 ++ codes "\n"
-      → p1.lines ≡ t2 → p1.next ≡ p.next + 1 → p1.at ≡ i.at + i.len → p1.path ≡ p.path → IsTracing k p1 rest
-  gap_goes s n align rest p p1 some t i got t1 t2 e1 e2 lines next at path =
-      item_passed k p p1 (entry_at s n (Align align)) rest (item.Gap, pos 0) i one t there next at (path ∙ t.path ∙ kept_on k p.next another) line
+      → p1.lines ≡ t2 → p1.next ≡ p.next + 1 → p1.at ≡ i.at + i.len → p1.path ≡ p.path → p1.variable ≡ p.variable → IsTracing k p1 rest
+  gap_goes s n align rest p p1 some t i got t1 t2 e1 e2 lines next at path variable =
+      item_passed k p p1 (entry_at s n (Align align)) rest (item.Gap, pos 0) i one t there next at (path ∙ t.path ∙ held_on k (sought_path k) p.next another)
+      (variable ∙ t.variable ∙ held_on k (sought_variable k) p.next another) line
     where
       there : slice_get k.log p.next ≡ Some i
       there = ap (λ xs. slice_get xs p.next) (sym ground.items) ∙ got
@@ -402,7 +464,7 @@ module _ (k : Known) (u : Ground) (ground : IsGround k u) where
 
   -- where none is sought none was passed
   never_kept : (p : Progress) → p.path ≡ kept k p.next → u.sought ≡ None → p.path ≡ []
-  never_kept p e none = e ∙ ap (λ o. kept_by k o p.next) (sym ground.sought_is ∙ ap (option_map (λ (x : Sought). x.item)) none)
+  never_kept p e none = e ∙ ap (λ o. kept_by (sought_path k) k.log o p.next) (sym ground.sought_is ∙ ap (option_map (λ (x : Sought). x.item)) none)
 
   path_ended : (s : Spot) (n : ℕ) (m : Entry) → IsSpot k s n → m.home ≡ s.home → m.node ≡ n → (p p1 : Progress) → p.path ≡ kept k p.next
       → (u.sought ≡ None → p1.path ≡ path_to (p.path ++ name_text s.name) (s.top ∷ reverse s.below.now.items))
@@ -415,16 +477,16 @@ module _ (k : Known) (u : Ground) (ground : IsGround k u) where
   -- no item is left at an entry that is one
   pub item_ends : (s : Spot) (n : ℕ) → IsSpot k s n → (x : Kind) → IsItem x → (rest : List Entry) (p p1 : Progress)
       → IsTracing k p (entry_at s n x ∷ rest) → length u.items.now.items ≤ p.next → p1.lines ≡ p.lines
-      → (u.sought ≡ None → p1.path ≡ path_to (p.path ++ name_text s.name) (s.top ∷ reverse s.below.now.items)) → (IsSome u.sought → p1.path ≡ p.path)
+      → (u.sought ≡ None → p1.path ≡ path_to (p.path ++ name_text s.name) (s.top ∷ reverse s.below.now.items)) → (IsSome u.sought → p1.path ≡ p.path) → p1.variable ≡ p.variable
       → IsEnded k p1
-  item_ends s n spot x item rest p p1 t over lines path same =
+  item_ends s n spot x item rest p p1 t over lines path same variable =
       item_ended k p p1 (entry_at s n x) rest (item_as k.order x (piece k.fetched p.at x)) (λ r. is_as k.order x (piece k.fetched p.at x) item) t
-      (subst (λ xs. length xs ≤ p.next) ground.items over) lines (path_ended s n (entry_at s n x) spot refl refl p p1 t.path path) (λ e. same (ground.seeks e))
+      (subst (λ xs. length xs ≤ p.next) ground.items over) lines (path_ended s n (entry_at s n x) spot refl refl p p1 t.path path) (λ e. same (ground.seeks e)) variable
 
   pub gap_ends : (s : Spot) (n : ℕ) → IsSpot k s n → (align : ℕ) (rest : List Entry) (p p1 : Progress) → 0 < gap p.at align
       → IsTracing k p (entry_at s n (Align align) ∷ rest) → length u.items.now.items ≤ p.next → p1.lines ≡ p.lines
-      → (u.sought ≡ None → p1.path ≡ path_to (p.path ++ name_text s.name) (s.top ∷ reverse s.below.now.items)) → (IsSome u.sought → p1.path ≡ p.path)
+      → (u.sought ≡ None → p1.path ≡ path_to (p.path ++ name_text s.name) (s.top ∷ reverse s.below.now.items)) → (IsSome u.sought → p1.path ≡ p.path) → p1.variable ≡ p.variable
       → IsEnded k p1
-  gap_ends s n spot align rest p p1 some t over lines path same =
+  gap_ends s n spot align rest p p1 some t over lines path same variable =
       item_ended k p p1 (entry_at s n (Align align)) rest (item.Gap, pos 0) (λ r. gap_item k.order k.fetched p.at align some r.0) t
-      (subst (λ xs. length xs ≤ p.next) ground.items over) lines (path_ended s n (entry_at s n (Align align)) spot refl refl p p1 t.path path) (λ e. same (ground.seeks e))
+      (subst (λ xs. length xs ≤ p.next) ground.items over) lines (path_ended s n (entry_at s n (Align align)) spot refl refl p p1 t.path path) (λ e. same (ground.seeks e)) variable

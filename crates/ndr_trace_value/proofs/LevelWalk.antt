@@ -28,7 +28,7 @@ use Rattle.ndr_explain.specs.Cursors.{types_from}
 use Rattle.ndr_explain.proofs.LevelPaths.{path_first}
 use Rattle.ndr_explain.proofs.Walks.{ComesAfter, after_step, path_here, path_later}
 use Rattle.ndr_trace_laws.proofs.Nodes.{after_own}
-use Rattle.ndr_trace_value.proofs.Passing.{all_lines, kept_all}
+use Rattle.ndr_trace_value.proofs.Passing.{all_lines, kept_all, variable_all}
 use Rattle.ndr_trace_value.specs.declared.cells.Cells.{Cells}
 use Rattle.ndr_trace_value.specs.declared.cells.Pending.{Pending}
 use Rattle.ndr_trace_value.specs.declared.nodes.Walker.{Walker}
@@ -421,6 +421,7 @@ pub ended_there : (k : Known) (u : Ground) → IsGround k u → (p p1 : Progress
 ended_there k u g p p1 ms e t over = record {
   lines = ap (λ (q : Progress). q.lines) e ∙ all_lines k p.next p.lines (subst (λ xs. length xs ≤ p.next) g.items over.1) t.lines;
   path = inl (g.sought over.0, ap (λ (q : Progress). q.path) e ∙ kept_all k p ms t (subst (λ xs. length xs ≤ p.next) g.items over.1));
+  variable = ap (λ (q : Progress). q.variable) e ∙ variable_all k p ms t (subst (λ xs. length xs ≤ p.next) g.items over.1);
 }
 
 pub named_around : (k : Known) (a a1 a2 a3 : Cells) (due : List Entry) (names : Placed_cells) → a1 ≡ a → a3 ≡ a2 → HasNamed k a1 a2 due names → HasNamed k a a3 due names

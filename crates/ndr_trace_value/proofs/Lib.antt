@@ -2,8 +2,11 @@ pub mod Alignments
 pub mod ByType
 pub mod Ending
 pub mod Items
+pub mod LastSteps
 pub mod LevelWalk
 pub mod NamedCells
 pub mod OwnItems
 pub mod Partial
 pub mod Passing
+pub mod Attributes
+pub mod LastVariables

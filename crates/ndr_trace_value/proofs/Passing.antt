@@ -21,7 +21,7 @@ use Rattle.ndr_trace_value.specs.declared.progress.Halt.{Halt}
 use Rattle.ndr_trace_value.specs.declared.progress.Halt.TheVariants as halts
 use Rattle.ndr_trace_value.specs.declared.progress.Progress.{Progress}
 use Rattle.ndr_trace_value.specs.declared.search.Sought.{Sought}
-use Rattle.ndr_trace_value.specs.Tracing.{IsEnded, IsTracing, Known, either_path, is_sought, item_path, kept, kept_by}
+use Rattle.ndr_trace_value.specs.Tracing.{IsEnded, IsTracing, Known, either_path, is_sought, kept, kept_by, kept_variable}
 use Rattle.ndr_trace_value.specs.Traces.{entry_path}
 
 module _ (k : Known) where
@@ -45,7 +45,7 @@ module _ (k : Known) where
       sym (append-nil (take n k.log)) ∙ ap (λ u. take n k.log ++ u) (sym (drop_past k.log n over)) ∙ take-append-drop n k.log in
       e ∙ ap shown whole
 
-  -- ## The path of the item that is sought
+  -- ## What is kept of the item that is sought
 
   same_test : (j n : ℕ) → (j ≡ n → ⊥) → ltb j n ≡ ltb j (n + 1)
   same_test j n other = by (ltb j n) refl
@@ -61,41 +61,43 @@ module _ (k : Known) where
               let same : j ≡ n = omega (arith, l, m) in
               absurd (other same)
 
-  -- at the beginning none was passed
-  pub not_kept : (n : ℕ) → n ≡ 0 → kept k n ≡ []
-  not_kept n e = by k.sought
-    where
-      by : (o : Option ℕ) → kept_by k o n ≡ []
-      by None = refl
-      by (Some j) = ap (λ b. elim b [ true ↦ item_path k (slice_get k.log j) | false ↦ [] ]) (le-ltb j n (omega (arith, e)))
+  module _ (its : Option Item → List ℕ) where
+    -- at the beginning none was passed
+    pub not_held : (n : ℕ) → n ≡ 0 → kept_by its k.log k.sought n ≡ []
+    not_held n e = by k.sought
+      where
+        by : (o : Option ℕ) → kept_by its k.log o n ≡ []
+        by None = refl
+        by (Some j) = ap (λ b. elim b [ true ↦ its (slice_get k.log j) | false ↦ [] ]) (le-ltb j n (omega (arith, e)))
 
-  -- another item is passed
-  pub kept_on : (n : ℕ) → (k.sought ≡ Some n → ⊥) → kept k n ≡ kept k (n + 1)
-  kept_on n other = by k.sought other
-    where
-      by : (o : Option ℕ) → (o ≡ Some n → ⊥) → kept_by k o n ≡ kept_by k o (n + 1)
-      by None f = refl
-      by (Some j) f = ap (λ b. elim b [ true ↦ item_path k (slice_get k.log j) | false ↦ [] ]) (same_test j n (λ e. f (ap Some e)))
+    -- another item is passed
+    pub held_on : (n : ℕ) → (k.sought ≡ Some n → ⊥) → kept_by its k.log k.sought n ≡ kept_by its k.log k.sought (n + 1)
+    held_on n other = by k.sought other
+      where
+        by : (o : Option ℕ) → (o ≡ Some n → ⊥) → kept_by its k.log o n ≡ kept_by its k.log o (n + 1)
+        by None f = refl
+        by (Some j) f = ap (λ b. elim b [ true ↦ its (slice_get k.log j) | false ↦ [] ]) (same_test j n (λ e. f (ap Some e)))
 
-  -- an item is passed, with its path if it is the one that is sought
-  pub kept_next : (n : ℕ) (i : Item) → slice_get k.log n ≡ Some i → (o : Option Sought) → option_map (λ (s : Sought). s.item) o ≡ k.sought → (old new path : List ℕ) → old ≡ kept k n
-      → (old ≡ [] → path ≡ item_path k (Some i)) → new ≡ either_path (is_sought o n) path old → new ≡ kept k (n + 1)
-  kept_next n i got None is old new path was shown now =
-      now ∙ was ∙ kept_on n (λ e. (let z : None ≡ Some n = is ∙ e in cc))
-  kept_next n i got (Some s) is old new path was shown now = by (eqb s.item n) refl
-    where
-      by : (b : Bool) → eqb s.item n ≡ b → new ≡ kept k (n + 1)
-      by false e =
-          let differs = eqb-false s.item n e in
-          now ∙ ap (λ b. either_path b path old) e ∙ was ∙ kept_on n (λ f. differs (same_Some _ _ (is ∙ f)))
-      by true e =
-          let same : s.item ≡ n = eqb-true s.item n e in
-          let mine : k.sought ≡ Some n = sym is ∙ ap Some same in
-          let before : kept k n ≡ [] =
-          ap (λ o. kept_by k o n) mine ∙ ap (λ b. elim b [ true ↦ item_path k (slice_get k.log n) | false ↦ [] ]) (le-ltb n n (omega arith)) in
-          let after : kept k (n + 1) ≡ item_path k (Some i) =
-          ap (λ o. kept_by k o (n + 1)) mine ∙ ap (λ b. elim b [ true ↦ item_path k (slice_get k.log n) | false ↦ [] ]) (lt-ltb n (n + 1) (omega arith)) ∙ ap (item_path k) got in
-          now ∙ ap (λ b. either_path b path old) e ∙ shown (was ∙ before) ∙ sym after
+    -- an item is passed, and what is to be kept of it is, if it is the one that is sought
+    pub held_next : (n : ℕ) (i : Item) → slice_get k.log n ≡ Some i → (o : Option Sought) → option_map (λ (s : Sought). s.item) o ≡ k.sought → (old new text : List ℕ)
+        → old ≡ kept_by its k.log k.sought n → (old ≡ [] → text ≡ its (Some i)) → new ≡ either_path (is_sought o n) text old
+        → new ≡ kept_by its k.log k.sought (n + 1)
+    held_next n i got None is old new text was shown now =
+        now ∙ was ∙ held_on n (λ e. (let z : None ≡ Some n = is ∙ e in cc))
+    held_next n i got (Some s) is old new text was shown now = by (eqb s.item n) refl
+      where
+        by : (b : Bool) → eqb s.item n ≡ b → new ≡ kept_by its k.log k.sought (n + 1)
+        by false e =
+            let differs = eqb-false s.item n e in
+            now ∙ ap (λ b. either_path b text old) e ∙ was ∙ held_on n (λ f. differs (same_Some _ _ (is ∙ f)))
+        by true e =
+            let same : s.item ≡ n = eqb-true s.item n e in
+            let mine : k.sought ≡ Some n = sym is ∙ ap Some same in
+            let before : kept_by its k.log k.sought n ≡ [] =
+            ap (λ o. kept_by its k.log o n) mine ∙ ap (λ b. elim b [ true ↦ its (slice_get k.log n) | false ↦ [] ]) (le-ltb n n (omega arith)) in
+            let after : kept_by its k.log k.sought (n + 1) ≡ its (Some i) =
+            ap (λ o. kept_by its k.log o (n + 1)) mine ∙ ap (λ b. elim b [ true ↦ its (slice_get k.log n) | false ↦ [] ]) (lt-ltb n (n + 1) (omega arith)) ∙ ap its got in
+            now ∙ ap (λ b. either_path b text old) e ∙ shown (was ∙ before) ∙ sym after
 
   -- all items were passed
   pub kept_all : (p : Progress) (ms : List Entry) → IsTracing k p ms → length k.log ≤ p.next → p.path ≡ kept k (length k.log)
@@ -103,6 +105,12 @@ module _ (k : Known) where
       let within = t.within in
       let same : p.next ≡ length k.log = omega (arith, within, over) in
       t.path ∙ ap (kept k) same
+
+  pub variable_all : (p : Progress) (ms : List Entry) → IsTracing k p ms → length k.log ≤ p.next → p.variable ≡ kept_variable k (length k.log)
+  variable_all p ms t over =
+      let within = t.within in
+      let same : p.next ≡ length k.log = omega (arith, within, over) in
+      t.variable ∙ ap (kept_variable k) same
 
   -- an item is left: it is that of the entry
   pub next_item : (p : Progress) (m : Entry) (rest : List Entry) (z : ItemKind × ℤ) (i : Item)
@@ -117,11 +125,12 @@ module _ (k : Known) where
   pub item_passed : (p p1 : Progress) (m : Entry) (rest : List Entry) (z : ItemKind × ℤ) (i : Item)
       → Took k.order k.fetched k.numbering k.here (placed p m) (end_to_end (p.at + size_at p.at m.kind) rest) z i (drop (p.next + 1) k.log)
       → IsTracing k p (m ∷ rest) → slice_get k.log p.next ≡ Some i → p1.next ≡ p.next + 1 → p1.at ≡ i.at + i.len → p1.path ≡ kept k (p.next + 1)
-      → p1.lines ≡ p.lines ++ item_line k.setting k.graph i → IsTracing k p1 rest
-  item_passed p p1 m rest z i one t got next at path lines = record {
+      → p1.variable ≡ kept_variable k (p.next + 1) → p1.lines ≡ p.lines ++ item_line k.setting k.graph i → IsTracing k p1 rest
+  item_passed p p1 m rest z i one t got next at path variable lines = record {
     within = (let b = slice_get_within k.log p.next i got in omega (arith, next, b));
     lines = more_lines p.next i p.lines p1.lines got t.lines lines ∙ ap (λ n. shown (take n k.log)) (sym next);
     path = path ∙ ap (kept k) (sym next);
+    variable = variable ∙ ap (kept_variable k) (sym next);
     due =
         subst (λ n. Stops k.order k.fetched k.numbering k.here (end_to_end p1.at rest) (drop n k.log)) (sym next)
         (subst (λ a. Stops k.order k.fetched k.numbering k.here (end_to_end a rest) (drop (p.next + 1) k.log)) (sym place) one.goes_on);
@@ -143,12 +152,13 @@ module _ (k : Known) where
   pub item_ended : (p p1 : Progress) (m : Entry) (rest : List Entry) (z : ItemKind × ℤ)
       → (IsRendered k.order k.numbering k.fetched (placed p m) → its_item k.order k.fetched (placed p m) ≡ Some z) → IsTracing k p (m ∷ rest)
       → length k.log ≤ p.next → p1.lines ≡ p.lines → ((is_test k.here.entry.kind ≡ true → ⊥) → p1.path ≡ entry_path k.setting k.graph m)
-      → (is_test k.here.entry.kind ≡ true → p1.path ≡ p.path) → IsEnded k p1
-  item_ended p p1 m rest z item t over lines path same_path = record {
+      → (is_test k.here.entry.kind ≡ true → p1.path ≡ p.path) → p1.variable ≡ p.variable → IsEnded k p1
+  item_ended p p1 m rest z item t over lines path same_path variable = record {
     lines = lines ∙ all_lines p.next p.lines over t.lines;
     path = go (
         ended k.order k.fetched k.numbering k.here (placed p m) (end_to_end (p.at + size_at p.at m.kind) rest) z item
         (subst (λ l. Stops k.order k.fetched k.numbering k.here (end_to_end p.at (m ∷ rest)) l) (drop_past k.log p.next over) t.due));
+    variable = variable ∙ variable_all p (m ∷ rest) t over;
   }
     where
       at_test : is_test k.here.entry.kind ≡ true → EndPath p1
@@ -170,6 +180,7 @@ module _ (k : Known) where
     within = t.within;
     lines = t.lines;
     path = t.path;
+    variable = t.variable;
     due =
         let none : its_item k.order k.fetched (placed p m) ≡ None =
         subst (λ x. its_item k.order k.fetched (record { at = p.at; entry = record { home = m.home; node = m.node; kind = x } }) ≡ None) (sym is)

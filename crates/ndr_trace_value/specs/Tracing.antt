@@ -18,6 +18,7 @@ use Rattle.nd_value.specs.Tree.{Label}
 use Rattle.nd_grammar.specs.Entry.{Actual, Align, Chunk, Context, Entry, EntryAt, Kind, Max, Num, Number, Offset, Tag, Test, Text, Unread, end_to_end}
 use Rattle.nd_grammar.specs.Represents.{IsNumber, IsNumbering}
 use Rattle.ndr_prim.specs.Context.{attributes_of, identifier_of}
+use Rattle.text_grammar.specs.Paths.{home_types}
 use Rattle.text_grammar.specs.Printed.{quoted_text}
 use Rattle.text_printer.specs.Texts.{context_text}
 use Rattle.ndr_explain.specs.Cursors.{name_text, path_to}
@@ -28,6 +29,7 @@ use Rattle.ndr_trace_value.specs.declared.progress.Ground.{Ground}
 use Rattle.ndr_trace_value.specs.declared.progress.Progress.{Progress}
 use Rattle.ndr_trace_value.specs.declared.progress.Spot.{Spot}
 use Rattle.ndr_trace_value.specs.declared.search.Sought.{Sought}
+use Rattle.ndr_trace_value.specs.LastMembers.{counted_path, counted_variable, whole_types}
 use Rattle.ndr_trace_value.specs.Traces.{entry_path}
 
 -- Octets that are refused at an entry of the stream of a partial graph, and the log of the items before it.
@@ -59,17 +61,28 @@ pub record IsGround (k : Known) (u : Ground) : Type 0 where
   pub are_octets : AreOctets k.fetched
   pub is_numbering : IsNumbering k.numbering k.full
 
--- the path of the item that is sought, once it is among the first items of the log
-abbrev pub item_path : Known → Option Item → List ℕ
-item_path k None = []
-item_path k (Some i) = path_in (home_paths k.setting k.graph i.home) i.node
+-- the path of the value that has the count or tag which an item is
+abbrev pub sought_path : Known → Option Item → List ℕ
+sought_path k None = []
+sought_path k (Some i) =
+    counted_path k.setting.table i.kind (home_types k.setting k.graph i.home) (path_in (home_paths k.setting k.graph i.home) i.node)
 
-abbrev pub kept_by : Known → Option ℕ → ℕ → List ℕ
-kept_by k None n = []
-kept_by k (Some j) n = elim (ltb j n) [ true ↦ item_path k (slice_get k.log j) | false ↦ [] ]
+-- the path of the variable that states the maximum count which an item is, if it is in front of a struct
+abbrev pub sought_variable : Known → Option Item → List ℕ
+sought_variable k None = []
+sought_variable k (Some i) =
+    counted_variable k.setting.table i.kind (home_types k.setting k.graph i.home) (path_in (home_paths k.setting k.graph i.home) i.node)
+
+-- what is kept of the item that is sought, once it is among the first items of the log
+abbrev pub kept_by : (Option Item → List ℕ) → List Item → Option ℕ → ℕ → List ℕ
+kept_by its log None n = []
+kept_by its log (Some j) n = elim (ltb j n) [ true ↦ its (slice_get log j) | false ↦ [] ]
 
 abbrev pub kept : Known → ℕ → List ℕ
-kept k n = kept_by k k.sought n
+kept k n = kept_by (sought_path k) k.log k.sought n
+
+abbrev pub kept_variable : Known → ℕ → List ℕ
+kept_variable k n = kept_by (sought_variable k) k.log k.sought n
 
 -- the item of this index is at a place
 abbrev pub IsAt : List Item → ℕ → ℕ → Type 0
@@ -89,14 +102,16 @@ pub record IsTracing (k : Known) (p : Progress) (ms : List Entry) : Type 0 where
   pub within : p.next ≤ length k.log
   pub lines : p.lines ≡ explanation k.setting k.graph (take p.next k.log)
   pub path : p.path ≡ kept k p.next
+  pub variable : p.variable ≡ kept_variable k p.next
   pub due : Stops k.order k.fetched k.numbering k.here (end_to_end p.at ms) (drop p.next k.log)
 
--- All items have their lines, and the path is that of the entry at which reading stopped; if it stopped at an agreement, that of the item that
--- this speaks of.
+-- All items have their lines, and the path is that of the entry at which reading stopped; if it stopped at an agreement, that of the value which has
+-- the count or tag that is sought.
 pub record IsEnded (k : Known) (p : Progress) : Type 0 where
   pub lines : p.lines ≡ explanation k.setting k.graph k.log
   pub path : ((is_test k.here.entry.kind ≡ true) × (p.path ≡ kept k (length k.log)))
       ⊎ ((is_test k.here.entry.kind ≡ false) × (p.path ≡ entry_path k.setting k.graph k.here.entry))
+  pub variable : p.variable ≡ kept_variable k (length k.log)
 
 -- the levels of a node have the path of its number, which is n
 abbrev pub IsSpot : Known → Spot → ℕ → Type 0
@@ -153,6 +168,11 @@ abbrev pub HasLabel : Known → Home → ℕ → Kind → Type 0
 HasLabel k h n (Text octets) = (max : ℕ) × (label_in (home_flats k.graph h) n ≡ Some (tree.Text max octets))
 HasLabel k h n (Context attributes id) = label_in (home_flats k.graph h) n ≡ Some (tree.Context attributes id)
 HasLabel k h n _ = Unit {0}
+
+-- where a maximum count is due, the walk is at the home's own value
+abbrev pub IsInFront : Known → Spot → Kind → Type 0
+IsInFront k s (Max v) = whole_types s.top ≡ home_types k.setting k.graph s.home
+IsInFront k s _ = Unit {0}
 
 -- What a label shows of an item that is a text or a context handle is what its octets hold.
 abbrev pub IsShown : Ground → Item → ItemKind → Option Label → Type 0

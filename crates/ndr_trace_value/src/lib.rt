@@ -2,6 +2,7 @@
 #![tactic(auto)]
 
 mod cells;
+mod counted;
 mod members;
 mod nodes;
 mod parameters;
@@ -10,8 +11,8 @@ mod search;
 mod shapes;
 
 pub use cells::{Cells, Pending, come_to, new_cell};
-pub use members::{at_end, close, note_front};
+pub use members::{at_end, close};
 pub use nodes::{Walker, walk_level};
-pub use parameters::{RootSeen, agreement_tail, note_direct};
+pub use parameters::{RootSeen, note_direct, variable_path};
 pub use progress::{Ground, Halt, Progress, Spot, count, gap};
 pub use search::{Search, Sought, find_agreement};

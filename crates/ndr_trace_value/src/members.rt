@@ -4,13 +4,13 @@ ghost use Rattle.ndr_trace_value.specs.declared.progress.Halt.TheVariants as hal
 
 use crate::nodes::Walker;
 use crate::parameters::seen_home;
-use crate::progress::{Ground, Halt, Progress, Spot, append_path};
-use crate::search::{Search, Sought, Stated, speaks_of, stated_by};
+use crate::progress::{Ground, Halt, Progress, Spot};
+use crate::search::{Search, Sought, Stated, attribute, stated_by};
 use nd_base::{Memory, Octets};
 use nd_flat::Seen;
-use nd_types::{AttrVar, Fields, NESTING_LIMIT, TypeDef, TypeId};
+use nd_types::{AttrVar, Fields};
 use nd_value::{Home, ItemKind};
-use ndr_explain::{Level, append_home, append_outer, type_of};
+use ndr_explain::{Level, append_home, append_outer};
 use std::alloc::Global;
 
 /// A struct that is open, by how many levels are around its members, with the numbers of its members.
@@ -141,33 +141,6 @@ fn note_seen<'a>(
     Ok(())
 }
 
-/// Notes a maximum count in front of a home's value, which is this item.
-pub fn note_front<'a>(
-    ground: &Ground<'a>,
-    search: &mut Search<'a>,
-    item: usize,
-    spot: &Spot<'_, 'a>,
-) -> Result<(), Memory> {
-    match ground.sought {
-        Some(sought) => note_sought(ground, search, sought, item, spot),
-        None => Ok(()),
-    }
-}
-
-// Notes it if it is what is sought.
-fn note_sought<'a>(
-    ground: &Ground<'a>,
-    search: &mut Search<'a>,
-    sought: Sought,
-    item: usize,
-    spot: &Spot<'_, 'a>,
-) -> Result<(), Memory> {
-    if sought.item != item {
-        return Ok(());
-    }
-    find(ground, search, sought, spot)
-}
-
 // Whether a node is a home's own value.
 fn is_own(spot: &Spot<'_, '_>) -> bool {
     match spot.top {
@@ -212,64 +185,15 @@ fn find<'a>(
     sought: Sought,
     spot: &Spot<'_, 'a>,
 ) -> Result<(), Memory> {
-    if sought.kind == ItemKind::Max {
-        return find_last(ground, search, sought, spot);
-    }
     let Level::Members { members, at } = spot.top else {
         return Ok(());
     };
-    let Some(by) = attribute(members, at, sought.kind) else {
+    let Some(by) = member_attribute(members, at, sought.kind) else {
         return Ok(());
     };
     let mut variable = struct_path(ground.alloc, spot)?;
     append_member(&mut variable, members, by.var as usize)?;
     state(search, sought.wanted, variable)
-}
-
-// The same of a maximum count in front of a home's value: it is that of the last member, and of its last member.
-fn find_last<'a>(
-    ground: &Ground<'a>,
-    search: &mut Search<'a>,
-    sought: Sought,
-    spot: &Spot<'_, 'a>,
-) -> Result<(), Memory> {
-    let mut path = Octets::new(ground.alloc);
-    append_path(&mut path, spot)?;
-    let mut of = type_of(spot.top);
-    for _level in 0..NESTING_LIMIT {
-        let Some(TypeDef::Struct { members }) = ground.interface.types.get(of.0 as usize) else {
-            return Ok(());
-        };
-        let Some(last) = find_member(ground.alloc, search, sought, path.as_slice(), members)? else {
-            return Ok(());
-        };
-        of = last;
-    }
-    Ok(())
-}
-
-// Goes on to the last member, and keeps the path of its variable, if it has one. Gives the member's type.
-fn find_member(
-    alloc: Global,
-    search: &mut Search<'_>,
-    sought: Sought,
-    path: &[u8],
-    members: &Fields,
-) -> Result<Option<TypeId>, Memory> {
-    let Some(at) = members.len().checked_sub(1) else {
-        return Ok(None);
-    };
-    if let Some(by) = attribute(members, at, sought.kind) {
-        let mut variable = Octets::copy(alloc, path)?;
-        variable.append(search.steps.as_slice())?;
-        append_member(&mut variable, members, by.var as usize)?;
-        state(search, sought.wanted, variable)?;
-    }
-    append_member(&mut search.steps, members, at)?;
-    match members.get(at) {
-        Some(last) => Ok(Some(last.of)),
-        None => Ok(None),
-    }
 }
 
 // Keeps what a variable states.
@@ -320,7 +244,7 @@ fn close_pointer(
     open: &Open<'_>,
     at: usize,
 ) -> Result<(), Memory> {
-    let Some(by) = attribute(open.members, at, sought.kind) else {
+    let Some(by) = member_attribute(open.members, at, sought.kind) else {
         return Ok(());
     };
     let Some(Some(value)) = open.numbers.get(by.var as usize).copied() else {
@@ -332,18 +256,11 @@ fn close_pointer(
 }
 
 // The attribute of a member that speaks of an item of this kind.
-fn attribute(members: &Fields, at: usize, kind: ItemKind) -> Option<AttrVar> {
-    let Some(member) = members.get(at) else {
-        return None;
-    };
-    for place in 0..member.vars.len() {
-        if let Some(by) = member.vars.get(place)
-            && speaks_of(by.attr, kind)
-        {
-            return Some(*by);
-        }
+fn member_attribute(members: &Fields, at: usize, kind: ItemKind) -> Option<AttrVar> {
+    match members.get(at) {
+        Some(member) => attribute(&member.vars, kind),
+        None => None,
     }
-    None
 }
 
 // Adds the step to a member.

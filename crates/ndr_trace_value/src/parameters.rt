@@ -1,11 +1,20 @@
 // The variables of parameters, where an agreement is sought.
+ghost use Rattle.std.specs.Prelude.{◌≡◌, [], IfOk, None, Some, option_map};
+ghost use Rattle.std.specs.List.{slice_get};
+ghost use Rattle.nd_types.specs.Walk.{named_roots, root_value};
+ghost use Rattle.text_grammar.specs.Written.{parameter_name as name_of_param};
+ghost use Rattle.ndr_trace_value.specs.Attributes.{IsKeptName, IsOwnName, home_attribute, number_attribute as by_number};
+ghost use Rattle.ndr_trace_value.specs.Attributes.{param_attribute as by_param, root_attribute as by_root};
+
 use crate::members::number_of;
 use crate::progress::Ground;
-use crate::search::{Search, Sought, speaks_of, stated_by};
+use crate::search::{Search, Sought, attribute, stated_by};
 use nd_base::{Memory, Octets};
 use nd_flat::{FlatGraph, Seen, Walk};
-use nd_types::{AttrVar, Operation, Param, Side};
-use nd_value::{CellId, Home};
+use nd_types::{AttrVar, Operation, RootDef, Side};
+use nd_value::{CellId, Home, ItemKind};
+use std::alloc::Global;
+use text_paths::root_at;
 
 /// A root that was read: its parameter, the number that it is, and the cell that it names.
 #[derive(Clone, Copy, Drop)]
@@ -63,17 +72,112 @@ fn seen_cell(search: &mut Search<'_>, cell: CellId, number: Option<i128>) -> Res
     Ok(())
 }
 
-/// What follows the path of the item at a failed agreement: the steps to the value that disagrees, a blank, and the path of the variable that states
-/// the number.
-pub fn agreement_tail(
+/// The path of the variable that states the number at a failed agreement, where the walk kept this path for a maximum count, or else found what the
+/// variables of members state.
+pub fn variable_path(
     ground: &Ground<'_>,
     search: &Search<'_>,
     sought: Sought,
-) -> Result<Octets, Memory> {
-    let mut text = Octets::copy(ground.alloc, search.steps.as_slice())?;
-    text.append(b" ")?;
-    append_variable(ground, search, sought, &mut text)?;
-    Ok(text)
+    kept: &Octets,
+) -> Result<Octets, Memory>
+    ensures own { IfOk result (λ path. IsOwnName ground.now sought path) }
+    ensures kept { IfOk result (λ path. IsKeptName ground.now sought kept.now path) }
+{
+    let Some(operation) = ground.interface.operations.get(ground.op as usize) else {
+        return Ok(Octets::new(ground.alloc));
+    };
+    match own_attribute(ground, operation, sought) {
+        Some(by) => {
+            let name = parameter_name(ground.alloc, operation, by)?;
+            Ok(name)
+        }
+        None => {
+            let path = other_path(ground, search, sought, kept.as_slice())?;
+            Ok(path)
+        }
+    }
+}
+
+// The attribute that speaks of what is sought, if that is a parameter's own value.
+fn own_attribute(ground: &Ground<'_>, operation: &Operation, sought: Sought) -> Option<AttrVar>
+    requires there { slice_get ground.now.interface.now.operations ground.now.op ≡ Some operation.now }
+    ensures own { sought.node ≡ 0 → result
+        ≡ home_attribute operation.now sought.kind (named_roots ground.now.interface.now.types ground.now.side operation.now) sought.home }
+    ensures none { home_attribute operation.now sought.kind (named_roots ground.now.interface.now.types ground.now.side operation.now) sought.home
+        ≡ None → result ≡ None }
+{
+    if sought.node != 0 {
+        return None;
+    }
+    match sought.home {
+        Home::Root(at) => {
+            let root = root_at(ground.interface, ground.op, ground.side, at);
+            root_attribute(operation, root, sought.kind)
+        }
+        Home::Cell(_) => None,
+    }
+}
+
+// The attribute of a root that speaks of an item of this kind.
+fn root_attribute(
+    operation: &Operation,
+    root: Option<RootDef<'_>>,
+    kind: ItemKind,
+) -> Option<AttrVar>
+    ensures { result ≡ by_root operation.now kind (option_map root_value root.entry) }
+{
+    match root {
+        Some(root) => number_attribute(operation, root.param, kind),
+        None => None,
+    }
+}
+
+// The same of a root by its parameter, if it is one.
+fn number_attribute(operation: &Operation, param: Option<u32>, kind: ItemKind) -> Option<AttrVar>
+    ensures { result ≡ by_number operation.now kind param }
+{
+    match param {
+        Some(at) => param_attribute(operation, at, kind),
+        None => None,
+    }
+}
+
+// The same of a parameter.
+fn param_attribute(operation: &Operation, at: u32, kind: ItemKind) -> Option<AttrVar>
+    ensures { result ≡ by_param kind (slice_get operation.now.params at) }
+{
+    match operation.params.get(at as usize) {
+        Some(param) => attribute(&param.field.vars, kind),
+        None => None,
+    }
+}
+
+// The name of the variable of an attribute.
+fn parameter_name(alloc: Global, operation: &Operation, by: AttrVar) -> Result<Octets, Memory>
+    ensures { IfOk result (λ name. name ≡ name_of_param (slice_get operation.now.params by.var)) }
+{
+    match operation.params.get(by.var as usize) {
+        Some(variable) => Octets::copy(alloc, variable.field.name.as_slice()),
+        None => Ok(Octets::new(alloc)),
+    }
+}
+
+// The path of a variable that states the number of what is no parameter's own value.
+fn other_path(
+    ground: &Ground<'_>,
+    search: &Search<'_>,
+    sought: Sought,
+    kept: &[u8],
+) -> Result<Octets, Memory>
+    ensures { IfOk result (λ path. (kept.now ≡ [] → ⊥) → path ≡ kept.now) }
+{
+    if kept.len() > 0 {
+        let path = Octets::copy(ground.alloc, kept)?;
+        return Ok(path);
+    }
+    let mut path = Octets::new(ground.alloc);
+    append_variable(ground, search, sought, &mut path)?;
+    Ok(path)
 }
 
 // Adds the path of the variable that states the number.
@@ -91,7 +195,7 @@ fn append_variable(
     append_parameter(ground, search, sought, text)
 }
 
-// Adds the name of the parameter that states the number.
+// Adds the name of the parameter that states the number in the cell that another names.
 fn append_parameter(
     ground: &Ground<'_>,
     search: &Search<'_>,
@@ -101,11 +205,10 @@ fn append_parameter(
     let Some(operation) = ground.interface.operations.get(ground.op as usize) else {
         return Ok(());
     };
-    for at in 0..search.roots.len() {
-        let root = search.roots[at];
-        if is_subject(at, root, sought)
+    for root in search.roots.as_slice() {
+        if is_subject(*root, sought)
             && let Some(param) = root.param
-            && let Some(by) = attribute(parameter_at(operation, param), sought)
+            && let Some(by) = param_attribute(operation, param, sought.kind)
             && states(ground, search, by, sought)
             && let Some(variable) = operation.params.get(by.var as usize)
         {
@@ -113,11 +216,6 @@ fn append_parameter(
         }
     }
     Ok(())
-}
-
-// A parameter by its number.
-fn parameter_at(operation: &Operation, param: u32) -> Option<&Param> {
-    operation.params.get(param as usize)
 }
 
 // Whether a variable states the number.
@@ -170,27 +268,12 @@ fn given_value(ground: &Ground<'_>, by: AttrVar) -> Option<i128> {
     None
 }
 
-// Whether a root, or the cell that it names, is what is sought.
-fn is_subject(at: usize, root: RootSeen, sought: Sought) -> bool {
+// Whether the cell that a root names is what is sought.
+fn is_subject(root: RootSeen, sought: Sought) -> bool {
     match sought.home {
-        Home::Root(other) => at == other as usize,
+        Home::Root(_) => false,
         Home::Cell(cell) => root.cell == Some(cell),
     }
-}
-
-// The attribute of a parameter that speaks of what is sought.
-fn attribute(param: Option<&Param>, sought: Sought) -> Option<AttrVar> {
-    let Some(param) = param else {
-        return None;
-    };
-    for at in 0..param.field.vars.len() {
-        if let Some(by) = param.field.vars.get(at)
-            && speaks_of(by.attr, sought.kind)
-        {
-            return Some(*by);
-        }
-    }
-    None
 }
 
 // The number that a root of a request is, or with a star that in the cell that it names.

@@ -9,10 +9,12 @@ ghost use Rattle.text_printer.specs.Texts.{context_text};
 ghost use Rattle.ndr_explain.specs.Cursors.{name_text, path_to};
 ghost use Rattle.ndr_explain.specs.Explained.{value_shown};
 ghost use Rattle.ndr_trace_value.specs.declared.progress.Halt.TheVariants as halts;
-ghost use Rattle.ndr_trace_value.specs.Tracing.{Known, Holds, HoldsCount, HasLabel, IsCount, IsCounted, IsEnded, IsGround, IsItem, IsShown, IsSpot};
-ghost use Rattle.ndr_trace_value.specs.Tracing.{IsTracing};
+ghost use Rattle.ndr_trace_value.specs.LastMembers.{counted_path, counted_variable, whole_types};
+ghost use Rattle.ndr_trace_value.specs.Tracing.{Known, Holds, HoldsCount, HasLabel, IsCount, IsCounted, IsEnded, IsGround, IsInFront, IsItem};
+ghost use Rattle.ndr_trace_value.specs.Tracing.{IsShown, IsSpot, IsTracing};
 ghost use Rattle.ndr_trace_value.specs.Tracing.{either_path, entry_at, is_sought as is_sought_item};
 
+use crate::counted::{append_counted, stated_path};
 use crate::search::Sought;
 use nd_base::{Memory, Octets, Order};
 use nd_flat::Fit;
@@ -46,8 +48,11 @@ pub struct Progress {
     /// The place after the last of these.
     pub at: u64,
     pub lines: Octets,
-    /// The path of what is refused, once the walk has ended there. Where an agreement is sought, that of the item, once it was passed.
+    /// The path of what is refused, once the walk has ended there. Where an agreement is sought, that of the value that disagrees, once its count or
+    /// tag was passed.
     pub path: Octets,
+    /// The path of the variable that states the maximum count in front of a struct, once that was passed and if it is sought.
+    pub variable: Octets,
 }
 
 /// Why a walk over the items ends.
@@ -111,7 +116,7 @@ pub fn gap(
 /// Takes the next item, with its line, and gives the number that it holds.
 pub fn item(ground: &Ground<'_>, progress: &mut Progress, spot: &Spot<'_, '_>) -> Result<i128, Halt>
     ensures goes { (k : Known) → IsGround k ground.now → (n : ℕ) → IsSpot k spot.now n → (x : Kind) → IsItem x → HasLabel k spot.now.home n x
-        → (rest : List Entry) → IsTracing k progress.old (entry_at spot.now n x ∷ rest)
+        → IsInFront k spot.now x → (rest : List Entry) → IsTracing k progress.old (entry_at spot.now n x ∷ rest)
         → IfOk result (λ z. IsTracing k progress.new rest × Holds k x z) }
     ensures ends { (k : Known) → IsGround k ground.now → (n : ℕ) → IsSpot k spot.now n → (x : Kind) → IsItem x
         → (rest : List Entry) → IsTracing k progress.old (entry_at spot.now n x ∷ rest)
@@ -130,19 +135,24 @@ pub fn item(ground: &Ground<'_>, progress: &mut Progress, spot: &Spot<'_, '_>) -
     progress.lines.append(b" ")?;
     append_held(ground, &mut progress.lines, item)?;
     progress.lines.append(b"\n")?;
-    keep_path(ground, progress, spot)?;
+    keep(ground, progress, spot, item.kind)?;
     pass(progress, item);
     Ok(item.value)
 }
 
-// Keeps the path of the next item, if it is the one that is sought.
-fn keep_path(
+// Keeps the path of the value that has the count or tag which the next item is, and of the variable that states it, if it is the one that is sought.
+fn keep(
     ground: &Ground<'_>,
     progress: &mut Progress,
     spot: &Spot<'_, '_>,
+    kind: ItemKind,
 ) -> Result<(), Memory>
     ensures path { OnOk result (progress.new.path ≡ either_path (is_sought_item ground.now.sought progress.old.next)
-        (path_to (progress.old.path ++ name_text spot.now.name) (spot.now.top ∷ reverse spot.now.below.now.items)) progress.old.path) }
+        (counted_path ground.now.interface.now.types kind (whole_types spot.now.top)
+        (path_to (progress.old.path ++ name_text spot.now.name) (spot.now.top ∷ reverse spot.now.below.now.items))) progress.old.path) }
+    ensures variable { OnOk result (progress.new.variable ≡ either_path (is_sought_item ground.now.sought progress.old.next)
+        (counted_variable ground.now.interface.now.types kind (whole_types spot.now.top)
+        (path_to (name_text spot.now.name) (spot.now.top ∷ reverse spot.now.below.now.items))) progress.old.variable) }
     ensures lines { progress.new.lines ≡ progress.old.lines }
     ensures next { progress.new.next ≡ progress.old.next }
     ensures at { progress.new.at ≡ progress.old.at }
@@ -151,6 +161,8 @@ fn keep_path(
         return Ok(());
     }
     append_path(&mut progress.path, spot)?;
+    append_counted(&ground.interface.types, &mut progress.path, kind, spot.top)?;
+    progress.variable = stated_path(ground.alloc, &ground.interface.types, kind, spot)?;
     Ok(())
 }
 
@@ -167,7 +179,7 @@ fn is_sought(sought: Option<Sought>, item: usize) -> bool
 /// Takes the next item as a count.
 pub fn count(ground: &Ground<'_>, progress: &mut Progress, spot: &Spot<'_, '_>) -> Result<u32, Halt>
     ensures goes { (k : Known) → IsGround k ground.now → (n : ℕ) → IsSpot k spot.now n → (x : Kind) → IsCount x
-        → (rest : List Entry) → IsTracing k progress.old (entry_at spot.now n x ∷ rest)
+        → IsInFront k spot.now x → (rest : List Entry) → IsTracing k progress.old (entry_at spot.now n x ∷ rest)
         → IfOk result (λ v. IsTracing k progress.new rest × HoldsCount k x v) }
     ensures ends { (k : Known) → IsGround k ground.now → (n : ℕ) → IsSpot k spot.now n → (x : Kind) → IsCount x
         → (rest : List Entry) → IsTracing k progress.old (entry_at spot.now n x ∷ rest)
@@ -233,17 +245,19 @@ fn pass(progress: &mut Progress, item: &Item)
     ensures at { progress.new.at ≡ item.now.at + item.now.len }
     ensures lines { progress.new.lines ≡ progress.old.lines }
     ensures path { progress.new.path ≡ progress.old.path }
+    ensures variable { progress.new.variable ≡ progress.old.variable }
 {
     progress.next += 1;
     progress.at = u64::from(item.at) + u64::from(item.len);
 }
 
-// Ends the walk at a node that is refused or lacks octets; where an agreement is sought, the item has its path already.
+// Ends the walk at a node that is refused or lacks octets; where an agreement is sought, the path is kept already.
 fn end(ground: &Ground<'_>, progress: &mut Progress, spot: &Spot<'_, '_>) -> Halt
     ensures lines { progress.new.lines ≡ progress.old.lines }
     ensures path { ground.now.sought ≡ None → result ≡ halts.Here
         → progress.new.path ≡ path_to (progress.old.path ++ name_text spot.now.name) (spot.now.top ∷ reverse spot.now.below.now.items) }
     ensures same { IsSome ground.now.sought → progress.new.path ≡ progress.old.path }
+    ensures variable { progress.new.variable ≡ progress.old.variable }
 {
     if ground.sought.is_some() {
         return Halt::Here;

@@ -3,13 +3,14 @@ ghost use Rattle.std.specs.Prelude.{◌≡◌, ℕ, ℤ, IfSome, IsSome, Some};
 ghost use Rattle.std.specs.List.{slice_get};
 ghost use Rattle.nd_value.specs.declared.item.Item.{Item as ItemValue};
 ghost use Rattle.nd_grammar.specs.declared.reason.Reason.TheVariants as reasons;
+ghost use Rattle.ndr_trace_value.specs.Attributes.{IsItemOf, first_of, speaks, spoken as item_spoken};
 ghost use Rattle.ndr_trace_value.specs.Tracing.{IsAt};
 
 use crate::members::Open;
 use crate::parameters::RootSeen;
 use nd_base::Octets;
 use nd_grammar::Reason;
-use nd_types::Attr;
+use nd_types::{Attr, AttrVar, AttrVars};
 use nd_value::{Home, ItemKind, ItemLog};
 
 /// The count or tag that an agreement finds other than it is stated, and the number that is stated.
@@ -34,9 +35,6 @@ pub struct Stated {
 /// What is kept while an agreement is sought; else it stays empty, but for the roots.
 #[derive(Drop)]
 pub struct Search<'a> {
-    /// The steps from the value that has the item to the one that disagrees: those to the last member, if the item is a maximum count in front of a
-    /// struct.
-    pub steps: Octets,
     pub stated: Vec<Stated>,
     /// The structs that are open.
     pub open: Vec<Open<'a>>,
@@ -49,6 +47,7 @@ pub struct Search<'a> {
 pub fn find_agreement(items: &ItemLog, place: u32, why: Reason) -> Option<Sought>
     ensures disagrees { IfSome result (λ s. (found : ℤ) × (why ≡ reasons.Disagrees s.wanted found)) }
     ensures at { IfSome result (λ s. IsAt items.now.items s.item place) }
+    ensures its { IfSome result (λ s. IsItemOf items.now.items s) }
     ensures finds { (wanted found : ℤ) → why ≡ reasons.Disagrees wanted found → (n : ℕ) (i : ItemValue) → slice_get items.now.items n ≡ Some i
         → i.at ≡ place → IsSome result }
 {
@@ -62,6 +61,7 @@ pub fn find_agreement(items: &ItemLog, place: u32, why: Reason) -> Option<Sought
 fn find_item(items: &ItemLog, place: u32, wanted: i128) -> Option<Sought>
     ensures wanted { IfSome result (λ s. s.wanted ≡ wanted) }
     ensures at { IfSome result (λ s. IsAt items.now.items s.item place) }
+    ensures its { IfSome result (λ s. IsItemOf items.now.items s) }
     ensures finds { (n : ℕ) (i : ItemValue) → slice_get items.now.items n ≡ Some i → i.at ≡ place → IsSome result }
 {
     for at in 0..items.len() {
@@ -81,15 +81,39 @@ fn find_item(items: &ItemLog, place: u32, wanted: i128) -> Option<Sought>
     None
 }
 
-/// Whether an attribute speaks of an item of this kind.
-pub fn speaks_of(attr: Attr, kind: ItemKind) -> bool {
+/// The first of attributes that speaks of an item of this kind.
+pub fn attribute(vars: &AttrVars, kind: ItemKind) -> Option<AttrVar>
+    ensures { result ≡ first_of kind vars.now }
+{
+    for at in 0..vars.len() {
+        let Some(by) = vars.get(at) else {
+            unreachable!()
+        };
+        if speaks_of(by.attr, kind) {
+            return Some(*by);
+        }
+    }
+    None
+}
+
+// Whether an attribute speaks of an item of this kind.
+fn speaks_of(attr: Attr, kind: ItemKind) -> bool
+    ensures { result ≡ speaks attr kind }
+{
+    spoken(attr) == kind
+}
+
+// The item that an attribute speaks of.
+fn spoken(attr: Attr) -> ItemKind
+    ensures { result ≡ item_spoken attr }
+{
     match attr {
-        Attr::Size => kind == ItemKind::Max,
-        Attr::Max => kind == ItemKind::Max,
-        Attr::First => kind == ItemKind::Offset,
-        Attr::Length => kind == ItemKind::Actual,
-        Attr::Last => kind == ItemKind::Actual,
-        Attr::Switch => kind == ItemKind::Tag,
+        Attr::Size => ItemKind::Max,
+        Attr::Max => ItemKind::Max,
+        Attr::First => ItemKind::Offset,
+        Attr::Length => ItemKind::Actual,
+        Attr::Last => ItemKind::Actual,
+        Attr::Switch => ItemKind::Tag,
     }
 }
 

@@ -1,4 +1,4 @@
-use Rattle.std.proofs.Common.{[], ap, sym, ◌∙◌, map, replicate, arith}
+use Rattle.std.proofs.Common.{[], true, ap, sym, ◌∙◌, map, replicate, arith}
 use Rattle.std.proofs.lemmas.Bool.{eqb-true}
 use Rattle.std.proofs.lemmas.Result.{err_from_is_err_and}
 use Rattle.nd_types.specs.declared.types.Field.{Field}
@@ -12,6 +12,8 @@ use Rattle.nd_misfits.proofs.NodeTests.{count_trees}
 use Rattle.nd_misfits.proofs.NodeWalk.{get_replicate, get_field}
 use Rattle.nd_misfits.proofs.FormWalk.{next_few, next_smaller, formed_at, tree_formed}
 use Rattle.nd_misfits.proofs.AgreementWalk.{compare_on, compare_stop, compare_here, governs_none, governs_found, none_stated, get_agreements}
+use Rattle.nd_value.specs.declared.item.Home.TheVariants as home
+use Rattle.nd_misfits.proofs.SimpleValues.{all_simple, simple_few, simple_after}
 use Rattle.nd_misfits.proofs.SmallNumbers.{small_members}
 use Rattle.nd_misfits.proofs.compared.+compared.Goals as goal
 
@@ -19,6 +21,20 @@ pub value-by_form-requires : goal.value-by_form-requires
 value-by_form-requires t c =
     let f = tree_formed c.args.types.now c.args.of.0 (tree_of c.args.val.now) c.requires.formed in
     (omega (arith, c.decreases), (c.requires.few, (f.shape, (f.arm, f.kids))))
+
+pub list-after_values-requires : goal.list-after_values-requires
+list-after_values-requires t c =
+    let vs = c.args.vals.now in
+    let inside = c.in-Some.inside in
+    let q = all_simple true c.args.types.now (home.Root 0) c.args.graph.now c.args.elem.0 inside (count (trees vs)) c.args.node (trees vs) (sym c.in-Some.ensures) c.requires.formed in
+    simple_few vs c.args.node inside c.len-count.result c.len-count.ensures q.many c.requires.few
+
+pub list-returns-in-Some : goal.list-returns-in-Some
+list-returns-in-Some t c =
+    let vs = c.args.vals.now in
+    let inside = c.in-Some.inside in
+    let q = all_simple true c.args.types.now (home.Root 0) c.args.graph.now c.args.elem.0 inside (count (trees vs)) c.args.node (trees vs) (sym c.in-Some.ensures) c.requires.formed in
+    (q.quiet.agree, c.after_values.ensures ∙ simple_after vs c.args.node inside c.len-count.result c.len-count.ensures q.many)
 
 pub elements-value-requires : goal.elements-value-requires
 elements-value-requires t c =

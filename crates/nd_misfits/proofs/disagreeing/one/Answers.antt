@@ -6,8 +6,8 @@ use Rattle.nd_misfits.specs.Disagreeing.{disagreeing_in}
 use Rattle.nd_misfits.proofs.Disagreements.{home_own, home_inside, home_agrees}
 use Rattle.nd_misfits.proofs.disagreeing.one.Goals as goal
 
-pub value-requires : goal.value-requires
-value-requires c = record { few = omega (arith, c.requires.walkable.few); formed = c.requires.walkable.formed }
+pub home_value-requires : goal.home_value-requires
+home_value-requires c = record { few = omega (arith, c.requires.walkable.few); formed = c.requires.walkable.formed }
 
 pub returns-in-Some-clause-first : goal.returns-in-Some-clause-first
 returns-in-Some-clause-first c w table op are =

@@ -1,4 +1,4 @@
-use Rattle.std.proofs.Common.{map, replicate, arith}
+use Rattle.std.proofs.Common.{◌∙◌, false, refl, sym, map, replicate, arith}
 use Rattle.std.proofs.lemmas.Bool.{eqb-true}
 use Rattle.nd_types.specs.declared.types.Field.{Field}
 use Rattle.nd_value.specs.Tree.{trees, count}
@@ -8,12 +8,29 @@ use Rattle.nd_misfits.proofs.NodeTests.{count_trees}
 use Rattle.nd_misfits.proofs.NodeWalk.{get_replicate, get_field}
 use Rattle.nd_misfits.proofs.FormWalk.{next_few, next_smaller, formed_at, tree_formed}
 use Rattle.nd_misfits.proofs.PointerWalk.{collect_on}
+use Rattle.nd_misfits.proofs.SimpleValues.{no_graph, nothing_found, all_simple, simple_few, simple_after}
 use Rattle.nd_misfits.proofs.pointers.+pointers.Goals as goal
 
 pub value-by_form-requires : goal.value-by_form-requires
 value-by_form-requires t c =
     let f = tree_formed c.args.types.now c.args.of.0 (tree_of c.args.val.now) c.requires.formed in
     (omega (arith, c.decreases), (c.requires.few, (f.shape, (f.arm, f.kids))))
+
+pub list-after_values-requires : goal.list-after_values-requires
+list-after_values-requires t c =
+    let vs = c.args.vals.now in
+    let inside = c.in-Some.inside in
+    let q = all_simple false c.args.types.now c.args.home no_graph c.args.elem.0 inside (count (trees vs)) c.args.node (trees vs) (sym c.in-Some.ensures) c.requires.formed in
+    simple_few vs c.args.node inside c.len-count.result c.len-count.ensures q.many c.requires.few
+
+pub list-returns-in-Some : goal.list-returns-in-Some
+list-returns-in-Some t c =
+    let vs = c.args.vals.now in
+    let inside = c.in-Some.inside in
+    let q = all_simple false c.args.types.now c.args.home no_graph c.args.elem.0 inside (count (trees vs)) c.args.node (trees vs) (sym c.in-Some.ensures) c.requires.formed in (
+      nothing_found c.args.found.now.items _ (q.quiet.named refl),
+      c.after_values.ensures ∙ simple_after vs c.args.node inside c.len-count.result c.len-count.ensures q.many,
+    )
 
 pub elements-value-requires : goal.elements-value-requires
 elements-value-requires t c =

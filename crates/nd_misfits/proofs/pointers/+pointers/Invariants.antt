@@ -5,19 +5,22 @@ use Rattle.nd_misfits.proofs.PointerWalk.{CollectedTo}
 use Rattle.nd_misfits.proofs.pointers.+pointers.Given as goal
 
 abbrev pub decreases-value : goal.decreases-value
-decreases-value l = 3 * node_count (more (tree_of l.val.now) none) + 1
+decreases-value l = 4 * node_count (more (tree_of l.val.now) none) + 1
 
 abbrev pub decreases-by_form : goal.decreases-by_form
-decreases-by_form l = 3 * node_count (more (tree_of l.val.now) none)
+decreases-by_form l = 4 * node_count (more (tree_of l.val.now) none)
 
 abbrev pub decreases-members : goal.decreases-members
-decreases-members l = 3 * node_count (trees l.vals.now) + 2
+decreases-members l = 4 * node_count (trees l.vals.now) + 2
+
+abbrev pub decreases-list : goal.decreases-list
+decreases-list l = 4 * node_count (trees l.vals.now) + 3
 
 abbrev pub decreases-elements : goal.decreases-elements
-decreases-elements l = 3 * node_count (trees l.vals.now) + 2
+decreases-elements l = 4 * node_count (trees l.vals.now) + 2
 
 abbrev pub decreases-arm : goal.decreases-arm
-decreases-arm l = 3 * node_count (trees l.arm.now) + 2
+decreases-arm l = 4 * node_count (trees l.arm.now) + 2
 
 abbrev pub invariant-members-loop-at : goal.invariant-members-loop-at
 invariant-members-loop-at l =

@@ -52,7 +52,7 @@ returns-clause-goes c k u a rest tr =
     let ready = ready_after k c.args.ground.now u p p refl c.in_ok-at_end.ensures.ready in
     let both =
     c.in_ok-max.ensures.goes k u 0 (spot_of_home k c.args.home c.args.name c.args.of.0 c.args.of c.new-below.result.items a c.new-below.ensures.items)
-    (Max (home_max k c.args.home)) tt due
+    (Max (home_max k c.args.home)) tt (sym a.types) due
     (c.in_ok-gap.ensures.goes k u 0 (max ∷ due) (some_front k c.args.home c.args.of.0 p rest always ready tr)) in
     (both.0, λ e. both.1)
 

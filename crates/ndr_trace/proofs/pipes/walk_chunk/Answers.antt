@@ -31,7 +31,7 @@ returns-then-size-eq0-clause-goes c k u rest names g =
     let w = c.args.walker.now in
     let d = head k h name c.args.elem.0 c.args.before rest names w g in
     let first = c.in_ok-gap.ensures.goes k u 0 (record { home = h; node = 0; kind = Chunk d.size } ∷ d.later) d.tracing in
-    let both = c.in_ok-size.ensures.goes k u 0 (at_home k h name g.own_path c.args.root.of c.new-below.result.items c.new-below.ensures.items) (Chunk d.size) tt d.later first in
+    let both = c.in_ok-size.ensures.goes k u 0 (at_home k h name g.own_path c.args.root.of c.new-below.result.items c.new-below.ensures.items) (Chunk d.size) tt tt d.later first in
     at_none k h name c.args.elem.0 c.args.before rest names w g.node d c.in_ok-size.size both.1 c.if-size-eq0.true c.count.new.progress both.0
 
 pub returns-in_err-walk_level-clause-ends : goal.returns-in_err-walk_level-clause-ends
@@ -41,7 +41,7 @@ returns-in_err-walk_level-clause-ends c k u rest names g e =
     let w = c.args.walker.now in
     let d = head k h name c.args.elem.0 c.args.before rest names w g in
     let first = c.in_ok-gap.ensures.goes k u 0 (record { home = h; node = 0; kind = Chunk d.size } ∷ d.later) d.tracing in
-    let both = c.in_ok-size.ensures.goes k u 0 (at_home k h name g.own_path c.args.root.of c.new-below.result.items c.new-below.ensures.items) (Chunk d.size) tt d.later first in
+    let both = c.in_ok-size.ensures.goes k u 0 (at_home k h name g.own_path c.args.root.of c.new-below.result.items c.new-below.ensures.items) (Chunk d.size) tt tt d.later first in
     let el = at_some k h name c.args.elem.0 c.args.before rest names w g.node d c.in_ok-size.size both.1 c.if-size-eq0.false in
     elements_end k h name c.args.elem.0 c.args.before rest names w g.node c.in_ok-size.size d.later el c.count.new.progress both.0
     (λ some ks there others tr more nm.
@@ -55,7 +55,7 @@ returns-clause-goes c k u rest names g =
     let w = c.args.walker.now in
     let d = head k h name c.args.elem.0 c.args.before rest names w g in
     let first = c.in_ok-gap.ensures.goes k u 0 (record { home = h; node = 0; kind = Chunk d.size } ∷ d.later) d.tracing in
-    let both = c.in_ok-size.ensures.goes k u 0 (at_home k h name g.own_path c.args.root.of c.new-below.result.items c.new-below.ensures.items) (Chunk d.size) tt d.later first in
+    let both = c.in_ok-size.ensures.goes k u 0 (at_home k h name g.own_path c.args.root.of c.new-below.result.items c.new-below.ensures.items) (Chunk d.size) tt tt d.later first in
     let el = at_some k h name c.args.elem.0 c.args.before rest names w g.node d c.in_ok-size.size both.1 c.if-size-eq0.false in
     elements_go k h name c.args.elem.0 c.args.before rest names w g.node c.in_ok-size.size d.later el c.count.new.progress both.0 c.walk_level.new.walker
     (λ some ks there others tr more nm. c.in_ok-walk_level.ensures.goes some k u g.node ks there others tr more nm)

@@ -21,6 +21,6 @@ returns c o there legal fetched more split bad own logged =
       sought = c.find_agreement-sought.result;
     } in
     whole_trace w c.args.order fetched c.args.place c.args.why bad legal own more u c.are_octets.ensures split logged refl refl c.find_agreement-sought.ensures.disagrees
-    c.find_agreement-sought.ensures.at c.find_agreement-sought.ensures.finds
+    c.find_agreement-sought.ensures.at c.find_agreement-sought.ensures.finds c.find_agreement-sought.ensures.its
     (record { operation = o; there = there; request = option_map (λ f. f.now.graph) c.args.given; setting = refl }) c.in_ok-walker.walker.progress
     c.in_ok-walker.ensures _ _ c.in_ok-traced.ensures.lines c.in_ok-traced.ensures.path

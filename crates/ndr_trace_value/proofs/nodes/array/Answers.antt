@@ -23,7 +23,7 @@ pub returns-in_err-count-clause-ends : goal.returns-in_err-count-clause-ends
 returns-in_err-count-clause-ends c v k u n sp off lim act rest t e =
     let s = c.args.spot.now in
     let first = c.in_ok-gap.ensures.goes k u n (entry_at s n (Offset false off) ∷ entry_at s n (Actual false off lim act) ∷ rest) t in
-    let second = c.in_ok-offset.ensures.goes k u n sp (Offset false off) tt (entry_at s n (Actual false off lim act) ∷ rest) first in
+    let second = c.in_ok-offset.ensures.goes k u n sp (Offset false off) tt tt (entry_at s n (Actual false off lim act) ∷ rest) first in
     c.in_err-count.ensures.ends k u n sp (Actual false off lim act) tt rest second.0
     (err_as c.from_residual-in_err-count.result c.in_err-count.field-0.0 halts.Here c.from_residual-in_err-count.ensures.1 e)
 
@@ -31,6 +31,6 @@ pub returns-clause-goes : goal.returns-clause-goes
 returns-clause-goes c v k u n sp off lim act rest t =
     let s = c.args.spot.now in
     let first = c.in_ok-gap.ensures.goes k u n (entry_at s n (Offset false off) ∷ entry_at s n (Actual false off lim act) ∷ rest) t in
-    let second = c.in_ok-offset.ensures.goes k u n sp (Offset false off) tt (entry_at s n (Actual false off lim act) ∷ rest) first in
-    let third = c.in_ok-count.ensures.goes k u n sp (Actual false off lim act) tt rest second.0 in
+    let second = c.in_ok-offset.ensures.goes k u n sp (Offset false off) tt tt (entry_at s n (Actual false off lim act) ∷ rest) first in
+    let third = c.in_ok-count.ensures.goes k u n sp (Actual false off lim act) tt tt rest second.0 in
     (ap₂ (λ x y. (tree.Arr c.args.max x, y)) second.1 third.1, third.0)

@@ -18,4 +18,4 @@ returns-in_err-item-clause-ends c k u n sp a id label rest t e =
 pub returns-clause-goes : goal.returns-clause-goes
 returns-clause-goes c k u n sp a id label rest t =
     let first = c.in_ok-gap.ensures.goes k u n (entry_at c.args.spot.now n (Context a id) ∷ rest) t in
-    (refl, (c.in_ok-item.ensures.goes k u n sp (Context a id) tt label rest first).0)
+    (refl, (c.in_ok-item.ensures.goes k u n sp (Context a id) tt label tt rest first).0)

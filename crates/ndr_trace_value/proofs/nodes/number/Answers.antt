@@ -24,5 +24,5 @@ returns-clause-goes c k u n sp p vs z rest t =
     let y : ℤ = c.in_ok-value.value in
     let fits : SFits w128 y = search rules in
     let first = c.in_ok-gap.ensures.goes k u n (entry_at c.args.spot.now n (Num p vs z) ∷ rest) t in
-    let both = c.in_ok-value.ensures.goes k u n sp (Num p vs z) tt tt rest first in
+    let both = c.in_ok-value.ensures.goes k u n sp (Num p vs z) tt tt tt rest first in
     (ap (λ x. (tree.Num x, 0)) (to_z-of_z w128 y fits ∙ both.1), both.0)

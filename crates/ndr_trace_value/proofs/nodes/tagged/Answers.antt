@@ -29,6 +29,6 @@ returns-clause-goes c k u n sp p vs z rest t =
     let arms = c.args.arms.now in
     let default = c.args.default.now in
     let first = c.in_ok-gap.ensures.goes k u n (entry_at c.args.spot.now n (Tag p vs arms default z) ∷ rest) t in
-    let both = c.in_ok-tag.ensures.goes k u n sp (Tag p vs arms default z) tt tt rest first in
+    let both = c.in_ok-tag.ensures.goes k u n sp (Tag p vs arms default z) tt tt tt rest first in
     let is = to_z-of_z w128 y fits ∙ both.1 in
     (ap₂ (λ x m. (tree.Union x, m)) is (c.has_value-armed.ensures ∙ ap (λ a. length (selected_types a)) (c.selected.ensures ∙ ap (selected arms default) is)), both.0)

@@ -28,7 +28,7 @@ returns-in_err-item-2-clause-ends c k u n sp max os label rest t e =
     let last = entry_at s n (Text os) ∷ rest in
     let counts = entry_at s n (Actual true 0 max (length os + 1)) ∷ last in
     let first = c.in_ok-gap.ensures.goes k u n (entry_at s n (Offset true 0) ∷ counts) t in
-    let second = c.in_ok-item.ensures.goes k u n sp (Offset true 0) tt tt counts first in
+    let second = c.in_ok-item.ensures.goes k u n sp (Offset true 0) tt tt tt counts first in
     c.in_err-item-2.ensures.ends k u n sp (Actual true 0 max (length os + 1)) tt last second.0
     (err_as c.from_residual-in_err-item-2.result c.in_err-item-2.field-0.0 halts.Here c.from_residual-in_err-item-2.ensures.1 e)
 
@@ -38,8 +38,8 @@ returns-in_err-item-3-clause-ends c k u n sp max os label rest t e =
     let last = entry_at s n (Text os) ∷ rest in
     let counts = entry_at s n (Actual true 0 max (length os + 1)) ∷ last in
     let first = c.in_ok-gap.ensures.goes k u n (entry_at s n (Offset true 0) ∷ counts) t in
-    let second = c.in_ok-item.ensures.goes k u n sp (Offset true 0) tt tt counts first in
-    let third = c.in_ok-item-2.ensures.goes k u n sp (Actual true 0 max (length os + 1)) tt tt last second.0 in
+    let second = c.in_ok-item.ensures.goes k u n sp (Offset true 0) tt tt tt counts first in
+    let third = c.in_ok-item-2.ensures.goes k u n sp (Actual true 0 max (length os + 1)) tt tt tt last second.0 in
     c.in_err-item-3.ensures.ends k u n sp (Text os) tt rest third.0
     (err_as c.from_residual-in_err-item-3.result c.in_err-item-3.field-0.0 halts.Here c.from_residual-in_err-item-3.ensures.1 e)
 
@@ -49,7 +49,7 @@ returns-clause-goes c k u n sp max os label rest t =
     let last = entry_at s n (Text os) ∷ rest in
     let counts = entry_at s n (Actual true 0 max (length os + 1)) ∷ last in
     let first = c.in_ok-gap.ensures.goes k u n (entry_at s n (Offset true 0) ∷ counts) t in
-    let second = c.in_ok-item.ensures.goes k u n sp (Offset true 0) tt tt counts first in
-    let third = c.in_ok-item-2.ensures.goes k u n sp (Actual true 0 max (length os + 1)) tt tt last second.0 in
-    let fourth = c.in_ok-item-3.ensures.goes k u n sp (Text os) tt (max, label) rest third.0 in
+    let second = c.in_ok-item.ensures.goes k u n sp (Offset true 0) tt tt tt counts first in
+    let third = c.in_ok-item-2.ensures.goes k u n sp (Actual true 0 max (length os + 1)) tt tt tt last second.0 in
+    let fourth = c.in_ok-item-3.ensures.goes k u n sp (Text os) tt (max, label) tt rest third.0 in
     (refl, fourth.0)

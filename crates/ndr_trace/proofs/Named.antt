@@ -1,0 +1,187 @@
+-- The variable of a failed agreement: where that speaks of a parameter's own value, the name that is shown is that of the variable which states the number.
+-- `w` is a setting, `bad` are octets that are refused, `u` is what the walk was given, `s` what is sought, `q` the text that is shown.
+use Rattle.std.proofs.Common.{◌≡◌, ◌∙◌, ◌<◌, ℕ, ℤ, true, List, [], ◌∷◌, length, Option, Some, None, refl, sym, ap, ap₂, subst}
+use Rattle.std.specs.List.{slice_get}
+use Rattle.std.proofs.lemmas.Option.{same_Some}
+use Rattle.nd_base.specs.declared.octets.Order.{Order}
+use Rattle.nd_types.specs.declared.types.Attr.{Attr}
+use Rattle.nd_types.specs.declared.types.Attr.TheVariants as attr
+use Rattle.nd_types.specs.declared.types.Field.{Field}
+use Rattle.nd_types.specs.declared.types.TypeDef.{TypeDef}
+use Rattle.nd_types.specs.declared.types.TypeDef.TheVariants as def
+use Rattle.nd_types.specs.Roots.{Root}
+use Rattle.nd_types.specs.Table.{type_at}
+use Rattle.nd_types.specs.Walk.{named_roots}
+use Rattle.nd_value.specs.declared.item.Home.{Home}
+use Rattle.nd_value.specs.declared.item.Home.TheVariants as home
+use Rattle.nd_value.specs.declared.item.Item.{Item}
+use Rattle.nd_value.specs.declared.item.ItemKind.{ItemKind}
+use Rattle.nd_value.specs.declared.item.ItemKind.TheVariants as kind
+use Rattle.nd_value.specs.declared.value.Graph.{Graph}
+use Rattle.nd_value.specs.Setting.{Setting, root_list}
+use Rattle.nd_value.specs.Tree.{more, none}
+use Rattle.nd_grammar.specs.declared.reason.Reason.{Reason}
+use Rattle.nd_grammar.specs.Bad.{Bad}
+use Rattle.nd_grammar.specs.Entry.{Test}
+use Rattle.nd_grammar.specs.Items.{items}
+use Rattle.nd_grammar.specs.LegalSide.{IsLegalSide}
+use Rattle.nd_grammar.specs.Tested.{node_of}
+use Rattle.text_grammar.specs.Paths.{home_name, home_types, home_value, node_paths, root_types}
+use Rattle.text_grammar.specs.Written.{parameter_name}
+use Rattle.ndr_explain.specs.Explained.{home_paths, path_in}
+use Rattle.ndr_explain.proofs.Walks.{path_here}
+use Rattle.ndr_trace_laws.specs.Untested.{is_test}
+use Rattle.ndr_trace_value.specs.declared.progress.Ground.{Ground}
+use Rattle.ndr_trace_value.specs.declared.progress.Progress.{Progress}
+use Rattle.ndr_trace_value.specs.declared.search.Sought.{Sought}
+use Rattle.ndr_trace_value.specs.Attributes.{IsItemOf, IsKeptName, IsOwnName, home_attribute, spoken}
+use Rattle.ndr_trace_value.specs.LastMembers.{counted_variable, last_variable, stated_in, struct_of}
+use Rattle.ndr_trace_value.specs.Tracing.{IsAt, Known, kept_variable, sought_variable}
+use Rattle.ndr_trace_value.specs.Traces.{IsVariableOf}
+use Rattle.ndr_trace_value.specs.Variable.{IsOfRoot, IsStated, IsVariable, OfMember, is_maximum, numbered_path}
+use Rattle.ndr_trace_value.proofs.Ending.{kept_whole, known_of}
+use Rattle.ndr_trace.specs.Sides.{IsSide}
+use Rattle.ndr_trace.proofs.FrontTests.{front_variable, maximum_spoken}
+use Rattle.ndr_trace.proofs.Grounds.{as_test}
+use Rattle.ndr_trace.proofs.LastPaths.{last_variable-legal}
+use Rattle.ndr_trace.proofs.OwnTests.{OwnTest, Says, here_among, own_test}
+use Rattle.ndr_trace.proofs.RootAttributes.{attribute_found, no_attribute}
+use Rattle.ndr_trace.proofs.Subjects.{maximum_is, tested_item}
+
+-- an attribute that speaks of the home's own value speaks of an item at that value
+own_node : (a : Attr) (n : ℕ) → n ≡ 0 → node_of a n ≡ 0
+own_node attr.Size n e = refl
+own_node attr.Max n e = refl
+own_node attr.First n e = e
+own_node attr.Length n e = e
+own_node attr.Last n e = e
+own_node attr.Switch n e = e
+
+module _ (w : Setting) (g : Graph) (legal : IsLegalSide w) where
+  -- the attribute that states the number is the one whose variable's name is shown
+  stated : (k : Known) → k.setting ≡ w → (u : Ground) → IsSide k u → (s : Sought) (q : List ℕ) → IsOwnName u s q → (a : Attr) (wanted : ℤ) (at : ℕ) → s.home ≡ home.Root at → s.node ≡ 0
+      → s.kind ≡ spoken a → OwnTest w g at a wanted → (root : Root) → slice_get (root_list w) at ≡ Some root → IsStated w g root a wanted q
+  stated k same u side s q name a wanted at at_home own_value of_kind test root there = record {
+    by = says.by;
+    among = says.among;
+    attr_is = says.attr_is;
+    value = says.value;
+    value_is = says.value_is;
+    wanted_is = says.wanted_is ∙ refl;
+    name =
+        subst (λ (v : Setting). q ≡ parameter_name (slice_get v.op.params says.by.var)) (sym setting)
+        (name side.operation side.there own_value says.by
+        (subst (λ (v : Setting). home_attribute v.op s.kind (named_roots v.table v.side v.op) s.home ≡ Some says.by) setting found));
+  }
+    where
+      says : Says w g root.vars a wanted
+      says = subst (λ (r : Root). Says w g r.vars a wanted) (same_Some _ _ (sym test.there ∙ there)) test.says
+
+      setting : w ≡ record { table = u.interface.now.types; op = side.operation; side = u.side; given = side.request }
+      setting = sym same ∙ side.setting
+
+      found : home_attribute w.op s.kind (named_roots w.table w.side w.op) s.home ≡ Some says.by
+      found =
+          ap (home_attribute w.op s.kind (named_roots w.table w.side w.op)) at_home
+          ∙ attribute_found w legal at root there says.by says.among s.kind (ap spoken says.attr_is ∙ sym of_kind)
+
+some_path : (p : List ℕ) (ms : List Field) (i : ℕ) → numbered_path p ms i ≡ [] → ⊥
+some_path [] ms i e = absurd (let z : ⊥ = cc in z)
+some_path (x ∷ p) ms i e = absurd (let z : ⊥ = cc in z)
+
+-- a type that has the members of a struct
+struct_is : (d : Option TypeDef) (ms : List Field) → struct_of d ≡ Some ms → d ≡ Some (def.Struct ms)
+struct_is (Some (def.Struct fs)) ms e = ap (λ u. Some (def.Struct u)) (same_Some _ _ e)
+struct_is None ms e = cc
+struct_is (Some _) ms e = cc
+
+module _ (w : Setting) (g : Graph) (legal : IsLegalSide w) where
+  -- the home's value ends with a struct if there is a variable in front
+  ends_with_struct : (of : ℕ) (p : List ℕ) → (last_variable w.table of p ≡ [] → ⊥) → (ms : List Field) × (type_at w.table of ≡ Some (def.Struct ms))
+  ends_with_struct of p some = go (struct_of (type_at w.table of)) refl
+    where
+      go : (o : Option (List Field)) → struct_of (type_at w.table of) ≡ o → (ms : List Field) × (type_at w.table of ≡ Some (def.Struct ms))
+      go None e = absurd (some (last_variable-legal w.table legal.operations legal.legal of p ∙ ap (stated_in (last_variable w.table) p) e))
+      go (Some ms) e = (ms, struct_is (type_at w.table of) ms e)
+
+  -- then no attribute of a root speaks of the home's own value
+  none_own : (h : Home) (of : ℕ) → home_types w g h ≡ of ∷ [] → (front_variable w g h ≡ [] → ⊥)
+      → home_attribute w.op kind.Max (named_roots w.table w.side w.op) h ≡ None
+  none_own (home.Cell c) of types some = refl
+  none_own (home.Root at) of types some = go (slice_get (root_list w) at) refl types
+    where
+      front : front_variable w g (home.Root at) ≡ last_variable w.table of (home_name w (home.Root at))
+      front = ap (λ ts. counted_variable w.table kind.Max ts (home_name w (home.Root at))) types
+
+      go : (o : Option Root) → slice_get (root_list w) at ≡ o → root_types o ≡ of ∷ [] → home_attribute w.op kind.Max (named_roots w.table w.side w.op) (home.Root at) ≡ None
+      go None there e = cc
+      go (Some r) there e =
+          let same : r.of ≡ of = cc in
+          let (ms, is_struct) = ends_with_struct of (home_name w (home.Root at)) (λ z. some (front ∙ z)) in
+          no_attribute w legal at r there ms (ap (type_at w.table) same ∙ is_struct)
+
+module _ (w : Setting) (order : Order) (fetched : List ℕ) (place : ℕ) (why : Reason) (bad : Bad w order fetched place why) (legal : IsLegalSide w) where
+  -- the name that is shown
+  pub variable_is : (u : Ground) (s : Sought) → IsSide (known_of w order fetched place why bad (Some s.item)) u → is_test bad.here.entry.kind ≡ true
+      → IsAt (items order fetched bad.earlier) s.item place → IsItemOf (items order fetched bad.earlier) s → (p : Progress)
+      → p.variable ≡ kept_variable (known_of w order fetched place why bad (Some s.item)) (length (items order fetched bad.earlier))
+      → (q : List ℕ) → IsOwnName u s q → IsKeptName u s p.variable q → IsVariableOf w bad.partial bad.here.entry bad.here.entry.kind q
+  variable_is u s side test (i, there, at) (j, got, of_kind, at_home, node) p ended q name kept =
+      let (a, wanted, found, is) = as_test bad.here.entry.kind test in
+      subst (λ k. IsVariableOf w bad.partial bad.here.entry k q) (sym is)
+      (record { own = by_root a wanted found is; maximum = by_member a wanted found is })
+    where
+      g : Graph
+      g = bad.partial
+
+      h : Home
+      h = bad.here.entry.home
+
+      k : Known
+      k = known_of w order fetched place why bad (Some s.item)
+
+      same : i ≡ j
+      same = same_Some _ _ (sym there ∙ got)
+
+      by_root : (a : Attr) (wanted found : ℤ) → bad.here.entry.kind ≡ Test a wanted found → (at_root : ℕ) (root : Root) → slice_get (root_list w) at_root ≡ Some root
+          → IsOfRoot bad.here.entry at_root → IsStated w g root a wanted q
+      by_root a wanted found is at_root root in_list own =
+          let (kind_is, home_is, node_is) = tested_item w order fetched place why bad legal a wanted found is s.item i there at in
+          stated w g legal k refl u side s q name a wanted at_root (sym at_home ∙ ap (λ (x : Item). x.home) (sym same) ∙ home_is ∙ own.0)
+          (sym node ∙ ap (λ (x : Item). x.node) (sym same) ∙ node_is ∙ own_node a bad.here.entry.node own.1)
+          (sym of_kind ∙ ap (λ (x : Item). x.kind) (sym same) ∙ kind_is)
+          (own_test w g bad.entries bad.stream bad.here.entry (here_among 0 bad.entries bad.earlier bad.here bad.later bad.split) a wanted found is at_root own.0 own.1)
+          root in_list
+
+      -- a maximum count is at its home's own value
+      at_front : (a : Attr) (n : ℕ) → is_maximum a ≡ true → node_of a n ≡ 0
+      at_front attr.Size n e = refl
+      at_front attr.Max n e = refl
+      at_front attr.First n e = cc
+      at_front attr.Length n e = cc
+      at_front attr.Last n e = cc
+      at_front attr.Switch n e = cc
+
+      by_member : (a : Attr) (wanted found : ℤ) → bad.here.entry.kind ≡ Test a wanted found → is_maximum a ≡ true → 0 < bad.here.entry.node
+          → OfMember w g h bad.here.entry.node a wanted q
+      by_member a wanted found is maximum low =
+          let (kind_is, home_is, node_is) = tested_item w order fetched place why bad legal a wanted found is s.item i there at in
+          let m = maximum_is w order fetched place why bad legal a wanted found is maximum low in
+          let max_is : i.kind ≡ kind.Max = kind_is ∙ maximum_spoken a maximum in
+          let front_is : i.node ≡ 0 = node_is ∙ at_front a bad.here.entry.node maximum in
+          let kept_is : p.variable ≡ front_variable w g h =
+          ended ∙ kept_whole k (sought_variable k) s.item i refl there
+          ∙ ap (λ x. counted_variable w.table x (home_types w g i.home) (path_in (home_paths w g i.home) i.node)) max_is
+          ∙ ap₂ (λ (x : Home) (n : ℕ). counted_variable w.table kind.Max (home_types w g x) (path_in (home_paths w g x) n)) home_is front_is
+          ∙ ap (counted_variable w.table kind.Max (home_types w g h))
+          (path_here 0 (home_name w h) (node_paths w.table (home_types w g h) (home_name w h ∷ []) 0 (more (home_value g h) none))) in
+          let some : front_variable w g h ≡ [] → ⊥ = λ z. some_path (path_in (home_paths w g h) m.struct.node) m.members m.by.var (sym m.path ∙ z) in
+          let setting : w ≡ record { table = u.interface.now.types; op = side.operation; side = u.side; given = side.request } = side.setting in
+          let its_home : s.home ≡ h = sym at_home ∙ ap (λ (x : Item). x.home) (sym same) ∙ home_is in
+          let its_kind : s.kind ≡ kind.Max = sym of_kind ∙ ap (λ (x : Item). x.kind) (sym same) ∙ max_is in
+          let none_is : home_attribute w.op s.kind (named_roots w.table w.side w.op) s.home ≡ None =
+          ap₂ (λ (x : ItemKind) (y : Home). home_attribute w.op x (named_roots w.table w.side w.op) y) its_kind its_home ∙ none_own w g legal h m.of m.home_is some in
+          let shown : q ≡ p.variable =
+          kept side.operation side.there (subst (λ (v : Setting). home_attribute v.op s.kind (named_roots v.table v.side v.op) s.home ≡ None) setting none_is)
+          (λ z. some (sym kept_is ∙ z)) in
+          subst (λ x. OfMember w g h bad.here.entry.node a wanted x) (sym (shown ∙ kept_is)) m
