@@ -67,10 +67,10 @@ wrong_reply q l node cause = cause
 -- ## Numbers that mean nothing
 
 pub no_side : (i : Interface) (operation side : ℕ) (l : Listing) → None ≡ side_numbered side → is_side i operation side ≡ true → has_too_many l ≡ true
-no_side i operation side l is yes = let no : is_side i operation side ≡ false = numbered.no_side i operation side is in cc
+no_side i operation side l is side_there = let wrong : is_side i operation side ≡ false = numbered.no_side i operation side is in cc
 
 pub no_operation : (i : Interface) (operation side : ℕ) (l : Listing) → length i.operations ≤ operation → is_side i operation side ≡ true → has_too_many l ≡ true
-no_operation i operation side l past yes = let no : is_side i operation side ≡ false = numbered.no_operation i operation side past in cc
+no_operation i operation side l past side_there = let wrong : is_side i operation side ≡ false = numbered.no_operation i operation side past in cc
 
 pub no_request : (q : Fitting) (l : Listing) → q.side ≡ Out → q.side ≡ In → has_too_many l ≡ true
 no_request q l out is = cc

@@ -150,6 +150,8 @@ fn build_reply(
     if !is_request(given) {
         return ARGUMENT;
     }
+    // A fit is of an operation of its interface.
+    let _conforming = given.fit().flat();
     match build_response(alloc, given, listing) {
         Ok(made) => fill_values(alloc, made, values),
         Err(BuildFault::TooMany) => ARGUMENT,
