@@ -1,7 +1,8 @@
 /* Measures the library: bench-library IDL OPERATION ROUNDS < OCTETS
 
    The octets, of the inputs of an operation in little order, are decoded so many times, and their values are encoded as often, into a buffer that the octets
-   are then copied to. It prints how many nanoseconds of the processor the fastest of each took, and how many a round took on average with the values let go. */
+   are then copied to. It prints how many nanoseconds of the processor the fastest of each took, how many a round took on average with the values let go, and
+   with all their nodes read before that, and the fastest writing of their text. */
 #include "dceidl.h"
 
 #include <stdio.h>
@@ -35,11 +36,38 @@ static double lesser(double one, double other) {
     return one < other ? one : other;
 }
 
+/* Reads all nodes of values, and copies their strings. */
+static void read_nodes(dceidl_values *values, dceidl_nodes *nodes, uint8_t *out, size_t room) {
+    dceidl_node node;
+    size_t number, length;
+    need(dceidl_nodes_of(values, nodes) == DCEIDL_OK, "nodes");
+    for (number = 0; dceidl_node_at(nodes, number, &node) == DCEIDL_OK; number++)
+        need(node.kind != DCEIDL_STRING || dceidl_node_octets(nodes, number, out, room, &length) == DCEIDL_OK, "string");
+}
+
+/* How many nanoseconds the fastest of some rounds takes to write the text of values. */
+static double text_time(dceidl_values *values, unsigned long rounds) {
+    double least = 1e18, began;
+    size_t room, length;
+    uint8_t *text;
+    need(dceidl_text(values, (uint8_t *)&room, 0, &room) == DCEIDL_SHORT, "length of the text");
+    text = malloc(room);
+    need(text != NULL, "memory");
+    for (; rounds > 0; rounds--) {
+        began = now();
+        need(dceidl_text(values, text, room, &length) == DCEIDL_OK && length == room, "text");
+        least = lesser(least, now() - began);
+    }
+    free(text);
+    return least;
+}
+
 int main(int argc, char **argv) {
     dceidl_interface interface = DCEIDL_NONE;
     dceidl_values values = DCEIDL_NONE;
+    dceidl_nodes nodes = DCEIDL_NONE;
     dceidl_fault fault = DCEIDL_NONE;
-    double copy = 1e18, decode = 1e18, encode = 1e18, began, all;
+    double copy = 1e18, decode = 1e18, encode = 1e18, began, all, read, text;
     dceidl_file file = {dceidl_some("bench.idl"), 9, NULL, 0};
     size_t length, taken, written;
     uint8_t *octets, *out;
@@ -72,7 +100,19 @@ int main(int argc, char **argv) {
         dceidl_values_free(&values);
     }
     all = (now() - began) / (double)rounds;
+    began = now();
+    for (i = 0; i < rounds; i++) {
+        need(dceidl_decode(&interface, operation, DCEIDL_IN, DCEIDL_LITTLE, octets, length, &values, &taken, &fault) == DCEIDL_OK, "decode");
+        read_nodes(&values, &nodes, out, length);
+        dceidl_values_free(&values);
+    }
+    read = (now() - began) / (double)rounds;
+    need(dceidl_decode(&interface, operation, DCEIDL_IN, DCEIDL_LITTLE, octets, length, &values, &taken, &fault) == DCEIDL_OK, "decode");
+    text = text_time(&values, rounds < 8 ? rounds : 8);
+    dceidl_values_free(&values);
+    dceidl_nodes_free(&nodes);
     dceidl_interface_free(&interface);
-    printf("copy %.0f ns, decode %.0f ns, encode %.0f ns, decoded and let go %.0f ns\n", copy, decode, encode, all);
+    printf("copy %.0f ns, decode %.0f ns, encode %.0f ns, decoded and let go %.0f ns, with its nodes read %.0f ns, text %.0f ns\n", copy, decode, encode, all,
+           read, text);
     return 0;
 }

@@ -14,7 +14,7 @@
    - A pointer is never null and is valid for its length, for a length of 0 too: dceidl_some makes such a pointer of a null one.
    - No two arguments of a call overlap, unless both are const.
    - A handle is DCEIDL_NONE before its first use, is not copied, and its parts are neither read nor written.
-   - One call at a time uses a handle, and all calls with handles of one interface, its values among them, are made by one thread.
+   - One call at a time uses a handle, and all calls with handles of one interface, and of its values, their nodes and items, are made by one thread.
    - No call is made in a signal handler, or in the child that a process with threads has forked.
    Everything else is answered by a status: octets and texts of any content, numbers out of range, empty handles, handles of the wrong kind. */
 #ifndef DCEIDL_H
@@ -32,11 +32,11 @@ extern "C" {
 enum dceidl_status {
     DCEIDL_OK = 0,
     DCEIDL_EMPTY = 1,    /* a handle holds nothing, or not what the call needs */
-    DCEIDL_ARGUMENT = 2, /* a number is out of range: an operation, a side, an order, a chunk, a file; or a name is not UTF-8 */
+    DCEIDL_ARGUMENT = 2, /* a number is out of range: an operation, a side, an order, a chunk, a file, a node; or a name is not UTF-8 */
     DCEIDL_MEMORY = 3,   /* out of memory */
     DCEIDL_SHORT = 4,    /* the buffer has too little room; the length that is needed is set */
     DCEIDL_REFUSED = 5,  /* the files, octets, text or values are refused; the fault says why */
-    DCEIDL_ABSENT = 6    /* no operation has that name */
+    DCEIDL_ABSENT = 6    /* no operation, root or member has that name */
 };
 
 enum dceidl_kind {
@@ -129,14 +129,20 @@ typedef struct {
     uintptr_t full_;
 } dceidl_handle_;
 
-/* An interface with what is prepared for its octets; values of a side of an operation; why a call was refused. The three differ by name alone, so that a
-   compiler tells one from another. */
+/* An interface with what is prepared for its octets; values of a side of an operation; the nodes of values; the items of octets; why a call was
+   refused. They differ by name alone, so that a compiler tells one from another. */
 typedef struct {
     dceidl_handle_ handle_;
 } dceidl_interface;
 typedef struct {
     dceidl_handle_ handle_;
 } dceidl_values;
+typedef struct {
+    dceidl_handle_ handle_;
+} dceidl_nodes;
+typedef struct {
+    dceidl_handle_ handle_;
+} dceidl_items;
 typedef struct {
     dceidl_handle_ handle_;
 } dceidl_fault;
@@ -263,6 +269,128 @@ uint32_t dceidl_split(uint32_t side, uint32_t operation, uint32_t order, uint32_
 /* Sets the order of octets that a format label (C706, section 14.1) states, the first four of these octets: values that come with one follow it, and are
    decoded from the octets after these four. REFUSED; MEMORY. */
 uint32_t dceidl_label_order(const uint8_t *octets, size_t length, uint32_t *order, dceidl_fault *fault);
+
+/* ---- Types ---- */
+
+/* Roots and members by their names. Types have numbers, the same for as long as the interface is held: a program asks once, and reads many values. */
+
+/* Sets the number of the root of a side of an operation that has a name, that of a parameter or `return`, and its type. EMPTY; ARGUMENT: operation or
+   side; ABSENT. */
+uint32_t dceidl_root_named(dceidl_interface *interface, uint32_t operation, uint32_t side, const uint8_t *name, size_t length, size_t *root,
+                           uint32_t *type);
+
+/* Sets the index of the member of a struct that has a name, as dceidl_node_part takes it, and its type. EMPTY; ARGUMENT: the type is not a struct;
+   ABSENT. */
+uint32_t dceidl_member_named(dceidl_interface *interface, uint32_t type, const uint8_t *name, size_t length, size_t *member, uint32_t *member_type);
+
+/* Sets the type of the elements of an array or a pipe, or of what a pointer points to. EMPTY; ARGUMENT: the type is another one. */
+uint32_t dceidl_element_type(dceidl_interface *interface, uint32_t type, uint32_t *element_type);
+
+/* ---- Nodes ---- */
+
+/* Values are read without their text as nodes, which have numbers from 0. Those of the roots come first, in the order of the text (docs/TEXT.md), and then
+   those of the cells, the values that pointers point to. The parts of a node follow it, each with its own parts before the next one. */
+enum dceidl_node_kind {
+    DCEIDL_NUMBER = 1,  /* a number */
+    DCEIDL_STRUCT = 2,  /* its parts are its members */
+    DCEIDL_ARRAY = 3,   /* elements that are numbers are no nodes, but copied by dceidl_node_numbers or dceidl_node_bytes; others are its parts */
+    DCEIDL_STRING = 4,  /* dceidl_node_octets copies it */
+    DCEIDL_UNION = 5,   /* its part is the value of the arm that the tag selects, if the arm has one */
+    DCEIDL_POINTER = 6, /* dceidl_cell_node gives the node that it points to */
+    DCEIDL_CONTEXT = 7, /* a context handle; dceidl_node_octets copies its identifier */
+    DCEIDL_PIPE = 8     /* all its elements, as those of an array */
+};
+
+/* What does not apply to a kind is 0. */
+typedef struct {
+    uint32_t kind;    /* of enum dceidl_node_kind */
+    uint32_t parts;   /* how many parts are nodes */
+    uint32_t count;   /* ARRAY, PIPE: how many elements there are */
+    uint32_t numbers; /* ARRAY, PIPE: how many of these are numbers: all or none of them */
+    uint32_t max;     /* ARRAY, STRING: the maximum count; of an array of a fixed bound, that bound */
+    uint32_t offset;  /* ARRAY: the offset */
+    uint64_t number;  /* NUMBER; UNION: the tag; POINTER: the cell, from 1, or 0 if it is null; CONTEXT: the attributes. It is in two's complement: of a
+                         signed type the number is (int64_t)number */
+    size_t length;    /* STRING, CONTEXT: how many octets dceidl_node_octets copies */
+} dceidl_node;
+
+/* Fills a handle with the nodes of values, which stay when the values are freed. The time and memory are in proportion to the values. EMPTY, MEMORY. */
+uint32_t dceidl_nodes_of(dceidl_values *values, dceidl_nodes *nodes);
+
+void dceidl_nodes_free(dceidl_nodes *nodes);
+
+/* Sets how many roots and cells there are. EMPTY. */
+uint32_t dceidl_home_counts(dceidl_nodes *nodes, size_t *roots, size_t *cells);
+
+/* Sets the number of the node of a root, by the root's number from 0, or of a cell, by that from 1; in constant time. EMPTY; ARGUMENT: no such root or
+   cell. */
+uint32_t dceidl_root_node(dceidl_nodes *nodes, size_t root, size_t *number);
+uint32_t dceidl_cell_node(dceidl_nodes *nodes, uint32_t cell, size_t *number);
+
+/* Sets what a node says of itself; in constant time. EMPTY; ARGUMENT: no such node. */
+uint32_t dceidl_node_at(dceidl_nodes *nodes, size_t number, dceidl_node *node);
+
+/* Sets the number of the node after one and all its parts: after a part, that is the next part. After the last of all it is the number of nodes. The time
+   is in proportion to the nodes between. EMPTY; ARGUMENT: no such node. */
+uint32_t dceidl_node_after(dceidl_nodes *nodes, size_t number, size_t *after);
+
+/* Sets the number of a part of a node by its index, from 0; that of index 0 is number + 1. The time is in proportion to the nodes between: to visit all
+   parts, begin with the first and call dceidl_node_after. EMPTY; ARGUMENT: no such node, or it has no such part. */
+uint32_t dceidl_node_part(dceidl_nodes *nodes, size_t number, size_t index, size_t *part);
+
+/* Copies the elements of an array or a pipe that are numbers, and sets how many they are: 0 if the elements are no numbers. EMPTY; ARGUMENT: no such node,
+   or neither an array nor a pipe; SHORT. */
+uint32_t dceidl_node_numbers(dceidl_nodes *nodes, size_t number, uint64_t *out, size_t room, size_t *count);
+
+/* The same, of each number its low 8 bits: all of it, if the elements have one octet. EMPTY; ARGUMENT; SHORT. */
+uint32_t dceidl_node_bytes(dceidl_nodes *nodes, size_t number, uint8_t *out, size_t room, size_t *length);
+
+/* Copies the octets of a string, without an end mark, or the 16 of the identifier of a context handle, and sets their length. EMPTY; ARGUMENT: no such
+   node, or another one; SHORT. */
+uint32_t dceidl_node_octets(dceidl_nodes *nodes, size_t number, uint8_t *out, size_t room, size_t *length);
+
+/* ---- Items ---- */
+
+/* What octets are made of, one item after the other. */
+enum dceidl_item_kind {
+    DCEIDL_ITEM_GAP = 1,       /* octets of any value, up to the place of the next item */
+    DCEIDL_ITEM_MAX = 2,       /* a maximum count */
+    DCEIDL_ITEM_OFFSET = 3,    /* an offset */
+    DCEIDL_ITEM_ACTUAL = 4,    /* an actual count */
+    DCEIDL_ITEM_REFERENT = 5,  /* the number of a pointer */
+    DCEIDL_ITEM_TAG = 6,       /* the tag of a union */
+    DCEIDL_ITEM_NUMBER = 7,    /* a number */
+    DCEIDL_ITEM_STRING = 8,    /* the elements of a string, with its end mark; number: its actual count */
+    DCEIDL_ITEM_CONTEXT = 9,   /* a context handle */
+    DCEIDL_ITEM_CHUNK = 10     /* the count of a chunk */
+};
+
+typedef struct {
+    uint32_t at;      /* the number of its first octet, from 0 */
+    uint32_t length;  /* how many octets it has */
+    uint32_t kind;    /* of enum dceidl_item_kind */
+    uint32_t in_cell; /* 1 if it is of a cell, 0 if it is of a root */
+    uint32_t home;    /* the number of that cell, from 1, or of that root, from 0 */
+    uint32_t node;    /* which node of this cell or root it is of, depth first from 0; elements that are numbers count as nodes here. 0 of a gap, of a
+                         maximum count in front of a struct, and of the count of a chunk */
+    uint64_t number;  /* the number that its octets hold, in two's complement; of a gap and a context handle 0 */
+} dceidl_item;
+
+/* Fills a handle with the items of the values of a side of an operation that octets begin with. The answers are those of dceidl_decode: REFUSED, EMPTY,
+   ARGUMENT, MEMORY. The time is in proportion to the octets that the values take, and the memory to their items. */
+uint32_t dceidl_items_of(dceidl_interface *interface, uint32_t operation, uint32_t side, uint32_t order, const uint8_t *octets, size_t length,
+                         dceidl_items *items, dceidl_fault *fault);
+
+/* The same of the response to a request, judged beside it. The answers are those of dceidl_decode_response. */
+uint32_t dceidl_items_of_response(dceidl_values *request, uint32_t order, const uint8_t *octets, size_t length, dceidl_items *items, dceidl_fault *fault);
+
+void dceidl_items_free(dceidl_items *items);
+
+/* Sets the number of items. EMPTY. */
+uint32_t dceidl_item_count(dceidl_items *items, size_t *count);
+
+/* Sets an item by its place, from 0; in constant time. EMPTY; ARGUMENT: no such item. */
+uint32_t dceidl_item_at(dceidl_items *items, size_t index, dceidl_item *item);
 
 /* ---- Faults ---- */
 

@@ -4,8 +4,10 @@
     tests/library.py [--prefix FOLDER] [--copies COUNT] [examples|calls|streams ..]
 
 `examples` runs the program of README.md and those of examples/c, examples/python and examples/rust, and compares what they print. `calls` tries what
-tests/library/calls.c asks of faults, fragments and labels. `streams` decodes the octets of tests/outside and mutated copies of them
-(tests/library/streams.c): COUNT copies of each under AddressSanitizer, 800 if it is left out, and a twentieth of these under valgrind. The library is built and installed in a folder of its own, or taken from FOLDER, as bin/dceidl-lib fills it.
+tests/library/calls.c asks of faults, fragments and labels, and tests/library/nodes.c of types, nodes and items. `streams` decodes the octets of
+tests/outside and mutated copies of them (tests/library/streams.c), and reads the values by their nodes and items: COUNT copies of each under
+AddressSanitizer, 800 if it is left out, and a twentieth of these under valgrind. The library is built and installed in a folder of its own, or taken
+from FOLDER, as bin/dceidl-lib fills it.
 
 It needs `cc`; what is missing besides is named and left out. The last line is `N passed, M failed, K left out`, and the status is 1 if one failed.
 """
@@ -23,6 +25,7 @@ from typing import Dict, List, Optional, Sequence
 ROOT = Path(__file__).resolve().parent.parent
 OUTSIDE = ROOT / "tests" / "outside"
 ADD = "values 2\nop add in\na = 1\nb = 2\n"
+TOTAL = "readme 10\n(none) -3\ndata 35\ntotal 42\n"
 GREET = 'values 2\nop greet in\nname = @1\n@1 = 4:"Ada"\n03000000\n'
 SANITIZED = ["-g", "-O1", "-fsanitize=address,undefined", "-fno-sanitize-recover=all"]
 VALGRIND = ["valgrind", "-q", "--leak-check=full", "--show-leak-kinds=all", "--error-exitcode=9"]
@@ -79,6 +82,9 @@ def examples(run: Run) -> None:
     made = run.compile(ROOT / "examples" / "c" / "greet.c", "greet")
     if made:
         run.expect("examples/c/greet.c", [str(made)], GREET)
+    made = run.compile(ROOT / "examples" / "c" / "total.c", "total")
+    if made:
+        run.expect("examples/c/total.c", [str(made)], TOTAL)
     if shutil.which("rustc"):
         made = run.folder / "greet-rust"
         words = ["rustc", "--edition", "2021", str(ROOT / "examples/rust/greet.rs"), "-L", f"{run.prefix}/lib", "-o", str(made)]
@@ -105,8 +111,9 @@ def sanitized(run: Run, source: Path, counts: Sequence[str], wanted: Optional[st
 
 
 def calls(run: Run) -> None:
-    """The calls on faults, fragments and labels."""
-    sanitized(run, ROOT / "tests" / "library" / "calls.c", [], "", "")
+    """The calls on faults, fragments and labels, and on types, nodes and items."""
+    for name in ("calls.c", "nodes.c"):
+        sanitized(run, ROOT / "tests" / "library" / name, [], "", "")
 
 
 def stream_lines() -> List[str]:

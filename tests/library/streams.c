@@ -46,6 +46,67 @@ static uint8_t *octets_of(dceidl_values *values, uint32_t order, size_t *length)
     return octets;
 }
 
+/* A node with all its parts, in blocks of exactly their lengths. Gives the number of the node after it. */
+static size_t visit(dceidl_nodes *nodes, size_t number, size_t cells) {
+    dceidl_node node;
+    size_t part = number + 1, at, count;
+    uint32_t i, status;
+    uint64_t *numbers;
+    uint8_t *octets;
+    need(dceidl_node_at(nodes, number, &node) == DCEIDL_OK, "node");
+    need(node.kind != DCEIDL_POINTER || node.number <= cells, "cell");
+    need(node.numbers == 0 || node.numbers == node.count, "some elements are numbers");
+    for (i = 0; i < node.parts; i++) {
+        need(i > 8 || (dceidl_node_part(nodes, number, i, &at) == DCEIDL_OK && at == part), "part");
+        part = visit(nodes, part, cells);
+    }
+    need(dceidl_node_part(nodes, number, node.parts, &at) == DCEIDL_ARGUMENT, "part past the last");
+    need(dceidl_node_after(nodes, number, &at) == DCEIDL_OK && at == part, "after");
+    octets = malloc(node.length + node.numbers + 1);
+    numbers = malloc(node.numbers * sizeof *numbers + 1);
+    need(octets && numbers, "memory");
+    status = dceidl_node_octets(nodes, number, octets, node.length, &count);
+    need(status == (node.kind == DCEIDL_STRING || node.kind == DCEIDL_CONTEXT ? DCEIDL_OK : DCEIDL_ARGUMENT), "octets");
+    if (node.length)
+        need(dceidl_node_octets(nodes, number, octets, node.length - 1, &count) == DCEIDL_SHORT && count == node.length, "octets are short");
+    status = dceidl_node_numbers(nodes, number, numbers, node.numbers, &count);
+    need(status == (node.kind == DCEIDL_ARRAY || node.kind == DCEIDL_PIPE ? DCEIDL_OK : DCEIDL_ARGUMENT), "numbers");
+    need(dceidl_node_bytes(nodes, number, octets, node.numbers, &count) == status, "bytes");
+    for (i = 0; i < node.numbers; i++)
+        need(octets[i] == (uint8_t)numbers[i], "another byte");
+    if (node.numbers)
+        need(dceidl_node_numbers(nodes, number, numbers, node.numbers - 1, &count) == DCEIDL_SHORT && count == node.numbers, "numbers are short");
+    free(octets);
+    free(numbers);
+    return part;
+}
+
+/* All nodes of values, which live on without these. */
+static void visit_all(dceidl_values *values) {
+    dceidl_nodes nodes = DCEIDL_NONE, others = DCEIDL_NONE;
+    dceidl_node node;
+    size_t roots, cells, number = 0, at, i;
+    need(dceidl_home_counts(&nodes, &roots, &cells) == DCEIDL_EMPTY, "nodes of nothing");
+    need(dceidl_nodes_of(values, &nodes) == DCEIDL_OK && dceidl_nodes_of(values, &nodes) == DCEIDL_OK, "nodes");
+    dceidl_values_free(values);
+    need(dceidl_home_counts(&nodes, &roots, &cells) == DCEIDL_OK, "counts");
+    for (i = 0; i < roots; i++) {
+        need(dceidl_root_node(&nodes, i, &at) == DCEIDL_OK && at == number, "root");
+        number = visit(&nodes, at, cells);
+    }
+    for (i = 1; i <= cells; i++) {
+        need(dceidl_cell_node(&nodes, (uint32_t)i, &at) == DCEIDL_OK && at == number, "cell");
+        number = visit(&nodes, at, cells);
+    }
+    need(dceidl_root_node(&nodes, roots, &at) == DCEIDL_ARGUMENT, "root past the last");
+    need(dceidl_cell_node(&nodes, 0, &at) == DCEIDL_ARGUMENT && dceidl_cell_node(&nodes, (uint32_t)cells + 1, &at) == DCEIDL_ARGUMENT, "no cell");
+    need(dceidl_node_at(&nodes, number, &node) == DCEIDL_ARGUMENT && dceidl_node_after(&nodes, (size_t)-1, &at) == DCEIDL_ARGUMENT, "no node");
+    need(dceidl_node_part(&nodes, (size_t)-1, 0, &at) == DCEIDL_ARGUMENT, "part of no node");
+    need(dceidl_nodes_of((dceidl_values *)(void *)&nodes, &others) == DCEIDL_EMPTY, "nodes of nodes");
+    dceidl_nodes_free(&nodes);
+    dceidl_nodes_free(&nodes);
+}
+
 static void same_again(dceidl_interface *interface, uint32_t operation, uint32_t side, uint32_t order, dceidl_values *values) {
     dceidl_values read = DCEIDL_NONE, back = DCEIDL_NONE;
     dceidl_fault fault = DCEIDL_NONE;
@@ -63,6 +124,24 @@ static void same_again(dceidl_interface *interface, uint32_t operation, uint32_t
     dceidl_values_free(&back);
 }
 
+/* The items of octets that are decoded: they follow each other to the end of the values. */
+static void add_up(dceidl_interface *interface, uint32_t operation, uint32_t side, uint32_t order, const uint8_t *octets, size_t length, size_t taken) {
+    dceidl_items items = DCEIDL_NONE;
+    dceidl_fault fault = DCEIDL_NONE;
+    dceidl_item item;
+    size_t count, at = 0, i;
+    need(dceidl_item_count(&items, &count) == DCEIDL_EMPTY && dceidl_item_at(&items, 0, &item) == DCEIDL_EMPTY, "items of nothing");
+    need(dceidl_items_of(interface, operation, side, order, octets, length, &items, &fault) == DCEIDL_OK, "items");
+    need(dceidl_item_count(&items, &count) == DCEIDL_OK && dceidl_item_at(&items, count, &item) == DCEIDL_ARGUMENT, "item past the last");
+    for (i = 0; i < count; i++) {
+        need(dceidl_item_at(&items, i, &item) == DCEIDL_OK && item.at == at, "item");
+        need(DCEIDL_ITEM_GAP <= item.kind && item.kind <= DCEIDL_ITEM_CHUNK && item.in_cell <= 1, "kind");
+        at += item.length;
+    }
+    need(at == taken, "items do not add up");
+    dceidl_items_free(&items);
+}
+
 static void decode(dceidl_interface *interface, uint32_t operation, uint32_t side, uint32_t order, const uint8_t *octets, size_t length) {
     dceidl_values values = DCEIDL_NONE;
     dceidl_fault fault = DCEIDL_NONE;
@@ -75,6 +154,8 @@ static void decode(dceidl_interface *interface, uint32_t operation, uint32_t sid
     if (status == DCEIDL_OK) {
         need(taken <= length, "too many octets taken");
         same_again(interface, operation, side, order, &values);
+        add_up(interface, operation, side, order, copy, length, taken);
+        visit_all(&values);
         decoded_count++;
     } else {
         need(status == DCEIDL_REFUSED, "decode");

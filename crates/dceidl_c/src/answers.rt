@@ -25,7 +25,7 @@ pub(crate) const SHORT: u32 = 4;
 /// The files, octets, text or values are refused.
 pub(crate) const REFUSED: u32 = 5;
 
-/// No operation has that name.
+/// No operation, root or member has that name.
 pub(crate) const ABSENT: u32 = 6;
 
 // Fills a handle. The box of a full one is kept.

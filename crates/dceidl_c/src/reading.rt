@@ -172,7 +172,7 @@ fn decode_response(
 }
 
 // Whether values are of a request.
-fn is_request(values: &Values) -> bool
+pub(crate) fn is_request(values: &Values) -> bool
     ensures yes { result ≡ true → values.now.side ≡ In }
     ensures no { result ≡ false → values.now.side ≡ Out }
 {

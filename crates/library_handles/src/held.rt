@@ -1,7 +1,9 @@
 // What a handle holds.
 use command_refusals::Refusal;
 use library_interface::Compiled;
+use library_nodes::Nodes;
 use library_values::Values;
+use nd_value::ItemLog;
 use std::sync::Arc;
 
 /// What a handle holds.
@@ -13,4 +15,8 @@ pub enum Held {
     Values(Values),
     /// Why a call was refused.
     Refusal(Refusal),
+    /// The nodes of values.
+    Nodes(Nodes),
+    /// The items of octets.
+    Items(ItemLog),
 }

@@ -1,4 +1,4 @@
-//! What a program in another language holds: a handle, which holds an interface, values or a refusal, or nothing.
+//! What a program in another language holds: a handle, which holds an interface, values, a refusal, nodes or items, or nothing.
 #![tactic(auto)]
 
 mod handle;

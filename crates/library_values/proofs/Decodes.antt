@@ -16,11 +16,11 @@ use Rattle.ndr_decoder_state.specs.declared.fault.DecodeFault.TheVariants as fau
 use Rattle.library_values.specs.Decoded.{IsDecodedOf}
 
 -- what follows the octets that were taken
-abbrev rest_of : Option (List ℕ) → List ℕ
+abbrev pub rest_of : Option (List ℕ) → List ℕ
 rest_of None = []
 rest_of (Some octets) = octets
 
-parts_of : (left left_now : Option (List ℕ)) (front octets : List ℕ) → left ≡ Some octets → Consumes left left_now front → octets ≡ front ++ rest_of left_now
+pub parts_of : (left left_now : Option (List ℕ)) (front octets : List ℕ) → left ≡ Some octets → Consumes left left_now front → octets ≡ front ++ rest_of left_now
 parts_of None left_now front octets same taken = cc
 parts_of (Some all) None front octets same taken = absurd taken
 parts_of (Some all) (Some rest) front octets same taken = sym (same_Some _ _ same) ∙ taken

@@ -42,8 +42,8 @@ impl Model for Values {
 }
 
 impl Values {
-    /// A fit with its interface. Running out of memory is the only refusal, where the interface has as many values as can be counted.
-    pub(crate) fn of(compiled: &Arc<Compiled>, fit: Fit) -> Result<Values, Refusal>
+    /// A fit with its interface. Memory is the only refusal: the interface has as many values as can be counted.
+    pub fn of(compiled: &Arc<Compiled>, fit: Fit) -> Result<Values, Refusal>
         requires { fit.interface ≡ arc_value compiled.now }
         ensures ok { IfOk result (λ v. v ≡ fit) }
         ensures err { IfErr result (λ e. e ≡ refusal.Memory) }
@@ -66,6 +66,27 @@ impl Values {
         ensures { result ≡ self.now.side }
     {
         self.fit.side()
+    }
+
+    /// The interface, with its plan. Takes no memory.
+    pub fn compiled(&self) -> &Compiled
+        ensures { result.now ≡ self.now.interface }
+    {
+        &self.compiled
+    }
+
+    /// The same, as it is shared. Takes no memory.
+    pub fn shared(&self) -> &Arc<Compiled>
+        ensures { arc_value result.now ≡ self.now.interface }
+    {
+        &self.compiled
+    }
+
+    /// The values as a fit. Takes no memory.
+    pub fn fit(&self) -> &Fit
+        ensures { result.now ≡ self.now }
+    {
+        &self.fit
     }
 
     /// The text of the values, version 2 of the value text. Takes memory for the text and for the canonical graph; running out of it is the only

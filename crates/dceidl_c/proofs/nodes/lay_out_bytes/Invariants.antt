@@ -1,0 +1,10 @@
+use Rattle.std.proofs.Common.{◌≡◌, ◌≤◌, length, map, take}
+use Rattle.dceidl_c.specs.Nodes.{low_octet}
+use Rattle.dceidl_c.proofs.nodes.lay_out_bytes.Given as goal
+
+abbrev pub invariant-loop-at : goal.invariant-loop-at
+invariant-loop-at l = record {
+  within : l.at ≤ length l.numbers;
+  room : length l.numbers ≤ length l.out;
+  front : take l.at l.out ≡ map low_octet (take l.at l.numbers);
+}

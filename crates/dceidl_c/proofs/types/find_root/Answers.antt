@@ -1,0 +1,9 @@
+use Rattle.std.proofs.Common.{◌<◌, length, arith}
+use Rattle.dceidl_c.proofs.Named.{no_root}
+use Rattle.dceidl_c.proofs.types.find_root.Goals as goal
+
+pub returns-in-None-clause-absent : goal.returns-in-None-clause-absent
+returns-in-None-clause-absent c absent =
+    let j = c.interface-interface.result.now in
+    let low : c.args.operation < length j.operations = omega arith in
+    no_root c.args.compiled.now j c.args.operation c.args.side c.args.name.now c.in-Some.side c.in-None.ensures.none low c.in-Some.ensures c.interface-interface.ensures

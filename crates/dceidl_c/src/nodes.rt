@@ -1,0 +1,467 @@
+// Nodes of values.
+ghost use Rattle.std.specs.Prelude.{◌≡◌, ◌≤◌, ◌<◌, ◌+◌, ◌-◌, ◌++◌, ◌∷◌, [], suc, false, length, take, map, Some, None, IsSomeAnd};
+ghost use Rattle.std.specs.List.{slice_get};
+ghost use Rattle.library_nodes.specs.Contents.{numbers_of, octets_of};
+ghost use Rattle.library_nodes.specs.Described.{described};
+ghost use Rattle.library_nodes.specs.Listed.{IsListOf, root_start, cell_start};
+ghost use Rattle.library_nodes.specs.Parts.{IsAfter, has_part};
+ghost use Rattle.dceidl_c.specs.Answers.{values_in};
+ghost use Rattle.dceidl_c.specs.Nodes.{nodes_in, low_octet};
+
+use crate::answers::{ABSENT, ARGUMENT, EMPTY, MEMORY, OK, SHORT, fill, lay_out};
+use crate::interfaces::free;
+use library_handles::{Handle, Held};
+use library_nodes::{Description, Nodes};
+use library_values::Values;
+use std::alloc::Global;
+
+/// Fills `nodes` with those of values.
+#[unsafe(no_mangle)]
+pub extern "C" fn dceidl_nodes_of(alloc: Global, values: &mut Handle, nodes: &mut Handle) -> u32
+    ensures known { result ≤ ABSENT }
+    ensures same { values.new.value ≡ values.old.value }
+    ensures listed { result ≡ OK → IsSomeAnd (values_in values.old.value) (λ v. IsSomeAnd (nodes_in nodes.new.value) (IsListOf v.graph)) }
+    ensures empty { result ≡ EMPTY → values_in values.old.value ≡ None }
+    ensures kept { (result ≡ OK → ⊥) → nodes.new.value ≡ nodes.old.value }
+{
+    let Some(held) = values.take(alloc) else {
+        return EMPTY;
+    };
+    let status = match &*held {
+        Held::Values(held_values) => list(alloc, held_values, nodes),
+        _ => EMPTY,
+    };
+    values.put(alloc, held);
+    status
+}
+
+// Fills a handle with the nodes of values.
+fn list(alloc: Global, values: &Values, nodes: &mut Handle) -> u32
+    ensures known { result ≤ ABSENT }
+    ensures not_empty { result ≡ EMPTY → ⊥ }
+    ensures listed { result ≡ OK → IsSomeAnd (nodes_in nodes.new.value) (IsListOf values.now.graph) }
+    ensures kept { (result ≡ OK → ⊥) → nodes.new.value ≡ nodes.old.value }
+{
+    match Nodes::of(alloc, values.fit().flat()) {
+        Ok(made) => fill(alloc, nodes, Held::Nodes(made)),
+        Err(_) => MEMORY,
+    }
+}
+
+/// Lets go of nodes.
+#[unsafe(no_mangle)]
+pub extern "C" fn dceidl_nodes_free(alloc: Global, nodes: &mut Handle)
+    ensures { nodes.new.value ≡ None }
+{
+    free(alloc, nodes);
+}
+
+/// How many roots and cells there are.
+#[unsafe(no_mangle)]
+pub extern "C" fn dceidl_home_counts(
+    alloc: Global,
+    nodes: &mut Handle,
+    roots: &mut usize,
+    cells: &mut usize,
+) -> u32
+    ensures known { result ≤ ABSENT }
+    ensures same { nodes.new.value ≡ nodes.old.value }
+    ensures counts { result ≡ OK → IsSomeAnd (nodes_in nodes.old.value)
+        (λ n. (roots.new ≡ n.roots) × (cells.new ≡ length n.starts.items - n.roots)) }
+    ensures empty { result ≡ EMPTY → nodes_in nodes.old.value ≡ None }
+{
+    let Some(held) = nodes.take(alloc) else {
+        return EMPTY;
+    };
+    let status = match &*held {
+        Held::Nodes(list) => {
+            *roots = list.roots;
+            *cells = list.starts.as_slice().len().saturating_sub(list.roots);
+            OK
+        }
+        _ => EMPTY,
+    };
+    nodes.put(alloc, held);
+    status
+}
+
+/// The first node of a root.
+#[unsafe(no_mangle)]
+pub extern "C" fn dceidl_root_node(
+    alloc: Global,
+    nodes: &mut Handle,
+    root: usize,
+    node: &mut usize,
+) -> u32
+    ensures known { result ≤ ABSENT }
+    ensures same { nodes.new.value ≡ nodes.old.value }
+    ensures found { result ≡ OK → IsSomeAnd (nodes_in nodes.old.value) (λ n. root_start n root ≡ Some node.new) }
+    ensures argument { result ≡ ARGUMENT → IsSomeAnd (nodes_in nodes.old.value) (λ n. root_start n root ≡ None) }
+    ensures empty { result ≡ EMPTY → nodes_in nodes.old.value ≡ None }
+{
+    let Some(held) = nodes.take(alloc) else {
+        return EMPTY;
+    };
+    let status = match &*held {
+        Held::Nodes(list) => set(list.root(root), node),
+        _ => EMPTY,
+    };
+    nodes.put(alloc, held);
+    status
+}
+
+// Sets a number, if there is one.
+fn set(found: Option<usize>, number: &mut usize) -> u32
+    ensures known { result ≤ ABSENT }
+    ensures not_empty { result ≡ EMPTY → ⊥ }
+    ensures found { result ≡ OK → found ≡ Some number.new }
+    ensures argument { result ≡ ARGUMENT → found ≡ None }
+{
+    match found {
+        Some(at) => {
+            *number = at;
+            OK
+        }
+        None => ARGUMENT,
+    }
+}
+
+/// The first node of a cell.
+#[unsafe(no_mangle)]
+pub extern "C" fn dceidl_cell_node(
+    alloc: Global,
+    nodes: &mut Handle,
+    cell: u32,
+    node: &mut usize,
+) -> u32
+    ensures known { result ≤ ABSENT }
+    ensures same { nodes.new.value ≡ nodes.old.value }
+    ensures found { result ≡ OK → IsSomeAnd (nodes_in nodes.old.value) (λ n. cell_start n cell ≡ Some node.new) }
+    ensures argument { result ≡ ARGUMENT → IsSomeAnd (nodes_in nodes.old.value) (λ n. cell_start n cell ≡ None) }
+    ensures empty { result ≡ EMPTY → nodes_in nodes.old.value ≡ None }
+{
+    let Some(held) = nodes.take(alloc) else {
+        return EMPTY;
+    };
+    let status = match &*held {
+        Held::Nodes(list) => set(list.cell(cell), node),
+        _ => EMPTY,
+    };
+    nodes.put(alloc, held);
+    status
+}
+
+/// What a node says of itself.
+#[unsafe(no_mangle)]
+pub extern "C" fn dceidl_node_at(
+    alloc: Global,
+    nodes: &mut Handle,
+    node: usize,
+    description: &mut Description,
+) -> u32
+    ensures known { result ≤ ABSENT }
+    ensures same { nodes.new.value ≡ nodes.old.value }
+    ensures described { result ≡ OK → IsSomeAnd (nodes_in nodes.old.value)
+        (λ n. IsSomeAnd (slice_get n.list.nodes.items node) (λ x. description.new ≡ described x)) }
+    ensures argument { result ≡ ARGUMENT → IsSomeAnd (nodes_in nodes.old.value) (λ n. slice_get n.list.nodes.items node ≡ None) }
+    ensures empty { result ≡ EMPTY → nodes_in nodes.old.value ≡ None }
+{
+    let Some(held) = nodes.take(alloc) else {
+        return EMPTY;
+    };
+    let status = match &*held {
+        Held::Nodes(list) => describe_at(list, node, description),
+        _ => EMPTY,
+    };
+    nodes.put(alloc, held);
+    status
+}
+
+// What a node says of itself.
+fn describe_at(list: &Nodes, node: usize, description: &mut Description) -> u32
+    ensures known { result ≤ ABSENT }
+    ensures not_empty { result ≡ EMPTY → ⊥ }
+    ensures described { result ≡ OK → IsSomeAnd (slice_get list.now.list.nodes.items node) (λ x. description.new ≡ described x) }
+    ensures argument { result ≡ ARGUMENT → slice_get list.now.list.nodes.items node ≡ None }
+{
+    match list.list.nodes.as_slice().get(node) {
+        Some(found) => {
+            *description = found.describe();
+            OK
+        }
+        None => ARGUMENT,
+    }
+}
+
+/// The node after one and all its parts.
+#[unsafe(no_mangle)]
+pub extern "C" fn dceidl_node_after(
+    alloc: Global,
+    nodes: &mut Handle,
+    node: usize,
+    after: &mut usize,
+) -> u32
+    ensures known { result ≤ ABSENT }
+    ensures same { nodes.new.value ≡ nodes.old.value }
+    ensures found { result ≡ OK → IsSomeAnd (nodes_in nodes.old.value) (λ n. IsAfter n.list.nodes.items node 1 after.new) }
+    ensures argument { result ≡ ARGUMENT → IsSomeAnd (nodes_in nodes.old.value) (λ n. length n.list.nodes.items ≤ node) }
+    ensures empty { result ≡ EMPTY → nodes_in nodes.old.value ≡ None }
+{
+    let Some(held) = nodes.take(alloc) else {
+        return EMPTY;
+    };
+    let status = match &*held {
+        Held::Nodes(list) => set_after(list, node, after),
+        _ => EMPTY,
+    };
+    nodes.put(alloc, held);
+    status
+}
+
+// The node after one and all its parts.
+fn set_after(list: &Nodes, node: usize, after: &mut usize) -> u32
+    ensures known { result ≤ ABSENT }
+    ensures not_empty { result ≡ EMPTY → ⊥ }
+    ensures found { result ≡ OK → IsAfter list.now.list.nodes.items node 1 after.new }
+    ensures argument { result ≡ ARGUMENT → length list.now.list.nodes.items ≤ node }
+{
+    match list.after(node) {
+        Some(at) => {
+            *after = at;
+            OK
+        }
+        None => ARGUMENT,
+    }
+}
+
+/// A part of a node.
+#[unsafe(no_mangle)]
+pub extern "C" fn dceidl_node_part(
+    alloc: Global,
+    nodes: &mut Handle,
+    node: usize,
+    index: usize,
+    part: &mut usize,
+) -> u32
+    ensures known { result ≤ ABSENT }
+    ensures same { nodes.new.value ≡ nodes.old.value }
+    ensures found { result ≡ OK → IsSomeAnd (nodes_in nodes.old.value) (λ n. IsAfter n.list.nodes.items (suc node) index part.new) }
+    ensures argument { result ≡ ARGUMENT → IsSomeAnd (nodes_in nodes.old.value)
+        (λ n. has_part (slice_get n.list.nodes.items node) index ≡ false) }
+    ensures empty { result ≡ EMPTY → nodes_in nodes.old.value ≡ None }
+{
+    let Some(held) = nodes.take(alloc) else {
+        return EMPTY;
+    };
+    let status = match &*held {
+        Held::Nodes(list) => set_part(list, node, index, part),
+        _ => EMPTY,
+    };
+    nodes.put(alloc, held);
+    status
+}
+
+// A part of a node.
+fn set_part(list: &Nodes, node: usize, index: usize, part: &mut usize) -> u32
+    ensures known { result ≤ ABSENT }
+    ensures not_empty { result ≡ EMPTY → ⊥ }
+    ensures found { result ≡ OK → IsAfter list.now.list.nodes.items (suc node) index part.new }
+    ensures argument { result ≡ ARGUMENT → has_part (slice_get list.now.list.nodes.items node) index ≡ false }
+{
+    match list.part(node, index) {
+        Some(at) => {
+            *part = at;
+            OK
+        }
+        None => ARGUMENT,
+    }
+}
+
+/// Copies the elements of an array or a pipe that are numbers.
+#[unsafe(no_mangle)]
+pub extern "C" fn dceidl_node_numbers(
+    alloc: Global,
+    nodes: &mut Handle,
+    node: usize,
+    out: &mut [u64],
+    count: &mut usize,
+) -> u32
+    ensures known { result ≤ ABSENT }
+    ensures same { nodes.new.value ≡ nodes.old.value }
+    ensures copied { result ≡ OK → IsSomeAnd (nodes_in nodes.old.value)
+        (λ n. numbers_of n.list (slice_get n.list.nodes.items node) ≡ Some (take count.new out.new)) }
+    ensures short { result ≡ SHORT → IsSomeAnd (nodes_in nodes.old.value)
+        (λ n. IsSomeAnd (numbers_of n.list (slice_get n.list.nodes.items node)) (λ zs. (count.new ≡ length zs) × (length out.old < count.new))) }
+    ensures argument { result ≡ ARGUMENT → IsSomeAnd (nodes_in nodes.old.value)
+        (λ n. numbers_of n.list (slice_get n.list.nodes.items node) ≡ None) }
+    ensures empty { result ≡ EMPTY → nodes_in nodes.old.value ≡ None }
+    ensures kept { (result ≡ OK → ⊥) → out.new ≡ out.old }
+{
+    let Some(held) = nodes.take(alloc) else {
+        return EMPTY;
+    };
+    let status = match &*held {
+        Held::Nodes(list) => copy_numbers(list, node, out, count),
+        _ => EMPTY,
+    };
+    nodes.put(alloc, held);
+    status
+}
+
+// Copies the elements of a node that are numbers.
+fn copy_numbers(list: &Nodes, node: usize, out: &mut [u64], count: &mut usize) -> u32
+    ensures known { result ≤ ABSENT }
+    ensures not_empty { result ≡ EMPTY → ⊥ }
+    ensures copied { result ≡ OK → numbers_of list.now.list (slice_get list.now.list.nodes.items node) ≡ Some (take count.new out.new) }
+    ensures short { result ≡ SHORT → IsSomeAnd (numbers_of list.now.list (slice_get list.now.list.nodes.items node))
+        (λ zs. (count.new ≡ length zs) × (length out.old < count.new)) }
+    ensures argument { result ≡ ARGUMENT → numbers_of list.now.list (slice_get list.now.list.nodes.items node) ≡ None }
+    ensures kept { (result ≡ OK → ⊥) → out.new ≡ out.old }
+{
+    match list.numbers_of(node) {
+        Some(numbers) => lay_out_numbers(numbers, out, count),
+        None => ARGUMENT,
+    }
+}
+
+// Lays out numbers at the front of a buffer, if it has room for them, and says how many they are.
+fn lay_out_numbers(numbers: &[u64], out: &mut [u64], count: &mut usize) -> u32
+    ensures known { result ≤ ABSENT }
+    ensures not_empty { result ≡ EMPTY → ⊥ }
+    ensures not_argument { result ≡ ARGUMENT → ⊥ }
+    ensures count { count.new ≡ length numbers.now }
+    ensures done { result ≡ OK → take count.new out.new ≡ numbers.now }
+    ensures short { result ≡ SHORT → length out.old < count.new }
+    ensures kept { (result ≡ OK → ⊥) → out.new ≡ out.old }
+{
+    *count = numbers.len();
+    if numbers.len() > out.len() {
+        return SHORT;
+    }
+    out[..numbers.len()].copy_from_slice(numbers);
+    OK
+}
+
+/// Copies the octets of a string, or of the identifier of a context handle.
+#[unsafe(no_mangle)]
+pub extern "C" fn dceidl_node_octets(
+    alloc: Global,
+    nodes: &mut Handle,
+    node: usize,
+    out: &mut [u8],
+    len: &mut usize,
+) -> u32
+    ensures known { result ≤ ABSENT }
+    ensures same { nodes.new.value ≡ nodes.old.value }
+    ensures copied { result ≡ OK → IsSomeAnd (nodes_in nodes.old.value)
+        (λ n. octets_of n.list (slice_get n.list.nodes.items node) ≡ Some (take len.new out.new)) }
+    ensures short { result ≡ SHORT → IsSomeAnd (nodes_in nodes.old.value)
+        (λ n. IsSomeAnd (octets_of n.list (slice_get n.list.nodes.items node)) (λ os. (len.new ≡ length os) × (length out.old < len.new))) }
+    ensures argument { result ≡ ARGUMENT → IsSomeAnd (nodes_in nodes.old.value)
+        (λ n. octets_of n.list (slice_get n.list.nodes.items node) ≡ None) }
+    ensures empty { result ≡ EMPTY → nodes_in nodes.old.value ≡ None }
+    ensures kept { (result ≡ OK → ⊥) → out.new ≡ out.old }
+{
+    let Some(held) = nodes.take(alloc) else {
+        return EMPTY;
+    };
+    let status = match &*held {
+        Held::Nodes(list) => copy_octets(list, node, out, len),
+        _ => EMPTY,
+    };
+    nodes.put(alloc, held);
+    status
+}
+
+// Copies the octets of a node.
+fn copy_octets(list: &Nodes, node: usize, out: &mut [u8], len: &mut usize) -> u32
+    ensures known { result ≤ ABSENT }
+    ensures not_empty { result ≡ EMPTY → ⊥ }
+    ensures copied { result ≡ OK → octets_of list.now.list (slice_get list.now.list.nodes.items node) ≡ Some (take len.new out.new) }
+    ensures short { result ≡ SHORT → IsSomeAnd (octets_of list.now.list (slice_get list.now.list.nodes.items node))
+        (λ os. (len.new ≡ length os) × (length out.old < len.new)) }
+    ensures argument { result ≡ ARGUMENT → octets_of list.now.list (slice_get list.now.list.nodes.items node) ≡ None }
+    ensures kept { (result ≡ OK → ⊥) → out.new ≡ out.old }
+{
+    match list.octets_of(node) {
+        Some(octets) => lay_out(octets, out, len),
+        None => ARGUMENT,
+    }
+}
+
+/// Copies the elements of an array or a pipe that are numbers, an octet each.
+#[unsafe(no_mangle)]
+pub extern "C" fn dceidl_node_bytes(
+    alloc: Global,
+    nodes: &mut Handle,
+    node: usize,
+    out: &mut [u8],
+    len: &mut usize,
+) -> u32
+    ensures known { result ≤ ABSENT }
+    ensures same { nodes.new.value ≡ nodes.old.value }
+    ensures copied { result ≡ OK → IsSomeAnd (nodes_in nodes.old.value)
+        (λ n. IsSomeAnd (numbers_of n.list (slice_get n.list.nodes.items node)) (λ zs. take len.new out.new ≡ map low_octet zs)) }
+    ensures short { result ≡ SHORT → IsSomeAnd (nodes_in nodes.old.value)
+        (λ n. IsSomeAnd (numbers_of n.list (slice_get n.list.nodes.items node)) (λ zs. (len.new ≡ length zs) × (length out.old < len.new))) }
+    ensures argument { result ≡ ARGUMENT → IsSomeAnd (nodes_in nodes.old.value)
+        (λ n. numbers_of n.list (slice_get n.list.nodes.items node) ≡ None) }
+    ensures empty { result ≡ EMPTY → nodes_in nodes.old.value ≡ None }
+    ensures kept { (result ≡ OK → ⊥) → out.new ≡ out.old }
+{
+    let Some(held) = nodes.take(alloc) else {
+        return EMPTY;
+    };
+    let status = match &*held {
+        Held::Nodes(list) => copy_bytes(list, node, out, len),
+        _ => EMPTY,
+    };
+    nodes.put(alloc, held);
+    status
+}
+
+// Copies the elements of a node that are numbers, an octet each.
+fn copy_bytes(list: &Nodes, node: usize, out: &mut [u8], len: &mut usize) -> u32
+    ensures known { result ≤ ABSENT }
+    ensures not_empty { result ≡ EMPTY → ⊥ }
+    ensures copied { result ≡ OK → IsSomeAnd (numbers_of list.now.list (slice_get list.now.list.nodes.items node))
+        (λ zs. take len.new out.new ≡ map low_octet zs) }
+    ensures short { result ≡ SHORT → IsSomeAnd (numbers_of list.now.list (slice_get list.now.list.nodes.items node))
+        (λ zs. (len.new ≡ length zs) × (length out.old < len.new)) }
+    ensures argument { result ≡ ARGUMENT → numbers_of list.now.list (slice_get list.now.list.nodes.items node) ≡ None }
+    ensures kept { (result ≡ OK → ⊥) → out.new ≡ out.old }
+{
+    match list.numbers_of(node) {
+        Some(numbers) => lay_out_bytes(numbers, out, len),
+        None => ARGUMENT,
+    }
+}
+
+// Lays out numbers at the front of a buffer, an octet each, if it has room for them, and says how many they are.
+fn lay_out_bytes(numbers: &[u64], out: &mut [u8], len: &mut usize) -> u32
+    ensures known { result ≤ ABSENT }
+    ensures not_empty { result ≡ EMPTY → ⊥ }
+    ensures not_argument { result ≡ ARGUMENT → ⊥ }
+    ensures len { len.new ≡ length numbers.now }
+    ensures done { result ≡ OK → take len.new out.new ≡ map low_octet numbers.now }
+    ensures short { result ≡ SHORT → length out.old < len.new }
+    ensures kept { (result ≡ OK → ⊥) → out.new ≡ out.old }
+{
+    *len = numbers.len();
+    if numbers.len() > out.len() {
+        return SHORT;
+    }
+    for at in 0..numbers.len() {
+        put_octet(out, at, numbers[at]);
+    }
+    OK
+}
+
+// Writes the low octet of a number at a place.
+fn put_octet(out: &mut [u8], at: usize, number: u64)
+    requires { at < length out.old }
+    ensures front { take (at + 1) out.new ≡ take at out.old ++ low_octet number ∷ [] }
+    ensures wide { length out.new ≡ length out.old }
+{
+    out[at] = (number % 256) as u8;
+}

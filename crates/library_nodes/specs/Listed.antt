@@ -1,0 +1,37 @@
+-- The nodes of all values of a graph.
+-- `g` is a graph, `n` are the nodes, `l` is a list of nodes, `ss` are numbers of nodes, `ts` trees, `i` is the index of a root, `c` a cell's number.
+use Rattle.std.specs.Prelude.{◌≡◌, ℕ, suc, zero, ◌+◌, List, [], ◌∷◌, ◌++◌, length, map, Option, None, if◌then◌else◌, nat_lt}
+use Rattle.std.specs.List.{slice_get}
+use Rattle.nd_value.specs.declared.value.Graph.{Graph}
+use Rattle.nd_value.specs.Tree.{Tree}
+use Rattle.library_nodes.specs.declared.nodes.NodeList.{NodeList}
+use Rattle.library_nodes.specs.declared.nodes.Nodes.{Nodes}
+use Rattle.library_nodes.specs.Said.{SaysFirst}
+
+-- the values of all roots and then of all cells
+abbrev pub home_trees : Graph → List Tree
+home_trees g = g.roots ++ map (λ c. c.val) g.cells
+
+-- each of these numbers and the tree of its place are related
+abbrev pub ArePaired : (ℕ → Tree → Type 0) → List ℕ → List Tree → Type 0
+ArePaired R [] [] = Unit {0}
+ArePaired R (s ∷ ss) (t ∷ ts) = R s t × ArePaired R ss ts
+ArePaired R _ _ = ⊥
+
+-- the nodes from one on say a value
+abbrev pub Begins : NodeList → ℕ → Tree → Type 0
+Begins l s t = SaysFirst l.numbers.items l.octets l.nodes.items s t
+
+-- These are the nodes of the graph.
+pub record IsListOf (g : Graph) (n : Nodes) : Type 0 where
+  pub roots : n.roots ≡ length g.roots
+  pub homes : ArePaired (Begins n.list) n.starts.items (home_trees g)
+
+-- the number of the first node of a root
+abbrev pub root_start : Nodes → ℕ → Option ℕ
+root_start n i = if nat_lt i n.roots then slice_get n.starts.items i else None
+
+-- the number of the first node of a cell
+abbrev pub cell_start : Nodes → ℕ → Option ℕ
+cell_start n zero = None
+cell_start n (suc c) = slice_get n.starts.items (n.roots + c)
