@@ -4,7 +4,8 @@ ghost use Rattle.nd_types.specs.Layout.{type_list};
 ghost use Rattle.nd_types.specs.Table.{type_at, selected as selected_arm};
 ghost use Rattle.nd_value.specs.Nodes.{selected_types};
 ghost use Rattle.nd_value.specs.Seen.{cell_number};
-ghost use Rattle.library_building.specs.Said.{has_form, has_parts, has_numbers, is_pointer, is_context, meant, signed, is_wide, is_numeral, cell_numbered};
+ghost use Rattle.library_building.specs.Said.{has_form, has_parts, has_numbers, is_pointer, is_context};
+ghost use Rattle.library_building.specs.Said.{meant, signed, is_wide, is_numeral, cell_numbered};
 
 use library_nodes::Description;
 use nd_types::{Arm, Arms, Prim, TypeDef, TypeId, Types};
