@@ -381,14 +381,14 @@ typedef struct {
     size_t cell_count;
 } dceidl_listing;
 
-/* The values of a side of an operation that a listing says; it is read during the call only. A response is judged beside no request.
+/* The values of a side of an operation that a listing says; it is read during the call only. A response is not checked against its request.
    WRONG_NODE: `node` is the number of the first node that is wrong: with those before it, no listing of that side begins so. It is node_count where nodes are
    missing, or numbers or octets are left. REFUSED: the fault has the path of the first value that does not conform. EMPTY; ARGUMENT: operation or side, or
    more than 1,073,741,824 nodes, numbers or cells; MEMORY. */
 uint32_t dceidl_build(dceidl_interface *interface, uint32_t operation, uint32_t side, const dceidl_listing *listing, dceidl_values *values, size_t *node,
                       dceidl_fault *fault);
 
-/* The same of the response to a request, judged beside it. WRONG_NODE; REFUSED; EMPTY; ARGUMENT: the values are not of a request, or more nodes, numbers or
+/* The same of the response to a request, checked against it. WRONG_NODE; REFUSED; EMPTY; ARGUMENT: the values are not of a request, or more nodes, numbers or
    cells; MEMORY. */
 uint32_t dceidl_build_response(dceidl_values *request, const dceidl_listing *listing, dceidl_values *values, size_t *node, dceidl_fault *fault);
 
