@@ -259,7 +259,7 @@ fn notes_room(number: u32) -> u32 {
 }
 
 // What comes of a command of which the call of a number fails, from 0, or None where the run makes no such call.
-fn failed(command: &Command, kind: Kind, number: u32) -> Option<Wanted> {
+fn wanted_of(command: &Command, kind: Kind, number: u32) -> Option<Wanted> {
     match kind {
         Kind::Load => unloaded(command, number, 9, b"file fault: "),
         Kind::Absence => unloaded(command, number, 7, b"absent: "),
@@ -323,7 +323,7 @@ fn failing(command: &Command, kind: Kind, number: u32) -> Failing {
 // The number of the first call whose failure does not come to what it has to, if there is one.
 fn first_wrong(alloc: Global, command: &Command, kind: Kind) -> Result<Option<u32>, Memory> {
     for number in 0..MOST {
-        let wanted = failed(command, kind, number);
+        let wanted = wanted_of(command, kind, number);
         let is_made = wanted.is_some();
         let wanted = wanted.unwrap_or(done(command));
         if !holds(alloc, command, &failing(command, kind, number), &wanted)? {
