@@ -1,17 +1,47 @@
--- Graphs that are made by hand have few cells and few nodes.
-use Rattle.std.proofs.Common.{◌≡◌, ◌<◌, ◌^◌, length, sym, subst, lit<}
+-- The graphs of the rows are small.
+use Rattle.std.proofs.Common.{◌≡◌, ℕ, [], ◌∷◌, sym, subst, lit<}
 use Rattle.nd_value.specs.declared.value.Graph.{Graph}
-use Rattle.nd_value.specs.Conforms.{HasFewNodes}
-use Rattle.test_graph.specs.Graphs.{ring_and_leaf, ring_swapped}
+use Rattle.test_graph.specs.Graphs as rows
+use Rattle.test_graph.specs.Graphs.{graph, pointer_to, IsSmall}
 
-pub swapped_cells : (g : Graph) → g ≡ ring_swapped → length g.cells < 2 ^ 32
-swapped_cells g e = subst (λ (g : Graph). length g.cells < 2 ^ 32) (sym e) (lit< tt)
+pub null_small : (g : Graph) → g ≡ graph (rows.null ∷ []) [] → IsSmall g
+null_small g e = subst IsSmall (sym e) (record { few_cells = lit< tt; few_nodes = (lit< tt, tt) })
 
-pub swapped_nodes : (g : Graph) → g ≡ ring_swapped → HasFewNodes g
-swapped_nodes g e = subst HasFewNodes (sym e) (lit< tt, (lit< tt, (lit< tt, tt)))
+pub without_cells_small : (g : Graph) → g ≡ graph (pointer_to 1 ∷ []) [] → IsSmall g
+without_cells_small g e = subst IsSmall (sym e) (record { few_cells = lit< tt; few_nodes = (lit< tt, tt) })
 
-pub unreached_cells : (g : Graph) → g ≡ ring_and_leaf → length g.cells < 2 ^ 32
-unreached_cells g e = subst (λ (g : Graph). length g.cells < 2 ^ 32) (sym e) (lit< tt)
+pub ring_of_one_small : (g : Graph) → g ≡ rows.ring_of_one → IsSmall g
+ring_of_one_small g e = subst IsSmall (sym e) (record { few_cells = lit< tt; few_nodes = (lit< tt, (lit< tt, tt)) })
 
-pub unreached_nodes : (g : Graph) → g ≡ ring_and_leaf → HasFewNodes g
-unreached_nodes g e = subst HasFewNodes (sym e) (lit< tt, (lit< tt, (lit< tt, tt)))
+pub ring_of_two_small : (g : Graph) → g ≡ rows.ring_of_two → IsSmall g
+ring_of_two_small g e = subst IsSmall (sym e) (record { few_cells = lit< tt; few_nodes = (lit< tt, (lit< tt, (lit< tt, tt))) })
+
+pub ring_swapped_small : (g : Graph) → g ≡ rows.ring_swapped → IsSmall g
+ring_swapped_small g e = subst IsSmall (sym e) (record { few_cells = lit< tt; few_nodes = (lit< tt, (lit< tt, (lit< tt, tt))) })
+
+pub ring_and_leaf_small : (g : Graph) → g ≡ rows.ring_and_leaf → IsSmall g
+ring_and_leaf_small g e = subst IsSmall (sym e) (record { few_cells = lit< tt; few_nodes = (lit< tt, (lit< tt, (lit< tt, tt))) })
+
+pub apart_small : (g : Graph) → g ≡ rows.apart → IsSmall g
+apart_small g e = subst IsSmall (sym e) (record { few_cells = lit< tt; few_nodes = (lit< tt, (lit< tt, (lit< tt, (lit< tt, tt)))) })
+
+pub shared_small : (g : Graph) → g ≡ rows.shared → IsSmall g
+shared_small g e = subst IsSmall (sym e) (record { few_cells = lit< tt; few_nodes = (lit< tt, (lit< tt, (lit< tt, tt))) })
+
+pub miscounted_small : (g : Graph) → g ≡ rows.miscounted → IsSmall g
+miscounted_small g e = subst IsSmall (sym e) (record { few_cells = lit< tt; few_nodes = (lit< tt, (lit< tt, tt)) })
+
+pub zero_within_small : (g : Graph) → g ≡ rows.zero_within → IsSmall g
+zero_within_small g e = subst IsSmall (sym e) (record { few_cells = lit< tt; few_nodes = (lit< tt, (lit< tt, tt)) })
+
+pub two_back_small : (g : Graph) → g ≡ rows.two_back → IsSmall g
+two_back_small g e = subst IsSmall (sym e) (record { few_cells = lit< tt; few_nodes = (lit< tt, tt) })
+
+pub one_back_small : (n : ℕ) (g : Graph) → g ≡ rows.one_back n → IsSmall g
+one_back_small n g e = subst IsSmall (sym e) (record { few_cells = lit< tt; few_nodes = (lit< tt, (lit< tt, (lit< tt, tt))) })
+
+pub asked_small : (n : ℕ) (g : Graph) → g ≡ rows.asked n → IsSmall g
+asked_small n g e = subst IsSmall (sym e) (record { few_cells = lit< tt; few_nodes = (lit< tt, tt) })
+
+pub asked_by_pointer_small : (n : ℕ) (g : Graph) → g ≡ rows.asked_by_pointer n → IsSmall g
+asked_by_pointer_small n g e = subst IsSmall (sym e) (record { few_cells = lit< tt; few_nodes = (lit< tt, (lit< tt, tt)) })

@@ -4,12 +4,8 @@
 #[cfg(test)]
 mod builder;
 #[cfg(test)]
-mod handmade;
+mod graphs;
 #[cfg(test)]
 mod interface;
 #[cfg(test)]
-mod rows;
-#[cfg(test)]
 mod tests;
-#[cfg(test)]
-mod types;
