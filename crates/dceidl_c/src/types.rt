@@ -43,7 +43,7 @@ pub extern "C" fn dceidl_root_named(
 }
 
 // The number of a root, and its type.
-#[tactic(auto, using(crate::proofs::Numbered::no_side, crate::proofs::Numbered::no_operation, crate::proofs::Named::root_is, crate::proofs::Named::no_root))]
+#[tactic(auto, using(crate::proofs::Numbered::no_side, crate::proofs::Numbered::no_operation, crate::proofs::Named::no_root))]
 fn find_root(
     compiled: &Compiled,
     operation: u32,
