@@ -45,13 +45,6 @@ have_rest s r old new xs e n h =
     subst (λ (u : Numbering). HaveNumbers u.numbers u.cells (cells_in new)) (sym n)
     (have_after xs (cells_in new) s (subst (HaveNumbers s.numbers s.cells) e h))
 
--- the node that comes first names the first cell, if it names one
-pub names_first : (old new : Trees) (l : Label) (k : ℕ) → flat old ≡ (l, k) ∷ flat new → cells_in old ≡ target (cell_in l) ++ cells_in new
-names_first old new l k e = ap (flat_map (λ (f : Flat). target (cell_in f.0))) e
-
-pub one_less : (old new : Trees) (f : Flat) → flat old ≡ f ∷ flat new → length (flat new) < length (flat old)
-one_less old new f e = let m : length (flat old) ≡ suc (length (flat new)) = ap (λ (fs : List Flat). length fs) e in omega (arith, m)
-
 -- ## Homes that become due
 
 pub last_first : {A : Type 0} (xs : List A) (x : A) → reverse (xs ++ x ∷ []) ≡ x ∷ reverse xs

@@ -1,7 +1,6 @@
 // The order in which the cells of a graph are named.
-ghost use Rattle.std.specs.Prelude.{◌≡◌, ◌+◌, ◌-◌, ◌<◌, ◌^◌, ◌++◌, [], false, length, replicate, reverse, OnOk, IfOk, IfSome, IfNone};
+ghost use Rattle.std.specs.Prelude.{◌≡◌, ◌+◌, ◌-◌, ◌<◌, ◌^◌, ◌++◌, [], false, length, replicate, reverse, OnOk, IfOk};
 ghost use Rattle.nd_value.specs.Seen.{cell_number};
-ghost use Rattle.nd_value.specs.Tree.{flat};
 ghost use Rattle.nd_value.specs.Canon.{target};
 ghost use Rattle.nd_value.specs.Names.{HasNames, cells_in, named_by};
 ghost use Rattle.nd_flat.specs.Building.{HasHome, home_tree};
@@ -140,30 +139,10 @@ fn name_plain(walk: &mut PlainWalk<'_>, order: &mut Order, met: &mut Vec<u32>) -
         ≡ name (cells_in walk.old) (numbering order.old.numbers.items order.old.cells.items)) }
     ensures met { OnOk result (met.new.items ++ cells_in walk.new ≡ met.old.items ++ cells_in walk.old) }
 {
-    while let Some(cell) = next_plain(walk) {
+    while let Some(cell) = walk.next_cell() {
         name_one(cell, order, met)?;
     }
     Ok(())
-}
-
-// The cell that the next node names, where it is a struct, a number or a pointer that is kept by itself, and `Some(None)` where it
-// names none. None says nothing of what comes next.
-#[inline]
-fn next_plain(walk: &mut PlainWalk<'_>) -> Option<Option<CellId>>
-    ensures some { IfSome result (λ c. cells_in walk.old ≡ target (cell_number c) ++ cells_in walk.new) }
-    ensures less { IfSome result (λ c. length (flat walk.new) < length (flat walk.old)) }
-    ensures none { IfNone result (cells_in walk.new ≡ cells_in walk.old) }
-{
-    if let Some(cell) = walk.pointer() {
-        return Some(cell);
-    }
-    if let Some(_members) = walk.members() {
-        return Some(None);
-    }
-    if let Some(_number) = walk.number() {
-        return Some(None);
-    }
-    None
 }
 
 // The cells that a walk meets are named in order, and listed.

@@ -17,10 +17,3 @@ marks_first ms old new xs e h = all_front (λ c. c < length ms) xs (cells_in new
 
 pub marks_rest : (ms ms' : List Bool) (old new : Trees) (xs : List ℕ) → cells_in old ≡ xs ++ cells_in new → length ms' ≡ length ms → HaveMarks ms (cells_in old) → HaveMarks ms' (cells_in new)
 marks_rest ms ms' old new xs e l h = have_on (cells_in new) ms ms' l (all_back (λ c. c < length ms) xs (cells_in new) (subst (HaveMarks ms) e h))
-
--- the node that comes first names the first cell, if it names one
-pub names_first : (old new : Trees) (l : Label) (k : ℕ) → flat old ≡ (l, k) ∷ flat new → cells_in old ≡ target (cell_in l) ++ cells_in new
-names_first old new l k e = ap (flat_map (λ (f : Flat). target (cell_in f.0))) e
-
-pub one_less : (old new : Trees) (f : Flat) → flat old ≡ f ∷ flat new → length (flat new) < length (flat old)
-one_less old new f e = let m : length (flat old) ≡ suc (length (flat new)) = ap (λ (fs : List Flat). length fs) e in omega (arith, m)

@@ -1,9 +1,8 @@
 // Which cells are reached: the third pass of a fit.
 ghost use Rattle.std.specs.Prelude.{◌≡◌, ◌+◌, ◌<◌, ◌≤◌, ◌^◌, ◌++◌, true, false, length, replicate, get_or, suc};
-ghost use Rattle.std.specs.Prelude.{Option, OnOk, IfOk, IfSome, IfNone, MatchOption};
+ghost use Rattle.std.specs.Prelude.{Option, OnOk, IfOk, MatchOption};
 ghost use Rattle.nd_value.specs.Seen.{cell_number};
 ghost use Rattle.nd_value.specs.Canon.{target};
-ghost use Rattle.nd_value.specs.Tree.{flat};
 ghost use Rattle.nd_value.specs.Names.{cells_in, named_by, HasNames};
 ghost use Rattle.nd_flat.specs.Building.{HasHome, home_tree};
 ghost use Rattle.nd_fit.specs.Reach.{searched, note, note_roots, HaveMarks, Searching, TellsMark, TellsReach};
@@ -103,30 +102,10 @@ fn note_plain(
     ensures left { OnOk result (note (cells_in walk.new) (searched marks.new.items queue.new.items)
         ≡ note (cells_in walk.old) (searched marks.old.items queue.old.items)) }
 {
-    while let Some(cell) = next_plain(walk) {
+    while let Some(cell) = walk.next_cell() {
         note_one(cell, marks, queue)?;
     }
     Ok(())
-}
-
-// The cell that the next node names, where it is a struct, a number or a pointer that is kept by itself, and `Some(None)` where it
-// names none. None says nothing of what comes next.
-#[inline]
-fn next_plain(walk: &mut PlainWalk<'_>) -> Option<Option<CellId>>
-    ensures some { IfSome result (λ c. cells_in walk.old ≡ target (cell_number c) ++ cells_in walk.new) }
-    ensures less { IfSome result (λ c. length (flat walk.new) < length (flat walk.old)) }
-    ensures none { IfNone result (cells_in walk.new ≡ cells_in walk.old) }
-{
-    if let Some(cell) = walk.pointer() {
-        return Some(cell);
-    }
-    if let Some(_members) = walk.members() {
-        return Some(None);
-    }
-    if let Some(_number) = walk.number() {
-        return Some(None);
-    }
-    None
 }
 
 // Marks the cells that a walk meets.

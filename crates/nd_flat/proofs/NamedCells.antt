@@ -3,7 +3,7 @@
 use Rattle.std.proofs.Common.{◌≡◌, ◌+◌, ◌<◌, ◌≤◌, zero, suc, ℕ, ℤ, drop, append_assoc, List, [], ◌∷◌, ◌++◌, length, flat_map, Option, Some, None, ap, sym, ◌∙◌, refl, arith, length-append}
 use Rattle.std.specs.Prelude.{IfSome, IfNone}
 use Rattle.nd_value.specs.declared.value.CellId.{CellId}
-use Rattle.nd_value.specs.Tree.{Trees, none, Flat, flat, cell_in}
+use Rattle.nd_value.specs.Tree.{Trees, none, Label, Flat, flat, cell_in}
 use Rattle.nd_value.specs.Seen.{cell_number}
 use Rattle.nd_value.specs.Canon.{target}
 use Rattle.nd_value.specs.Names.{cells_in}
@@ -72,3 +72,10 @@ cell_less old mid new f l e = let n : length (flat mid) ≡ suc (length (flat ne
 
 pub no_cell_left : (old mid : Trees) → cells_in old ≡ cells_in mid → mid ≡ none → cells_in old ≡ []
 no_cell_left old mid e n = e ∙ ap cells_in n
+
+-- a node was taken that is kept by itself
+pub names_first : (old new : Trees) (l : Label) (k : ℕ) → flat old ≡ (l, k) ∷ flat new → cells_in old ≡ target (cell_in l) ++ cells_in new
+names_first old new l k e = ap (flat_map (λ (f : Flat). target (cell_in f.0))) e
+
+pub one_less : (old new : Trees) (f : Flat) → flat old ≡ f ∷ flat new → length (flat new) < length (flat old)
+one_less old new f e = let m : length (flat old) ≡ suc (length (flat new)) = ap (λ (fs : List Flat). length fs) e in omega (arith, m)

@@ -1,8 +1,10 @@
 // Walks over nodes that are kept one by one.
-ghost use Rattle.std.specs.Prelude.{◌≡◌, ℕ, List, [], ◌∷◌, IfSome, IfNone};
+ghost use Rattle.std.specs.Prelude.{◌≡◌, ◌<◌, ◌++◌, ℕ, List, [], ◌∷◌, length, IfSome, IfNone};
 ghost use Rattle.nd_value.specs.Tree as tree;
 ghost use Rattle.nd_value.specs.Tree.{flat, unflat};
 ghost use Rattle.nd_value.specs.Seen.{cell_number};
+ghost use Rattle.nd_value.specs.Canon.{target};
+ghost use Rattle.nd_value.specs.Names.{cells_in};
 ghost use Rattle.nd_flat.specs.FlatForm.{seen_nodes, left_flats, num_flat, no_row, WalkParts};
 ghost use Rattle.nd_flat.specs.Records.{no_records};
 
@@ -80,6 +82,26 @@ impl<'a> PlainWalk<'a> {
         let pointer = pointer_in(first)?;
         self.nodes = rest;
         Some(pointer)
+    }
+
+    /// The cell that the next node names, and `Some(None)` where that node names none, if a struct, a number or a pointer comes next as a node of its
+    /// own. None says nothing of what comes next, and the walk has not moved. Takes no memory.
+    #[inline]
+    pub fn next_cell(&mut self) -> Option<Option<CellId>>
+        ensures some { IfSome result (λ c. cells_in self.old ≡ target (cell_number c) ++ cells_in self.new) }
+        ensures less { IfSome result (λ c. length (flat self.new) < length (flat self.old)) }
+        ensures none { IfNone result (self.new ≡ self.old) }
+    {
+        if let Some(cell) = self.pointer() {
+            return Some(cell);
+        }
+        if let Some(_members) = self.members() {
+            return Some(None);
+        }
+        if let Some(_number) = self.number() {
+            return Some(None);
+        }
+        None
     }
 
     /// A walk over what is left. Takes no memory.

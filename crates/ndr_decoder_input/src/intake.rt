@@ -12,6 +12,9 @@ use std::alloc::Global;
 use std::marker::Model;
 use thiserror::Error;
 
+// For how many octets a new intake has room.
+const FIRST_ROOM: usize = 64;
+
 /// Why octets that are wanted are not there.
 #[derive(Clone, Copy, Debug, PartialEq, Eq, Error)]
 pub enum IntakeFault {
@@ -30,7 +33,8 @@ pub enum IntakeFault {
 }
 
 /// The octets of the gap or primitive that is due, fetched from a source. Contracts see those that it holds: after any call exactly those that
-/// the call fetched. It keeps a buffer, with room for as many octets as it ever held and a piece; a claimed count alone takes no memory.
+/// the call fetched. It keeps a buffer, which has room for a piece more than it ever held at most: a claimed count alone takes no more memory than
+/// that, and a short stream takes little.
 #[derive(Drop)]
 pub struct Intake {
     buffer: Vec<u8>,
@@ -40,21 +44,20 @@ pub struct Intake {
 
 impl Model for Intake {
     ghost use Rattle.std.specs.Prelude.{List, ℕ, ◌≤◌, length, take};
-    ghost use Rattle.ndr_decoder_input.specs.declared.TheConstants.{PIECE};
 
     ghost Value = { List ℕ };
 
     ghost view = { λ i. take i.len i.buffer.items };
 
-    ghost invariant = { λ i. (i.len ≤ length i.buffer.items) × (PIECE ≤ length i.buffer.items) };
+    ghost invariant = { λ i. i.len ≤ length i.buffer.items };
 }
 
 impl Intake {
-    /// An intake that holds nothing. It takes memory for one piece.
+    /// An intake that holds nothing. It takes memory for a few primitives.
     pub fn new(alloc: Global) -> Result<Intake, Memory>
         ensures { IfOk result (λ i. i ≡ []) }
     {
-        let buffer = vec![in alloc; 0u8; PIECE as usize]?;
+        let buffer = vec![in alloc; 0u8; FIRST_ROOM]?;
         Ok(Intake { buffer, len: 0 })
     }
 
@@ -109,7 +112,8 @@ impl Intake {
     }
 
     /// Fetches so many octets, a piece at most, if the source has them at hand, and says whether it did. Else nothing is taken. What was held before
-    /// is gone; if the octets came, they are held. Takes no memory.
+    /// is gone; if the octets came, they are held. It takes memory for the octets where there is no room for them yet; where that is refused, it is as
+    /// if they were not at hand.
     #[inline(always)]
     pub fn at_hand<S: Source>(&mut self, source: &mut S, count: u32) -> bool
         requires small { count ≤ PIECE }
@@ -120,6 +124,9 @@ impl Intake {
         ensures faults { S.Source.faults source.new ≡ S.Source.faults source.old }
     {
         self.len = 0;
+        if make_room(&mut self.buffer, 0, count as usize).is_err() {
+            return false;
+        }
         if !fill_front(source, &mut self.buffer, count as usize) {
             return false;
         }

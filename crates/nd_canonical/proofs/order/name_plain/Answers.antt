@@ -6,7 +6,7 @@ use Rattle.nd_canonical.proofs.order.name_plain.Goals as goal
 
 pub name_one-requires : goal.name_one-requires
 name_one-requires c =
-    have_first c.loop-cell.order.numbers.items c.loop-cell.order.cells.items c.loop-cell.walk c.next_plain.new.walk (target (cell_number c.in-Some.cell))
+    have_first c.loop-cell.order.numbers.items c.loop-cell.order.cells.items c.loop-cell.walk c.next_cell.new.self (target (cell_number c.in-Some.cell))
     c.in-Some.ensures.some c.loop-cell.invariant.have
 
 pub loop-cell-preserved : goal.loop-cell-preserved
@@ -15,7 +15,7 @@ loop-cell-preserved c =
     let r : Numbering = numbering c.name_one.new.order.numbers.items c.name_one.new.order.cells.items in
     let xs = target (cell_number c.in-Some.cell) in
     record {
-      have = have_rest s r c.loop-cell.walk c.next_plain.new.walk xs c.in-Some.ensures.some c.in_ok-name_one.ensures.order c.loop-cell.invariant.have;
-      order = name_on c.loop-cell.walk c.next_plain.new.walk xs s r _ c.in-Some.ensures.some c.in_ok-name_one.ensures.order c.loop-cell.invariant.order;
-      met = met_on c.loop-cell.walk c.next_plain.new.walk xs c.loop-cell.met.items c.name_one.new.met.items _ c.in-Some.ensures.some c.in_ok-name_one.ensures.met c.loop-cell.invariant.met;
+      have = have_rest s r c.loop-cell.walk c.next_cell.new.self xs c.in-Some.ensures.some c.in_ok-name_one.ensures.order c.loop-cell.invariant.have;
+      order = name_on c.loop-cell.walk c.next_cell.new.self xs s r _ c.in-Some.ensures.some c.in_ok-name_one.ensures.order c.loop-cell.invariant.order;
+      met = met_on c.loop-cell.walk c.next_cell.new.self xs c.loop-cell.met.items c.name_one.new.met.items _ c.in-Some.ensures.some c.in_ok-name_one.ensures.met c.loop-cell.invariant.met;
     }
