@@ -5,6 +5,7 @@ mod PieceNodes
 pub mod ElementsTaken
 mod FirstZeros
 pub mod Going
+pub mod Alone
 mod TextSteps
 pub mod StringSteps
 mod StructSteps
