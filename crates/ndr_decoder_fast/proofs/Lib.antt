@@ -5,7 +5,7 @@ mod PieceNodes
 pub mod ElementsTaken
 mod FirstZeros
 pub mod Going
-pub mod Alone
+pub mod OneStep
 mod TextSteps
 pub mod StringSteps
 mod StructSteps

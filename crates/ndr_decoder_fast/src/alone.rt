@@ -153,7 +153,13 @@ fn take_pointer<S: Source, L: Ledger>(
     if !at_hand(source, &mut octets) {
         return Ok(false);
     }
-    take_form(machine, order, Form::Pointer { class, to, run }, &octets, steps)?;
+    take_form(
+        machine,
+        order,
+        Form::Pointer { class, to, run },
+        &octets,
+        steps,
+    )?;
     machine.own = Some(First::Pointer);
     steps.tick();
     machine.pass(4);

@@ -20,11 +20,12 @@ use ndr_decoder_input::Intake;
 use ndr_decoder_laws::Frame;
 use ndr_decoder_state::Machine;
 
-/// Takes the steps of a struct of numbers and pointers, of such structs that are elements of an array, or of a string in one go, or the step of a
-/// gap, a number or a pointer, if the source has their octets at hand, and says whether it did. A struct with pointers has 64 octets at most and no full pointer among its members, a string 256
-/// octets with its terminator. Else nothing is done. It notes nothing, so it is for a log that keeps nothing; each item but a gap, and each cell that
-/// gets its number, is counted. At `Bad` steps were taken, and the octets of the next are refused; they were taken too. It takes memory for what is
-/// read; after a fault nothing is known of the machine.
+/// Takes the steps of a struct of numbers and pointers, of such structs that are elements of an array, or of a string in one go, or the one step of a
+/// gap, a number or a pointer, if the source has their octets at hand, and says whether it did. A struct with pointers has 64 octets at most and no
+/// full pointer among its members, a string 256 octets with its terminator; a number that is by itself is no element of an array, a pointer the value
+/// of a home and not full. Else nothing is done. It notes nothing, so it is for a log that keeps nothing; each item but a gap, and each cell that gets
+/// its number, is counted. At `Bad` steps were taken, and the octets of the next are refused; they were taken too. It takes memory for what is read;
+/// after a fault nothing is known of the machine.
 #[inline(always)]
 pub fn leap<S: Source, L: Ledger>(
     machine: &mut Machine,
