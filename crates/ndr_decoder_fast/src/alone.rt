@@ -108,7 +108,8 @@ fn take_number<S: Source, L: Ledger>(
     ensures outside { OnOk result (outside machine.new ≡ outside machine.old) }
     ensures faults { S.Source.faults source.new ≡ S.Source.faults source.old }
 {
-    if STREAM_LIMIT - machine.at < MOST {
+    let left = STREAM_LIMIT - machine.at;
+    if left < MOST {
         return Ok(false);
     }
     let prim = prim_of(of.0);
@@ -146,7 +147,11 @@ fn take_pointer<S: Source, L: Ledger>(
     ensures outside { OnOk result (outside machine.new ≡ outside machine.old) }
     ensures faults { S.Source.faults source.new ≡ S.Source.faults source.old }
 {
-    if !is_alone(machine, class) || STREAM_LIMIT - machine.at < MOST {
+    if !is_alone(machine, class) {
+        return Ok(false);
+    }
+    let left = STREAM_LIMIT - machine.at;
+    if left < MOST {
         return Ok(false);
     }
     let mut octets = [0; 4];
