@@ -29,6 +29,7 @@ ROOT = Path(__file__).resolve().parent.parent
 MEGABYTE = 1_000_000
 PARAMETERS = 256
 FILE_LIMIT = 1_048_576
+MOST_FILES = 64
 TYPE_LIMIT = 4_096
 BASIC_TYPES = 12
 OPERATION_LIMIT = 1_024
@@ -244,6 +245,22 @@ def many_types(size: int) -> bytes:
         text += part
         number += 1
     return (text + "}\n").ljust(size).encode()
+
+
+def imported_files(bench: Bench, files: int, size: int) -> Path:
+    """A main file of this many octets that imports so many files less one, each of as many octets, whose structs point to those of the files before. They
+    are in a folder of their own; the main file is given."""
+    number = 0
+    paths: List[Path] = []
+    for place in range(files):
+        names = ", ".join(f'"{path}"' for path in paths)
+        imports = f"  import {names};\n" if place == files - 1 else ""
+        text = f"[uuid(11111111-2222-3333-4444-{place:012}), version(1.0)]\ninterface t{place} {{\n{imports}"
+        while len(text) + len(part := small_part(number)) + 2 <= size:
+            text += part
+            number += 1
+        paths.append(bench.write(f"imported.{files}.{place}.idl", (text + "}\n").ljust(size).encode()))
+    return paths[-1]
 
 
 def listed_interface(types: int, operations: int) -> bytes:
@@ -474,6 +491,18 @@ def measure_types(bench: Bench, start: Measured) -> None:
     check_memory(bench, of_large)
 
 
+def measure_imports(bench: Bench, start: Measured) -> None:
+    """As many files as an interface may consist of, and a quarter of them."""
+    runs = []
+    for files in (MOST_FILES // 4, MOST_FILES):
+        file = imported_files(bench, files, FILE_LIMIT // MOST_FILES)
+        check_listing(bench, file)
+        runs.append(Run(f"compile, {files} files of {FILE_LIMIT // MOST_FILES:,} octets", bench.compile(file), file))
+    of_few, of_all = bench.large(runs)
+    nets = [tell(of_few, start), tell(of_all, start)]
+    check_growth(bench, "the files of an interface", *nets, times="four times", most=MOST_TIMES_OF_FOUR)
+
+
 def measure_listing(bench: Bench, nothing: Path, start: Measured) -> None:
     """The listing of as many types and operations as there may be, beyond the same file without its listing, and of a quarter."""
     runs = []
@@ -562,6 +591,7 @@ def measure(bench: Bench, size: int) -> None:
     measure_files(bench, nothing, start)
     measure_language(bench, start)
     measure_types(bench, start)
+    measure_imports(bench, start)
     measure_listing(bench, nothing, start)
     if has_plan(bench, idl, nothing):
         measure_plan(bench, nothing, start)
