@@ -112,8 +112,8 @@ impl Intake {
     }
 
     /// Fetches so many octets, a piece at most, if the source has them at hand, and says whether it did. Else nothing is taken. What was held before
-    /// is gone; if the octets came, they are held. It takes memory for the octets where there is no room for them yet; where that is refused, it is as
-    /// if they were not at hand.
+    /// is gone; if the octets came, they are held. It takes memory for the octets where there is no room for them yet; where that is refused, it is
+    /// as if they were not at hand.
     #[inline(always)]
     pub fn at_hand<S: Source>(&mut self, source: &mut S, count: u32) -> bool
         requires small { count ≤ PIECE }
