@@ -116,11 +116,11 @@ module _ (table : Table) (h : Home) where
       let K : List TypedNode = nodes_of table (child_types d l ks) (child_agreements d ks) (n + 1) ks in
       let R : List TypedNode = nodes_of table types (rest_agreements ags) (n + 1 + node_count ks) ts in
       let its : List Pointer = pointer_by d (is_pointer l) (cell_in l) h n (first_agreements ags) in
-      flat_map-append (λ (m : Entry). pending_by m.kind) own (kids ++ rest) ∙ ap (λ xs. pending_in own ++ xs) (flat_map-append (λ (m : Entry). pending_by m.kind) kids rest)
+      flat_map-append (λ (m : Entry). pending_by m.home m.node m.kind) own (kids ++ rest) ∙ ap (λ xs. pending_in own ++ xs) (flat_map-append (λ (m : Entry). pending_by m.home m.node m.kind) kids rest)
       ∙ ap₂ (λ xs ys. xs ++ ys) (own_waits n t d l ks (first_agreements ags))
       (ap₂ (λ xs ys. xs ++ ys) (plain_waits (child_types d l ks) (child_agreements d ks) (n + 1) ks) (plain_waits types (rest_agreements ags) (n + 1 + node_count ks) ts)
-      ∙ sym (flat_map-append (λ (p : Pointer). pending_of p.to p.cell) (flat_map (pointer table h) K) (flat_map (pointer table h) R)) ∙ ap pending_all (sym (flat_map-append (pointer table h) K R)))
-      ∙ sym (flat_map-append (λ (p : Pointer). pending_of p.to p.cell) its (flat_map (pointer table h) (K ++ R)))
+      ∙ sym (flat_map-append (λ (p : Pointer). pending_of p.home p.node p.class p.to p.cell) (flat_map (pointer table h) K) (flat_map (pointer table h) R)) ∙ ap pending_all (sym (flat_map-append (pointer table h) K R)))
+      ∙ sym (flat_map-append (λ (p : Pointer). pending_of p.home p.node p.class p.to p.cell) its (flat_map (pointer table h) (K ++ R)))
 
   -- ## A home's value
 
@@ -153,6 +153,6 @@ module _ (table : Table) (h : Home) where
   pub home_waits : (t : ℕ) (v : Tree) → pending_in (untested (whole_value table h t v)) ≡ pending_all (home_pointers table h t v)
   home_waits t (node l ks) =
       let front : List Entry = entries h 0 (hoisted (hoists table t) l (hoisted_max 0 (more (node l ks) none))) in
-      ap pending_in (home_parts t l ks) ∙ flat_map-append (λ (m : Entry). pending_by m.kind) (untested front) (plain table h (t ∷ []) 0 (more (node l ks) none))
+      ap pending_in (home_parts t l ks) ∙ flat_map-append (λ (m : Entry). pending_by m.home m.node m.kind) (untested front) (plain table h (t ∷ []) 0 (more (node l ks) none))
       ∙ ap (λ xs. xs ++ pending_in (plain table h (t ∷ []) 0 (more (node l ks) none))) (front_waits (hoists table t) l (hoisted_max 0 (more (node l ks) none)))
       ∙ plain_waits (t ∷ []) [] 0 (more (node l ks) none)

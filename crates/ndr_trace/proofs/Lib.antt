@@ -26,3 +26,5 @@ pub mod WholeWalk
 pub mod Named
 pub mod OwnTests
 pub mod RootAttributes
+pub mod SolePointers
+pub mod ReferentTests

@@ -2,13 +2,16 @@
 -- `w` is a setting, `bad` are octets that are refused, `u` is what the walk was given, `s` what is sought, `q` the text that is shown.
 use Rattle.std.proofs.Common.{◌≡◌, ◌∙◌, ◌<◌, ℕ, ℤ, true, List, [], ◌∷◌, length, Option, Some, None, refl, sym, ap, ap₂, subst}
 use Rattle.std.specs.List.{slice_get}
-use Rattle.std.proofs.lemmas.Option.{same_Some}
+use Rattle.std.proofs.lemmas.Option.{same_Some, slice_get_within}
+use Rattle.nd_lemmas.proofs.Lists.{all_at}
 use Rattle.nd_base.specs.declared.octets.Order.{Order}
 use Rattle.nd_types.specs.declared.types.Attr.{Attr}
 use Rattle.nd_types.specs.declared.types.Attr.TheVariants as attr
+use Rattle.nd_types.specs.declared.types.AttrVar.{AttrVar}
 use Rattle.nd_types.specs.declared.types.Field.{Field}
 use Rattle.nd_types.specs.declared.types.TypeDef.{TypeDef}
 use Rattle.nd_types.specs.declared.types.TypeDef.TheVariants as def
+use Rattle.nd_types.specs.Kinds.{pointee, pointee_by}
 use Rattle.nd_types.specs.Roots.{Root}
 use Rattle.nd_types.specs.Table.{type_at}
 use Rattle.nd_types.specs.Walk.{named_roots}
@@ -18,15 +21,22 @@ use Rattle.nd_value.specs.declared.item.Item.{Item}
 use Rattle.nd_value.specs.declared.item.ItemKind.{ItemKind}
 use Rattle.nd_value.specs.declared.item.ItemKind.TheVariants as kind
 use Rattle.nd_value.specs.declared.value.Graph.{Graph}
-use Rattle.nd_value.specs.Setting.{Setting, root_list}
+use Rattle.nd_value.specs.Deferral.{Pending as Pointer}
+use Rattle.nd_value.specs.Setting.{Among, Setting, cell_home, root_list}
 use Rattle.nd_value.specs.Tree.{more, none}
+use Rattle.nd_value.proofs.Apart.{all_among}
+use Rattle.nd_value.proofs.NodeFacts.{IsSound, sound_partial}
 use Rattle.nd_grammar.specs.declared.reason.Reason.{Reason}
 use Rattle.nd_grammar.specs.Bad.{Bad}
 use Rattle.nd_grammar.specs.Entry.{Test}
 use Rattle.nd_grammar.specs.Items.{items}
 use Rattle.nd_grammar.specs.LegalSide.{IsLegalSide}
 use Rattle.nd_grammar.specs.Tested.{node_of}
-use Rattle.text_grammar.specs.Paths.{home_name, home_types, home_value, node_paths, root_types}
+use Rattle.nd_grammar.proofs.agreements.LegalSubjects.{roots_fit}
+use Rattle.nd_grammar.proofs.agreements.StreamFinds.{RootFits}
+use Rattle.nd_grammar.proofs.agreements.TestsFind.{AttrFits}
+use Rattle.nd_grammar.proofs.next.StreamPointers.{is_good}
+use Rattle.text_grammar.specs.Paths.{cell_types, home_name, home_types, home_value, node_paths, root_types}
 use Rattle.text_grammar.specs.Written.{parameter_name}
 use Rattle.ndr_explain.specs.Explained.{home_paths, path_in}
 use Rattle.ndr_explain.proofs.Walks.{path_here}
@@ -34,17 +44,18 @@ use Rattle.ndr_trace_laws.specs.Untested.{is_test}
 use Rattle.ndr_trace_value.specs.declared.progress.Ground.{Ground}
 use Rattle.ndr_trace_value.specs.declared.progress.Progress.{Progress}
 use Rattle.ndr_trace_value.specs.declared.search.Sought.{Sought}
-use Rattle.ndr_trace_value.specs.Attributes.{IsItemOf, IsKeptName, IsOwnName, home_attribute, spoken}
+use Rattle.ndr_trace_value.specs.Attributes.{IsItemOf, IsKeptName, IsOwnName, IsPointedName, home_attribute, spoken}
 use Rattle.ndr_trace_value.specs.LastMembers.{counted_variable, last_variable, stated_in, struct_of}
-use Rattle.ndr_trace_value.specs.Tracing.{IsAt, Known, kept_variable, sought_variable}
+use Rattle.ndr_trace_value.specs.Tracing.{IsAt, KeptFrom, Known, kept_variable, sought_variable}
 use Rattle.ndr_trace_value.specs.Traces.{IsVariableOf}
-use Rattle.ndr_trace_value.specs.Variable.{IsOfRoot, IsStated, IsVariable, OfMember, is_maximum, numbered_path}
+use Rattle.ndr_trace_value.specs.Variable.{IsAtRoot, IsOfReferent, IsOfRoot, IsStated, IsVariable, OfMember, is_maximum, numbered_path}
 use Rattle.ndr_trace_value.proofs.Ending.{kept_whole, known_of}
 use Rattle.ndr_trace.specs.Sides.{IsSide}
 use Rattle.ndr_trace.proofs.FrontTests.{front_variable, maximum_spoken}
 use Rattle.ndr_trace.proofs.Grounds.{as_test}
 use Rattle.ndr_trace.proofs.LastPaths.{last_variable-legal}
 use Rattle.ndr_trace.proofs.OwnTests.{OwnTest, Says, here_among, own_test}
+use Rattle.ndr_trace.proofs.ReferentTests.{RootSays, referent_test}
 use Rattle.ndr_trace.proofs.RootAttributes.{attribute_found, no_attribute}
 use Rattle.ndr_trace.proofs.Subjects.{maximum_is, tested_item}
 
@@ -120,16 +131,44 @@ module _ (w : Setting) (g : Graph) (legal : IsLegalSide w) where
           let (ms, is_struct) = ends_with_struct of (home_name w (home.Root at)) (λ z. some (front ∙ z)) in
           no_attribute w legal at r there ms (ap (type_at w.table) same ∙ is_struct)
 
+-- an attribute on a maximum count does not speak of a struct
+no_struct_fits : (a : Attr) (ms : List Field) → spoken a ≡ kind.Max → AttrFits a (Some (def.Struct ms)) → ⊥
+no_struct_fits attr.Size ms e f = let z : false ≡ true = f in cc
+no_struct_fits attr.Max ms e f = let z : false ≡ true = f in cc
+no_struct_fits attr.First ms e f = cc
+no_struct_fits attr.Length ms e f = cc
+no_struct_fits attr.Last ms e f = cc
+no_struct_fits attr.Switch ms e f = cc
+
+module _ (w : Setting) (g : Graph) (legal : IsLegalSide w) where
+  -- where a root's attribute speaks of a maximum count, no struct states it
+  none_stated : (at : ℕ) (root : Root) → slice_get (root_list w) at ≡ Some root → (by : AttrVar) → Among root.vars by → spoken by.attr ≡ kind.Max → (t : ℕ)
+      → pointee w.table root.of ≡ t → (path : List ℕ) → last_variable w.table t path ≡ []
+  none_stated at root there by among max t pointed path = go (last_variable w.table t path) refl
+    where
+      fits : AttrFits by.attr (type_at w.table (pointee w.table root.of))
+      fits =
+          all_among (λ (v : AttrVar). AttrFits v.attr (type_at w.table (pointee w.table root.of))) root.vars by among
+          (all_at (RootFits w.table) (root_list w) at root (roots_fit w legal) there)
+
+      go : (xs : List ℕ) → last_variable w.table t path ≡ xs → last_variable w.table t path ≡ []
+      go [] e = e
+      go (x ∷ xs) e =
+          let (ms, is_struct) = ends_with_struct w g legal t path (λ z. (let y : x ∷ xs ≡ [] = sym e ∙ z in absurd (let u : ⊥ = cc in u))) in
+          absurd (no_struct_fits by.attr ms max (subst (AttrFits by.attr) (ap (type_at w.table) pointed ∙ is_struct) fits))
+
 module _ (w : Setting) (order : Order) (fetched : List ℕ) (place : ℕ) (why : Reason) (bad : Bad w order fetched place why) (legal : IsLegalSide w) where
   -- the name that is shown
   pub variable_is : (u : Ground) (s : Sought) → IsSide (known_of w order fetched place why bad (Some s.item)) u → is_test bad.here.entry.kind ≡ true
       → IsAt (items order fetched bad.earlier) s.item place → IsItemOf (items order fetched bad.earlier) s → (p : Progress)
       → p.variable ≡ kept_variable (known_of w order fetched place why bad (Some s.item)) (length (items order fetched bad.earlier))
-      → (q : List ℕ) → IsOwnName u s q → IsKeptName u s p.variable q → IsVariableOf w bad.partial bad.here.entry bad.here.entry.kind q
-  variable_is u s side test (i, there, at) (j, got, of_kind, at_home, node) p ended q name kept =
+      → KeptFrom (known_of w order fetched place why bad (Some s.item)) (length (items order fetched bad.earlier)) p.from
+      → (q : List ℕ) → IsOwnName u s q → IsKeptName u s p.variable q → IsPointedName u s p.from p.variable q
+      → IsVariableOf w bad.partial bad.here.entry bad.here.entry.kind q
+  variable_is u s side test (i, there, at) (j, got, of_kind, at_home, node) p ended from q name kept pointed =
       let (a, wanted, found, is) = as_test bad.here.entry.kind test in
       subst (λ k. IsVariableOf w bad.partial bad.here.entry k q) (sym is)
-      (record { own = by_root a wanted found is; maximum = by_member a wanted found is })
+      (record { own = by_root a wanted found is; referent = by_referent a wanted found is; maximum = by_member a wanted found is })
     where
       g : Graph
       g = bad.partial
@@ -152,6 +191,58 @@ module _ (w : Setting) (order : Order) (fetched : List ℕ) (place : ℕ) (why :
           (sym of_kind ∙ ap (λ (x : Item). x.kind) (sym same) ∙ kind_is)
           (own_test w g bad.entries bad.stream bad.here.entry (here_among 0 bad.entries bad.earlier bad.here bad.later bad.split) a wanted found is at_root own.0 own.1)
           root in_list
+
+      sound : IsSound w g
+      sound = sound_partial w g bad.is_partial
+
+      -- no member states what is sought at the referent of a root
+      none_kept : (a : Attr) (at_root : ℕ) (root : Root) → slice_get (root_list w) at_root ≡ Some root → (by : AttrVar) → Among root.vars by → by.attr ≡ a → (t : ℕ)
+          → pointee w.table root.of ≡ t → (path : List ℕ) → counted_variable w.table (spoken a) (t ∷ []) path ≡ []
+      none_kept attr.Size at_root root in_list by among e t pointed path = none_stated w g legal at_root root in_list by among (ap spoken e) t pointed path
+      none_kept attr.Max at_root root in_list by among e t pointed path = none_stated w g legal at_root root in_list by among (ap spoken e) t pointed path
+      none_kept attr.First at_root root in_list by among e t pointed path = refl
+      none_kept attr.Length at_root root in_list by among e t pointed path = refl
+      none_kept attr.Last at_root root in_list by among e t pointed path = refl
+      none_kept attr.Switch at_root root in_list by among e t pointed path = refl
+
+      by_referent : (a : Attr) (wanted found : ℤ) → bad.here.entry.kind ≡ Test a wanted found → (ptr : Pointer) → IsOfReferent w g bad.here.entry ptr → (at_root : ℕ) (root : Root)
+          → slice_get (root_list w) at_root ≡ Some root → IsAtRoot ptr at_root → IsStated w g root a wanted q
+      by_referent a wanted found is ptr (c, alone, at_cell, own) at_root root in_list in_root =
+          let (kind_is, home_is, node_is) = tested_item w order fetched place why bad legal a wanted found is s.item i there at in
+          let root_says : RootSays w g sound at_root root ptr a wanted =
+          referent_test w g sound ptr c alone at_root root in_list in_root bad.here.entry a wanted found is at_cell bad.entries bad.stream
+          (here_among 0 bad.entries bad.earlier bad.here bad.later bad.split) own in
+          let says : Says w g root.vars a wanted = root_says.says in
+          let setting : w ≡ record { table = u.interface.now.types; op = side.operation; side = u.side; given = side.request } = side.setting in
+          let cell_is : i.home ≡ cell_home c = home_is ∙ at_cell in
+          let its_home : s.home ≡ cell_home c = sym at_home ∙ ap (λ (x : Item). x.home) (sym same) ∙ cell_is in
+          let its_kind : s.kind ≡ spoken a = sym of_kind ∙ ap (λ (x : Item). x.kind) (sym same) ∙ kind_is in
+          let (x, cell_there, cell_of) = (is_good w g sound ptr alone.among).typed c alone.cell in
+          let types : home_types w g (cell_home c) ≡ ptr.to ∷ [] = ap cell_types cell_there ∙ ap (λ t. t ∷ []) cell_of in
+          let pointed_to : pointee w.table root.of ≡ ptr.to = ap (pointee_by root.of) root_says.type_is ∙ sym root_says.to_is in
+          let empty : p.variable ≡ [] =
+          ended ∙ kept_whole k (sought_variable k) s.item i refl there
+          ∙ ap₂ (λ (y : ItemKind) (z : Home). counted_variable w.table y (home_types w g z) (path_in (home_paths w g z) i.node)) kind_is cell_is
+          ∙ ap (λ ts. counted_variable w.table (spoken a) ts (path_in (home_paths w g (cell_home c)) i.node)) types
+          ∙ none_kept a at_root root in_list says.by says.among says.attr_is ptr.to pointed_to (path_in (home_paths w g (cell_home c)) i.node) in
+          let found_by : home_attribute w.op s.kind (named_roots w.table w.side w.op) ptr.home ≡ Some says.by =
+          ap (home_attribute w.op s.kind (named_roots w.table w.side w.op)) in_root.0
+          ∙ attribute_found w legal at_root root in_list says.by says.among s.kind (ap spoken says.attr_is ∙ sym its_kind) in
+          record {
+            by = says.by;
+            among = says.among;
+            attr_is = says.attr_is;
+            value = says.value;
+            value_is = says.value_is;
+            wanted_is = says.wanted_is;
+            name =
+                subst (λ (v : Setting). q ≡ parameter_name (slice_get v.op.params says.by.var)) (sym setting)
+                (pointed side.operation side.there
+                (ap (home_attribute side.operation s.kind (named_roots u.interface.now.types u.side side.operation)) its_home) empty
+                (record { home = ptr.home; node = ptr.node })
+                (from s.item i refl there (slice_get_within (items order fetched bad.earlier) s.item i there) ptr c alone cell_is) in_root.1 says.by
+                (subst (λ (v : Setting). home_attribute v.op s.kind (named_roots v.table v.side v.op) ptr.home ≡ Some says.by) setting found_by));
+          }
 
       -- a maximum count is at its home's own value
       at_front : (a : Attr) (n : ℕ) → is_maximum a ≡ true → node_of a n ≡ 0

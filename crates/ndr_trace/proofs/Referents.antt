@@ -29,11 +29,12 @@ use Rattle.ndr_trace_value.specs.declared.cells.Pending.{Pending}
 use Rattle.ndr_trace_value.specs.declared.nodes.Walker.{Walker}
 use Rattle.ndr_trace.specs.Homes.{HasHome, HasPassed, IsAwaiting, IsDeferring, IsNext, IsPart, home_due, pending_all, step_names}
 use Rattle.ndr_trace_value.specs.Naming.{HasType, IsNaming, Stand, names_in, pending_of, stands_at}
-use Rattle.ndr_trace_value.specs.Tracing.{IsTracing, Known}
+use Rattle.ndr_trace_value.specs.Tracing.{IsFrom, IsTracing, Known}
 use Rattle.ndr_trace.proofs.Deferring.{Inverted, already_entries, due_joined, first_time, inverted, next_pending, nulls_skipped, pending_joined, referent_entries, referent_names}
 use Rattle.ndr_trace.proofs.HomeNames.{home_waits}
 use Rattle.ndr_trace_value.proofs.NamedCells.{same_naming}
 use Rattle.ndr_trace.proofs.PartialHomes.{cell_has_home, typed_cell}
+use Rattle.ndr_trace.proofs.SolePointers.{from_pointer}
 
 nat_or : (m n : ℕ) → (m ≡ n) ⊎ (m ≡ n → ⊥)
 nat_or m n = by (eqb m n) refl
@@ -72,6 +73,7 @@ module _ (k : Known) (due : List Due) (rest : List Entry) (names : Placed_cells)
         among = n.among;
         cell = n.cell;
         to = n.to;
+        from = n.from;
         pointers = n.pointers;
         all_among = n.all_among;
         pending = n.pending;
@@ -172,6 +174,10 @@ module _ (k : Known) (due : List Due) (rest : List Entry) (names : Placed_cells)
 
   -- ## A home that stands now
 
+  -- where the pointer is that names its cell alone
+  pub referent_from : (u : Walker) (next : Pending) → IsPart k → IsNext k u next due rest names → IsFrom k (home.Cell next.cell) next.from
+  referent_from u next s n = subst (IsFrom k (home.Cell next.cell)) (sym n.from) (from_pointer k s n.pointer next.cell.0 n.among n.cell)
+
   -- a home at which a step of deferral is, and what then follows
   pub record Entering (u : Walker) (h : Home) (name : HomeName) (t : ℕ) : Type 0 where
     pub its : HasHome k h name t
@@ -198,7 +204,7 @@ module _ (k : Known) (due : List Due) (rest : List Entry) (names : Placed_cells)
         pending =
             ap reverse (passed.pending ∙ ap (λ xs. u.cells.pending.items ++ reverse xs) (home_waits k.setting.table h t (home_value k.graph h)))
             ∙ pending_joined k.setting k.graph u.cells.pending.items (pending_all ps) its waiting
-            ∙ sym (flat_map-append (λ (p : Pointer). pending_of p.to p.cell) its ps);
+            ∙ sym (flat_map-append (λ (p : Pointer). pending_of p.home p.node p.class p.to p.cell) its ps);
         steps = vs;
         deferring = record {
           deferral = subst (λ ds. Deferral k.setting k.graph done ds vs) (due_joined k.setting k.graph its ps due) d;

@@ -33,7 +33,7 @@ use Rattle.ndr_trace_laws.specs.Untested.{untested}
 use Rattle.ndr_trace_value.specs.declared.cells.Cells.{Cells}
 use Rattle.ndr_trace_value.specs.declared.cells.Pending.{Pending}
 use Rattle.ndr_trace_value.specs.declared.nodes.Walker.{Walker}
-use Rattle.ndr_trace_value.specs.Naming.{IsNaming, Stand, names_in, names_of, pending_in, pending_of}
+use Rattle.ndr_trace_value.specs.Naming.{IsNaming, Stand, names_in, names_of, only_spot, pending_in, pending_of}
 use Rattle.ndr_trace_value.specs.Tracing.{IsTracing, Known}
 
 -- ## A home
@@ -67,7 +67,7 @@ pub record HasPassed (k : Known) (before after : Cells) (due : List Entry) (name
 
 -- the pointers whose cells are to be come to
 abbrev pub pending_all : List Pointer → List Pending
-pending_all ps = flat_map (λ p. pending_of p.to p.cell) ps
+pending_all ps = flat_map (λ p. pending_of p.home p.node p.class p.to p.cell) ps
 
 abbrev pub names_all : List Pointer → Placed_cells
 names_all ps = flat_map (λ p. names_of p.class p.cell) ps
@@ -110,6 +110,7 @@ pub record IsNext (k : Known) (u : Walker) (next : Pending) (due : List Due) (re
   pub among : Among (all_pointers k.setting k.graph) pointer
   pub cell : pointer.cell ≡ Some next.cell.0
   pub to : pointer.to ≡ next.to.0
+  pub from : next.from ≡ only_spot pointer.class pointer.home pointer.node
   pub pointers : List Pointer
   pub all_among : AllByRecursion (Among (all_pointers k.setting k.graph)) pointers
   pub pending : reverse u.cells.pending.items ≡ pending_all pointers

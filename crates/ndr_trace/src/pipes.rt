@@ -93,6 +93,7 @@ fn walk_chunk<'a>(
         name,
         top: Level::Whole { of: root.of },
         below: &below,
+        from: None,
     };
     gap(ground, &mut walker.progress, 4, &spot)?;
     let size = count(ground, &mut walker.progress, &spot)?;
@@ -105,6 +106,6 @@ fn walk_chunk<'a>(
         at: 0,
         size,
     };
-    walk_level(ground, walker, home, name, 0, elements)?;
+    walk_level(ground, walker, home, name, 0, None, elements)?;
     Ok(size)
 }

@@ -16,6 +16,7 @@ use Rattle.nd_value.specs.declared.item.ItemKind.{ItemKind}
 use Rattle.nd_value.specs.declared.item.ItemKind.TheVariants as kind
 use Rattle.nd_value.specs.contracts.item.ItemKind as row
 use Rattle.text_grammar.specs.Written.{parameter_name}
+use Rattle.ndr_trace_value.specs.declared.pointers.PointerSpot.{PointerSpot}
 use Rattle.ndr_trace_value.specs.declared.progress.Ground.{Ground}
 use Rattle.ndr_trace_value.specs.declared.search.Sought.{Sought}
 
@@ -64,6 +65,14 @@ IsOwnName u s q = (o : Operation) → slice_get u.interface.now.operations u.op 
 abbrev pub IsKeptName : Ground → Sought → List ℕ → List ℕ → Type 0
 IsKeptName u s kept q = (o : Operation) → slice_get u.interface.now.operations u.op ≡ Some o
     → home_attribute o s.kind (named_roots u.interface.now.types u.side o) s.home ≡ None → (kept ≡ [] → ⊥) → q ≡ kept
+
+-- The same of the attribute of a parameter that is a pointer, if the walk kept where this pointer is and no path: it names the home of what is sought.
+abbrev pub IsPointedName : Ground → Sought → Option PointerSpot → List ℕ → List ℕ → Type 0
+IsPointedName u s from kept q = (o : Operation) → slice_get u.interface.now.operations u.op ≡ Some o
+    → home_attribute o s.kind (named_roots u.interface.now.types u.side o) s.home ≡ None → kept ≡ []
+    → (f : PointerSpot) → from ≡ Some f → f.node ≡ 0
+    → (by : AttrVar) → home_attribute o s.kind (named_roots u.interface.now.types u.side o) f.home ≡ Some by
+    → q ≡ parameter_name (slice_get o.params by.var)
 
 -- what is sought is an item of the log
 abbrev pub IsItemOf : List Item → Sought → Type 0

@@ -12,7 +12,8 @@ use Rattle.nd_value.specs.declared.item.Item.{Item}
 use Rattle.nd_value.specs.declared.item.ItemKind.{ItemKind}
 use Rattle.nd_value.specs.declared.item.ItemKind.TheVariants as item
 use Rattle.nd_value.specs.declared.value.Graph.{Graph}
-use Rattle.nd_value.specs.Setting.{Setting}
+use Rattle.nd_value.specs.Deferral.{Pending as Pointer}
+use Rattle.nd_value.specs.Setting.{Setting, cell_home}
 use Rattle.nd_value.specs.Tree as tree
 use Rattle.nd_value.specs.Tree.{Label}
 use Rattle.nd_grammar.specs.Entry.{Actual, Align, Chunk, Context, Entry, EntryAt, Kind, Max, Num, Number, Offset, Tag, Test, Text, Unread, end_to_end}
@@ -25,12 +26,14 @@ use Rattle.ndr_explain.specs.Cursors.{name_text, path_to}
 use Rattle.ndr_explain.specs.Explained.{context_shown, explanation, home_flats, home_paths, label_in, path_in, string_shown}
 use Rattle.ndr_trace_laws.specs.Due.{Stops}
 use Rattle.ndr_trace_laws.specs.Untested.{is_test}
+use Rattle.ndr_trace_value.specs.declared.pointers.PointerSpot.{PointerSpot}
 use Rattle.ndr_trace_value.specs.declared.progress.Ground.{Ground}
 use Rattle.ndr_trace_value.specs.declared.progress.Progress.{Progress}
 use Rattle.ndr_trace_value.specs.declared.progress.Spot.{Spot}
 use Rattle.ndr_trace_value.specs.declared.search.Sought.{Sought}
 use Rattle.ndr_trace_value.specs.LastMembers.{counted_path, counted_variable, whole_types}
 use Rattle.ndr_trace_value.specs.Traces.{entry_path}
+use Rattle.ndr_trace_value.specs.Variable.{NamesAlone}
 
 -- Octets that are refused at an entry of the stream of a partial graph, and the log of the items before it.
 pub record Known : Type 0 where
@@ -84,6 +87,15 @@ kept k n = kept_by (sought_path k) k.log k.sought n
 abbrev pub kept_variable : Known → ℕ → List ℕ
 kept_variable k n = kept_by (sought_variable k) k.log k.sought n
 
+-- Where a walk is at the value of a cell that a pointer names alone, it is known where the pointer is.
+abbrev pub IsFrom : Known → Home → Option PointerSpot → Type 0
+IsFrom k h from =
+    (p : Pointer) (c : ℕ) → NamesAlone k.setting k.graph p c → h ≡ cell_home c → from ≡ Some (record { home = p.home; node = p.node })
+
+-- the same of the home of what is sought, once it is among the first items of the log
+abbrev pub KeptFrom : Known → ℕ → Option PointerSpot → Type 0
+KeptFrom k n from = (j : ℕ) (i : Item) → k.sought ≡ Some j → slice_get k.log j ≡ Some i → j < n → IsFrom k i.home from
+
 -- the item of this index is at a place
 abbrev pub IsAt : List Item → ℕ → ℕ → Type 0
 IsAt log n place = (i : Item) × (slice_get log n ≡ Some i) × (i.at ≡ place)
@@ -97,12 +109,17 @@ abbrev pub either_path : Bool → List ℕ → List ℕ → List ℕ
 either_path true p q = p
 either_path false p q = q
 
+abbrev pub either_from : Bool → Option PointerSpot → Option PointerSpot → Option PointerSpot
+either_from true p q = p
+either_from false p q = q
+
 -- The items so far have their lines, and then these entries are due.
 pub record IsTracing (k : Known) (p : Progress) (ms : List Entry) : Type 0 where
   pub within : p.next ≤ length k.log
   pub lines : p.lines ≡ explanation k.setting k.graph (take p.next k.log)
   pub path : p.path ≡ kept k p.next
   pub variable : p.variable ≡ kept_variable k p.next
+  pub from : KeptFrom k p.next p.from
   pub due : Stops k.order k.fetched k.numbering k.here (end_to_end p.at ms) (drop p.next k.log)
 
 -- All items have their lines, and the path is that of the entry at which reading stopped; if it stopped at an agreement, that of the value which has
@@ -112,10 +129,12 @@ pub record IsEnded (k : Known) (p : Progress) : Type 0 where
   pub path : ((is_test k.here.entry.kind ≡ true) × (p.path ≡ kept k (length k.log)))
       ⊎ ((is_test k.here.entry.kind ≡ false) × (p.path ≡ entry_path k.setting k.graph k.here.entry))
   pub variable : p.variable ≡ kept_variable k (length k.log)
+  pub from : KeptFrom k (length k.log) p.from
 
--- the levels of a node have the path of its number, which is n
-abbrev pub IsSpot : Known → Spot → ℕ → Type 0
-IsSpot k s n = path_to (name_text s.name) (s.top ∷ reverse s.below.now.items) ≡ path_in (home_paths k.setting k.graph s.home) n
+-- the levels of a node have the path of its number, which is n, and it is known where the pointer is that names its home alone
+pub record IsSpot (k : Known) (s : Spot) (n : ℕ) : Type 0 where
+  pub path : path_to (name_text s.name) (s.top ∷ reverse s.below.now.items) ≡ path_in (home_paths k.setting k.graph s.home) n
+  pub from : IsFrom k s.home s.from
 
 -- an entry of a node
 abbrev pub entry_at : Spot → ℕ → Kind → Entry

@@ -12,9 +12,10 @@ ghost use Rattle.ndr_trace_value.specs.declared.progress.Halt.TheVariants as hal
 ghost use Rattle.ndr_trace_value.specs.LastMembers.{counted_path, counted_variable, whole_types};
 ghost use Rattle.ndr_trace_value.specs.Tracing.{Known, Holds, HoldsCount, HasLabel, IsCount, IsCounted, IsEnded, IsGround, IsInFront, IsItem};
 ghost use Rattle.ndr_trace_value.specs.Tracing.{IsShown, IsSpot, IsTracing};
-ghost use Rattle.ndr_trace_value.specs.Tracing.{either_path, entry_at, is_sought as is_sought_item};
+ghost use Rattle.ndr_trace_value.specs.Tracing.{either_from, either_path, entry_at, is_sought as is_sought_item};
 
 use crate::counted::{append_counted, stated_path};
+use crate::pointers::PointerSpot;
 use crate::search::Sought;
 use nd_base::{Memory, Octets, Order};
 use nd_flat::Fit;
@@ -53,6 +54,8 @@ pub struct Progress {
     pub path: Octets,
     /// The path of the variable that states the maximum count in front of a struct, once that was passed and if it is sought.
     pub variable: Octets,
+    /// Where the pointer is that names the home of what is sought, once that was passed and if it is the only one that names it.
+    pub from: Option<PointerSpot>,
 }
 
 /// Why a walk over the items ends.
@@ -81,6 +84,8 @@ pub struct Spot<'s, 'a> {
     pub name: HomeName<'a>,
     pub top: Level<'a>,
     pub below: &'s Vec<Level<'a>>,
+    /// Where the pointer is that names the home, if it is the only one that names it.
+    pub from: Option<PointerSpot>,
 }
 
 /// Passes the gap before an aligned item, with a line if it is not empty.
@@ -153,6 +158,7 @@ fn keep(
     ensures variable { OnOk result (progress.new.variable ≡ either_path (is_sought_item ground.now.sought progress.old.next)
         (counted_variable ground.now.interface.now.types kind (whole_types spot.now.top)
         (path_to (name_text spot.now.name) (spot.now.top ∷ reverse spot.now.below.now.items))) progress.old.variable) }
+    ensures from { OnOk result (progress.new.from ≡ either_from (is_sought_item ground.now.sought progress.old.next) spot.now.from progress.old.from) }
     ensures lines { progress.new.lines ≡ progress.old.lines }
     ensures next { progress.new.next ≡ progress.old.next }
     ensures at { progress.new.at ≡ progress.old.at }
@@ -163,6 +169,7 @@ fn keep(
     append_path(&mut progress.path, spot)?;
     append_counted(&ground.interface.types, &mut progress.path, kind, spot.top)?;
     progress.variable = stated_path(ground.alloc, &ground.interface.types, kind, spot)?;
+    progress.from = spot.from;
     Ok(())
 }
 
@@ -246,6 +253,7 @@ fn pass(progress: &mut Progress, item: &Item)
     ensures lines { progress.new.lines ≡ progress.old.lines }
     ensures path { progress.new.path ≡ progress.old.path }
     ensures variable { progress.new.variable ≡ progress.old.variable }
+    ensures from { progress.new.from ≡ progress.old.from }
 {
     progress.next += 1;
     progress.at = u64::from(item.at) + u64::from(item.len);
@@ -258,6 +266,7 @@ fn end(ground: &Ground<'_>, progress: &mut Progress, spot: &Spot<'_, '_>) -> Hal
         → progress.new.path ≡ path_to (progress.old.path ++ name_text spot.now.name) (spot.now.top ∷ reverse spot.now.below.now.items) }
     ensures same { IsSome ground.now.sought → progress.new.path ≡ progress.old.path }
     ensures variable { progress.new.variable ≡ progress.old.variable }
+    ensures from { progress.new.from ≡ progress.old.from }
 {
     if ground.sought.is_some() {
         return Halt::Here;
