@@ -72,8 +72,8 @@ fn seen_cell(search: &mut Search<'_>, cell: CellId, number: Option<i128>) -> Res
     Ok(())
 }
 
-/// The path of the variable that states the number at a failed agreement, where the walk kept this path for a maximum count, or else found what the
-/// variables of members state.
+/// The path of the variable that states the number at a failed agreement: where the walk kept this path, as it does for members of structs, or else by
+/// what variables state of the cell that a pointer names.
 pub fn variable_path(
     ground: &Ground<'_>,
     search: &Search<'_>,
@@ -103,8 +103,9 @@ fn own_attribute(ground: &Ground<'_>, operation: &Operation, sought: Sought) -> 
     requires there { slice_get ground.now.interface.now.operations ground.now.op ≡ Some operation.now }
     ensures own { sought.node ≡ 0 → result
         ≡ home_attribute operation.now sought.kind (named_roots ground.now.interface.now.types ground.now.side operation.now) sought.home }
-    ensures none { home_attribute operation.now sought.kind (named_roots ground.now.interface.now.types ground.now.side operation.now) sought.home
-        ≡ None → result ≡ None }
+    ensures none { (sought.node ≡ 0
+        → home_attribute operation.now sought.kind (named_roots ground.now.interface.now.types ground.now.side operation.now) sought.home ≡ None)
+        → result ≡ None }
 {
     if sought.node != 0 {
         return None;
