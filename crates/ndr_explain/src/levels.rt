@@ -264,7 +264,8 @@ pub fn next_levels<'a>(
     top: Level<'a>,
     below: Vec<Level<'a>>,
 ) -> Result<Option<Levels<'a>>, Memory>
-    ensures is { HasChild inner.entry → IfOk result (AreLevelsOf (inner_types inner.entry ++ types_after (top.entry ∷ reverse below.entry.items))
+    ensures is { HasChild inner.entry
+        → IfOk result (AreLevelsOf (inner_types inner.entry ++ types_after (top.entry ∷ reverse below.entry.items))
         (λ p. inner_paths (path_to p (top.entry ∷ reverse below.entry.items)) inner.entry ++ paths_after p (top.entry ∷ reverse below.entry.items))) }
     ensures places { IfOk result (λ r. next_places r ≡ inner_places inner.entry ++ places_after (top.entry ∷ reverse below.entry.items)) }
 {

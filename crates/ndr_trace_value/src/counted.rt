@@ -88,8 +88,8 @@ pub fn stated_path(
     }
 }
 
-/// The path of the variable of a member's attribute that speaks of an item of this kind. It is empty if a node is no member, or the member has no such
-/// attribute.
+/// The path of the variable of a member's attribute that speaks of an item of this kind. It is empty if a node is no member, or the member has no
+/// such attribute.
 pub fn variable_beside(
     alloc: Global,
     kind: ItemKind,

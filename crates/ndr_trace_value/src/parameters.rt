@@ -72,8 +72,8 @@ fn seen_cell(search: &mut Search<'_>, cell: CellId, number: Option<i128>) -> Res
     Ok(())
 }
 
-/// The path of the variable that states the number at a failed agreement: where the walk kept this path, as it does for members of structs, or else by
-/// what variables state of the cell that a pointer names.
+/// The path of the variable that states the number at a failed agreement: where the walk kept this path, as it does for members of structs, or else
+/// by what variables state of the cell that a pointer names.
 pub fn variable_path(
     ground: &Ground<'_>,
     search: &Search<'_>,
