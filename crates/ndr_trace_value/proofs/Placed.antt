@@ -7,6 +7,7 @@ use Rattle.std.specs.Prelude.{◌-◌, ◌==◌, eqb, ltb, take}
 use Rattle.std.specs.List.{slice_get}
 use Rattle.std.proofs.lemmas.Bool.{eq-eqb, le-ltb, lt-ltb, ne_eqb}
 use Rattle.nd_lemmas.proofs.Lists.{take_front}
+use Rattle.nd_types.specs.declared.types.AttrVar.{AttrVar}
 use Rattle.nd_types.specs.declared.types.Field.{Field}
 use Rattle.nd_types.specs.Table.{Table, type_at}
 use Rattle.nd_value.specs.declared.item.Home.{Home}
@@ -21,7 +22,9 @@ use Rattle.ndr_explain.specs.declared.levels.Level.TheVariants as level
 use Rattle.ndr_explain.specs.Cursors.{Place, field_path, level_place, no_places, path_to}
 use Rattle.ndr_explain.proofs.LevelPlaces.{child_length}
 use Rattle.ndr_trace_value.specs.Places.{ArePlaced, field_variable, home_place, kid_places, member_variable, outer_path, place_at, place_variable, without_step}
-use Rattle.ndr_trace_value.specs.Variable.{field_name}
+use Rattle.ndr_trace_value.specs.Attributes.{first_of}
+use Rattle.ndr_trace_value.specs.Places.{stated_beside}
+use Rattle.ndr_trace_value.specs.Variable.{field_name, numbered_path}
 
 -- ## Values one after the other
 
@@ -126,3 +129,10 @@ beside_is k p (level.Members members at) Ls = go (slice_get members.now at) refl
     go (Some x) e =
         ap (λ r. place_variable k r (Some (members.now, at)))
         (sym (ap (λ o. without_step (field_path q o) (field_name o)) e ∙ step_off q x.name))
+
+-- of a member that has the attribute
+pub variable_there : (k : ItemKind) (p : List ℕ) (fs : List Field) (i : ℕ) (f : Field) (by : AttrVar) → slice_get fs i ≡ Some f → first_of k f.vars ≡ Some by
+    → member_variable k (member_path p f.name) (Some (fs, i)) ≡ numbered_path p fs by.var
+variable_there k p fs i f by there first =
+    ap (λ o. field_variable k (without_step (member_path p f.name) (field_name o)) fs o) there
+    ∙ ap (stated_beside (without_step (member_path p f.name) f.name) fs) first ∙ ap (λ q. numbered_path q fs by.var) (step_off p f.name)
