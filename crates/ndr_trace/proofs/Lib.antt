@@ -10,6 +10,7 @@ pub mod HomeNames
 pub mod HomeThere
 pub mod HomeWalks
 pub mod LastPaths
+pub mod MemberPlaces
 pub mod PartialHomes
 pub mod Parts
 pub mod PipeNames

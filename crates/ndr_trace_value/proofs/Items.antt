@@ -26,7 +26,7 @@ use Rattle.nd_lemmas.proofs.Lists.{four_parts, take_front}
 use Rattle.text_grammar.specs.Paths.{home_types}
 use Rattle.text_grammar.specs.Printed.{quoted_text}
 use Rattle.text_printer.specs.Texts.{context_text}
-use Rattle.ndr_explain.specs.Cursors.{IsNoGap, name_text, path_to}
+use Rattle.ndr_explain.specs.Cursors.{IsNoGap, level_place, name_text, path_to}
 use Rattle.ndr_explain.specs.Explained.{context_shown, explanation, home_flats, home_paths, item_head, item_line, item_rest, label_in, node_shown, path_in, string_shown, value_shown}
 use Rattle.ndr_explain.specs.declared.levels.Level.{Level}
 use Rattle.ndr_explain.proofs.LevelPaths.{steps_after}
@@ -38,10 +38,12 @@ use Rattle.ndr_trace_value.specs.declared.progress.Ground.{Ground}
 use Rattle.ndr_trace_value.specs.declared.progress.Progress.{Progress}
 use Rattle.ndr_trace_value.specs.declared.progress.Spot.{Spot}
 use Rattle.ndr_trace_value.specs.declared.search.Sought.{Sought}
-use Rattle.ndr_trace_value.specs.LastMembers.{counted_path, counted_variable, whole_types}
+use Rattle.ndr_trace_value.specs.LastMembers.{counted_path, counted_variable, front_variable, level_variable, whole_types}
+use Rattle.ndr_trace_value.specs.Places.{home_place}
 use Rattle.ndr_trace_value.specs.Traces.{entry_path}
 use Rattle.ndr_trace_value.specs.Tracing.{HasLabel, Holds, HoldsCount, IsCount, IsCounted, IsEnded, IsFrom, IsGround, IsInFront, IsItem, IsShown, IsSpot, IsTracing, KeptFrom, Known, either_from, either_path, entry_at}
 use Rattle.ndr_trace_value.specs.Tracing.{is_sought, kept, kept_by, sought_path, sought_variable}
+use Rattle.ndr_trace_value.proofs.Placed.{beside_is}
 use Rattle.ndr_trace_value.proofs.Passing.{from_next, from_on, gap_passed, held_next, held_on, item_ended, item_passed, next_item, placed}
 
 -- ## Kinds
@@ -322,21 +324,25 @@ module _ (k : Known) (u : Ground) (ground : IsGround k u) where
   by_home s (Text octets) os path h e = refl
   by_home s (Context attributes id) os path h e = refl
 
-  variable_by_home : (s : Spot) (x : Kind) (os path : List ℕ) → IsItem x → IsInFront k s x
-      → counted_variable k.setting.table (item_as k.order x os).0 (whole_types s.top) path
-      ≡ counted_variable k.setting.table (item_as k.order x os).0 (home_types k.setting k.graph s.home) path
-  variable_by_home s (Max v) os path h e = ap (λ ts. counted_variable k.setting.table item.Max ts path) e
-  variable_by_home s (Align m) os path h e = absurd h
-  variable_by_home s (Test a wanted found) os path h e = absurd h
-  variable_by_home s Unread os path h e = absurd h
-  variable_by_home s (Offset t v) os path h e = refl
-  variable_by_home s (Actual t offset limit v) os path h e = refl
-  variable_by_home s (Chunk v) os path h e = refl
-  variable_by_home s (Number class to cell) os path h e = refl
-  variable_by_home s (Num p values v) os path h e = refl
-  variable_by_home s (Tag p values arms default v) os path h e = refl
-  variable_by_home s (Text octets) os path h e = refl
-  variable_by_home s (Context attributes id) os path h e = refl
+  -- and so is that of its variable
+  variable_by_home : (s : Spot) (x : Kind) (os : List ℕ) → IsItem x → IsInFront k s x
+      → level_variable k.setting.table (item_as k.order x os).0 s.top (path_to (name_text s.name) (s.top ∷ reverse s.below.now.items))
+      (path_to (name_text s.name) (reverse s.below.now.items))
+      ≡ counted_variable k.setting.table (item_as k.order x os).0 (home_types k.setting k.graph s.home)
+      (path_to (name_text s.name) (s.top ∷ reverse s.below.now.items)) (level_place s.top)
+  variable_by_home s (Max v) os h e =
+      ap (λ ts. front_variable k.setting.table ts (path_to (name_text s.name) (s.top ∷ reverse s.below.now.items))) e
+  variable_by_home s (Align m) os h e = absurd h
+  variable_by_home s (Test a wanted found) os h e = absurd h
+  variable_by_home s Unread os h e = absurd h
+  variable_by_home s (Offset t v) os h e = beside_is item.Offset (name_text s.name) s.top (reverse s.below.now.items)
+  variable_by_home s (Actual t offset limit v) os h e = beside_is item.Actual (name_text s.name) s.top (reverse s.below.now.items)
+  variable_by_home s (Chunk v) os h e = beside_is item.Chunk (name_text s.name) s.top (reverse s.below.now.items)
+  variable_by_home s (Number class to cell) os h e = beside_is item.Number (name_text s.name) s.top (reverse s.below.now.items)
+  variable_by_home s (Num p values v) os h e = beside_is item.Num (name_text s.name) s.top (reverse s.below.now.items)
+  variable_by_home s (Tag p values arms default v) os h e = beside_is item.Tag (name_text s.name) s.top (reverse s.below.now.items)
+  variable_by_home s (Text octets) os h e = beside_is item.Text (name_text s.name) s.top (reverse s.below.now.items)
+  variable_by_home s (Context attributes id) os h e = beside_is item.Context (name_text s.name) s.top (reverse s.below.now.items)
 
   -- an item with its line: the next entry is due, and it holds what its entry says
   pub item_goes : (s : Spot) (n : ℕ) → IsSpot k s n → (x : Kind) → IsItem x → HasLabel k s.home n x → IsInFront k s x → (rest : List Entry) (p p1 : Progress)
@@ -349,7 +355,8 @@ module _ (k : Known) (u : Ground) (ground : IsGround k u) where
       (counted_path u.interface.now.types i.kind (whole_types s.top) (path_to (p.path ++ name_text s.name) (s.top ∷ reverse s.below.now.items))) p.path
       → p1.variable
       ≡ either_path (is_sought u.sought p.next)
-      (counted_variable u.interface.now.types i.kind (whole_types s.top) (path_to (name_text s.name) (s.top ∷ reverse s.below.now.items))) p.variable
+      (level_variable u.interface.now.types i.kind s.top (path_to (name_text s.name) (s.top ∷ reverse s.below.now.items))
+      (path_to (name_text s.name) (reverse s.below.now.items))) p.variable
       → p1.from ≡ either_from (is_sought u.sought p.next) s.from p.from → IsTracing k p1 rest × Holds k x i.value
   item_goes s n spot x item label front rest p p1 t i got t1 t2 t3 t4 t5 t6 e1 e2 e3 e4 e5 e6 lines next at path variable from = (
     item_passed k p p1 (entry_at s n x) rest z i one t there next at
@@ -402,15 +409,19 @@ module _ (k : Known) (u : Ground) (ground : IsGround k u) where
           ∙ ap (λ m. counted_path k.setting.table m (home_types k.setting k.graph s.home) here) (sym kind)
           ∙ ap (λ h. counted_path k.setting.table i.kind (home_types k.setting k.graph h) here) (sym home)
 
-      its_variable : counted_variable u.interface.now.types i.kind (whole_types s.top) (path_to (name_text s.name) (s.top ∷ reverse s.below.now.items))
-          ≡ sought_variable k (Some i)
+      its_variable : level_variable u.interface.now.types i.kind s.top (path_to (name_text s.name) (s.top ∷ reverse s.below.now.items))
+          (path_to (name_text s.name) (reverse s.below.now.items)) ≡ sought_variable k (Some i)
       its_variable =
-          ap (counted_variable u.interface.now.types i.kind (whole_types s.top))
-          (spot.path ∙ ap₂ (λ (h : Home) (m : ℕ). path_in (home_paths k.setting k.graph h) m) (sym home) (sym node))
-          ∙ ap (λ table. counted_variable table i.kind (whole_types s.top) here) ground.table ∙ ap (λ m. counted_variable k.setting.table m (whole_types s.top) here) kind
-          ∙ variable_by_home s x (piece k.fetched p.at x) here item front
-          ∙ ap (λ m. counted_variable k.setting.table m (home_types k.setting k.graph s.home) here) (sym kind)
-          ∙ ap (λ h. counted_variable k.setting.table i.kind (home_types k.setting k.graph h) here) (sym home)
+          let p0 : List ℕ = path_to (name_text s.name) (s.top ∷ reverse s.below.now.items) in
+          let q0 : List ℕ = path_to (name_text s.name) (reverse s.below.now.items) in
+          let as : ItemKind = (item_as k.order x (piece k.fetched p.at x)).0 in
+          ap (λ table. level_variable table i.kind s.top p0 q0) ground.table ∙ ap (λ m. level_variable k.setting.table m s.top p0 q0) kind
+          ∙ variable_by_home s x (piece k.fetched p.at x) item front
+          ∙ ap₂ (counted_variable k.setting.table as (home_types k.setting k.graph s.home)) spot.path spot.place
+          ∙ ap (λ m. counted_variable k.setting.table m (home_types k.setting k.graph s.home) (path_in (home_paths k.setting k.graph s.home) n)
+          (home_place k.setting k.graph s.home n)) (sym kind)
+          ∙ ap₂ (λ (h : Home) (m : ℕ). counted_variable k.setting.table i.kind (home_types k.setting k.graph h) (path_in (home_paths k.setting k.graph h) m)
+          (home_place k.setting k.graph h m)) (sym home) (sym node)
 
       path_shown : t3 ≡ t2 ++ path_in (home_paths k.setting k.graph i.home) i.node
       path_shown =

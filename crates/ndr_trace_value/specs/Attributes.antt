@@ -64,7 +64,7 @@ IsOwnName u s q = (o : Operation) → slice_get u.interface.now.operations u.op 
 -- If it is not, and the walk kept the path of a variable, this is shown.
 abbrev pub IsKeptName : Ground → Sought → List ℕ → List ℕ → Type 0
 IsKeptName u s kept q = (o : Operation) → slice_get u.interface.now.operations u.op ≡ Some o
-    → home_attribute o s.kind (named_roots u.interface.now.types u.side o) s.home ≡ None → (kept ≡ [] → ⊥) → q ≡ kept
+    → (s.node ≡ 0 → home_attribute o s.kind (named_roots u.interface.now.types u.side o) s.home ≡ None) → (kept ≡ [] → ⊥) → q ≡ kept
 
 -- The same of the attribute of a parameter that is a pointer, if the walk kept where this pointer is and no path: it names the home of what is sought.
 abbrev pub IsPointedName : Ground → Sought → Option PointerSpot → List ℕ → List ℕ → Type 0

@@ -22,7 +22,7 @@ use Rattle.ndr_prim.specs.Context.{attributes_of, identifier_of}
 use Rattle.text_grammar.specs.Paths.{home_types}
 use Rattle.text_grammar.specs.Printed.{quoted_text}
 use Rattle.text_printer.specs.Texts.{context_text}
-use Rattle.ndr_explain.specs.Cursors.{name_text, path_to}
+use Rattle.ndr_explain.specs.Cursors.{level_place, name_text, path_to}
 use Rattle.ndr_explain.specs.Explained.{context_shown, explanation, home_flats, home_paths, label_in, path_in, string_shown}
 use Rattle.ndr_trace_laws.specs.Due.{Stops}
 use Rattle.ndr_trace_laws.specs.Untested.{is_test}
@@ -32,6 +32,7 @@ use Rattle.ndr_trace_value.specs.declared.progress.Progress.{Progress}
 use Rattle.ndr_trace_value.specs.declared.progress.Spot.{Spot}
 use Rattle.ndr_trace_value.specs.declared.search.Sought.{Sought}
 use Rattle.ndr_trace_value.specs.LastMembers.{counted_path, counted_variable, whole_types}
+use Rattle.ndr_trace_value.specs.Places.{home_place}
 use Rattle.ndr_trace_value.specs.Traces.{entry_path}
 use Rattle.ndr_trace_value.specs.Variable.{NamesAlone}
 
@@ -70,11 +71,12 @@ sought_path k None = []
 sought_path k (Some i) =
     counted_path k.setting.table i.kind (home_types k.setting k.graph i.home) (path_in (home_paths k.setting k.graph i.home) i.node)
 
--- the path of the variable that states the maximum count which an item is, if it is in front of a struct
+-- the path of the variable that states the count or tag which an item is, if a member of a struct has it
 abbrev pub sought_variable : Known → Option Item → List ℕ
 sought_variable k None = []
 sought_variable k (Some i) =
     counted_variable k.setting.table i.kind (home_types k.setting k.graph i.home) (path_in (home_paths k.setting k.graph i.home) i.node)
+    (home_place k.setting k.graph i.home i.node)
 
 -- what is kept of the item that is sought, once it is among the first items of the log
 abbrev pub kept_by : (Option Item → List ℕ) → List Item → Option ℕ → ℕ → List ℕ
@@ -131,9 +133,11 @@ pub record IsEnded (k : Known) (p : Progress) : Type 0 where
   pub variable : p.variable ≡ kept_variable k (length k.log)
   pub from : KeptFrom k (length k.log) p.from
 
--- the levels of a node have the path of its number, which is n, and it is known where the pointer is that names its home alone
+-- The levels of a node have the path of its number, which is n, and say which member of a struct it is. If a pointer names its home alone, it is known
+-- where this pointer is.
 pub record IsSpot (k : Known) (s : Spot) (n : ℕ) : Type 0 where
   pub path : path_to (name_text s.name) (s.top ∷ reverse s.below.now.items) ≡ path_in (home_paths k.setting k.graph s.home) n
+  pub place : level_place s.top ≡ home_place k.setting k.graph s.home n
   pub from : IsFrom k s.home s.from
 
 -- an entry of a node

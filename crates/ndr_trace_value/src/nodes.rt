@@ -9,7 +9,7 @@ ghost use Rattle.nd_value.specs.Tree.{Label, Trees, count as count_of};
 ghost use Rattle.nd_value.specs.Tree as labels;
 ghost use Rattle.nd_flat.specs.FlatForm.{armed_count};
 ghost use Rattle.nd_grammar.specs.Entry.{Actual, Align, Context, Entry, Num, Number, Offset, Tag, Text};
-ghost use Rattle.ndr_explain.specs.Cursors.{level_paths, level_types, name_text, paths_from, types_from};
+ghost use Rattle.ndr_explain.specs.Cursors.{level_paths, level_places, level_types, name_text, paths_from, places_from, types_from};
 ghost use Rattle.ndr_explain.specs.Explained.{home_flats, label_in};
 ghost use Rattle.ndr_trace_value.specs.declared.progress.Halt.TheVariants as halts;
 ghost use Rattle.ndr_trace_value.specs.Naming.{HasNamed, IsFine, IsNaming, named_by, names_in};
@@ -48,13 +48,13 @@ pub fn walk_level<'a>(
     first: Level<'a>,
 ) -> Result<(), Halt>
     ensures goes { 0 < length (level_types first.entry) → (k : Known) → IsGround k ground.now → IsFrom k home from → (n : ℕ) (left : Trees)
-        → AreThere k home max (level_types first.entry) (level_paths (name_text name.entry) first.entry) n left
+        → AreThere k home max (level_types first.entry) (level_paths (name_text name.entry) first.entry) (level_places first.entry) n left
         → (rest : List Entry) → IsTracing k walker.old.progress (values_due k home (level_types first.entry) n left ++ rest)
         → (names : Placed_cells) → IsNaming k walker.old.cells (names_in (values_due k home (level_types first.entry) n left) ++ names)
         → IfOk result (λ _. IsTracing k walker.new.progress rest
         × HasNamed k walker.old.cells walker.new.cells (values_due k home (level_types first.entry) n left) names) }
     ensures ends { 0 < length (level_types first.entry) → (k : Known) → IsGround k ground.now → IsFrom k home from → (n : ℕ) (left : Trees)
-        → AreThere k home max (level_types first.entry) (level_paths (name_text name.entry) first.entry) n left
+        → AreThere k home max (level_types first.entry) (level_paths (name_text name.entry) first.entry) (level_places first.entry) n left
         → (rest : List Entry) → IsTracing k walker.old.progress (values_due k home (level_types first.entry) n left ++ rest)
         → (names : Placed_cells) → IsNaming k walker.old.cells (names_in (values_due k home (level_types first.entry) n left) ++ names)
         → IsErrOf result halts.Here → IsEnded k walker.new.progress }
@@ -86,7 +86,8 @@ fn take_node<'a>(
 ) -> Result<Option<Levels<'a>>, Halt>
     ensures goes { 0 < length (level_types levels.entry.top) → (k : Known) → IsGround k ground.now → IsFrom k home from → (n : ℕ) (left : Trees)
         → AreThere k home max (types_from levels.entry.top (reverse levels.entry.below.items))
-        (paths_from (name_text name.entry) levels.entry.top (reverse levels.entry.below.items)) n left
+        (paths_from (name_text name.entry) levels.entry.top (reverse levels.entry.below.items))
+        (places_from levels.entry.top (reverse levels.entry.below.items)) n left
         → (rest : List Entry)
         → IsTracing k walker.old.progress (values_due k home (types_from levels.entry.top (reverse levels.entry.below.items)) n left ++ rest)
         → (names : Placed_cells)
@@ -95,7 +96,8 @@ fn take_node<'a>(
         (values_due k home (types_from levels.entry.top (reverse levels.entry.below.items)) n left) rest names walker.old walker.new) }
     ensures ends { 0 < length (level_types levels.entry.top) → (k : Known) → IsGround k ground.now → IsFrom k home from → (n : ℕ) (left : Trees)
         → AreThere k home max (types_from levels.entry.top (reverse levels.entry.below.items))
-        (paths_from (name_text name.entry) levels.entry.top (reverse levels.entry.below.items)) n left
+        (paths_from (name_text name.entry) levels.entry.top (reverse levels.entry.below.items))
+        (places_from levels.entry.top (reverse levels.entry.below.items)) n left
         → (rest : List Entry)
         → IsTracing k walker.old.progress (values_due k home (types_from levels.entry.top (reverse levels.entry.below.items)) n left ++ rest)
         → (names : Placed_cells)
@@ -112,7 +114,6 @@ fn take_node<'a>(
         below: &below,
         from,
     };
-    let before = walker.progress.next;
     reach(ground, walker, &spot)?;
     let shape = own_items(
         ground,
@@ -123,7 +124,7 @@ fn take_node<'a>(
         &spot,
     )?;
     let seen = as_seen(shape);
-    seen_node(ground, walker, before, &spot, &seen)?;
+    seen_node(ground, walker, &spot, &seen)?;
     let interface = ground.interface;
     let inner = children(&interface.types, of, &seen);
     let next = next_levels(inner, top, below)?;

@@ -75,8 +75,8 @@ fn seen_cell(search: &mut Search<'_>, cell: CellId, number: Option<i128>) -> Res
     Ok(())
 }
 
-/// The path of the variable that states the number at a failed agreement, where the walk kept this path, or else where it kept the pointer that names
-/// the home, or else found what variables state.
+/// The path of the variable that states the number at a failed agreement: where the walk kept this path, as it does for members of structs, or else
+/// by the pointer that names the cell alone, or by what variables state of a cell that pointers name.
 pub fn variable_path(
     ground: &Ground<'_>,
     search: &Search<'_>,
@@ -108,8 +108,9 @@ fn own_attribute(ground: &Ground<'_>, operation: &Operation, sought: Sought) -> 
     requires there { slice_get ground.now.interface.now.operations ground.now.op ≡ Some operation.now }
     ensures own { sought.node ≡ 0 → result
         ≡ home_attribute operation.now sought.kind (named_roots ground.now.interface.now.types ground.now.side operation.now) sought.home }
-    ensures none { home_attribute operation.now sought.kind (named_roots ground.now.interface.now.types ground.now.side operation.now) sought.home
-        ≡ None → result ≡ None }
+    ensures none { (sought.node ≡ 0
+        → home_attribute operation.now sought.kind (named_roots ground.now.interface.now.types ground.now.side operation.now) sought.home ≡ None)
+        → result ≡ None }
 {
     if sought.node != 0 {
         return None;

@@ -9,7 +9,7 @@ ghost use Rattle.text_printer.specs.Texts.{context_text};
 ghost use Rattle.ndr_explain.specs.Cursors.{name_text, path_to};
 ghost use Rattle.ndr_explain.specs.Explained.{value_shown};
 ghost use Rattle.ndr_trace_value.specs.declared.progress.Halt.TheVariants as halts;
-ghost use Rattle.ndr_trace_value.specs.LastMembers.{counted_path, counted_variable, whole_types};
+ghost use Rattle.ndr_trace_value.specs.LastMembers.{counted_path, level_variable, whole_types};
 ghost use Rattle.ndr_trace_value.specs.Tracing.{Known, Holds, HoldsCount, HasLabel, IsCount, IsCounted, IsEnded, IsGround, IsInFront, IsItem};
 ghost use Rattle.ndr_trace_value.specs.Tracing.{IsShown, IsSpot, IsTracing};
 ghost use Rattle.ndr_trace_value.specs.Tracing.{either_from, either_path, entry_at, is_sought as is_sought_item};
@@ -52,7 +52,7 @@ pub struct Progress {
     /// The path of what is refused, once the walk has ended there. Where an agreement is sought, that of the value that disagrees, once its count or
     /// tag was passed.
     pub path: Octets,
-    /// The path of the variable that states the maximum count in front of a struct, once that was passed and if it is sought.
+    /// The path of the variable that states a count or a tag of a member of a struct, once that was passed and if it is sought.
     pub variable: Octets,
     /// Where the pointer is that names the home of what is sought, once that was passed and if it is the only one that names it.
     pub from: Option<PointerSpot>,
@@ -156,8 +156,9 @@ fn keep(
         (counted_path ground.now.interface.now.types kind (whole_types spot.now.top)
         (path_to (progress.old.path ++ name_text spot.now.name) (spot.now.top ∷ reverse spot.now.below.now.items))) progress.old.path) }
     ensures variable { OnOk result (progress.new.variable ≡ either_path (is_sought_item ground.now.sought progress.old.next)
-        (counted_variable ground.now.interface.now.types kind (whole_types spot.now.top)
-        (path_to (name_text spot.now.name) (spot.now.top ∷ reverse spot.now.below.now.items))) progress.old.variable) }
+        (level_variable ground.now.interface.now.types kind spot.now.top
+        (path_to (name_text spot.now.name) (spot.now.top ∷ reverse spot.now.below.now.items))
+        (path_to (name_text spot.now.name) (reverse spot.now.below.now.items))) progress.old.variable) }
     ensures from { OnOk result (progress.new.from ≡ either_from (is_sought_item ground.now.sought progress.old.next) spot.now.from progress.old.from) }
     ensures lines { progress.new.lines ≡ progress.old.lines }
     ensures next { progress.new.next ≡ progress.old.next }

@@ -25,7 +25,7 @@ returns-in_err-gap-clause-ends c k u a from rest tr e =
     let max : Entry = record { home = c.args.home; node = 0; kind = Max (home_max k c.args.home) } in
     let due : List Entry = values_due k c.args.home (c.args.of.0 ∷ []) 0 (more (home_value k.graph c.args.home) none) ++ rest in
     let ready = ready_after k c.args.ground.now u p p refl c.in_ok-at_end.ensures.ready in
-    c.in_err-gap.ensures.ends k u 0 (record { path = spot_of_home k c.args.home c.args.name c.args.of.0 c.args.of c.new-below.result.items a c.new-below.ensures.items; from = from }) (max ∷ due)
+    c.in_err-gap.ensures.ends k u 0 (spot_of_home k c.args.home c.args.name c.args.of.0 c.args.of _ a refl refl refl c.new-below.ensures.items from) (max ∷ due)
     (some_front k c.args.home c.args.of.0 p rest always ready tr)
     (err_as c.from_residual-in_err-gap.result c.in_err-gap.field-0.0 halts.Here c.from_residual-in_err-gap.ensures.1 e)
 
@@ -37,7 +37,7 @@ returns-in_err-max-clause-ends c k u a from rest tr e =
     let max : Entry = record { home = c.args.home; node = 0; kind = Max (home_max k c.args.home) } in
     let due : List Entry = values_due k c.args.home (c.args.of.0 ∷ []) 0 (more (home_value k.graph c.args.home) none) ++ rest in
     let ready = ready_after k c.args.ground.now u p p refl c.in_ok-at_end.ensures.ready in
-    c.in_err-max.ensures.ends k u 0 (record { path = spot_of_home k c.args.home c.args.name c.args.of.0 c.args.of c.new-below.result.items a c.new-below.ensures.items; from = from })
+    c.in_err-max.ensures.ends k u 0 (spot_of_home k c.args.home c.args.name c.args.of.0 c.args.of _ a refl refl refl c.new-below.ensures.items from)
     (Max (home_max k c.args.home)) tt due
     (c.in_ok-gap.ensures.goes k u 0 (max ∷ due) (some_front k c.args.home c.args.of.0 p rest always ready tr))
     (err_as c.from_residual-in_err-max.result c.in_err-max.field-0.0 halts.Here c.from_residual-in_err-max.ensures.1 e)
@@ -51,7 +51,7 @@ returns-clause-goes c k u a from rest tr =
     let due : List Entry = values_due k c.args.home (c.args.of.0 ∷ []) 0 (more (home_value k.graph c.args.home) none) ++ rest in
     let ready = ready_after k c.args.ground.now u p p refl c.in_ok-at_end.ensures.ready in
     let both =
-    c.in_ok-max.ensures.goes k u 0 (record { path = spot_of_home k c.args.home c.args.name c.args.of.0 c.args.of c.new-below.result.items a c.new-below.ensures.items; from = from })
+    c.in_ok-max.ensures.goes k u 0 (spot_of_home k c.args.home c.args.name c.args.of.0 c.args.of _ a refl refl refl c.new-below.ensures.items from)
     (Max (home_max k c.args.home)) tt (sym a.types) due
     (c.in_ok-gap.ensures.goes k u 0 (max ∷ due) (some_front k c.args.home c.args.of.0 p rest always ready tr)) in
     (both.0, λ e. both.1)

@@ -1,6 +1,7 @@
-use Rattle.std.proofs.Common.{◌++◌, reverse, refl, sym, subst}
+use Rattle.std.proofs.Common.{◌≡◌, ◌++◌, reverse, refl, sym, subst}
 use Rattle.nd_value.specs.Tree.{Flat}
-use Rattle.ndr_explain.specs.Cursors.{IsChildLevel}
+use Rattle.nd_types.specs.Table.{type_at}
+use Rattle.ndr_explain.specs.Cursors.{IsChildLevel, child_places, inner_places, inner_types}
 use Rattle.ndr_trace_value.specs.declared.progress.Halt.TheVariants as halts
 use Rattle.ndr_trace_value.specs.Naming.{IsNaming, names_in}
 use Rattle.ndr_trace_value.specs.Tracing.{IsTracing}
@@ -17,8 +18,10 @@ returns-clause-goes c some k u from n left there rest tr names nm =
     c.own_items.new.cells (flat_shape c.in_ok-shape.shape) c.reach.ensures.same c.in_ok-reach.ensures.ready (c.in_ok-shape.ensures.goes k u n) c.seen_node.ensures.same)
     refl refl from c.children-inner.result
     (subst (λ table. IsChildLevel table c.type_of-of.result.0 (flat_shape c.in_ok-shape.shape) c.children-inner.result) u.table
-    (subst (λ (f : Flat). IsChildLevel c.args.ground.now.interface.now.types c.type_of-of.result.0 f c.children-inner.result) c.as_seen-seen.ensures c.children-inner.ensures))
-    c.in_ok-next.next c.in_ok-next.ensures left there tr nm
+    (subst (λ (f : Flat). IsChildLevel c.args.ground.now.interface.now.types c.type_of-of.result.0 f c.children-inner.result) c.as_seen-seen.ensures c.children-inner.ensures.is))
+    (subst (λ table. inner_places c.children-inner.result ≡ child_places (type_at table c.type_of-of.result.0) (inner_types c.children-inner.result)) u.table
+    c.children-inner.ensures.places)
+    c.in_ok-next.next c.in_ok-next.ensures.is c.in_ok-next.ensures.places left there tr nm
 
 pub returns-in_err-reach-clause-ends : goal.returns-in_err-reach-clause-ends
 returns-in_err-reach-clause-ends c some k u from n left there rest tr names nm e =

@@ -1,5 +1,5 @@
 use Rattle.std.proofs.Common.{◌∙◌, reverse, refl, sym, append-nil, ap, ap₂, le_refl, subst}
-use Rattle.ndr_explain.specs.Cursors.{level_paths, level_types, name_text, paths_from, types_from}
+use Rattle.ndr_explain.specs.Cursors.{level_paths, level_places, level_types, name_text, paths_from, places_from, types_from}
 use Rattle.ndr_trace_value.specs.declared.progress.Halt.TheVariants as halts
 use Rattle.ndr_trace_value.specs.Walking.{ComesTo, values_due}
 use Rattle.ndr_trace_value.proofs.LevelWalk.{begins_walk, one_turn, paid_on}
@@ -9,10 +9,11 @@ use Rattle.ndr_trace_value.proofs.nodes.walk_level.Goals as goal
 pub loop-turn-init : goal.loop-turn-init
 loop-turn-init c = record {
   here = λ some k u from n left there rest tr names nm.
-      begins_walk k c.args.home c.args.max (name_text c.args.name) (level_types c.args.first) (level_paths (name_text c.args.name) c.args.first)
+      begins_walk k c.args.home c.args.max (name_text c.args.name) (level_types c.args.first) (level_paths (name_text c.args.name) c.args.first) (level_places c.args.first)
       (record { top = c.args.first; below = c.new.result })
       (sym (append-nil (level_types c.args.first)) ∙ ap (λ Ls. types_from c.args.first (reverse Ls)) (sym c.new.ensures.items))
       (sym (append-nil (level_paths (name_text c.args.name) c.args.first)) ∙ ap (λ Ls. paths_from (name_text c.args.name) c.args.first (reverse Ls)) (sym c.new.ensures.items))
+      (sym (append-nil (level_places c.args.first)) ∙ ap (λ Ls. places_from c.args.first (reverse Ls)) (sym c.new.ensures.items))
       some n left there rest names c.args.walker.now tr nm;
   paid = (le_refl _, le_refl _);
 }

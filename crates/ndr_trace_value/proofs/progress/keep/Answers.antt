@@ -1,6 +1,6 @@
 use Rattle.std.proofs.Common.{◌≡◌, rules, Bool, true, false, List, ℕ, ◌++◌, ◌∷◌, ap, sym, ◌∙◌, reverse}
 use Rattle.ndr_explain.specs.Cursors.{name_text, path_to}
-use Rattle.ndr_trace_value.specs.LastMembers.{counted_path, counted_variable, whole_types}
+use Rattle.ndr_trace_value.specs.LastMembers.{counted_path, level_variable, whole_types}
 use Rattle.ndr_trace_value.specs.Tracing.{either_from, either_path, is_sought}
 use Rattle.ndr_trace_value.proofs.progress.keep.Goals as goal
 
@@ -20,7 +20,8 @@ returns-then-not-is_sought-clause-variable c =
     let s = c.args.spot.now in
     let p = c.args.progress.now in
     let text : List ℕ =
-    counted_variable c.args.ground.now.interface.now.types c.args.kind (whole_types s.top) (path_to (name_text s.name) (s.top ∷ reverse s.below.now.items)) in
+    level_variable c.args.ground.now.interface.now.types c.args.kind s.top (path_to (name_text s.name) (s.top ∷ reverse s.below.now.items))
+    (path_to (name_text s.name) (reverse s.below.now.items)) in
     let never : is_sought c.args.ground.now.sought p.next ≡ false = sym c.is_sought.ensures ∙ no in
     sym (ap (λ b. either_path b text p.variable) never)
 
@@ -54,6 +55,7 @@ returns-clause-variable c =
     let s = c.args.spot.now in
     let p = c.args.progress.now in
     let text : List ℕ =
-    counted_variable c.args.ground.now.interface.now.types c.args.kind (whole_types s.top) (path_to (name_text s.name) (s.top ∷ reverse s.below.now.items)) in
+    level_variable c.args.ground.now.interface.now.types c.args.kind s.top (path_to (name_text s.name) (s.top ∷ reverse s.below.now.items))
+    (path_to (name_text s.name) (reverse s.below.now.items)) in
     let always : is_sought c.args.ground.now.sought p.next ≡ true = sym c.is_sought.ensures ∙ yes in
     c.in_ok-progress.ensures ∙ sym (ap (λ b. either_path b text p.variable) always)
