@@ -28,4 +28,5 @@ pub mod Named
 pub mod OwnTests
 pub mod RootAttributes
 pub mod SolePointers
+pub mod PointerMembers
 pub mod ReferentTests

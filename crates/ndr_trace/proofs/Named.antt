@@ -62,7 +62,7 @@ use Rattle.ndr_trace.proofs.Grounds.{as_test}
 use Rattle.ndr_trace.proofs.LastPaths.{last_variable-legal}
 use Rattle.ndr_trace.proofs.MemberPlaces.{member_there}
 use Rattle.ndr_trace.proofs.OwnTests.{OwnTest, Says, here_among, own_test}
-use Rattle.ndr_trace.proofs.ReferentTests.{RootSays, referent_test}
+use Rattle.ndr_trace.proofs.ReferentTests.{RootSays, root_test_of}
 use Rattle.ndr_trace.proofs.RootAttributes.{attribute_found, members_one, no_attribute}
 use Rattle.ndr_trace.proofs.Subjects.{maximum_is, of_struct, tested_item}
 
@@ -156,6 +156,9 @@ module _ (w : Setting) (g : Graph) (legal : IsLegalSide w) where
           let (ms, is_struct) = ends_with_struct of (home_name w (home.Root at)) (λ z. some (front ∙ z)) in
           no_attribute w legal at r there ms (ap (type_at w.table) same ∙ is_struct)
 
+same_root : (i j : ℕ) → home.Root i ≡ home.Root j → i ≡ j
+same_root i j e = cc
+
 -- an attribute on a maximum count does not speak of a struct
 no_struct_fits : (a : Attr) (ms : List Field) → spoken a ≡ kind.Max → AttrFits a (Some (def.Struct ms)) → ⊥
 no_struct_fits attr.Size ms e f = let z : false ≡ true = f in cc
@@ -238,17 +241,20 @@ module _ (w : Setting) (order : Order) (fetched : List ℕ) (place : ℕ) (why :
           → slice_get (root_list w) at_root ≡ Some root → IsAtRoot ptr at_root → IsStated w g root a wanted q
       by_referent a wanted found is ptr (c, alone, at_cell, own) at_root root in_list in_root =
           let (kind_is, home_is, node_is) = tested_item w order fetched place why bad legal a wanted found is s.item i there at in
-          let root_says : RootSays w g sound at_root root ptr a wanted =
-          referent_test w g sound ptr c alone at_root root in_list in_root bad.here.entry a wanted found is at_cell bad.entries bad.stream
-          (here_among 0 bad.entries bad.earlier bad.here bad.later bad.split) own in
-          let says : Says w g root.vars a wanted = root_says.says in
+          let root_says : RootSays w g sound ptr a wanted =
+          root_test_of w g sound ptr c alone bad.here.entry a wanted found is at_cell bad.entries bad.stream
+          (here_among 0 bad.entries bad.earlier bad.here bad.later bad.split) own in_root.1 in
+          let root_same : root_says.root ≡ root =
+          same_Some _ _ (sym root_says.there ∙ ap (slice_get (root_list w)) (same_root root_says.at at_root (sym root_says.own.0 ∙ in_root.0)) ∙ in_list) in
+          let says : Says w g root.vars a wanted = subst (λ (r : Root). Says w g r.vars a wanted) root_same root_says.says in
           let setting : w ≡ record { table = u.interface.now.types; op = side.operation; side = u.side; given = side.request } = side.setting in
           let cell_is : i.home ≡ cell_home c = home_is ∙ at_cell in
           let its_home : s.home ≡ cell_home c = sym at_home ∙ ap (λ (x : Item). x.home) (sym same) ∙ cell_is in
           let its_kind : s.kind ≡ spoken a = sym of_kind ∙ ap (λ (x : Item). x.kind) (sym same) ∙ kind_is in
           let (x, cell_there, cell_of) = (is_good w g sound ptr alone.among).typed c alone.cell in
           let types : home_types w g (cell_home c) ≡ ptr.to ∷ [] = ap cell_types cell_there ∙ ap (λ t. t ∷ []) cell_of in
-          let pointed_to : pointee w.table root.of ≡ ptr.to = ap (pointee_by root.of) root_says.type_is ∙ sym root_says.to_is in
+          let pointed_to : pointee w.table root.of ≡ ptr.to =
+          ap (λ (r : Root). pointee w.table r.of) (sym root_same) ∙ ap (pointee_by root_says.root.of) root_says.type_is ∙ sym root_says.to_is in
           let here_path : List ℕ = path_in (home_paths w g (cell_home c)) 0 in
           let empty : p.variable ≡ [] =
           ended ∙ kept_whole k (sought_variable k) s.item i refl there

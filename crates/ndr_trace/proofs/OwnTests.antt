@@ -139,10 +139,10 @@ pub record OwnTest (w : Setting) (g : Graph) (i : ℕ) (a : Attr) (wanted : ℤ)
   pub there : slice_get (root_list w) i ≡ Some root
   pub says : Says w g root.vars a wanted
 
-same_attr : (a b : Attr) (v u f g : ℤ) → Test a v f ≡ Test b u g → a ≡ b
+pub same_attr : (a b : Attr) (v u f g : ℤ) → Test a v f ≡ Test b u g → a ≡ b
 same_attr a b v u f g e = cc
 
-same_wanted : (a b : Attr) (v u f g : ℤ) → Test a v f ≡ Test b u g → v ≡ u
+pub same_wanted : (a b : Attr) (v u f g : ℤ) → Test a v f ≡ Test b u g → v ≡ u
 same_wanted a b v u f g e = cc
 
 module _ (w : Setting) (g : Graph) where

@@ -1,11 +1,10 @@
--- The agreements that are tried in the cell which a root names alone: they are those of the root's attributes.
+-- The agreements that are tried in a cell which a pointer names alone: they are those of the root that the pointer is, or of the member.
 -- `w` is a setting, `g` a partial graph, `p` and `q` are pointers, `c` and `d` cells, `h` is a home, `n` a node's number, `m` an entry, `a` an agreement or an
 -- attribute, `at` and `j` are places of roots, `r` is a root, `v` its value.
 use Rattle.std.proofs.Common.{◌≡◌, ◌⊎◌, inl, inr, ◌∙◌, ℕ, zero, suc, ◌+◌, ◌<◌, ◌≤◌, ℤ, Bool, true, false, List, [], ◌∷◌, ◌++◌, drop, length, map, Option, Some, None, refl, sym, ap, subst, arith}
 use Rattle.std.specs.Prelude.{flat_map}
 use Rattle.std.specs.List.{AllByRecursion, slice_get}
 use Rattle.std.proofs.lemmas.Grind.{flat_map-append}
-use Rattle.std.proofs.lemmas.Option.{same_Some}
 use Rattle.nd_types.specs.declared.types.Attr.{Attr}
 use Rattle.nd_types.specs.declared.types.Class.{Class}
 use Rattle.nd_types.specs.declared.types.TypeDef.{TypeDef}
@@ -16,7 +15,7 @@ use Rattle.nd_types.specs.Table.{Table, type_at}
 use Rattle.nd_value.specs.declared.item.Home.{Home}
 use Rattle.nd_value.specs.declared.item.Home.TheVariants as home
 use Rattle.nd_value.specs.declared.value.Graph.{Graph}
-use Rattle.nd_value.specs.Agreement.{Agreement}
+use Rattle.nd_value.specs.Agreement.{Agreement, found_in}
 use Rattle.nd_value.specs.Deferral.{Deferral, Due, Pending as Pointer, Placed_cells, Standing, Step, at_null, at_referent, at_root, at_standing, before_pipes, due_of, due_referent, due_root}
 use Rattle.nd_value.specs.Deferral.{due_roots, home_pointers, none_due, pointer, pointer_by, referent_stands, root_stands, standing_cell, standing_root}
 use Rattle.nd_value.specs.Homes.{all_pointers, cell_pointers, root_pointers}
@@ -40,7 +39,9 @@ use Rattle.nd_grammar.proofs.next.StreamPointers.{is_good}
 use Rattle.ndr_trace_laws.specs.Untested.{is_test}
 use Rattle.ndr_trace_value.specs.Variable.{IsAtRoot, NamesAlone}
 use Rattle.ndr_trace.proofs.FrontStreams.{as_pointer}
-use Rattle.ndr_trace.proofs.OwnTests.{Later, OneOf, Says, pipes_later, roots_tell, tests_say, tests_tell, whole_later}
+use Rattle.ndr_trace.proofs.FrontTests.{OfStruct}
+use Rattle.ndr_trace.proofs.OwnTests.{Later, OneOf, Says, pipes_later, roots_tell, same_attr, same_wanted, tests_say, tests_tell, whole_later}
+use Rattle.ndr_trace.proofs.PointerMembers.{pointer_member}
 use Rattle.ndr_trace.proofs.SolePointers.{root_pointer, same_cell, the_one}
 
 -- ## The own values of homes have no agreements of members
@@ -153,28 +154,37 @@ module _ (w : Setting) (g : Graph) (s : IsSound w g) where
 
   -- ## The pointer that names the cell alone
 
-  -- a root is a pointer to the cell, and an attribute of the root states the number
-  pub record RootSays (at : ℕ) (r : Root) (p : Pointer) (a : Attr) (wanted : ℤ) : Type 0 where
+  -- the pointer is a root, and an attribute of the root states the number
+  pub record RootSays (p : Pointer) (a : Attr) (wanted : ℤ) : Type 0 where
+    pub at : ℕ
+    pub root : Root
+    pub there : slice_get (root_list w) at ≡ Some root
+    pub own : IsAtRoot p at
     pub class : Class
     pub to : TypeId
-    pub type_is : type_at w.table r.of ≡ Some (def.Pointer class to)
+    pub type_is : type_at w.table root.of ≡ Some (def.Pointer class to)
     pub to_is : p.to ≡ to.0
-    pub says : Says w g r.vars a wanted
+    pub says : Says w g root.vars a wanted
 
-  module _ (p : Pointer) (c : ℕ) (alone : NamesAlone w g p c) (at : ℕ) (r : Root) (there : slice_get (root_list w) at ≡ Some r) (own : IsAtRoot p at) (m : Entry) (a : Attr) (wanted found : ℤ)
-      (is : m.kind ≡ Test a wanted found) (at_cell : m.home ≡ cell_home c) where
-    -- it is no agreement of a member
-    no_member : OfPointer m → ⊥
-    no_member (q, d, mine, names, among) =
+  -- it has this agreement as a member
+  abbrev pub MemberSays : Pointer → Attr → ℤ → Type 0
+  MemberSays p a wanted = (x : Agreement) × Among p.agreements x × (x.attr ≡ a) × (x.wanted ≡ wanted)
+
+  module _ (p : Pointer) (c : ℕ) (alone : NamesAlone w g p c) (m : Entry) (a : Attr) (wanted found : ℤ) (is : m.kind ≡ Test a wanted found) (at_cell : m.home ≡ cell_home c) where
+    of_member : OfPointer m → MemberSays p a wanted
+    of_member (q, d, mine, names, among) =
         let (x, k, entry) = tests_tell (cell_home d) 0 (cell_at g d) q.agreements m among in
         let same : d ≡ c = same_cell d c (sym (ap (λ (y : Entry). y.home) entry) ∙ at_cell) in
         let one : q ≡ p = the_one w g s.unshared p q c alone mine (names ∙ ap (λ n. Some n) same) in
-        let none_there : q.agreements ≡ [] = ap (λ (y : Pointer). y.agreements) one ∙ bare p alone.among own.1 in
-        subst (λ xs. Among xs x) none_there k
+        let same_kind : Test x.attr x.wanted (found_in x.attr (cell_at g d)) ≡ Test a wanted found = sym (ap (λ (y : Entry). y.kind) entry) ∙ is in (
+          x,
+          subst (λ (y : Pointer). Among y.agreements x) one k,
+          same_attr x.attr a x.wanted wanted (found_in x.attr (cell_at g d)) found same_kind,
+          same_wanted x.attr a x.wanted wanted (found_in x.attr (cell_at g d)) found same_kind,
+        )
 
-    -- one of a root that names the cell is of that root
     named_root : (j : ℕ) (q : Root) (v : Tree) → slice_get (root_list w) j ≡ Some q → slice_get g.roots j ≡ Some v → Among (root_test g j v (root_agreements w g q.vars)) m
-        → RootSays at r p a wanted
+        → RootSays p a wanted
     named_root j q v root_is value e = by_value v value e
       where
         elsewhere : {A : Type 0} (u : Tree) → Among (tests (home.Root j) 0 u (root_agreements w g q.vars)) m → A
@@ -184,7 +194,7 @@ module _ (w : Setting) (g : Graph) (s : IsSound w g) where
             absurd (let y : ⊥ = cc in y)
 
         in_cell_of : (d : ℕ) (ks : Trees) → slice_get g.roots j ≡ Some (node (tree.Ptr (Some d)) ks) → Among (tests (cell_home d) 0 (cell_at g d) (root_agreements w g q.vars)) m
-            → RootSays at r p a wanted
+            → RootSays p a wanted
         in_cell_of d ks given k = by_shape known.0.shape
           where
             tells : (m.home ≡ cell_home d) × Says w g q.vars a wanted
@@ -201,27 +211,26 @@ module _ (w : Setting) (g : Graph) (s : IsSound w g) where
 
             by_shape : (tree.Ptr (Some d) ≡ tree.Unread)
                 ⊎ ((has_shape (type_at w.table q.of) (tree.Ptr (Some d)) ks ≡ true) × (has_counts (type_at w.table q.of) (tree.Ptr (Some d)) ks ≡ true))
-                → RootSays at r p a wanted
+                → RootSays p a wanted
             by_shape (inl u) = cc
             by_shape (inr (shape, counts)) =
                 let (class, to, type_is) = as_pointer (type_at w.table q.of) (Some d) ks shape in
                 let its : Pointer = record { home = home.Root j; node = 0; class = class; to = to.0; cell = Some d; agreements = [] } in
                 let mine : Mine its = root_pointer w g s.all_roots j q root_is class to type_is d ks value_is in
                 let one : its ≡ p = the_one w g s.unshared p its c alone mine (ap (λ n. Some n) same) in
-                let places : home.Root j ≡ home.Root at = ap (λ (y : Pointer). y.home) one ∙ own.0 in
-                let root_same : q ≡ r = same_Some _ _ (sym root_is ∙ ap (slice_get (root_list w)) (same_root places) ∙ there) in
                 record {
+                  at = j;
+                  root = q;
+                  there = root_is;
+                  own = (ap (λ (y : Pointer). y.home) (sym one), ap (λ (y : Pointer). y.node) (sym one));
                   class = class;
                   to = to;
-                  type_is = ap (λ (y : Root). type_at w.table y.of) (sym root_same) ∙ type_is;
+                  type_is = type_is;
                   to_is = sym (ap (λ (y : Pointer). y.to) one);
-                  says = subst (λ (y : Root). Says w g y.vars a wanted) root_same tells.1;
+                  says = tells.1;
                 }
-              where
-                same_root : home.Root j ≡ home.Root at → j ≡ at
-                same_root f = cc
 
-        by_value : (u : Tree) → slice_get g.roots j ≡ Some u → Among (root_test g j u (root_agreements w g q.vars)) m → RootSays at r p a wanted
+        by_value : (u : Tree) → slice_get g.roots j ≡ Some u → Among (root_test g j u (root_agreements w g q.vars)) m → RootSays p a wanted
         by_value (node (tree.Ptr None) ks) f k = absurd k
         by_value (node (tree.Ptr (Some d)) ks) f k = in_cell_of d ks f k
         by_value (node (tree.Num z) ks) f k = elsewhere (node (tree.Num z) ks) k
@@ -233,9 +242,9 @@ module _ (w : Setting) (g : Graph) (s : IsSound w g) where
         by_value (node tree.Pipe ks) f k = elsewhere (node tree.Pipe ks) k
         by_value (node tree.Unread ks) f k = elsewhere (node tree.Unread ks) k
 
-    -- an agreement that is tried in the cell which a root names alone is one of the root's
-    pub referent_test : (ms : List Entry) → Stream w g ms → Among ms m → m.node ≡ 0 → RootSays at r p a wanted
-    referent_test ms x among z = by_part (among_split (F ++ T) P m (subst (λ xs. Among xs m) x.is_representation among))
+    -- an agreement that is tried in the cell is the pointer's
+    pointer_test : (ms : List Entry) → Stream w g ms → Among ms m → m.node ≡ 0 → MemberSays p a wanted ⊎ RootSays p a wanted
+    pointer_test ms x among z = by_part (among_split (F ++ T) P m (subst (λ xs. Among xs m) x.is_representation among))
       where
         F : List Entry
         F = flat_map (step_entries w g) x.steps
@@ -254,15 +263,32 @@ module _ (w : Setting) (g : Graph) (s : IsSound w g) where
         due : AllByRecursion IsDue (due_roots 0 (before_pipes (root_list w)))
         due = roots_are_due 0 (before_pipes (root_list w)) (let b = some_before w g (root_list w) in omega (arith, b))
 
-        of_root : OneOf w g 0 (root_list w) g.roots m → RootSays at r p a wanted
+        of_root : OneOf w g 0 (root_list w) g.roots m → RootSays p a wanted
         of_root (j, q, v, root_is, value, k) = named_root j q v root_is value k
 
-        by_head : Among F m ⊎ Among T m → RootSays at r p a wanted
-        by_head (inl e) = absurd (no_member (all_among Tells F m e (steps_tell x.deferral due) tried z))
-        by_head (inr e) = of_root (roots_tell w g 0 (root_list w) g.roots m e)
+        by_head : Among F m ⊎ Among T m → MemberSays p a wanted ⊎ RootSays p a wanted
+        by_head (inl e) = inl (of_member (all_among Tells F m e (steps_tell x.deferral due) tried z))
+        by_head (inr e) = inr (of_root (roots_tell w g 0 (root_list w) g.roots m e))
 
-        by_part : Among (F ++ T) m ⊎ Among P m → RootSays at r p a wanted
+        by_part : Among (F ++ T) m ⊎ Among P m → MemberSays p a wanted ⊎ RootSays p a wanted
         by_part (inl e) = by_head (among_split F T m e)
         by_part (inr e) =
-            absurd (no_member (later_tells m (all_among (Later 0) P m e (pipes_later w.table (before_pipes (root_list w)) (drop (before_pipes (root_list w)) (root_list w))
+            inl (of_member (later_tells m (all_among (Later 0) P m e (pipes_later w.table (before_pipes (root_list w)) (drop (before_pipes (root_list w)) (root_list w))
             (drop (before_pipes (root_list w)) g.roots) x.cuts)) tried z))
+
+    -- if the pointer is a root, it is one of the root's attributes
+    pub root_test_of : (ms : List Entry) → Stream w g ms → Among ms m → m.node ≡ 0 → p.node ≡ 0 → RootSays p a wanted
+    root_test_of ms x among z own = go (pointer_test ms x among z)
+      where
+        go : MemberSays p a wanted ⊎ RootSays p a wanted → RootSays p a wanted
+        go (inl (y, k, attr_is, wanted_is)) = absurd (subst (λ xs. Among xs y) (bare p alone.among own) k)
+        go (inr r) = r
+
+    -- if it is not, it is one of a member's
+    pub member_test_of : (ms : List Entry) → Stream w g ms → Among ms m → m.node ≡ 0 → 0 < p.node → OfStruct w g p.home p.node a wanted
+    member_test_of ms x among z low = go (pointer_test ms x among z)
+      where
+        go : MemberSays p a wanted ⊎ RootSays p a wanted → OfStruct w g p.home p.node a wanted
+        go (inl (y, k, attr_is, wanted_is)) =
+            subst (λ u. OfStruct w g p.home p.node a u) wanted_is (subst (λ b. OfStruct w g p.home p.node b y.wanted) attr_is (pointer_member w g p y alone.among k))
+        go (inr r) = let own = r.own.1 in absurd (omega (arith, own, low))
