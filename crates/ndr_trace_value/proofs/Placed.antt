@@ -72,11 +72,11 @@ module _ (f : ℕ → Place) (table : Table) where
   are_placed (t ∷ types) (x ∷ places) n (more (node l ks) ts) e a = (
     a n (omega arith) (omega arith) ∙ ap (λ b. pick b (ltb n (n + 1 + node_count ks)) x (inner n) (outer n)) (eq-eqb n n refl),
     are_placed (child_types (type_at table t) l ks) (kid_places table t l ks) (n + 1) ks (child_length (type_at table t) (child_types (type_at table t) l ks)) (λ m low high.
-    a m (omega (arith, low)) (omega (arith, high))
-    ∙ ap₂ (λ b c. pick b c x (inner m) (outer m)) (ne_eqb m n (λ s. absurd (omega (arith, s, low)))) (lt-ltb m (n + 1 + node_count ks) high)),
+        a m (omega (arith, low)) (omega (arith, high))
+        ∙ ap₂ (λ b c. pick b c x (inner m) (outer m)) (ne_eqb m n (λ s. absurd (omega (arith, s, low)))) (lt-ltb m (n + 1 + node_count ks) high)),
     are_placed types places (n + 1 + node_count ks) ts (omega (arith, e)) (λ m low high.
-    a m (omega (arith, low)) (omega (arith, high))
-    ∙ ap₂ (λ b c. pick b c x (inner m) (outer m)) (ne_eqb m n (λ s. absurd (omega (arith, s, low)))) (le-ltb m (n + 1 + node_count ks) low)),
+        a m (omega (arith, low)) (omega (arith, high))
+        ∙ ap₂ (λ b c. pick b c x (inner m) (outer m)) (ne_eqb m n (λ s. absurd (omega (arith, s, low)))) (le-ltb m (n + 1 + node_count ks) low)),
   )
     where
       inner : ℕ → Place
@@ -106,7 +106,8 @@ module _ (w : Setting) (g : Graph) (h : Home) where
 pub step_off : (p name : List ℕ) → without_step (member_path p name) name ≡ p
 step_off p name =
     let all = length-append p (codes "." ++ name) in
-    let size : length (member_path p name) - length name - 1 ≡ length p = omega (arith, all) in
+    let step : length (codes "." ++ name) ≡ suc (length name) = refl in
+    let size : length (member_path p name) - length name - 1 ≡ length p = omega (arith, all, step) in
     ap (λ n. take n (member_path p name)) size ∙ take_front (length p) p (codes "." ++ name) refl
 
 -- by the path of the struct or by that of the member

@@ -28,10 +28,10 @@ kid_places table t l ks = child_places (type_at table t) (child_types (type_at t
 abbrev pub place_at : Table → List ℕ → List Place → ℕ → Trees → ℕ → Place
 place_at table (t ∷ types) (x ∷ places) n (more (node l ks) ts) m =
     elim (m == n) [
-      true ↦ x
-    | false ↦ elim (ltb m (n + 1 + node_count ks)) [
-        true ↦ place_at table (child_types (type_at table t) l ks) (kid_places table t l ks) (n + 1) ks m
-      | false ↦ place_at table types places (n + 1 + node_count ks) ts m
+      | true ↦ x
+      | false ↦ elim (ltb m (n + 1 + node_count ks)) [
+        | true ↦ place_at table (child_types (type_at table t) l ks) (kid_places table t l ks) (n + 1) ks m
+        | false ↦ place_at table types places (n + 1 + node_count ks) ts m
       ]
     ]
 place_at table _ _ n _ m = None

@@ -90,11 +90,7 @@ pub fn stated_path(
 
 /// The path of the variable of a member's attribute that speaks of an item of this kind. It is empty if a node is no member, or the member has no
 /// such attribute.
-pub fn variable_beside(
-    alloc: Global,
-    kind: ItemKind,
-    spot: &Spot<'_, '_>,
-) -> Result<Octets, Memory>
+pub fn variable_beside(alloc: Global, kind: ItemKind, spot: &Spot<'_, '_>) -> Result<Octets, Memory>
     ensures { IfOk result (λ text. text ≡ place_variable kind
         (path_to (name_text spot.now.name) (reverse spot.now.below.now.items)) (level_place spot.now.top)) }
 {
@@ -139,11 +135,7 @@ pub fn struct_path(alloc: Global, spot: &Spot<'_, '_>) -> Result<Octets, Memory>
 }
 
 // The path of the variable that states a maximum count.
-fn variable_in_front(
-    alloc: Global,
-    types: &Types,
-    spot: &Spot<'_, '_>,
-) -> Result<Octets, Memory>
+fn variable_in_front(alloc: Global, types: &Types, spot: &Spot<'_, '_>) -> Result<Octets, Memory>
     ensures { IfOk result (λ text. text ≡ front_variable types.now (whole_types spot.now.top)
         (path_to (name_text spot.now.name) (spot.now.top ∷ reverse spot.now.below.now.items))) }
 {
