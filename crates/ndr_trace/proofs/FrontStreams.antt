@@ -229,9 +229,9 @@ module _ (w : Setting) (side : IsLegalSide w) (g : Graph) (s : IsSound w g) wher
   nodes_take t (suc c) n none ags x m = absurd m
   nodes_take t (suc c) n (more (node l ks) ts) ags x (inl e) = inl e
   nodes_take t (suc c) n (more (node l ks) ts) ags x (inr m) =
-      let inner = nodes_of w.table (child_types (type_at w.table t) l ks) (child_agreements (type_at w.table t) ks) (n + 1) ks in
-      let outer = nodes_of w.table (replicate (count ts) t) (rest_agreements ags) (n + 1 + node_count ks) ts in
-      go (among_split inner (nodes_of w.table (replicate c t) (rest_agreements ags) (n + 1 + node_count ks) (take_trees c ts)) x m)
+      go
+      (among_split (nodes_of w.table (child_types (type_at w.table t) l ks) (child_agreements (type_at w.table t) ks) (n + 1) ks)
+      (nodes_of w.table (replicate c t) (rest_agreements ags) (n + 1 + node_count ks) (take_trees c ts)) x m)
       (nodes_take t c (n + 1 + node_count ks) ts (rest_agreements ags) x)
     where
       go : Among (nodes_of w.table (child_types (type_at w.table t) l ks) (child_agreements (type_at w.table t) ks) (n + 1) ks) x

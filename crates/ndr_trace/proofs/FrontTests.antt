@@ -422,8 +422,8 @@ module _ (w : Setting) (g : Graph) where
     module _ (h : Home) (t : ℕ) (types : List ℕ) (n : ℕ) (l : Label) (ks ts : Trees) (o : OnlyLast (hoists w.table) (t ∷ types)) (c : IfLast h (t ∷ types) n (more (node l ks) ts))
         (nodes : HaveNodes h (t ∷ types) n (more (node l ks) ts)) (fs : List Field) (d : type_at w.table t ≡ Some (def.Struct fs)) (r : l ≡ tree.Rec) where
       -- each member
-      of_struct : (i : ℕ) (f : Field) (m : ℕ) → slice_get fs i ≡ Some f → i < count ks → m ≡ member_node n i ks → AllOfStruct h m (member_agreements ks f.vars)
-      of_struct i f m there within place a among low =
+      said_struct : (i : ℕ) (f : Field) (m : ℕ) → slice_get fs i ≡ Some f → i < count ks → m ≡ member_node n i ks → AllOfStruct h m (member_agreements ks f.vars)
+      said_struct i f m there within place a among low =
           let struct : TypedNode = record { node = n; of = t; agreements = first_agreements nodes.0; label = l; kids = ks } in
           let (of, home_is, in_home) = nodes.1 struct (inl refl) in
           let s = says_of g ks f.vars a among in
@@ -499,7 +499,7 @@ module _ (w : Setting) (g : Graph) where
             (let own : hoists w.table f.of.0 ≡ true = laid.unfolds f.of.0 ∙ conformant_hoists (hoists w.table) (type_at w.table f.of.0) fits in
             said_last i f first (ap (slice_get fs) (plus_zero i) ∙ get 0) final (e ∙ sym (place 0) ∙ ap (λ x. member_node n x ks) (sym (plus_zero i))) one.0
             (is_last types o c (top (same ∙ own))))),
-        of_struct i f first (ap (slice_get fs) (plus_zero i) ∙ get 0) (omega (arith, size)) (e ∙ sym (place 0) ∙ ap (λ x. member_node n x ks) (sym (plus_zero i))),
+        said_struct i f first (ap (slice_get fs) (plus_zero i) ∙ get 0) (omega (arith, size)) (e ∙ sym (place 0) ∙ ap (λ x. member_node n x ks) (sym (plus_zero i))),
         tt,
       )
         where
@@ -509,7 +509,7 @@ module _ (w : Setting) (g : Graph) where
         (λ fits.
             (let own : hoists w.table f.of.0 ≡ true = laid.unfolds f.of.0 ∙ conformant_hoists (hoists w.table) (type_at w.table f.of.0) fits in
             clash (hoists w.table f.of.0) own only.0)),
-        of_struct i f first (ap (slice_get fs) (no_further i) ∙ get 0) (omega (arith, size)) (e ∙ sym (place 0) ∙ ap (λ x. member_node n x ks) (sym (no_further i))),
+        said_struct i f first (ap (slice_get fs) (no_further i) ∙ get 0) (omega (arith, size)) (e ∙ sym (place 0) ∙ ap (λ x. member_node n x ks) (sym (no_further i))),
         members_said (i + 1) (m + 1 + node_count js) (f' ∷ gs) us (first + 1 + node_count js) (omega (arith, e)) (omega (arith, size))
             (λ j. ap (slice_get fs) (one_further j) ∙ get (suc j)) (λ j. ap (λ x. member_node n x ks) (one_further j) ∙ place (suc j)) final same only.1 one.1 top,
       )

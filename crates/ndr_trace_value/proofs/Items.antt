@@ -414,10 +414,10 @@ module _ (k : Known) (u : Ground) (ground : IsGround k u) where
       its_variable =
           let p0 : List ℕ = path_to (name_text s.name) (s.top ∷ reverse s.below.now.items) in
           let q0 : List ℕ = path_to (name_text s.name) (reverse s.below.now.items) in
-          let as : ItemKind = (item_as k.order x (piece k.fetched p.at x)).0 in
+          let its_kind : ItemKind = (item_as k.order x (piece k.fetched p.at x)).0 in
           ap (λ table. level_variable table i.kind s.top p0 q0) ground.table ∙ ap (λ m. level_variable k.setting.table m s.top p0 q0) kind
           ∙ variable_by_home s x (piece k.fetched p.at x) item front
-          ∙ ap₂ (counted_variable k.setting.table as (home_types k.setting k.graph s.home)) spot.path spot.place
+          ∙ ap₂ (counted_variable k.setting.table its_kind (home_types k.setting k.graph s.home)) spot.path spot.place
           ∙ ap (λ m. counted_variable k.setting.table m (home_types k.setting k.graph s.home) (path_in (home_paths k.setting k.graph s.home) n)
           (home_place k.setting k.graph s.home n)) (sym kind)
           ∙ ap₂ (λ (h : Home) (m : ℕ). counted_variable k.setting.table i.kind (home_types k.setting k.graph h) (path_in (home_paths k.setting k.graph h) m)

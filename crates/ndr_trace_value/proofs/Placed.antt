@@ -106,7 +106,8 @@ module _ (w : Setting) (g : Graph) (h : Home) where
 pub step_off : (p name : List ℕ) → without_step (member_path p name) name ≡ p
 step_off p name =
     let all = length-append p (codes "." ++ name) in
-    let size : length (member_path p name) - length name - 1 ≡ length p = omega (arith, all) in
+    let step : length (codes "." ++ name) ≡ suc (length name) = refl in
+    let size : length (member_path p name) - length name - 1 ≡ length p = omega (arith, all, step) in
     ap (λ n. take n (member_path p name)) size ∙ take_front (length p) p (codes "." ++ name) refl
 
 -- by the path of the struct or by that of the member

@@ -1,4 +1,5 @@
-use Rattle.std.proofs.Common.{rules, ℤ, ap, ◌∙◌}
+use Rattle.std.proofs.Common.{rules, ℕ, ℤ, Option, ap, ◌∙◌, option_map}
+use Rattle.std.specs.Prelude.{option_copied}
 use Rattle.std.proofs.lemmas.Int.{to_z-of_z}
 use mir.Val.{SFits}
 use mir.Syntax.{w128}
@@ -18,7 +19,8 @@ returns-in-Arr-clause-is c =
 
 pub returns-in-Arr-clause-places : goal.returns-in-Arr-clause-places
 returns-in-Arr-clause-places c =
-    array_children (type_at c.args.types.now c.args.of.0) _ c.in-Arr.count (λ p. elem_paths _ p c.in-Arr.offset c.in-Arr.count) c.elements.result c.array_elem.ensures
+    let elem : Option ℕ = option_map (λ t. t.0) c.array_elem.result in
+    array_children (type_at c.args.types.now c.args.of.0) elem c.in-Arr.count (λ p. elem_paths elem p c.in-Arr.offset c.in-Arr.count) c.elements.result c.array_elem.ensures
     c.elements.ensures.is c.elements.ensures.places
 
 pub returns-in-Pipe-clause-is : goal.returns-in-Pipe-clause-is
@@ -28,7 +30,8 @@ returns-in-Pipe-clause-is c =
 
 pub returns-in-Pipe-clause-places : goal.returns-in-Pipe-clause-places
 returns-in-Pipe-clause-places c =
-    pipe_children (type_at c.args.types.now c.args.of.0) _ c.in-Pipe.count (λ p. elem_paths _ p 0 c.in-Pipe.count) c.elements-in-Pipe.result c.pipe_elem.ensures
+    let elem : Option ℕ = option_map (λ t. t.0) c.pipe_elem.result in
+    pipe_children (type_at c.args.types.now c.args.of.0) elem c.in-Pipe.count (λ p. elem_paths elem p 0 c.in-Pipe.count) c.elements-in-Pipe.result c.pipe_elem.ensures
     c.elements-in-Pipe.ensures.is c.elements-in-Pipe.ensures.places
 
 pub returns-in-Union-clause-is : goal.returns-in-Union-clause-is
@@ -44,7 +47,7 @@ returns-in-Union-clause-places c =
     let z : ℤ = c.in-Union.tag in
     let fits : SFits w128 z = search rules in
     let d = type_at c.args.types.now c.args.of.0 in
-    union_children d z _ (λ p. armed_paths p _) c.arm_value.result (c.arm_of.ensures ∙ ap (union_arm d) (to_z-of_z w128 z fits)) c.arm_value.ensures.is c.arm_value.ensures.places
+    union_children d z (option_copied c.arm_of.result) (λ p. armed_paths p (option_copied c.arm_of.result)) c.arm_value.result (c.arm_of.ensures ∙ ap (union_arm d) (to_z-of_z w128 z fits)) c.arm_value.ensures.is c.arm_value.ensures.places
 
 pub returns-in-Num-clause-places : goal.returns-in-Num-clause-places
 returns-in-Num-clause-places c = no_children (type_at c.args.types.now c.args.of.0)
