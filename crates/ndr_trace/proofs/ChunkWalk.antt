@@ -265,7 +265,7 @@ module _ (k : Known) (h : Home) (name : List ℕ) (t before : ℕ) (rest : List 
 
 -- a pipe's home, where its counts are
 pub at_home : (k : Known) (h : Home) (name : List ℕ) → path_in (home_paths k.setting k.graph h) 0 ≡ name → (of : TypeId) (s : Spot) → s.home ≡ h → name_text s.name ≡ name
-    → s.top ≡ level.Whole of → s.below.now.items ≡ [] → IsFrom k s.home s.from → IsSpot k s 0
+    → s.top ≡ level.Whole of → s.below.now.items ≡ [] → IsFrom k s.home s.from.now → IsSpot k s 0
 at_home k h name own of s home named top below from = record {
   path =
       ap₂ (λ (M : Level) (Ms : List Level). path_to (name_text s.name) (M ∷ reverse Ms)) top below ∙ named ∙ sym own

@@ -39,9 +39,8 @@ use Rattle.nd_grammar.proofs.next.StreamPointers.{is_good}
 use Rattle.ndr_trace_laws.specs.Untested.{is_test}
 use Rattle.ndr_trace_value.specs.Variable.{IsAtRoot, NamesAlone}
 use Rattle.ndr_trace.proofs.FrontStreams.{as_pointer}
-use Rattle.ndr_trace.proofs.FrontTests.{OfStruct}
 use Rattle.ndr_trace.proofs.OwnTests.{Later, OneOf, Says, pipes_later, roots_tell, same_attr, same_wanted, tests_say, tests_tell, whole_later}
-use Rattle.ndr_trace.proofs.PointerMembers.{pointer_member}
+use Rattle.ndr_trace.proofs.PointerMembers.{IsPointerMember, pointer_member}
 use Rattle.ndr_trace.proofs.SolePointers.{root_pointer, same_cell, the_one}
 
 -- ## The own values of homes have no agreements of members
@@ -285,10 +284,10 @@ module _ (w : Setting) (g : Graph) (s : IsSound w g) where
         go (inr r) = r
 
     -- if it is not, it is one of a member's
-    pub member_test_of : (ms : List Entry) → Stream w g ms → Among ms m → m.node ≡ 0 → 0 < p.node → OfStruct w g p.home p.node a wanted
+    pub member_test_of : (ms : List Entry) → Stream w g ms → Among ms m → m.node ≡ 0 → 0 < p.node → IsPointerMember w g p a wanted
     member_test_of ms x among z low = go (pointer_test ms x among z)
       where
-        go : MemberSays p a wanted ⊎ RootSays p a wanted → OfStruct w g p.home p.node a wanted
+        go : MemberSays p a wanted ⊎ RootSays p a wanted → IsPointerMember w g p a wanted
         go (inl (y, k, attr_is, wanted_is)) =
-            subst (λ u. OfStruct w g p.home p.node a u) wanted_is (subst (λ b. OfStruct w g p.home p.node b y.wanted) attr_is (pointer_member w g p y alone.among k))
+            subst (λ u. IsPointerMember w g p a u) wanted_is (subst (λ b. IsPointerMember w g p b y.wanted) attr_is (pointer_member w g p y alone.among k))
         go (inr r) = let own = r.own.1 in absurd (omega (arith, own, low))

@@ -128,7 +128,7 @@ module _ (k : Known) (due : List Due) (rest : List Entry) (names : Placed_cells)
 
     -- the cell of a reference pointer is come to, and it is known where the pointer is
     abbrev Direct : Walker → CellId → TypeId → Type 0
-    Direct w cell to = Entering k due rest names w (home.Cell cell) (named.Cell cell) to.0 × IsFrom k (home.Cell cell) (only_spot Ref (home.Root at) 0)
+    Direct w cell to = Entering k due rest names w (home.Cell cell) (named.Cell cell) to.0 × IsFrom k (home.Cell cell) (only_spot k Ref (home.Root at) 0)
 
     -- a root that is a reference pointer, where it is read: the cell that it names is the next
     pub direct_root : (u w : Walker) (to : TypeId) (cell : CellId) → type_at k.setting.table r.of ≡ Some (def.Pointer Ref to) → IsReady k u.progress

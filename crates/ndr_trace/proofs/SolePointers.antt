@@ -1,6 +1,6 @@
 -- A reference or unique pointer is the only one that names its cell.
 -- `w` is a setting, `g` a graph, `p` and `q` are pointers, `c` and `d` cells, `h` is a home, `n` a node's number, `r` a root, `ks` are the children of a pointer's node.
-use Rattle.std.proofs.Common.{◌≡◌, ◌⊎◌, inl, inr, ◌∙◌, ℕ, true, [], ◌++◌, length, Some, None, refl, sym, ap, subst}
+use Rattle.std.proofs.Common.{◌≡◌, ◌⊎◌, inl, inr, ◌∙◌, ℕ, true, List, [], ◌++◌, length, Option, Some, None, refl, sym, ap, subst}
 use Rattle.std.specs.List.{slice_get}
 use Rattle.nd_types.specs.declared.types.Class.{Class}
 use Rattle.nd_types.specs.declared.types.Class.TheVariants.{Full, Ref, Unique}
@@ -10,6 +10,7 @@ use Rattle.nd_types.specs.Roots.{Root}
 use Rattle.nd_types.specs.Table.{Table, type_at}
 use Rattle.nd_value.specs.declared.item.Home.{Home}
 use Rattle.nd_value.specs.declared.item.Home.TheVariants as home
+use Rattle.nd_value.specs.declared.item.ItemKind.{ItemKind}
 use Rattle.nd_value.specs.declared.value.Graph.{Graph}
 use Rattle.nd_value.specs.Conforms.{AllEarlier, ShareOnlyIfFull}
 use Rattle.nd_value.specs.Deferral.{Pending as Pointer, home_pointers, pointer_by}
@@ -19,9 +20,11 @@ use Rattle.nd_value.specs.Tree as tree
 use Rattle.nd_value.specs.Tree.{Tree, Trees, node}
 use Rattle.nd_value.proofs.Apart.{among_left}
 use Rattle.nd_grammar.proofs.next.PointerPlaces.{among_two, in_root}
+use Rattle.ndr_explain.specs.Explained.{home_paths, path_in}
 use Rattle.ndr_trace_value.specs.Naming.{only_spot}
-use Rattle.ndr_trace_value.specs.Tracing.{IsFrom, Known}
+use Rattle.ndr_trace_value.specs.Tracing.{IsFrom, Known, kind_in, kind_variable, spot_of}
 use Rattle.ndr_trace_value.specs.Variable.{NamesAlone}
+use Rattle.ndr_trace_value.proofs.Placed.{home_plain}
 use Rattle.ndr_trace.specs.Homes.{IsPart}
 
 pub same_cell : (c d : ℕ) → cell_home c ≡ cell_home d → c ≡ d
@@ -40,18 +43,29 @@ the_one w g apart p q c alone among is = by (among_two ShareOnlyIfFull turned (a
     by (inl e) = e
     by (inr f) = absurd (alone.unshared (f c is alone.cell).1)
 
-only_there : (class : Class) (h : Home) (n : ℕ) → (class ≡ Full → ⊥) → only_spot class h n ≡ Some (record { home = h; node = n })
-only_there Full h n f = absurd (f refl)
-only_there Ref h n f = refl
-only_there Unique h n f = refl
+only_there : (k : Known) (class : Class) (h : Home) (n : ℕ) → (class ≡ Full → ⊥) → only_spot k class h n ≡ Some (spot_of k h n)
+only_there k Full h n f = absurd (f refl)
+only_there k Ref h n f = refl
+only_there k Unique h n f = refl
 
 -- so where a pointer names a cell, it is the one that names it alone, if there is one
 pub from_pointer : (k : Known) → IsPart k → (q : Pointer) (c : ℕ) → Among (all_pointers k.setting k.graph) q → q.cell ≡ Some c
-    → IsFrom k (cell_home c) (only_spot q.class q.home q.node)
+    → IsFrom k (cell_home c) (only_spot k q.class q.home q.node)
 from_pointer k s q c among is p d alone at_home =
     let same : c ≡ d = same_cell c d at_home in
     let one : q ≡ p = the_one k.setting k.graph s.partial.unshared p q d alone among (is ∙ ap (λ n. Some n) same) in
-    ap (λ (x : Pointer). only_spot x.class x.home x.node) one ∙ only_there p.class p.home p.node alone.unshared
+    ap (λ (x : Pointer). only_spot k x.class x.home x.node) one ∙ only_there k p.class p.home p.node alone.unshared
+
+-- no variable is kept for a home's own value, which is no member
+no_variable : (o : Option ItemKind) (path : List ℕ) → kind_variable o path None ≡ []
+no_variable None path = refl
+no_variable (Some m) path = refl
+
+pub root_spot : (k : Known) (at : ℕ) (variable : List ℕ) → variable ≡ [] → Some (record { home = home.Root at; node = 0; variable = variable }) ≡ only_spot k Ref (home.Root at) 0
+root_spot k at variable e =
+    ap (λ q. Some (record { home = home.Root at; node = 0; variable = q }))
+    (e ∙ sym (ap (kind_variable (kind_in k.log k.sought) (path_in (home_paths k.setting k.graph (home.Root at)) 0)) (home_plain k.setting k.graph (home.Root at))
+    ∙ no_variable (kind_in k.log k.sought) (path_in (home_paths k.setting k.graph (home.Root at)) 0)))
 
 -- a root is no cell
 pub from_root : (k : Known) (at : ℕ) → IsFrom k (home.Root at) None

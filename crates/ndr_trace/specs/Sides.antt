@@ -17,7 +17,7 @@ use Rattle.ndr_trace_value.specs.declared.nodes.Walker.{Walker}
 use Rattle.ndr_trace_value.specs.declared.progress.Ground.{Ground}
 use Rattle.ndr_trace_value.specs.declared.progress.Progress.{Progress}
 use Rattle.ndr_trace_value.specs.declared.search.Sought.{Sought}
-use Rattle.ndr_trace_value.specs.Attributes.{IsKeptName, IsOwnName, IsPointedName}
+use Rattle.ndr_trace_value.specs.Attributes.{IsKeptName, IsOwnName, IsPointedName, IsPointedPath}
 use Rattle.ndr_trace.specs.Homes.{IsAwaiting}
 use Rattle.ndr_trace_value.specs.Naming.{IsNaming, names_in}
 use Rattle.ndr_trace_value.specs.Tracing.{IsTracing, Known}
@@ -78,4 +78,4 @@ abbrev pub IsFinished : Ground → Option Sought → Progress → List ℕ → T
 IsFinished u None p shown = shown ≡ p.path
 IsFinished u (Some s) p shown =
     (variable : List ℕ) × IsOwnName u s variable × IsKeptName u s p.variable variable × IsPointedName u s p.from p.variable variable
-    × (shown ≡ p.path ++ (codes " " ++ variable))
+    × IsPointedPath u s p.from p.variable variable × (shown ≡ p.path ++ (codes " " ++ variable))

@@ -16,12 +16,13 @@ ghost use Rattle.ndr_trace.specs.Homes.{HasHome, HasPassed, IsAwaiting, IsFront,
 ghost use Rattle.ndr_trace_value.specs.Naming.{IsNaming, names_in};
 ghost use Rattle.ndr_trace_value.specs.Tracing.{IsEnded, IsFrom, IsGround, IsTracing, Known};
 
+use nd_base::Octets;
 use nd_types::{Class, Interface, RootDef, TypeDef, TypeId};
 use nd_value::Home;
 use ndr_explain::{HomeName, Level};
 use ndr_trace_value::{
     Ground, Halt, Pending, PointerSpot, RootSeen, Spot, Walker, at_end, close, come_to, count, gap,
-    new_cell, note_direct, only_pointer, walk_level,
+    new_cell, note_direct, walk_level,
 };
 
 /// Walks over a root and the referents that it makes due.
@@ -89,13 +90,14 @@ fn walk_plain<'a>(
         → IsErrOf result halts.Here → IsEnded k walker.new.progress }
 {
     let home = Home::Root(at);
+    let from = None;
     walk_home(
         ground,
         walker,
         home,
         HomeName::Word(root.name),
         root.of,
-        None,
+        &from,
     )?;
     Ok(())
 }
@@ -135,14 +137,18 @@ fn walk_direct<'a>(
     let cell = new_cell(&mut walker.cells);
     come_to(&mut walker.cells, cell)?;
     note_direct(&mut walker.search, cell);
-    let from = only_pointer(Class::Ref, Home::Root(at), 0);
+    let from = Some(PointerSpot {
+        home: Home::Root(at),
+        node: 0,
+        variable: Octets::new(ground.alloc),
+    });
     walk_home(
         ground,
         walker,
         Home::Cell(cell),
         HomeName::Cell(cell),
         to,
-        from,
+        &from,
     )?;
     Ok(())
 }
@@ -154,12 +160,12 @@ fn walk_home<'a>(
     home: Home,
     name: HomeName<'a>,
     of: TypeId,
-    from: Option<PointerSpot>,
+    from: &Option<PointerSpot>,
 ) -> Result<(), Halt>
-    ensures goes { (k : Known) → IsGround k ground.now → HasHome k home name.entry of.0 → IsFrom k home from → (rest : List Entry) (names : Placed_cells)
+    ensures goes { (k : Known) → IsGround k ground.now → HasHome k home name.entry of.0 → IsFrom k home from.now → (rest : List Entry) (names : Placed_cells)
         → IsTracing k walker.old.progress (home_due k home of.0 ++ rest) → IsNaming k walker.old.cells (names_in (home_due k home of.0) ++ names)
         → IfOk result (λ _. IsTracing k walker.new.progress rest × HasPassed k walker.old.cells walker.new.cells (home_due k home of.0) names) }
-    ensures ends { (k : Known) → IsGround k ground.now → HasHome k home name.entry of.0 → IsFrom k home from → (rest : List Entry) (names : Placed_cells)
+    ensures ends { (k : Known) → IsGround k ground.now → HasHome k home name.entry of.0 → IsFrom k home from.now → (rest : List Entry) (names : Placed_cells)
         → IsTracing k walker.old.progress (home_due k home of.0 ++ rest) → IsNaming k walker.old.cells (names_in (home_due k home of.0) ++ names)
         → IsErrOf result halts.Here → IsEnded k walker.new.progress }
 {
@@ -178,13 +184,13 @@ fn front<'a>(
     home: Home,
     name: HomeName<'a>,
     of: TypeId,
-    from: Option<PointerSpot>,
+    from: &Option<PointerSpot>,
 ) -> Result<u32, Halt>
-    ensures goes { (k : Known) → IsGround k ground.now → HasHome k home name.entry of.0 → IsFrom k home from → (rest : List Entry)
+    ensures goes { (k : Known) → IsGround k ground.now → HasHome k home name.entry of.0 → IsFrom k home from.now → (rest : List Entry)
         → IsTracing k walker.old.progress (home_due k home of.0 ++ rest)
         → IfOk result (λ max. IsTracing k walker.new.progress (values_due k home (of.0 ∷ []) 0 (more (home_value k.graph home) none) ++ rest)
         × IsFront k home of.0 max) }
-    ensures ends { (k : Known) → IsGround k ground.now → HasHome k home name.entry of.0 → IsFrom k home from → (rest : List Entry)
+    ensures ends { (k : Known) → IsGround k ground.now → HasHome k home name.entry of.0 → IsFrom k home from.now → (rest : List Entry)
         → IsTracing k walker.old.progress (home_due k home of.0 ++ rest) → IsErrOf result halts.Here → IsEnded k walker.new.progress }
     ensures cells { walker.new.cells ≡ walker.old.cells }
 {
@@ -254,7 +260,7 @@ fn walk_referent<'a>(
         Home::Cell(next.cell),
         HomeName::Cell(next.cell),
         next.to,
-        next.from,
+        &next.from,
     )?;
     Ok(())
 }

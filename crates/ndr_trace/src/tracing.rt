@@ -12,7 +12,7 @@ ghost use Rattle.nd_grammar.specs.LegalSide.{IsLegalSide};
 ghost use Rattle.ndr_decoder_laws.specs.verdict.InOrder.{HasOwnNumbers};
 ghost use Rattle.ndr_trace.specs.Homes.{IsPart};
 ghost use Rattle.ndr_trace.specs.Sides.{IsBeginning, IsFinished, IsSide, IsStream};
-ghost use Rattle.ndr_trace_value.specs.Attributes.{IsKeptName, IsOwnName, IsPointedName};
+ghost use Rattle.ndr_trace_value.specs.Attributes.{IsKeptName, IsOwnName, IsPointedName, IsPointedPath};
 ghost use Rattle.ndr_trace_value.specs.Traces.{IsTraceOf};
 ghost use Rattle.ndr_trace_value.specs.Tracing.{IsEnded, IsGround, Known};
 
@@ -145,7 +145,7 @@ fn finish<'a>(ground: &Ground<'a>, walker: Walker<'a>) -> Result<Traced, Memory>
         ..
     } = progress;
     match ground.sought {
-        Some(sought) => finish_at(ground, &search, sought, lines, path, &variable, from),
+        Some(sought) => finish_at(ground, &search, sought, lines, path, &variable, &from),
         None => Ok(Traced { lines, path }),
     }
 }
@@ -158,11 +158,11 @@ fn finish_at(
     lines: Octets,
     path: Octets,
     kept: &Octets,
-    from: Option<PointerSpot>,
+    from: &Option<PointerSpot>,
 ) -> Result<Traced, Memory>
     ensures lines { IfOk result (λ t. t.lines ≡ lines) }
     ensures path { IfOk result (λ t. (variable : List ℕ) × IsOwnName ground.now sought variable × IsKeptName ground.now sought kept.now variable
-        × IsPointedName ground.now sought from kept.now variable × (t.path ≡ path ++ (codes " " ++ variable))) }
+        × IsPointedName ground.now sought from.now kept.now variable × IsPointedPath ground.now sought from.now kept.now variable × (t.path ≡ path ++ (codes " " ++ variable))) }
 {
     let variable = variable_path(ground, search, sought, kept, from)?;
     let mut path = path;

@@ -357,12 +357,12 @@ module _ (k : Known) (u : Ground) (ground : IsGround k u) where
       ≡ either_path (is_sought u.sought p.next)
       (level_variable u.interface.now.types i.kind s.top (path_to (name_text s.name) (s.top ∷ reverse s.below.now.items))
       (path_to (name_text s.name) (reverse s.below.now.items))) p.variable
-      → p1.from ≡ either_from (is_sought u.sought p.next) s.from p.from → IsTracing k p1 rest × Holds k x i.value
+      → p1.from ≡ either_from (is_sought u.sought p.next) s.from.now p.from → IsTracing k p1 rest × Holds k x i.value
   item_goes s n spot x item label front rest p p1 t i got t1 t2 t3 t4 t5 t6 e1 e2 e3 e4 e5 e6 lines next at path variable from = (
     item_passed k p p1 (entry_at s n x) rest z i one t there next at
         (held_next k (sought_path k) p.next i there u.sought ground.sought_is p.path p1.path _ t.path its_path path)
         (held_next k (sought_variable k) p.next i there u.sought ground.sought_is p.variable p1.variable _ t.variable (λ empty. its_variable) variable)
-        (from_next k p.next i there u.sought ground.sought_is p.from p1.from s.from t.from (subst (λ h. IsFrom k h s.from) (sym home) spot.from) from) line,
+        (from_next k p.next i there u.sought ground.sought_is p.from p1.from s.from.now t.from (subst (λ h. IsFrom k h s.from.now) (sym home) spot.from) from) line,
     subst (Holds k x) (sym value) (holds k p.at x item ground.are_octets one.rendered.0 one.rendered.1),
   )
     where

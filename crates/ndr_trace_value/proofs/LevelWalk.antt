@@ -203,7 +203,7 @@ module _ (k : Known) (h : Home) (max : ℕ) (name : List ℕ) (L : Level) (Ls : 
   own = subst (λ ts. AreOwn k max ts (more (node l ks) us)) types_are there.own
 
   -- it is a node where it is
-  pub is_node : (s : Spot) → s.home ≡ h → name_text s.name ≡ name → s.top ≡ L → reverse s.below.now.items ≡ Ls → IsFrom k s.home s.from → IsNode k s max t n l ks
+  pub is_node : (s : Spot) → s.home ≡ h → name_text s.name ≡ name → s.top ≡ L → reverse s.below.now.items ≡ Ls → IsFrom k s.home s.from.now → IsNode k s max t n l ks
   is_node s home named top below from = record {
     spot = record {
       path =
@@ -300,8 +300,8 @@ no_values k h n (more v w) = refl
 pub names_append : (xs ys : List Entry) → names_in (xs ++ ys) ≡ names_in xs ++ names_in ys
 names_append xs ys = flat_map-append (λ (m : Entry). named_by m.kind) xs ys
 
-pending_append : (xs ys : List Entry) → pending_in (xs ++ ys) ≡ pending_in xs ++ pending_in ys
-pending_append xs ys = flat_map-append (λ (m : Entry). pending_by m.home m.node m.kind) xs ys
+pending_append : (k : Known) (xs ys : List Entry) → pending_in k (xs ++ ys) ≡ pending_in k xs ++ pending_in k ys
+pending_append k xs ys = flat_map-append (λ (m : Entry). pending_by k m.home m.node m.kind) xs ys
 
 -- what visiting a node comes to
 abbrev pub Visits : Known → Spot → ℕ → ℕ → ℕ → Walker → Walker → Flat → Type 0
@@ -312,7 +312,7 @@ Visits k s max t n before after f =
 
 module _ (k : Known) (s : Spot) (max : ℕ) (L : Level) (Ls : List Level) (n : ℕ) (t : ℕ) (first : level_types L ≡ t ∷ drop 1 (level_types L))
     (some : 0 < length (level_types L)) (rest : List Entry) (names : Placed_cells) (before after : Walker) (f : Flat)
-    (visits : Visits k s max t n before after f) (top : s.top ≡ L) (below : reverse s.below.now.items ≡ Ls) (from : IsFrom k s.home s.from)
+    (visits : Visits k s max t n before after f) (top : s.top ≡ L) (below : reverse s.below.now.items ≡ Ls) (from : IsFrom k s.home s.from.now)
     (inner : Option Level) (level : IsChildLevel k.setting.table t f inner)
     (places : inner_places inner ≡ child_places (type_at k.setting.table t) (inner_types inner)) (r : Option Levels)
     (next : HasChild inner → AreLevelsOf (inner_types inner ++ types_after (L ∷ Ls)) (λ q. inner_paths (path_to q (L ∷ Ls)) inner ++ paths_after q (L ∷ Ls)) r)
@@ -419,8 +419,8 @@ named_on : (k : Known) (a b c : Cells) (xs ys : List Entry) (before names : Plac
 named_on k a b c xs ys before names g h = record {
   naming = h.naming;
   pending =
-      h.pending ∙ ap (λ ps. ps ++ pending_in ys) g.pending ∙ append_assoc a.pending.items (pending_in xs) (pending_in ys)
-      ∙ ap (λ ps. a.pending.items ++ ps) (sym (pending_append xs ys));
+      h.pending ∙ ap (λ ps. ps ++ pending_in k ys) g.pending ∙ append_assoc a.pending.items (pending_in k xs) (pending_in k ys)
+      ∙ ap (λ ps. a.pending.items ++ ps) (sym (pending_append k xs ys));
   stands = h.stands ∙ g.stands;
 }
 
@@ -493,7 +493,7 @@ pub node_stopped : {E : Type 0} (k : Known) (s : Spot) (max : ℕ) (L : Level) (
     → (rest : List Entry) (names : Placed_cells) (before : Walker)
     → ((l : Label) (ks : Trees) → IsNode k s max t n l ks → (later : List Entry) → IsTracing k before.progress (own_due k s.home n t l ks ++ later)
     → (more_names : Placed_cells) → IsNaming k before.cells (names_in (own_due k s.home n t l ks) ++ more_names) → E)
-    → s.top ≡ L → reverse s.below.now.items ≡ Ls → IsFrom k s.home s.from → (left : Trees)
+    → s.top ≡ L → reverse s.below.now.items ≡ Ls → IsFrom k s.home s.from.now → (left : Trees)
     → AreThere k s.home max (types_from L Ls) (paths_from (name_text s.name) L Ls) (places_from L Ls) n left
     → IsTracing k before.progress (values_due k s.home (types_from L Ls) n left ++ rest) → IsNaming k before.cells (names_in (values_due k s.home (types_from L Ls) n left) ++ names) → E
 node_stopped {E = E} k s max L Ls n t first some rest names before ends top below from left there tr nm =

@@ -246,20 +246,20 @@ module _ (k : Known) (u : Cells) (t n : ℕ) (names : Placed_cells) where
 
 -- a pointer is pending then
 pub pending_added : (k : Known) (u v : Cells) (m : Entry) (class : Class) (t : ℕ) (x : Option ℕ) (names : Placed_cells) → m.kind ≡ Number class t x → IsNaming k v names
-    → v.pending.items ≡ u.pending.items ++ pending_of m.home m.node class t x → v.stands ≡ u.stands → HasNamed k u v (m ∷ []) names
+    → v.pending.items ≡ u.pending.items ++ pending_of k m.home m.node class t x → v.stands ≡ u.stands → HasNamed k u v (m ∷ []) names
 pending_added k u v m class t x names is i e es = record {
   naming = i;
-  pending = e ∙ ap (λ xs. u.pending.items ++ xs) (sym (append-nil (pending_of m.home m.node class t x)) ∙ ap (λ z. pending_by m.home m.node z ++ []) (sym is));
+  pending = e ∙ ap (λ xs. u.pending.items ++ xs) (sym (append-nil (pending_of k m.home m.node class t x)) ∙ ap (λ z. pending_by k m.home m.node z ++ []) (sym is));
   stands = es;
 }
 
-module _ (h : Home) (n : ℕ) (class : Class) where
-  pub none_pending : (t : ℕ) (x : Option ℕ) (ps qs rs : List Pending) → None ≡ x → qs ≡ ps → rs ≡ qs → rs ≡ ps ++ pending_of h n class t x
+module _ (k : Known) (h : Home) (n : ℕ) (class : Class) where
+  pub none_pending : (t : ℕ) (x : Option ℕ) (ps qs rs : List Pending) → None ≡ x → qs ≡ ps → rs ≡ qs → rs ≡ ps ++ pending_of k h n class t x
   none_pending t None ps qs rs e f g = g ∙ f ∙ sym (append-nil ps)
   none_pending t (Some c) ps qs rs e f g = cc
 
-  pub one_pending : (cell : CellId) (to : TypeId) (from : Option PointerSpot) (x : Option ℕ) (ps qs rs : List Pending) → from ≡ only_spot class h n → Some cell.0 ≡ x → qs ≡ ps
-      → rs ≡ qs ++ record { cell = cell; to = to; from = from } ∷ [] → rs ≡ ps ++ pending_of h n class to.0 x
+  pub one_pending : (cell : CellId) (to : TypeId) (from : Option PointerSpot) (x : Option ℕ) (ps qs rs : List Pending) → from ≡ only_spot k class h n → Some cell.0 ≡ x → qs ≡ ps
+      → rs ≡ qs ++ record { cell = cell; to = to; from = from } ∷ [] → rs ≡ ps ++ pending_of k h n class to.0 x
   one_pending cell to from None ps qs rs i e f g = cc
   one_pending cell to from (Some c) ps qs rs i e f g =
       g ∙ ap (λ zs. zs ++ record { cell = cell; to = to; from = from } ∷ []) f

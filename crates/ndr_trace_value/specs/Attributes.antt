@@ -74,6 +74,12 @@ IsPointedName u s from kept q = (o : Operation) → slice_get u.interface.now.op
     → (by : AttrVar) → home_attribute o s.kind (named_roots u.interface.now.types u.side o) f.home ≡ Some by
     → q ≡ parameter_name (slice_get o.params by.var)
 
+-- And that of the attribute of a member that is a pointer, if the walk kept its path.
+abbrev pub IsPointedPath : Ground → Sought → Option PointerSpot → List ℕ → List ℕ → Type 0
+IsPointedPath u s from kept q = (o : Operation) → slice_get u.interface.now.operations u.op ≡ Some o
+    → home_attribute o s.kind (named_roots u.interface.now.types u.side o) s.home ≡ None → kept ≡ []
+    → (f : PointerSpot) → from ≡ Some f → (f.node ≡ 0 → ⊥) → (f.variable ≡ [] → ⊥) → q ≡ f.variable
+
 -- what is sought is an item of the log
 abbrev pub IsItemOf : List Item → Sought → Type 0
 IsItemOf log s = (i : Item) × (slice_get log s.item ≡ Some i) × (i.kind ≡ s.kind) × (i.home ≡ s.home) × (i.node ≡ s.node)

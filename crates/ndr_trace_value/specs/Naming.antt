@@ -18,7 +18,7 @@ use Rattle.ndr_refs.specs.Known.{known}
 use Rattle.ndr_trace_value.specs.declared.cells.Cells.{Cells}
 use Rattle.ndr_trace_value.specs.declared.cells.Pending.{Pending}
 use Rattle.ndr_trace_value.specs.declared.pointers.PointerSpot.{PointerSpot}
-use Rattle.ndr_trace_value.specs.Tracing.{Known}
+use Rattle.ndr_trace_value.specs.Tracing.{Known, spot_of}
 
 -- ## Cells in turn
 
@@ -83,26 +83,26 @@ abbrev pub names_in : List Entry → Placed_cells
 names_in ms = flat_map (λ m. named_by m.kind) ms
 
 -- where a pointer of a class is, at a node of a home, unless it is full
-abbrev pub only_spot : Class → Home → ℕ → Option PointerSpot
-only_spot Full h n = None
-only_spot class h n = Some (record { home = h; node = n })
+abbrev pub only_spot : Known → Class → Home → ℕ → Option PointerSpot
+only_spot k Full h n = None
+only_spot k class h n = Some (spot_of k h n)
 
 -- the pointer at a node of a home that is pending then
-abbrev pub pending_of : Home → ℕ → Class → ℕ → Option ℕ → List Pending
-pending_of h n class t None = []
-pending_of h n class t (Some c) = record { cell = record { 0 = c }; to = record { 0 = t }; from = only_spot class h n } ∷ []
+abbrev pub pending_of : Known → Home → ℕ → Class → ℕ → Option ℕ → List Pending
+pending_of k h n class t None = []
+pending_of k h n class t (Some c) = record { cell = record { 0 = c }; to = record { 0 = t }; from = only_spot k class h n } ∷ []
 
-abbrev pub pending_by : Home → ℕ → Kind → List Pending
-pending_by h n (Number class to cell) = pending_of h n class to cell
-pending_by h n _ = []
+abbrev pub pending_by : Known → Home → ℕ → Kind → List Pending
+pending_by k h n (Number class to cell) = pending_of k h n class to cell
+pending_by k h n _ = []
 
-abbrev pub pending_in : List Entry → List Pending
-pending_in ms = flat_map (λ m. pending_by m.home m.node m.kind) ms
+abbrev pub pending_in : Known → List Entry → List Pending
+pending_in k ms = flat_map (λ m. pending_by k m.home m.node m.kind) ms
 
 -- the cells that these entries name were named, and then those names follow
 pub record HasNamed (k : Known) (before after : Cells) (due : List Entry) (names : Placed_cells) : Type 0 where
   pub naming : IsNaming k after names
-  pub pending : after.pending.items ≡ before.pending.items ++ pending_in due
+  pub pending : after.pending.items ≡ before.pending.items ++ pending_in k due
   pub stands : after.stands ≡ before.stands
 
 -- ## Cells whose values were come to

@@ -22,7 +22,7 @@ use Rattle.ndr_prim.specs.Context.{attributes_of, identifier_of}
 use Rattle.text_grammar.specs.Paths.{home_types}
 use Rattle.text_grammar.specs.Printed.{quoted_text}
 use Rattle.text_printer.specs.Texts.{context_text}
-use Rattle.ndr_explain.specs.Cursors.{level_place, name_text, path_to}
+use Rattle.ndr_explain.specs.Cursors.{Place, level_place, name_text, path_to}
 use Rattle.ndr_explain.specs.Explained.{context_shown, explanation, home_flats, home_paths, label_in, path_in, string_shown}
 use Rattle.ndr_trace_laws.specs.Due.{Stops}
 use Rattle.ndr_trace_laws.specs.Untested.{is_test}
@@ -32,7 +32,7 @@ use Rattle.ndr_trace_value.specs.declared.progress.Progress.{Progress}
 use Rattle.ndr_trace_value.specs.declared.progress.Spot.{Spot}
 use Rattle.ndr_trace_value.specs.declared.search.Sought.{Sought}
 use Rattle.ndr_trace_value.specs.LastMembers.{counted_path, counted_variable, whole_types}
-use Rattle.ndr_trace_value.specs.Places.{home_place}
+use Rattle.ndr_trace_value.specs.Places.{home_place, member_variable}
 use Rattle.ndr_trace_value.specs.Traces.{entry_path}
 use Rattle.ndr_trace_value.specs.Variable.{NamesAlone}
 
@@ -50,6 +50,11 @@ pub record Known : Type 0 where
   -- the index in the log of the count or tag that a failed agreement speaks of
   pub sought : Option ℕ
 
+-- the kind of the item that is sought
+abbrev pub kind_in : List Item → Option ℕ → Option ItemKind
+kind_in log None = None
+kind_in log (Some j) = option_map (λ (i : Item). i.kind) (slice_get log j)
+
 -- what a walk is given: these octets, and maybe others after them, with their log
 pub record IsGround (k : Known) (u : Ground) : Type 0 where
   pub more : List ℕ
@@ -61,6 +66,7 @@ pub record IsGround (k : Known) (u : Ground) : Type 0 where
   pub sought : IsSome u.sought → is_test k.here.entry.kind ≡ true
   pub seeks : is_test k.here.entry.kind ≡ true → IsSome u.sought
   pub sought_is : option_map (λ s. s.item) u.sought ≡ k.sought
+  pub kind_is : option_map (λ s. s.kind) u.sought ≡ kind_in k.log k.sought
   pub no_gap : (j : ℕ) → k.sought ≡ Some j → (i : Item) → slice_get k.log j ≡ Some i → i.kind ≡ item.Gap → ⊥
   pub are_octets : AreOctets k.fetched
   pub is_numbering : IsNumbering k.numbering k.full
@@ -89,10 +95,22 @@ kept k n = kept_by (sought_path k) k.log k.sought n
 abbrev pub kept_variable : Known → ℕ → List ℕ
 kept_variable k n = kept_by (sought_variable k) k.log k.sought n
 
+-- the path of the variable of an attribute that speaks of an item of this kind, of the member with this path
+abbrev pub kind_variable : Option ItemKind → List ℕ → Place → List ℕ
+kind_variable None p x = []
+kind_variable (Some m) p x = member_variable m p x
+
+-- the same of what is sought, where a pointer is
+abbrev pub pointer_variable : Known → Home → ℕ → List ℕ
+pointer_variable k h n = kind_variable (kind_in k.log k.sought) (path_in (home_paths k.setting k.graph h) n) (home_place k.setting k.graph h n)
+
+abbrev pub spot_of : Known → Home → ℕ → PointerSpot
+spot_of k h n = record { home = h; node = n; variable = pointer_variable k h n }
+
 -- Where a walk is at the value of a cell that a pointer names alone, it is known where the pointer is.
 abbrev pub IsFrom : Known → Home → Option PointerSpot → Type 0
 IsFrom k h from =
-    (p : Pointer) (c : ℕ) → NamesAlone k.setting k.graph p c → h ≡ cell_home c → from ≡ Some (record { home = p.home; node = p.node })
+    (p : Pointer) (c : ℕ) → NamesAlone k.setting k.graph p c → h ≡ cell_home c → from ≡ Some (spot_of k p.home p.node)
 
 -- the same of the home of what is sought, once it is among the first items of the log
 abbrev pub KeptFrom : Known → ℕ → Option PointerSpot → Type 0
@@ -138,7 +156,7 @@ pub record IsEnded (k : Known) (p : Progress) : Type 0 where
 pub record IsSpot (k : Known) (s : Spot) (n : ℕ) : Type 0 where
   pub path : path_to (name_text s.name) (s.top ∷ reverse s.below.now.items) ≡ path_in (home_paths k.setting k.graph s.home) n
   pub place : level_place s.top ≡ home_place k.setting k.graph s.home n
-  pub from : IsFrom k s.home s.from
+  pub from : IsFrom k s.home s.from.now
 
 -- an entry of a node
 abbrev pub entry_at : Spot → ℕ → Kind → Entry

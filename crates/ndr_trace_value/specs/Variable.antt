@@ -96,9 +96,11 @@ IsAtRoot p at = (p.home ≡ home.Root at) × (p.node ≡ 0)
 -- ## The variable
 
 -- If an agreement speaks of a parameter's own value, or of the referent of a parameter that is a reference or unique pointer, this is the name of its
--- variable; if it speaks of a member of a struct, this is the path of its variable. Of the referents of other pointers nothing is said.
+-- variable; if it speaks of a member of a struct, or of the referent of a member that is such a pointer, this is the path of its variable. Of the
+-- referents of full pointers, which may share them, nothing is said.
 pub record IsVariable (w : Setting) (g : Graph) (m : Entry) (a : Attr) (wanted : ℤ) (q : List ℕ) : Type 0 where
   pub own : (at : ℕ) (root : Root) → slice_get (root_list w) at ≡ Some root → IsOfRoot m at → IsStated w g root a wanted q
   pub member : 0 < m.node → OfMember w g m.home m.node a wanted q
-  pub referent : (p : Pending) → IsOfReferent w g m p → (at : ℕ) (root : Root) → slice_get (root_list w) at ≡ Some root → IsAtRoot p at
+  pub referent : (p : Pending) → IsOfReferent w g m p → 0 < p.node → OfMember w g p.home p.node a wanted q
+  pub root_referent : (p : Pending) → IsOfReferent w g m p → (at : ℕ) (root : Root) → slice_get (root_list w) at ≡ Some root → IsAtRoot p at
       → IsStated w g root a wanted q

@@ -15,6 +15,6 @@ pub use cells::{Cells, Pending, come_to, new_cell};
 pub use members::{at_end, close};
 pub use nodes::{Walker, walk_level};
 pub use parameters::{RootSeen, note_direct, variable_path};
-pub use pointers::{PointerSpot, only_pointer};
+pub use pointers::PointerSpot;
 pub use progress::{Ground, Halt, Progress, Spot, count, gap};
 pub use search::{Search, Sought, find_agreement};

@@ -44,16 +44,16 @@ pub fn walk_level<'a>(
     home: Home,
     name: HomeName<'a>,
     max: u32,
-    from: Option<PointerSpot>,
+    from: &Option<PointerSpot>,
     first: Level<'a>,
 ) -> Result<(), Halt>
-    ensures goes { 0 < length (level_types first.entry) → (k : Known) → IsGround k ground.now → IsFrom k home from → (n : ℕ) (left : Trees)
+    ensures goes { 0 < length (level_types first.entry) → (k : Known) → IsGround k ground.now → IsFrom k home from.now → (n : ℕ) (left : Trees)
         → AreThere k home max (level_types first.entry) (level_paths (name_text name.entry) first.entry) (level_places first.entry) n left
         → (rest : List Entry) → IsTracing k walker.old.progress (values_due k home (level_types first.entry) n left ++ rest)
         → (names : Placed_cells) → IsNaming k walker.old.cells (names_in (values_due k home (level_types first.entry) n left) ++ names)
         → IfOk result (λ _. IsTracing k walker.new.progress rest
         × HasNamed k walker.old.cells walker.new.cells (values_due k home (level_types first.entry) n left) names) }
-    ensures ends { 0 < length (level_types first.entry) → (k : Known) → IsGround k ground.now → IsFrom k home from → (n : ℕ) (left : Trees)
+    ensures ends { 0 < length (level_types first.entry) → (k : Known) → IsGround k ground.now → IsFrom k home from.now → (n : ℕ) (left : Trees)
         → AreThere k home max (level_types first.entry) (level_paths (name_text name.entry) first.entry) (level_places first.entry) n left
         → (rest : List Entry) → IsTracing k walker.old.progress (values_due k home (level_types first.entry) n left ++ rest)
         → (names : Placed_cells) → IsNaming k walker.old.cells (names_in (values_due k home (level_types first.entry) n left) ++ names)
@@ -81,10 +81,10 @@ fn take_node<'a>(
     home: Home,
     name: HomeName<'a>,
     max: u32,
-    from: Option<PointerSpot>,
+    from: &Option<PointerSpot>,
     levels: Levels<'a>,
 ) -> Result<Option<Levels<'a>>, Halt>
-    ensures goes { 0 < length (level_types levels.entry.top) → (k : Known) → IsGround k ground.now → IsFrom k home from → (n : ℕ) (left : Trees)
+    ensures goes { 0 < length (level_types levels.entry.top) → (k : Known) → IsGround k ground.now → IsFrom k home from.now → (n : ℕ) (left : Trees)
         → AreThere k home max (types_from levels.entry.top (reverse levels.entry.below.items))
         (paths_from (name_text name.entry) levels.entry.top (reverse levels.entry.below.items))
         (places_from levels.entry.top (reverse levels.entry.below.items)) n left
@@ -94,7 +94,7 @@ fn take_node<'a>(
         → IsNaming k walker.old.cells (names_in (values_due k home (types_from levels.entry.top (reverse levels.entry.below.items)) n left) ++ names)
         → IfOk result (ComesTo k home max (name_text name.entry)
         (values_due k home (types_from levels.entry.top (reverse levels.entry.below.items)) n left) rest names walker.old walker.new) }
-    ensures ends { 0 < length (level_types levels.entry.top) → (k : Known) → IsGround k ground.now → IsFrom k home from → (n : ℕ) (left : Trees)
+    ensures ends { 0 < length (level_types levels.entry.top) → (k : Known) → IsGround k ground.now → IsFrom k home from.now → (n : ℕ) (left : Trees)
         → AreThere k home max (types_from levels.entry.top (reverse levels.entry.below.items))
         (paths_from (name_text name.entry) levels.entry.top (reverse levels.entry.below.items))
         (places_from levels.entry.top (reverse levels.entry.below.items)) n left
@@ -356,7 +356,7 @@ fn pointer<'a>(
     gap(ground, progress, 4, spot)?;
     let node = next_node(ground, progress);
     let number = count(ground, progress, spot)?;
-    let from = only_pointer(class, spot.home, node);
+    let from = only_pointer(ground, class, node, spot)?;
     let cell = name_cell(cells, class, to, number, from)?;
     Ok(Shape::Ptr(cell))
 }

@@ -5,11 +5,11 @@ ghost use Rattle.nd_types.specs.declared.types.AttrVar.{AttrVar as AttrVarValue}
 ghost use Rattle.nd_types.specs.Walk.{named_roots, root_value};
 ghost use Rattle.text_grammar.specs.Written.{parameter_name as name_of_param};
 ghost use Rattle.ndr_trace_value.specs.declared.pointers.PointerSpot.{PointerSpot as PointerSpotValue};
-ghost use Rattle.ndr_trace_value.specs.Attributes.{IsKeptName, IsOwnName, IsPointedName, home_attribute, number_attribute as by_number};
+ghost use Rattle.ndr_trace_value.specs.Attributes.{IsKeptName, IsOwnName, IsPointedName, IsPointedPath, home_attribute, number_attribute as by_number};
 ghost use Rattle.ndr_trace_value.specs.Attributes.{param_attribute as by_param, root_attribute as by_root};
 
 use crate::members::number_of;
-use crate::pointers::PointerSpot;
+use crate::pointers::{PointerSpot, pointed_path};
 use crate::progress::Ground;
 use crate::search::{Search, Sought, attribute, stated_by};
 use nd_base::{Memory, Octets};
@@ -82,11 +82,12 @@ pub fn variable_path(
     search: &Search<'_>,
     sought: Sought,
     kept: &Octets,
-    from: Option<PointerSpot>,
+    from: &Option<PointerSpot>,
 ) -> Result<Octets, Memory>
     ensures own { IfOk result (λ path. IsOwnName ground.now sought path) }
     ensures kept { IfOk result (λ path. IsKeptName ground.now sought kept.now path) }
-    ensures pointed { IfOk result (λ path. IsPointedName ground.now sought from kept.now path) }
+    ensures pointed { IfOk result (λ path. IsPointedName ground.now sought from.now kept.now path) }
+    ensures beside { IfOk result (λ path. IsPointedPath ground.now sought from.now kept.now path) }
 {
     let Some(operation) = ground.interface.operations.get(ground.op as usize) else {
         return Ok(Octets::new(ground.alloc));
@@ -175,13 +176,15 @@ fn other_path(
     search: &Search<'_>,
     sought: Sought,
     kept: &[u8],
-    from: Option<PointerSpot>,
+    from: &Option<PointerSpot>,
 ) -> Result<Octets, Memory>
     requires there { slice_get ground.now.interface.now.operations ground.now.op ≡ Some operation.now }
     ensures kept { IfOk result (λ path. (kept.now ≡ [] → ⊥) → path ≡ kept.now) }
-    ensures pointed { IfOk result (λ path. kept.now ≡ [] → (f : PointerSpotValue) → from ≡ Some f → f.node ≡ 0 → (by : AttrVarValue)
+    ensures pointed { IfOk result (λ path. kept.now ≡ [] → (f : PointerSpotValue) → from.now ≡ Some f → f.node ≡ 0 → (by : AttrVarValue)
         → home_attribute operation.now sought.kind (named_roots ground.now.interface.now.types ground.now.side operation.now) f.home ≡ Some by
         → path ≡ name_of_param (slice_get operation.now.params by.var)) }
+    ensures beside { IfOk result (λ path. kept.now ≡ [] → (f : PointerSpotValue) → from.now ≡ Some f → (f.node ≡ 0 → ⊥) → (f.variable ≡ [] → ⊥)
+        → path ≡ f.variable) }
 {
     if kept.len() > 0 {
         let path = Octets::copy(ground.alloc, kept)?;
@@ -190,6 +193,11 @@ fn other_path(
     if let Some(by) = pointer_attribute(ground, operation, sought, from) {
         let name = parameter_name(ground.alloc, operation, by)?;
         return Ok(name);
+    }
+    let stated = pointed_path(from);
+    if stated.len() > 0 {
+        let path = Octets::copy(ground.alloc, stated)?;
+        return Ok(path);
     }
     let mut path = Octets::new(ground.alloc);
     append_variable(ground, search, sought, &mut path)?;
@@ -201,11 +209,12 @@ fn pointer_attribute(
     ground: &Ground<'_>,
     operation: &Operation,
     sought: Sought,
-    from: Option<PointerSpot>,
+    from: &Option<PointerSpot>,
 ) -> Option<AttrVar>
     requires there { slice_get ground.now.interface.now.operations ground.now.op ≡ Some operation.now }
-    ensures { (f : PointerSpotValue) → from ≡ Some f → f.node ≡ 0 → result
+    ensures own { (f : PointerSpotValue) → from.now ≡ Some f → f.node ≡ 0 → result
         ≡ home_attribute operation.now sought.kind (named_roots ground.now.interface.now.types ground.now.side operation.now) f.home }
+    ensures none { (f : PointerSpotValue) → from.now ≡ Some f → (f.node ≡ 0 → ⊥) → result ≡ None }
 {
     let Some(pointer) = from else {
         return None;

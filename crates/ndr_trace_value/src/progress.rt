@@ -15,7 +15,7 @@ ghost use Rattle.ndr_trace_value.specs.Tracing.{IsShown, IsSpot, IsTracing};
 ghost use Rattle.ndr_trace_value.specs.Tracing.{either_from, either_path, entry_at, is_sought as is_sought_item};
 
 use crate::counted::{append_counted, stated_path};
-use crate::pointers::PointerSpot;
+use crate::pointers::{PointerSpot, copy_spot};
 use crate::search::Sought;
 use nd_base::{Memory, Octets, Order};
 use nd_flat::Fit;
@@ -85,7 +85,7 @@ pub struct Spot<'s, 'a> {
     pub top: Level<'a>,
     pub below: &'s Vec<Level<'a>>,
     /// Where the pointer is that names the home, if it is the only one that names it.
-    pub from: Option<PointerSpot>,
+    pub from: &'s Option<PointerSpot>,
 }
 
 /// Passes the gap before an aligned item, with a line if it is not empty.
@@ -159,7 +159,7 @@ fn keep(
         (level_variable ground.now.interface.now.types kind spot.now.top
         (path_to (name_text spot.now.name) (spot.now.top ∷ reverse spot.now.below.now.items))
         (path_to (name_text spot.now.name) (reverse spot.now.below.now.items))) progress.old.variable) }
-    ensures from { OnOk result (progress.new.from ≡ either_from (is_sought_item ground.now.sought progress.old.next) spot.now.from progress.old.from) }
+    ensures from { OnOk result (progress.new.from ≡ either_from (is_sought_item ground.now.sought progress.old.next) spot.now.from.now progress.old.from) }
     ensures lines { progress.new.lines ≡ progress.old.lines }
     ensures next { progress.new.next ≡ progress.old.next }
     ensures at { progress.new.at ≡ progress.old.at }
@@ -170,7 +170,7 @@ fn keep(
     append_path(&mut progress.path, spot)?;
     append_counted(&ground.interface.types, &mut progress.path, kind, spot.top)?;
     progress.variable = stated_path(ground.alloc, &ground.interface.types, kind, spot)?;
-    progress.from = spot.from;
+    progress.from = copy_spot(ground.alloc, spot.from)?;
     Ok(())
 }
 

@@ -7,6 +7,7 @@ use Rattle.ndr_trace_value.specs.Tracing.{IsFrom}
 use Rattle.ndr_trace_value.proofs.LevelWalk.{ended_there, ready_after}
 use Rattle.ndr_trace_value.proofs.Passing.{err_as}
 use Rattle.ndr_trace.proofs.RootWalks.{direct_root}
+use Rattle.ndr_trace.proofs.SolePointers.{root_spot}
 use Rattle.ndr_trace.proofs.homes.walk_direct.Goals as goal
 
 pub returns-in_err-walk_home-clause-ends : goal.returns-in_err-walk_home-clause-ends
@@ -18,7 +19,7 @@ returns-in_err-walk_home-clause-ends c k u s root there type_of due rest names e
     (c.in_ok-come_to.ensures.count ∙ c.new_cell-cell.ensures.count) (c.in_ok-come_to.ensures.numbers ∙ c.new_cell-cell.ensures.numbers)
     (c.in_ok-come_to.ensures.pending ∙ c.new_cell-cell.ensures.pending) refl c.in_ok-come_to.ensures.stands
     (λ d n. c.in_ok-come_to.ensures.others d n ∙ ap (λ z. stands_at z.items d) c.new_cell-cell.ensures.stands) in
-    let from = subst (IsFrom k (home.Cell c.new_cell-cell.result)) (sym c.only_pointer-from.ensures) at_it.1 in
+    let from = subst (IsFrom k (home.Cell c.new_cell-cell.result)) (sym (root_spot k c.args.at c.new.result c.new.ensures)) at_it.1 in
     c.in_err-walk_home.ensures.ends k u at_it.0.its from at_it.0.later at_it.0.after_names at_it.0.tracing at_it.0.naming
     (err_as c.from_residual-in_err-walk_home.result c.in_err-walk_home.field-0.0 halts.Here c.from_residual-in_err-walk_home.ensures.1 e)
 
@@ -31,7 +32,7 @@ returns-clause-goes c k u s root there type_of due rest names empty a =
     (c.in_ok-come_to.ensures.count ∙ c.new_cell-cell.ensures.count) (c.in_ok-come_to.ensures.numbers ∙ c.new_cell-cell.ensures.numbers)
     (c.in_ok-come_to.ensures.pending ∙ c.new_cell-cell.ensures.pending) refl c.in_ok-come_to.ensures.stands
     (λ d n. c.in_ok-come_to.ensures.others d n ∙ ap (λ z. stands_at z.items d) c.new_cell-cell.ensures.stands) in
-    let from = subst (IsFrom k (home.Cell c.new_cell-cell.result)) (sym c.only_pointer-from.ensures) at_it.1 in
+    let from = subst (IsFrom k (home.Cell c.new_cell-cell.result)) (sym (root_spot k c.args.at c.new.result c.new.ensures)) at_it.1 in
     let walked = c.in_ok-walk_home.ensures.goes k u at_it.0.its from at_it.0.later at_it.0.after_names at_it.0.tracing at_it.0.naming in
     at_it.0.after c.walk_home.new.walker walked.0 walked.1
 

@@ -30,14 +30,14 @@ returns-then-not-is_sought-clause-from c =
     let no : c.is_sought.result ≡ false = search rules in
     let p = c.args.progress.now in
     let never : is_sought c.args.ground.now.sought p.next ≡ false = sym c.is_sought.ensures ∙ no in
-    sym (ap (λ b. either_from b c.args.spot.now.from p.from) never)
+    sym (ap (λ b. either_from b c.args.spot.now.from.now p.from) never)
 
 pub returns-clause-from : goal.returns-clause-from
 returns-clause-from c =
     let yes : c.is_sought.result ≡ true = search rules in
     let p = c.args.progress.now in
     let always : is_sought c.args.ground.now.sought p.next ≡ true = sym c.is_sought.ensures ∙ yes in
-    sym (ap (λ b. either_from b c.args.spot.now.from p.from) always)
+    c.in_ok-progress-2.ensures ∙ sym (ap (λ b. either_from b c.args.spot.now.from.now p.from) always)
 
 pub returns-clause-path : goal.returns-clause-path
 returns-clause-path c =
