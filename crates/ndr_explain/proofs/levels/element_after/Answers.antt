@@ -12,8 +12,8 @@ returns-clause-is c =
 pub returns-clause-places : goal.returns-clause-places
 returns-clause-places c = element_places_on c.args.of.0 c.args.at c.args.size (omega arith)
 
-pub returns-then-clause-places : goal.returns-then-clause-places
-returns-then-clause-places c = element_places_over c.args.of.0 c.args.at c.args.size (omega arith)
+pub returns-then-at-size-clause-places : goal.returns-then-at-size-clause-places
+returns-then-at-size-clause-places c = element_places_over c.args.of.0 c.args.at c.args.size (omega arith)
 
 pub returns-then-next-size-clause-places : goal.returns-then-next-size-clause-places
 returns-then-next-size-clause-places c = element_places_over c.args.of.0 c.args.at c.args.size (omega arith)

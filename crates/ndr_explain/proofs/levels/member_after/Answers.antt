@@ -8,8 +8,8 @@ returns-then-next-len-clause-is c =
     let last : length c.args.members.now ≤ c.args.at + 1 = omega arith in
     members_over c.args.members.now c.args.at last
 
-pub returns-then-clause-places : goal.returns-then-clause-places
-returns-then-clause-places c =
+pub returns-then-at-len-clause-places : goal.returns-then-at-len-clause-places
+returns-then-at-len-clause-places c =
     let last : length c.args.members.now ≤ c.args.at + 1 = omega arith in
     member_places_over c.args.members.now c.args.at last
 
