@@ -32,7 +32,7 @@ use Rattle.ndr_trace_value.specs.declared.cells.Cells.{Cells}
 use Rattle.ndr_trace_value.specs.declared.cells.Pending.{Pending}
 use Rattle.ndr_trace_value.specs.declared.pointers.PointerSpot.{PointerSpot}
 use Rattle.ndr_trace_value.specs.Naming.{HasNamed, HasNumbers, HasType, InTurn, IsFine, IsNaming, full_one, names_of, only_spot, pending_by, pending_of, stands_at}
-use Rattle.ndr_trace_value.specs.Tracing.{Known}
+use Rattle.ndr_trace_value.specs.Tracing.{Known, pointer_variable, spot_of}
 
 -- ## The numbers that are known
 
@@ -272,3 +272,10 @@ one_more_room [] zero = refl
 one_more_room [] (suc c) = refl
 one_more_room (b ∷ stands) zero = refl
 one_more_room (b ∷ stands) (suc c) = one_more_room stands c
+
+-- ## Where pointers are
+
+pub spot_is : (k : Known) (at : PointerSpot) (h : Home) (n : ℕ) → at.home ≡ h → at.node ≡ n → at.variable ≡ pointer_variable k h n → Some at ≡ Some (spot_of k h n)
+spot_is k at h n e f g =
+    ap (λ x. Some (record { home = x; node = at.node; variable = at.variable })) e
+    ∙ ap₂ (λ x y. Some (record { home = h; node = x; variable = y })) f g

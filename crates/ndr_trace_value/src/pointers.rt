@@ -44,11 +44,7 @@ pub fn only_pointer(
 }
 
 // Where a pointer is, and its variable.
-fn pointer_spot(
-    ground: &Ground<'_>,
-    node: u32,
-    spot: &Spot<'_, '_>,
-) -> Result<PointerSpot, Memory>
+fn pointer_spot(ground: &Ground<'_>, node: u32, spot: &Spot<'_, '_>) -> Result<PointerSpot, Memory>
     ensures home { IfOk result (λ at. at.home ≡ spot.now.home) }
     ensures node { IfOk result (λ at. at.node ≡ node) }
     ensures variable { (k : Known) → IsGround k ground.now → (n : ℕ) → IsSpot k spot.now n
