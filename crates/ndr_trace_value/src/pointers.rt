@@ -62,10 +62,11 @@ fn pointer_spot(ground: &Ground<'_>, node: u32, spot: &Spot<'_, '_>) -> Result<P
 fn its_variable(ground: &Ground<'_>, spot: &Spot<'_, '_>) -> Result<Octets, Memory>
     ensures { (k : Known) → IsGround k ground.now → (n : ℕ) → IsSpot k spot.now n → IfOk result (λ path. path ≡ pointer_variable k spot.now.home n) }
 {
-    match ground.sought {
-        Some(sought) => variable_beside(ground.alloc, sought.kind, spot),
-        None => Ok(Octets::new(ground.alloc)),
-    }
+    let Some(sought) = ground.sought else {
+        return Ok(Octets::new(ground.alloc));
+    };
+    let path = variable_beside(ground.alloc, sought.kind, spot)?;
+    Ok(path)
 }
 
 /// The place of a pointer once more.

@@ -10,7 +10,7 @@ use Rattle.ndr_trace_value.proofs.nodes.walk_level.Given as goal
 
 abbrev pub invariant-loop-turn : goal.invariant-loop-turn
 invariant-loop-turn l = record {
-  here : 0 < length (level_types l.fn.first) → (k : Known) → IsGround k l.ground → IsFrom k l.home l.from.now → (n : ℕ) (left : Trees)
+  here : 0 < length (level_types l.fn.first) → (k : Known) → IsGround k l.ground → IsFrom k l.home l.from → (n : ℕ) (left : Trees)
       → AreThere k l.home l.max (level_types l.fn.first) (level_paths (name_text l.name) l.fn.first) (level_places l.fn.first) n left
       → (rest : List Entry) → IsTracing k l.fn.walker.progress (values_due k l.home (level_types l.fn.first) n left ++ rest)
       → (names : Placed_cells) → IsNaming k l.fn.walker.cells (names_in (values_due k l.home (level_types l.fn.first) n left) ++ names)

@@ -9,17 +9,17 @@ use Rattle.ndr_trace_value.specs.Tracing.{kind_variable}
 use Rattle.ndr_trace_value.proofs.Placed.{beside_is}
 use Rattle.ndr_trace_value.proofs.pointers.its_variable.Goals as goal
 
-pub returns-in-Some : goal.returns-in-Some
-returns-in-Some c k u n sp =
+pub returns : goal.returns
+returns c k u n sp =
     let s = c.args.spot.now in
     let kind : ItemKind = c.in-Some.sought.kind in
-    c.variable_beside.ensures ∙ beside_is kind (name_text s.name) s.top (reverse s.below.now.items) ∙ ap₂ (member_variable kind) sp.path sp.place
+    c.in_ok-path.ensures ∙ beside_is kind (name_text s.name) s.top (reverse s.below.now.items) ∙ ap₂ (member_variable kind) sp.path sp.place
     ∙ ap (λ o. kind_variable o (path_in (home_paths k.setting k.graph s.home) n) (home_place k.setting k.graph s.home n))
     (sym (ap (option_map (λ (x : Sought). x.kind)) c.in-Some.is) ∙ u.kind_is)
 
-pub returns-in-None : goal.returns-in-None
-returns-in-None c k u n sp =
+pub returns-in_default : goal.returns-in_default
+returns-in_default c k u n sp =
     let s = c.args.spot.now in
     c.new.ensures
     ∙ ap (λ o. kind_variable o (path_in (home_paths k.setting k.graph s.home) n) (home_place k.setting k.graph s.home n))
-    (sym (ap (option_map (λ (x : Sought). x.kind)) c.in-None.is) ∙ u.kind_is)
+    (sym (ap (option_map (λ (x : Sought). x.kind)) c.in_default.is) ∙ u.kind_is)
