@@ -1,4 +1,4 @@
-use Rattle.std.proofs.Common.{◌+◌, arith, length, subst, sym}
+use Rattle.std.proofs.Common.{◌<◌, arith, length, subst, sym}
 use Rattle.nd_lemmas.proofs.Lists.{past_end}
 use Rattle.ndr_trace_value.proofs.Items.{item_node_is}
 use Rattle.ndr_trace_value.proofs.pointers.next_node.Goals as goal
