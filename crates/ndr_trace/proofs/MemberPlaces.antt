@@ -43,7 +43,7 @@ all_arms : (p : List ℕ) (a : Option Arm) → length (selected_types a) ≤ len
 all_arms p None = omega arith
 all_arms p (Some a) = go a.of a.name
   where
-    go : (of : Option TypeId) (name : Option (List ℕ)) → length (type_list of) ≤ length (elim name [ None ↦ p ∷ [] | Some n ↦ member_path p n ∷ [] ])
+    go : (of : Option TypeId) (name : Option (List ℕ)) → length (type_list of) ≤ length {A = List ℕ} (elim name [ None ↦ p ∷ [] | Some n ↦ member_path p n ∷ [] ])
     go None None = omega arith
     go None (Some n) = omega arith
     go (Some t) None = omega arith

@@ -101,7 +101,7 @@ module _ (table : Table) where
   of_children : (n t : ℕ) (d : Option TypeDef) → type_at table t ≡ d → (own : List Agreement) (l : Label) (ks : Trees) (x : TypedNode) (a : Agreement) (nodes : List TypedNode)
       → Among nodes (record { node = n; of = t; agreements = own; label = l; kids = ks }) → l ≡ tree.Rec
       → IsGoverned (child_types d tree.Rec ks) (child_agreements d ks) (n + 1) ks x a → InStruct table nodes x a
-  of_children n t (Some (def.Struct fs)) e own l ks x a nodes here r (i, low, at, its_type, zs, got, k) =
+  of_children n t (Some (def.Struct fs)) e own l ks x a nodes here r (i, low, at, its_type, (zs, got, k)) =
       let (f, there, is) = among_map (λ (y : Field). member_agreements ks y.vars) fs i zs got in
       record {
         struct = record { node = n; of = t; agreements = own; label = l; kids = ks };
@@ -117,8 +117,8 @@ module _ (table : Table) where
         of_is = same_Some _ _ (sym its_type ∙ mapped_there (λ (y : Field). y.of.0) fs i f there);
         among = subst (λ xs. Among xs a) is k;
       }
-  of_children n t None e own l ks x a nodes here r (i, low, at, its_type, zs, got, k) = cc
-  of_children n t (Some _) e own l ks x a nodes here r (i, low, at, its_type, zs, got, k) = cc
+  of_children n t None e own l ks x a nodes here r (i, low, at, its_type, (zs, got, k)) = cc
+  of_children n t (Some _) e own l ks x a nodes here r (i, low, at, its_type, (zs, got, k)) = cc
 
   no_nodes : (ags : List (List Agreement)) (n : ℕ) (us : Trees) (x : TypedNode) → Among (nodes_of table [] ags n us) x → ⊥
   no_nodes ags n none x e = e
@@ -136,8 +136,8 @@ module _ (table : Table) where
   is_record_there (Some (def.Struct fs)) (tree.Context b id) ks ags n x a k g = absurd (no_nodes ags n ks x k)
   is_record_there (Some (def.Struct fs)) tree.Pipe ks ags n x a k g = absurd (no_nodes ags n ks x k)
   is_record_there (Some (def.Struct fs)) tree.Unread ks ags n x a k g = absurd (no_nodes ags n ks x k)
-  is_record_there None l ks ags n x a k (i, low, at, its_type, zs, got, y) = cc
-  is_record_there (Some _) l ks ags n x a k (i, low, at, its_type, zs, got, y) = cc
+  is_record_there None l ks ags n x a k (i, low, at, its_type, (zs, got, y)) = cc
+  is_record_there (Some _) l ks ags n x a k (i, low, at, its_type, (zs, got, y)) = cc
 
   -- the agreements of the first of values, and of a later one
   first_governed : (t : ℕ) (types : List ℕ) (ags : List (List Agreement)) (n : ℕ) (l : Label) (ks ts : Trees) (a : Agreement) → Among (first_agreements ags) a
@@ -147,8 +147,8 @@ module _ (table : Table) where
 
   later_governed : (t : ℕ) (types : List ℕ) (ags : List (List Agreement)) (n : ℕ) (l : Label) (ks ts : Trees) (x : TypedNode) (a : Agreement)
       → IsGoverned types (rest_agreements ags) (n + 1 + node_count ks) ts x a → IsGoverned (t ∷ types) ags n (more (node l ks) ts) x a
-  later_governed t types [] n l ks ts x a (i, low, at, its_type, zs, got, k) = cc
-  later_governed t types (bs ∷ rest) n l ks ts x a (i, low, at, its_type, zs, got, k) = (suc i, omega (arith, low), at, its_type, (zs, got, k))
+  later_governed t types [] n l ks ts x a (i, low, at, its_type, (zs, got, k)) = cc
+  later_governed t types (bs ∷ rest) n l ks ts x a (i, low, at, its_type, (zs, got, k)) = (suc i, omega (arith, low), at, its_type, (zs, got, k))
 
   nodes_say : (types : List ℕ) (ags : List (List Agreement)) (n : ℕ) (ts : Trees) (x : TypedNode) (a : Agreement) → Among (nodes_of table types ags n ts) x → Among x.agreements a
       → IsGoverned types ags n ts x a ⊎ InStruct table (nodes_of table types ags n ts) x a
@@ -157,7 +157,9 @@ module _ (table : Table) where
   nodes_say (t ∷ types) ags n (more (node l ks) ts) x a (inl e) k =
       inl (subst (λ (y : TypedNode). IsGoverned (t ∷ types) ags n (more (node l ks) ts) y a) (sym e)
       (first_governed t types ags n l ks ts a (subst (λ (y : TypedNode). Among y.agreements a) e k)))
-  nodes_say (t ∷ types) ags n (more (node l ks) ts) x a (inr m) k = go (among_split inner outer x m)
+  nodes_say (t ∷ types) ags n (more (node l ks) ts) x a (inr m) k =
+      go (among_split inner outer x m) (λ i. nodes_say (child_types (type_at table t) l ks) (child_agreements (type_at table t) ks) (n + 1) ks x a i k)
+      (λ o. nodes_say types (rest_agreements ags) (n + 1 + node_count ks) ts x a o k)
     where
       d : Option TypeDef
       d = type_at table t
@@ -185,9 +187,10 @@ module _ (table : Table) where
       of_outer (inl g) = inl (later_governed t types ags n l ks ts x a g)
       of_outer (inr s) = inr (wider table outer (own ∷ (inner ++ outer)) (λ y e. inr (among_right inner outer y e)) x a s)
 
-      go : Among inner x ⊎ Among outer x → Goal
-      go (inl i) = of_inner i (nodes_say (child_types d l ks) (child_agreements d ks) (n + 1) ks x a i k)
-      go (inr o) = of_outer (nodes_say types (rest_agreements ags) (n + 1 + node_count ks) ts x a o k)
+      go : Among inner x ⊎ Among outer x → (Among inner x → IsGoverned (child_types d l ks) (child_agreements d ks) (n + 1) ks x a ⊎ InStruct table inner x a)
+          → (Among outer x → IsGoverned types (rest_agreements ags) (n + 1 + node_count ks) ts x a ⊎ InStruct table outer x a) → Goal
+      go (inl i) first later = of_inner i (first i)
+      go (inr o) first later = of_outer (later o)
 
 -- ## The pointers of homes
 
@@ -230,7 +233,7 @@ module _ (w : Setting) (g : Graph) where
     where
       go : (x : TypedNode) → IsPointerOf (type_at w.table x.of) h x.node x.agreements p
           → IsGoverned (t ∷ []) [] 0 (more v none) x a ⊎ InStruct w.table (home_nodes w.table t v) x a → IsPointerMember p a.attr a.wanted
-      go x i (inl (j, low, at, its_type, zs, got, y)) = cc
+      go x i (inl (j, low, at, its_type, (zs, got, y))) = cc
       go x i (inr s) =
           let says : SaysOf s.struct.kids s.field.vars a = says_of g s.struct.kids s.field.vars a s.among in (
             record {

@@ -263,7 +263,9 @@ module _ (w : Setting) (g : Graph) (s : IsSound w g) where
         due = roots_are_due 0 (before_pipes (root_list w)) (let b = some_before w g (root_list w) in omega (arith, b))
 
         of_root : OneOf w g 0 (root_list w) g.roots m → RootSays p a wanted
-        of_root (j, q, v, root_is, value, k) = named_root j q v root_is value k
+        of_root (j, q, v, root_is, value, k) =
+            let z : 0 + j ≡ j = omega arith in
+            named_root j q v root_is value (subst (λ n. Among (root_test g n v (root_agreements w g q.vars)) m) z k)
 
         by_head : Among F m ⊎ Among T m → MemberSays p a wanted ⊎ RootSays p a wanted
         by_head (inl e) = inl (of_member (all_among Tells F m e (steps_tell x.deferral due) tried z))

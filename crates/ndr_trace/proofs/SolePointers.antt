@@ -27,8 +27,12 @@ use Rattle.ndr_trace_value.specs.Variable.{NamesAlone}
 use Rattle.ndr_trace_value.proofs.Placed.{home_plain}
 use Rattle.ndr_trace.specs.Homes.{IsPart}
 
+cell_in : Home → ℕ
+cell_in (home.Root i) = 0
+cell_in (home.Cell c) = c.0
+
 pub same_cell : (c d : ℕ) → cell_home c ≡ cell_home d → c ≡ d
-same_cell c d e = cc
+same_cell c d e = ap cell_in e
 
 -- ## One pointer to a cell
 
