@@ -1,7 +1,7 @@
 -- The path of a member of a struct among the nodes of a home, and which member its node is.
 -- `w` is a setting, `g` a partial graph, `h` a home, `types` are types of values, `ts` the values, `paths` are theirs, `places` says which members they are, `x` is
 -- a struct, `fs` are its members, `f` is one and `i` its index, `p` is a path, `n` and `m` are numbers of nodes.
-use Rattle.std.proofs.Common.{◌≡◌, ◌⊎◌, inl, inr, ◌∙◌, ℕ, ◌+◌, ◌<◌, ◌≤◌, zero, suc, ℤ, List, [], ◌∷◌, ◌++◌, length, map, Option, Some, None, refl, sym, ap, ap₂, subst, arith}
+use Rattle.std.proofs.Common.{◌≡◌, ◌⊎◌, inl, inr, ◌∙◌, ℕ, ◌+◌, ◌<◌, ◌≤◌, zero, suc, List, [], ◌∷◌, length, map, Option, Some, None, refl, sym, ap, subst, arith}
 use Rattle.std.proofs.Common.{replicate}
 use Rattle.std.specs.List.{slice_get}
 use Rattle.std.proofs.lemmas.List.{length-map, length-replicate}
@@ -43,7 +43,7 @@ all_arms : (p : List ℕ) (a : Option Arm) → length (selected_types a) ≤ len
 all_arms p None = omega arith
 all_arms p (Some a) = go a.of a.name
   where
-    go : (of : Option TypeId) (name : Option (List ℕ)) → length (type_list of) ≤ length (elim name [ None ↦ p ∷ [] | Some n ↦ member_path p n ∷ [] ])
+    go : (of : Option TypeId) (name : Option (List ℕ)) → length (type_list of) ≤ length {A = List ℕ} (elim name [ None ↦ p ∷ [] | Some n ↦ member_path p n ∷ [] ])
     go None None = omega arith
     go None (Some n) = omega arith
     go (Some t) None = omega arith
