@@ -1,7 +1,7 @@
 -- The path of a member of a struct among the nodes of a home, and which member its node is.
 -- `w` is a setting, `g` a partial graph, `h` a home, `types` are types of values, `ts` the values, `paths` are theirs, `places` says which members they are, `x` is
 -- a struct, `fs` are its members, `f` is one and `i` its index, `p` is a path, `n` and `m` are numbers of nodes.
-use Rattle.std.proofs.Common.{◌≡◌, ◌⊎◌, inl, inr, ◌∙◌, ℕ, ◌+◌, ◌<◌, ◌≤◌, zero, suc, ℤ, List, [], ◌∷◌, ◌++◌, length, map, Option, Some, None, refl, sym, ap, ap₂, subst, arith}
+use Rattle.std.proofs.Common.{◌≡◌, ◌⊎◌, inl, inr, ◌∙◌, ℕ, ◌+◌, ◌<◌, ◌≤◌, zero, suc, List, [], ◌∷◌, length, map, Option, Some, None, refl, sym, ap, subst, arith}
 use Rattle.std.proofs.Common.{replicate}
 use Rattle.std.specs.List.{slice_get}
 use Rattle.std.proofs.lemmas.List.{length-map, length-replicate}

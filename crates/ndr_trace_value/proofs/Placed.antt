@@ -1,9 +1,9 @@
 -- Which members of structs the nodes of values are: of values one after the other, and of a home's.
 -- `f` says of each node's number which member it is, `table` are the types, `types` and `T` are types of values, `places` and `P` say which members these are,
 -- `ks` and `us` are values, `n` and `m` numbers of nodes, `k` is the kind of an item, `p` a path, `L` a level, `Ls` are those around it.
-use Rattle.std.proofs.Common.{◌≡◌, ◌∙◌, ℕ, ◌+◌, ◌<◌, ◌≤◌, zero, suc, Bool, true, false, List, [], ◌∷◌, ◌++◌, length, Option, Some, None, refl, sym, ap, ap₂, subst, add-zero}
+use Rattle.std.proofs.Common.{◌≡◌, ◌∙◌, ℕ, ◌+◌, ◌<◌, ◌≤◌, suc, Bool, true, false, List, [], ◌∷◌, ◌++◌, length, Option, Some, None, refl, sym, ap, ap₂, subst, add-zero}
 use Rattle.std.proofs.Common.{arith, codes, length-append}
-use Rattle.std.specs.Prelude.{◌-◌, ◌==◌, eqb, ltb, take}
+use Rattle.std.specs.Prelude.{◌-◌, ltb, take}
 use Rattle.std.specs.List.{slice_get}
 use Rattle.std.proofs.lemmas.Bool.{eq-eqb, le-ltb, lt-ltb, ne_eqb}
 use Rattle.nd_lemmas.proofs.Lists.{take_front}
@@ -15,7 +15,7 @@ use Rattle.nd_value.specs.declared.item.ItemKind.{ItemKind}
 use Rattle.nd_value.specs.declared.value.Graph.{Graph}
 use Rattle.nd_value.specs.Nodes.{child_types}
 use Rattle.nd_value.specs.Setting.{Setting}
-use Rattle.nd_value.specs.Tree.{Label, Tree, Trees, count, joined, more, node, node_count, none}
+use Rattle.nd_value.specs.Tree.{Tree, Trees, count, joined, more, node, node_count, none}
 use Rattle.text_grammar.specs.Paths.{home_types, home_value, member_path}
 use Rattle.ndr_explain.specs.declared.levels.Level.{Level}
 use Rattle.ndr_explain.specs.declared.levels.Level.TheVariants as level
