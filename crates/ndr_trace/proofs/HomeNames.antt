@@ -117,10 +117,12 @@ module _ (table : Table) (h : Home) where
       let K : List TypedNode = nodes_of table (child_types d l ks) (child_agreements d ks) (n + 1) ks in
       let R : List TypedNode = nodes_of table types (rest_agreements ags) (n + 1 + node_count ks) ts in
       let its : List Pointer = pointer_by d (is_pointer l) (cell_in l) h n (first_agreements ags) in
-      flat_map-append (λ (m : Entry). pending_by k m.home m.node m.kind) own (kids ++ rest) ∙ ap (λ xs. pending_in k own ++ xs) (flat_map-append (λ (m : Entry). pending_by k m.home m.node m.kind) kids rest)
+      flat_map-append (λ (m : Entry). pending_by k m.home m.node m.kind) own (kids ++ rest)
+      ∙ ap (λ xs. pending_in k own ++ xs) (flat_map-append (λ (m : Entry). pending_by k m.home m.node m.kind) kids rest)
       ∙ ap₂ (λ xs ys. xs ++ ys) (own_waits k n t d l ks (first_agreements ags))
       (ap₂ (λ xs ys. xs ++ ys) (plain_waits k (child_types d l ks) (child_agreements d ks) (n + 1) ks) (plain_waits k types (rest_agreements ags) (n + 1 + node_count ks) ts)
-      ∙ sym (flat_map-append (λ (p : Pointer). pending_of k p.home p.node p.class p.to p.cell) (flat_map (pointer table h) K) (flat_map (pointer table h) R)) ∙ ap (pending_all k) (sym (flat_map-append (pointer table h) K R)))
+      ∙ sym (flat_map-append (λ (p : Pointer). pending_of k p.home p.node p.class p.to p.cell) (flat_map (pointer table h) K) (flat_map (pointer table h) R))
+      ∙ ap (pending_all k) (sym (flat_map-append (pointer table h) K R)))
       ∙ sym (flat_map-append (λ (p : Pointer). pending_of k p.home p.node p.class p.to p.cell) its (flat_map (pointer table h) (K ++ R)))
 
   -- ## A home's value

@@ -27,7 +27,7 @@ use Rattle.ndr_trace_value.specs.Variable.{NamesAlone}
 use Rattle.ndr_trace_value.proofs.Placed.{home_plain}
 use Rattle.ndr_trace.specs.Homes.{IsPart}
 
-cell_in : Home → ℕ
+abbrev cell_in : Home → ℕ
 cell_in (home.Root i) = 0
 cell_in (home.Cell c) = c.0
 

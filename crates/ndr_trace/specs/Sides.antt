@@ -1,6 +1,6 @@
 -- What a walk over the roots of a side comes to.
--- `k` are the octets with the partial graph in which they are refused, `u` is what the walk is given, or the walk, `p` how far it came, `i` is the index of a root,
--- `cuts` are the counts of the chunks of pipes.
+-- `k` are the octets with the partial graph in which they are refused, `u` is what the walk is given, or the walk, `p` how far it came, `i` is the
+-- index of a root, `cuts` are the counts of the chunks of pipes.
 use Rattle.std.specs.Prelude.{◌≡◌, ◌⊎◌, ◌≤◌, ◌-◌, ℕ, List, [], ◌++◌, drop, Option, None, Some, codes}
 use Rattle.std.specs.List.{slice_get}
 use Rattle.nd_types.specs.declared.types.Operation.{Operation}

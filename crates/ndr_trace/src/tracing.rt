@@ -162,7 +162,8 @@ fn finish_at(
 ) -> Result<Traced, Memory>
     ensures lines { IfOk result (λ t. t.lines ≡ lines) }
     ensures path { IfOk result (λ t. (variable : List ℕ) × IsOwnName ground.now sought variable × IsKeptName ground.now sought kept.now variable
-        × IsPointedName ground.now sought from.now kept.now variable × IsPointedPath ground.now sought from.now kept.now variable × (t.path ≡ path ++ (codes " " ++ variable))) }
+        × IsPointedName ground.now sought from.now kept.now variable × IsPointedPath ground.now sought from.now kept.now variable
+        × (t.path ≡ path ++ (codes " " ++ variable))) }
 {
     let variable = variable_path(ground, search, sought, kept, from)?;
     let mut path = path;

@@ -48,7 +48,12 @@ no_drop (suc n) (x ∷ xs) e = let h = no_drop n xs e in omega (arith, h)
 
 -- then reading stopped at an agreement
 pub all_passed : (k : Known) (p : Progress) → IsTracing k p [] → IsEnded k p
-all_passed k p t = record { lines = all_lines k p.next p.lines over t.lines; path = inl (at_test t.due.ends, kept_all k p [] t over); variable = variable_all k p [] t over; from = from_all k p [] t over }
+all_passed k p t = record {
+  lines = all_lines k p.next p.lines over t.lines;
+  path = inl (at_test t.due.ends, kept_all k p [] t over);
+  variable = variable_all k p [] t over;
+  from = from_all k p [] t over;
+}
   where
     none : (t.due.passed ≡ []) × (t.due.later ≡ [])
     none = no_more t.due.passed t.due.later t.due.split

@@ -41,8 +41,8 @@ use Rattle.ndr_trace_value.specs.declared.search.Sought.{Sought}
 use Rattle.ndr_trace_value.specs.LastMembers.{counted_path, counted_variable, front_variable, level_variable, whole_types}
 use Rattle.ndr_trace_value.specs.Places.{home_place}
 use Rattle.ndr_trace_value.specs.Traces.{entry_path}
-use Rattle.ndr_trace_value.specs.Tracing.{HasLabel, Holds, HoldsCount, IsCount, IsCounted, IsEnded, IsFrom, IsGround, IsInFront, IsItem, IsShown, IsSpot, IsTracing, KeptFrom, Known, either_from, either_path, entry_at}
-use Rattle.ndr_trace_value.specs.Tracing.{is_sought, kept, kept_by, sought_path, sought_variable}
+use Rattle.ndr_trace_value.specs.Tracing.{HasLabel, Holds, HoldsCount, IsCount, IsCounted, IsEnded, IsFrom, IsGround, IsInFront, IsItem, IsShown, IsSpot, IsTracing, KeptFrom, Known}
+use Rattle.ndr_trace_value.specs.Tracing.{either_from, either_path, entry_at, is_sought, kept, kept_by, sought_path, sought_variable}
 use Rattle.ndr_trace_value.proofs.Placed.{beside_is}
 use Rattle.ndr_trace_value.proofs.Passing.{from_next, from_on, gap_passed, held_next, held_on, item_ended, item_passed, next_item, placed}
 

@@ -343,7 +343,8 @@ module _ (k : Known) (s : Spot) (max : ℕ) (L : Level) (Ls : List Level) (n : �
       same : child_types (type_at k.setting.table t) l ks ++ types_after (L ∷ Ls) ≡ inner_types inner ++ types_after (L ∷ Ls)
       same = ap (λ ts. ts ++ types_after (L ∷ Ls)) (sym (same_types k s.home max (name_text s.name) L Ls n l ks us t first some there f inner visited.0 level))
 
-      by_levels : (r : Option Levels) → next_places r ≡ inner_places inner ++ places_after (L ∷ Ls) → AreLevelsOf (inner_types inner ++ types_after (L ∷ Ls)) (λ q. inner_paths (path_to q (L ∷ Ls)) inner ++ paths_after q (L ∷ Ls)) r
+      by_levels : (r : Option Levels) → next_places r ≡ inner_places inner ++ places_after (L ∷ Ls)
+          → AreLevelsOf (inner_types inner ++ types_after (L ∷ Ls)) (λ q. inner_paths (path_to q (L ∷ Ls)) inner ++ paths_after q (L ∷ Ls)) r
           → ComesTo k s.home max (name_text s.name) (values_due k s.home (types_from L Ls) n (more (node l ks) us)) rest names before after r
       by_levels None is e =
           let nothing : values_due k s.home (child_types (type_at k.setting.table t) l ks ++ types_after (L ∷ Ls)) (n + 1) (joined ks us) ≡ [] =

@@ -1,5 +1,6 @@
 -- The attributes of parameters, by the items that they speak of.
--- `a` is an attribute, `k` the kind of an item, `vs` are the attributes of a parameter, `o` is an operation, `log` a log, `s` what is sought in it.
+-- `a` is an attribute, `k` the kind of an item, `vs` are the attributes of a parameter, `o` is an operation, `log` a log, `s` what is sought in it,
+-- `from` says where a pointer is, if it is known, and `f` is that, `kept` is a path that was kept, `q` the text that is shown.
 use Rattle.std.specs.Prelude.{◌≡◌, ℕ, Bool, true, false, List, [], ◌∷◌, Option, None, Some}
 use Rattle.std.specs.List.{slice_get}
 use denote.Enum.Bare.{sameb}
@@ -66,7 +67,8 @@ abbrev pub IsKeptName : Ground → Sought → List ℕ → List ℕ → Type 0
 IsKeptName u s kept q = (o : Operation) → slice_get u.interface.now.operations u.op ≡ Some o
     → (s.node ≡ 0 → home_attribute o s.kind (named_roots u.interface.now.types u.side o) s.home ≡ None) → (kept ≡ [] → ⊥) → q ≡ kept
 
--- The same of the attribute of a parameter that is a pointer, if the walk kept where this pointer is and no path: it names the home of what is sought.
+-- The same of the attribute of a parameter that is a pointer, if the walk kept where this pointer is, and no path: it names the home of what is
+-- sought.
 abbrev pub IsPointedName : Ground → Sought → Option PointerSpot → List ℕ → List ℕ → Type 0
 IsPointedName u s from kept q = (o : Operation) → slice_get u.interface.now.operations u.op ≡ Some o
     → home_attribute o s.kind (named_roots u.interface.now.types u.side o) s.home ≡ None → kept ≡ []

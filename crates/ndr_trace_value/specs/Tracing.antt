@@ -151,8 +151,8 @@ pub record IsEnded (k : Known) (p : Progress) : Type 0 where
   pub variable : p.variable ≡ kept_variable k (length k.log)
   pub from : KeptFrom k (length k.log) p.from
 
--- The levels of a node have the path of its number, which is n, and say which member of a struct it is. If a pointer names its home alone, it is known
--- where this pointer is.
+-- The levels of a node have the path of its number, which is n, and say which member of a struct it is. If a pointer names its home alone, it is
+-- known where this pointer is.
 pub record IsSpot (k : Known) (s : Spot) (n : ℕ) : Type 0 where
   pub path : path_to (name_text s.name) (s.top ∷ reverse s.below.now.items) ≡ path_in (home_paths k.setting k.graph s.home) n
   pub place : level_place s.top ≡ home_place k.setting k.graph s.home n

@@ -5,8 +5,8 @@ ghost use Rattle.nd_types.specs.declared.types.AttrVar.{AttrVar as AttrVarValue}
 ghost use Rattle.nd_types.specs.Walk.{named_roots, root_value};
 ghost use Rattle.text_grammar.specs.Written.{parameter_name as name_of_param};
 ghost use Rattle.ndr_trace_value.specs.declared.pointers.PointerSpot.{PointerSpot as PointerSpotValue};
-ghost use Rattle.ndr_trace_value.specs.Attributes.{IsKeptName, IsOwnName, IsPointedName, IsPointedPath, home_attribute, number_attribute as by_number};
-ghost use Rattle.ndr_trace_value.specs.Attributes.{param_attribute as by_param, root_attribute as by_root};
+ghost use Rattle.ndr_trace_value.specs.Attributes.{IsKeptName, IsOwnName, IsPointedName, IsPointedPath, home_attribute};
+ghost use Rattle.ndr_trace_value.specs.Attributes.{number_attribute as by_number, param_attribute as by_param, root_attribute as by_root};
 
 use crate::members::number_of;
 use crate::pointers::{PointerSpot, pointed_path};

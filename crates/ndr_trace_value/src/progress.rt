@@ -159,7 +159,8 @@ fn keep(
         (level_variable ground.now.interface.now.types kind spot.now.top
         (path_to (name_text spot.now.name) (spot.now.top ∷ reverse spot.now.below.now.items))
         (path_to (name_text spot.now.name) (reverse spot.now.below.now.items))) progress.old.variable) }
-    ensures from { OnOk result (progress.new.from ≡ either_from (is_sought_item ground.now.sought progress.old.next) spot.now.from.now progress.old.from) }
+    ensures from { OnOk result (progress.new.from
+        ≡ either_from (is_sought_item ground.now.sought progress.old.next) spot.now.from.now progress.old.from) }
     ensures lines { progress.new.lines ≡ progress.old.lines }
     ensures next { progress.new.next ≡ progress.old.next }
     ensures at { progress.new.at ≡ progress.old.at }

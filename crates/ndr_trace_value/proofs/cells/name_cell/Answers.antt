@@ -11,7 +11,8 @@ returns-in_default-clause-names c k x m names is place i num fine =
     let none = sym (ap (option_map (λ (d : CellId). d.0)) c.in_default.is) ∙ a in (
       none,
       pending_added k c.args.cells.now c.named.new.cells m c.args.class c.args.to.0 x names is j
-          (none_pending k m.home m.node c.args.class c.args.to.0 x c.args.cells.now.pending.items c.args.cells.now.pending.items c.named.new.cells.pending.items none refl (ap (λ v. v.items) c.named.ensures.pending))
+          (none_pending k m.home m.node c.args.class c.args.to.0 x c.args.cells.now.pending.items c.args.cells.now.pending.items c.named.new.cells.pending.items
+          none refl (ap (λ v. v.items) c.named.ensures.pending))
           c.named.ensures.stands,
     )
 
@@ -27,6 +28,7 @@ returns-clause-names c k x m names is place i num fine =
     } in (
       some,
       pending_added k c.args.cells.now v m c.args.class c.args.to.0 x names is (same_naming k c.named.new.cells v names refl refl j)
-          (one_pending k m.home m.node c.args.class c.in-Some.cell c.args.to c.args.from x c.args.cells.now.pending.items c.named.new.cells.pending.items c.push.new.self.items place some (ap (λ v. v.items) c.named.ensures.pending)
+          (one_pending k m.home m.node c.args.class c.in-Some.cell c.args.to c.args.from x c.args.cells.now.pending.items c.named.new.cells.pending.items
+          c.push.new.self.items place some (ap (λ v. v.items) c.named.ensures.pending)
           c.in-Ok.ensures.items) c.named.ensures.stands,
     )
