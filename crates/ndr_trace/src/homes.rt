@@ -163,10 +163,12 @@ fn walk_home<'a>(
     from: &Option<PointerSpot>,
 ) -> Result<(), Halt>
     ensures goes { (k : Known) → IsGround k ground.now → HasHome k home name.entry of.0 → IsFrom k home from.now
-        → (rest : List Entry) (names : Placed_cells) → IsTracing k walker.old.progress (home_due k home of.0 ++ rest) → IsNaming k walker.old.cells (names_in (home_due k home of.0) ++ names)
+        → (rest : List Entry) (names : Placed_cells) → IsTracing k walker.old.progress (home_due k home of.0 ++ rest)
+        → IsNaming k walker.old.cells (names_in (home_due k home of.0) ++ names)
         → IfOk result (λ _. IsTracing k walker.new.progress rest × HasPassed k walker.old.cells walker.new.cells (home_due k home of.0) names) }
     ensures ends { (k : Known) → IsGround k ground.now → HasHome k home name.entry of.0 → IsFrom k home from.now
-        → (rest : List Entry) (names : Placed_cells) → IsTracing k walker.old.progress (home_due k home of.0 ++ rest) → IsNaming k walker.old.cells (names_in (home_due k home of.0) ++ names)
+        → (rest : List Entry) (names : Placed_cells) → IsTracing k walker.old.progress (home_due k home of.0 ++ rest)
+        → IsNaming k walker.old.cells (names_in (home_due k home of.0) ++ names)
         → IsErrOf result halts.Here → IsEnded k walker.new.progress }
 {
     let before = walker.cells.pending.len();

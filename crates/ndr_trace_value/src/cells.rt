@@ -94,7 +94,8 @@ pub fn name_cell(
     from: Option<PointerSpot>,
 ) -> Result<Option<CellId>, Halt>
     ensures names { (k : Known) (x : Option ℕ) (m : Entry) (names : Placed_cells) → m.kind ≡ Number class to.0 x
-        → from ≡ only_spot k class m.home m.node → IsNaming k cells.old (named_by m.kind ++ names) → IsNumber k.numbering class x number → IsFine k.graph class to.0 x
+        → from ≡ only_spot k class m.home m.node → IsNaming k cells.old (named_by m.kind ++ names)
+        → IsNumber k.numbering class x number → IsFine k.graph class to.0 x
         → IfOk result (λ r. (option_map (λ c. c.0) r ≡ x) × HasNamed k cells.old cells.new (m ∷ []) names) }
     ensures paid { OnOk result (length cells.new.pending.items ≤ length cells.old.pending.items + 1) }
     ensures memory { IfErr result (λ e. e ≡ halts.Memory) }
