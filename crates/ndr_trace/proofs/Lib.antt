@@ -28,5 +28,6 @@ pub mod Named
 pub mod OwnTests
 pub mod RootAttributes
 pub mod SolePointers
+pub mod PointerEntries
 pub mod PointerMembers
 pub mod ReferentTests

@@ -286,7 +286,7 @@ module _ (w : Setting) (order : Order) (fetched : List ℕ) (place : ℕ) (why :
       by_root_referent a wanted found is ptr (c, alone, at_cell, own) at_root root in_list in_root =
           let (kind_is, home_is, node_is) = tested_item w order fetched place why bad legal a wanted found is s.item i there at in
           let root_says : RootSays w g sound ptr a wanted =
-          root_test_of w g sound ptr c alone bad.here.entry a wanted found is at_cell bad.entries bad.stream
+          root_test_of w g sound c bad.here.entry a wanted found is at_cell ptr alone bad.entries bad.stream
           (here_among 0 bad.entries bad.earlier bad.here bad.later bad.split) own in_root.1 in
           let root_same : root_says.root ≡ root =
           same_Some _ _ (sym root_says.there ∙ ap (slice_get (root_list w)) (same_root root_says.at at_root (sym root_says.own.0 ∙ in_root.0)) ∙ in_list) in
@@ -318,7 +318,7 @@ module _ (w : Setting) (order : Order) (fetched : List ℕ) (place : ℕ) (why :
       by_referent a wanted found is ptr (c, alone, at_cell, own) low =
           let (kind_is, home_is, node_is) = tested_item w order fetched place why bad legal a wanted found is s.item i there at in
           let member : IsPointerMember w g ptr a wanted =
-          member_test_of w g sound ptr c alone bad.here.entry a wanted found is at_cell bad.entries bad.stream
+          member_test_of w g sound c bad.here.entry a wanted found is at_cell ptr alone bad.entries bad.stream
           (here_among 0 bad.entries bad.earlier bad.here bad.later bad.split) own low in
           let st : OfStruct w g ptr.home ptr.node a wanted = member.0 in
           let its = member_there w g ptr.home st.struct st.members st.is_struct st.is_record st.index st.field st.there st.within st.of st.home_is st.in_home in

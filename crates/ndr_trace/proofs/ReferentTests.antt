@@ -169,21 +169,30 @@ module _ (w : Setting) (g : Graph) (s : IsSound w g) where
   abbrev pub MemberSays : Pointer → Attr → ℤ → Type 0
   MemberSays p a wanted = (x : Agreement) × Among p.agreements x × (x.attr ≡ a) × (x.wanted ≡ wanted)
 
-  module _ (p : Pointer) (c : ℕ) (alone : NamesAlone w g p c) (m : Entry) (a : Attr) (wanted found : ℤ) (is : m.kind ≡ Test a wanted found) (at_cell : m.home ≡ cell_home c) where
-    of_member : OfPointer m → MemberSays p a wanted
-    of_member (q, d, mine, names, among) =
-        let (x, k, entry) = tests_tell (cell_home d) 0 (cell_at g d) q.agreements m among in
+  -- some pointer names the cell and has the agreement, as a member or as a root
+  abbrev pub PointerSays : ℕ → Attr → ℤ → Type 0
+  PointerSays c a wanted = (p : Pointer) × Mine p × (p.cell ≡ Some c) × (MemberSays p a wanted ⊎ RootSays p a wanted)
+
+  module _ (c : ℕ) (m : Entry) (a : Attr) (wanted found : ℤ) (is : m.kind ≡ Test a wanted found) (at_cell : m.home ≡ cell_home c) where
+    of_member : OfPointer m → PointerSays c a wanted
+    of_member (p, d, mine, names, among) =
+        let (x, k, entry) = tests_tell (cell_home d) 0 (cell_at g d) p.agreements m among in
         let same : d ≡ c = same_cell d c (sym (ap (λ (y : Entry). y.home) entry) ∙ at_cell) in
-        let one : q ≡ p = the_one w g s.unshared p q c alone mine (names ∙ ap (λ n. Some n) same) in
         let same_kind : Test x.attr x.wanted (found_in x.attr (cell_at g d)) ≡ Test a wanted found = sym (ap (λ (y : Entry). y.kind) entry) ∙ is in (
-          x,
-          subst (λ (y : Pointer). Among y.agreements x) one k,
-          same_attr x.attr a x.wanted wanted (found_in x.attr (cell_at g d)) found same_kind,
-          same_wanted x.attr a x.wanted wanted (found_in x.attr (cell_at g d)) found same_kind,
+          p,
+          mine,
+          names ∙ ap (λ n. Some n) same,
+          inl
+              (
+                x,
+                k,
+                same_attr x.attr a x.wanted wanted (found_in x.attr (cell_at g d)) found same_kind,
+                same_wanted x.attr a x.wanted wanted (found_in x.attr (cell_at g d)) found same_kind,
+              ),
         )
 
     named_root : (j : ℕ) (q : Root) (v : Tree) → slice_get (root_list w) j ≡ Some q → slice_get g.roots j ≡ Some v → Among (root_test g j v (root_agreements w g q.vars)) m
-        → RootSays p a wanted
+        → PointerSays c a wanted
     named_root j q v root_is value e = by_value v value e
       where
         elsewhere : {A : Type 0} (u : Tree) → Among (tests (home.Root j) 0 u (root_agreements w g q.vars)) m → A
@@ -193,7 +202,7 @@ module _ (w : Setting) (g : Graph) (s : IsSound w g) where
             absurd (let y : ⊥ = cc in y)
 
         in_cell_of : (d : ℕ) (ks : Trees) → slice_get g.roots j ≡ Some (node (tree.Ptr (Some d)) ks) → Among (tests (cell_home d) 0 (cell_at g d) (root_agreements w g q.vars)) m
-            → RootSays p a wanted
+            → PointerSays c a wanted
         in_cell_of d ks given k = by_shape known.0.shape
           where
             tells : (m.home ≡ cell_home d) × Says w g q.vars a wanted
@@ -210,26 +219,25 @@ module _ (w : Setting) (g : Graph) (s : IsSound w g) where
 
             by_shape : (tree.Ptr (Some d) ≡ tree.Unread)
                 ⊎ ((has_shape (type_at w.table q.of) (tree.Ptr (Some d)) ks ≡ true) × (has_counts (type_at w.table q.of) (tree.Ptr (Some d)) ks ≡ true))
-                → RootSays p a wanted
+                → PointerSays c a wanted
             by_shape (inl u) = cc
             by_shape (inr (shape, counts)) =
                 let (class, to, type_is) = as_pointer (type_at w.table q.of) (Some d) ks shape in
                 let its : Pointer = record { home = home.Root j; node = 0; class = class; to = to.0; cell = Some d; agreements = [] } in
                 let mine : Mine its = root_pointer w g s.all_roots j q root_is class to type_is d ks value_is in
-                let one : its ≡ p = the_one w g s.unshared p its c alone mine (ap (λ n. Some n) same) in
-                record {
+                (its, mine, ap (λ n. Some n) same, inr (record {
                   at = j;
                   root = q;
                   there = root_is;
-                  own = (ap (λ (y : Pointer). y.home) (sym one), ap (λ (y : Pointer). y.node) (sym one));
+                  own = (refl, refl);
                   class = class;
                   to = to;
                   type_is = type_is;
-                  to_is = sym (ap (λ (y : Pointer). y.to) one);
+                  to_is = refl;
                   says = tells.1;
-                }
+                }))
 
-        by_value : (u : Tree) → slice_get g.roots j ≡ Some u → Among (root_test g j u (root_agreements w g q.vars)) m → RootSays p a wanted
+        by_value : (u : Tree) → slice_get g.roots j ≡ Some u → Among (root_test g j u (root_agreements w g q.vars)) m → PointerSays c a wanted
         by_value (node (tree.Ptr None) ks) f k = absurd k
         by_value (node (tree.Ptr (Some d)) ks) f k = in_cell_of d ks f k
         by_value (node (tree.Num z) ks) f k = elsewhere (node (tree.Num z) ks) k
@@ -241,8 +249,8 @@ module _ (w : Setting) (g : Graph) (s : IsSound w g) where
         by_value (node tree.Pipe ks) f k = elsewhere (node tree.Pipe ks) k
         by_value (node tree.Unread ks) f k = elsewhere (node tree.Unread ks) k
 
-    -- an agreement that is tried in the cell is the pointer's
-    pointer_test : (ms : List Entry) → Stream w g ms → Among ms m → m.node ≡ 0 → MemberSays p a wanted ⊎ RootSays p a wanted
+    -- an agreement that is tried at the cell's own value is that of a pointer which names the cell
+    pub pointer_test : (ms : List Entry) → Stream w g ms → Among ms m → m.node ≡ 0 → PointerSays c a wanted
     pointer_test ms x among z = by_part (among_split (F ++ T) P m (subst (λ xs. Among xs m) x.is_representation among))
       where
         F : List Entry
@@ -262,34 +270,41 @@ module _ (w : Setting) (g : Graph) (s : IsSound w g) where
         due : AllByRecursion IsDue (due_roots 0 (before_pipes (root_list w)))
         due = roots_are_due 0 (before_pipes (root_list w)) (let b = some_before w g (root_list w) in omega (arith, b))
 
-        of_root : OneOf w g 0 (root_list w) g.roots m → RootSays p a wanted
+        of_root : OneOf w g 0 (root_list w) g.roots m → PointerSays c a wanted
         of_root (j, q, v, root_is, value, k) =
             let z : 0 + j ≡ j = omega arith in
             named_root j q v root_is value (subst (λ n. Among (root_test g n v (root_agreements w g q.vars)) m) z k)
 
-        by_head : Among F m ⊎ Among T m → MemberSays p a wanted ⊎ RootSays p a wanted
-        by_head (inl e) = inl (of_member (all_among Tells F m e (steps_tell x.deferral due) tried z))
-        by_head (inr e) = inr (of_root (roots_tell w g 0 (root_list w) g.roots m e))
+        by_head : Among F m ⊎ Among T m → PointerSays c a wanted
+        by_head (inl e) = of_member (all_among Tells F m e (steps_tell x.deferral due) tried z)
+        by_head (inr e) = of_root (roots_tell w g 0 (root_list w) g.roots m e)
 
-        by_part : Among (F ++ T) m ⊎ Among P m → MemberSays p a wanted ⊎ RootSays p a wanted
+        by_part : Among (F ++ T) m ⊎ Among P m → PointerSays c a wanted
         by_part (inl e) = by_head (among_split F T m e)
         by_part (inr e) =
-            inl (of_member (later_tells m (all_among (Later 0) P m e (pipes_later w.table (before_pipes (root_list w)) (drop (before_pipes (root_list w)) (root_list w))
-            (drop (before_pipes (root_list w)) g.roots) x.cuts)) tried z))
+            of_member (later_tells m (all_among (Later 0) P m e (pipes_later w.table (before_pipes (root_list w)) (drop (before_pipes (root_list w)) (root_list w))
+            (drop (before_pipes (root_list w)) g.roots) x.cuts)) tried z)
 
-    -- if the pointer is a root, it is one of the root's attributes
-    pub root_test_of : (ms : List Entry) → Stream w g ms → Among ms m → m.node ≡ 0 → p.node ≡ 0 → RootSays p a wanted
-    root_test_of ms x among z own = go (pointer_test ms x among z)
-      where
-        go : MemberSays p a wanted ⊎ RootSays p a wanted → RootSays p a wanted
-        go (inl (y, k, attr_is, wanted_is)) = absurd (subst (λ xs. Among xs y) (bare p alone.among own) k)
-        go (inr r) = r
+    module _ (p : Pointer) (alone : NamesAlone w g p c) where
+      -- where a pointer names the cell alone, it is this one
+      alone_test : (ms : List Entry) → Stream w g ms → Among ms m → m.node ≡ 0 → MemberSays p a wanted ⊎ RootSays p a wanted
+      alone_test ms x among z =
+          let (q, mine, names, says) = pointer_test ms x among z in
+          subst (λ (y : Pointer). MemberSays y a wanted ⊎ RootSays y a wanted) (the_one w g s.unshared p q c alone mine names) says
 
-    -- if it is not, it is one of a member's
-    pub member_test_of : (ms : List Entry) → Stream w g ms → Among ms m → m.node ≡ 0 → 0 < p.node → IsPointerMember w g p a wanted
-    member_test_of ms x among z low = go (pointer_test ms x among z)
-      where
-        go : MemberSays p a wanted ⊎ RootSays p a wanted → IsPointerMember w g p a wanted
-        go (inl (y, k, attr_is, wanted_is)) =
-            subst (λ u. IsPointerMember w g p a u) wanted_is (subst (λ b. IsPointerMember w g p b y.wanted) attr_is (pointer_member w g p y alone.among k))
-        go (inr r) = let own = r.own.1 in absurd (omega (arith, own, low))
+      -- if the pointer is a root, it is one of the root's attributes
+      pub root_test_of : (ms : List Entry) → Stream w g ms → Among ms m → m.node ≡ 0 → p.node ≡ 0 → RootSays p a wanted
+      root_test_of ms x among z own = go (alone_test ms x among z)
+        where
+          go : MemberSays p a wanted ⊎ RootSays p a wanted → RootSays p a wanted
+          go (inl (y, k, attr_is, wanted_is)) = absurd (subst (λ xs. Among xs y) (bare p alone.among own) k)
+          go (inr r) = r
+
+      -- if it is not, it is one of a member's
+      pub member_test_of : (ms : List Entry) → Stream w g ms → Among ms m → m.node ≡ 0 → 0 < p.node → IsPointerMember w g p a wanted
+      member_test_of ms x among z low = go (alone_test ms x among z)
+        where
+          go : MemberSays p a wanted ⊎ RootSays p a wanted → IsPointerMember w g p a wanted
+          go (inl (y, k, attr_is, wanted_is)) =
+              subst (λ u. IsPointerMember w g p a u) wanted_is (subst (λ b. IsPointerMember w g p b y.wanted) attr_is (pointer_member w g p y alone.among k))
+          go (inr r) = let own = r.own.1 in absurd (omega (arith, own, low))
