@@ -1,5 +1,6 @@
 pub mod HomeNodes
 pub mod LevelPaths
+pub mod LevelPlaces
 pub mod Lines
 pub mod Places
 pub mod Walks

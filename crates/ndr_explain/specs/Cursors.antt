@@ -117,6 +117,57 @@ AreLevelsOf types paths (Some s) =
     ((0 < length (level_types s.top)) × (types_from s.top (reverse s.below.items) ≡ types))
     × ((p : List ℕ) → paths_from p s.top (reverse s.below.items) ≡ paths p)
 
+-- ## Members
+
+-- which of some members a value is, if it is a member of a struct
+abbrev pub Place : Type 0
+Place = Option (List Field × ℕ)
+
+-- the members from one on, as many as there are types
+abbrev pub member_places : List Field → ℕ → List ℕ → List Place
+member_places members i [] = []
+member_places members i (t ∷ types) = Some (members, i) ∷ member_places members (i + 1) types
+
+-- values of these types that are no members
+abbrev pub no_places : List ℕ → List Place
+no_places [] = []
+no_places (t ∷ types) = None ∷ no_places types
+
+-- the children of a node of this type, which have these types
+abbrev pub child_places : Option TypeDef → List ℕ → List Place
+child_places (Some (def.Struct members)) types = member_places members 0 types
+child_places _ types = no_places types
+
+-- the child at which a level is
+abbrev pub level_place : Level → Place
+level_place (level.Members members at) = Some (members.now, at)
+level_place _ = None
+
+-- that child and those after it
+abbrev pub level_places : Level → List Place
+level_places (level.Whole of) = no_places (level_types (level.Whole of))
+level_places (level.Arm of name) = no_places (level_types (level.Arm of name))
+level_places (level.Members members at) = member_places members.now at (level_types (level.Members members at))
+level_places (level.Elements of offset at size) = no_places (level_types (level.Elements of offset at size))
+
+-- the values after the children at which levels are
+abbrev pub places_after : List Level → List Place
+places_after [] = []
+places_after (L ∷ Ls) = drop 1 (level_places L) ++ places_after Ls
+
+-- the same from the child on at which the innermost level is
+abbrev pub places_from : Level → List Level → List Place
+places_from L Ls = level_places L ++ places_after Ls
+
+-- the same of a level, or of levels, if there are any
+abbrev pub inner_places : Option Level → List Place
+inner_places None = []
+inner_places (Some L) = level_places L
+
+abbrev pub next_places : Option Levels → List Place
+next_places None = []
+next_places (Some s) = places_from s.top (reverse s.below.items)
+
 -- ## The parts of a type that has children
 
 -- the types and the paths of so many elements, where there is a type of elements

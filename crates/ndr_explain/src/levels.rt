@@ -13,6 +13,7 @@ ghost use Rattle.std.specs.List.{slice_get};
 ghost use Rattle.ndr_explain.specs.Cursors.{level_types, level_paths, child_path, field_path, arm_path, armed_paths, elem_types, elem_paths};
 ghost use Rattle.ndr_explain.specs.Cursors.{array_element, pipe_element, union_arm, index_paths, path_to, types_after, paths_after, inner_types};
 ghost use Rattle.ndr_explain.specs.Cursors.{inner_paths, HasChild, IsLevelOf, IsChildLevel, AreLevelsOf};
+ghost use Rattle.ndr_explain.specs.Cursors.{child_places, inner_places, level_places, member_places, next_places, no_places, places_after};
 
 use nd_base::{Memory, Name, Octets};
 use nd_flat::Seen;
@@ -76,7 +77,8 @@ fn member_type(members: &Fields, at: usize) -> TypeId
 
 // A level at its next child, if there is one.
 fn after<'a>(level: Level<'a>) -> Option<Level<'a>>
-    ensures { IsLevelOf (drop 1 (level_types level.entry)) (λ p. drop 1 (level_paths p level.entry)) result }
+    ensures is { IsLevelOf (drop 1 (level_types level.entry)) (λ p. drop 1 (level_paths p level.entry)) result }
+    ensures places { inner_places result ≡ drop 1 (level_places level.entry) }
 {
     match level {
         Level::Whole { .. } => None,
@@ -93,7 +95,8 @@ fn after<'a>(level: Level<'a>) -> Option<Level<'a>>
 
 // The members after one.
 fn member_after<'a>(members: &'a Fields, at: usize) -> Option<Level<'a>>
-    ensures { let l = level.Members members.entry at in IsLevelOf (drop 1 (level_types l)) (λ p. drop 1 (level_paths p l)) result }
+    ensures is { let l = level.Members members.entry at in IsLevelOf (drop 1 (level_types l)) (λ p. drop 1 (level_paths p l)) result }
+    ensures places { inner_places result ≡ drop 1 (level_places (level.Members members.entry at)) }
 {
     if at >= members.len() {
         return None;
@@ -107,7 +110,8 @@ fn member_after<'a>(members: &'a Fields, at: usize) -> Option<Level<'a>>
 
 // The elements after one.
 fn element_after<'a>(of: TypeId, offset: u32, at: u32, size: u32) -> Option<Level<'a>>
-    ensures { let l = level.Elements of offset at size in IsLevelOf (drop 1 (level_types l)) (λ p. drop 1 (level_paths p l)) result }
+    ensures is { let l = level.Elements of offset at size in IsLevelOf (drop 1 (level_types l)) (λ p. drop 1 (level_paths p l)) result }
+    ensures places { inner_places result ≡ drop 1 (level_places (level.Elements of offset at size)) }
 {
     if at >= size {
         return None;
@@ -126,7 +130,8 @@ fn element_after<'a>(of: TypeId, offset: u32, at: u32, size: u32) -> Option<Leve
 
 /// The level of the children of a node of a type, if it has any.
 pub fn children<'a>(types: &'a Types, of: TypeId, seen: &Seen<'_>) -> Option<Level<'a>>
-    ensures { IsChildLevel types.now of.0 (flat_seen seen.now) result }
+    ensures is { IsChildLevel types.now of.0 (flat_seen seen.now) result }
+    ensures places { inner_places result ≡ child_places (type_at types.now of.0) (inner_types result) }
 {
     match seen {
         Seen::Rec(_) => members(types, of),
@@ -142,8 +147,9 @@ pub fn children<'a>(types: &'a Types, of: TypeId, seen: &Seen<'_>) -> Option<Lev
 
 // The members of a struct, if it has any.
 fn members<'a>(types: &'a Types, of: TypeId) -> Option<Level<'a>>
-    ensures { (ks : Trees)
+    ensures is { (ks : Trees)
         → IsLevelOf (child_types (type_at types.now of.0) tree.Rec ks) (λ p. child_paths (type_at types.now of.0) tree.Rec p ks) result }
+    ensures places { inner_places result ≡ child_places (type_at types.now of.0) (inner_types result) }
 {
     match types.get(of.0 as usize) {
         Some(TypeDef::Struct { members }) => first_member(members),
@@ -153,7 +159,8 @@ fn members<'a>(types: &'a Types, of: TypeId) -> Option<Level<'a>>
 
 // The first of members, if there are any.
 fn first_member<'a>(members: &'a Fields) -> Option<Level<'a>>
-    ensures { IsLevelOf (map (λ f. f.of.0) members.now) (λ p. map (λ f. member_path p f.name) members.now) result }
+    ensures is { IsLevelOf (map (λ f. f.of.0) members.now) (λ p. map (λ f. member_path p f.name) members.now) result }
+    ensures places { inner_places result ≡ member_places members.now 0 (inner_types result) }
 {
     if members.len() == 0 {
         return None;
@@ -163,7 +170,8 @@ fn first_member<'a>(members: &'a Fields) -> Option<Level<'a>>
 
 // So many elements of this type, if there is one.
 fn elements<'a>(elem: Option<TypeId>, offset: u32, size: u32) -> Option<Level<'a>>
-    ensures { IsLevelOf (elem_types (option_map (λ t. t.0) elem) size) (λ p. elem_paths (option_map (λ t. t.0) elem) p offset size) result }
+    ensures is { IsLevelOf (elem_types (option_map (λ t. t.0) elem) size) (λ p. elem_paths (option_map (λ t. t.0) elem) p offset size) result }
+    ensures places { inner_places result ≡ no_places (inner_types result) }
 {
     match elem {
         Some(of) => first_element(of, offset, size),
@@ -173,7 +181,8 @@ fn elements<'a>(elem: Option<TypeId>, offset: u32, size: u32) -> Option<Level<'a
 
 // The first of so many elements, if there are any.
 fn first_element<'a>(of: TypeId, offset: u32, size: u32) -> Option<Level<'a>>
-    ensures { IsLevelOf (replicate size of.0) (λ p. index_paths p offset size) result }
+    ensures is { IsLevelOf (replicate size of.0) (λ p. index_paths p offset size) result }
+    ensures places { inner_places result ≡ no_places (inner_types result) }
 {
     if size == 0 {
         return None;
@@ -188,7 +197,8 @@ fn first_element<'a>(of: TypeId, offset: u32, size: u32) -> Option<Level<'a>>
 
 // The value of an arm, if it has one.
 fn arm_value<'a>(arm: Option<&'a Arm>) -> Option<Level<'a>>
-    ensures { IsLevelOf (selected_types (option_copied arm.entry)) (λ p. armed_paths p (option_copied arm.entry)) result }
+    ensures is { IsLevelOf (selected_types (option_copied arm.entry)) (λ p. armed_paths p (option_copied arm.entry)) result }
+    ensures places { inner_places result ≡ no_places (inner_types result) }
 {
     match arm {
         Some(arm) => named_value(arm),
@@ -198,7 +208,8 @@ fn arm_value<'a>(arm: Option<&'a Arm>) -> Option<Level<'a>>
 
 // The value of this arm, if it has one.
 fn named_value<'a>(arm: &'a Arm) -> Option<Level<'a>>
-    ensures { IsLevelOf (arm_type arm.now) (λ p. armed_paths p (Some arm.now)) result }
+    ensures is { IsLevelOf (arm_type arm.now) (λ p. armed_paths p (Some arm.now)) result }
+    ensures places { inner_places result ≡ no_places (inner_types result) }
 {
     match arm.of {
         Some(of) => arm_level(of, &arm.name),
@@ -208,7 +219,8 @@ fn named_value<'a>(arm: &'a Arm) -> Option<Level<'a>>
 
 // A value of this type, with the name of an arm, if it has one.
 fn arm_level<'a>(of: TypeId, name: &'a Option<Name>) -> Option<Level<'a>>
-    ensures { IsLevelOf (of.0 ∷ []) (λ p. arm_path p name.now ∷ []) result }
+    ensures is { IsLevelOf (of.0 ∷ []) (λ p. arm_path p name.now ∷ []) result }
+    ensures places { inner_places result ≡ no_places (inner_types result) }
 {
     match name {
         Some(name) => Some(Level::Arm { of, name }),
@@ -252,8 +264,10 @@ pub fn next_levels<'a>(
     top: Level<'a>,
     below: Vec<Level<'a>>,
 ) -> Result<Option<Levels<'a>>, Memory>
-    ensures { HasChild inner.entry → IfOk result (AreLevelsOf (inner_types inner.entry ++ types_after (top.entry ∷ reverse below.entry.items))
+    ensures is { HasChild inner.entry
+        → IfOk result (AreLevelsOf (inner_types inner.entry ++ types_after (top.entry ∷ reverse below.entry.items))
         (λ p. inner_paths (path_to p (top.entry ∷ reverse below.entry.items)) inner.entry ++ paths_after p (top.entry ∷ reverse below.entry.items))) }
+    ensures places { IfOk result (λ r. next_places r ≡ inner_places inner.entry ++ places_after (top.entry ∷ reverse below.entry.items)) }
 {
     match inner {
         Some(level) => enter(level, top, below),
@@ -267,9 +281,10 @@ fn enter<'a>(
     top: Level<'a>,
     below: Vec<Level<'a>>,
 ) -> Result<Option<Levels<'a>>, Memory>
-    ensures { 0 < length (level_types inner.entry)
+    ensures is { 0 < length (level_types inner.entry)
         → IfOk result (AreLevelsOf (level_types inner.entry ++ types_after (top.entry ∷ reverse below.entry.items))
         (λ p. level_paths (path_to p (top.entry ∷ reverse below.entry.items)) inner.entry ++ paths_after p (top.entry ∷ reverse below.entry.items))) }
+    ensures places { IfOk result (λ r. next_places r ≡ level_places inner.entry ++ places_after (top.entry ∷ reverse below.entry.items)) }
 {
     let mut below = below;
     let Ok(()) = below.push(top) else {
@@ -280,7 +295,8 @@ fn enter<'a>(
 
 // What comes after the child at which the innermost level is.
 fn leave<'a>(top: Level<'a>, below: Vec<Level<'a>>) -> Option<Levels<'a>>
-    ensures { AreLevelsOf (types_after (top.entry ∷ reverse below.entry.items)) (λ p. paths_after p (top.entry ∷ reverse below.entry.items)) result }
+    ensures is { AreLevelsOf (types_after (top.entry ∷ reverse below.entry.items)) (λ p. paths_after p (top.entry ∷ reverse below.entry.items)) result }
+    ensures places { next_places result ≡ places_after (top.entry ∷ reverse below.entry.items) }
 {
     if let Some(next) = after(top) {
         return Some(Levels { top: next, below });
