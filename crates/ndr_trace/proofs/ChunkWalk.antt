@@ -20,7 +20,7 @@ use Rattle.text_grammar.specs.Paths.{element_path, node_paths}
 use Rattle.text_printer.specs.Walks.{Begins}
 use Rattle.ndr_explain.specs.declared.levels.Level.{Level}
 use Rattle.ndr_explain.specs.declared.levels.Level.TheVariants as level
-use Rattle.ndr_explain.specs.Cursors.{index_paths, name_text, path_to}
+use Rattle.ndr_explain.specs.Cursors.{index_paths, level_place, name_text, no_places, path_to}
 use Rattle.ndr_explain.specs.Explained.{home_flats, home_paths, path_in}
 use Rattle.ndr_trace_laws.specs.Untested.{plain, untested}
 use Rattle.ndr_trace_laws.proofs.Untested.{untested_append, untested_values}
@@ -29,9 +29,12 @@ use Rattle.ndr_trace_value.specs.declared.progress.Progress.{Progress}
 use Rattle.nd_types.specs.declared.types.TypeId.{TypeId}
 use Rattle.ndr_trace.specs.Chunks.{AfterChunk, IsAtChunk}
 use Rattle.ndr_trace_value.specs.Naming.{HasNamed, IsNaming, names_in}
-use Rattle.ndr_trace_value.specs.Tracing.{IsTracing, Known}
+use Rattle.ndr_trace_value.specs.declared.progress.Spot.{Spot}
+use Rattle.ndr_trace_value.specs.Places.{home_place}
+use Rattle.ndr_trace_value.specs.Tracing.{IsFrom, IsSpot, IsTracing, Known}
 use Rattle.ndr_trace_value.specs.Walking.{AreOwn, AreThere, values_due}
 use Rattle.ndr_trace_value.proofs.LevelWalk.{names_append, nodes_joined}
+use Rattle.ndr_trace_value.proofs.Placed.{home_plain, plain_parts}
 use Rattle.ndr_trace.proofs.Parts.{flat_of_first, nodes_flat, path_of_first, path_of_others}
 
 -- ## Some values, and others after them
@@ -59,10 +62,12 @@ get_behind (x ∷ xs) ys i zero e = absurd (omega (arith, e))
 get_behind (x ∷ xs) ys i (suc m) e = get_behind xs ys i m (omega (arith, e))
 
 pub there_parts : (k : Known) (h : Home) (max : ℕ) (types T : List ℕ) (paths P : List (List ℕ)) (n : ℕ) (ks us : Trees) → count ks ≡ length types → length paths ≡ length types
-    → AreThere k h max (types ++ T) (paths ++ P) n (joined ks us) → AreThere k h max types paths n ks × AreThere k h max T P (n + node_count ks) us
+    → AreThere k h max (types ++ T) (paths ++ P) (no_places (types ++ T)) n (joined ks us)
+    → AreThere k h max types paths (no_places types) n ks × AreThere k h max T P (no_places T) (n + node_count ks) us
 there_parts k h max types T paths P n ks us e f there =
     let (b, b1) = begins_parts k.setting.table types T ks us e there.begins in
     let (o, o1) = own_parts k max types T ks us e there.own in
+    let (x, x1) = plain_parts (home_place k.setting k.graph h) k.setting.table types T n ks us e there.placed in
     let nodes = nodes_joined ks us in (
       record {
         begins = b;
@@ -70,6 +75,7 @@ there_parts k h max types T paths P n ks us e f there =
         own = o;
         paths_are = λ m low high.
             there.paths_are m low (omega (arith, high, nodes)) ∙ path_of_first k.setting.table types T paths P n ks us e f m high;
+        placed = x;
         flats_are = λ i low. there.flats_are i (omega (arith, low, nodes)) ∙ flat_of_first ks us i low;
       },
       record {
@@ -82,6 +88,7 @@ there_parts k h max types T paths P n ks us e f there =
         own = o1;
         paths_are = λ m low high.
             there.paths_are m (omega (arith, low)) (omega (arith, high, nodes)) ∙ path_of_others k.setting.table types T paths P n ks us e f m low;
+        placed = x1;
         flats_are = λ i low.
             ap (slice_get (home_flats k.graph h)) (add_on n (node_count ks) i) ∙ there.flats_are (node_count ks + i) (omega (arith, low, nodes))
             ∙ ap (λ fs. slice_get fs (node_count ks + i)) (flat-joined ks us)
@@ -126,7 +133,7 @@ module _ (k : Known) (h : Home) (name : List ℕ) (t before : ℕ) (rest : List 
     pub positive : 0 < v
     pub ks : Trees
     pub others : List Entry
-    pub there : AreThere k h 0 (replicate v t) (index_paths name before v) n ks
+    pub there : AreThere k h 0 (replicate v t) (index_paths name before v) (no_places (replicate v t)) n ks
     pub later_is : later ≡ values_due k h (replicate v t) n ks ++ (others ++ rest)
     pub naming : IsNaming k u.cells (names_in (values_due k h (replicate v t) n ks) ++ (names_in others ++ names))
     pub next : (w : Walker) → IsTracing k w.progress (others ++ rest) → IsNaming k w.cells (names_in others ++ names) → IsAtChunk k h name t (before + v) rest names w
@@ -138,7 +145,7 @@ module _ (k : Known) (h : Home) (name : List ℕ) (t before : ℕ) (rest : List 
     pub after : ((size ≡ 0) × ((later ≡ rest) × IsNaming k u.cells names)) ⊎ Elements n size later
 
   head_by : (own_path : path_in (home_paths k.setting k.graph h) 0 ≡ name) (n : ℕ) (cut : List ℕ) (left : Trees) → Cuts (count left) cut
-      → AreThere k h 0 (replicate (count left) t) (index_paths name before (count left)) n left
+      → AreThere k h 0 (replicate (count left) t) (index_paths name before (count left)) (no_places (replicate (count left) t)) n left
       → IsTracing k u.progress (untested (chunks k.setting.table h t n cut left) ++ rest)
       → IsNaming k u.cells (names_in (untested (chunks k.setting.table h t n cut left)) ++ names) → Head n
   head_by own_path n [] left cuts there tr nm = record { size = 0; later = rest; tracing = tr; after = inl (refl, (refl, nm)) }
@@ -153,10 +160,13 @@ module _ (k : Known) (h : Home) (name : List ℕ) (t before : ℕ) (rest : List 
       let due : untested (in_place k.setting.table h (replicate c t) n ks ++ chunks k.setting.table h t (n + node_count ks) cut us) ≡ values_due k h (replicate c t) n ks ++ later =
       untested_append (in_place k.setting.table h (replicate c t) n ks) (chunks k.setting.table h t (n + node_count ks) cut us)
       ∙ ap (λ xs. xs ++ later) (untested_values k.setting.table h (replicate c t) n ks) in
-      let parts : AreThere k h 0 (replicate c t ++ replicate (count us) t) (index_paths name before c ++ index_paths name (before + c) (count us)) n (joined ks us) =
-      subst (λ w. AreThere k h 0 (replicate c t ++ replicate (count us) t) (index_paths name before c ++ index_paths name (before + c) (count us)) n w) (sym whole)
-      (subst (λ ts. AreThere k h 0 ts (index_paths name before c ++ index_paths name (before + c) (count us)) n left) (replicate_parts c (count us) (count left) t all)
-      (subst (λ ps. AreThere k h 0 (replicate (count left) t) ps n left) (index_parts name before (before + c) c (count us) (count left) all refl) there)) in
+      let parts : AreThere k h 0 (replicate c t ++ replicate (count us) t) (index_paths name before c ++ index_paths name (before + c) (count us))
+      (no_places (replicate c t ++ replicate (count us) t)) n (joined ks us) =
+      subst (λ w. AreThere k h 0 (replicate c t ++ replicate (count us) t) (index_paths name before c ++ index_paths name (before + c) (count us))
+      (no_places (replicate c t ++ replicate (count us) t)) n w) (sym whole)
+      (subst (λ ts. AreThere k h 0 ts (index_paths name before c ++ index_paths name (before + c) (count us)) (no_places ts) n left)
+      (replicate_parts c (count us) (count left) t all)
+      (subst (λ ps. AreThere k h 0 (replicate (count left) t) ps (no_places (replicate (count left) t)) n left) (index_parts name before (before + c) c (count us) (count left) all refl) there)) in
       let both =
       there_parts k h 0 (replicate c t) (replicate (count us) t) (index_paths name before c) (index_paths name (before + c) (count us)) n ks us
       (some ∙ sym (length-replicate c t)) (index_length name before c ∙ sym (length-replicate c t)) parts in
@@ -224,10 +234,10 @@ module _ (k : Known) (h : Home) (name : List ℕ) (t before : ℕ) (rest : List 
     positive_types : 0 < length (replicate (v - 0) t)
     positive_types = let a = length-replicate (v - 0) t in let q = el.positive in omega (arith, a, q)
 
-    level_there : AreThere k h 0 (replicate (v - 0) t) (index_paths name (before + 0) (v - 0)) n el.ks
+    level_there : AreThere k h 0 (replicate (v - 0) t) (index_paths name (before + 0) (v - 0)) (no_places (replicate (v - 0) t)) n el.ks
     level_there =
-        subst (λ j. AreThere k h 0 (replicate (v - 0) t) (index_paths name j (v - 0)) n el.ks) no_more
-        (subst (λ j. AreThere k h 0 (replicate j t) (index_paths name before j) n el.ks) no_less el.there)
+        subst (λ j. AreThere k h 0 (replicate (v - 0) t) (index_paths name j (v - 0)) (no_places (replicate (v - 0) t)) n el.ks) no_more
+        (subst (λ j. AreThere k h 0 (replicate j t) (index_paths name before j) (no_places (replicate j t)) n el.ks) no_less el.there)
 
     level_tracing : IsTracing k p (values_due k h (replicate (v - 0) t) n el.ks ++ (el.others ++ rest))
     level_tracing = subst (λ j. IsTracing k p (values_due k h (replicate j t) n el.ks ++ (el.others ++ rest))) no_less (subst (IsTracing k p) el.later_is tr)
@@ -236,13 +246,15 @@ module _ (k : Known) (h : Home) (name : List ℕ) (t before : ℕ) (rest : List 
     level_naming = subst (λ j. IsNaming k u.cells (names_in (values_due k h (replicate j t) n el.ks) ++ (names_in el.others ++ names))) no_less el.naming
 
     pub elements_end : {E : Type 0}
-        → (0 < length (replicate (v - 0) t) → (w : Trees) → AreThere k h 0 (replicate (v - 0) t) (index_paths name (before + 0) (v - 0)) n w → (others : List Entry)
+        → (0 < length (replicate (v - 0) t) → (w : Trees)
+        → AreThere k h 0 (replicate (v - 0) t) (index_paths name (before + 0) (v - 0)) (no_places (replicate (v - 0) t)) n w → (others : List Entry)
         → IsTracing k p (values_due k h (replicate (v - 0) t) n w ++ others) → (more_names : Placed_cells)
         → IsNaming k u.cells (names_in (values_due k h (replicate (v - 0) t) n w) ++ more_names) → E) → E
     elements_end f = f positive_types el.ks level_there (el.others ++ rest) level_tracing (names_in el.others ++ names) level_naming
 
     pub elements_go : (after : Walker)
-        → (0 < length (replicate (v - 0) t) → (w : Trees) → AreThere k h 0 (replicate (v - 0) t) (index_paths name (before + 0) (v - 0)) n w → (others : List Entry)
+        → (0 < length (replicate (v - 0) t) → (w : Trees)
+        → AreThere k h 0 (replicate (v - 0) t) (index_paths name (before + 0) (v - 0)) (no_places (replicate (v - 0) t)) n w → (others : List Entry)
         → IsTracing k p (values_due k h (replicate (v - 0) t) n w ++ others) → (more_names : Placed_cells)
         → IsNaming k u.cells (names_in (values_due k h (replicate (v - 0) t) n w) ++ more_names)
         → IsTracing k after.progress others × HasNamed k u.cells after.cells (values_due k h (replicate (v - 0) t) n w) more_names)
@@ -252,6 +264,12 @@ module _ (k : Known) (h : Home) (name : List ℕ) (t before : ℕ) (rest : List 
         after_some v after el.positive (el.next after r.0 r.1.naming)
 
 -- a pipe's home, where its counts are
-pub at_home : (k : Known) (h : Home) (name : List ℕ) → path_in (home_paths k.setting k.graph h) 0 ≡ name → (of : TypeId) (below : List Level) → below ≡ []
-    → path_to name (level.Whole of ∷ reverse below) ≡ path_in (home_paths k.setting k.graph h) 0
-at_home k h name own of below e = ap (λ (Ms : List Level). path_to name (level.Whole of ∷ reverse Ms)) e ∙ sym own
+pub at_home : (k : Known) (h : Home) (name : List ℕ) → path_in (home_paths k.setting k.graph h) 0 ≡ name → (of : TypeId) (s : Spot) → s.home ≡ h → name_text s.name ≡ name
+    → s.top ≡ level.Whole of → s.below.now.items ≡ [] → IsFrom k s.home s.from.now → IsSpot k s 0
+at_home k h name own of s home named top below from = record {
+  path =
+      ap₂ (λ (M : Level) (Ms : List Level). path_to (name_text s.name) (M ∷ reverse Ms)) top below ∙ named ∙ sym own
+      ∙ ap (λ (j : Home). path_in (home_paths k.setting k.graph j) 0) (sym home);
+  place = ap level_place top ∙ sym (home_plain k.setting k.graph s.home);
+  from = from;
+}

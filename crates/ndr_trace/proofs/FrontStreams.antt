@@ -1,8 +1,9 @@
--- Agreements on a maximum count, along a stream: each is tried at the value whose maximum count is in front of the value of its home.
+-- Agreements along a stream: each that is not at a home's own value is of an attribute of a member of a struct, and one on a maximum count is tried at the value
+-- whose maximum count is in front of the value of its home.
 -- `w` is a setting, `g` a partial graph, `i` is the index of a root, `r` a root, `t` a type's number, `l` a label, `ks` are its children, `v` is a value, `x` a
 -- value that stands, `p` a pointer, `c` a cell, `cut` are the counts of the chunks of a pipe.
 use Rattle.std.proofs.Common.{◌≡◌, ◌⊎◌, inl, inr, ◌∙◌, ℕ, zero, suc, ◌+◌, ◌≤◌, true, false, List, [], ◌∷◌, ◌++◌, length, Option, Some, None, refl, sym, ap, subst}
-use Rattle.std.proofs.Common.{arith, drop, replicate}
+use Rattle.std.proofs.Common.{add-zero, arith, drop, replicate}
 use Rattle.std.specs.Prelude.{flat_map, map, sum}
 use Rattle.std.specs.List.{AllByRecursion, slice_get}
 use Rattle.std.proofs.lemmas.Bool.{both_ways}
@@ -24,12 +25,12 @@ use Rattle.nd_value.specs.Agreement.{Agreement, agreement}
 use Rattle.nd_value.specs.Deferral.{Deferral, Due, Pending, Placed_cells, Standing, Step, at_null, at_referent, at_root, at_standing, before_pipes, direct, due_of, due_referent, due_root}
 use Rattle.nd_value.specs.Deferral.{due_roots, home_pointers, none_due, referent_stands, root_stands, root_type, standing_by, standing_cell, standing_root}
 use Rattle.nd_value.specs.Misfit.{has_counts, has_shape}
-use Rattle.nd_value.specs.Nodes.{child_types}
-use Rattle.nd_value.specs.Setting.{Setting, cell_at, cell_home, cell_of_number, or_unread, root_at, root_list}
+use Rattle.nd_value.specs.Nodes.{TypedNode, child_agreements, child_types, nodes_of, rest_agreements}
+use Rattle.nd_value.specs.Setting.{Among, Setting, cell_at, cell_home, cell_of_number, or_unread, root_at, root_list}
 use Rattle.nd_value.specs.Tree as tree
 use Rattle.nd_value.specs.Tree.{Label, Referent, Tree, Trees, cell_in, count, drop_trees, more, node, node_count, none, take_trees}
 use Rattle.nd_value.specs.Variables.{root_agreements, variable}
-use Rattle.nd_value.proofs.Apart.{all_append}
+use Rattle.nd_value.proofs.Apart.{all_append, among_left, among_right}
 use Rattle.nd_value.proofs.DeferralBridge.{some_before}
 use Rattle.nd_value.proofs.DeferralExists.{direct_is}
 use Rattle.nd_value.proofs.NodeFacts.{IsSound}
@@ -39,6 +40,7 @@ use Rattle.nd_grammar.specs.LegalSide.{IsLegalSide}
 use Rattle.nd_grammar.specs.Stream.{Cuts, AllCut, Stream, chunk_entries, chunks, pipe_entries, pipes_entries, root_test, root_tests, step_entries, step_tests}
 use Rattle.nd_grammar.specs.Tested.{IsReadAt}
 use Rattle.nd_grammar.proofs.LegalSides.{laid_out}
+use Rattle.nd_grammar.proofs.Placed.{among_split}
 use Rattle.nd_grammar.proofs.agreements.LegalSubjects.{has_subjects, roots_fit}
 use Rattle.nd_grammar.proofs.agreements.StreamFinds.{PendFits, RootFits, Whole, cell_whole, root_whole, standing_pends}
 use Rattle.nd_grammar.proofs.agreements.TestsFind.{AllFit, AttrFits, HasSubjects}
@@ -49,14 +51,15 @@ use Rattle.nd_grammar.proofs.next.NextPipes.{count_drop, known_drop, known_take,
 use Rattle.nd_grammar.proofs.next.NextStream.{IsLaidOut, IsPipeRoot, drop_at}
 use Rattle.nd_grammar.proofs.next.PointerPlaces.{root_there}
 use Rattle.text_grammar.specs.Paths.{cell_types, home_types, home_value, root_types}
-use Rattle.ndr_trace.proofs.FrontTests.{AreTestsOfFront, IsTestOfFront, both_parts, in_place_there, no_tests, own_value_there, whole_there}
+use Rattle.ndr_trace.proofs.FrontTests.{AreTestsOfFront, HaveNodes, IsTestOfFront, both_parts, home_in, in_place_there, inner_nodes, later_nodes, no_tests, own_value_there}
+use Rattle.ndr_trace.proofs.FrontTests.{whole_there}
 use Rattle.ndr_trace.proofs.LastPaths.{last_path-legal, last_variable-legal, no_member, no_member_behind}
 use Rattle.ndr_trace.proofs.RootAttributes.{members_one}
 use Rattle.ndr_trace_value.specs.LastMembers.{last_member, last_path, last_variable, onward, stated_in, struct_of}
 use Rattle.ndr_trace_value.proofs.Attributes.{OneEach}
 
 -- what has the shape of a pointer is one
-as_pointer : (d : Option TypeDef) (c : Option ℕ) (ks : Trees) → has_shape d (tree.Ptr c) ks ≡ true → (k : Class) × (to : TypeId) × (d ≡ Some (def.Pointer k to))
+pub as_pointer : (d : Option TypeDef) (c : Option ℕ) (ks : Trees) → has_shape d (tree.Ptr c) ks ≡ true → (k : Class) × (to : TypeId) × (d ≡ Some (def.Pointer k to))
 as_pointer (Some (def.Pointer k to)) c ks e = (k, to, refl)
 as_pointer None c ks e = cc
 as_pointer (Some _) c ks e = cc
@@ -219,10 +222,47 @@ module _ (w : Setting) (side : IsLegalSide w) (g : Graph) (s : IsSound w g) wher
 
   -- ## Pipes
 
+  -- the nodes of the first elements
+  nodes_take : (t c n : ℕ) (ts : Trees) (ags : List (List Agreement)) (x : TypedNode) → Among (nodes_of w.table (replicate c t) ags n (take_trees c ts)) x
+      → Among (nodes_of w.table (replicate (count ts) t) ags n ts) x
+  nodes_take t zero n ts ags x m = absurd m
+  nodes_take t (suc c) n none ags x m = absurd m
+  nodes_take t (suc c) n (more (node l ks) ts) ags x (inl e) = inl e
+  nodes_take t (suc c) n (more (node l ks) ts) ags x (inr m) =
+      go
+      (among_split (nodes_of w.table (child_types (type_at w.table t) l ks) (child_agreements (type_at w.table t) ks) (n + 1) ks)
+      (nodes_of w.table (replicate c t) (rest_agreements ags) (n + 1 + node_count ks) (take_trees c ts)) x m)
+      (nodes_take t c (n + 1 + node_count ks) ts (rest_agreements ags) x)
+    where
+      go : Among (nodes_of w.table (child_types (type_at w.table t) l ks) (child_agreements (type_at w.table t) ks) (n + 1) ks) x
+          ⊎ Among (nodes_of w.table (replicate c t) (rest_agreements ags) (n + 1 + node_count ks) (take_trees c ts)) x
+          → (Among (nodes_of w.table (replicate c t) (rest_agreements ags) (n + 1 + node_count ks) (take_trees c ts)) x
+          → Among (nodes_of w.table (replicate (count ts) t) (rest_agreements ags) (n + 1 + node_count ks) ts) x)
+          → Among (nodes_of w.table (replicate (count (more (node l ks) ts)) t) ags n (more (node l ks) ts)) x
+      go (inl a) later =
+          inr (among_left (nodes_of w.table (child_types (type_at w.table t) l ks) (child_agreements (type_at w.table t) ks) (n + 1) ks)
+          (nodes_of w.table (replicate (count ts) t) (rest_agreements ags) (n + 1 + node_count ks) ts) x a)
+      go (inr a) later =
+          inr (among_right (nodes_of w.table (child_types (type_at w.table t) l ks) (child_agreements (type_at w.table t) ks) (n + 1) ks)
+          (nodes_of w.table (replicate (count ts) t) (rest_agreements ags) (n + 1 + node_count ks) ts) x (later a))
+
+  have_take : (h : Home) (t c n : ℕ) (ts : Trees) → HaveNodes w g h (replicate (count ts) t) n ts → HaveNodes w g h (replicate c t) n (take_trees c ts)
+  have_take h t c n ts (ags, f) = (ags, λ x m. f x (nodes_take t c n ts ags x m))
+
+  -- and of those after them
+  have_drop : (h : Home) (t c n : ℕ) (ts : Trees) → HaveNodes w g h (replicate (count ts) t) n ts
+      → HaveNodes w g h (replicate (count (drop_trees c ts)) t) (n + node_count (take_trees c ts)) (drop_trees c ts)
+  have_drop h t zero n ts nodes = subst (λ m. HaveNodes w g h (replicate (count ts) t) m ts) (sym (add-zero n)) nodes
+  have_drop h t (suc c) n none nodes = ([], λ x m. absurd m)
+  have_drop h t (suc c) n (more (node l ks) ts) nodes =
+      let further : n + 1 + node_count ks + node_count (take_trees c ts) ≡ n + suc (node_count ks + node_count (take_trees c ts)) = omega arith in
+      subst (λ m. HaveNodes w g h (replicate (count (drop_trees c ts)) t) m (drop_trees c ts)) further
+      (have_drop h t c (n + 1 + node_count ks) ts (later_nodes w g h t (replicate (count ts) t) n l ks ts nodes))
+
   chunks_there : (h : Home) (t n : ℕ) (cut : List ℕ) (ts : Trees) → hoists w.table t ≡ false → sum cut ≡ count ts → AreKnown g w.table (replicate (count ts) t) ts
-      → There (chunks w.table h t n cut ts)
-  chunks_there h t n [] ts plain total k = no_tests w g h 0 (Align 4 ∷ Chunk 0 ∷ []) (tt, (tt, tt))
-  chunks_there h t n (c ∷ cut) ts plain total k =
+      → HaveNodes w g h (replicate (count ts) t) n ts → There (chunks w.table h t n cut ts)
+  chunks_there h t n [] ts plain total k nodes = no_tests w g h 0 (Align 4 ∷ Chunk 0 ∷ []) (tt, (tt, tt))
+  chunks_there h t n (c ∷ cut) ts plain total k nodes =
       let all : c + sum cut ≡ count ts = sym (sum_first c cut) ∙ total in
       let low : c ≤ count ts = omega (arith, all) in
       let left : sum cut ≡ count (drop_trees c ts) = (let d = count_drop c ts low in omega (arith, all, d)) in
@@ -230,12 +270,12 @@ module _ (w : Setting) (side : IsLegalSide w) (g : Graph) (s : IsSound w g) wher
       (joined_there (entries h 0 (Align 4 ∷ Chunk c ∷ [])) (in_place w.table h (replicate c t) n (take_trees c ts))
       (no_tests w g h 0 (Align 4 ∷ Chunk c ∷ []) (tt, (tt, tt)))
       (in_place_there w g laid.hoisting subjects unfolds stated one_each h (replicate c t) n (take_trees c ts) (replicate_only (hoists w.table) t plain c)
-      (known_take g w.table t c ts low k) (λ e. absurd (both_ways _ (replicate_last (hoists w.table) t plain c) e))))
-      (chunks_there h t (n + node_count (take_trees c ts)) cut (drop_trees c ts) plain left (known_drop g w.table t c ts k))
+      (known_take g w.table t c ts low k) (λ e. absurd (both_ways _ (replicate_last (hoists w.table) t plain c) e)) (have_take h t c n ts nodes)))
+      (chunks_there h t (n + node_count (take_trees c ts)) cut (drop_trees c ts) plain left (known_drop g w.table t c ts k) (have_drop h t c n ts nodes))
 
   pipe_there : (i : ℕ) (r : Root) (cut : List ℕ) (l : Label) (ks : Trees) → IsPipeRoot w.table r → AreKnown g w.table (r.of ∷ []) (more (node l ks) none)
-      → Cuts (count ks) cut → There (pipe_entries w.table (home.Root i) (type_at w.table r.of) cut (node l ks))
-  pipe_there i r cut l ks p k c = go (pipe_label g p.elem l ks (subst (λ d. NodeKnown g d l ks) p.type_is k.0))
+      → HaveNodes w g (home.Root i) (r.of ∷ []) 0 (more (node l ks) none) → Cuts (count ks) cut → There (pipe_entries w.table (home.Root i) (type_at w.table r.of) cut (node l ks))
+  pipe_there i r cut l ks p k nodes c = go (pipe_label g p.elem l ks (subst (λ d. NodeKnown g d l ks) p.type_is k.0))
     where
       go : (l ≡ tree.Unread) ⊎ (l ≡ tree.Pipe) → There (pipe_entries w.table (home.Root i) (type_at w.table r.of) cut (node l ks))
       go (inl e) =
@@ -248,17 +288,25 @@ module _ (w : Setting) (side : IsLegalSide w) (g : Graph) (s : IsSound w g) wher
           (subst (λ q. AreKnown g w.table (child_types (type_at w.table r.of) q ks) ks) e (k.1 unread_not)) in
           subst (λ q. There (pipe_entries w.table (home.Root i) (type_at w.table r.of) cut (node q ks))) (sym e)
           (subst (λ d. There (pipe_entries w.table (home.Root i) d cut (node tree.Pipe ks))) (sym p.type_is)
-          (chunks_there (home.Root i) p.elem.0 1 cut ks (laid.hoisting.piped r.of p.elem p.type_is) c.0 kids))
+          (chunks_there (home.Root i) p.elem.0 1 cut ks (laid.hoisting.piped r.of p.elem p.type_is) c.0 kids
+          (subst (λ d. HaveNodes w g (home.Root i) (child_types d tree.Pipe ks) 1 ks) p.type_is
+          (subst (λ q. HaveNodes w g (home.Root i) (child_types (type_at w.table r.of) q ks) 1 ks) e (inner_nodes w g (home.Root i) r.of [] 0 l ks none nodes)))))
 
   pipes_there : (i : ℕ) (rs : List Root) (vs : List Tree) (cuts : List (List ℕ)) → AllByRecursion (IsPipeRoot w.table) rs → AllCut vs cuts
       → ((j : ℕ) (r : Root) → slice_get rs j ≡ Some r → AreKnown g w.table (r.of ∷ []) (more (or_unread (slice_get vs j)) none))
+      → ((j : ℕ) (r : Root) → slice_get rs j ≡ Some r → HaveNodes w g (home.Root (i + j)) (r.of ∷ []) 0 (more (or_unread (slice_get vs j)) none))
       → There (pipes_entries w.table i rs vs cuts)
-  pipes_there i [] vs cuts p c f = tt
-  pipes_there i (r ∷ rs) [] cuts p c f = tt
-  pipes_there i (r ∷ rs) (v ∷ vs) [] p c f = tt
-  pipes_there i (r ∷ rs) (node l ks ∷ vs) (cut ∷ cuts) p c f =
+  pipes_there i [] vs cuts p c f nodes = tt
+  pipes_there i (r ∷ rs) [] cuts p c f nodes = tt
+  pipes_there i (r ∷ rs) (v ∷ vs) [] p c f nodes = tt
+  pipes_there i (r ∷ rs) (node l ks ∷ vs) (cut ∷ cuts) p c f nodes =
       joined_there (pipe_entries w.table (home.Root i) (type_at w.table r.of) cut (node l ks)) (pipes_entries w.table (i + 1) rs vs cuts)
-      (pipe_there i r cut l ks p.0 (f 0 r refl) c.0) (pipes_there (i + 1) rs vs cuts p.1 c.1 (λ j q e. f (suc j) q e))
+      (pipe_there i r cut l ks p.0 (f 0 r refl) (subst (λ m. HaveNodes w g (home.Root m) (r.of ∷ []) 0 (more (node l ks) none)) (add-zero i) (nodes 0 r refl)) c.0)
+      (pipes_there (i + 1) rs vs cuts p.1 c.1 (λ j q e. f (suc j) q e)
+      (λ j q e. subst (λ m. HaveNodes w g (home.Root m) (q.of ∷ []) 0 (more (or_unread (slice_get vs j)) none)) (one_on j) (nodes (suc j) q e)))
+    where
+      one_on : (j : ℕ) → i + suc j ≡ i + 1 + j
+      one_on j = omega arith
 
   -- ## The whole
 
@@ -280,9 +328,13 @@ module _ (w : Setting) (side : IsLegalSide w) (g : Graph) (s : IsSound w g) wher
       subst (λ m. There (root_test g m v (root_agreements w g r.vars))) (sym at)
       (root_test_there j r there (all_at (RootFits w.table) (root_list w) j r (roots_fit w side) there) v
       (subst (λ u. AreKnown g w.table (r.of ∷ []) (more u none)) (ap or_unread value) (known_roots w g s j r there)))))))
-      (pipes_there n (drop n (root_list w)) (drop n g.roots) a.cuts laid.pipes a.all_cut (λ j r there.
+      (pipes_there n (drop n (root_list w)) (drop n g.roots) a.cuts laid.pipes a.all_cut
+      (λ j r there.
       subst (λ u. AreKnown g w.table (r.of ∷ []) (more (or_unread u) none)) (sym (drop_at n g.roots j))
-      (known_roots w g s (n + j) r (sym (drop_at n (root_list w) j) ∙ there)))))
+      (known_roots w g s (n + j) r (sym (drop_at n (root_list w) j) ∙ there)))
+      (λ j r there.
+      home_in w g (home.Root (n + j)) r.of (or_unread (slice_get (drop n g.roots) j)) (ap root_types (sym (drop_at n (root_list w) j) ∙ there))
+      (ap or_unread (sym (drop_at n g.roots j))))))
 
   -- an agreement after entries that were read
   found_there : (at : ℕ) (ms : List Entry) (earlier : List EntryAt) (here : EntryAt) (later : List EntryAt) → end_to_end at ms ≡ earlier ++ here ∷ later

@@ -29,6 +29,7 @@ use Rattle.ndr_trace.specs.Homes.{HasHome, IsFront, home_max}
 use Rattle.ndr_trace_value.specs.Tracing.{IsSpot, Known}
 use Rattle.ndr_trace_value.specs.Walking.{AreOwn, AreThere, IsOwn}
 use Rattle.ndr_trace_value.proofs.Partial.{partial_begins}
+use Rattle.ndr_trace_value.proofs.Placed.{home_placed}
 
 -- ## Maximum counts
 
@@ -97,10 +98,10 @@ path_of_home k h =
 
 -- the value of a home is there, at its first node
 pub home_there : (k : Known) (h : Home) (name : HomeName) (t m : ℕ) → HasHome k h name t → IsFront k h t m
-    → AreThere k h m (t ∷ []) (name_text name ∷ []) 0 (more (home_value k.graph h) none)
+    → AreThere k h m (t ∷ []) (name_text name ∷ []) (None ∷ []) 0 (more (home_value k.graph h) none)
 home_there k h name t m a front = go (home_value k.graph h) refl
   where
-    go : (v : Tree) → home_value k.graph h ≡ v → AreThere k h m (t ∷ []) (name_text name ∷ []) 0 (more v none)
+    go : (v : Tree) → home_value k.graph h ≡ v → AreThere k h m (t ∷ []) (name_text name ∷ []) (None ∷ []) 0 (more v none)
     go (node l ks) e =
         let v : Trees = more (node l ks) none in
         let partial : list_all (is_partial_node k.setting.table k.graph) (nodes_of k.setting.table (t ∷ []) [] 0 (more (node l ks) none)) ≡ true =
@@ -117,6 +118,7 @@ home_there k h name t m a front = go (home_value k.graph h) refl
               (λ f. ap (λ u. hoisted_max 0 (more u none)) (sym e) ∙ sym (front f)) partial;
           paths_are = λ n low high.
               ap (λ xs. path_in xs n) paths ∙ first_or_later n nodes refl ∙ ap (λ p. path_in (node_paths k.setting.table (t ∷ []) (p ∷ []) 0 (more (node l ks) none)) n) (sym a.name_is);
+          placed = home_placed k.setting k.graph h t (node l ks) a.types e;
           flats_are = λ i low. one_more (home_flats k.graph h) i ∙ ap (λ u. slice_get (flat (more u none)) i) e;
         }
       where

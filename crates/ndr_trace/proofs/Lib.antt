@@ -10,6 +10,7 @@ pub mod HomeNames
 pub mod HomeThere
 pub mod HomeWalks
 pub mod LastPaths
+pub mod MemberPlaces
 pub mod PartialHomes
 pub mod Parts
 pub mod PipeNames
@@ -26,3 +27,6 @@ pub mod WholeWalk
 pub mod Named
 pub mod OwnTests
 pub mod RootAttributes
+pub mod SolePointers
+pub mod PointerMembers
+pub mod ReferentTests

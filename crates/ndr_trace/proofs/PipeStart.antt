@@ -21,7 +21,7 @@ use Rattle.nd_grammar.specs.Stream.{Cuts, chunks, kids_of, pipe_entries}
 use Rattle.text_grammar.specs.Paths.{child_paths, element_path, element_paths, node_paths}
 use Rattle.text_printer.specs.Walks.{Begins}
 use Rattle.ndr_explain.specs.declared.names.HomeName.{HomeName}
-use Rattle.ndr_explain.specs.Cursors.{index_paths, name_text, pipe_element}
+use Rattle.ndr_explain.specs.Cursors.{child_places, index_paths, name_text, no_places, pipe_element}
 use Rattle.ndr_explain.specs.Explained.{home_flats, home_paths, path_in}
 use Rattle.ndr_explain.proofs.Walks.{path_later}
 use Rattle.ndr_trace_laws.specs.Untested.{untested}
@@ -30,6 +30,7 @@ use Rattle.ndr_trace_value.specs.declared.progress.Progress.{Progress}
 use Rattle.ndr_trace.specs.Chunks.{AfterChunk, IsAtChunk}
 use Rattle.ndr_trace.specs.Homes.{HasHome}
 use Rattle.ndr_trace_value.specs.Naming.{IsNaming, names_in}
+use Rattle.ndr_trace_value.specs.Places.{ArePlaced, home_place}
 use Rattle.ndr_trace_value.specs.Tracing.{IsTracing, Known}
 use Rattle.ndr_trace_value.specs.Walking.{AreOwn, AreThere, IsReady}
 use Rattle.ndr_trace.proofs.HomeThere.{home_there, path_of_home}
@@ -53,7 +54,7 @@ pipe_of (Some (def.Pointer class to)) t h = cc
 pipe_of (Some def.Context) t h = cc
 
 module _ (k : Known) (h : Home) (r : ℕ) (p : List ℕ) (e : TypeId) (is : type_at k.setting.table r ≡ Some (def.Pipe e)) (ks : Trees)
-    (there : AreThere k h 0 (r ∷ []) (p ∷ []) 0 (more (node tree.Pipe ks) none)) where
+    (there : AreThere k h 0 (r ∷ []) (p ∷ []) (None ∷ []) 0 (more (node tree.Pipe ks) none)) where
   whole_paths : (m : ℕ) → 1 ≤ m → path_in (node_paths k.setting.table (r ∷ []) (p ∷ []) 0 (more (node tree.Pipe ks) none)) m
       ≡ path_in (node_paths k.setting.table (replicate (count ks) e.0) (index_paths p 0 (count ks)) 1 ks) m
   whole_paths m low =
@@ -67,12 +68,15 @@ module _ (k : Known) (h : Home) (r : ℕ) (p : List ℕ) (e : TypeId) (is : type
       ∙ ap (λ ps. path_in (node_paths k.setting.table (replicate (count ks) e.0) ps 1 ks) m) (sym (indexed p 0 ks))
 
   -- the elements of a pipe are there
-  pub elements_there : AreThere k h 0 (replicate (count ks) e.0) (index_paths p 0 (count ks)) 1 ks
+  pub elements_there : AreThere k h 0 (replicate (count ks) e.0) (index_paths p 0 (count ks)) (no_places (replicate (count ks) e.0)) 1 ks
   elements_there = record {
     begins = subst (λ d. Begins k.setting.table (child_types d tree.Pipe ks) ks) is there.begins.0.1;
     all = sym (length-replicate (count ks) e.0);
     own = subst (λ d. AreOwn k 0 (child_types d tree.Pipe ks) ks) is there.own.1;
     paths_are = λ m low high. there.paths_are m (omega (arith, low)) (omega (arith, high)) ∙ whole_paths m low;
+    placed =
+        subst (λ d. ArePlaced (home_place k.setting k.graph h) k.setting.table (child_types d tree.Pipe ks) (child_places d (child_types d tree.Pipe ks)) 1 ks) is
+        there.placed.1;
     flats_are = λ i low.
         ap (slice_get (home_flats k.graph h)) (one_more i) ∙ there.flats_are (suc i) (omega (arith, low))
         ∙ ap (λ fs. slice_get fs i) (append-nil (flat ks));
@@ -95,7 +99,7 @@ pipe_start k at name r t has elem u ready cut cuts rest names tr nm = go (root_a
     no_hoist : hoists k.setting.table r ≡ false
     no_hoist = hoists-legal k.setting.table has.legal.operations has.legal.legal r ∙ ap (hoists_by (hoists k.setting.table)) its.1.0
 
-    whole_there : AreThere k (home.Root at) 0 (r ∷ []) (name_text name ∷ []) 0 (more (root_at k.graph at) none)
+    whole_there : AreThere k (home.Root at) 0 (r ∷ []) (name_text name ∷ []) (None ∷ []) 0 (more (root_at k.graph at) none)
     whole_there = home_there k (home.Root at) name r 0 has (λ f. (let z : true ≡ false = sym f ∙ no_hoist in cc))
 
     tracing : IsTracing k u.progress (untested (pipe_entries k.setting.table (home.Root at) (Some (def.Pipe its.0)) cut (root_at k.graph at)) ++ rest)
@@ -107,7 +111,7 @@ pipe_start k at name r t has elem u ready cut cuts rest names tr nm = go (root_a
     never : {A : Type 0} → IsTracing k u.progress (record { home = home.Root at; node = 0; kind = Unread } ∷ rest) → A
     never t1 = absurd (unread_due k (home.Root at) 0 u.progress rest ready t1)
 
-    go : (v : Tree) → AreThere k (home.Root at) 0 (r ∷ []) (name_text name ∷ []) 0 (more v none)
+    go : (v : Tree) → AreThere k (home.Root at) 0 (r ∷ []) (name_text name ∷ []) (None ∷ []) 0 (more v none)
         → IsTracing k u.progress (untested (pipe_entries k.setting.table (home.Root at) (Some (def.Pipe its.0)) cut v) ++ rest)
         → IsNaming k u.cells (names_in (untested (pipe_entries k.setting.table (home.Root at) (Some (def.Pipe its.0)) cut v)) ++ names)
         → Cuts (count (kids_of v)) cut → IsAtChunk k (home.Root at) (name_text name) t 0 rest names u

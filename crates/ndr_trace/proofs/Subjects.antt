@@ -32,13 +32,13 @@ use Rattle.ndr_explain.proofs.Walks.{path_here}
 use Rattle.ndr_trace_laws.specs.Untested.{is_test}
 use Rattle.ndr_trace_value.specs.Attributes.{spoken as kind_of}
 use Rattle.ndr_trace_value.specs.LastMembers.{counted_path}
-use Rattle.ndr_trace_value.specs.Variable.{OfMember, is_maximum}
+use Rattle.ndr_trace_value.specs.Variable.{OfMember}
 use Rattle.ndr_trace_value.specs.Traces.{entry_path}
 use Rattle.ndr_trace_value.specs.Tracing.{sought_path}
 use Rattle.ndr_trace_value.proofs.Ending.{known_of}
 use Rattle.ndr_trace.proofs.Faults.{agreement_fault, one_item}
 use Rattle.ndr_trace.proofs.FrontStreams.{test_of_front}
-use Rattle.ndr_trace.proofs.FrontTests.{IsTestOfFront, front_variable}
+use Rattle.ndr_trace.proofs.FrontTests.{IsTestOfFront, OfStruct, front_variable, is_maximum}
 use Rattle.ndr_trace.proofs.Grounds.{as_test, begins_within}
 
 -- ## The item of a count or a tag
@@ -90,10 +90,10 @@ by_attribute : (w : Setting) (g : Graph) (h : Home) (n : ℕ) (a : Attr) (wanted
     → counted_path w.table (kind_of a) (home_types w g h) (path_in (home_paths w g h) (node_of a n)) ≡ path_in (home_paths w g h) n
 by_attribute w g h n attr.Size wanted found f =
     ap (counted_path w.table kinds.Max (home_types w g h))
-    (path_here 0 (home_name w h) (node_paths w.table (home_types w g h) (home_name w h ∷ []) 0 (more (home_value g h) none))) ∙ f.0
+    (path_here 0 (home_name w h) (node_paths w.table (home_types w g h) (home_name w h ∷ []) 0 (more (home_value g h) none))) ∙ f.1.0
 by_attribute w g h n attr.Max wanted found f =
     ap (counted_path w.table kinds.Max (home_types w g h))
-    (path_here 0 (home_name w h) (node_paths w.table (home_types w g h) (home_name w h ∷ []) 0 (more (home_value g h) none))) ∙ f.0
+    (path_here 0 (home_name w h) (node_paths w.table (home_types w g h) (home_name w h ∷ []) 0 (more (home_value g h) none))) ∙ f.1.0
 by_attribute w g h n attr.First wanted found f = refl
 by_attribute w g h n attr.Length wanted found f = refl
 by_attribute w g h n attr.Last wanted found f = refl
@@ -167,6 +167,17 @@ module _ (w : Setting) (order : Order) (fetched : List ℕ) (place : ℕ) (why :
             ap (λ (y : Item). y.node) same ∙ own ∙ spoken.node,
           )
 
+  -- an agreement that is not at a home's own value is of a member's attribute
+  pub of_struct : (a : Attr) (wanted found : ℤ) → bad.here.entry.kind ≡ Test a wanted found → 0 < bad.here.entry.node
+      → OfStruct w bad.partial bad.here.entry.home bad.here.entry.node a wanted
+  of_struct a wanted found is low =
+      go (test_of_front w legal bad.partial (sound_partial w bad.partial bad.is_partial) bad.entries bad.stream bad.earlier bad.here bad.later bad.split read)
+    where
+      go : (bad.here.entry.kind ≡ Unread) ⊎ IsTestOfFront w bad.partial bad.here.entry.home bad.here.entry.node bad.here.entry.kind
+          → OfStruct w bad.partial bad.here.entry.home bad.here.entry.node a wanted
+      go (inl u) = let z : Unread ≡ Test a wanted found = sym u ∙ is in absurd (cc)
+      go (inr f) = (subst (IsTestOfFront w bad.partial bad.here.entry.home bad.here.entry.node) is f).0 low
+
   -- an agreement on a member's maximum count has the variable that is in front
   pub maximum_is : (a : Attr) (wanted found : ℤ) → bad.here.entry.kind ≡ Test a wanted found → is_maximum a ≡ true → 0 < bad.here.entry.node
       → OfMember w bad.partial bad.here.entry.home bad.here.entry.node a wanted (front_variable w bad.partial bad.here.entry.home)
@@ -175,8 +186,8 @@ module _ (w : Setting) (order : Order) (fetched : List ℕ) (place : ℕ) (why :
     where
       by_attribute : (b : Attr) → is_maximum b ≡ true → IsTestOfFront w bad.partial bad.here.entry.home bad.here.entry.node (Test b wanted found)
           → OfMember w bad.partial bad.here.entry.home bad.here.entry.node b wanted (front_variable w bad.partial bad.here.entry.home)
-      by_attribute attr.Size e f = f.1 low
-      by_attribute attr.Max e f = f.1 low
+      by_attribute attr.Size e f = f.1.1 low
+      by_attribute attr.Max e f = f.1.1 low
       by_attribute attr.First e f = cc
       by_attribute attr.Length e f = cc
       by_attribute attr.Last e f = cc

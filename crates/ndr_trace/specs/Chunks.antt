@@ -7,7 +7,7 @@ use Rattle.nd_value.specs.Deferral.{Placed_cells}
 use Rattle.nd_value.specs.Tree.{Trees, count}
 use Rattle.nd_grammar.specs.Entry.{Entry}
 use Rattle.nd_grammar.specs.Stream.{Cuts, chunks}
-use Rattle.ndr_explain.specs.Cursors.{index_paths}
+use Rattle.ndr_explain.specs.Cursors.{index_paths, no_places}
 use Rattle.ndr_explain.specs.Explained.{home_paths, path_in}
 use Rattle.ndr_trace_laws.specs.Untested.{untested}
 use Rattle.ndr_trace_value.specs.declared.nodes.Walker.{Walker}
@@ -22,7 +22,7 @@ pub record IsAtChunk (k : Known) (h : Home) (name : List ℕ) (t before : ℕ) (
   pub cut : List ℕ
   pub left : Trees
   pub cuts : Cuts (count left) cut
-  pub there : AreThere k h 0 (replicate (count left) t) (index_paths name before (count left)) node left
+  pub there : AreThere k h 0 (replicate (count left) t) (index_paths name before (count left)) (no_places (replicate (count left) t)) node left
   pub tracing : IsTracing k u.progress (untested (chunks k.setting.table h t node cut left) ++ rest)
   pub naming : IsNaming k u.cells (names_in (untested (chunks k.setting.table h t node cut left)) ++ names)
 

@@ -26,7 +26,7 @@ use Rattle.nd_lemmas.proofs.Lists.{four_parts, take_front}
 use Rattle.text_grammar.specs.Paths.{home_types}
 use Rattle.text_grammar.specs.Printed.{quoted_text}
 use Rattle.text_printer.specs.Texts.{context_text}
-use Rattle.ndr_explain.specs.Cursors.{IsNoGap, name_text, path_to}
+use Rattle.ndr_explain.specs.Cursors.{IsNoGap, level_place, name_text, path_to}
 use Rattle.ndr_explain.specs.Explained.{context_shown, explanation, home_flats, home_paths, item_head, item_line, item_rest, label_in, node_shown, path_in, string_shown, value_shown}
 use Rattle.ndr_explain.specs.declared.levels.Level.{Level}
 use Rattle.ndr_explain.proofs.LevelPaths.{steps_after}
@@ -38,11 +38,13 @@ use Rattle.ndr_trace_value.specs.declared.progress.Ground.{Ground}
 use Rattle.ndr_trace_value.specs.declared.progress.Progress.{Progress}
 use Rattle.ndr_trace_value.specs.declared.progress.Spot.{Spot}
 use Rattle.ndr_trace_value.specs.declared.search.Sought.{Sought}
-use Rattle.ndr_trace_value.specs.LastMembers.{counted_path, counted_variable, whole_types}
+use Rattle.ndr_trace_value.specs.LastMembers.{counted_path, counted_variable, front_variable, level_variable, whole_types}
+use Rattle.ndr_trace_value.specs.Places.{home_place}
 use Rattle.ndr_trace_value.specs.Traces.{entry_path}
-use Rattle.ndr_trace_value.specs.Tracing.{HasLabel, Holds, HoldsCount, IsCount, IsCounted, IsEnded, IsGround, IsInFront, IsItem, IsShown, IsSpot, IsTracing, Known, either_path, entry_at, is_sought}
-use Rattle.ndr_trace_value.specs.Tracing.{kept, kept_by, sought_path, sought_variable}
-use Rattle.ndr_trace_value.proofs.Passing.{gap_passed, held_next, held_on, item_ended, item_passed, next_item, placed}
+use Rattle.ndr_trace_value.specs.Tracing.{HasLabel, Holds, HoldsCount, IsCount, IsCounted, IsEnded, IsFrom, IsGround, IsInFront, IsItem, IsShown, IsSpot, IsTracing, KeptFrom, Known}
+use Rattle.ndr_trace_value.specs.Tracing.{either_from, either_path, entry_at, is_sought, kept, kept_by, sought_path, sought_variable}
+use Rattle.ndr_trace_value.proofs.Placed.{beside_is}
+use Rattle.ndr_trace_value.proofs.Passing.{from_next, from_on, gap_passed, held_next, held_on, item_ended, item_passed, next_item, placed}
 
 -- ## Kinds
 
@@ -322,21 +324,25 @@ module _ (k : Known) (u : Ground) (ground : IsGround k u) where
   by_home s (Text octets) os path h e = refl
   by_home s (Context attributes id) os path h e = refl
 
-  variable_by_home : (s : Spot) (x : Kind) (os path : List ℕ) → IsItem x → IsInFront k s x
-      → counted_variable k.setting.table (item_as k.order x os).0 (whole_types s.top) path
-      ≡ counted_variable k.setting.table (item_as k.order x os).0 (home_types k.setting k.graph s.home) path
-  variable_by_home s (Max v) os path h e = ap (λ ts. counted_variable k.setting.table item.Max ts path) e
-  variable_by_home s (Align m) os path h e = absurd h
-  variable_by_home s (Test a wanted found) os path h e = absurd h
-  variable_by_home s Unread os path h e = absurd h
-  variable_by_home s (Offset t v) os path h e = refl
-  variable_by_home s (Actual t offset limit v) os path h e = refl
-  variable_by_home s (Chunk v) os path h e = refl
-  variable_by_home s (Number class to cell) os path h e = refl
-  variable_by_home s (Num p values v) os path h e = refl
-  variable_by_home s (Tag p values arms default v) os path h e = refl
-  variable_by_home s (Text octets) os path h e = refl
-  variable_by_home s (Context attributes id) os path h e = refl
+  -- and so is that of its variable
+  variable_by_home : (s : Spot) (x : Kind) (os : List ℕ) → IsItem x → IsInFront k s x
+      → level_variable k.setting.table (item_as k.order x os).0 s.top (path_to (name_text s.name) (s.top ∷ reverse s.below.now.items))
+      (path_to (name_text s.name) (reverse s.below.now.items))
+      ≡ counted_variable k.setting.table (item_as k.order x os).0 (home_types k.setting k.graph s.home)
+      (path_to (name_text s.name) (s.top ∷ reverse s.below.now.items)) (level_place s.top)
+  variable_by_home s (Max v) os h e =
+      ap (λ ts. front_variable k.setting.table ts (path_to (name_text s.name) (s.top ∷ reverse s.below.now.items))) e
+  variable_by_home s (Align m) os h e = absurd h
+  variable_by_home s (Test a wanted found) os h e = absurd h
+  variable_by_home s Unread os h e = absurd h
+  variable_by_home s (Offset t v) os h e = beside_is item.Offset (name_text s.name) s.top (reverse s.below.now.items)
+  variable_by_home s (Actual t offset limit v) os h e = beside_is item.Actual (name_text s.name) s.top (reverse s.below.now.items)
+  variable_by_home s (Chunk v) os h e = beside_is item.Chunk (name_text s.name) s.top (reverse s.below.now.items)
+  variable_by_home s (Number class to cell) os h e = beside_is item.Number (name_text s.name) s.top (reverse s.below.now.items)
+  variable_by_home s (Num p values v) os h e = beside_is item.Num (name_text s.name) s.top (reverse s.below.now.items)
+  variable_by_home s (Tag p values arms default v) os h e = beside_is item.Tag (name_text s.name) s.top (reverse s.below.now.items)
+  variable_by_home s (Text octets) os h e = beside_is item.Text (name_text s.name) s.top (reverse s.below.now.items)
+  variable_by_home s (Context attributes id) os h e = beside_is item.Context (name_text s.name) s.top (reverse s.below.now.items)
 
   -- an item with its line: the next entry is due, and it holds what its entry says
   pub item_goes : (s : Spot) (n : ℕ) → IsSpot k s n → (x : Kind) → IsItem x → HasLabel k s.home n x → IsInFront k s x → (rest : List Entry) (p p1 : Progress)
@@ -349,12 +355,14 @@ module _ (k : Known) (u : Ground) (ground : IsGround k u) where
       (counted_path u.interface.now.types i.kind (whole_types s.top) (path_to (p.path ++ name_text s.name) (s.top ∷ reverse s.below.now.items))) p.path
       → p1.variable
       ≡ either_path (is_sought u.sought p.next)
-      (counted_variable u.interface.now.types i.kind (whole_types s.top) (path_to (name_text s.name) (s.top ∷ reverse s.below.now.items))) p.variable
-      → IsTracing k p1 rest × Holds k x i.value
-  item_goes s n spot x item label front rest p p1 t i got t1 t2 t3 t4 t5 t6 e1 e2 e3 e4 e5 e6 lines next at path variable = (
+      (level_variable u.interface.now.types i.kind s.top (path_to (name_text s.name) (s.top ∷ reverse s.below.now.items))
+      (path_to (name_text s.name) (reverse s.below.now.items))) p.variable
+      → p1.from ≡ either_from (is_sought u.sought p.next) s.from.now p.from → IsTracing k p1 rest × Holds k x i.value
+  item_goes s n spot x item label front rest p p1 t i got t1 t2 t3 t4 t5 t6 e1 e2 e3 e4 e5 e6 lines next at path variable from = (
     item_passed k p p1 (entry_at s n x) rest z i one t there next at
         (held_next k (sought_path k) p.next i there u.sought ground.sought_is p.path p1.path _ t.path its_path path)
-        (held_next k (sought_variable k) p.next i there u.sought ground.sought_is p.variable p1.variable _ t.variable (λ empty. its_variable) variable) line,
+        (held_next k (sought_variable k) p.next i there u.sought ground.sought_is p.variable p1.variable _ t.variable (λ empty. its_variable) variable)
+        (from_next k p.next i there u.sought ground.sought_is p.from p1.from s.from.now t.from (subst (λ h. IsFrom k h s.from.now) (sym home) spot.from) from) line,
     subst (Holds k x) (sym value) (holds k p.at x item ground.are_octets one.rendered.0 one.rendered.1),
   )
     where
@@ -395,26 +403,30 @@ module _ (k : Known) (u : Ground) (ground : IsGround k u) where
       its_path empty =
           ap (λ q. counted_path u.interface.now.types i.kind (whole_types s.top) (path_to (q ++ name_text s.name) (s.top ∷ reverse s.below.now.items))) empty
           ∙ ap (counted_path u.interface.now.types i.kind (whole_types s.top))
-          (spot ∙ ap₂ (λ (h : Home) (m : ℕ). path_in (home_paths k.setting k.graph h) m) (sym home) (sym node))
+          (spot.path ∙ ap₂ (λ (h : Home) (m : ℕ). path_in (home_paths k.setting k.graph h) m) (sym home) (sym node))
           ∙ ap (λ table. counted_path table i.kind (whole_types s.top) here) ground.table ∙ ap (λ m. counted_path k.setting.table m (whole_types s.top) here) kind
           ∙ by_home s x (piece k.fetched p.at x) here item front
           ∙ ap (λ m. counted_path k.setting.table m (home_types k.setting k.graph s.home) here) (sym kind)
           ∙ ap (λ h. counted_path k.setting.table i.kind (home_types k.setting k.graph h) here) (sym home)
 
-      its_variable : counted_variable u.interface.now.types i.kind (whole_types s.top) (path_to (name_text s.name) (s.top ∷ reverse s.below.now.items))
-          ≡ sought_variable k (Some i)
+      its_variable : level_variable u.interface.now.types i.kind s.top (path_to (name_text s.name) (s.top ∷ reverse s.below.now.items))
+          (path_to (name_text s.name) (reverse s.below.now.items)) ≡ sought_variable k (Some i)
       its_variable =
-          ap (counted_variable u.interface.now.types i.kind (whole_types s.top))
-          (spot ∙ ap₂ (λ (h : Home) (m : ℕ). path_in (home_paths k.setting k.graph h) m) (sym home) (sym node))
-          ∙ ap (λ table. counted_variable table i.kind (whole_types s.top) here) ground.table ∙ ap (λ m. counted_variable k.setting.table m (whole_types s.top) here) kind
-          ∙ variable_by_home s x (piece k.fetched p.at x) here item front
-          ∙ ap (λ m. counted_variable k.setting.table m (home_types k.setting k.graph s.home) here) (sym kind)
-          ∙ ap (λ h. counted_variable k.setting.table i.kind (home_types k.setting k.graph h) here) (sym home)
+          let p0 : List ℕ = path_to (name_text s.name) (s.top ∷ reverse s.below.now.items) in
+          let q0 : List ℕ = path_to (name_text s.name) (reverse s.below.now.items) in
+          let its_kind : ItemKind = (item_as k.order x (piece k.fetched p.at x)).0 in
+          ap (λ table. level_variable table i.kind s.top p0 q0) ground.table ∙ ap (λ m. level_variable k.setting.table m s.top p0 q0) kind
+          ∙ variable_by_home s x (piece k.fetched p.at x) item front
+          ∙ ap₂ (counted_variable k.setting.table its_kind (home_types k.setting k.graph s.home)) spot.path spot.place
+          ∙ ap (λ m. counted_variable k.setting.table m (home_types k.setting k.graph s.home) (path_in (home_paths k.setting k.graph s.home) n)
+          (home_place k.setting k.graph s.home n)) (sym kind)
+          ∙ ap₂ (λ (h : Home) (m : ℕ). counted_variable k.setting.table i.kind (home_types k.setting k.graph h) (path_in (home_paths k.setting k.graph h) m)
+          (home_place k.setting k.graph h m)) (sym home) (sym node)
 
       path_shown : t3 ≡ t2 ++ path_in (home_paths k.setting k.graph i.home) i.node
       path_shown =
           e3 ∙ steps_after t2 (name_text s.name) (s.top ∷ reverse s.below.now.items)
-          ∙ ap (λ q. t2 ++ q) (spot ∙ ap₂ (λ (h : Home) (m : ℕ). path_in (home_paths k.setting k.graph h) m) (sym home) (sym node))
+          ∙ ap (λ q. t2 ++ q) (spot.path ∙ ap₂ (λ (h : Home) (m : ℕ). path_in (home_paths k.setting k.graph h) m) (sym home) (sym node))
 
       line : p1.lines ≡ p.lines ++ item_line k.setting k.graph i
       line =
@@ -423,15 +435,25 @@ module _ (k : Known) (u : Ground) (ground : IsGround k u) where
           (value_shown i.kind (label_in (home_flats k.graph i.home) i.node) i.value) (codes "\n") e1 e2 path_shown e4 (e5 (label_in (home_flats k.graph i.home) i.node) is_shown) e6
           ∙ ap (λ r. p.lines ++ (item_head i ++ r)) (sym (other_rest k.setting k.graph i i.kind (subst IsNoGap (sym kind) (no_gap k.order x (piece k.fetched p.at x) item))))
 
+  -- its node is that of its entry
+  pub item_node_is : (p : Progress) (m : Entry) → IsItem m.kind → (rest : List Entry) → IsTracing k p (m ∷ rest) → (i : Item) → slice_get u.items.now.items p.next ≡ Some i
+      → i.node ≡ m.node
+  item_node_is p m item rest t i got =
+      ap (λ (y : Item). y.node)
+      (next_item k p m rest (item_as k.order m.kind (piece k.fetched p.at m.kind)) i (λ r. is_as k.order m.kind (piece k.fetched p.at m.kind) item) t
+      (ap (λ xs. slice_get xs p.next) (sym ground.items) ∙ got)).is_item
+      ∙ own_node m.kind m.node item
+
   -- ## Gaps
 
   -- a gap with its line: the next entry is due
   pub gap_goes : (s : Spot) (n align : ℕ) (rest : List Entry) (p p1 : Progress) → 0 < gap p.at align → IsTracing k p (entry_at s n (Align align) ∷ rest)
       → (i : Item) → slice_get u.items.now.items p.next ≡ Some i → (t1 t2 : List ℕ) → t1 ≡ p.lines ++ item_head i → t2 ≡ t1 ++ codes "\n"
-      → p1.lines ≡ t2 → p1.next ≡ p.next + 1 → p1.at ≡ i.at + i.len → p1.path ≡ p.path → p1.variable ≡ p.variable → IsTracing k p1 rest
-  gap_goes s n align rest p p1 some t i got t1 t2 e1 e2 lines next at path variable =
+      → p1.lines ≡ t2 → p1.next ≡ p.next + 1 → p1.at ≡ i.at + i.len → p1.path ≡ p.path → p1.variable ≡ p.variable → p1.from ≡ p.from
+      → IsTracing k p1 rest
+  gap_goes s n align rest p p1 some t i got t1 t2 e1 e2 lines next at path variable from =
       item_passed k p p1 (entry_at s n (Align align)) rest (item.Gap, pos 0) i one t there next at (path ∙ t.path ∙ held_on k (sought_path k) p.next another)
-      (variable ∙ t.variable ∙ held_on k (sought_variable k) p.next another) line
+      (variable ∙ t.variable ∙ held_on k (sought_variable k) p.next another) (subst (KeptFrom k (p.next + 1)) (sym from) (from_on k p.next p.from another t.from)) line
     where
       there : slice_get k.log p.next ≡ Some i
       there = ap (λ xs. slice_get xs p.next) (sym ground.items) ∙ got
@@ -471,22 +493,22 @@ module _ (k : Known) (u : Ground) (ground : IsGround k u) where
       → (is_test k.here.entry.kind ≡ true → ⊥) → p1.path ≡ entry_path k.setting k.graph m
   path_ended s n m spot home node p p1 so_far path none =
       path (none_sought ground none)
-      ∙ ap (λ q. path_to (q ++ name_text s.name) (s.top ∷ reverse s.below.now.items)) (never_kept p so_far (none_sought ground none)) ∙ spot
+      ∙ ap (λ q. path_to (q ++ name_text s.name) (s.top ∷ reverse s.below.now.items)) (never_kept p so_far (none_sought ground none)) ∙ spot.path
       ∙ ap₂ (λ (h : Home) (j : ℕ). path_in (home_paths k.setting k.graph h) j) (sym home) (sym node)
 
   -- no item is left at an entry that is one
   pub item_ends : (s : Spot) (n : ℕ) → IsSpot k s n → (x : Kind) → IsItem x → (rest : List Entry) (p p1 : Progress)
       → IsTracing k p (entry_at s n x ∷ rest) → length u.items.now.items ≤ p.next → p1.lines ≡ p.lines
       → (u.sought ≡ None → p1.path ≡ path_to (p.path ++ name_text s.name) (s.top ∷ reverse s.below.now.items)) → (IsSome u.sought → p1.path ≡ p.path) → p1.variable ≡ p.variable
-      → IsEnded k p1
-  item_ends s n spot x item rest p p1 t over lines path same variable =
+      → p1.from ≡ p.from → IsEnded k p1
+  item_ends s n spot x item rest p p1 t over lines path same variable from =
       item_ended k p p1 (entry_at s n x) rest (item_as k.order x (piece k.fetched p.at x)) (λ r. is_as k.order x (piece k.fetched p.at x) item) t
-      (subst (λ xs. length xs ≤ p.next) ground.items over) lines (path_ended s n (entry_at s n x) spot refl refl p p1 t.path path) (λ e. same (ground.seeks e)) variable
+      (subst (λ xs. length xs ≤ p.next) ground.items over) lines (path_ended s n (entry_at s n x) spot refl refl p p1 t.path path) (λ e. same (ground.seeks e)) variable from
 
   pub gap_ends : (s : Spot) (n : ℕ) → IsSpot k s n → (align : ℕ) (rest : List Entry) (p p1 : Progress) → 0 < gap p.at align
       → IsTracing k p (entry_at s n (Align align) ∷ rest) → length u.items.now.items ≤ p.next → p1.lines ≡ p.lines
       → (u.sought ≡ None → p1.path ≡ path_to (p.path ++ name_text s.name) (s.top ∷ reverse s.below.now.items)) → (IsSome u.sought → p1.path ≡ p.path) → p1.variable ≡ p.variable
-      → IsEnded k p1
-  gap_ends s n spot align rest p p1 some t over lines path same variable =
+      → p1.from ≡ p.from → IsEnded k p1
+  gap_ends s n spot align rest p p1 some t over lines path same variable from =
       item_ended k p p1 (entry_at s n (Align align)) rest (item.Gap, pos 0) (λ r. gap_item k.order k.fetched p.at align some r.0) t
-      (subst (λ xs. length xs ≤ p.next) ground.items over) lines (path_ended s n (entry_at s n (Align align)) spot refl refl p p1 t.path path) (λ e. same (ground.seeks e)) variable
+      (subst (λ xs. length xs ≤ p.next) ground.items over) lines (path_ended s n (entry_at s n (Align align)) spot refl refl p p1 t.path path) (λ e. same (ground.seeks e)) variable from

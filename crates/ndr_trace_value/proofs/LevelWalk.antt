@@ -24,11 +24,13 @@ use Rattle.ndr_explain.specs.declared.levels.Level.{Level}
 use Rattle.ndr_explain.specs.declared.levels.Levels.{Levels}
 use Rattle.ndr_explain.specs.Explained.{home_flats, home_paths, label_in, path_in}
 use Rattle.ndr_explain.specs.Cursors.{AreLevelsOf, HasChild, IsChildLevel, IsLevelOf, inner_paths, inner_types, level_paths, level_types, name_text, path_to, paths_after, paths_from, types_after}
-use Rattle.ndr_explain.specs.Cursors.{types_from}
+use Rattle.ndr_explain.specs.Cursors.{Place, child_places, inner_places, level_place, next_places, places_after, places_from, types_from}
 use Rattle.ndr_explain.proofs.LevelPaths.{path_first}
+use Rattle.ndr_explain.proofs.LevelPlaces.{inner_length, place_first}
 use Rattle.ndr_explain.proofs.Walks.{ComesAfter, after_step, path_here, path_later}
 use Rattle.ndr_trace_laws.proofs.Nodes.{after_own}
-use Rattle.ndr_trace_value.proofs.Passing.{all_lines, kept_all, variable_all}
+use Rattle.ndr_trace_value.proofs.Passing.{all_lines, from_all, kept_all, variable_all}
+use Rattle.ndr_trace_value.proofs.Placed.{placed_joined}
 use Rattle.ndr_trace_value.specs.declared.cells.Cells.{Cells}
 use Rattle.ndr_trace_value.specs.declared.cells.Pending.{Pending}
 use Rattle.ndr_trace_value.specs.declared.nodes.Walker.{Walker}
@@ -36,7 +38,8 @@ use Rattle.ndr_trace_value.specs.declared.progress.Ground.{Ground}
 use Rattle.ndr_trace_value.specs.declared.progress.Progress.{Progress}
 use Rattle.ndr_trace_value.specs.declared.progress.Spot.{Spot}
 use Rattle.ndr_trace_value.specs.Naming.{HasNamed, IsNaming, named_by, names_in, pending_by, pending_in}
-use Rattle.ndr_trace_value.specs.Tracing.{IsEnded, IsGround, IsSpot, IsTracing, Known}
+use Rattle.ndr_trace_value.specs.Places.{ArePlaced, home_place}
+use Rattle.ndr_trace_value.specs.Tracing.{IsEnded, IsFrom, IsGround, IsSpot, IsTracing, KeptFrom, Known}
 use Rattle.ndr_trace_value.specs.Walking.{AreOwn, AreThere, ComesTo, GoesOn, HavePaid, IsNode, IsOwn, IsPaid, IsReady, IsSeen, own_due, values_due}
 
 -- ## What a node says stands for its label
@@ -177,12 +180,18 @@ first_of (more (node l ks) us) h = record { label = l; kids = ks; others = us; i
 
 module _ (k : Known) (h : Home) (max : ℕ) (name : List ℕ) (L : Level) (Ls : List Level) (n : ℕ) (l : Label) (ks us : Trees) (t : ℕ)
     (first : level_types L ≡ t ∷ drop 1 (level_types L)) (some : 0 < length (level_types L))
-    (there : AreThere k h max (types_from L Ls) (paths_from name L Ls) n (more (node l ks) us)) where
+    (there : AreThere k h max (types_from L Ls) (paths_from name L Ls) (places_from L Ls) n (more (node l ks) us)) where
   types_are : types_from L Ls ≡ t ∷ types_after (L ∷ Ls)
   types_are = ap (λ ts. ts ++ types_after Ls) first
 
   ways_are : paths_from name L Ls ≡ path_to name (L ∷ Ls) ∷ paths_after name (L ∷ Ls)
   ways_are = ap (λ ps. ps ++ paths_after name Ls) (path_first (path_to name Ls) L some)
+
+  placed : ArePlaced (home_place k.setting k.graph h) k.setting.table (t ∷ types_after (L ∷ Ls)) (level_place L ∷ places_after (L ∷ Ls)) n (more (node l ks) us)
+  placed =
+      subst (λ xs. ArePlaced (home_place k.setting k.graph h) k.setting.table (t ∷ types_after (L ∷ Ls)) xs n (more (node l ks) us))
+      (ap (λ xs. xs ++ places_after Ls) (place_first L some))
+      (subst (λ ts. ArePlaced (home_place k.setting k.graph h) k.setting.table ts (places_from L Ls) n (more (node l ks) us)) types_are there.placed)
 
   begins : Begins k.setting.table (t ∷ types_after (L ∷ Ls)) (more (node l ks) us)
   begins = subst (λ ts. Begins k.setting.table ts (more (node l ks) us)) types_are there.begins
@@ -194,14 +203,18 @@ module _ (k : Known) (h : Home) (max : ℕ) (name : List ℕ) (L : Level) (Ls : 
   own = subst (λ ts. AreOwn k max ts (more (node l ks) us)) types_are there.own
 
   -- it is a node where it is
-  pub is_node : (s : Spot) → s.home ≡ h → name_text s.name ≡ name → s.top ≡ L → reverse s.below.now.items ≡ Ls → IsNode k s max t n l ks
-  is_node s home named top below = record {
-    spot =
-        ap₂ (λ q (M : Level). path_to q (M ∷ reverse s.below.now.items)) named top ∙ ap (λ (Ms : List Level). path_to name (L ∷ Ms)) below
-        ∙ sym (there.paths_are n (omega arith) (omega arith)
-        ∙ ap₂ (λ ts ps. path_in (node_paths k.setting.table ts ps n (more (node l ks) us)) n) types_are ways_are
-        ∙ path_here n (path_to name (L ∷ Ls)) _)
-        ∙ ap (λ (j : Home). path_in (home_paths k.setting k.graph j) n) (sym home);
+  pub is_node : (s : Spot) → s.home ≡ h → name_text s.name ≡ name → s.top ≡ L → reverse s.below.now.items ≡ Ls → IsFrom k s.home s.from.now → IsNode k s max t n l ks
+  is_node s home named top below from = record {
+    spot = record {
+      path =
+          ap₂ (λ q (M : Level). path_to q (M ∷ reverse s.below.now.items)) named top ∙ ap (λ (Ms : List Level). path_to name (L ∷ Ms)) below
+          ∙ sym (there.paths_are n (omega arith) (omega arith)
+          ∙ ap₂ (λ ts ps. path_in (node_paths k.setting.table ts ps n (more (node l ks) us)) n) types_are ways_are
+          ∙ path_here n (path_to name (L ∷ Ls)) _)
+          ∙ ap (λ (j : Home). path_in (home_paths k.setting k.graph j) n) (sym home);
+      place = ap level_place top ∙ sym placed.0 ∙ ap (λ (j : Home). home_place k.setting k.graph j n) (sym home);
+      from = from;
+    };
     label_is =
         ap (λ (j : Home). label_in (home_flats k.graph j) n) home
         ∙ ap (λ (o : Option Flat). elim o [ None ↦ None | Some f ↦ Some f.0 ])
@@ -244,10 +257,21 @@ module _ (k : Known) (h : Home) (max : ℕ) (name : List ℕ) (L : Level) (Ls : 
         subst (λ ts. AreOwn k max (ts ++ types_after (L ∷ Ls)) (joined ks us)) (sym same_types)
         (own_joined k max (child_types (type_at k.setting.table t) l ks) (types_after (L ∷ Ls)) ks us begins.0.0 own.1 own.2)
 
-    -- what comes after it is there
-    pub there_after : AreThere k h max (inner_types inner ++ types_after (L ∷ Ls)) (inner_paths (path_to name (L ∷ Ls)) inner ++ paths_after name (L ∷ Ls)) (n + 1)
+    placed_after : inner_places inner ≡ child_places (type_at k.setting.table t) (inner_types inner)
+        → ArePlaced (home_place k.setting k.graph h) k.setting.table (inner_types inner ++ types_after (L ∷ Ls)) (inner_places inner ++ places_after (L ∷ Ls)) (n + 1)
         (joined ks us)
-    there_after = record {
+    placed_after places =
+        placed_joined (home_place k.setting k.graph h) k.setting.table (inner_types inner) (types_after (L ∷ Ls)) (inner_places inner) (places_after (L ∷ Ls)) (n + 1) ks us
+        (begins.0.0 ∙ sym (ap length same_types)) (inner_length inner)
+        (subst (λ xs. ArePlaced (home_place k.setting k.graph h) k.setting.table (inner_types inner) xs (n + 1) ks) (sym places)
+        (subst (λ ts. ArePlaced (home_place k.setting k.graph h) k.setting.table ts (child_places (type_at k.setting.table t) ts) (n + 1) ks) (sym same_types) placed.1))
+        placed.2
+
+    -- what comes after it is there
+    pub there_after : inner_places inner ≡ child_places (type_at k.setting.table t) (inner_types inner)
+        → AreThere k h max (inner_types inner ++ types_after (L ∷ Ls)) (inner_paths (path_to name (L ∷ Ls)) inner ++ paths_after name (L ∷ Ls))
+        (inner_places inner ++ places_after (L ∷ Ls)) (n + 1) (joined ks us)
+    there_after places = record {
       begins = comes.begins;
       all = comes.all;
       own = own_after;
@@ -257,6 +281,7 @@ module _ (k : Known) (h : Home) (max : ℕ) (name : List ℕ) (L : Level) (Ls : 
           ∙ ap₂ (λ ts ps. path_in (node_paths k.setting.table ts ps n (more (node l ks) us)) m) types_are ways_are
           ∙ ap (λ xs. path_in xs m) comes.nodes
           ∙ path_later n m (path_to name (L ∷ Ls)) _ (omega (arith, a));
+      placed = placed_after places;
       flats_are = λ i a.
           let c : node_count (joined ks us) ≡ node_count ks + node_count us = nodes_joined ks us in
           ap (slice_get (home_flats k.graph h)) (one_more n i) ∙ there.flats_are (suc i) (omega (arith, a, c))
@@ -275,8 +300,8 @@ no_values k h n (more v w) = refl
 pub names_append : (xs ys : List Entry) → names_in (xs ++ ys) ≡ names_in xs ++ names_in ys
 names_append xs ys = flat_map-append (λ (m : Entry). named_by m.kind) xs ys
 
-pending_append : (xs ys : List Entry) → pending_in (xs ++ ys) ≡ pending_in xs ++ pending_in ys
-pending_append xs ys = flat_map-append (λ (m : Entry). pending_by m.kind) xs ys
+pending_append : (k : Known) (xs ys : List Entry) → pending_in k (xs ++ ys) ≡ pending_in k xs ++ pending_in k ys
+pending_append k xs ys = flat_map-append (λ (m : Entry). pending_by k m.home m.node m.kind) xs ys
 
 -- what visiting a node comes to
 abbrev pub Visits : Known → Spot → ℕ → ℕ → ℕ → Walker → Walker → Flat → Type 0
@@ -287,13 +312,16 @@ Visits k s max t n before after f =
 
 module _ (k : Known) (s : Spot) (max : ℕ) (L : Level) (Ls : List Level) (n : ℕ) (t : ℕ) (first : level_types L ≡ t ∷ drop 1 (level_types L))
     (some : 0 < length (level_types L)) (rest : List Entry) (names : Placed_cells) (before after : Walker) (f : Flat)
-    (visits : Visits k s max t n before after f) (top : s.top ≡ L) (below : reverse s.below.now.items ≡ Ls) (inner : Option Level) (level : IsChildLevel k.setting.table t f inner) (r : Option Levels)
-    (next : HasChild inner → AreLevelsOf (inner_types inner ++ types_after (L ∷ Ls)) (λ q. inner_paths (path_to q (L ∷ Ls)) inner ++ paths_after q (L ∷ Ls)) r) where
-  after_node_is : (l : Label) (ks us : Trees) → AreThere k s.home max (types_from L Ls) (paths_from (name_text s.name) L Ls) n (more (node l ks) us)
+    (visits : Visits k s max t n before after f) (top : s.top ≡ L) (below : reverse s.below.now.items ≡ Ls) (from : IsFrom k s.home s.from.now)
+    (inner : Option Level) (level : IsChildLevel k.setting.table t f inner)
+    (places : inner_places inner ≡ child_places (type_at k.setting.table t) (inner_types inner)) (r : Option Levels)
+    (next : HasChild inner → AreLevelsOf (inner_types inner ++ types_after (L ∷ Ls)) (λ q. inner_paths (path_to q (L ∷ Ls)) inner ++ paths_after q (L ∷ Ls)) r)
+    (next_is : next_places r ≡ inner_places inner ++ places_after (L ∷ Ls)) where
+  after_node_is : (l : Label) (ks us : Trees) → AreThere k s.home max (types_from L Ls) (paths_from (name_text s.name) L Ls) (places_from L Ls) n (more (node l ks) us)
       → IsTracing k before.progress (values_due k s.home (types_from L Ls) n (more (node l ks) us) ++ rest)
       → IsNaming k before.cells (names_in (values_due k s.home (types_from L Ls) n (more (node l ks) us)) ++ names)
       → ComesTo k s.home max (name_text s.name) (values_due k s.home (types_from L Ls) n (more (node l ks) us)) rest names before after r
-  after_node_is l ks us there tr nm = by_levels r (next (has_child k s.home max (name_text s.name) L Ls n l ks us t first some there f inner visited.0 level))
+  after_node_is l ks us there tr nm = by_levels r next_is (next (has_child k s.home max (name_text s.name) L Ls n l ks us t first some there f inner visited.0 level))
     where
       due_first : values_due k s.home (types_from L Ls) n (more (node l ks) us)
           ≡ own_due k s.home n t l ks ++ values_due k s.home (child_types (type_at k.setting.table t) l ks ++ types_after (L ∷ Ls)) (n + 1) (joined ks us)
@@ -304,7 +332,7 @@ module _ (k : Known) (s : Spot) (max : ℕ) (L : Level) (Ls : List Level) (n : �
           × HasNamed k before.cells after.cells (own_due k s.home n t l ks)
           (names_in (values_due k s.home (child_types (type_at k.setting.table t) l ks ++ types_after (L ∷ Ls)) (n + 1) (joined ks us)) ++ names))
       visited =
-          visits l ks (is_node k s.home max (name_text s.name) L Ls n l ks us t first some there s refl refl top below)
+          visits l ks (is_node k s.home max (name_text s.name) L Ls n l ks us t first some there s refl refl top below from)
           (values_due k s.home (child_types (type_at k.setting.table t) l ks ++ types_after (L ∷ Ls)) (n + 1) (joined ks us) ++ rest)
           (subst (IsTracing k before.progress) (ap (λ xs. xs ++ rest) due_first ∙ append_assoc (own_due k s.home n t l ks) _ rest) tr)
           (names_in (values_due k s.home (child_types (type_at k.setting.table t) l ks ++ types_after (L ∷ Ls)) (n + 1) (joined ks us)) ++ names)
@@ -315,9 +343,10 @@ module _ (k : Known) (s : Spot) (max : ℕ) (L : Level) (Ls : List Level) (n : �
       same : child_types (type_at k.setting.table t) l ks ++ types_after (L ∷ Ls) ≡ inner_types inner ++ types_after (L ∷ Ls)
       same = ap (λ ts. ts ++ types_after (L ∷ Ls)) (sym (same_types k s.home max (name_text s.name) L Ls n l ks us t first some there f inner visited.0 level))
 
-      by_levels : (r : Option Levels) → AreLevelsOf (inner_types inner ++ types_after (L ∷ Ls)) (λ q. inner_paths (path_to q (L ∷ Ls)) inner ++ paths_after q (L ∷ Ls)) r
+      by_levels : (r : Option Levels) → next_places r ≡ inner_places inner ++ places_after (L ∷ Ls)
+          → AreLevelsOf (inner_types inner ++ types_after (L ∷ Ls)) (λ q. inner_paths (path_to q (L ∷ Ls)) inner ++ paths_after q (L ∷ Ls)) r
           → ComesTo k s.home max (name_text s.name) (values_due k s.home (types_from L Ls) n (more (node l ks) us)) rest names before after r
-      by_levels None e =
+      by_levels None is e =
           let nothing : values_due k s.home (child_types (type_at k.setting.table t) l ks ++ types_after (L ∷ Ls)) (n + 1) (joined ks us) ≡ [] =
           ap (λ ts. values_due k s.home ts (n + 1) (joined ks us)) (same ∙ e) ∙ no_values k s.home (n + 1) (joined ks us) in
           let all : values_due k s.home (types_from L Ls) n (more (node l ks) us) ≡ own_due k s.home n t l ks =
@@ -326,16 +355,20 @@ module _ (k : Known) (s : Spot) (max : ℕ) (L : Level) (Ls : List Level) (n : �
             subst (λ xs. HasNamed k before.cells after.cells xs names) (sym all)
                 (subst (λ xs. HasNamed k before.cells after.cells (own_due k s.home n t l ks) (names_in xs ++ names)) nothing visited.1.1),
           )
-      by_levels (Some m) e =
+      by_levels (Some m) is e =
           let types : child_types (type_at k.setting.table t) l ks ++ types_after (L ∷ Ls) ≡ types_from m.top (reverse m.below.items) = same ∙ sym e.0.1 in
           record {
             some = e.0.0;
             node = n + 1;
             left = joined ks us;
             there =
-                subst (λ ts. AreThere k s.home max ts (paths_from (name_text s.name) m.top (reverse m.below.items)) (n + 1) (joined ks us)) (sym e.0.1)
-                (subst (λ ps. AreThere k s.home max (inner_types inner ++ types_after (L ∷ Ls)) ps (n + 1) (joined ks us)) (sym (e.1 (name_text s.name)))
-                (there_after k s.home max (name_text s.name) L Ls n l ks us t first some there f inner visited.0 level));
+                subst (λ xs. AreThere k s.home max (types_from m.top (reverse m.below.items)) (paths_from (name_text s.name) m.top (reverse m.below.items)) xs (n + 1) (joined ks us))
+                (sym is)
+                (subst (λ ts. AreThere k s.home max ts (paths_from (name_text s.name) m.top (reverse m.below.items)) (inner_places inner ++ places_after (L ∷ Ls)) (n + 1) (joined ks us))
+                (sym e.0.1)
+                (subst (λ ps. AreThere k s.home max (inner_types inner ++ types_after (L ∷ Ls)) ps (inner_places inner ++ places_after (L ∷ Ls)) (n + 1) (joined ks us))
+                (sym (e.1 (name_text s.name)))
+                (there_after k s.home max (name_text s.name) L Ls n l ks us t first some there f inner visited.0 level places)));
             passed = own_due k s.home n t l ks;
             split = due_first ∙ ap (λ ts. own_due k s.home n t l ks ++ values_due k s.home ts (n + 1) (joined ks us)) types;
             tracing = subst (λ ts. IsTracing k after.progress (values_due k s.home ts (n + 1) (joined ks us) ++ rest)) types visited.1.0;
@@ -345,7 +378,7 @@ module _ (k : Known) (s : Spot) (max : ℕ) (L : Level) (Ls : List Level) (n : �
           }
 
   -- the walk goes on from the node after one
-  pub node_passed : (left : Trees) → AreThere k s.home max (types_from L Ls) (paths_from (name_text s.name) L Ls) n left
+  pub node_passed : (left : Trees) → AreThere k s.home max (types_from L Ls) (paths_from (name_text s.name) L Ls) (places_from L Ls) n left
       → IsTracing k before.progress (values_due k s.home (types_from L Ls) n left ++ rest) → IsNaming k before.cells (names_in (values_due k s.home (types_from L Ls) n left) ++ names)
       → ComesTo k s.home max (name_text s.name) (values_due k s.home (types_from L Ls) n left) rest names before after r
   node_passed left there tr nm =
@@ -353,23 +386,26 @@ module _ (k : Known) (s : Spot) (max : ℕ) (L : Level) (Ls : List Level) (n : �
       (let a = there.all in let b = length-append (level_types L) (types_after Ls) in omega (arith, a, b, some)) in
       let w = first_of left positive in
       subst (λ v. ComesTo k s.home max (name_text s.name) (values_due k s.home (types_from L Ls) n v) rest names before after r) (sym w.is)
-      (after_node_is w.label w.kids w.others (subst (AreThere k s.home max (types_from L Ls) (paths_from (name_text s.name) L Ls) n) w.is there)
+      (after_node_is w.label w.kids w.others (subst (AreThere k s.home max (types_from L Ls) (paths_from (name_text s.name) L Ls) (places_from L Ls) n) w.is there)
       (subst (λ v. IsTracing k before.progress (values_due k s.home (types_from L Ls) n v ++ rest)) w.is tr)
       (subst (λ v. IsNaming k before.cells (names_in (values_due k s.home (types_from L Ls) n v) ++ names)) w.is nm))
 
 -- ## Turns
 
 -- no entry is passed yet
-pub begins_walk : (k : Known) (h : Home) (max : ℕ) (name : List ℕ) (types : List ℕ) (ways : List (List ℕ)) (s : Levels) → types ≡ types_from s.top (reverse s.below.items)
-    → ways ≡ paths_from name s.top (reverse s.below.items) → 0 < length (level_types s.top) → (n : ℕ) (left : Trees) → AreThere k h max types ways n left
+pub begins_walk : (k : Known) (h : Home) (max : ℕ) (name : List ℕ) (types : List ℕ) (ways : List (List ℕ)) (places : List Place) (s : Levels)
+    → types ≡ types_from s.top (reverse s.below.items) → ways ≡ paths_from name s.top (reverse s.below.items) → places ≡ places_from s.top (reverse s.below.items)
+    → 0 < length (level_types s.top) → (n : ℕ) (left : Trees) → AreThere k h max types ways places n left
     → (rest : List Entry) (names : Placed_cells) (u : Walker) → IsTracing k u.progress (values_due k h types n left ++ rest)
     → IsNaming k u.cells (names_in (values_due k h types n left) ++ names) → GoesOn k h max name (values_due k h types n left) rest names u u s
-begins_walk k h max name types ways s same same_ways some n left there rest names u tr nm = record {
+begins_walk k h max name types ways places s same same_ways same_places some n left there rest names u tr nm = record {
   some = some;
   node = n;
   left = left;
   there =
-      subst (λ ts. AreThere k h max ts (paths_from name s.top (reverse s.below.items)) n left) same (subst (λ ps. AreThere k h max types ps n left) same_ways there);
+      subst (λ xs. AreThere k h max (types_from s.top (reverse s.below.items)) (paths_from name s.top (reverse s.below.items)) xs n left) same_places
+      (subst (λ ts. AreThere k h max ts (paths_from name s.top (reverse s.below.items)) places n left) same
+      (subst (λ ps. AreThere k h max types ps places n left) same_ways there));
   passed = [];
   split = ap (λ ts. values_due k h ts n left) same;
   tracing = subst (λ ts. IsTracing k u.progress (values_due k h ts n left ++ rest)) same tr;
@@ -384,8 +420,8 @@ named_on : (k : Known) (a b c : Cells) (xs ys : List Entry) (before names : Plac
 named_on k a b c xs ys before names g h = record {
   naming = h.naming;
   pending =
-      h.pending ∙ ap (λ ps. ps ++ pending_in ys) g.pending ∙ append_assoc a.pending.items (pending_in xs) (pending_in ys)
-      ∙ ap (λ ps. a.pending.items ++ ps) (sym (pending_append xs ys));
+      h.pending ∙ ap (λ ps. ps ++ pending_in k ys) g.pending ∙ append_assoc a.pending.items (pending_in k xs) (pending_in k ys)
+      ∙ ap (λ ps. a.pending.items ++ ps) (sym (pending_append k xs ys));
   stands = h.stands ∙ g.stands;
 }
 
@@ -422,6 +458,8 @@ ended_there k u g p p1 ms e t over = record {
   lines = ap (λ (q : Progress). q.lines) e ∙ all_lines k p.next p.lines (subst (λ xs. length xs ≤ p.next) g.items over.1) t.lines;
   path = inl (g.sought over.0, ap (λ (q : Progress). q.path) e ∙ kept_all k p ms t (subst (λ xs. length xs ≤ p.next) g.items over.1));
   variable = ap (λ (q : Progress). q.variable) e ∙ variable_all k p ms t (subst (λ xs. length xs ≤ p.next) g.items over.1);
+  from =
+      subst (KeptFrom k (length k.log)) (ap (λ (q : Progress). q.from) (sym e)) (from_all k p ms t (subst (λ xs. length xs ≤ p.next) g.items over.1));
 }
 
 pub named_around : (k : Known) (a a1 a2 a3 : Cells) (due : List Entry) (names : Placed_cells) → a1 ≡ a → a3 ≡ a2 → HasNamed k a1 a2 due names → HasNamed k a a3 due names
@@ -456,23 +494,24 @@ pub node_stopped : {E : Type 0} (k : Known) (s : Spot) (max : ℕ) (L : Level) (
     → (rest : List Entry) (names : Placed_cells) (before : Walker)
     → ((l : Label) (ks : Trees) → IsNode k s max t n l ks → (later : List Entry) → IsTracing k before.progress (own_due k s.home n t l ks ++ later)
     → (more_names : Placed_cells) → IsNaming k before.cells (names_in (own_due k s.home n t l ks) ++ more_names) → E)
-    → s.top ≡ L → reverse s.below.now.items ≡ Ls → (left : Trees) → AreThere k s.home max (types_from L Ls) (paths_from (name_text s.name) L Ls) n left
+    → s.top ≡ L → reverse s.below.now.items ≡ Ls → IsFrom k s.home s.from.now → (left : Trees)
+    → AreThere k s.home max (types_from L Ls) (paths_from (name_text s.name) L Ls) (places_from L Ls) n left
     → IsTracing k before.progress (values_due k s.home (types_from L Ls) n left ++ rest) → IsNaming k before.cells (names_in (values_due k s.home (types_from L Ls) n left) ++ names) → E
-node_stopped {E = E} k s max L Ls n t first some rest names before ends top below left there tr nm =
+node_stopped {E = E} k s max L Ls n t first some rest names before ends top below from left there tr nm =
     let positive : 0 < count left =
     (let a = there.all in let b = length-append (level_types L) (types_after Ls) in omega (arith, a, b, some)) in
     let w = first_of left positive in
-    go w.label w.kids w.others (subst (AreThere k s.home max (types_from L Ls) (paths_from (name_text s.name) L Ls) n) w.is there)
+    go w.label w.kids w.others (subst (AreThere k s.home max (types_from L Ls) (paths_from (name_text s.name) L Ls) (places_from L Ls) n) w.is there)
     (subst (λ v. IsTracing k before.progress (values_due k s.home (types_from L Ls) n v ++ rest)) w.is tr)
     (subst (λ v. IsNaming k before.cells (names_in (values_due k s.home (types_from L Ls) n v) ++ names)) w.is nm)
   where
-    go : (l : Label) (ks us : Trees) → AreThere k s.home max (types_from L Ls) (paths_from (name_text s.name) L Ls) n (more (node l ks) us)
+    go : (l : Label) (ks us : Trees) → AreThere k s.home max (types_from L Ls) (paths_from (name_text s.name) L Ls) (places_from L Ls) n (more (node l ks) us)
         → IsTracing k before.progress (values_due k s.home (types_from L Ls) n (more (node l ks) us) ++ rest)
         → IsNaming k before.cells (names_in (values_due k s.home (types_from L Ls) n (more (node l ks) us)) ++ names) → E
     go l ks us here tr1 nm1 =
         let due = due_is k s.home max (name_text s.name) L Ls n l ks us t first some here in
         let later = values_due k s.home (child_types (type_at k.setting.table t) l ks ++ types_after (L ∷ Ls)) (n + 1) (joined ks us) in
-        ends l ks (is_node k s.home max (name_text s.name) L Ls n l ks us t first some here s refl refl top below) (later ++ rest)
+        ends l ks (is_node k s.home max (name_text s.name) L Ls n l ks us t first some here s refl refl top below from) (later ++ rest)
         (subst (IsTracing k before.progress) (ap (λ xs. xs ++ rest) due ∙ append_assoc (own_due k s.home n t l ks) later rest) tr1) (names_in later ++ names)
         (subst (IsNaming k before.cells)
         (ap (λ xs. names_in xs ++ names) due ∙ ap (λ xs. xs ++ names) (names_append (own_due k s.home n t l ks) later)

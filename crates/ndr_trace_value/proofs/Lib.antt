@@ -8,5 +8,6 @@ pub mod NamedCells
 pub mod OwnItems
 pub mod Partial
 pub mod Passing
+pub mod Placed
 pub mod Attributes
 pub mod LastVariables

@@ -12,7 +12,9 @@ use Rattle.nd_value.specs.declared.item.ItemKind.TheVariants as item
 use Rattle.text_grammar.specs.Paths.{member_path}
 use Rattle.ndr_explain.specs.declared.levels.Level.{Level}
 use Rattle.ndr_explain.specs.declared.levels.Level.TheVariants as level
+use Rattle.ndr_explain.specs.Cursors.{Place, level_place}
 use Rattle.ndr_trace_value.specs.Attributes.{first_of}
+use Rattle.ndr_trace_value.specs.Places.{member_variable, place_variable}
 use Rattle.ndr_trace_value.specs.Variable.{numbered_path}
 
 -- the last of members
@@ -80,8 +82,19 @@ variable_within (suc n) table t p = stated_in (variable_within n table) p (struc
 unfoldable pub last_variable : Table → ℕ → List ℕ → List ℕ
 last_variable table t p = variable_within NESTING_LIMIT table t p
 
--- The path of the variable that states the maximum count in front of a home's value, from the kind of an item, the types of the home's value and the
--- item's path; nothing if the item is another, or that value is no struct.
-abbrev pub counted_variable : Table → ItemKind → List ℕ → List ℕ → List ℕ
-counted_variable table item.Max (t ∷ types) p = last_variable table t p
-counted_variable table _ types p = []
+-- the same of a home's value, if there is one
+abbrev pub front_variable : Table → List ℕ → List ℕ → List ℕ
+front_variable table [] p = []
+front_variable table (t ∷ types) p = last_variable table t p
+
+-- The path of the variable that states the count or tag which an item is, from the item's kind, the types of the home's value, the item's path, and
+-- which member of a struct its node is: a maximum count is in front of the home's value, and is that of a struct's last member; all else is of the
+-- node itself. Nothing if that is no member, or the member has no attribute for it.
+abbrev pub counted_variable : Table → ItemKind → List ℕ → List ℕ → Place → List ℕ
+counted_variable table item.Max types p x = front_variable table types p
+counted_variable table k types p x = member_variable k p x
+
+-- The same of the node at which a level is: p is the node's path, q that of the node around it.
+abbrev pub level_variable : Table → ItemKind → Level → List ℕ → List ℕ → List ℕ
+level_variable table item.Max L p q = front_variable table (whole_types L) p
+level_variable table k L p q = place_variable k q (level_place L)

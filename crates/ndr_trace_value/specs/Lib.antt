@@ -5,3 +5,4 @@ pub mod Naming
 pub mod Walking
 pub mod Attributes
 pub mod Variable
+pub mod Places

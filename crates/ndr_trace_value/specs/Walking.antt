@@ -1,6 +1,7 @@
 -- What a walk over the nodes of a home comes to.
 -- `k` are the octets with the partial graph in which they are refused, `h` is a home, `n` a node's number, `t` a type's number, `l` a label,
--- `ks` are its children, `left` the values that are left, `types` and `paths` are those of these values, `max` is the maximum count in front.
+-- `ks` are its children, `left` the values that are left, `types` and `paths` are those of these values, `places` says which members they are,
+-- `max` is the maximum count in front.
 use Rattle.std.specs.Prelude.{◌≡◌, ◌<◌, ◌≤◌, ◌+◌, ℕ, true, List, [], ◌∷◌, ◌++◌, length, reverse, Option, None, Some}
 use Rattle.std.specs.List.{slice_get}
 use Rattle.nd_types.specs.Layout.{hoists}
@@ -20,7 +21,7 @@ use Rattle.text_grammar.specs.Paths.{node_paths}
 use Rattle.text_printer.specs.Walks.{Begins}
 use Rattle.nd_value.specs.Deferral.{Placed_cells}
 use Rattle.ndr_explain.specs.declared.levels.Levels.{Levels}
-use Rattle.ndr_explain.specs.Cursors.{level_types, paths_from, types_from}
+use Rattle.ndr_explain.specs.Cursors.{Place, level_types, paths_from, places_from, types_from}
 use Rattle.ndr_explain.specs.Explained.{home_flats, home_paths, label_in, path_in}
 use Rattle.ndr_trace_laws.specs.Untested.{is_test, plain, untested}
 use Rattle.ndr_trace_value.specs.declared.cells.Cells.{Cells}
@@ -30,6 +31,7 @@ use Rattle.ndr_trace_value.specs.declared.progress.Spot.{Spot}
 use Rattle.ndr_trace_value.specs.declared.shapes.Shape.{Shape}
 use Rattle.ndr_trace_value.specs.declared.shapes.Shape.TheVariants as shape
 use Rattle.ndr_trace_value.specs.Naming.{HasNamed, names_in}
+use Rattle.ndr_trace_value.specs.Places.{ArePlaced, home_place}
 use Rattle.ndr_trace_value.specs.Tracing.{IsSpot, IsTracing, Known}
 
 -- ## Nodes
@@ -46,13 +48,15 @@ AreOwn k max [] (more v ts) = Unit {0}
 AreOwn k max (t ∷ types) (more (node l ks) ts) =
     IsOwn k max t l ks × AreOwn k max (child_types (type_at k.setting.table t) l ks) ks × AreOwn k max types ts
 
--- Values of a home from node n on, of these types and with these paths.
-pub record AreThere (k : Known) (h : Home) (max : ℕ) (types : List ℕ) (paths : List (List ℕ)) (n : ℕ) (left : Trees) : Type 0 where
+-- Values of a home from node n on, of these types and with these paths; they are these members of structs.
+pub record AreThere (k : Known) (h : Home) (max : ℕ) (types : List ℕ) (paths : List (List ℕ)) (places : List Place) (n : ℕ) (left : Trees)
+    : Type 0 where
   pub begins : Begins k.setting.table types left
   pub all : count left ≡ length types
   pub own : AreOwn k max types left
   pub paths_are : (m : ℕ) → n ≤ m → m < n + node_count left
       → path_in (home_paths k.setting k.graph h) m ≡ path_in (node_paths k.setting.table types paths n left) m
+  pub placed : ArePlaced (home_place k.setting k.graph h) k.setting.table types places n left
   pub flats_are : (i : ℕ) → i < node_count left → slice_get (home_flats k.graph h) (n + i) ≡ slice_get (flat left) i
 
 -- the entries of values of a home
@@ -116,7 +120,8 @@ pub record GoesOn (k : Known) (h : Home) (max : ℕ) (name : List ℕ) (due rest
   pub some : 0 < length (level_types s.top)
   pub node : ℕ
   pub left : Trees
-  pub there : AreThere k h max (types_from s.top (reverse s.below.items)) (paths_from name s.top (reverse s.below.items)) node left
+  pub there : AreThere k h max (types_from s.top (reverse s.below.items)) (paths_from name s.top (reverse s.below.items))
+      (places_from s.top (reverse s.below.items)) node left
   pub passed : List Entry
   pub split : due ≡ passed ++ values_due k h (types_from s.top (reverse s.below.items)) node left
   pub tracing : IsTracing k after.progress (values_due k h (types_from s.top (reverse s.below.items)) node left ++ rest)

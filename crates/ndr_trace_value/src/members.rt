@@ -2,6 +2,7 @@
 ghost use Rattle.std.specs.Prelude.{◌≡◌, ◌<◌, ◌≤◌, length, IfOk, IsErrOf, IsSome};
 ghost use Rattle.ndr_trace_value.specs.declared.progress.Halt.TheVariants as halts;
 
+use crate::counted::{append_numbered, struct_path};
 use crate::nodes::Walker;
 use crate::parameters::seen_home;
 use crate::progress::{Ground, Halt, Progress, Spot};
@@ -10,7 +11,7 @@ use nd_base::{Memory, Octets};
 use nd_flat::Seen;
 use nd_types::{AttrVar, Fields};
 use nd_value::{Home, ItemKind};
-use ndr_explain::{Level, append_home, append_outer};
+use ndr_explain::Level;
 use std::alloc::Global;
 
 /// A struct that is open, by how many levels are around its members, with the numbers of its members.
@@ -95,34 +96,22 @@ fn reach_member<'a>(
     Ok(())
 }
 
-// The path of the struct of which a node is a member.
-fn struct_path(alloc: Global, spot: &Spot<'_, '_>) -> Result<Octets, Memory> {
-    let mut path = Octets::new(alloc);
-    append_home(&mut path, spot.name)?;
-    append_outer(&mut path, spot.below)?;
-    Ok(path)
-}
-
-/// Notes what a node says, whose items come from one on.
+/// Notes what a node says.
 pub fn seen_node<'a>(
     ground: &Ground<'a>,
     walker: &mut Walker<'a>,
-    from: usize,
     spot: &Spot<'_, 'a>,
     seen: &Seen<'_>,
 ) -> Result<(), Memory>
     ensures same { (walker.new.progress ≡ walker.old.progress) × (walker.new.cells ≡ walker.old.cells) }
 {
-    let to = walker.progress.next;
-    note_seen(ground, &mut walker.search, from, to, spot, seen)
+    note_seen(ground, &mut walker.search, spot, seen)
 }
 
-// Notes what a node says, which has the items from one up to another.
+// The same where an agreement is sought.
 fn note_seen<'a>(
     ground: &Ground<'a>,
     search: &mut Search<'a>,
-    from: usize,
-    to: usize,
     spot: &Spot<'_, 'a>,
     seen: &Seen<'_>,
 ) -> Result<(), Memory> {
@@ -131,9 +120,6 @@ fn note_seen<'a>(
     };
     if is_own(spot) {
         seen_home(search, spot.home, seen)?;
-    }
-    if from <= sought.item && sought.item < to {
-        find(ground, search, sought, spot)?;
     }
     if let Level::Members { at, .. } = spot.top {
         seen_member(search, sought, at, seen)?;
@@ -176,24 +162,6 @@ fn names_sought(sought: Sought, seen: &Seen<'_>) -> bool {
         (Some(cell), Home::Cell(other)) => cell == other && sought.node == 0,
         _ => false,
     }
-}
-
-// Keeps the path of the variable of the value whose count or tag is the item of a node, if that is a member.
-fn find<'a>(
-    ground: &Ground<'a>,
-    search: &mut Search<'a>,
-    sought: Sought,
-    spot: &Spot<'_, 'a>,
-) -> Result<(), Memory> {
-    let Level::Members { members, at } = spot.top else {
-        return Ok(());
-    };
-    let Some(by) = member_attribute(members, at, sought.kind) else {
-        return Ok(());
-    };
-    let mut variable = struct_path(ground.alloc, spot)?;
-    append_member(&mut variable, members, by.var as usize)?;
-    state(search, sought.wanted, variable)
 }
 
 // Keeps what a variable states.
@@ -251,7 +219,7 @@ fn close_pointer(
         return Ok(());
     };
     let mut path = Octets::copy(alloc, open.path.as_slice())?;
-    append_member(&mut path, open.members, by.var as usize)?;
+    append_numbered(&mut path, open.members, by.var)?;
     state(search, stated_by(by.attr, value), path)
 }
 
@@ -261,15 +229,6 @@ fn member_attribute(members: &Fields, at: usize, kind: ItemKind) -> Option<AttrV
         Some(member) => attribute(&member.vars, kind),
         None => None,
     }
-}
-
-// Adds the step to a member.
-fn append_member(text: &mut Octets, members: &Fields, at: usize) -> Result<(), Memory> {
-    let Some(member) = members.get(at) else {
-        return Ok(());
-    };
-    text.append(b".")?;
-    text.append(member.name.as_slice())
 }
 
 /// The number that a node is, if it is one.
