@@ -3,7 +3,7 @@ ghost use Rattle.std.specs.Prelude.{◌≡◌, ◌<◌, ◌≤◌, ◌+◌, ◌+
 ghost use Rattle.nd_value.specs.Tree.{Flat, flat};
 ghost use Rattle.nd_flat.specs.FlatForm.{IsRow, num_flats, row_numbers};
 ghost use Rattle.library_nodes.specs.Low.{low};
-ghost use Rattle.library_nodes.specs.Laying.{AddsOpen, lacking, with_more};
+ghost use Rattle.library_nodes.specs.Laying.{AddsOpen, lacking, longer, with_more};
 ghost use Rattle.library_nodes.specs.declared.nodes.NodeList.{NodeList as ListValue};
 
 use crate::bits::low;
@@ -49,13 +49,14 @@ pub(crate) fn add_row(
         → AddsOpen (fs ++ num_flats (row_numbers row.now)) a list.new next) }
 {
     push_row(&mut list.numbers, row)?;
-    Ok(with_more(unfinished, row.count))
+    Ok(with_more(&unfinished, row.count))
 }
 
 // The unfinished array or pipe with so many numbers more.
-fn with_more(unfinished: Option<Node>, more: u32) -> Option<Node>
-    requires { more ≤ lacking unfinished }
-    ensures { result ≡ with_more more unfinished }
+fn with_more(unfinished: &Option<Node>, more: u32) -> Option<Node>
+    requires some { 0 < more }
+    requires fits { more ≤ lacking unfinished.now }
+    ensures { result ≡ with_more more unfinished.now }
 {
     match unfinished {
         Some(
@@ -65,19 +66,19 @@ fn with_more(unfinished: Option<Node>, more: u32) -> Option<Node>
                 elements,
             },
         ) => Some(Node::Array {
-            max,
-            offset,
+            max: *max,
+            offset: *offset,
             elements: longer(elements, more),
         }),
         Some(Node::Pipe(elements)) => Some(Node::Pipe(longer(elements, more))),
-        other => other,
+        other => *other,
     }
 }
 
 // Elements with so many numbers more.
-fn longer(elements: Elements, more: u32) -> Elements
-    requires { elements.numbers + more ≤ elements.count }
-    ensures { result ≡ record { count = elements.count; numbers = elements.numbers + more; from = elements.from } }
+fn longer(elements: &Elements, more: u32) -> Elements
+    requires { elements.now.numbers + more ≤ elements.now.count }
+    ensures { result ≡ longer more elements.now }
 {
     Elements {
         count: elements.count,
