@@ -89,7 +89,8 @@ pipe_many xs us e k is l = record {
   say = λ ys os. ap (λ fs. (tree.Pipe, e.count) ∷ fs) (many_elements xs us ys e k is l);
 }
 
-module _ (fs : List Flat) (zs : List ℤ) (us : List ℕ) (a b c : NodeList) (same : us ≡ map low zs) (en : c.nodes.items ≡ b.nodes.items) (ez : c.numbers.items ≡ b.numbers.items ++ us) (eo : c.octets ≡ b.octets) where
+module _ (fs : List Flat) (zs : List ℤ) (us : List ℕ) (a b c : NodeList) (same : us ≡ map low zs) (en : c.nodes.items ≡ b.nodes.items)
+    (ez : c.numbers.items ≡ b.numbers.items ++ us) (eo : c.octets ≡ b.octets) where
   said_many : (m n : Node) → SaysMany b.numbers.items us m n → AddsOpen fs a b (Some m) → AddsOpen (fs ++ num_flats zs) a c (Some n)
   said_many m n s h =
       let ns = h.grows.nodes in
