@@ -23,7 +23,7 @@ said_append zs os (m ∷ ms) ns =
     ap (λ fs. node_flats zs os m ++ fs) (said_append zs os ms ns) ∙ sym (append_assoc (node_flats zs os m) (flats_said zs os ms) (flats_said zs os ns))
 
 -- with a node more
-said_more : (zs os : List ℕ) (ns : List Node) (n : Node) → flats_said zs os (ns ++ n ∷ []) ≡ flats_said zs os ns ++ node_flats zs os n
+pub said_more : (zs os : List ℕ) (ns : List Node) (n : Node) → flats_said zs os (ns ++ n ∷ []) ≡ flats_said zs os ns ++ node_flats zs os n
 said_more zs os ns n = said_append zs os ns (n ∷ []) ∙ ap (λ fs. flats_said zs os ns ++ fs) (append-nil (node_flats zs os n))
 
 low_more : (fs : List Flat) (f : Flat) → low_flats (fs ++ f ∷ []) ≡ low_flats fs ++ low_flat f ∷ []
@@ -52,7 +52,7 @@ grows_then a b c g h = record {
 }
 
 -- these are added to what was added before
-abbrev grown : (a b c : NodeList) (ns : List Node) (zs os : List ℕ) → Grows a b → c.nodes.items ≡ b.nodes.items ++ ns → c.numbers.items ≡ b.numbers.items ++ zs
+abbrev pub grown : (a b c : NodeList) (ns : List Node) (zs os : List ℕ) → Grows a b → c.nodes.items ≡ b.nodes.items ++ ns → c.numbers.items ≡ b.numbers.items ++ zs
     → c.octets ≡ b.octets ++ os → Grows a c
 grown a b c ns zs os g en ez eo =
     grows_then a b c g (record { nodes = ns; numbers = zs; octets = os; nodes_are = en; numbers_are = ez; octets_are = eo })

@@ -1,3 +1,4 @@
 mod Adding
+mod Many
 mod Walked
 mod Homes

@@ -1,6 +1,6 @@
 -- A walk whose nodes are added one by one.
 -- `old` and `now` are what is left of it, `a` and `b` lists of nodes, `o` is the node that is open.
-use Rattle.std.proofs.Common.{◌≡◌, List, [], ◌∷◌, ◌++◌, Option, None, refl, ap, sym, ◌∙◌, append_assoc, subst}
+use Rattle.std.proofs.Common.{◌≡◌, ◌≤◌, ◌+◌, List, [], ◌∷◌, ◌++◌, length, Option, None, refl, ap, sym, ◌∙◌, append_assoc, length-append, arith, subst}
 use Rattle.std.proofs.lemmas.List.{append-nil}
 use Rattle.nd_value.specs.Tree.{Flat, Trees, flat, none}
 use Rattle.library_nodes.specs.declared.node.Node.{Node}
@@ -29,3 +29,19 @@ walks_on old now next f a b c o p is more h = record {
 pub walks_all : (old : List Flat) (now : Trees) (a b : NodeList) (o : Option Node) → now ≡ none → Walks old a (flat now) b o → AddsOpen old a b o
 walks_all old now a b o is h =
     subst (λ fs. AddsOpen fs a b o) (sym (h.all ∙ ap (λ ts. h.done ++ flat ts) is ∙ append-nil h.done)) h.adds
+
+-- several in one go
+pub walks_far : (old now next done : List Flat) (a b c : NodeList) (o p : Option Node) → now ≡ done ++ next
+    → ((d : NodeList) (fs : List Flat) → AddsOpen fs d b o → AddsOpen (fs ++ done) d c p) → Walks old a now b o → Walks old a next c p
+walks_far old now next done a b c o p is more h = record {
+  done = h.done ++ done;
+  all = h.all ∙ ap (λ xs. h.done ++ xs) is ∙ sym (append_assoc h.done done next);
+  adds = more a h.done h.adds;
+}
+
+-- no more are left than before
+pub fewer_left : (now next done : List Flat) → now ≡ done ++ next → length next ≤ length now
+fewer_left now next done is =
+    let e : length now ≡ length (done ++ next) = ap length is in
+    let f : length (done ++ next) ≡ length done + length next = length-append done next in
+    omega (arith, e, f)

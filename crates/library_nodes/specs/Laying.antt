@@ -1,6 +1,6 @@
 -- What is added to a list of nodes.
 -- `a` is a list before, `b` after it, `fs` are the nodes of values, `ss` numbers of nodes, `ts` trees, `xs` numbers of elements.
-use Rattle.std.specs.Prelude.{◌≡◌, ℕ, ◌+◌, List, ◌++◌, length, map, Option, Some, None, option_map, option_to_list, if◌then◌else◌, nat_lt}
+use Rattle.std.specs.Prelude.{◌≡◌, ℕ, ◌+◌, ◌-◌, List, ◌++◌, length, map, Option, Some, None, option_map, option_to_list, if◌then◌else◌, nat_lt}
 use Rattle.nd_value.specs.Tree.{Tree, Flat}
 use Rattle.library_nodes.specs.declared.node.Elements.{Elements}
 use Rattle.library_nodes.specs.declared.node.Node.{Node}
@@ -35,6 +35,21 @@ abbrev pub one_more : Option Node → Option Node
 one_more (Some (Array max offset e)) = option_map (λ d. Array max offset d) (more_numbers e)
 one_more (Some (Pipe e)) = option_map (λ d. Pipe d) (more_numbers e)
 one_more _ = None
+
+-- how many elements of an array or a pipe are left, where all that are listed are numbers
+abbrev pub lacking : Option Node → ℕ
+lacking (Some (Array max offset e)) = e.count - e.numbers
+lacking (Some (Pipe e)) = e.count - e.numbers
+lacking _ = 0
+
+-- an array or a pipe with so many numbers more
+abbrev pub longer : ℕ → Elements → Elements
+longer k e = record { count = e.count; numbers = e.numbers + k; from = e.from }
+
+abbrev pub with_more : ℕ → Option Node → Option Node
+with_more k (Some (Array max offset e)) = Some (Array max offset (longer k e))
+with_more k (Some (Pipe e)) = Some (Pipe (longer k e))
+with_more k o = o
 
 -- its numbers are the last of the list
 abbrev pub AreLast : List ℕ → Option Node → Type 0

@@ -12,6 +12,7 @@ ghost use Rattle.library_nodes.specs.declared.nodes.NodeList.{NodeList as ListVa
 use crate::bits::low;
 use crate::node::{Elements, Node};
 use crate::nodes::NodeList;
+use crate::rows::{add_row, next_row};
 use nd_base::{Memory, Octets, push};
 use nd_flat::{FlatGraph, Seen, Walk};
 
@@ -55,13 +56,16 @@ fn lay_home(list: &mut NodeList, starts: &mut Vec<usize>, walk: &mut Walk<'_>) -
     Ok(())
 }
 
-// Adds the nodes of a walk.
+// Adds the nodes of a walk. Numbers that are kept side by side and are elements of an array or a pipe are added in one go.
 fn lay_all(list: &mut NodeList, walk: &mut Walk<'_>) -> Result<(), Memory>
     ensures { OnOk result (Adds (flat walk.old) list.old list.new) }
 {
     let mut unfinished = None;
     while let Some(seen) = walk.step() {
         unfinished = add(list, unfinished, &seen)?;
+        if let Some(row) = next_row(&unfinished, walk) {
+            unfinished = add_row(list, unfinished, &row)?;
+        }
     }
     close(list, unfinished)
 }

@@ -8,6 +8,7 @@ mod laying;
 mod node;
 mod nodes;
 mod parts;
+mod rows;
 
 pub use bits::low;
 pub use description::Description;
