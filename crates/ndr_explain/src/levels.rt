@@ -295,7 +295,8 @@ fn enter<'a>(
 
 // What comes after the child at which the innermost level is.
 fn leave<'a>(top: Level<'a>, below: Vec<Level<'a>>) -> Option<Levels<'a>>
-    ensures is { AreLevelsOf (types_after (top.entry ∷ reverse below.entry.items)) (λ p. paths_after p (top.entry ∷ reverse below.entry.items)) result }
+    ensures is { AreLevelsOf (types_after (top.entry ∷ reverse below.entry.items))
+        (λ p. paths_after p (top.entry ∷ reverse below.entry.items)) result }
     ensures places { next_places result ≡ places_after (top.entry ∷ reverse below.entry.items) }
 {
     if let Some(next) = after(top) {

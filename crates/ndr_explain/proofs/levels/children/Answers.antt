@@ -47,7 +47,8 @@ returns-in-Union-clause-places c =
     let z : ℤ = c.in-Union.tag in
     let fits : SFits w128 z = search rules in
     let d = type_at c.args.types.now c.args.of.0 in
-    union_children d z (option_copied c.arm_of.result) (λ p. armed_paths p (option_copied c.arm_of.result)) c.arm_value.result (c.arm_of.ensures ∙ ap (union_arm d) (to_z-of_z w128 z fits)) c.arm_value.ensures.is c.arm_value.ensures.places
+    union_children d z (option_copied c.arm_of.result) (λ p. armed_paths p (option_copied c.arm_of.result)) c.arm_value.result
+    (c.arm_of.ensures ∙ ap (union_arm d) (to_z-of_z w128 z fits)) c.arm_value.ensures.is c.arm_value.ensures.places
 
 pub returns-in-Num-clause-places : goal.returns-in-Num-clause-places
 returns-in-Num-clause-places c = no_children (type_at c.args.types.now c.args.of.0)
