@@ -31,7 +31,7 @@ use Rattle.ndr_trace.specs.Chunks.{AfterChunk, IsAtChunk}
 use Rattle.ndr_trace_value.specs.Naming.{HasNamed, IsNaming, names_in}
 use Rattle.ndr_trace_value.specs.declared.progress.Spot.{Spot}
 use Rattle.ndr_trace_value.specs.Places.{home_place}
-use Rattle.ndr_trace_value.specs.Tracing.{IsSpot, IsTracing, Known}
+use Rattle.ndr_trace_value.specs.Tracing.{IsFrom, IsSpot, IsTracing, Known}
 use Rattle.ndr_trace_value.specs.Walking.{AreOwn, AreThere, values_due}
 use Rattle.ndr_trace_value.proofs.LevelWalk.{names_append, nodes_joined}
 use Rattle.ndr_trace_value.proofs.Placed.{home_plain, plain_parts}
@@ -265,10 +265,11 @@ module _ (k : Known) (h : Home) (name : List ℕ) (t before : ℕ) (rest : List 
 
 -- a pipe's home, where its counts are
 pub at_home : (k : Known) (h : Home) (name : List ℕ) → path_in (home_paths k.setting k.graph h) 0 ≡ name → (of : TypeId) (s : Spot) → s.home ≡ h → name_text s.name ≡ name
-    → s.top ≡ level.Whole of → s.below.now.items ≡ [] → IsSpot k s 0
-at_home k h name own of s home named top below = record {
+    → s.top ≡ level.Whole of → s.below.now.items ≡ [] → IsFrom k s.home s.from.now → IsSpot k s 0
+at_home k h name own of s home named top below from = record {
   path =
       ap₂ (λ (M : Level) (Ms : List Level). path_to (name_text s.name) (M ∷ reverse Ms)) top below ∙ named ∙ sym own
       ∙ ap (λ (j : Home). path_in (home_paths k.setting k.graph j) 0) (sym home);
   place = ap level_place top ∙ sym (home_plain k.setting k.graph s.home);
+  from = from;
 }

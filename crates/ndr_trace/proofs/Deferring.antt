@@ -24,7 +24,8 @@ use Rattle.ndr_trace_laws.specs.Untested.{untested}
 use Rattle.ndr_trace_laws.proofs.Untested.{untested_append}
 use Rattle.ndr_trace_value.specs.declared.cells.Pending.{Pending}
 use Rattle.ndr_trace.specs.Homes.{names_all, pending_all, standing_names, step_names}
-use Rattle.ndr_trace_value.specs.Naming.{names_in, pending_in, pending_of}
+use Rattle.ndr_trace_value.specs.Tracing.{Known}
+use Rattle.ndr_trace_value.specs.Naming.{names_in, only_spot, pending_in, pending_of}
 use Rattle.ndr_trace.proofs.HomeNames.{home_names, home_waits}
 
 pub no_tests : (h : Home) (n : ℕ) (t : Tree) (xs : List Agreement) → untested (tests h n t xs) ≡ []
@@ -79,49 +80,51 @@ module _ (w : Setting) (g : Graph) where
   abbrev Mine : Pointer → Type 0
   Mine p = Among (all_pointers w g) p
 
-  nothing_pending : (t : ℕ) (o : Option ℕ) (c : ℕ) (xs : List Pending) → o ≡ Some c → pending_of t o ++ xs ≡ [] → ⊥
-  nothing_pending t None c xs e f = cc
-  nothing_pending t (Some d) c xs e f = cc
+  nothing_pending : (k : Known) (p : Pointer) (o : Option ℕ) (c : ℕ) (xs : List Pending) → o ≡ Some c → pending_of k p.home p.node p.class p.to o ++ xs ≡ [] → ⊥
+  nothing_pending k p None c xs e f = cc
+  nothing_pending k p (Some d) c xs e f = cc
 
   -- where no pointer is pending, those that are due are null
-  pub nulls_skipped : (done : Placed_cells) (ps : List Pointer) (due : List Due) (us : List Step) → pending_all ps ≡ [] → Deferral w g done (map due_referent ps ++ due) us
+  pub nulls_skipped : (k : Known) (done : Placed_cells) (ps : List Pointer) (due : List Due) (us : List Step) → pending_all k ps ≡ [] → Deferral w g done (map due_referent ps ++ due) us
       → Deferral w g done due us
-  nulls_skipped done [] due us e d = d
-  nulls_skipped done (p ∷ ps) due us e d = go p.cell refl e (inverted d) (nulls_skipped done ps due us)
+  nulls_skipped k done [] due us e d = d
+  nulls_skipped k done (p ∷ ps) due us e d = go p.cell refl e (inverted d) (nulls_skipped k done ps due us)
     where
-      go : (o : Option ℕ) → p.cell ≡ o → pending_of p.to o ++ pending_all ps ≡ [] → Inverted done (due_referent p ∷ (map due_referent ps ++ due)) us
-          → (pending_all ps ≡ [] → Deferral w g done (map due_referent ps ++ due) us → Deferral w g done due us) → Deferral w g done due us
-      go (Some c) s f i later = absurd (nothing_pending p.to (Some c) c (pending_all ps) refl f)
+      go : (o : Option ℕ) → p.cell ≡ o → pending_of k p.home p.node p.class p.to o ++ pending_all k ps ≡ [] → Inverted done (due_referent p ∷ (map due_referent ps ++ due)) us
+          → (pending_all k ps ≡ [] → Deferral w g done (map due_referent ps ++ due) us → Deferral w g done due us) → Deferral w g done due us
+      go (Some c) s f i later = absurd (nothing_pending k p (Some c) c (pending_all k ps) refl f)
       go None s f (inl (n, d)) later = later f d
       go None s f (inr (inl (c, vs, h, x, y, z))) later = cc
       go None s f (inr (inr (c, vs, h, x, y, z))) later = cc
 
   -- the first pointer that is pending is that of the first which is not null
-  pub record Next (done : Placed_cells) (next : Pending) (qs : List Pending) (due : List Due) (us : List Step) : Type 0 where
+  pub record Next (k : Known) (done : Placed_cells) (next : Pending) (qs : List Pending) (due : List Due) (us : List Step) : Type 0 where
     pub pointer : Pointer
     pub among : Among (all_pointers w g) pointer
     pub cell : pointer.cell ≡ Some next.cell.0
     pub to : pointer.to ≡ next.to.0
+    pub from : next.from ≡ only_spot k pointer.class pointer.home pointer.node
     pub pointers : List Pointer
     pub all_among : AllByRecursion (Among (all_pointers w g)) pointers
-    pub pending : qs ≡ pending_all pointers
+    pub pending : qs ≡ pending_all k pointers
     pub deferral : Deferral w g done (due_referent pointer ∷ (map due_referent pointers ++ due)) us
 
-  pub next_pending : (done : Placed_cells) (ps : List Pointer) (next : Pending) (qs : List Pending) (due : List Due) (us : List Step)
-      → AllByRecursion (Among (all_pointers w g)) ps → next ∷ qs ≡ pending_all ps → Deferral w g done (map due_referent ps ++ due) us → Next done next qs due us
-  next_pending done [] next qs due us a e d = cc
-  next_pending done (p ∷ ps) next qs due us a e d = go p.cell refl e (inverted d) (next_pending done ps next qs due us a.1)
+  pub next_pending : (k : Known) (done : Placed_cells) (ps : List Pointer) (next : Pending) (qs : List Pending) (due : List Due) (us : List Step)
+      → AllByRecursion (Among (all_pointers w g)) ps → next ∷ qs ≡ pending_all k ps → Deferral w g done (map due_referent ps ++ due) us → Next k done next qs due us
+  next_pending k done [] next qs due us a e d = cc
+  next_pending k done (p ∷ ps) next qs due us a e d = go p.cell refl e (inverted d) (next_pending k done ps next qs due us a.1)
     where
-      go : (o : Option ℕ) → p.cell ≡ o → next ∷ qs ≡ pending_of p.to o ++ pending_all ps → Inverted done (due_referent p ∷ (map due_referent ps ++ due)) us
-          → (next ∷ qs ≡ pending_all ps → Deferral w g done (map due_referent ps ++ due) us → Next done next qs due us) → Next done next qs due us
+      go : (o : Option ℕ) → p.cell ≡ o → next ∷ qs ≡ pending_of k p.home p.node p.class p.to o ++ pending_all k ps → Inverted done (due_referent p ∷ (map due_referent ps ++ due)) us
+          → (next ∷ qs ≡ pending_all k ps → Deferral w g done (map due_referent ps ++ due) us → Next k done next qs due us) → Next k done next qs due us
       go (Some c) s f i later =
-          let first : next ≡ record { cell = record { 0 = c }; to = record { 0 = p.to } } = cc in
-          let others : qs ≡ pending_all ps = cc in
+          let first : next ≡ record { cell = record { 0 = c }; to = record { 0 = p.to }; from = only_spot k p.class p.home p.node } = cc in
+          let others : qs ≡ pending_all k ps = cc in
           record {
             pointer = p;
             among = a.0;
             cell = s ∙ sym (ap (λ (q : Pending). Some q.cell.0) first);
             to = sym (ap (λ (q : Pending). q.to.0) first);
+            from = ap (λ (q : Pending). q.from) first;
             pointers = ps;
             all_among = a.1;
             pending = others;
@@ -161,5 +164,5 @@ module _ (w : Setting) (g : Graph) where
   due_joined [] qs due = refl
   due_joined (p ∷ ps) qs due = ap (λ xs. due_referent p ∷ xs) (due_joined ps qs due)
 
-  pub pending_joined : (before qs : List Pending) (ps : List Pointer) → reverse before ≡ qs → reverse (before ++ reverse (pending_all ps)) ≡ pending_all ps ++ qs
-  pending_joined before qs ps e = reverse-append before (reverse (pending_all ps)) ∙ ap₂ (λ xs ys. xs ++ ys) (reverse-reverse (pending_all ps)) e
+  pub pending_joined : (k : Known) (before qs : List Pending) (ps : List Pointer) → reverse before ≡ qs → reverse (before ++ reverse (pending_all k ps)) ≡ pending_all k ps ++ qs
+  pending_joined k before qs ps e = reverse-append before (reverse (pending_all k ps)) ∙ ap₂ (λ xs ys. xs ++ ys) (reverse-reverse (pending_all k ps)) e

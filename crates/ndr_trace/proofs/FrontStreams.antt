@@ -59,7 +59,7 @@ use Rattle.ndr_trace_value.specs.LastMembers.{last_member, last_path, last_varia
 use Rattle.ndr_trace_value.proofs.Attributes.{OneEach}
 
 -- what has the shape of a pointer is one
-as_pointer : (d : Option TypeDef) (c : Option ℕ) (ks : Trees) → has_shape d (tree.Ptr c) ks ≡ true → (k : Class) × (to : TypeId) × (d ≡ Some (def.Pointer k to))
+pub as_pointer : (d : Option TypeDef) (c : Option ℕ) (ks : Trees) → has_shape d (tree.Ptr c) ks ≡ true → (k : Class) × (to : TypeId) × (d ≡ Some (def.Pointer k to))
 as_pointer (Some (def.Pointer k to)) c ks e = (k, to, refl)
 as_pointer None c ks e = cc
 as_pointer (Some _) c ks e = cc

@@ -57,15 +57,15 @@ maximum_spoken attr.Last e = cc
 maximum_spoken attr.Switch e = cc
 
 -- an attribute with its variable states an agreement's number
-record SaysOf (ks : Trees) (vs : List AttrVar) (a : Agreement) : Type 0 where
-  by : AttrVar
-  among : Among vs by
-  attr_is : by.attr ≡ a.attr
-  value : ℤ
-  value_is : number_in ks by.var ≡ Some value
-  wanted_is : a.wanted ≡ wanted_by a.attr value
+pub record SaysOf (ks : Trees) (vs : List AttrVar) (a : Agreement) : Type 0 where
+  pub by : AttrVar
+  pub among : Among vs by
+  pub attr_is : by.attr ≡ a.attr
+  pub value : ℤ
+  pub value_is : number_in ks by.var ≡ Some value
+  pub wanted_is : a.wanted ≡ wanted_by a.attr value
 
-says_of : (g : Graph) (ks : Trees) (vs : List AttrVar) (a : Agreement) → Among (member_agreements ks vs) a → SaysOf ks vs a
+pub says_of : (g : Graph) (ks : Trees) (vs : List AttrVar) (a : Agreement) → Among (member_agreements ks vs) a → SaysOf ks vs a
 says_of g ks [] a e = absurd e
 says_of g ks (v ∷ vs) a e = go (number_in ks v.var) refl e (says_of g ks vs a)
   where

@@ -20,7 +20,8 @@ use Rattle.nd_grammar.specs.Represents.{IsRendered}
 use Rattle.ndr_trace_laws.specs.Untested.{is_test}
 use Rattle.ndr_trace_value.specs.declared.progress.Ground.{Ground}
 use Rattle.ndr_trace_value.specs.declared.search.Sought.{Sought}
-use Rattle.ndr_trace_value.specs.Tracing.{IsAt, IsGround}
+use Rattle.ndr_trace_value.specs.Tracing.{IsAt, IsGround, kind_in}
+use Rattle.ndr_trace_value.specs.Attributes.{IsItemOf}
 use Rattle.ndr_trace_value.proofs.Ending.{known_of}
 use Rattle.ndr_trace.proofs.Faults.{Logged, agreement_fault, is_disagreement, logged_there, one_item, plain_fault, tested_entry}
 
@@ -113,11 +114,17 @@ module _ (w : Setting) (order : Order) (fetched more : List ℕ) (place : ℕ) (
   is_some None j e = cc
   is_some (Some s) j e = refl
 
+  kind_sought : (o : Option Sought) → IfSome o (λ s. IsItemOf (items order fetched bad.earlier) s)
+      → option_map (λ (s : Sought). s.kind) o ≡ kind_in (items order fetched bad.earlier) (option_map (λ (s : Sought). s.item) o)
+  kind_sought None its = refl
+  kind_sought (Some s) (i, got, of_kind, at_home, node) = sym (ap (option_map (λ (y : Item). y.kind)) got ∙ ap (λ m. Some m) of_kind)
+
   pub ground_of : AreOctets u.octets.now → u.octets.now ≡ fetched ++ more → u.items.now.items ≡ items order fetched bad.earlier → u.order ≡ order → u.interface.now.types ≡ w.table
       → IfSome u.sought (λ s. (found : ℤ) × (why ≡ reason.Disagrees s.wanted found)) → IfSome u.sought (λ s. IsAt u.items.now.items s.item place)
       → ((wanted found : ℤ) → why ≡ reason.Disagrees wanted found → (n : ℕ) (i : Item) → slice_get u.items.now.items n ≡ Some i → i.at ≡ place → IsSome u.sought)
+      → IfSome u.sought (λ s. IsItemOf u.items.now.items s)
       → IsGround (known_of w order fetched place why bad (option_map (λ (s : Sought). s.item) u.sought)) u
-  ground_of small octets items_are same_order table told at finds = record {
+  ground_of small octets items_are same_order table told at finds its = record {
     more = more;
     octets = octets;
     items = items_are;
@@ -126,6 +133,7 @@ module _ (w : Setting) (order : Order) (fetched more : List ℕ) (place : ℕ) (
     sought = only_test told;
     seeks = always_sought (λ wanted found is n i there at. finds wanted found is n i (ap (λ xs. slice_get xs n) items_are ∙ there) at);
     sought_is = refl;
+    kind_is = kind_sought u.sought (subst (λ xs. IfSome u.sought (λ s. IsItemOf xs s)) items_are its);
     no_gap = λ j mine.
         no_gap_sought (only_test told (is_some u.sought j mine))
         (subst (λ xs. IfSome u.sought (λ s. IsAt xs s.item place)) items_are at) j mine;

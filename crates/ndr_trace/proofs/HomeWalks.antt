@@ -28,7 +28,7 @@ use Rattle.ndr_trace_value.specs.declared.progress.Progress.{Progress}
 use Rattle.ndr_trace_value.specs.declared.progress.Spot.{Spot}
 use Rattle.ndr_trace.specs.Homes.{HasHome, HasPassed, IsFront, home_due, home_max}
 use Rattle.ndr_trace_value.specs.Naming.{HasNamed, IsNaming, names_in, pending_in}
-use Rattle.ndr_trace_value.specs.Tracing.{IsSpot, IsTracing, Known}
+use Rattle.ndr_trace_value.specs.Tracing.{IsFrom, IsSpot, IsTracing, Known}
 use Rattle.ndr_trace_value.specs.Walking.{IsReady, values_due}
 use Rattle.ndr_trace.proofs.HomeNames.{home_names, home_parts, home_waits, plain_names, plain_waits}
 use Rattle.ndr_trace.proofs.HomeThere.{path_of_home}
@@ -41,12 +41,13 @@ clash e = cc
 
 -- a home's own value is at its name
 pub spot_of_home : (k : Known) (h : Home) (name : HomeName) (t : ℕ) (of : TypeId) (s : Spot) → HasHome k h name t → s.home ≡ h → s.name ≡ name → s.top ≡ level.Whole of
-    → s.below.now.items ≡ [] → IsSpot k s 0
-spot_of_home k h name t of s a home named top below = record {
+    → s.below.now.items ≡ [] → IsFrom k s.home s.from.now → IsSpot k s 0
+spot_of_home k h name t of s a home named top below from = record {
   path =
       ap₂ (λ (M : Level) (Ms : List Level). path_to (name_text s.name) (M ∷ reverse Ms)) top below ∙ ap name_text named ∙ a.name_is ∙ sym (path_of_home k h)
       ∙ ap (λ (j : Home). path_in (home_paths k.setting k.graph j) 0) (sym home);
   place = ap level_place top ∙ sym (home_plain k.setting k.graph s.home);
+  from = from;
 }
 
 -- nothing of an unread value is before its children
@@ -119,8 +120,8 @@ module _ (k : Known) (h : Home) (t : ℕ) where
   pub value_names : names_in (home_due k h t) ≡ names_in (values_due k h (t ∷ []) 0 (more (home_value k.graph h) none))
   value_names = home_names k.setting.table h t (home_value k.graph h) ∙ sym (plain_names k.setting.table h (t ∷ []) [] 0 (more (home_value k.graph h) none))
 
-  value_waits : pending_in (home_due k h t) ≡ pending_in (values_due k h (t ∷ []) 0 (more (home_value k.graph h) none))
-  value_waits = home_waits k.setting.table h t (home_value k.graph h) ∙ sym (plain_waits k.setting.table h (t ∷ []) [] 0 (more (home_value k.graph h) none))
+  value_waits : pending_in k (home_due k h t) ≡ pending_in k (values_due k h (t ∷ []) 0 (more (home_value k.graph h) none))
+  value_waits = home_waits k.setting.table h k t (home_value k.graph h) ∙ sym (plain_waits k.setting.table h k (t ∷ []) [] 0 (more (home_value k.graph h) none))
 
   -- the pointers of the home are turned round
   pub turned_round : (a b c : Cells) (names : Placed_cells) → HasNamed k a b (values_due k h (t ∷ []) 0 (more (home_value k.graph h) none)) names → c.count ≡ b.count
@@ -129,11 +130,11 @@ module _ (k : Known) (h : Home) (t : ℕ) where
   turned_round a b c names i ec en es n len turned = record {
     naming = same_naming k b c names ec en i.naming;
     pending =
-        let grown : b.pending.items ≡ a.pending.items ++ pending_in due = i.pending in
+        let grown : b.pending.items ≡ a.pending.items ++ pending_in k due = i.pending in
         let long : n ≤ length b.pending.items =
-        subst (λ m. n ≤ m) (sym (ap length grown ∙ length-append a.pending.items (pending_in due))) (omega (arith, len)) in
+        subst (λ m. n ≤ m) (sym (ap length grown ∙ length-append a.pending.items (pending_in k due))) (omega (arith, len)) in
         turned long
-        ∙ ap₂ (λ xs ys. xs ++ reverse ys) (ap₂ take len grown ∙ take_front a.pending.items (pending_in due)) (ap₂ drop len grown ∙ drop_front a.pending.items (pending_in due))
+        ∙ ap₂ (λ xs ys. xs ++ reverse ys) (ap₂ take len grown ∙ take_front a.pending.items (pending_in k due)) (ap₂ drop len grown ∙ drop_front a.pending.items (pending_in k due))
         ∙ ap (λ xs. a.pending.items ++ reverse xs) (sym value_waits);
     stands = es ∙ i.stands;
   }

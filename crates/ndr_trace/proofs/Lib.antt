@@ -27,3 +27,6 @@ pub mod WholeWalk
 pub mod Named
 pub mod OwnTests
 pub mod RootAttributes
+pub mod SolePointers
+pub mod PointerMembers
+pub mod ReferentTests

@@ -2,14 +2,17 @@
 -- variable which states the number.
 -- `w` is a setting, `bad` are octets that are refused, `u` is what the walk was given, `s` what is sought, `q` the text that is shown.
 use Rattle.std.proofs.Common.{◌≡◌, ◌∙◌, ◌<◌, ℕ, ℤ, Bool, true, false, List, [], ◌∷◌, length, Option, Some, None, refl, sym, ap, ap₂, subst, arith}
-use Rattle.std.specs.List.{slice_get}
-use Rattle.std.proofs.lemmas.Option.{same_Some}
+use Rattle.std.specs.Prelude.{option_map}
+use Rattle.std.specs.List.{AllByRecursion, slice_get}
+use Rattle.std.proofs.lemmas.Option.{same_Some, slice_get_within}
 use Rattle.nd_base.specs.declared.octets.Order.{Order}
 use Rattle.nd_types.specs.declared.types.Attr.{Attr}
 use Rattle.nd_types.specs.declared.types.Attr.TheVariants as attr
+use Rattle.nd_types.specs.declared.types.AttrVar.{AttrVar}
 use Rattle.nd_types.specs.declared.types.Field.{Field}
 use Rattle.nd_types.specs.declared.types.TypeDef.{TypeDef}
 use Rattle.nd_types.specs.declared.types.TypeDef.TheVariants as def
+use Rattle.nd_types.specs.Kinds.{pointee, pointee_by}
 use Rattle.nd_types.specs.Roots.{Root}
 use Rattle.nd_lemmas.proofs.Lists.{all_at}
 use Rattle.nd_types.specs.Table.{Table, type_at}
@@ -20,15 +23,22 @@ use Rattle.nd_value.specs.declared.item.Item.{Item}
 use Rattle.nd_value.specs.declared.item.ItemKind.{ItemKind}
 use Rattle.nd_value.specs.declared.item.ItemKind.TheVariants as kind
 use Rattle.nd_value.specs.declared.value.Graph.{Graph}
-use Rattle.nd_value.specs.Setting.{Setting, root_list}
+use Rattle.nd_value.specs.Deferral.{Pending as Pointer}
+use Rattle.nd_value.specs.Setting.{Among, Setting, cell_home, root_list}
 use Rattle.nd_value.specs.Tree.{more, none}
+use Rattle.nd_value.proofs.Apart.{all_among}
+use Rattle.nd_value.proofs.NodeFacts.{IsSound, sound_partial}
 use Rattle.nd_grammar.specs.declared.reason.Reason.{Reason}
 use Rattle.nd_grammar.specs.Bad.{Bad}
 use Rattle.nd_grammar.specs.Entry.{Test}
 use Rattle.nd_grammar.specs.Items.{items}
 use Rattle.nd_grammar.specs.LegalSide.{IsLegalSide}
 use Rattle.nd_grammar.specs.Tested.{node_of}
-use Rattle.text_grammar.specs.Paths.{home_name, home_types, home_value, node_paths, root_types}
+use Rattle.nd_grammar.proofs.agreements.LegalSubjects.{has_subjects, roots_fit}
+use Rattle.nd_grammar.proofs.agreements.StreamFinds.{RootFits}
+use Rattle.nd_grammar.proofs.agreements.TestsFind.{AttrFits}
+use Rattle.nd_grammar.proofs.next.StreamPointers.{is_good}
+use Rattle.text_grammar.specs.Paths.{cell_types, home_name, home_types, home_value, node_paths, root_types}
 use Rattle.text_grammar.specs.Written.{parameter_name}
 use Rattle.ndr_explain.specs.Explained.{home_paths, path_in}
 use Rattle.ndr_explain.specs.Cursors.{Place}
@@ -37,22 +47,24 @@ use Rattle.ndr_trace_laws.specs.Untested.{is_test}
 use Rattle.ndr_trace_value.specs.declared.progress.Ground.{Ground}
 use Rattle.ndr_trace_value.specs.declared.progress.Progress.{Progress}
 use Rattle.ndr_trace_value.specs.declared.search.Sought.{Sought}
-use Rattle.ndr_trace_value.specs.Attributes.{IsItemOf, IsKeptName, IsOwnName, home_attribute, spoken}
+use Rattle.ndr_trace_value.specs.Attributes.{IsItemOf, IsKeptName, IsOwnName, IsPointedName, IsPointedPath, home_attribute, spoken}
 use Rattle.ndr_trace_value.specs.LastMembers.{front_variable as front_by_types}
 use Rattle.ndr_trace_value.specs.LastMembers.{counted_variable, last_variable, stated_in, struct_of}
 use Rattle.ndr_trace_value.specs.Places.{home_place, member_variable}
-use Rattle.ndr_trace_value.specs.Tracing.{IsAt, Known, kept_variable, sought_variable}
+use Rattle.ndr_trace_value.specs.Tracing.{IsAt, KeptFrom, Known, kept_variable, kind_variable, pointer_variable, sought_variable, spot_of}
 use Rattle.ndr_trace_value.specs.Traces.{IsVariableOf}
-use Rattle.ndr_trace_value.specs.Variable.{IsOfRoot, IsStated, IsVariable, OfMember, numbered_path}
+use Rattle.ndr_trace_value.specs.Variable.{IsAtRoot, IsOfReferent, IsOfRoot, IsStated, IsVariable, NamesAlone, OfMember, numbered_path}
 use Rattle.ndr_trace_value.proofs.Attributes.{OneEach, first_is}
 use Rattle.ndr_trace_value.proofs.Ending.{kept_whole, known_of}
-use Rattle.ndr_trace_value.proofs.Placed.{variable_there}
+use Rattle.ndr_trace_value.proofs.Placed.{home_plain, variable_there}
 use Rattle.ndr_trace.specs.Sides.{IsSide}
 use Rattle.ndr_trace.proofs.FrontTests.{OfStruct, front_variable, is_maximum, maximum_spoken}
 use Rattle.ndr_trace.proofs.Grounds.{as_test}
 use Rattle.ndr_trace.proofs.LastPaths.{last_variable-legal}
 use Rattle.ndr_trace.proofs.MemberPlaces.{member_there}
 use Rattle.ndr_trace.proofs.OwnTests.{OwnTest, Says, here_among, own_test}
+use Rattle.ndr_trace.proofs.PointerMembers.{IsPointerMember}
+use Rattle.ndr_trace.proofs.ReferentTests.{RootSays, member_test_of, root_test_of}
 use Rattle.ndr_trace.proofs.RootAttributes.{attribute_found, members_one, no_attribute}
 use Rattle.ndr_trace.proofs.Subjects.{maximum_is, of_struct, tested_item}
 
@@ -146,16 +158,74 @@ module _ (w : Setting) (g : Graph) (legal : IsLegalSide w) where
           let (ms, is_struct) = ends_with_struct of (home_name w (home.Root at)) (λ z. some (front ∙ z)) in
           no_attribute w legal at r there ms (ap (type_at w.table) same ∙ is_struct)
 
+same_root : (i j : ℕ) → home.Root i ≡ home.Root j → i ≡ j
+same_root i j e = cc
+
+-- an attribute on a maximum count does not speak of a struct
+no_struct_fits : (a : Attr) (ms : List Field) → spoken a ≡ kind.Max → AttrFits a (Some (def.Struct ms)) → ⊥
+no_struct_fits attr.Size ms e f = let z : false ≡ true = f in cc
+no_struct_fits attr.Max ms e f = let z : false ≡ true = f in cc
+no_struct_fits attr.First ms e f = cc
+no_struct_fits attr.Length ms e f = cc
+no_struct_fits attr.Last ms e f = cc
+no_struct_fits attr.Switch ms e f = cc
+
+module _ (w : Setting) (g : Graph) (legal : IsLegalSide w) where
+  -- where an attribute speaks of a value's maximum count, no struct in this value states it
+  none_stated : (a : Attr) → spoken a ≡ kind.Max → (t : ℕ) → AttrFits a (type_at w.table t) → (path : List ℕ) → last_variable w.table t path ≡ []
+  none_stated a max t fits path = go (last_variable w.table t path) refl
+    where
+      go : (xs : List ℕ) → last_variable w.table t path ≡ xs → last_variable w.table t path ≡ []
+      go [] e = e
+      go (x ∷ xs) e =
+          let (ms, is_struct) = ends_with_struct w g legal t path (λ z. (let y : x ∷ xs ≡ [] = sym e ∙ z in absurd (let u : ⊥ = cc in u))) in
+          absurd (no_struct_fits a ms max (subst (AttrFits a) is_struct fits))
+
+  -- nor a member
+  none_kept : (a : Attr) (t : ℕ) → AttrFits a (type_at w.table t) → (path : List ℕ) → counted_variable w.table (spoken a) (t ∷ []) path None ≡ []
+  none_kept attr.Size t fits path = none_stated attr.Size refl t fits path
+  none_kept attr.Max t fits path = none_stated attr.Max refl t fits path
+  none_kept attr.First t fits path = refl
+  none_kept attr.Length t fits path = refl
+  none_kept attr.Last t fits path = refl
+  none_kept attr.Switch t fits path = refl
+
+  -- the attributes of roots and members fit the types of which they speak
+  root_fits : (at : ℕ) (root : Root) → slice_get (root_list w) at ≡ Some root → (by : AttrVar) → Among root.vars by → (a : Attr) → by.attr ≡ a → (t : ℕ)
+      → pointee w.table root.of ≡ t → AttrFits a (type_at w.table t)
+  root_fits at root there by among a is t pointed =
+      subst (λ b. AttrFits b (type_at w.table t)) is
+      (subst (λ u. AttrFits by.attr (type_at w.table u)) pointed
+      (all_among (λ (v : AttrVar). AttrFits v.attr (type_at w.table (pointee w.table root.of))) root.vars by among
+      (all_at (RootFits w.table) (root_list w) at root (roots_fit w legal) there)))
+
+  member_fits : (x : ℕ) (fs : List Field) → type_at w.table x ≡ Some (def.Struct fs) → (i : ℕ) (f : Field) → slice_get fs i ≡ Some f → (by : AttrVar) → Among f.vars by → (a : Attr)
+      → by.attr ≡ a → (t : ℕ) → pointee w.table f.of.0 ≡ t → AttrFits a (type_at w.table t)
+  member_fits x fs is_struct i f there by among a is t pointed =
+      subst (λ b. AttrFits b (type_at w.table t)) is
+      (subst (λ u. AttrFits by.attr (type_at w.table u)) pointed
+      (all_among (λ (v : AttrVar). AttrFits v.attr (type_at w.table (pointee w.table f.of.0))) f.vars by among
+      (all_at (λ (y : Field). AllByRecursion (λ (v : AttrVar). AttrFits v.attr (type_at w.table (pointee w.table y.of.0))) y.vars) fs i f
+      ((has_subjects w.table legal.operations legal.legal).members x fs is_struct) there)))
+
 module _ (w : Setting) (order : Order) (fetched : List ℕ) (place : ℕ) (why : Reason) (bad : Bad w order fetched place why) (legal : IsLegalSide w) where
   -- the name that is shown
   pub variable_is : (u : Ground) (s : Sought) → IsSide (known_of w order fetched place why bad (Some s.item)) u → is_test bad.here.entry.kind ≡ true
       → IsAt (items order fetched bad.earlier) s.item place → IsItemOf (items order fetched bad.earlier) s → (p : Progress)
       → p.variable ≡ kept_variable (known_of w order fetched place why bad (Some s.item)) (length (items order fetched bad.earlier))
-      → (q : List ℕ) → IsOwnName u s q → IsKeptName u s p.variable q → IsVariableOf w bad.partial bad.here.entry bad.here.entry.kind q
-  variable_is u s side test (i, there, at) (j, got, of_kind, at_home, node) p ended q name kept =
+      → KeptFrom (known_of w order fetched place why bad (Some s.item)) (length (items order fetched bad.earlier)) p.from
+      → (q : List ℕ) → IsOwnName u s q → IsKeptName u s p.variable q → IsPointedName u s p.from p.variable q
+      → IsPointedPath u s p.from p.variable q
+      → IsVariableOf w bad.partial bad.here.entry bad.here.entry.kind q
+  variable_is u s side test (i, there, at) (j, got, of_kind, at_home, node) p ended from q name kept pointed beside =
       let (a, wanted, found, is) = as_test bad.here.entry.kind test in
       subst (λ k. IsVariableOf w bad.partial bad.here.entry k q) (sym is)
-      (record { own = by_root a wanted found is; member = λ low. by_member a wanted found is low (is_maximum a) refl })
+      (record {
+        own = by_root a wanted found is;
+        member = λ low. by_member a wanted found is low (is_maximum a) refl;
+        referent = by_referent a wanted found is;
+        root_referent = by_root_referent a wanted found is;
+      })
     where
       g : Graph
       g = bad.partial
@@ -178,6 +248,114 @@ module _ (w : Setting) (order : Order) (fetched : List ℕ) (place : ℕ) (why :
           (sym of_kind ∙ ap (λ (x : Item). x.kind) (sym same) ∙ kind_is)
           (own_test w g bad.entries bad.stream bad.here.entry (here_among 0 bad.entries bad.earlier bad.here bad.later bad.split) a wanted found is at_root own.0 own.1)
           root in_list
+
+      sound : IsSound w g
+      sound = sound_partial w g bad.is_partial
+
+      -- the walk kept the place of the pointer that names the cell alone
+      pointer_kept : (a : Attr) (wanted found : ℤ) → bad.here.entry.kind ≡ Test a wanted found → (ptr : Pointer) (c : ℕ) → NamesAlone w g ptr c → bad.here.entry.home ≡ cell_home c
+          → p.from ≡ Some (spot_of k ptr.home ptr.node)
+      pointer_kept a wanted found is ptr c alone at_cell =
+          let (kind_is, home_is, node_is) = tested_item w order fetched place why bad legal a wanted found is s.item i there at in
+          from s.item i refl there (slice_get_within (items order fetched bad.earlier) s.item i there) ptr c alone (home_is ∙ at_cell)
+
+      -- and no path
+      none_there : (a : Attr) (wanted found : ℤ) → bad.here.entry.kind ≡ Test a wanted found → (ptr : Pointer) (c : ℕ) → NamesAlone w g ptr c → bad.here.entry.home ≡ cell_home c
+          → bad.here.entry.node ≡ 0 → AttrFits a (type_at w.table ptr.to) → p.variable ≡ []
+      none_there a wanted found is ptr c alone at_cell own fits =
+          let (kind_is, home_is, node_is) = tested_item w order fetched place why bad legal a wanted found is s.item i there at in
+          let (x, cell_there, cell_of) = (is_good w g sound ptr alone.among).typed c alone.cell in
+          let types : home_types w g (cell_home c) ≡ ptr.to ∷ [] = ap cell_types cell_there ∙ ap (λ t. t ∷ []) cell_of in
+          let here_path : List ℕ = path_in (home_paths w g (cell_home c)) 0 in
+          ended ∙ kept_whole k (sought_variable k) s.item i refl there
+          ∙ ap₂ (λ (y : ItemKind) (z : Home). counted_variable w.table y (home_types w g z) (path_in (home_paths w g z) i.node) (home_place w g z i.node)) kind_is
+          (home_is ∙ at_cell)
+          ∙ ap (λ n. counted_variable w.table (spoken a) (home_types w g (cell_home c)) (path_in (home_paths w g (cell_home c)) n) (home_place w g (cell_home c) n))
+          (node_is ∙ own_node a bad.here.entry.node own)
+          ∙ ap₂ (λ ts y. counted_variable w.table (spoken a) ts here_path y) types (home_plain w g (cell_home c)) ∙ none_kept w g legal a ptr.to fits here_path
+
+      none_own_there : (a : Attr) (wanted found : ℤ) → bad.here.entry.kind ≡ Test a wanted found → (c : ℕ) → bad.here.entry.home ≡ cell_home c
+          → home_attribute side.operation s.kind (named_roots u.interface.now.types u.side side.operation) s.home ≡ None
+      none_own_there a wanted found is c at_cell =
+          let (kind_is, home_is, node_is) = tested_item w order fetched place why bad legal a wanted found is s.item i there at in
+          ap (home_attribute side.operation s.kind (named_roots u.interface.now.types u.side side.operation))
+          (sym at_home ∙ ap (λ (x : Item). x.home) (sym same) ∙ home_is ∙ at_cell)
+
+      by_root_referent : (a : Attr) (wanted found : ℤ) → bad.here.entry.kind ≡ Test a wanted found → (ptr : Pointer) → IsOfReferent w g bad.here.entry ptr → (at_root : ℕ) (root : Root)
+          → slice_get (root_list w) at_root ≡ Some root → IsAtRoot ptr at_root → IsStated w g root a wanted q
+      by_root_referent a wanted found is ptr (c, alone, at_cell, own) at_root root in_list in_root =
+          let (kind_is, home_is, node_is) = tested_item w order fetched place why bad legal a wanted found is s.item i there at in
+          let root_says : RootSays w g sound ptr a wanted =
+          root_test_of w g sound ptr c alone bad.here.entry a wanted found is at_cell bad.entries bad.stream
+          (here_among 0 bad.entries bad.earlier bad.here bad.later bad.split) own in_root.1 in
+          let root_same : root_says.root ≡ root =
+          same_Some _ _ (sym root_says.there ∙ ap (slice_get (root_list w)) (same_root root_says.at at_root (sym root_says.own.0 ∙ in_root.0)) ∙ in_list) in
+          let says : Says w g root.vars a wanted = subst (λ (r : Root). Says w g r.vars a wanted) root_same root_says.says in
+          let setting : w ≡ record { table = u.interface.now.types; op = side.operation; side = u.side; given = side.request } = side.setting in
+          let its_kind : s.kind ≡ spoken a = sym of_kind ∙ ap (λ (x : Item). x.kind) (sym same) ∙ kind_is in
+          let pointed_to : pointee w.table root.of ≡ ptr.to =
+          ap (λ (r : Root). pointee w.table r.of) (sym root_same) ∙ ap (pointee_by root_says.root.of) root_says.type_is ∙ sym root_says.to_is in
+          let fits : AttrFits a (type_at w.table ptr.to) = root_fits w g legal at_root root in_list says.by says.among a says.attr_is ptr.to pointed_to in
+          let found_by : home_attribute w.op s.kind (named_roots w.table w.side w.op) ptr.home ≡ Some says.by =
+          ap (home_attribute w.op s.kind (named_roots w.table w.side w.op)) in_root.0
+          ∙ attribute_found w legal at_root root in_list says.by says.among s.kind (ap spoken says.attr_is ∙ sym its_kind) in
+          record {
+            by = says.by;
+            among = says.among;
+            attr_is = says.attr_is;
+            value = says.value;
+            value_is = says.value_is;
+            wanted_is = says.wanted_is;
+            name =
+                subst (λ (v : Setting). q ≡ parameter_name (slice_get v.op.params says.by.var)) (sym setting)
+                (pointed side.operation side.there (none_own_there a wanted found is c at_cell) (none_there a wanted found is ptr c alone at_cell own fits)
+                (spot_of k ptr.home ptr.node) (pointer_kept a wanted found is ptr c alone at_cell) in_root.1 says.by
+                (subst (λ (v : Setting). home_attribute v.op s.kind (named_roots v.table v.side v.op) ptr.home ≡ Some says.by) setting found_by));
+          }
+
+      by_referent : (a : Attr) (wanted found : ℤ) → bad.here.entry.kind ≡ Test a wanted found → (ptr : Pointer) → IsOfReferent w g bad.here.entry ptr → 0 < ptr.node
+          → OfMember w g ptr.home ptr.node a wanted q
+      by_referent a wanted found is ptr (c, alone, at_cell, own) low =
+          let (kind_is, home_is, node_is) = tested_item w order fetched place why bad legal a wanted found is s.item i there at in
+          let member : IsPointerMember w g ptr a wanted =
+          member_test_of w g sound ptr c alone bad.here.entry a wanted found is at_cell bad.entries bad.stream
+          (here_among 0 bad.entries bad.earlier bad.here bad.later bad.split) own low in
+          let st : OfStruct w g ptr.home ptr.node a wanted = member.0 in
+          let its = member_there w g ptr.home st.struct st.members st.is_struct st.is_record st.index st.field st.there st.within st.of st.home_is st.in_home in
+          let one : OneEach st.field.vars =
+          all_at (λ (f : Field). OneEach f.vars) st.members st.index st.field (members_one w.table legal.operations legal.legal st.struct.of st.members st.is_struct) st.there in
+          let fits : AttrFits a (type_at w.table ptr.to) =
+          member_fits w g legal st.struct.of st.members st.is_struct st.index st.field st.there st.by st.among a st.attr_is ptr.to member.1 in
+          let outer : List ℕ = path_in (home_paths w g ptr.home) st.struct.node in
+          let stands : pointer_variable k ptr.home ptr.node ≡ numbered_path outer st.members st.by.var =
+          ap (λ (o : Option ItemKind). kind_variable o (path_in (home_paths w g ptr.home) ptr.node) (home_place w g ptr.home ptr.node))
+          (ap (option_map (λ (x : Item). x.kind)) there ∙ ap (λ m. Some m) kind_is)
+          ∙ ap (λ n. member_variable (spoken a) (path_in (home_paths w g ptr.home) n) (home_place w g ptr.home n)) st.place
+          ∙ ap₂ (member_variable (spoken a)) its.1 its.0
+          ∙ variable_there (spoken a) outer st.members st.index st.field st.by st.there (first_is (spoken a) st.field.vars st.by one st.among (ap spoken st.attr_is)) in
+          record {
+            of = st.of;
+            home_is = st.home_is;
+            struct = st.struct;
+            in_home = st.in_home;
+            members = st.members;
+            is_struct = st.is_struct;
+            index = st.index;
+            field = st.field;
+            there = st.there;
+            place = st.place;
+            by = st.by;
+            among = st.among;
+            attr_is = st.attr_is;
+            value = st.value;
+            value_is = st.value_is;
+            wanted_is = st.wanted_is;
+            path =
+                beside side.operation side.there (none_own_there a wanted found is c at_cell) (none_there a wanted found is ptr c alone at_cell own fits)
+                (spot_of k ptr.home ptr.node) (pointer_kept a wanted found is ptr c alone at_cell) (λ z. absurd (omega (arith, z, low)))
+                (λ z. some_path outer st.members st.by.var (sym stands ∙ z))
+                ∙ stands;
+          }
 
       -- a maximum count is at its home's own value
       at_front : (a : Attr) (n : ℕ) → is_maximum a ≡ true → node_of a n ≡ 0

@@ -32,7 +32,7 @@ use Rattle.ndr_trace_laws.specs.Untested.{is_test}
 -- ## Agreements of members
 
 -- an agreement is tried at a node after this one
-abbrev Later : ℕ → Entry → Type 0
+abbrev pub Later : ℕ → Entry → Type 0
 Later n m = is_test m.kind ≡ true → n < m.node
 
 no_test : {A : Type 0} (x : Kind) → IsNoTest x → is_test x ≡ true → A
@@ -75,7 +75,7 @@ module _ (table : Table) where
   hoisted_plain true tree.Unread max = tt
   hoisted_plain true _ max = (tt, (tt, tt))
 
-  whole_later : (h : Home) (t : ℕ) (v : Tree) → AllByRecursion (Later 0) (whole_value table h t v)
+  pub whole_later : (h : Home) (t : ℕ) (v : Tree) → AllByRecursion (Later 0) (whole_value table h t v)
   whole_later h t (node l ks) =
       all_append (Later 0) (entries h 0 (hoisted (hoists table t) l (hoisted_max 0 (more (node l ks) none)))) (in_place table h (t ∷ []) 0 (more (node l ks) none))
       (plain_later 0 h 0 (hoisted (hoists table t) l (hoisted_max 0 (more (node l ks) none))) (hoisted_plain (hoists table t) l (hoisted_max 0 (more (node l ks) none))))
@@ -95,7 +95,7 @@ module _ (table : Table) where
   pipe_later h None cut v = plain_later 0 h 0 (Unread ∷ []) (tt, tt)
   pipe_later h (Some _) cut v = plain_later 0 h 0 (Unread ∷ []) (tt, tt)
 
-  pipes_later : (i : ℕ) (rs : List Root) (vs : List Tree) (cuts : List (List ℕ)) → AllByRecursion (Later 0) (pipes_entries table i rs vs cuts)
+  pub pipes_later : (i : ℕ) (rs : List Root) (vs : List Tree) (cuts : List (List ℕ)) → AllByRecursion (Later 0) (pipes_entries table i rs vs cuts)
   pipes_later i [] vs cuts = tt
   pipes_later i (r ∷ rs) [] cuts = tt
   pipes_later i (r ∷ rs) (v ∷ vs) [] = tt
@@ -118,7 +118,7 @@ cell_not_own c v (a ∷ ags) = ((λ e z i h. absurd (let x : ⊥ = cc in x)), ce
 
 -- ## What the agreements of a root say
 
-tests_tell : (h : Home) (n : ℕ) (v : Tree) (ags : List Agreement) (m : Entry) → Among (tests h n v ags) m
+pub tests_tell : (h : Home) (n : ℕ) (v : Tree) (ags : List Agreement) (m : Entry) → Among (tests h n v ags) m
     → (a : Agreement) × Among ags a × (m ≡ record { home = h; node = n; kind = Test a.attr a.wanted (found_in a.attr v) })
 tests_tell h n v [] m e = absurd e
 tests_tell h n v (a ∷ ags) m (inl e) = (a, inl refl, e)
@@ -139,10 +139,10 @@ pub record OwnTest (w : Setting) (g : Graph) (i : ℕ) (a : Attr) (wanted : ℤ)
   pub there : slice_get (root_list w) i ≡ Some root
   pub says : Says w g root.vars a wanted
 
-same_attr : (a b : Attr) (v u f g : ℤ) → Test a v f ≡ Test b u g → a ≡ b
+pub same_attr : (a b : Attr) (v u f g : ℤ) → Test a v f ≡ Test b u g → a ≡ b
 same_attr a b v u f g e = cc
 
-same_wanted : (a b : Attr) (v u f g : ℤ) → Test a v f ≡ Test b u g → v ≡ u
+pub same_wanted : (a b : Attr) (v u f g : ℤ) → Test a v f ≡ Test b u g → v ≡ u
 same_wanted a b v u f g e = cc
 
 module _ (w : Setting) (g : Graph) where
@@ -166,6 +166,17 @@ module _ (w : Setting) (g : Graph) where
       }
       go (Some z) f (inr k) later = one_more v vs x.attr x.wanted (later k)
 
+  pub tests_say : (h : Home) (n : ℕ) (v : Tree) (vs : List AttrVar) (m : Entry) → Among (tests h n v (root_agreements w g vs)) m → (a : Attr) (wanted found : ℤ)
+      → m.kind ≡ Test a wanted found → (m.home ≡ h) × Says w g vs a wanted
+  tests_say h n v vs m e a wanted found k =
+      let (x, among, is) = tests_tell h n v (root_agreements w g vs) m e in
+      let same_kind : Test x.attr x.wanted (found_in x.attr v) ≡ Test a wanted found = sym (ap (λ (y : Entry). y.kind) is) ∙ k in
+      let attr_is : x.attr ≡ a = same_attr x.attr a x.wanted wanted (found_in x.attr v) found same_kind in
+      let wanted_is : x.wanted ≡ wanted = same_wanted x.attr a x.wanted wanted (found_in x.attr v) found same_kind in (
+        ap (λ (y : Entry). y.home) is,
+        subst (λ u. Says w g vs a u) wanted_is (subst (λ u. Says w g vs u x.wanted) attr_is (agreements_tell vs x among)),
+      )
+
   -- those of a root are tried at its own value, or in the cell that it names
   root_tells : (j : ℕ) (r : Root) (v : Tree) (m : Entry) → Among (root_test g j v (root_agreements w g r.vars)) m → (a : Attr) (wanted found : ℤ)
       → m.kind ≡ Test a wanted found → (i : ℕ) → m.home ≡ home.Root i → (i ≡ j) × Says w g r.vars a wanted
@@ -173,12 +184,8 @@ module _ (w : Setting) (g : Graph) where
     where
       own : (v : Tree) → Among (tests (home.Root j) 0 v (root_agreements w g r.vars)) m → (i ≡ j) × Says w g r.vars a wanted
       own v e =
-          let (x, among, is) = tests_tell (home.Root j) 0 v (root_agreements w g r.vars) m e in
-          let same_home : home.Root i ≡ home.Root j = sym h ∙ ap (λ (y : Entry). y.home) is in
-          let same_kind : Test x.attr x.wanted (found_in x.attr v) ≡ Test a wanted found = sym (ap (λ (y : Entry). y.kind) is) ∙ k in
-          let attr_is : x.attr ≡ a = same_attr x.attr a x.wanted wanted (found_in x.attr v) found same_kind in
-          let wanted_is : x.wanted ≡ wanted = same_wanted x.attr a x.wanted wanted (found_in x.attr v) found same_kind in
-          (same_place same_home, subst (λ u. Says w g r.vars a u) wanted_is (subst (λ u. Says w g r.vars u x.wanted) attr_is (agreements_tell r.vars x among)))
+          let (its_home, says) = tests_say (home.Root j) 0 v r.vars m e a wanted found k in
+          (same_place (sym h ∙ its_home), says)
         where
           same_place : home.Root i ≡ home.Root j → i ≡ j
           same_place f = cc
@@ -202,10 +209,11 @@ module _ (w : Setting) (g : Graph) where
       go tree.Unread e = own (node tree.Unread ks) e
 
   -- an agreement of one of the roots from the i-th on
-  abbrev OneOf : ℕ → List Root → List Tree → Entry → Type 0
-  OneOf i rs vs m = (j : ℕ) × (r : Root) × (v : Tree) × (slice_get rs j ≡ Some r) × Among (root_test g (i + j) v (root_agreements w g r.vars)) m
+  abbrev pub OneOf : ℕ → List Root → List Tree → Entry → Type 0
+  OneOf i rs vs m =
+      (j : ℕ) × (r : Root) × (v : Tree) × (slice_get rs j ≡ Some r) × (slice_get vs j ≡ Some v) × Among (root_test g (i + j) v (root_agreements w g r.vars)) m
 
-  roots_tell : (i : ℕ) (rs : List Root) (vs : List Tree) (m : Entry) → Among (root_tests w g i rs vs) m → OneOf i rs vs m
+  pub roots_tell : (i : ℕ) (rs : List Root) (vs : List Tree) (m : Entry) → Among (root_tests w g i rs vs) m → OneOf i rs vs m
   roots_tell i [] vs m e = absurd e
   roots_tell i (r ∷ rs) [] m e = absurd e
   roots_tell i (r ∷ rs) (v ∷ vs) m e =
@@ -215,11 +223,11 @@ module _ (w : Setting) (g : Graph) where
           → OneOf i (r ∷ rs) (v ∷ vs) m
       go (inl k) later =
           let z : i ≡ i + 0 = omega arith in
-          (0, r, v, refl, subst (λ u. Among (root_test g u v (root_agreements w g r.vars)) m) z k)
+          (0, r, v, refl, refl, subst (λ u. Among (root_test g u v (root_agreements w g r.vars)) m) z k)
       go (inr k) later =
-          let (j, q, u, there, at) = later k in
+          let (j, q, u, there, value, at) = later k in
           let z : i + 1 + j ≡ i + suc j = omega arith in
-          (suc j, q, u, there, subst (λ x. Among (root_test g x u (root_agreements w g q.vars)) m) z at)
+          (suc j, q, u, there, value, subst (λ x. Among (root_test g x u (root_agreements w g q.vars)) m) z at)
 
   -- ## Over a stream
 
@@ -257,7 +265,7 @@ module _ (w : Setting) (g : Graph) where
       tried = ap is_test k
 
       of_root : OneOf 0 (root_list w) g.roots m → OwnTest w g i a wanted
-      of_root (j, r, v, there, at) =
+      of_root (j, r, v, there, value, at) =
           let (same, says) = root_tells (0 + j) r v m at a wanted found k i h in
           let place : j ≡ i = omega (arith, same) in
           record { root = r; there = ap (slice_get (root_list w)) (sym place) ∙ there; says = says }

@@ -29,11 +29,12 @@ use Rattle.ndr_trace_value.specs.declared.cells.Pending.{Pending}
 use Rattle.ndr_trace_value.specs.declared.nodes.Walker.{Walker}
 use Rattle.ndr_trace.specs.Homes.{HasHome, HasPassed, IsAwaiting, IsDeferring, IsNext, IsPart, home_due, pending_all, step_names}
 use Rattle.ndr_trace_value.specs.Naming.{HasType, IsNaming, Stand, names_in, pending_of, stands_at}
-use Rattle.ndr_trace_value.specs.Tracing.{IsTracing, Known}
+use Rattle.ndr_trace_value.specs.Tracing.{IsFrom, IsTracing, Known}
 use Rattle.ndr_trace.proofs.Deferring.{Inverted, already_entries, due_joined, first_time, inverted, next_pending, nulls_skipped, pending_joined, referent_entries, referent_names}
 use Rattle.ndr_trace.proofs.HomeNames.{home_waits}
 use Rattle.ndr_trace_value.proofs.NamedCells.{same_naming}
 use Rattle.ndr_trace.proofs.PartialHomes.{cell_has_home, typed_cell}
+use Rattle.ndr_trace.proofs.SolePointers.{from_pointer}
 
 nat_or : (m n : ℕ) → (m ≡ n) ⊎ (m ≡ n → ⊥)
 nat_or m n = by (eqb m n) refl
@@ -62,9 +63,9 @@ module _ (k : Known) (due : List Due) (rest : List Entry) (names : Placed_cells)
   pub taken : (u v : Walker) (next : Pending) → IsAwaiting k u due rest names → u.cells.pending.items ≡ v.cells.pending.items ++ next ∷ [] → v.progress ≡ u.progress
       → v.cells.count ≡ u.cells.count → v.cells.numbers ≡ u.cells.numbers → v.cells.stands ≡ u.cells.stands → IsNext k v next due rest names
   taken u v next a e ep ec en es =
-      let top : next ∷ reverse v.cells.pending.items ≡ pending_all a.pointers =
+      let top : next ∷ reverse v.cells.pending.items ≡ pending_all k a.pointers =
       sym (ap reverse e ∙ reverse-append v.cells.pending.items (next ∷ [])) ∙ a.pending in
-      let n = next_pending k.setting k.graph a.done a.pointers next (reverse v.cells.pending.items) due a.steps a.all_among top a.deferring.deferral in
+      let n = next_pending k.setting k.graph k a.done a.pointers next (reverse v.cells.pending.items) due a.steps a.all_among top a.deferring.deferral in
       let d = same_deferring u v a.done (map due_referent a.pointers ++ due) a.steps ep ec en es a.deferring in
       record {
         done = a.done;
@@ -72,6 +73,7 @@ module _ (k : Known) (due : List Due) (rest : List Entry) (names : Placed_cells)
         among = n.among;
         cell = n.cell;
         to = n.to;
+        from = n.from;
         pointers = n.pointers;
         all_among = n.all_among;
         pending = n.pending;
@@ -95,11 +97,11 @@ module _ (k : Known) (due : List Due) (rest : List Entry) (names : Placed_cells)
   pub none_left : (u : Walker) → IsAwaiting k u due rest names → u.cells.pending.items ≡ []
       → (done : Placed_cells) × (us : List Step) × IsDeferring k u done due us rest names
   none_left u a e =
-      let none : pending_all a.pointers ≡ [] = sym a.pending ∙ ap reverse e in (
+      let none : pending_all k a.pointers ≡ [] = sym a.pending ∙ ap reverse e in (
         a.done,
         a.steps,
         record {
-          deferral = nulls_skipped k.setting k.graph a.done a.pointers due a.steps none a.deferring.deferral;
+          deferral = nulls_skipped k.setting k.graph k a.done a.pointers due a.steps none a.deferring.deferral;
           tracing = a.deferring.tracing;
           naming = a.deferring.naming;
           stand = a.deferring.stand;
@@ -172,6 +174,10 @@ module _ (k : Known) (due : List Due) (rest : List Entry) (names : Placed_cells)
 
   -- ## A home that stands now
 
+  -- where the pointer is that names its cell alone
+  pub referent_from : (u : Walker) (next : Pending) → IsPart k → IsNext k u next due rest names → IsFrom k (home.Cell next.cell) next.from
+  referent_from u next s n = subst (IsFrom k (home.Cell next.cell)) (sym n.from) (from_pointer k s n.pointer next.cell.0 n.among n.cell)
+
   -- a home at which a step of deferral is, and what then follows
   pub record Entering (u : Walker) (h : Home) (name : HomeName) (t : ℕ) : Type 0 where
     pub its : HasHome k h name t
@@ -186,7 +192,7 @@ module _ (k : Known) (due : List Due) (rest : List Entry) (names : Placed_cells)
       → Deferral k.setting k.graph done (map due_referent (home_pointers k.setting.table h t (home_value k.graph h)) ++ (map due_referent ps ++ due)) vs
       → Stand u.cells.stands.items done
       → ((p : Pointer) → Among (home_pointers k.setting.table h t (home_value k.graph h)) p → Among (all_pointers k.setting k.graph) p)
-      → AllByRecursion (Among (all_pointers k.setting k.graph)) ps → reverse u.cells.pending.items ≡ pending_all ps
+      → AllByRecursion (Among (all_pointers k.setting k.graph)) ps → reverse u.cells.pending.items ≡ pending_all k ps
       → IsTracing k v.progress (untested (flat_map (step_entries k.setting k.graph) vs) ++ rest)
       → HasPassed k u.cells v.cells (home_due k h t) (flat_map (step_names k.setting k.graph) vs ++ names) → IsAwaiting k v due rest names
   stood u v h t done vs ps d marks mine all waiting tr passed =
@@ -196,9 +202,9 @@ module _ (k : Known) (due : List Due) (rest : List Entry) (names : Placed_cells)
         pointers = its ++ ps;
         all_among = all_append (Among (all_pointers k.setting k.graph)) its ps (all_mine its (all_pointers k.setting k.graph) mine) all;
         pending =
-            ap reverse (passed.pending ∙ ap (λ xs. u.cells.pending.items ++ reverse xs) (home_waits k.setting.table h t (home_value k.graph h)))
-            ∙ pending_joined k.setting k.graph u.cells.pending.items (pending_all ps) its waiting
-            ∙ sym (flat_map-append (λ (p : Pointer). pending_of p.to p.cell) its ps);
+            ap reverse (passed.pending ∙ ap (λ xs. u.cells.pending.items ++ reverse xs) (home_waits k.setting.table h k t (home_value k.graph h)))
+            ∙ pending_joined k.setting k.graph k u.cells.pending.items (pending_all k ps) its waiting
+            ∙ sym (flat_map-append (λ (p : Pointer). pending_of k p.home p.node p.class p.to p.cell) its ps);
         steps = vs;
         deferring = record {
           deferral = subst (λ ds. Deferral k.setting k.graph done ds vs) (due_joined k.setting k.graph its ps due) d;
@@ -223,7 +229,7 @@ module _ (k : Known) (due : List Due) (rest : List Entry) (names : Placed_cells)
 
   enter_cell : (s : IsPart k) (u : Walker) (c : CellId) (p : Pointer) (done : Placed_cells) (vs : List Step) (ps : List Pointer) → HasType k.graph c.0 p.to
       → Deferral k.setting k.graph done (due_of k.setting.table (standing_cell k.graph p c.0) ++ (map due_referent ps ++ due)) vs → Stand u.cells.stands.items done
-      → AllByRecursion (Among (all_pointers k.setting k.graph)) ps → reverse u.cells.pending.items ≡ pending_all ps
+      → AllByRecursion (Among (all_pointers k.setting k.graph)) ps → reverse u.cells.pending.items ≡ pending_all k ps
       → IsTracing k u.progress (untested (flat_map (step_entries k.setting k.graph) (referent_stands p c.0 ∷ vs)) ++ rest)
       → IsNaming k u.cells (flat_map (step_names k.setting k.graph) (referent_stands p c.0 ∷ vs) ++ names) → Entering u (home.Cell c) (named.Cell c) p.to
   enter_cell s u c p done vs ps typed d marks all waiting tr nm = record {

@@ -50,7 +50,7 @@ pub record OfParam (ps : List Param) (r : Root) : Type 0 where
 abbrev IsOf : List Param → Root → Type 0
 IsOf ps r = ((r.param ≡ None) × (r.vars ≡ [])) ⊎ OfParam ps r
 
-mapped_there : {X Y : Type 0} (f : X → Y) (xs : List X) (n : ℕ) (x : X) → slice_get xs n ≡ Some x → slice_get (map f xs) n ≡ Some (f x)
+pub mapped_there : {X Y : Type 0} (f : X → Y) (xs : List X) (n : ℕ) (x : X) → slice_get xs n ≡ Some x → slice_get (map f xs) n ≡ Some (f x)
 mapped_there f [] n x e = cc
 mapped_there f (y ∷ xs) zero x e = ap (λ z. Some (f z)) (same_Some _ _ e)
 mapped_there f (y ∷ xs) (suc n) x e = mapped_there f xs n x e

@@ -36,8 +36,8 @@ use Rattle.ndr_explain.specs.declared.names.HomeName.TheVariants as named
 use Rattle.ndr_trace_laws.specs.Untested.{untested}
 use Rattle.ndr_trace_value.specs.declared.nodes.Walker.{Walker}
 use Rattle.ndr_trace.specs.Homes.{HasHome, IsAwaiting, IsDeferring, IsPart, IsRoot, direct_names, direct_of, home_due, names_all, pending_all, standing_names, step_names}
-use Rattle.ndr_trace_value.specs.Naming.{HasType, IsNaming, Stand, names_in, pending_in, stands_at}
-use Rattle.ndr_trace_value.specs.Tracing.{IsTracing, Known}
+use Rattle.ndr_trace_value.specs.Naming.{HasType, IsNaming, Stand, names_in, only_spot, pending_in, stands_at}
+use Rattle.ndr_trace_value.specs.Tracing.{IsFrom, IsTracing, Known}
 use Rattle.ndr_trace_value.specs.Walking.{IsReady}
 use Rattle.ndr_trace.proofs.Deferring.{inverted, root_entries}
 use Rattle.ndr_trace.proofs.HomeNames.{home_names, home_waits}
@@ -45,6 +45,7 @@ use Rattle.ndr_trace.proofs.HomeWalks.{is_read}
 use Rattle.ndr_trace_value.proofs.NamedCells.{plain_named, same_naming}
 use Rattle.ndr_trace.proofs.PartialHomes.{cell_has_home, direct_typed, root_has_home}
 use Rattle.ndr_trace.proofs.Referents.{Entering, marked_more, none_left, stood}
+use Rattle.ndr_trace.proofs.SolePointers.{from_pointer, root_pointer}
 
 -- a type that is no reference pointer has no direct referent
 not_direct : (d : Option TypeDef) (v : Tree) → direct_of d ≡ None → direct d v ≡ None
@@ -125,20 +126,24 @@ module _ (k : Known) (due : List Due) (rest : List Entry) (names : Placed_cells)
                       (mine (record { home = home.Root at; of = r.of; val = root_at k.graph at }) stands) tt (ap reverse empty) tr passed;
                 }
 
+    -- the cell of a reference pointer is come to, and it is known where the pointer is
+    abbrev Direct : Walker → CellId → TypeId → Type 0
+    Direct w cell to = Entering k due rest names w (home.Cell cell) (named.Cell cell) to.0 × IsFrom k (home.Cell cell) (only_spot k Ref (home.Root at) 0)
+
     -- a root that is a reference pointer, where it is read: the cell that it names is the next
     pub direct_root : (u w : Walker) (to : TypeId) (cell : CellId) → type_at k.setting.table r.of ≡ Some (def.Pointer Ref to) → IsReady k u.progress
         → IsAwaiting k u (due_root at ∷ due) rest names → u.cells.pending.items ≡ [] → cell.0 ≡ min (u.cells.count + 1) (2 ^ 32 - 1) → w.cells.count ≡ cell.0
         → w.cells.numbers ≡ u.cells.numbers → w.cells.pending ≡ u.cells.pending → w.progress ≡ u.progress → stands_at w.cells.stands.items cell.0 ≡ true
         → ((d : ℕ) → (d ≡ cell.0 → ⊥) → stands_at w.cells.stands.items d ≡ stands_at u.cells.stands.items d)
-        → Entering k due rest names w (home.Cell cell) (named.Cell cell) to.0
+        → Direct w cell to
     direct_root u w to cell type_of ready a empty next ec en eq ep set others = go (none_left k (due_root at ∷ due) rest names u a empty)
       where
-        go : (done : Placed_cells) × (us : List Step) × IsDeferring k u done (due_root at ∷ due) us rest names → Entering k due rest names w (home.Cell cell) (named.Cell cell) to.0
+        go : (done : Placed_cells) × (us : List Step) × IsDeferring k u done (due_root at ∷ due) us rest names → Direct w cell to
         go (done, us, d) = by_inverse (inverted k.setting k.graph d.deferral)
           where
             by_inverse : (vs : List Step) × AreFree (root_cell (standing_root k.setting k.graph at).home) done
                 × Deferral k.setting k.graph (root_cell (standing_root k.setting k.graph at).home ++ done) (due_of k.setting.table (standing_root k.setting k.graph at) ++ due) vs
-                × (us ≡ root_stands at ∷ vs) → Entering k due rest names w (home.Cell cell) (named.Cell cell) to.0
+                × (us ≡ root_stands at ∷ vs) → Direct w cell to
             by_inverse (vs, free, e, is) = by_label (root_at k.graph at) refl
               where
                 -- the entries and the names, by what stands for the root
@@ -151,10 +156,10 @@ module _ (k : Known) (due : List Due) (rest : List Entry) (names : Placed_cells)
                     ∙ ap (λ (z : Standing). untested (standing_entries k.setting.table z) ++ untested (flat_map (step_entries k.setting k.graph) vs)) stands)
                     ∙ append_assoc (untested (standing_entries k.setting.table y)) (untested (flat_map (step_entries k.setting k.graph) vs)) rest) d.tracing
 
-                by_label : (v : Tree) → root_at k.graph at ≡ v → Entering k due rest names w (home.Cell cell) (named.Cell cell) to.0
+                by_label : (v : Tree) → root_at k.graph at ≡ v → Direct w cell to
                 by_label (node l ks) f = by_cell (direct_typed k s at r there to type_of l ks f)
                   where
-                    by_cell : (l ≡ tree.Unread) ⊎ ((c : ℕ) × (l ≡ tree.Ptr (Some c)) × HasType k.graph c to.0) → Entering k due rest names w (home.Cell cell) (named.Cell cell) to.0
+                    by_cell : (l ≡ tree.Unread) ⊎ ((c : ℕ) × (l ≡ tree.Ptr (Some c)) × HasType k.graph c to.0) → Direct w cell to
                     by_cell (inl unread) =
                         let none : direct (type_at k.setting.table r.of) (root_at k.graph at) ≡ None =
                         ap₂ direct type_of (f ∙ ap (λ m. node m ks) unread) in
@@ -175,8 +180,8 @@ module _ (k : Known) (due : List Due) (rest : List Entry) (names : Placed_cells)
                         let named_next =
                         plain_named k u.cells w.cells Ref c cell.0 (names_in own ++ after_names) (λ z. cc) refl (subst (λ ns. IsNaming k u.cells ns) names_are d.naming) next ec en in
                         let same : cell.0 ≡ c = named_next.0 in
-                        subst (λ (q : CellId). Entering k due rest names w (home.Cell q) (named.Cell q) to.0) (ap (λ n. record { 0 = n }) (sym same))
-                        (record {
+                        let its : Entering k due rest names w (cell_home c) (named.Cell (record { 0 = c })) to.0 =
+                        record {
                           its = cell_has_home k s (record { 0 = c }) to.0 typed;
                           later = untested (flat_map (step_entries k.setting k.graph) vs) ++ rest;
                           after_names = after_names;
@@ -190,7 +195,9 @@ module _ (k : Known) (due : List Due) (rest : List Entry) (names : Placed_cells)
                               (marked_more k due rest names u.cells.stands.items w.cells.stands.items c Ref done d.stand (ap (stands_at w.cells.stands.items) (sym same) ∙ set)
                               (λ m o. others m (λ h. o (h ∙ same)))) (mine (record { home = cell_home c; of = to.0; val = cell_at k.graph c }) stands)
                               tt (ap reverse (ap (λ q. q.items) eq ∙ empty)) tr passed;
-                        })
+                        } in
+                        let own_pointer = root_pointer k.setting k.graph s.partial.all_roots at r there Ref to type_of c ks (f ∙ ap (λ m. node m ks) pointer) in
+                        subst (λ (q : CellId). Direct w q to) (ap (λ n. record { 0 = n }) (sym same)) (its, from_pointer k s _ c own_pointer refl)
 
   -- a root that is no reference pointer, as the program gives it
   pub own_of : (s : IsPart k) (at : ℕ) (root : RootDef) (name : HomeName) (r : IsRoot k at root) → direct_of (type_at k.setting.table root.of.0) ≡ None → (u : Walker)

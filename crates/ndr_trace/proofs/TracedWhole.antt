@@ -41,7 +41,7 @@ module _ (w : Setting) (order : Order) (fetched : List ℕ) (place : ℕ) (why :
       → IfSome o (λ s. IsAt (items order fetched bad.earlier) s.item place) → IfSome o (λ s. IsItemOf (items order fetched bad.earlier) s) → (u : Ground)
       → IsSide (known_of w order fetched place why bad (option_map (λ (s : Sought). s.item) o)) u
       → IsEnded (known_of w order fetched place why bad (option_map (λ (s : Sought). s.item) o)) p
-      → lines ≡ p.lines → IsFinished u o p.path p.variable path → IsTraceOf w order fetched place why bad lines path
+      → lines ≡ p.lines → IsFinished u o p path → IsTraceOf w order fetched place why bad lines path
   ended_trace legal None p lines path seeks sought at its u side ended same goes = by (is_test bad.here.entry.kind) refl
     where
       by : (b : Bool) → is_test bad.here.entry.kind ≡ b → IsTraceOf w order fetched place why bad lines path
@@ -49,11 +49,11 @@ module _ (w : Setting) (order : Order) (fetched : List ℕ) (place : ℕ) (why :
       by false e =
           subst (λ q. IsTraceOf w order fetched place why bad lines q) (sym goes)
           (subst (λ ls. IsTraceOf w order fetched place why bad ls p.path) (sym same) (traced_plain w order fetched place why bad None p e ended))
-  ended_trace legal (Some s) p lines path seeks sought (i, there, at) its u side ended same (variable, own, kept, is) =
+  ended_trace legal (Some s) p lines path seeks sought (i, there, at) its u side ended same (variable, own, kept, pointed, beside, is) =
       subst (λ ls. IsTraceOf w order fetched place why bad ls path) (sym same)
       (traced_test w order fetched place why bad s.item p path variable (sought refl) (i, there, at)
       (λ j got. subject_is w order fetched place why bad legal (Some s.item) (sought refl) s.item j got (ap (λ (y : Item). y.at) (same_Some _ _ (sym got ∙ there)) ∙ at))
-      (variable_is w order fetched place why bad legal u s side (sought refl) (i, there, at) its p ended.variable variable own kept) ended is)
+      (variable_is w order fetched place why bad legal u s side (sought refl) (i, there, at) its p ended.variable ended.from variable own kept pointed beside) ended is)
 
   pub whole_trace : IsLegalSide w → HasOwnNumbers bad.partial bad.entries → (more : List ℕ) (u : Ground) → AreOctets u.octets.now → u.octets.now ≡ fetched ++ more
       → u.items.now.items ≡ items order fetched bad.earlier → u.order ≡ order → u.interface.now.types ≡ w.table
@@ -61,10 +61,10 @@ module _ (w : Setting) (order : Order) (fetched : List ℕ) (place : ℕ) (why :
       → ((wanted found : ℤ) → why ≡ reason.Disagrees wanted found → (n : ℕ) (i : Item) → slice_get u.items.now.items n ≡ Some i → i.at ≡ place → IsSome u.sought)
       → IfSome u.sought (λ s. IsItemOf u.items.now.items s) → IsSide (known_of w order fetched place why bad (option_map (λ (s : Sought). s.item) u.sought)) u → (p : Progress)
       → ((k : Known) → IsGround k u → IsPart k → IsSide k u → IsStream k → IsEnded k p)
-      → (lines path : List ℕ) → lines ≡ p.lines → IsFinished u u.sought p.path p.variable path → IsTraceOf w order fetched place why bad lines path
+      → (lines path : List ℕ) → lines ≡ p.lines → IsFinished u u.sought p path → IsTraceOf w order fetched place why bad lines path
   whole_trace legal own more u small split logged same_order table disagrees at finds its side p walked lines path same_lines goes =
       let o : Option ℕ = option_map (λ (s : Sought). s.item) u.sought in
-      let g = ground_of w order fetched more place why bad u small split logged same_order table disagrees at finds in
+      let g = ground_of w order fetched more place why bad u small split logged same_order table disagrees at finds its in
       ended_trace legal u.sought p lines path g.seeks g.sought (subst (λ xs. IfSome u.sought (λ s. IsAt xs s.item place)) logged at)
       (subst (λ xs. IfSome u.sought (λ s. IsItemOf xs s)) logged its) u side
       (walked (known_of w order fetched place why bad (option_map (λ (s : Sought). s.item) u.sought)) g (part_of o legal) side (stream_of o own)) same_lines goes

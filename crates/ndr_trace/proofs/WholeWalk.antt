@@ -27,6 +27,7 @@ begins k u s g v ground b =
       lines = b.lines ∙ ap (λ n. explanation k.setting k.graph (take n k.log)) (sym b.next);
       path = b.path ∙ sym (not_held k (sought_path k) u.progress.next b.next);
       variable = b.variable ∙ sym (not_held k (sought_variable k) u.progress.next b.next);
+      from = λ j i mine there low. absurd (let z = b.next in omega (arith, z, low));
       due =
           subst (λ n. Stops k.order k.fetched k.numbering k.here (end_to_end u.progress.at (untested g.entries)) (drop n k.log)) (sym b.next)
           (subst (λ n. Stops k.order k.fetched k.numbering k.here (end_to_end n (untested g.entries)) k.log) (sym b.at) g.due);

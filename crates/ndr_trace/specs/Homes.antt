@@ -33,7 +33,7 @@ use Rattle.ndr_trace_laws.specs.Untested.{untested}
 use Rattle.ndr_trace_value.specs.declared.cells.Cells.{Cells}
 use Rattle.ndr_trace_value.specs.declared.cells.Pending.{Pending}
 use Rattle.ndr_trace_value.specs.declared.nodes.Walker.{Walker}
-use Rattle.ndr_trace_value.specs.Naming.{IsNaming, Stand, names_in, names_of, pending_in, pending_of}
+use Rattle.ndr_trace_value.specs.Naming.{IsNaming, Stand, names_in, names_of, only_spot, pending_in, pending_of}
 use Rattle.ndr_trace_value.specs.Tracing.{IsTracing, Known}
 
 -- ## A home
@@ -60,14 +60,14 @@ IsFront k h t max = hoists k.setting.table t ≡ true → max ≡ home_max k h
 -- Those entries were passed: the cells that they name were named, and their pointers are pending, the first of them as the last.
 pub record HasPassed (k : Known) (before after : Cells) (due : List Entry) (names : Placed_cells) : Type 0 where
   pub naming : IsNaming k after names
-  pub pending : after.pending.items ≡ before.pending.items ++ reverse (pending_in due)
+  pub pending : after.pending.items ≡ before.pending.items ++ reverse (pending_in k due)
   pub stands : after.stands ≡ before.stands
 
 -- ## Referents
 
 -- the pointers whose cells are to be come to
-abbrev pub pending_all : List Pointer → List Pending
-pending_all ps = flat_map (λ p. pending_of p.to p.cell) ps
+abbrev pub pending_all : Known → List Pointer → List Pending
+pending_all k ps = flat_map (λ p. pending_of k p.home p.node p.class p.to p.cell) ps
 
 abbrev pub names_all : List Pointer → Placed_cells
 names_all ps = flat_map (λ p. names_of p.class p.cell) ps
@@ -99,7 +99,7 @@ pub record IsAwaiting (k : Known) (u : Walker) (due : List Due) (rest : List Ent
   pub done : Placed_cells
   pub pointers : List Pointer
   pub all_among : AllByRecursion (Among (all_pointers k.setting k.graph)) pointers
-  pub pending : reverse u.cells.pending.items ≡ pending_all pointers
+  pub pending : reverse u.cells.pending.items ≡ pending_all k pointers
   pub steps : List Step
   pub deferring : IsDeferring k u done (map due_referent pointers ++ due) steps rest names
 
@@ -110,9 +110,10 @@ pub record IsNext (k : Known) (u : Walker) (next : Pending) (due : List Due) (re
   pub among : Among (all_pointers k.setting k.graph) pointer
   pub cell : pointer.cell ≡ Some next.cell.0
   pub to : pointer.to ≡ next.to.0
+  pub from : next.from ≡ only_spot k pointer.class pointer.home pointer.node
   pub pointers : List Pointer
   pub all_among : AllByRecursion (Among (all_pointers k.setting k.graph)) pointers
-  pub pending : reverse u.cells.pending.items ≡ pending_all pointers
+  pub pending : reverse u.cells.pending.items ≡ pending_all k pointers
   pub steps : List Step
   pub deferring : IsDeferring k u done (due_referent pointer ∷ (map due_referent pointers ++ due)) steps rest names
 

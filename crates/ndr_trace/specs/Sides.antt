@@ -1,6 +1,6 @@
 -- What a walk over the roots of a side comes to.
--- `k` are the octets with the partial graph in which they are refused, `u` is what the walk is given, or the walk, `i` is the index of a root,
--- `cuts` are the counts of the chunks of pipes.
+-- `k` are the octets with the partial graph in which they are refused, `u` is what the walk is given, or the walk, `p` how far it came, `i` is the
+-- index of a root, `cuts` are the counts of the chunks of pipes.
 use Rattle.std.specs.Prelude.{◌≡◌, ◌⊎◌, ◌≤◌, ◌-◌, ℕ, List, [], ◌++◌, drop, Option, None, Some, codes}
 use Rattle.std.specs.List.{slice_get}
 use Rattle.nd_types.specs.declared.types.Operation.{Operation}
@@ -15,8 +15,9 @@ use Rattle.ndr_trace_laws.specs.Due.{Stops}
 use Rattle.ndr_trace_laws.specs.Untested.{untested}
 use Rattle.ndr_trace_value.specs.declared.nodes.Walker.{Walker}
 use Rattle.ndr_trace_value.specs.declared.progress.Ground.{Ground}
+use Rattle.ndr_trace_value.specs.declared.progress.Progress.{Progress}
 use Rattle.ndr_trace_value.specs.declared.search.Sought.{Sought}
-use Rattle.ndr_trace_value.specs.Attributes.{IsKeptName, IsOwnName}
+use Rattle.ndr_trace_value.specs.Attributes.{IsKeptName, IsOwnName, IsPointedName, IsPointedPath}
 use Rattle.ndr_trace.specs.Homes.{IsAwaiting}
 use Rattle.ndr_trace_value.specs.Naming.{IsNaming, names_in}
 use Rattle.ndr_trace_value.specs.Tracing.{IsTracing, Known}
@@ -66,13 +67,15 @@ pub record IsBeginning (u : Walker) : Type 0 where
   pub lines : u.progress.lines ≡ []
   pub path : u.progress.path ≡ []
   pub variable : u.progress.variable ≡ []
+  pub from : u.progress.from ≡ None
   pub count : u.cells.count ≡ 0
   pub numbers : u.cells.numbers ≡ []
   pub none_pending : u.cells.pending.items ≡ []
   pub unmarked : u.cells.stands.items ≡ []
 
 -- the path that is shown: that at which a walk ended; where an agreement is sought a blank and the variable follow
-abbrev pub IsFinished : Ground → Option Sought → List ℕ → List ℕ → List ℕ → Type 0
-IsFinished u None path kept shown = shown ≡ path
-IsFinished u (Some s) path kept shown =
-    (variable : List ℕ) × IsOwnName u s variable × IsKeptName u s kept variable × (shown ≡ path ++ (codes " " ++ variable))
+abbrev pub IsFinished : Ground → Option Sought → Progress → List ℕ → Type 0
+IsFinished u None p shown = shown ≡ p.path
+IsFinished u (Some s) p shown =
+    (variable : List ℕ) × IsOwnName u s variable × IsKeptName u s p.variable variable × IsPointedName u s p.from p.variable variable
+    × IsPointedPath u s p.from p.variable variable × (shown ≡ p.path ++ (codes " " ++ variable))

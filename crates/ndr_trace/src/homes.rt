@@ -14,14 +14,15 @@ ghost use Rattle.ndr_trace_value.specs.Walking.{values_due};
 ghost use Rattle.ndr_trace_value.specs.declared.progress.Halt.TheVariants as halts;
 ghost use Rattle.ndr_trace.specs.Homes.{HasHome, HasPassed, IsAwaiting, IsFront, IsNext, IsRoot, IsPart, direct_of, home_due};
 ghost use Rattle.ndr_trace_value.specs.Naming.{IsNaming, names_in};
-ghost use Rattle.ndr_trace_value.specs.Tracing.{IsEnded, IsGround, IsTracing, Known};
+ghost use Rattle.ndr_trace_value.specs.Tracing.{IsEnded, IsFrom, IsGround, IsTracing, Known};
 
+use nd_base::Octets;
 use nd_types::{Class, Interface, RootDef, TypeDef, TypeId};
 use nd_value::Home;
 use ndr_explain::{HomeName, Level};
 use ndr_trace_value::{
-    Ground, Halt, Pending, RootSeen, Spot, Walker, at_end, close, come_to, count, gap, new_cell,
-    note_direct, walk_level,
+    Ground, Halt, Pending, PointerSpot, RootSeen, Spot, Walker, at_end, close, come_to, count, gap,
+    new_cell, note_direct, walk_level,
 };
 
 /// Walks over a root and the referents that it makes due.
@@ -65,7 +66,7 @@ fn walk_own<'a>(
         → IsErrOf result halts.Here → IsEnded k walker.new.progress }
 {
     match direct_referent(ground.interface, root.of) {
-        Some(to) => walk_direct(ground, walker, to),
+        Some(to) => walk_direct(ground, walker, at, to),
         None => walk_plain(ground, walker, at, root),
     }
 }
@@ -89,7 +90,15 @@ fn walk_plain<'a>(
         → IsErrOf result halts.Here → IsEnded k walker.new.progress }
 {
     let home = Home::Root(at);
-    walk_home(ground, walker, home, HomeName::Word(root.name), root.of)?;
+    let from = None;
+    walk_home(
+        ground,
+        walker,
+        home,
+        HomeName::Word(root.name),
+        root.of,
+        &from,
+    )?;
     Ok(())
 }
 
@@ -109,12 +118,17 @@ fn direct_referent(interface: &Interface, of: TypeId) -> Option<TypeId>
 }
 
 // Walks over the referent of a top-level reference pointer.
-fn walk_direct<'a>(ground: &Ground<'a>, walker: &mut Walker<'a>, to: TypeId) -> Result<(), Halt>
-    ensures goes { (k : Known) → IsGround k ground.now → IsPart k → (at : ℕ) (root : Root) → slice_get (root_list k.setting) at ≡ Some root
+fn walk_direct<'a>(
+    ground: &Ground<'a>,
+    walker: &mut Walker<'a>,
+    at: u32,
+    to: TypeId,
+) -> Result<(), Halt>
+    ensures goes { (k : Known) → IsGround k ground.now → IsPart k → (root : Root) → slice_get (root_list k.setting) at ≡ Some root
         → type_at k.setting.table root.of ≡ Some (def.Pointer Ref to) → (due : List Due) (rest : List Entry) (names : Placed_cells)
         → walker.old.cells.pending.items ≡ [] → IsAwaiting k walker.old (due_root at ∷ due) rest names
         → IfOk result (λ _. IsAwaiting k walker.new due rest names) }
-    ensures ends { (k : Known) → IsGround k ground.now → IsPart k → (at : ℕ) (root : Root) → slice_get (root_list k.setting) at ≡ Some root
+    ensures ends { (k : Known) → IsGround k ground.now → IsPart k → (root : Root) → slice_get (root_list k.setting) at ≡ Some root
         → type_at k.setting.table root.of ≡ Some (def.Pointer Ref to) → (due : List Due) (rest : List Entry) (names : Placed_cells)
         → walker.old.cells.pending.items ≡ [] → IsAwaiting k walker.old (due_root at ∷ due) rest names
         → IsErrOf result halts.Here → IsEnded k walker.new.progress }
@@ -123,7 +137,19 @@ fn walk_direct<'a>(ground: &Ground<'a>, walker: &mut Walker<'a>, to: TypeId) -> 
     let cell = new_cell(&mut walker.cells);
     come_to(&mut walker.cells, cell)?;
     note_direct(&mut walker.search, cell);
-    walk_home(ground, walker, Home::Cell(cell), HomeName::Cell(cell), to)?;
+    let from = Some(PointerSpot {
+        home: Home::Root(at),
+        node: 0,
+        variable: Octets::new(ground.alloc),
+    });
+    walk_home(
+        ground,
+        walker,
+        Home::Cell(cell),
+        HomeName::Cell(cell),
+        to,
+        &from,
+    )?;
     Ok(())
 }
 
@@ -134,17 +160,20 @@ fn walk_home<'a>(
     home: Home,
     name: HomeName<'a>,
     of: TypeId,
+    from: &Option<PointerSpot>,
 ) -> Result<(), Halt>
-    ensures goes { (k : Known) → IsGround k ground.now → HasHome k home name.entry of.0 → (rest : List Entry) (names : Placed_cells)
-        → IsTracing k walker.old.progress (home_due k home of.0 ++ rest) → IsNaming k walker.old.cells (names_in (home_due k home of.0) ++ names)
+    ensures goes { (k : Known) → IsGround k ground.now → HasHome k home name.entry of.0 → IsFrom k home from.now
+        → (rest : List Entry) (names : Placed_cells) → IsTracing k walker.old.progress (home_due k home of.0 ++ rest)
+        → IsNaming k walker.old.cells (names_in (home_due k home of.0) ++ names)
         → IfOk result (λ _. IsTracing k walker.new.progress rest × HasPassed k walker.old.cells walker.new.cells (home_due k home of.0) names) }
-    ensures ends { (k : Known) → IsGround k ground.now → HasHome k home name.entry of.0 → (rest : List Entry) (names : Placed_cells)
-        → IsTracing k walker.old.progress (home_due k home of.0 ++ rest) → IsNaming k walker.old.cells (names_in (home_due k home of.0) ++ names)
+    ensures ends { (k : Known) → IsGround k ground.now → HasHome k home name.entry of.0 → IsFrom k home from.now
+        → (rest : List Entry) (names : Placed_cells) → IsTracing k walker.old.progress (home_due k home of.0 ++ rest)
+        → IsNaming k walker.old.cells (names_in (home_due k home of.0) ++ names)
         → IsErrOf result halts.Here → IsEnded k walker.new.progress }
 {
     let before = walker.cells.pending.len();
-    let max = front(ground, walker, home, name, of)?;
-    walk_level(ground, walker, home, name, max, Level::Whole { of })?;
+    let max = front(ground, walker, home, name, of, from)?;
+    walk_level(ground, walker, home, name, max, from, Level::Whole { of })?;
     close(ground, &mut walker.search, 0)?;
     turn(&mut walker.cells.pending, before);
     Ok(())
@@ -157,12 +186,13 @@ fn front<'a>(
     home: Home,
     name: HomeName<'a>,
     of: TypeId,
+    from: &Option<PointerSpot>,
 ) -> Result<u32, Halt>
-    ensures goes { (k : Known) → IsGround k ground.now → HasHome k home name.entry of.0 → (rest : List Entry)
+    ensures goes { (k : Known) → IsGround k ground.now → HasHome k home name.entry of.0 → IsFrom k home from.now → (rest : List Entry)
         → IsTracing k walker.old.progress (home_due k home of.0 ++ rest)
         → IfOk result (λ max. IsTracing k walker.new.progress (values_due k home (of.0 ∷ []) 0 (more (home_value k.graph home) none) ++ rest)
         × IsFront k home of.0 max) }
-    ensures ends { (k : Known) → IsGround k ground.now → HasHome k home name.entry of.0 → (rest : List Entry)
+    ensures ends { (k : Known) → IsGround k ground.now → HasHome k home name.entry of.0 → IsFrom k home from.now → (rest : List Entry)
         → IsTracing k walker.old.progress (home_due k home of.0 ++ rest) → IsErrOf result halts.Here → IsEnded k walker.new.progress }
     ensures cells { walker.new.cells ≡ walker.old.cells }
 {
@@ -176,6 +206,7 @@ fn front<'a>(
         name,
         top: Level::Whole { of },
         below: &below,
+        from,
     };
     gap(ground, &mut walker.progress, 4, &spot)?;
     let max = count(ground, &mut walker.progress, &spot)?;
@@ -231,6 +262,7 @@ fn walk_referent<'a>(
         Home::Cell(next.cell),
         HomeName::Cell(next.cell),
         next.to,
+        &next.from,
     )?;
     Ok(())
 }

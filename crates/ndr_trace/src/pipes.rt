@@ -88,11 +88,13 @@ fn walk_chunk<'a>(
     let home = Home::Root(at);
     let name = HomeName::Word(root.name);
     let below = Vec::new(ground.alloc);
+    let from = None;
     let spot = Spot {
         home,
         name,
         top: Level::Whole { of: root.of },
         below: &below,
+        from: &from,
     };
     gap(ground, &mut walker.progress, 4, &spot)?;
     let size = count(ground, &mut walker.progress, &spot)?;
@@ -105,6 +107,6 @@ fn walk_chunk<'a>(
         at: 0,
         size,
     };
-    walk_level(ground, walker, home, name, 0, elements)?;
+    walk_level(ground, walker, home, name, 0, &from, elements)?;
     Ok(size)
 }

@@ -12,7 +12,7 @@ ghost use Rattle.nd_grammar.specs.LegalSide.{IsLegalSide};
 ghost use Rattle.ndr_decoder_laws.specs.verdict.InOrder.{HasOwnNumbers};
 ghost use Rattle.ndr_trace.specs.Homes.{IsPart};
 ghost use Rattle.ndr_trace.specs.Sides.{IsBeginning, IsFinished, IsSide, IsStream};
-ghost use Rattle.ndr_trace_value.specs.Attributes.{IsKeptName, IsOwnName};
+ghost use Rattle.ndr_trace_value.specs.Attributes.{IsKeptName, IsOwnName, IsPointedName, IsPointedPath};
 ghost use Rattle.ndr_trace_value.specs.Traces.{IsTraceOf};
 ghost use Rattle.ndr_trace_value.specs.Tracing.{IsEnded, IsGround, Known};
 
@@ -24,7 +24,8 @@ use nd_types::{Interface, Side};
 use nd_value::ItemLog;
 use ndr_refs::Referents;
 use ndr_trace_value::{
-    Cells, Ground, Halt, Progress, Search, Sought, Walker, find_agreement, variable_path,
+    Cells, Ground, Halt, PointerSpot, Progress, Search, Sought, Walker, find_agreement,
+    variable_path,
 };
 use std::alloc::Global;
 
@@ -109,6 +110,7 @@ fn begin<'a>(alloc: Global) -> Walker<'a>
             lines: Octets::new(alloc),
             path: Octets::new(alloc),
             variable: Octets::new(alloc),
+            from: None,
         },
         cells: Cells {
             count: 0,
@@ -128,7 +130,7 @@ fn begin<'a>(alloc: Global) -> Walker<'a>
 // The lines, and the path at which the walk ended; where an agreement fails, a blank and the path of the variable follow.
 fn finish<'a>(ground: &Ground<'a>, walker: Walker<'a>) -> Result<Traced, Memory>
     ensures lines { IfOk result (λ t. t.lines ≡ walker.entry.progress.lines) }
-    ensures path { IfOk result (λ t. IsFinished ground.now ground.now.sought walker.entry.progress.path walker.entry.progress.variable t.path) }
+    ensures path { IfOk result (λ t. IsFinished ground.now ground.now.sought walker.entry.progress t.path) }
 {
     let Walker {
         progress,
@@ -139,10 +141,11 @@ fn finish<'a>(ground: &Ground<'a>, walker: Walker<'a>) -> Result<Traced, Memory>
         lines,
         path,
         variable,
+        from,
         ..
     } = progress;
     match ground.sought {
-        Some(sought) => finish_at(ground, &search, sought, lines, path, &variable),
+        Some(sought) => finish_at(ground, &search, sought, lines, path, &variable, &from),
         None => Ok(Traced { lines, path }),
     }
 }
@@ -155,12 +158,14 @@ fn finish_at(
     lines: Octets,
     path: Octets,
     kept: &Octets,
+    from: &Option<PointerSpot>,
 ) -> Result<Traced, Memory>
     ensures lines { IfOk result (λ t. t.lines ≡ lines) }
     ensures path { IfOk result (λ t. (variable : List ℕ) × IsOwnName ground.now sought variable × IsKeptName ground.now sought kept.now variable
+        × IsPointedName ground.now sought from.now kept.now variable × IsPointedPath ground.now sought from.now kept.now variable
         × (t.path ≡ path ++ (codes " " ++ variable))) }
 {
-    let variable = variable_path(ground, search, sought, kept)?;
+    let variable = variable_path(ground, search, sought, kept, from)?;
     let mut path = path;
     path.append(b" ")?;
     path.append(variable.as_slice())?;

@@ -18,7 +18,7 @@ use Rattle.ndr_trace_laws.specs.Untested.{is_test}
 use Rattle.ndr_trace_value.specs.declared.progress.Progress.{Progress}
 use Rattle.ndr_trace_value.specs.Tracing.{IsAt, IsEnded, IsTracing, Known, kept, kept_by, sought_path}
 use Rattle.ndr_trace_value.specs.Traces.{IsShownPath, IsTraceOf, IsVariableOf, entry_path}
-use Rattle.ndr_trace_value.proofs.Passing.{all_lines, kept_all, variable_all}
+use Rattle.ndr_trace_value.proofs.Passing.{all_lines, from_all, kept_all, variable_all}
 
 -- what is known of octets that are refused
 abbrev pub known_of : (w : Setting) (order : Order) (fetched : List ℕ) (place : ℕ) (why : Reason) → Bad w order fetched place why → Option ℕ → Known
@@ -48,7 +48,12 @@ no_drop (suc n) (x ∷ xs) e = let h = no_drop n xs e in omega (arith, h)
 
 -- then reading stopped at an agreement
 pub all_passed : (k : Known) (p : Progress) → IsTracing k p [] → IsEnded k p
-all_passed k p t = record { lines = all_lines k p.next p.lines over t.lines; path = inl (at_test t.due.ends, kept_all k p [] t over); variable = variable_all k p [] t over }
+all_passed k p t = record {
+  lines = all_lines k p.next p.lines over t.lines;
+  path = inl (at_test t.due.ends, kept_all k p [] t over);
+  variable = variable_all k p [] t over;
+  from = from_all k p [] t over;
+}
   where
     none : (t.due.passed ≡ []) × (t.due.later ≡ [])
     none = no_more t.due.passed t.due.later t.due.split

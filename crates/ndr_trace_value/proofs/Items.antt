@@ -41,10 +41,10 @@ use Rattle.ndr_trace_value.specs.declared.search.Sought.{Sought}
 use Rattle.ndr_trace_value.specs.LastMembers.{counted_path, counted_variable, front_variable, level_variable, whole_types}
 use Rattle.ndr_trace_value.specs.Places.{home_place}
 use Rattle.ndr_trace_value.specs.Traces.{entry_path}
-use Rattle.ndr_trace_value.specs.Tracing.{HasLabel, Holds, HoldsCount, IsCount, IsCounted, IsEnded, IsGround, IsInFront, IsItem, IsShown, IsSpot, IsTracing, Known, either_path, entry_at, is_sought}
-use Rattle.ndr_trace_value.specs.Tracing.{kept, kept_by, sought_path, sought_variable}
+use Rattle.ndr_trace_value.specs.Tracing.{HasLabel, Holds, HoldsCount, IsCount, IsCounted, IsEnded, IsFrom, IsGround, IsInFront, IsItem, IsShown, IsSpot, IsTracing, KeptFrom, Known}
+use Rattle.ndr_trace_value.specs.Tracing.{either_from, either_path, entry_at, is_sought, kept, kept_by, sought_path, sought_variable}
 use Rattle.ndr_trace_value.proofs.Placed.{beside_is}
-use Rattle.ndr_trace_value.proofs.Passing.{gap_passed, held_next, held_on, item_ended, item_passed, next_item, placed}
+use Rattle.ndr_trace_value.proofs.Passing.{from_next, from_on, gap_passed, held_next, held_on, item_ended, item_passed, next_item, placed}
 
 -- ## Kinds
 
@@ -357,11 +357,12 @@ module _ (k : Known) (u : Ground) (ground : IsGround k u) where
       ≡ either_path (is_sought u.sought p.next)
       (level_variable u.interface.now.types i.kind s.top (path_to (name_text s.name) (s.top ∷ reverse s.below.now.items))
       (path_to (name_text s.name) (reverse s.below.now.items))) p.variable
-      → IsTracing k p1 rest × Holds k x i.value
-  item_goes s n spot x item label front rest p p1 t i got t1 t2 t3 t4 t5 t6 e1 e2 e3 e4 e5 e6 lines next at path variable = (
+      → p1.from ≡ either_from (is_sought u.sought p.next) s.from.now p.from → IsTracing k p1 rest × Holds k x i.value
+  item_goes s n spot x item label front rest p p1 t i got t1 t2 t3 t4 t5 t6 e1 e2 e3 e4 e5 e6 lines next at path variable from = (
     item_passed k p p1 (entry_at s n x) rest z i one t there next at
         (held_next k (sought_path k) p.next i there u.sought ground.sought_is p.path p1.path _ t.path its_path path)
-        (held_next k (sought_variable k) p.next i there u.sought ground.sought_is p.variable p1.variable _ t.variable (λ empty. its_variable) variable) line,
+        (held_next k (sought_variable k) p.next i there u.sought ground.sought_is p.variable p1.variable _ t.variable (λ empty. its_variable) variable)
+        (from_next k p.next i there u.sought ground.sought_is p.from p1.from s.from.now t.from (subst (λ h. IsFrom k h s.from.now) (sym home) spot.from) from) line,
     subst (Holds k x) (sym value) (holds k p.at x item ground.are_octets one.rendered.0 one.rendered.1),
   )
     where
@@ -434,15 +435,25 @@ module _ (k : Known) (u : Ground) (ground : IsGround k u) where
           (value_shown i.kind (label_in (home_flats k.graph i.home) i.node) i.value) (codes "\n") e1 e2 path_shown e4 (e5 (label_in (home_flats k.graph i.home) i.node) is_shown) e6
           ∙ ap (λ r. p.lines ++ (item_head i ++ r)) (sym (other_rest k.setting k.graph i i.kind (subst IsNoGap (sym kind) (no_gap k.order x (piece k.fetched p.at x) item))))
 
+  -- its node is that of its entry
+  pub item_node_is : (p : Progress) (m : Entry) → IsItem m.kind → (rest : List Entry) → IsTracing k p (m ∷ rest) → (i : Item) → slice_get u.items.now.items p.next ≡ Some i
+      → i.node ≡ m.node
+  item_node_is p m item rest t i got =
+      ap (λ (y : Item). y.node)
+      (next_item k p m rest (item_as k.order m.kind (piece k.fetched p.at m.kind)) i (λ r. is_as k.order m.kind (piece k.fetched p.at m.kind) item) t
+      (ap (λ xs. slice_get xs p.next) (sym ground.items) ∙ got)).is_item
+      ∙ own_node m.kind m.node item
+
   -- ## Gaps
 
   -- a gap with its line: the next entry is due
   pub gap_goes : (s : Spot) (n align : ℕ) (rest : List Entry) (p p1 : Progress) → 0 < gap p.at align → IsTracing k p (entry_at s n (Align align) ∷ rest)
       → (i : Item) → slice_get u.items.now.items p.next ≡ Some i → (t1 t2 : List ℕ) → t1 ≡ p.lines ++ item_head i → t2 ≡ t1 ++ codes "\n"
-      → p1.lines ≡ t2 → p1.next ≡ p.next + 1 → p1.at ≡ i.at + i.len → p1.path ≡ p.path → p1.variable ≡ p.variable → IsTracing k p1 rest
-  gap_goes s n align rest p p1 some t i got t1 t2 e1 e2 lines next at path variable =
+      → p1.lines ≡ t2 → p1.next ≡ p.next + 1 → p1.at ≡ i.at + i.len → p1.path ≡ p.path → p1.variable ≡ p.variable → p1.from ≡ p.from
+      → IsTracing k p1 rest
+  gap_goes s n align rest p p1 some t i got t1 t2 e1 e2 lines next at path variable from =
       item_passed k p p1 (entry_at s n (Align align)) rest (item.Gap, pos 0) i one t there next at (path ∙ t.path ∙ held_on k (sought_path k) p.next another)
-      (variable ∙ t.variable ∙ held_on k (sought_variable k) p.next another) line
+      (variable ∙ t.variable ∙ held_on k (sought_variable k) p.next another) (subst (KeptFrom k (p.next + 1)) (sym from) (from_on k p.next p.from another t.from)) line
     where
       there : slice_get k.log p.next ≡ Some i
       there = ap (λ xs. slice_get xs p.next) (sym ground.items) ∙ got
@@ -489,15 +500,15 @@ module _ (k : Known) (u : Ground) (ground : IsGround k u) where
   pub item_ends : (s : Spot) (n : ℕ) → IsSpot k s n → (x : Kind) → IsItem x → (rest : List Entry) (p p1 : Progress)
       → IsTracing k p (entry_at s n x ∷ rest) → length u.items.now.items ≤ p.next → p1.lines ≡ p.lines
       → (u.sought ≡ None → p1.path ≡ path_to (p.path ++ name_text s.name) (s.top ∷ reverse s.below.now.items)) → (IsSome u.sought → p1.path ≡ p.path) → p1.variable ≡ p.variable
-      → IsEnded k p1
-  item_ends s n spot x item rest p p1 t over lines path same variable =
+      → p1.from ≡ p.from → IsEnded k p1
+  item_ends s n spot x item rest p p1 t over lines path same variable from =
       item_ended k p p1 (entry_at s n x) rest (item_as k.order x (piece k.fetched p.at x)) (λ r. is_as k.order x (piece k.fetched p.at x) item) t
-      (subst (λ xs. length xs ≤ p.next) ground.items over) lines (path_ended s n (entry_at s n x) spot refl refl p p1 t.path path) (λ e. same (ground.seeks e)) variable
+      (subst (λ xs. length xs ≤ p.next) ground.items over) lines (path_ended s n (entry_at s n x) spot refl refl p p1 t.path path) (λ e. same (ground.seeks e)) variable from
 
   pub gap_ends : (s : Spot) (n : ℕ) → IsSpot k s n → (align : ℕ) (rest : List Entry) (p p1 : Progress) → 0 < gap p.at align
       → IsTracing k p (entry_at s n (Align align) ∷ rest) → length u.items.now.items ≤ p.next → p1.lines ≡ p.lines
       → (u.sought ≡ None → p1.path ≡ path_to (p.path ++ name_text s.name) (s.top ∷ reverse s.below.now.items)) → (IsSome u.sought → p1.path ≡ p.path) → p1.variable ≡ p.variable
-      → IsEnded k p1
-  gap_ends s n spot align rest p p1 some t over lines path same variable =
+      → p1.from ≡ p.from → IsEnded k p1
+  gap_ends s n spot align rest p p1 some t over lines path same variable from =
       item_ended k p p1 (entry_at s n (Align align)) rest (item.Gap, pos 0) (λ r. gap_item k.order k.fetched p.at align some r.0) t
-      (subst (λ xs. length xs ≤ p.next) ground.items over) lines (path_ended s n (entry_at s n (Align align)) spot refl refl p p1 t.path path) (λ e. same (ground.seeks e)) variable
+      (subst (λ xs. length xs ≤ p.next) ground.items over) lines (path_ended s n (entry_at s n (Align align)) spot refl refl p p1 t.path path) (λ e. same (ground.seeks e)) variable from

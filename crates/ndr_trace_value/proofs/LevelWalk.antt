@@ -29,7 +29,7 @@ use Rattle.ndr_explain.proofs.LevelPaths.{path_first}
 use Rattle.ndr_explain.proofs.LevelPlaces.{inner_length, place_first}
 use Rattle.ndr_explain.proofs.Walks.{ComesAfter, after_step, path_here, path_later}
 use Rattle.ndr_trace_laws.proofs.Nodes.{after_own}
-use Rattle.ndr_trace_value.proofs.Passing.{all_lines, kept_all, variable_all}
+use Rattle.ndr_trace_value.proofs.Passing.{all_lines, from_all, kept_all, variable_all}
 use Rattle.ndr_trace_value.proofs.Placed.{placed_joined}
 use Rattle.ndr_trace_value.specs.declared.cells.Cells.{Cells}
 use Rattle.ndr_trace_value.specs.declared.cells.Pending.{Pending}
@@ -39,7 +39,7 @@ use Rattle.ndr_trace_value.specs.declared.progress.Progress.{Progress}
 use Rattle.ndr_trace_value.specs.declared.progress.Spot.{Spot}
 use Rattle.ndr_trace_value.specs.Naming.{HasNamed, IsNaming, named_by, names_in, pending_by, pending_in}
 use Rattle.ndr_trace_value.specs.Places.{ArePlaced, home_place}
-use Rattle.ndr_trace_value.specs.Tracing.{IsEnded, IsGround, IsSpot, IsTracing, Known}
+use Rattle.ndr_trace_value.specs.Tracing.{IsEnded, IsFrom, IsGround, IsSpot, IsTracing, KeptFrom, Known}
 use Rattle.ndr_trace_value.specs.Walking.{AreOwn, AreThere, ComesTo, GoesOn, HavePaid, IsNode, IsOwn, IsPaid, IsReady, IsSeen, own_due, values_due}
 
 -- ## What a node says stands for its label
@@ -203,8 +203,8 @@ module _ (k : Known) (h : Home) (max : ℕ) (name : List ℕ) (L : Level) (Ls : 
   own = subst (λ ts. AreOwn k max ts (more (node l ks) us)) types_are there.own
 
   -- it is a node where it is
-  pub is_node : (s : Spot) → s.home ≡ h → name_text s.name ≡ name → s.top ≡ L → reverse s.below.now.items ≡ Ls → IsNode k s max t n l ks
-  is_node s home named top below = record {
+  pub is_node : (s : Spot) → s.home ≡ h → name_text s.name ≡ name → s.top ≡ L → reverse s.below.now.items ≡ Ls → IsFrom k s.home s.from.now → IsNode k s max t n l ks
+  is_node s home named top below from = record {
     spot = record {
       path =
           ap₂ (λ q (M : Level). path_to q (M ∷ reverse s.below.now.items)) named top ∙ ap (λ (Ms : List Level). path_to name (L ∷ Ms)) below
@@ -213,6 +213,7 @@ module _ (k : Known) (h : Home) (max : ℕ) (name : List ℕ) (L : Level) (Ls : 
           ∙ path_here n (path_to name (L ∷ Ls)) _)
           ∙ ap (λ (j : Home). path_in (home_paths k.setting k.graph j) n) (sym home);
       place = ap level_place top ∙ sym placed.0 ∙ ap (λ (j : Home). home_place k.setting k.graph j n) (sym home);
+      from = from;
     };
     label_is =
         ap (λ (j : Home). label_in (home_flats k.graph j) n) home
@@ -299,8 +300,8 @@ no_values k h n (more v w) = refl
 pub names_append : (xs ys : List Entry) → names_in (xs ++ ys) ≡ names_in xs ++ names_in ys
 names_append xs ys = flat_map-append (λ (m : Entry). named_by m.kind) xs ys
 
-pending_append : (xs ys : List Entry) → pending_in (xs ++ ys) ≡ pending_in xs ++ pending_in ys
-pending_append xs ys = flat_map-append (λ (m : Entry). pending_by m.kind) xs ys
+pending_append : (k : Known) (xs ys : List Entry) → pending_in k (xs ++ ys) ≡ pending_in k xs ++ pending_in k ys
+pending_append k xs ys = flat_map-append (λ (m : Entry). pending_by k m.home m.node m.kind) xs ys
 
 -- what visiting a node comes to
 abbrev pub Visits : Known → Spot → ℕ → ℕ → ℕ → Walker → Walker → Flat → Type 0
@@ -311,7 +312,8 @@ Visits k s max t n before after f =
 
 module _ (k : Known) (s : Spot) (max : ℕ) (L : Level) (Ls : List Level) (n : ℕ) (t : ℕ) (first : level_types L ≡ t ∷ drop 1 (level_types L))
     (some : 0 < length (level_types L)) (rest : List Entry) (names : Placed_cells) (before after : Walker) (f : Flat)
-    (visits : Visits k s max t n before after f) (top : s.top ≡ L) (below : reverse s.below.now.items ≡ Ls) (inner : Option Level) (level : IsChildLevel k.setting.table t f inner)
+    (visits : Visits k s max t n before after f) (top : s.top ≡ L) (below : reverse s.below.now.items ≡ Ls) (from : IsFrom k s.home s.from.now)
+    (inner : Option Level) (level : IsChildLevel k.setting.table t f inner)
     (places : inner_places inner ≡ child_places (type_at k.setting.table t) (inner_types inner)) (r : Option Levels)
     (next : HasChild inner → AreLevelsOf (inner_types inner ++ types_after (L ∷ Ls)) (λ q. inner_paths (path_to q (L ∷ Ls)) inner ++ paths_after q (L ∷ Ls)) r)
     (next_is : next_places r ≡ inner_places inner ++ places_after (L ∷ Ls)) where
@@ -330,7 +332,7 @@ module _ (k : Known) (s : Spot) (max : ℕ) (L : Level) (Ls : List Level) (n : �
           × HasNamed k before.cells after.cells (own_due k s.home n t l ks)
           (names_in (values_due k s.home (child_types (type_at k.setting.table t) l ks ++ types_after (L ∷ Ls)) (n + 1) (joined ks us)) ++ names))
       visited =
-          visits l ks (is_node k s.home max (name_text s.name) L Ls n l ks us t first some there s refl refl top below)
+          visits l ks (is_node k s.home max (name_text s.name) L Ls n l ks us t first some there s refl refl top below from)
           (values_due k s.home (child_types (type_at k.setting.table t) l ks ++ types_after (L ∷ Ls)) (n + 1) (joined ks us) ++ rest)
           (subst (IsTracing k before.progress) (ap (λ xs. xs ++ rest) due_first ∙ append_assoc (own_due k s.home n t l ks) _ rest) tr)
           (names_in (values_due k s.home (child_types (type_at k.setting.table t) l ks ++ types_after (L ∷ Ls)) (n + 1) (joined ks us)) ++ names)
@@ -341,7 +343,8 @@ module _ (k : Known) (s : Spot) (max : ℕ) (L : Level) (Ls : List Level) (n : �
       same : child_types (type_at k.setting.table t) l ks ++ types_after (L ∷ Ls) ≡ inner_types inner ++ types_after (L ∷ Ls)
       same = ap (λ ts. ts ++ types_after (L ∷ Ls)) (sym (same_types k s.home max (name_text s.name) L Ls n l ks us t first some there f inner visited.0 level))
 
-      by_levels : (r : Option Levels) → next_places r ≡ inner_places inner ++ places_after (L ∷ Ls) → AreLevelsOf (inner_types inner ++ types_after (L ∷ Ls)) (λ q. inner_paths (path_to q (L ∷ Ls)) inner ++ paths_after q (L ∷ Ls)) r
+      by_levels : (r : Option Levels) → next_places r ≡ inner_places inner ++ places_after (L ∷ Ls)
+          → AreLevelsOf (inner_types inner ++ types_after (L ∷ Ls)) (λ q. inner_paths (path_to q (L ∷ Ls)) inner ++ paths_after q (L ∷ Ls)) r
           → ComesTo k s.home max (name_text s.name) (values_due k s.home (types_from L Ls) n (more (node l ks) us)) rest names before after r
       by_levels None is e =
           let nothing : values_due k s.home (child_types (type_at k.setting.table t) l ks ++ types_after (L ∷ Ls)) (n + 1) (joined ks us) ≡ [] =
@@ -417,8 +420,8 @@ named_on : (k : Known) (a b c : Cells) (xs ys : List Entry) (before names : Plac
 named_on k a b c xs ys before names g h = record {
   naming = h.naming;
   pending =
-      h.pending ∙ ap (λ ps. ps ++ pending_in ys) g.pending ∙ append_assoc a.pending.items (pending_in xs) (pending_in ys)
-      ∙ ap (λ ps. a.pending.items ++ ps) (sym (pending_append xs ys));
+      h.pending ∙ ap (λ ps. ps ++ pending_in k ys) g.pending ∙ append_assoc a.pending.items (pending_in k xs) (pending_in k ys)
+      ∙ ap (λ ps. a.pending.items ++ ps) (sym (pending_append k xs ys));
   stands = h.stands ∙ g.stands;
 }
 
@@ -455,6 +458,8 @@ ended_there k u g p p1 ms e t over = record {
   lines = ap (λ (q : Progress). q.lines) e ∙ all_lines k p.next p.lines (subst (λ xs. length xs ≤ p.next) g.items over.1) t.lines;
   path = inl (g.sought over.0, ap (λ (q : Progress). q.path) e ∙ kept_all k p ms t (subst (λ xs. length xs ≤ p.next) g.items over.1));
   variable = ap (λ (q : Progress). q.variable) e ∙ variable_all k p ms t (subst (λ xs. length xs ≤ p.next) g.items over.1);
+  from =
+      subst (KeptFrom k (length k.log)) (ap (λ (q : Progress). q.from) (sym e)) (from_all k p ms t (subst (λ xs. length xs ≤ p.next) g.items over.1));
 }
 
 pub named_around : (k : Known) (a a1 a2 a3 : Cells) (due : List Entry) (names : Placed_cells) → a1 ≡ a → a3 ≡ a2 → HasNamed k a1 a2 due names → HasNamed k a a3 due names
@@ -489,10 +494,10 @@ pub node_stopped : {E : Type 0} (k : Known) (s : Spot) (max : ℕ) (L : Level) (
     → (rest : List Entry) (names : Placed_cells) (before : Walker)
     → ((l : Label) (ks : Trees) → IsNode k s max t n l ks → (later : List Entry) → IsTracing k before.progress (own_due k s.home n t l ks ++ later)
     → (more_names : Placed_cells) → IsNaming k before.cells (names_in (own_due k s.home n t l ks) ++ more_names) → E)
-    → s.top ≡ L → reverse s.below.now.items ≡ Ls → (left : Trees)
+    → s.top ≡ L → reverse s.below.now.items ≡ Ls → IsFrom k s.home s.from.now → (left : Trees)
     → AreThere k s.home max (types_from L Ls) (paths_from (name_text s.name) L Ls) (places_from L Ls) n left
     → IsTracing k before.progress (values_due k s.home (types_from L Ls) n left ++ rest) → IsNaming k before.cells (names_in (values_due k s.home (types_from L Ls) n left) ++ names) → E
-node_stopped {E = E} k s max L Ls n t first some rest names before ends top below left there tr nm =
+node_stopped {E = E} k s max L Ls n t first some rest names before ends top below from left there tr nm =
     let positive : 0 < count left =
     (let a = there.all in let b = length-append (level_types L) (types_after Ls) in omega (arith, a, b, some)) in
     let w = first_of left positive in
@@ -506,7 +511,7 @@ node_stopped {E = E} k s max L Ls n t first some rest names before ends top belo
     go l ks us here tr1 nm1 =
         let due = due_is k s.home max (name_text s.name) L Ls n l ks us t first some here in
         let later = values_due k s.home (child_types (type_at k.setting.table t) l ks ++ types_after (L ∷ Ls)) (n + 1) (joined ks us) in
-        ends l ks (is_node k s.home max (name_text s.name) L Ls n l ks us t first some here s refl refl top below) (later ++ rest)
+        ends l ks (is_node k s.home max (name_text s.name) L Ls n l ks us t first some here s refl refl top below from) (later ++ rest)
         (subst (IsTracing k before.progress) (ap (λ xs. xs ++ rest) due ∙ append_assoc (own_due k s.home n t l ks) later rest) tr1) (names_in later ++ names)
         (subst (IsNaming k before.cells)
         (ap (λ xs. names_in xs ++ names) due ∙ ap (λ xs. xs ++ names) (names_append (own_due k s.home n t l ks) later)

@@ -2,7 +2,7 @@
 -- `k` are the octets with the partial graph in which they are refused, `u` and `v` are cells before and after a call, `c` and `d` cells, `x` a cell or
 -- none, `t` is a type's number, `n` a pointer's number, `r` what is known of it, `names` are the cells that are named afterwards.
 use Rattle.std.proofs.Common.{◌≡◌, ◌≢◌, ◌⊎◌, inl, inr, ◌∙◌, ℕ, suc, zero, ◌+◌, ◌-◌, ◌<◌, ◌≤◌, ◌^◌, Bool, true, false, List, [], ◌∷◌, ◌++◌, Option, Some, None, Ok, Err, append-nil, refl, sym, ap}
-use Rattle.std.proofs.Common.{subst, arith}
+use Rattle.std.proofs.Common.{ap₂, subst, arith}
 use Rattle.std.specs.Prelude.{cond, min, max, nat_eq, option_map}
 use Rattle.std.specs.List.{AllByRecursion}
 use Rattle.std.proofs.Math.Nat.{max-eq_left, max-eq_right, min-eq_left}
@@ -12,6 +12,7 @@ use Rattle.nd_types.specs.declared.types.Class.{Class}
 use Rattle.nd_types.specs.declared.types.Class.TheVariants.{Full, Ref, Unique}
 use Rattle.nd_types.specs.declared.types.TypeId.{TypeId}
 use Rattle.nd_types.specs.declared.types.TypeDef.TheVariants as def
+use Rattle.nd_value.specs.declared.item.Home.{Home}
 use Rattle.nd_value.specs.declared.value.CellId.{CellId}
 use Rattle.nd_value.specs.declared.value.Graph.{Graph}
 use Rattle.nd_value.specs.Deferral.{Placed_cells}
@@ -29,8 +30,9 @@ use Rattle.ndr_refs.specs.declared.referents.RefFault.TheVariants as fault
 use Rattle.ndr_refs.specs.Known.{known, first_met, IsMet, IsMetBy}
 use Rattle.ndr_trace_value.specs.declared.cells.Cells.{Cells}
 use Rattle.ndr_trace_value.specs.declared.cells.Pending.{Pending}
-use Rattle.ndr_trace_value.specs.Naming.{HasNamed, HasNumbers, HasType, InTurn, IsFine, IsNaming, full_one, names_of, pending_by, pending_of, stands_at}
-use Rattle.ndr_trace_value.specs.Tracing.{Known}
+use Rattle.ndr_trace_value.specs.declared.pointers.PointerSpot.{PointerSpot}
+use Rattle.ndr_trace_value.specs.Naming.{HasNamed, HasNumbers, HasType, InTurn, IsFine, IsNaming, full_one, names_of, only_spot, pending_by, pending_of, stands_at}
+use Rattle.ndr_trace_value.specs.Tracing.{Known, pointer_variable, spot_of}
 
 -- ## The numbers that are known
 
@@ -244,23 +246,24 @@ module _ (k : Known) (u : Cells) (t n : ℕ) (names : Placed_cells) where
 
 -- a pointer is pending then
 pub pending_added : (k : Known) (u v : Cells) (m : Entry) (class : Class) (t : ℕ) (x : Option ℕ) (names : Placed_cells) → m.kind ≡ Number class t x → IsNaming k v names
-    → v.pending.items ≡ u.pending.items ++ pending_of t x → v.stands ≡ u.stands → HasNamed k u v (m ∷ []) names
+    → v.pending.items ≡ u.pending.items ++ pending_of k m.home m.node class t x → v.stands ≡ u.stands → HasNamed k u v (m ∷ []) names
 pending_added k u v m class t x names is i e es = record {
   naming = i;
-  pending = e ∙ ap (λ xs. u.pending.items ++ xs) (sym (append-nil (pending_of t x)) ∙ ap (λ z. pending_by z ++ []) (sym is));
+  pending = e ∙ ap (λ xs. u.pending.items ++ xs) (sym (append-nil (pending_of k m.home m.node class t x)) ∙ ap (λ z. pending_by k m.home m.node z ++ []) (sym is));
   stands = es;
 }
 
-pub none_pending : (t : ℕ) (x : Option ℕ) (ps qs rs : List Pending) → None ≡ x → qs ≡ ps → rs ≡ qs → rs ≡ ps ++ pending_of t x
-none_pending t None ps qs rs e f g = g ∙ f ∙ sym (append-nil ps)
-none_pending t (Some c) ps qs rs e f g = cc
+module _ (k : Known) (h : Home) (n : ℕ) (class : Class) where
+  pub none_pending : (t : ℕ) (x : Option ℕ) (ps qs rs : List Pending) → None ≡ x → qs ≡ ps → rs ≡ qs → rs ≡ ps ++ pending_of k h n class t x
+  none_pending t None ps qs rs e f g = g ∙ f ∙ sym (append-nil ps)
+  none_pending t (Some c) ps qs rs e f g = cc
 
-pub one_pending : (cell : CellId) (to : TypeId) (x : Option ℕ) (ps qs rs : List Pending) → Some cell.0 ≡ x → qs ≡ ps → rs ≡ qs ++ record { cell = cell; to = to } ∷ []
-    → rs ≡ ps ++ pending_of to.0 x
-one_pending cell to None ps qs rs e f g = cc
-one_pending cell to (Some c) ps qs rs e f g =
-    g ∙ ap (λ zs. zs ++ record { cell = cell; to = to } ∷ []) f
-    ∙ ap (λ d. ps ++ record { cell = record { 0 = d }; to = record { 0 = to.0 } } ∷ []) (same_Some _ _ e)
+  pub one_pending : (cell : CellId) (to : TypeId) (from : Option PointerSpot) (x : Option ℕ) (ps qs rs : List Pending) → from ≡ only_spot k class h n → Some cell.0 ≡ x → qs ≡ ps
+      → rs ≡ qs ++ record { cell = cell; to = to; from = from } ∷ [] → rs ≡ ps ++ pending_of k h n class to.0 x
+  one_pending cell to from None ps qs rs i e f g = cc
+  one_pending cell to from (Some c) ps qs rs i e f g =
+      g ∙ ap (λ zs. zs ++ record { cell = cell; to = to; from = from } ∷ []) f
+      ∙ ap₂ (λ d p. ps ++ record { cell = record { 0 = d }; to = record { 0 = to.0 }; from = p } ∷ []) (same_Some _ _ e) i
 
 -- ## Marks
 
@@ -269,3 +272,10 @@ one_more_room [] zero = refl
 one_more_room [] (suc c) = refl
 one_more_room (b ∷ stands) zero = refl
 one_more_room (b ∷ stands) (suc c) = one_more_room stands c
+
+-- ## Where pointers are
+
+pub spot_is : (k : Known) (at : PointerSpot) (h : Home) (n : ℕ) → at.home ≡ h → at.node ≡ n → at.variable ≡ pointer_variable k h n → Some at ≡ Some (spot_of k h n)
+spot_is k at h n e f g =
+    ap (λ x. Some (record { home = x; node = at.node; variable = at.variable })) e
+    ∙ ap₂ (λ x y. Some (record { home = h; node = x; variable = y })) f g

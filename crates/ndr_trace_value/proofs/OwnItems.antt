@@ -267,7 +267,7 @@ module _ (k : Known) (h : Home) (n : ℕ) (p : Progress) (rest : List Entry) (re
 -- ## What is named
 
 -- no pointer, so no cell is named
-pub same_cells : (k : Known) (u : Cells) (due : List Entry) (names : Placed_cells) → names_in due ≡ [] → pending_in due ≡ [] → IsNaming k u (names_in due ++ names)
+pub same_cells : (k : Known) (u : Cells) (due : List Entry) (names : Placed_cells) → names_in due ≡ [] → pending_in k due ≡ [] → IsNaming k u (names_in due ++ names)
     → HasNamed k u u due names
 same_cells k u due names e f g = record {
   naming = subst (λ xs. IsNaming k u (xs ++ names)) e g;
@@ -305,13 +305,13 @@ module _ (k : Known) (h : Home) (n t : ℕ) (ks : Trees) (rest : List Entry) (na
   Out d l a1 f = IsSeen l (count ks) f × (IsTracing k p1 rest × HasNamed k a a1 (due_by k h n t d l ks) names)
 
   -- of a node that names nothing
-  pub quiet : (d e : Option TypeDef) (l m : Label) → d ≡ e → l ≡ m → names_in (due_by k h n t e m ks) ≡ [] → pending_in (due_by k h n t e m ks) ≡ []
+  pub quiet : (d e : Option TypeDef) (l m : Label) → d ≡ e → l ≡ m → names_in (due_by k h n t e m ks) ≡ [] → pending_in k (due_by k h n t e m ks) ≡ []
       → IsNaming k a (names_in (due_by k h n t d l ks) ++ names) → (f : Flat) → IsSeen m (count ks) f → IsTracing k p1 rest → Out d l a f
   quiet d e l m de le none none1 nm f seen tr = (
     subst (λ x. IsSeen x (count ks) f) (sym le) seen,
     (
       tr,
-      same_cells k a (due_by k h n t d l ks) names (ap₂ (λ x y. names_in (due_by k h n t x y ks)) de le ∙ none) (ap₂ (λ x y. pending_in (due_by k h n t x y ks)) de le ∙ none1) nm,
+      same_cells k a (due_by k h n t d l ks) names (ap₂ (λ x y. names_in (due_by k h n t x y ks)) de le ∙ none) (ap₂ (λ x y. pending_in k (due_by k h n t x y ks)) de le ∙ none1) nm,
     ),
   )
 
@@ -332,7 +332,7 @@ module _ (k : Known) (h : Home) (n t : ℕ) (ks : Trees) (rest : List Entry) (na
   no_array_names elem bound false max offset = refl
 
   no_array_pending : (elem : TypeId) (bound : Option ℕ) (varying : Bool) (max offset : ℕ)
-      → pending_in (due_by k h n t (Some (def.Array elem bound varying)) (tree.Arr max offset) ks) ≡ []
+      → pending_in k (due_by k h n t (Some (def.Array elem bound varying)) (tree.Arr max offset) ks) ≡ []
   no_array_pending elem bound true max offset = refl
   no_array_pending elem bound false max offset = refl
 
@@ -351,7 +351,7 @@ module _ (k : Known) (h : Home) (n t : ℕ) (ks : Trees) (rest : List Entry) (na
   no_tag_names (Some (def.Enum values)) arms default z = refl
   no_tag_names _ arms default z = refl
 
-  no_tag_pending : (e : Option TypeDef) (arms : List Arm) (default : Option Arm) (z : ℤ) → pending_in (untested (entries h n (tag_entries e arms default z))) ≡ []
+  no_tag_pending : (e : Option TypeDef) (arms : List Arm) (default : Option Arm) (z : ℤ) → pending_in k (untested (entries h n (tag_entries e arms default z))) ≡ []
   no_tag_pending (Some (def.Prim q)) arms default z = refl
   no_tag_pending (Some (def.Enum values)) arms default z = refl
   no_tag_pending _ arms default z = refl
@@ -382,7 +382,7 @@ module _ (k : Known) (h : Home) (n t : ℕ) (ks : Trees) (rest : List Entry) (na
       tr,
       record {
         naming = named.naming;
-        pending = named.pending ∙ ap (λ ps. a.pending.items ++ ps) (sym (ap₂ (λ x y. pending_in (due_by k h n t x y ks)) de le));
+        pending = named.pending ∙ ap (λ ps. a.pending.items ++ ps) (sym (ap₂ (λ x y. pending_in k (due_by k h n t x y ks)) de le));
         stands = named.stands;
       },
     ),

@@ -19,9 +19,10 @@ use Rattle.ndr_trace_laws.proofs.Gaps.{empty_gap}
 use Rattle.ndr_trace_laws.proofs.Steps.{ended, skipped, took}
 use Rattle.ndr_trace_value.specs.declared.progress.Halt.{Halt}
 use Rattle.ndr_trace_value.specs.declared.progress.Halt.TheVariants as halts
+use Rattle.ndr_trace_value.specs.declared.pointers.PointerSpot.{PointerSpot}
 use Rattle.ndr_trace_value.specs.declared.progress.Progress.{Progress}
 use Rattle.ndr_trace_value.specs.declared.search.Sought.{Sought}
-use Rattle.ndr_trace_value.specs.Tracing.{IsEnded, IsTracing, Known, either_path, is_sought, kept, kept_by, kept_variable}
+use Rattle.ndr_trace_value.specs.Tracing.{IsEnded, IsFrom, IsTracing, KeptFrom, Known, either_from, either_path, is_sought, kept, kept_by, kept_variable}
 use Rattle.ndr_trace_value.specs.Traces.{entry_path}
 
 module _ (k : Known) where
@@ -112,6 +113,44 @@ module _ (k : Known) where
       let same : p.next ≡ length k.log = omega (arith, within, over) in
       t.variable ∙ ap (kept_variable k) same
 
+  -- ## Where the pointer is that names the home of what is sought
+
+  below_of : (j n : ℕ) → j < n + 1 → (j ≡ n → ⊥) → j < n
+  below_of j n low other = by (ltb j n) refl
+    where
+      by : (b : Bool) → ltb j n ≡ b → j < n
+      by true e = ltb-true j n e
+      by false e =
+          let l = ltb-false j n e in
+          let same : j ≡ n = omega (arith, l, low) in
+          absurd (other same)
+
+  -- another item is passed
+  pub from_on : (n : ℕ) (at : Option PointerSpot) → (k.sought ≡ Some n → ⊥) → KeptFrom k n at → KeptFrom k (n + 1) at
+  from_on n at other was j i mine there low = was j i mine there (below_of j n low (λ e. other (mine ∙ ap Some e)))
+
+  -- an item of a home is passed
+  pub from_next : (n : ℕ) (i : Item) → slice_get k.log n ≡ Some i → (o : Option Sought) → option_map (λ (s : Sought). s.item) o ≡ k.sought → (old new its : Option PointerSpot)
+      → KeptFrom k n old → IsFrom k i.home its → new ≡ either_from (is_sought o n) its old → KeptFrom k (n + 1) new
+  from_next n i got None is old new its was here now j x mine there low = let z : None ≡ Some j = is ∙ mine in cc
+  from_next n i got (Some s) is old new its was here now j x mine there low = by (eqb s.item n) refl
+    where
+      item : s.item ≡ j
+      item = same_Some _ _ (is ∙ mine)
+
+      by : (b : Bool) → eqb s.item n ≡ b → IsFrom k x.home new
+      by false e =
+          let differs = eqb-false s.item n e in
+          subst (IsFrom k x.home) (sym (now ∙ ap (λ b. either_from b its old) e)) (was j x mine there (below_of j n low (λ f. differs (item ∙ f))))
+      by true e =
+          let same : n ≡ j = sym (eqb-true s.item n e) ∙ item in
+          let one : i ≡ x = same_Some _ _ (sym got ∙ ap (slice_get k.log) same ∙ there) in
+          subst (IsFrom k x.home) (sym (now ∙ ap (λ b. either_from b its old) e)) (subst (λ (y : Item). IsFrom k y.home its) one here)
+
+  -- all items were passed
+  pub from_all : (p : Progress) (ms : List Entry) → IsTracing k p ms → length k.log ≤ p.next → KeptFrom k (length k.log) p.from
+  from_all p ms t over j i mine there low = t.from j i mine there (omega (arith, over, low))
+
   -- an item is left: it is that of the entry
   pub next_item : (p : Progress) (m : Entry) (rest : List Entry) (z : ItemKind × ℤ) (i : Item)
       → (IsRendered k.order k.numbering k.fetched (placed p m) → its_item k.order k.fetched (placed p m) ≡ Some z) → IsTracing k p (m ∷ rest)
@@ -125,12 +164,13 @@ module _ (k : Known) where
   pub item_passed : (p p1 : Progress) (m : Entry) (rest : List Entry) (z : ItemKind × ℤ) (i : Item)
       → Took k.order k.fetched k.numbering k.here (placed p m) (end_to_end (p.at + size_at p.at m.kind) rest) z i (drop (p.next + 1) k.log)
       → IsTracing k p (m ∷ rest) → slice_get k.log p.next ≡ Some i → p1.next ≡ p.next + 1 → p1.at ≡ i.at + i.len → p1.path ≡ kept k (p.next + 1)
-      → p1.variable ≡ kept_variable k (p.next + 1) → p1.lines ≡ p.lines ++ item_line k.setting k.graph i → IsTracing k p1 rest
-  item_passed p p1 m rest z i one t got next at path variable lines = record {
+      → p1.variable ≡ kept_variable k (p.next + 1) → KeptFrom k (p.next + 1) p1.from → p1.lines ≡ p.lines ++ item_line k.setting k.graph i → IsTracing k p1 rest
+  item_passed p p1 m rest z i one t got next at path variable from lines = record {
     within = (let b = slice_get_within k.log p.next i got in omega (arith, next, b));
     lines = more_lines p.next i p.lines p1.lines got t.lines lines ∙ ap (λ n. shown (take n k.log)) (sym next);
     path = path ∙ ap (kept k) (sym next);
     variable = variable ∙ ap (kept_variable k) (sym next);
+    from = subst (λ n. KeptFrom k n p1.from) (sym next) from;
     due =
         subst (λ n. Stops k.order k.fetched k.numbering k.here (end_to_end p1.at rest) (drop n k.log)) (sym next)
         (subst (λ a. Stops k.order k.fetched k.numbering k.here (end_to_end a rest) (drop (p.next + 1) k.log)) (sym place) one.goes_on);
@@ -152,13 +192,14 @@ module _ (k : Known) where
   pub item_ended : (p p1 : Progress) (m : Entry) (rest : List Entry) (z : ItemKind × ℤ)
       → (IsRendered k.order k.numbering k.fetched (placed p m) → its_item k.order k.fetched (placed p m) ≡ Some z) → IsTracing k p (m ∷ rest)
       → length k.log ≤ p.next → p1.lines ≡ p.lines → ((is_test k.here.entry.kind ≡ true → ⊥) → p1.path ≡ entry_path k.setting k.graph m)
-      → (is_test k.here.entry.kind ≡ true → p1.path ≡ p.path) → p1.variable ≡ p.variable → IsEnded k p1
-  item_ended p p1 m rest z item t over lines path same_path variable = record {
+      → (is_test k.here.entry.kind ≡ true → p1.path ≡ p.path) → p1.variable ≡ p.variable → p1.from ≡ p.from → IsEnded k p1
+  item_ended p p1 m rest z item t over lines path same_path variable from = record {
     lines = lines ∙ all_lines p.next p.lines over t.lines;
     path = go (
         ended k.order k.fetched k.numbering k.here (placed p m) (end_to_end (p.at + size_at p.at m.kind) rest) z item
         (subst (λ l. Stops k.order k.fetched k.numbering k.here (end_to_end p.at (m ∷ rest)) l) (drop_past k.log p.next over) t.due));
     variable = variable ∙ variable_all p (m ∷ rest) t over;
+    from = subst (KeptFrom k (length k.log)) (sym from) (from_all p (m ∷ rest) t over);
   }
     where
       at_test : is_test k.here.entry.kind ≡ true → EndPath p1
@@ -181,6 +222,7 @@ module _ (k : Known) where
     lines = t.lines;
     path = t.path;
     variable = t.variable;
+    from = t.from;
     due =
         let none : its_item k.order k.fetched (placed p m) ≡ None =
         subst (λ x. its_item k.order k.fetched (record { at = p.at; entry = record { home = m.home; node = m.node; kind = x } }) ≡ None) (sym is)

@@ -1,5 +1,6 @@
 -- The attributes of parameters, by the items that they speak of.
--- `a` is an attribute, `k` the kind of an item, `vs` are the attributes of a parameter, `o` is an operation, `log` a log, `s` what is sought in it.
+-- `a` is an attribute, `k` the kind of an item, `vs` are the attributes of a parameter, `o` is an operation, `log` a log, `s` what is sought in it,
+-- `from` says where a pointer is, if it is known, and `f` is that, `kept` is a path that was kept, `q` the text that is shown.
 use Rattle.std.specs.Prelude.{◌≡◌, ℕ, Bool, true, false, List, [], ◌∷◌, Option, None, Some}
 use Rattle.std.specs.List.{slice_get}
 use denote.Enum.Bare.{sameb}
@@ -16,6 +17,7 @@ use Rattle.nd_value.specs.declared.item.ItemKind.{ItemKind}
 use Rattle.nd_value.specs.declared.item.ItemKind.TheVariants as kind
 use Rattle.nd_value.specs.contracts.item.ItemKind as row
 use Rattle.text_grammar.specs.Written.{parameter_name}
+use Rattle.ndr_trace_value.specs.declared.pointers.PointerSpot.{PointerSpot}
 use Rattle.ndr_trace_value.specs.declared.progress.Ground.{Ground}
 use Rattle.ndr_trace_value.specs.declared.search.Sought.{Sought}
 
@@ -64,6 +66,21 @@ IsOwnName u s q = (o : Operation) → slice_get u.interface.now.operations u.op 
 abbrev pub IsKeptName : Ground → Sought → List ℕ → List ℕ → Type 0
 IsKeptName u s kept q = (o : Operation) → slice_get u.interface.now.operations u.op ≡ Some o
     → (s.node ≡ 0 → home_attribute o s.kind (named_roots u.interface.now.types u.side o) s.home ≡ None) → (kept ≡ [] → ⊥) → q ≡ kept
+
+-- The same of the attribute of a parameter that is a pointer, if the walk kept where this pointer is, and no path: it names the home of what is
+-- sought.
+abbrev pub IsPointedName : Ground → Sought → Option PointerSpot → List ℕ → List ℕ → Type 0
+IsPointedName u s from kept q = (o : Operation) → slice_get u.interface.now.operations u.op ≡ Some o
+    → home_attribute o s.kind (named_roots u.interface.now.types u.side o) s.home ≡ None → kept ≡ []
+    → (f : PointerSpot) → from ≡ Some f → f.node ≡ 0
+    → (by : AttrVar) → home_attribute o s.kind (named_roots u.interface.now.types u.side o) f.home ≡ Some by
+    → q ≡ parameter_name (slice_get o.params by.var)
+
+-- And that of the attribute of a member that is a pointer, if the walk kept its path.
+abbrev pub IsPointedPath : Ground → Sought → Option PointerSpot → List ℕ → List ℕ → Type 0
+IsPointedPath u s from kept q = (o : Operation) → slice_get u.interface.now.operations u.op ≡ Some o
+    → home_attribute o s.kind (named_roots u.interface.now.types u.side o) s.home ≡ None → kept ≡ []
+    → (f : PointerSpot) → from ≡ Some f → (f.node ≡ 0 → ⊥) → (f.variable ≡ [] → ⊥) → q ≡ f.variable
 
 -- what is sought is an item of the log
 abbrev pub IsItemOf : List Item → Sought → Type 0

@@ -1,11 +1,12 @@
 -- The cells that pointers name, in the order of a stream.
 -- `k` are the octets with the partial graph in which they are refused, `u` the cells that are named so far, `n` is how many these are, `full` are
 -- those of them that full pointers named, `names` are the cells that are named after these, each with the class of its pointer; `c` is a cell, `x` a
--- cell or none, `v` the number of a full pointer, `r` what is known of it, `t` a type's number.
+-- cell or none, `h` a home, `n` a node's number, `v` the number of a full pointer, `r` what is known of it, `t` a type's number.
 use Rattle.std.specs.Prelude.{◌≡◌, ◌⊎◌, ◌<◌, ◌≤◌, ◌^◌, ℕ, suc, List, [], ◌∷◌, ◌++◌, Bool, false, true, flat_map, get_or, Option, Some, None}
 use Rattle.std.specs.List.{AllByRecursion}
 use Rattle.nd_types.specs.declared.types.Class.{Class}
 use Rattle.nd_types.specs.declared.types.Class.TheVariants.{Full, Ref}
+use Rattle.nd_value.specs.declared.item.Home.{Home}
 use Rattle.nd_value.specs.declared.value.Graph.{Graph}
 use Rattle.nd_value.specs.Deferral.{IsPlaced, Placed_cells}
 use Rattle.nd_value.specs.Setting.{Among, cell_of_number}
@@ -16,7 +17,8 @@ use Rattle.ndr_refs.specs.declared.referents.Known.{Known as KnownNumber}
 use Rattle.ndr_refs.specs.Known.{known}
 use Rattle.ndr_trace_value.specs.declared.cells.Cells.{Cells}
 use Rattle.ndr_trace_value.specs.declared.cells.Pending.{Pending}
-use Rattle.ndr_trace_value.specs.Tracing.{Known}
+use Rattle.ndr_trace_value.specs.declared.pointers.PointerSpot.{PointerSpot}
+use Rattle.ndr_trace_value.specs.Tracing.{Known, spot_of}
 
 -- ## Cells in turn
 
@@ -80,22 +82,27 @@ named_by _ = []
 abbrev pub names_in : List Entry → Placed_cells
 names_in ms = flat_map (λ m. named_by m.kind) ms
 
--- the pointer that is pending then
-abbrev pub pending_of : ℕ → Option ℕ → List Pending
-pending_of t None = []
-pending_of t (Some c) = record { cell = record { 0 = c }; to = record { 0 = t } } ∷ []
+-- where a pointer of a class is, at a node of a home, unless it is full
+abbrev pub only_spot : Known → Class → Home → ℕ → Option PointerSpot
+only_spot k Full h n = None
+only_spot k class h n = Some (spot_of k h n)
 
-abbrev pub pending_by : Kind → List Pending
-pending_by (Number class to cell) = pending_of to cell
-pending_by _ = []
+-- the pointer at a node of a home that is pending then
+abbrev pub pending_of : Known → Home → ℕ → Class → ℕ → Option ℕ → List Pending
+pending_of k h n class t None = []
+pending_of k h n class t (Some c) = record { cell = record { 0 = c }; to = record { 0 = t }; from = only_spot k class h n } ∷ []
 
-abbrev pub pending_in : List Entry → List Pending
-pending_in ms = flat_map (λ m. pending_by m.kind) ms
+abbrev pub pending_by : Known → Home → ℕ → Kind → List Pending
+pending_by k h n (Number class to cell) = pending_of k h n class to cell
+pending_by k h n _ = []
+
+abbrev pub pending_in : Known → List Entry → List Pending
+pending_in k ms = flat_map (λ m. pending_by k m.home m.node m.kind) ms
 
 -- the cells that these entries name were named, and then those names follow
 pub record HasNamed (k : Known) (before after : Cells) (due : List Entry) (names : Placed_cells) : Type 0 where
   pub naming : IsNaming k after names
-  pub pending : after.pending.items ≡ before.pending.items ++ pending_in due
+  pub pending : after.pending.items ≡ before.pending.items ++ pending_in k due
   pub stands : after.stands ≡ before.stands
 
 -- ## Cells whose values were come to

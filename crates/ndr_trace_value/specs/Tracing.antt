@@ -12,7 +12,8 @@ use Rattle.nd_value.specs.declared.item.Item.{Item}
 use Rattle.nd_value.specs.declared.item.ItemKind.{ItemKind}
 use Rattle.nd_value.specs.declared.item.ItemKind.TheVariants as item
 use Rattle.nd_value.specs.declared.value.Graph.{Graph}
-use Rattle.nd_value.specs.Setting.{Setting}
+use Rattle.nd_value.specs.Deferral.{Pending as Pointer}
+use Rattle.nd_value.specs.Setting.{Setting, cell_home}
 use Rattle.nd_value.specs.Tree as tree
 use Rattle.nd_value.specs.Tree.{Label}
 use Rattle.nd_grammar.specs.Entry.{Actual, Align, Chunk, Context, Entry, EntryAt, Kind, Max, Num, Number, Offset, Tag, Test, Text, Unread, end_to_end}
@@ -21,17 +22,19 @@ use Rattle.ndr_prim.specs.Context.{attributes_of, identifier_of}
 use Rattle.text_grammar.specs.Paths.{home_types}
 use Rattle.text_grammar.specs.Printed.{quoted_text}
 use Rattle.text_printer.specs.Texts.{context_text}
-use Rattle.ndr_explain.specs.Cursors.{level_place, name_text, path_to}
+use Rattle.ndr_explain.specs.Cursors.{Place, level_place, name_text, path_to}
 use Rattle.ndr_explain.specs.Explained.{context_shown, explanation, home_flats, home_paths, label_in, path_in, string_shown}
 use Rattle.ndr_trace_laws.specs.Due.{Stops}
 use Rattle.ndr_trace_laws.specs.Untested.{is_test}
+use Rattle.ndr_trace_value.specs.declared.pointers.PointerSpot.{PointerSpot}
 use Rattle.ndr_trace_value.specs.declared.progress.Ground.{Ground}
 use Rattle.ndr_trace_value.specs.declared.progress.Progress.{Progress}
 use Rattle.ndr_trace_value.specs.declared.progress.Spot.{Spot}
 use Rattle.ndr_trace_value.specs.declared.search.Sought.{Sought}
 use Rattle.ndr_trace_value.specs.LastMembers.{counted_path, counted_variable, whole_types}
-use Rattle.ndr_trace_value.specs.Places.{home_place}
+use Rattle.ndr_trace_value.specs.Places.{home_place, member_variable}
 use Rattle.ndr_trace_value.specs.Traces.{entry_path}
+use Rattle.ndr_trace_value.specs.Variable.{NamesAlone}
 
 -- Octets that are refused at an entry of the stream of a partial graph, and the log of the items before it.
 pub record Known : Type 0 where
@@ -47,6 +50,11 @@ pub record Known : Type 0 where
   -- the index in the log of the count or tag that a failed agreement speaks of
   pub sought : Option ℕ
 
+-- the kind of the item that is sought
+abbrev pub kind_in : List Item → Option ℕ → Option ItemKind
+kind_in log None = None
+kind_in log (Some j) = option_map (λ (i : Item). i.kind) (slice_get log j)
+
 -- what a walk is given: these octets, and maybe others after them, with their log
 pub record IsGround (k : Known) (u : Ground) : Type 0 where
   pub more : List ℕ
@@ -58,6 +66,7 @@ pub record IsGround (k : Known) (u : Ground) : Type 0 where
   pub sought : IsSome u.sought → is_test k.here.entry.kind ≡ true
   pub seeks : is_test k.here.entry.kind ≡ true → IsSome u.sought
   pub sought_is : option_map (λ s. s.item) u.sought ≡ k.sought
+  pub kind_is : option_map (λ s. s.kind) u.sought ≡ kind_in k.log k.sought
   pub no_gap : (j : ℕ) → k.sought ≡ Some j → (i : Item) → slice_get k.log j ≡ Some i → i.kind ≡ item.Gap → ⊥
   pub are_octets : AreOctets k.fetched
   pub is_numbering : IsNumbering k.numbering k.full
@@ -86,6 +95,27 @@ kept k n = kept_by (sought_path k) k.log k.sought n
 abbrev pub kept_variable : Known → ℕ → List ℕ
 kept_variable k n = kept_by (sought_variable k) k.log k.sought n
 
+-- the path of the variable of an attribute that speaks of an item of this kind, of the member with this path
+abbrev pub kind_variable : Option ItemKind → List ℕ → Place → List ℕ
+kind_variable None p x = []
+kind_variable (Some m) p x = member_variable m p x
+
+-- the same of what is sought, where a pointer is
+abbrev pub pointer_variable : Known → Home → ℕ → List ℕ
+pointer_variable k h n = kind_variable (kind_in k.log k.sought) (path_in (home_paths k.setting k.graph h) n) (home_place k.setting k.graph h n)
+
+abbrev pub spot_of : Known → Home → ℕ → PointerSpot
+spot_of k h n = record { home = h; node = n; variable = pointer_variable k h n }
+
+-- Where a walk is at the value of a cell that a pointer names alone, it is known where the pointer is.
+abbrev pub IsFrom : Known → Home → Option PointerSpot → Type 0
+IsFrom k h from =
+    (p : Pointer) (c : ℕ) → NamesAlone k.setting k.graph p c → h ≡ cell_home c → from ≡ Some (spot_of k p.home p.node)
+
+-- the same of the home of what is sought, once it is among the first items of the log
+abbrev pub KeptFrom : Known → ℕ → Option PointerSpot → Type 0
+KeptFrom k n from = (j : ℕ) (i : Item) → k.sought ≡ Some j → slice_get k.log j ≡ Some i → j < n → IsFrom k i.home from
+
 -- the item of this index is at a place
 abbrev pub IsAt : List Item → ℕ → ℕ → Type 0
 IsAt log n place = (i : Item) × (slice_get log n ≡ Some i) × (i.at ≡ place)
@@ -99,12 +129,17 @@ abbrev pub either_path : Bool → List ℕ → List ℕ → List ℕ
 either_path true p q = p
 either_path false p q = q
 
+abbrev pub either_from : Bool → Option PointerSpot → Option PointerSpot → Option PointerSpot
+either_from true p q = p
+either_from false p q = q
+
 -- The items so far have their lines, and then these entries are due.
 pub record IsTracing (k : Known) (p : Progress) (ms : List Entry) : Type 0 where
   pub within : p.next ≤ length k.log
   pub lines : p.lines ≡ explanation k.setting k.graph (take p.next k.log)
   pub path : p.path ≡ kept k p.next
   pub variable : p.variable ≡ kept_variable k p.next
+  pub from : KeptFrom k p.next p.from
   pub due : Stops k.order k.fetched k.numbering k.here (end_to_end p.at ms) (drop p.next k.log)
 
 -- All items have their lines, and the path is that of the entry at which reading stopped; if it stopped at an agreement, that of the value which has
@@ -114,11 +149,14 @@ pub record IsEnded (k : Known) (p : Progress) : Type 0 where
   pub path : ((is_test k.here.entry.kind ≡ true) × (p.path ≡ kept k (length k.log)))
       ⊎ ((is_test k.here.entry.kind ≡ false) × (p.path ≡ entry_path k.setting k.graph k.here.entry))
   pub variable : p.variable ≡ kept_variable k (length k.log)
+  pub from : KeptFrom k (length k.log) p.from
 
--- the levels of a node have the path of its number, which is n, and say which member of a struct it is
+-- The levels of a node have the path of its number, which is n, and say which member of a struct it is. If a pointer names its home alone, it is
+-- known where this pointer is.
 pub record IsSpot (k : Known) (s : Spot) (n : ℕ) : Type 0 where
   pub path : path_to (name_text s.name) (s.top ∷ reverse s.below.now.items) ≡ path_in (home_paths k.setting k.graph s.home) n
   pub place : level_place s.top ≡ home_place k.setting k.graph s.home n
+  pub from : IsFrom k s.home s.from.now
 
 -- an entry of a node
 abbrev pub entry_at : Spot → ℕ → Kind → Entry

@@ -1,10 +1,11 @@
 -- The variable of an agreement that does not hold: the parameter or the member that states what a count or an arm is to be.
 -- `w` is a setting, `g` a partial graph, `m` the entry of the agreement, `a` its attribute, `wanted` the number that is stated, `at` the place of a
--- root, `h` a home, `n` a node's number, `p` the path of a struct, `i` the number of a member, `q` the text that is shown.
+-- root, `h` a home, `n` a node's number, `p` a pointer or the path of a struct, `c` a cell, `i` the number of a member, `q` the text that is shown.
 use Rattle.std.specs.Prelude.{◌≡◌, ◌<◌, ◌+◌, ℕ, zero, suc, ℤ, List, [], ◌∷◌, Option, None, Some}
 use Rattle.std.specs.List.{slice_get}
 use Rattle.nd_types.specs.declared.types.Attr.{Attr}
 use Rattle.nd_types.specs.declared.types.AttrVar.{AttrVar}
+use Rattle.nd_types.specs.declared.types.Class.TheVariants.{Full}
 use Rattle.nd_types.specs.declared.types.Field.{Field}
 use Rattle.nd_types.specs.declared.types.TypeDef.TheVariants as def
 use Rattle.nd_types.specs.Roots.{Root}
@@ -13,8 +14,10 @@ use Rattle.nd_value.specs.declared.item.Home.{Home}
 use Rattle.nd_value.specs.declared.item.Home.TheVariants as home
 use Rattle.nd_value.specs.declared.value.Graph.{Graph}
 use Rattle.nd_value.specs.Agreement.{number_in, wanted_by}
+use Rattle.nd_value.specs.Deferral.{Pending}
 use Rattle.nd_value.specs.Nodes.{TypedNode, home_nodes}
-use Rattle.nd_value.specs.Setting.{Among, Setting, root_list}
+use Rattle.nd_value.specs.Homes.{all_pointers}
+use Rattle.nd_value.specs.Setting.{Among, Setting, cell_home, root_list}
 use Rattle.nd_value.specs.Tree.{Trees, more, node, node_count, none}
 use Rattle.nd_value.specs.Variables.{variable}
 use Rattle.nd_grammar.specs.Entry.{Entry}
@@ -74,10 +77,30 @@ pub record OfMember (w : Setting) (g : Graph) (h : Home) (n : ℕ) (a : Attr) (w
   pub wanted_is : wanted ≡ wanted_by a value
   pub path : q ≡ numbered_path (path_in (home_paths w g h) struct.node) members by.var
 
+-- ## Referents
+
+-- A reference or unique pointer names this cell: then no other pointer does.
+pub record NamesAlone (w : Setting) (g : Graph) (p : Pending) (c : ℕ) : Type 0 where
+  pub among : Among (all_pointers w g) p
+  pub cell : p.cell ≡ Some c
+  pub unshared : p.class ≡ Full → ⊥
+
+-- the agreement speaks of the referent of such a pointer
+abbrev pub IsOfReferent : Setting → Graph → Entry → Pending → Type 0
+IsOfReferent w g m p = (c : ℕ) × NamesAlone w g p c × (m.home ≡ cell_home c) × (m.node ≡ 0)
+
+-- the pointer is the value of a root
+abbrev pub IsAtRoot : Pending → ℕ → Type 0
+IsAtRoot p at = (p.home ≡ home.Root at) × (p.node ≡ 0)
+
 -- ## The variable
 
--- If an agreement speaks of a parameter's own value, this is the name of its variable; if it speaks of a member of a struct, this is the path of its
--- variable. Of the referents of pointers nothing is said.
+-- If an agreement speaks of a parameter's own value, or of the referent of a parameter that is a reference or unique pointer, this is the name of its
+-- variable; if it speaks of a member of a struct, or of the referent of a member that is such a pointer, this is the path of its variable. Of the
+-- referents of full pointers, which may share them, nothing is said.
 pub record IsVariable (w : Setting) (g : Graph) (m : Entry) (a : Attr) (wanted : ℤ) (q : List ℕ) : Type 0 where
   pub own : (at : ℕ) (root : Root) → slice_get (root_list w) at ≡ Some root → IsOfRoot m at → IsStated w g root a wanted q
   pub member : 0 < m.node → OfMember w g m.home m.node a wanted q
+  pub referent : (p : Pending) → IsOfReferent w g m p → 0 < p.node → OfMember w g p.home p.node a wanted q
+  pub root_referent : (p : Pending) → IsOfReferent w g m p → (at : ℕ) (root : Root) → slice_get (root_list w) at ≡ Some root → IsAtRoot p at
+      → IsStated w g root a wanted q

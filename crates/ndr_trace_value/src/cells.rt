@@ -5,9 +5,10 @@ ghost use Rattle.nd_value.specs.Deferral.{Placed_cells};
 ghost use Rattle.nd_grammar.specs.Entry.{Entry, Number};
 ghost use Rattle.nd_grammar.specs.Represents.{IsNumber};
 ghost use Rattle.ndr_trace_value.specs.declared.progress.Halt.TheVariants as halts;
-ghost use Rattle.ndr_trace_value.specs.Naming.{HasNamed, IsFine, IsNaming, named_by, names_of, stands_at};
+ghost use Rattle.ndr_trace_value.specs.Naming.{HasNamed, IsFine, IsNaming, named_by, names_of, only_spot, stands_at};
 ghost use Rattle.ndr_trace_value.specs.Tracing.{Known};
 
+use crate::pointers::PointerSpot;
 use crate::progress::Halt;
 use nd_base::Memory;
 use nd_types::{Class, TypeId};
@@ -15,10 +16,12 @@ use nd_value::CellId;
 use ndr_refs::{RefFault, Referents};
 
 /// A pointer whose referent was not come to yet.
-#[derive(Clone, Copy, Drop)]
+#[derive(Drop)]
 pub struct Pending {
     pub cell: CellId,
     pub to: TypeId,
+    /// Where the pointer is, if it is the only one that names the cell.
+    pub from: Option<PointerSpot>,
 }
 
 /// The cells that are named so far.
@@ -88,9 +91,11 @@ pub fn name_cell(
     class: Class,
     to: TypeId,
     number: u32,
+    from: Option<PointerSpot>,
 ) -> Result<Option<CellId>, Halt>
     ensures names { (k : Known) (x : Option ℕ) (m : Entry) (names : Placed_cells) → m.kind ≡ Number class to.0 x
-        → IsNaming k cells.old (named_by m.kind ++ names) → IsNumber k.numbering class x number → IsFine k.graph class to.0 x
+        → from ≡ only_spot k class m.home m.node → IsNaming k cells.old (named_by m.kind ++ names)
+        → IsNumber k.numbering class x number → IsFine k.graph class to.0 x
         → IfOk result (λ r. (option_map (λ c. c.0) r ≡ x) × HasNamed k cells.old cells.new (m ∷ []) names) }
     ensures paid { OnOk result (length cells.new.pending.items ≤ length cells.old.pending.items + 1) }
     ensures memory { IfErr result (λ e. e ≡ halts.Memory) }
@@ -99,7 +104,7 @@ pub fn name_cell(
     let Some(cell) = named else {
         return Ok(None);
     };
-    let Ok(()) = cells.pending.push(Pending { cell, to }) else {
+    let Ok(()) = cells.pending.push(Pending { cell, to, from }) else {
         return Err(Halt::Memory);
     };
     Ok(named)

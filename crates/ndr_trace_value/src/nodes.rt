@@ -13,12 +13,13 @@ ghost use Rattle.ndr_explain.specs.Cursors.{level_paths, level_places, level_typ
 ghost use Rattle.ndr_explain.specs.Explained.{home_flats, label_in};
 ghost use Rattle.ndr_trace_value.specs.declared.progress.Halt.TheVariants as halts;
 ghost use Rattle.ndr_trace_value.specs.Naming.{HasNamed, IsFine, IsNaming, named_by, names_in};
-ghost use Rattle.ndr_trace_value.specs.Tracing.{Known, IsEnded, IsGround, IsSpot, IsTracing, entry_at};
+ghost use Rattle.ndr_trace_value.specs.Tracing.{Known, IsEnded, IsFrom, IsGround, IsSpot, IsTracing, entry_at};
 ghost use Rattle.ndr_trace_value.specs.Walking.{AreThere, ComesTo, HavePaid, IsNode, IsPaid, IsReady, IsSeen, flat_shape, own_due, values_due};
 ghost use Rattle.ndr_trace_value.specs.Walking.{width_by};
 
 use crate::cells::{Cells, name_cell};
 use crate::members::{reach, seen_node};
+use crate::pointers::{PointerSpot, next_node, only_pointer};
 use crate::progress::{Ground, Halt, Progress, Spot, count, gap, item};
 use crate::search::Search;
 use crate::shapes::{Shape, as_seen};
@@ -43,15 +44,16 @@ pub fn walk_level<'a>(
     home: Home,
     name: HomeName<'a>,
     max: u32,
+    from: &Option<PointerSpot>,
     first: Level<'a>,
 ) -> Result<(), Halt>
-    ensures goes { 0 < length (level_types first.entry) → (k : Known) → IsGround k ground.now → (n : ℕ) (left : Trees)
+    ensures goes { 0 < length (level_types first.entry) → (k : Known) → IsGround k ground.now → IsFrom k home from.now → (n : ℕ) (left : Trees)
         → AreThere k home max (level_types first.entry) (level_paths (name_text name.entry) first.entry) (level_places first.entry) n left
         → (rest : List Entry) → IsTracing k walker.old.progress (values_due k home (level_types first.entry) n left ++ rest)
         → (names : Placed_cells) → IsNaming k walker.old.cells (names_in (values_due k home (level_types first.entry) n left) ++ names)
         → IfOk result (λ _. IsTracing k walker.new.progress rest
         × HasNamed k walker.old.cells walker.new.cells (values_due k home (level_types first.entry) n left) names) }
-    ensures ends { 0 < length (level_types first.entry) → (k : Known) → IsGround k ground.now → (n : ℕ) (left : Trees)
+    ensures ends { 0 < length (level_types first.entry) → (k : Known) → IsGround k ground.now → IsFrom k home from.now → (n : ℕ) (left : Trees)
         → AreThere k home max (level_types first.entry) (level_paths (name_text name.entry) first.entry) (level_places first.entry) n left
         → (rest : List Entry) → IsTracing k walker.old.progress (values_due k home (level_types first.entry) n left ++ rest)
         → (names : Placed_cells) → IsNaming k walker.old.cells (names_in (values_due k home (level_types first.entry) n left) ++ names)
@@ -64,7 +66,7 @@ pub fn walk_level<'a>(
     };
     // No log within the limit of a stream has so many nodes.
     for _turn in 0..u64::MAX {
-        let Some(next) = take_node(ground, walker, home, name, max, levels)? else {
+        let Some(next) = take_node(ground, walker, home, name, max, from, levels)? else {
             return Ok(());
         };
         levels = next;
@@ -79,9 +81,10 @@ fn take_node<'a>(
     home: Home,
     name: HomeName<'a>,
     max: u32,
+    from: &Option<PointerSpot>,
     levels: Levels<'a>,
 ) -> Result<Option<Levels<'a>>, Halt>
-    ensures goes { 0 < length (level_types levels.entry.top) → (k : Known) → IsGround k ground.now → (n : ℕ) (left : Trees)
+    ensures goes { 0 < length (level_types levels.entry.top) → (k : Known) → IsGround k ground.now → IsFrom k home from.now → (n : ℕ) (left : Trees)
         → AreThere k home max (types_from levels.entry.top (reverse levels.entry.below.items))
         (paths_from (name_text name.entry) levels.entry.top (reverse levels.entry.below.items))
         (places_from levels.entry.top (reverse levels.entry.below.items)) n left
@@ -91,7 +94,7 @@ fn take_node<'a>(
         → IsNaming k walker.old.cells (names_in (values_due k home (types_from levels.entry.top (reverse levels.entry.below.items)) n left) ++ names)
         → IfOk result (ComesTo k home max (name_text name.entry)
         (values_due k home (types_from levels.entry.top (reverse levels.entry.below.items)) n left) rest names walker.old walker.new) }
-    ensures ends { 0 < length (level_types levels.entry.top) → (k : Known) → IsGround k ground.now → (n : ℕ) (left : Trees)
+    ensures ends { 0 < length (level_types levels.entry.top) → (k : Known) → IsGround k ground.now → IsFrom k home from.now → (n : ℕ) (left : Trees)
         → AreThere k home max (types_from levels.entry.top (reverse levels.entry.below.items))
         (paths_from (name_text name.entry) levels.entry.top (reverse levels.entry.below.items))
         (places_from levels.entry.top (reverse levels.entry.below.items)) n left
@@ -109,6 +112,7 @@ fn take_node<'a>(
         name,
         top,
         below: &below,
+        from,
     };
     reach(ground, walker, &spot)?;
     let shape = own_items(
@@ -350,8 +354,10 @@ fn pointer<'a>(
     ensures paid { IfOk result (λ _. HavePaid progress.old cells.old progress.new cells.new) }
 {
     gap(ground, progress, 4, spot)?;
+    let node = next_node(ground, progress);
     let number = count(ground, progress, spot)?;
-    let cell = name_cell(cells, class, to, number)?;
+    let from = only_pointer(ground, class, node, spot)?;
+    let cell = name_cell(cells, class, to, number, from)?;
     Ok(Shape::Ptr(cell))
 }
 

@@ -1,12 +1,15 @@
 // The variables of parameters, where an agreement is sought.
-ghost use Rattle.std.specs.Prelude.{◌≡◌, [], IfOk, None, Some, option_map};
+ghost use Rattle.std.specs.Prelude.{◌≡◌, [], ℕ, IfOk, None, Some, option_map};
 ghost use Rattle.std.specs.List.{slice_get};
+ghost use Rattle.nd_types.specs.declared.types.AttrVar.{AttrVar as AttrVarValue};
 ghost use Rattle.nd_types.specs.Walk.{named_roots, root_value};
 ghost use Rattle.text_grammar.specs.Written.{parameter_name as name_of_param};
-ghost use Rattle.ndr_trace_value.specs.Attributes.{IsKeptName, IsOwnName, home_attribute, number_attribute as by_number};
-ghost use Rattle.ndr_trace_value.specs.Attributes.{param_attribute as by_param, root_attribute as by_root};
+ghost use Rattle.ndr_trace_value.specs.declared.pointers.PointerSpot.{PointerSpot as PointerSpotValue};
+ghost use Rattle.ndr_trace_value.specs.Attributes.{IsKeptName, IsOwnName, IsPointedName, IsPointedPath, home_attribute};
+ghost use Rattle.ndr_trace_value.specs.Attributes.{number_attribute as by_number, param_attribute as by_param, root_attribute as by_root};
 
 use crate::members::number_of;
+use crate::pointers::{PointerSpot, pointed_path};
 use crate::progress::Ground;
 use crate::search::{Search, Sought, attribute, stated_by};
 use nd_base::{Memory, Octets};
@@ -73,15 +76,18 @@ fn seen_cell(search: &mut Search<'_>, cell: CellId, number: Option<i128>) -> Res
 }
 
 /// The path of the variable that states the number at a failed agreement: where the walk kept this path, as it does for members of structs, or else
-/// by what variables state of the cell that a pointer names.
+/// by the pointer that names the cell alone, or by what variables state of a cell that pointers name.
 pub fn variable_path(
     ground: &Ground<'_>,
     search: &Search<'_>,
     sought: Sought,
     kept: &Octets,
+    from: &Option<PointerSpot>,
 ) -> Result<Octets, Memory>
     ensures own { IfOk result (λ path. IsOwnName ground.now sought path) }
     ensures kept { IfOk result (λ path. IsKeptName ground.now sought kept.now path) }
+    ensures pointed { IfOk result (λ path. IsPointedName ground.now sought from.now kept.now path) }
+    ensures beside { IfOk result (λ path. IsPointedPath ground.now sought from.now kept.now path) }
 {
     let Some(operation) = ground.interface.operations.get(ground.op as usize) else {
         return Ok(Octets::new(ground.alloc));
@@ -92,7 +98,7 @@ pub fn variable_path(
             Ok(name)
         }
         None => {
-            let path = other_path(ground, search, sought, kept.as_slice())?;
+            let path = other_path(ground, operation, search, sought, kept.as_slice(), from)?;
             Ok(path)
         }
     }
@@ -166,19 +172,59 @@ fn parameter_name(alloc: Global, operation: &Operation, by: AttrVar) -> Result<O
 // The path of a variable that states the number of what is no parameter's own value.
 fn other_path(
     ground: &Ground<'_>,
+    operation: &Operation,
     search: &Search<'_>,
     sought: Sought,
     kept: &[u8],
+    from: &Option<PointerSpot>,
 ) -> Result<Octets, Memory>
-    ensures { IfOk result (λ path. (kept.now ≡ [] → ⊥) → path ≡ kept.now) }
+    requires there { slice_get ground.now.interface.now.operations ground.now.op ≡ Some operation.now }
+    ensures kept { IfOk result (λ path. (kept.now ≡ [] → ⊥) → path ≡ kept.now) }
+    ensures pointed { IfOk result (λ path. kept.now ≡ [] → (f : PointerSpotValue) → from.now ≡ Some f → f.node ≡ 0 → (by : AttrVarValue)
+        → home_attribute operation.now sought.kind (named_roots ground.now.interface.now.types ground.now.side operation.now) f.home ≡ Some by
+        → path ≡ name_of_param (slice_get operation.now.params by.var)) }
+    ensures beside { IfOk result (λ path. kept.now ≡ [] → (f : PointerSpotValue) → from.now ≡ Some f → (f.node ≡ 0 → ⊥) → (f.variable ≡ [] → ⊥)
+        → path ≡ f.variable) }
 {
     if kept.len() > 0 {
         let path = Octets::copy(ground.alloc, kept)?;
         return Ok(path);
     }
+    if let Some(by) = pointer_attribute(ground, operation, sought, from) {
+        let name = parameter_name(ground.alloc, operation, by)?;
+        return Ok(name);
+    }
+    let stated = pointed_path(from);
+    if stated.len() > 0 {
+        let path = Octets::copy(ground.alloc, stated)?;
+        return Ok(path);
+    }
     let mut path = Octets::new(ground.alloc);
     append_variable(ground, search, sought, &mut path)?;
     Ok(path)
+}
+
+// The attribute that speaks of what is sought, if that is the referent of a parameter that is a pointer.
+fn pointer_attribute(
+    ground: &Ground<'_>,
+    operation: &Operation,
+    sought: Sought,
+    from: &Option<PointerSpot>,
+) -> Option<AttrVar>
+    requires there { slice_get ground.now.interface.now.operations ground.now.op ≡ Some operation.now }
+    ensures own { (f : PointerSpotValue) → from.now ≡ Some f → f.node ≡ 0 → result
+        ≡ home_attribute operation.now sought.kind (named_roots ground.now.interface.now.types ground.now.side operation.now) f.home }
+    ensures none { (f : PointerSpotValue) → from.now ≡ Some f → (f.node ≡ 0 → ⊥) → result ≡ None }
+{
+    let Some(pointer) = from else {
+        return None;
+    };
+    let subject = Sought {
+        home: pointer.home,
+        node: pointer.node,
+        ..sought
+    };
+    own_attribute(ground, operation, subject)
 }
 
 // Adds the path of the variable that states the number.

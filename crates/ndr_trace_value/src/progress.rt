@@ -12,9 +12,10 @@ ghost use Rattle.ndr_trace_value.specs.declared.progress.Halt.TheVariants as hal
 ghost use Rattle.ndr_trace_value.specs.LastMembers.{counted_path, level_variable, whole_types};
 ghost use Rattle.ndr_trace_value.specs.Tracing.{Known, Holds, HoldsCount, HasLabel, IsCount, IsCounted, IsEnded, IsGround, IsInFront, IsItem};
 ghost use Rattle.ndr_trace_value.specs.Tracing.{IsShown, IsSpot, IsTracing};
-ghost use Rattle.ndr_trace_value.specs.Tracing.{either_path, entry_at, is_sought as is_sought_item};
+ghost use Rattle.ndr_trace_value.specs.Tracing.{either_from, either_path, entry_at, is_sought as is_sought_item};
 
 use crate::counted::{append_counted, stated_path};
+use crate::pointers::{PointerSpot, copy_spot};
 use crate::search::Sought;
 use nd_base::{Memory, Octets, Order};
 use nd_flat::Fit;
@@ -53,6 +54,8 @@ pub struct Progress {
     pub path: Octets,
     /// The path of the variable that states a count or a tag of a member of a struct, once that was passed and if it is sought.
     pub variable: Octets,
+    /// Where the pointer is that names the home of what is sought, once that was passed and if it is the only one that names it.
+    pub from: Option<PointerSpot>,
 }
 
 /// Why a walk over the items ends.
@@ -81,6 +84,8 @@ pub struct Spot<'s, 'a> {
     pub name: HomeName<'a>,
     pub top: Level<'a>,
     pub below: &'s Vec<Level<'a>>,
+    /// Where the pointer is that names the home, if it is the only one that names it.
+    pub from: &'s Option<PointerSpot>,
 }
 
 /// Passes the gap before an aligned item, with a line if it is not empty.
@@ -154,6 +159,8 @@ fn keep(
         (level_variable ground.now.interface.now.types kind spot.now.top
         (path_to (name_text spot.now.name) (spot.now.top ∷ reverse spot.now.below.now.items))
         (path_to (name_text spot.now.name) (reverse spot.now.below.now.items))) progress.old.variable) }
+    ensures from { OnOk result (progress.new.from
+        ≡ either_from (is_sought_item ground.now.sought progress.old.next) spot.now.from.now progress.old.from) }
     ensures lines { progress.new.lines ≡ progress.old.lines }
     ensures next { progress.new.next ≡ progress.old.next }
     ensures at { progress.new.at ≡ progress.old.at }
@@ -164,6 +171,7 @@ fn keep(
     append_path(&mut progress.path, spot)?;
     append_counted(&ground.interface.types, &mut progress.path, kind, spot.top)?;
     progress.variable = stated_path(ground.alloc, &ground.interface.types, kind, spot)?;
+    progress.from = copy_spot(ground.alloc, spot.from)?;
     Ok(())
 }
 
@@ -247,6 +255,7 @@ fn pass(progress: &mut Progress, item: &Item)
     ensures lines { progress.new.lines ≡ progress.old.lines }
     ensures path { progress.new.path ≡ progress.old.path }
     ensures variable { progress.new.variable ≡ progress.old.variable }
+    ensures from { progress.new.from ≡ progress.old.from }
 {
     progress.next += 1;
     progress.at = u64::from(item.at) + u64::from(item.len);
@@ -259,6 +268,7 @@ fn end(ground: &Ground<'_>, progress: &mut Progress, spot: &Spot<'_, '_>) -> Hal
         → progress.new.path ≡ path_to (progress.old.path ++ name_text spot.now.name) (spot.now.top ∷ reverse spot.now.below.now.items) }
     ensures same { IsSome ground.now.sought → progress.new.path ≡ progress.old.path }
     ensures variable { progress.new.variable ≡ progress.old.variable }
+    ensures from { progress.new.from ≡ progress.old.from }
 {
     if ground.sought.is_some() {
         return Halt::Here;

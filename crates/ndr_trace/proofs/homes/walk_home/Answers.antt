@@ -10,24 +10,24 @@ use Rattle.ndr_trace_value.proofs.Passing.{err_as}
 use Rattle.ndr_trace.proofs.homes.walk_home.Goals as goal
 
 pub returns-in_err-walk_level-clause-ends : goal.returns-in_err-walk_level-clause-ends
-returns-in_err-walk_level-clause-ends c k u a rest names tr nm e =
-    let front = c.in_ok-max.ensures.goes k u a rest tr in
+returns-in_err-walk_level-clause-ends c k u a from rest names tr nm e =
+    let front = c.in_ok-max.ensures.goes k u a from rest tr in
     let naming =
     subst (λ z. IsNaming k z (names_in (values_due k c.args.home (c.args.of.0 ∷ []) 0 (more (home_value k.graph c.args.home) none)) ++ names)) (sym c.in_ok-max.ensures.cells)
     (subst (λ ns. IsNaming k c.args.walker.now.cells (ns ++ names)) (value_names k c.args.home c.args.of.0) nm) in
-    c.in_err-walk_level.ensures.ends (omega arith) k u 0 (more (home_value k.graph c.args.home) none)
+    c.in_err-walk_level.ensures.ends (omega arith) k u from 0 (more (home_value k.graph c.args.home) none)
     (home_there k c.args.home c.args.name c.args.of.0 c.in_ok-max.max a front.1) rest front.0 names naming
     (err_as c.from_residual-in_err-walk_level.result c.in_err-walk_level.field-0.0 halts.Here c.from_residual-in_err-walk_level.ensures.1 e)
 
 pub returns-clause-goes : goal.returns-clause-goes
-returns-clause-goes c k u a rest names tr nm =
-    let front = c.in_ok-max.ensures.goes k u a rest tr in
+returns-clause-goes c k u a from rest names tr nm =
+    let front = c.in_ok-max.ensures.goes k u a from rest tr in
     let due = values_due k c.args.home (c.args.of.0 ∷ []) 0 (more (home_value k.graph c.args.home) none) in
     let naming =
     subst (λ z. IsNaming k z (names_in due ++ names)) (sym c.in_ok-max.ensures.cells)
     (subst (λ ns. IsNaming k c.args.walker.now.cells (ns ++ names)) (value_names k c.args.home c.args.of.0) nm) in
     let walked =
-    c.in_ok-walk_level.ensures.goes (omega arith) k u 0 (more (home_value k.graph c.args.home) none)
+    c.in_ok-walk_level.ensures.goes (omega arith) k u from 0 (more (home_value k.graph c.args.home) none)
     (home_there k c.args.home c.args.name c.args.of.0 c.in_ok-max.max a front.1) rest front.0 names naming in
     let before : c.len-before.result ≡ length c.args.walker.now.cells.pending.items = search rules in (
       walked.0,

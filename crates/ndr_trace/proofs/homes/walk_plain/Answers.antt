@@ -7,16 +7,17 @@ use Rattle.ndr_trace.specs.Homes.{HasHome, direct_of}
 use Rattle.ndr_trace.proofs.PartialHomes.{root_has_home}
 use Rattle.ndr_trace_value.proofs.Passing.{err_as}
 use Rattle.ndr_trace.proofs.RootWalks.{own_of}
+use Rattle.ndr_trace.proofs.SolePointers.{from_root}
 use Rattle.ndr_trace.proofs.homes.walk_plain.Goals as goal
 
 pub returns-in_err-walk_home-clause-ends : goal.returns-in_err-walk_home-clause-ends
 returns-in_err-walk_home-clause-ends c k u s r never due rest names empty a e =
     let at_it = own_of k due rest names s c.args.at c.args.root (named.Word c.args.root.name) r never c.args.walker.now refl a empty in
-    c.in_err-walk_home.ensures.ends k u at_it.its at_it.later at_it.after_names at_it.tracing at_it.naming
+    c.in_err-walk_home.ensures.ends k u at_it.its (from_root k c.args.at) at_it.later at_it.after_names at_it.tracing at_it.naming
     (err_as c.from_residual.result c.in_err-walk_home.field-0.0 halts.Here c.from_residual.ensures.1 e)
 
 pub returns-clause-goes : goal.returns-clause-goes
 returns-clause-goes c k u s r never due rest names empty a =
     let at_it = own_of k due rest names s c.args.at c.args.root (named.Word c.args.root.name) r never c.args.walker.now refl a empty in
-    let walked = c.in_ok-walk_home.ensures.goes k u at_it.its at_it.later at_it.after_names at_it.tracing at_it.naming in
+    let walked = c.in_ok-walk_home.ensures.goes k u at_it.its (from_root k c.args.at) at_it.later at_it.after_names at_it.tracing at_it.naming in
     at_it.after c.walk_home.new.walker walked.0 walked.1

@@ -2,7 +2,7 @@ use Rattle.std.proofs.Common.{◌≡◌, rules, true, false, refl, sym, ◌∙�
 use Rattle.ndr_trace_value.specs.declared.progress.Halt.TheVariants as halts
 use Rattle.ndr_trace_value.specs.declared.nodes.Walker.{Walker}
 use Rattle.ndr_trace_value.proofs.Passing.{err_as}
-use Rattle.ndr_trace.proofs.Referents.{entering, skipped}
+use Rattle.ndr_trace.proofs.Referents.{entering, referent_from, skipped}
 use Rattle.ndr_trace.proofs.homes.walk_referent.Goals as goal
 
 pub returns-then-not-first-clause-goes : goal.returns-then-not-first-clause-goes
@@ -18,7 +18,7 @@ returns-in_err-walk_home-clause-ends c k u s due rest names n e =
     let at_it =
     entering k due rest names c.args.walker.now v c.args.next s n (sym yes ∙ c.in_ok-first.ensures.first) c.in_ok-first.ensures.stands c.in_ok-first.ensures.others
     c.in_ok-first.ensures.count c.in_ok-first.ensures.numbers c.in_ok-first.ensures.pending refl in
-    c.in_err-walk_home.ensures.ends k u at_it.its at_it.later at_it.after_names at_it.tracing at_it.naming
+    c.in_err-walk_home.ensures.ends k u at_it.its (referent_from k due rest names c.args.walker.now c.args.next s n) at_it.later at_it.after_names at_it.tracing at_it.naming
     (err_as c.from_residual-in_err-walk_home.result c.in_err-walk_home.field-0.0 halts.Here c.from_residual-in_err-walk_home.ensures.1 e)
 
 pub returns-clause-goes : goal.returns-clause-goes
@@ -28,5 +28,5 @@ returns-clause-goes c k u s due rest names n =
     let at_it =
     entering k due rest names c.args.walker.now v c.args.next s n (sym yes ∙ c.in_ok-first.ensures.first) c.in_ok-first.ensures.stands c.in_ok-first.ensures.others
     c.in_ok-first.ensures.count c.in_ok-first.ensures.numbers c.in_ok-first.ensures.pending refl in
-    let walked = c.in_ok-walk_home.ensures.goes k u at_it.its at_it.later at_it.after_names at_it.tracing at_it.naming in
+    let walked = c.in_ok-walk_home.ensures.goes k u at_it.its (referent_from k due rest names c.args.walker.now c.args.next s n) at_it.later at_it.after_names at_it.tracing at_it.naming in
     at_it.after c.walk_home.new.walker walked.0 walked.1

@@ -3,6 +3,7 @@ use Rattle.nd_value.specs.declared.item.Home.TheVariants as homes
 use Rattle.nd_grammar.specs.Entry.{Chunk}
 use Rattle.ndr_trace_value.specs.declared.progress.Halt.TheVariants as halts
 use Rattle.ndr_trace.proofs.ChunkWalk.{at_home, at_none, at_some, elements_end, elements_go, head}
+use Rattle.ndr_trace.proofs.SolePointers.{from_root}
 use Rattle.ndr_trace_value.proofs.Passing.{err_as}
 use Rattle.ndr_trace.proofs.pipes.walk_chunk.Goals as goal
 
@@ -11,7 +12,7 @@ returns-in_err-gap-clause-ends c k u rest names g e =
     let h = homes.Root c.args.at in
     let name = c.args.root.name.now in
     let d = head k h name c.args.elem.0 c.args.before rest names c.args.walker.now g in
-    c.in_err-gap.ensures.ends k u 0 (at_home k h name g.own_path c.args.root.of _ refl refl refl c.new-below.ensures.items)
+    c.in_err-gap.ensures.ends k u 0 (at_home k h name g.own_path c.args.root.of _ refl refl refl c.new-below.ensures.items (from_root k c.args.at))
     (record { home = h; node = 0; kind = Chunk d.size } ∷ d.later) d.tracing
     (err_as c.from_residual.result c.in_err-gap.field-0.0 halts.Here c.from_residual.ensures.1 e)
 
@@ -21,7 +22,7 @@ returns-in_err-size-clause-ends c k u rest names g e =
     let name = c.args.root.name.now in
     let d = head k h name c.args.elem.0 c.args.before rest names c.args.walker.now g in
     let first = c.in_ok-gap.ensures.goes k u 0 (record { home = h; node = 0; kind = Chunk d.size } ∷ d.later) d.tracing in
-    c.in_err-size.ensures.ends k u 0 (at_home k h name g.own_path c.args.root.of _ refl refl refl c.new-below.ensures.items) (Chunk d.size) tt d.later first
+    c.in_err-size.ensures.ends k u 0 (at_home k h name g.own_path c.args.root.of _ refl refl refl c.new-below.ensures.items (from_root k c.args.at)) (Chunk d.size) tt d.later first
     (err_as c.from_residual-in_err-size.result c.in_err-size.field-0.0 halts.Here c.from_residual-in_err-size.ensures.1 e)
 
 pub returns-then-size-eq0-clause-goes : goal.returns-then-size-eq0-clause-goes
@@ -31,7 +32,7 @@ returns-then-size-eq0-clause-goes c k u rest names g =
     let w = c.args.walker.now in
     let d = head k h name c.args.elem.0 c.args.before rest names w g in
     let first = c.in_ok-gap.ensures.goes k u 0 (record { home = h; node = 0; kind = Chunk d.size } ∷ d.later) d.tracing in
-    let both = c.in_ok-size.ensures.goes k u 0 (at_home k h name g.own_path c.args.root.of _ refl refl refl c.new-below.ensures.items) (Chunk d.size) tt tt d.later first in
+    let both = c.in_ok-size.ensures.goes k u 0 (at_home k h name g.own_path c.args.root.of _ refl refl refl c.new-below.ensures.items (from_root k c.args.at)) (Chunk d.size) tt tt d.later first in
     at_none k h name c.args.elem.0 c.args.before rest names w g.node d c.in_ok-size.size both.1 c.if-size-eq0.true c.count.new.progress both.0
 
 pub returns-in_err-walk_level-clause-ends : goal.returns-in_err-walk_level-clause-ends
@@ -41,11 +42,11 @@ returns-in_err-walk_level-clause-ends c k u rest names g e =
     let w = c.args.walker.now in
     let d = head k h name c.args.elem.0 c.args.before rest names w g in
     let first = c.in_ok-gap.ensures.goes k u 0 (record { home = h; node = 0; kind = Chunk d.size } ∷ d.later) d.tracing in
-    let both = c.in_ok-size.ensures.goes k u 0 (at_home k h name g.own_path c.args.root.of _ refl refl refl c.new-below.ensures.items) (Chunk d.size) tt tt d.later first in
+    let both = c.in_ok-size.ensures.goes k u 0 (at_home k h name g.own_path c.args.root.of _ refl refl refl c.new-below.ensures.items (from_root k c.args.at)) (Chunk d.size) tt tt d.later first in
     let el = at_some k h name c.args.elem.0 c.args.before rest names w g.node d c.in_ok-size.size both.1 c.if-size-eq0.false in
     elements_end k h name c.args.elem.0 c.args.before rest names w g.node c.in_ok-size.size d.later el c.count.new.progress both.0
     (λ some ks there others tr more nm.
-    c.in_err-walk_level.ensures.ends some k u g.node ks there others tr more nm
+    c.in_err-walk_level.ensures.ends some k u (from_root k c.args.at) g.node ks there others tr more nm
     (err_as c.from_residual-in_err-walk_level.result c.in_err-walk_level.field-0.0 halts.Here c.from_residual-in_err-walk_level.ensures.1 e))
 
 pub returns-clause-goes : goal.returns-clause-goes
@@ -55,7 +56,7 @@ returns-clause-goes c k u rest names g =
     let w = c.args.walker.now in
     let d = head k h name c.args.elem.0 c.args.before rest names w g in
     let first = c.in_ok-gap.ensures.goes k u 0 (record { home = h; node = 0; kind = Chunk d.size } ∷ d.later) d.tracing in
-    let both = c.in_ok-size.ensures.goes k u 0 (at_home k h name g.own_path c.args.root.of _ refl refl refl c.new-below.ensures.items) (Chunk d.size) tt tt d.later first in
+    let both = c.in_ok-size.ensures.goes k u 0 (at_home k h name g.own_path c.args.root.of _ refl refl refl c.new-below.ensures.items (from_root k c.args.at)) (Chunk d.size) tt tt d.later first in
     let el = at_some k h name c.args.elem.0 c.args.before rest names w g.node d c.in_ok-size.size both.1 c.if-size-eq0.false in
     elements_go k h name c.args.elem.0 c.args.before rest names w g.node c.in_ok-size.size d.later el c.count.new.progress both.0 c.walk_level.new.walker
-    (λ some ks there others tr more nm. c.in_ok-walk_level.ensures.goes some k u g.node ks there others tr more nm)
+    (λ some ks there others tr more nm. c.in_ok-walk_level.ensures.goes some k u (from_root k c.args.at) g.node ks there others tr more nm)

@@ -1,8 +1,9 @@
-use Rattle.std.proofs.Common.{[], ◌∷◌, ◌∙◌, refl, ap}
+use Rattle.std.proofs.Common.{[], ◌+◌, ◌∷◌, ◌∙◌, arith, refl, ap, subst, sym}
 use Rattle.nd_value.specs.Tree as tree
 use Rattle.nd_grammar.specs.Entry.{Number}
 use Rattle.ndr_trace_value.specs.declared.progress.Halt.TheVariants as halts
-use Rattle.ndr_trace_value.specs.Tracing.{entry_at}
+use Rattle.ndr_trace_value.specs.Naming.{only_spot}
+use Rattle.ndr_trace_value.specs.Tracing.{IsSpot, entry_at}
 use Rattle.ndr_trace_value.proofs.OwnItems.{cell_named}
 use Rattle.ndr_trace_value.proofs.Passing.{err_as, memory_only}
 use Rattle.ndr_trace_value.proofs.nodes.pointer.Goals as goal
@@ -24,7 +25,9 @@ returns-clause-goes c k u n sp x fine rest t names nm =
     let m = entry_at s n (Number c.args.class c.args.to.0 x) in
     let first = c.in_ok-gap.ensures.goes k u n (m ∷ rest) t in
     let both = c.in_ok-number.ensures.goes k u n sp (Number c.args.class c.args.to.0 x) tt tt rest first in
-    let named = c.in_ok-cell.ensures.names k x m names refl nm both.1 fine in
+    let node = c.next_node-node.ensures k u m tt rest first (let w = both.0.within in let o = c.in_ok-number.ensures.next in omega (arith, w, o)) in
+    let place = c.in_ok-from.ensures k u (subst (IsSpot k s) (sym node) sp) ∙ ap (only_spot k c.args.class s.home) node in
+    let named = c.in_ok-cell.ensures.names k x m names refl place nm both.1 fine in
     (ap (λ y. (tree.Ptr y, 0)) (cell_named c.in_ok-cell.cell ∙ named.0), (both.0, named.1))
 
 pub returns-in_err-cell-clause-ends : goal.returns-in_err-cell-clause-ends

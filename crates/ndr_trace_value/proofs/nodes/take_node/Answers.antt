@@ -11,12 +11,12 @@ use Rattle.ndr_trace_value.proofs.Passing.{err_as}
 use Rattle.ndr_trace_value.proofs.nodes.take_node.Goals as goal
 
 pub returns-clause-goes : goal.returns-clause-goes
-returns-clause-goes c some k u n left there rest tr names nm =
+returns-clause-goes c some k u from n left there rest tr names nm =
     node_passed k _ c.args.max c.args.levels.top (reverse c.args.levels.below.items) n c.type_of-of.result.0 (c.type_of-of.ensures some) some rest names
     c.args.walker.now c.seen_node.new.walker (flat_shape c.in_ok-shape.shape)
     (visits_around k c.args.ground.now u _ c.args.max c.type_of-of.result.0 n c.args.walker.now c.reach.new.walker c.seen_node.new.walker c.own_items.new.progress
     c.own_items.new.cells (flat_shape c.in_ok-shape.shape) c.reach.ensures.same c.in_ok-reach.ensures.ready (c.in_ok-shape.ensures.goes k u n) c.seen_node.ensures.same)
-    refl refl c.children-inner.result
+    refl refl from c.children-inner.result
     (subst (λ table. IsChildLevel table c.type_of-of.result.0 (flat_shape c.in_ok-shape.shape) c.children-inner.result) u.table
     (subst (λ (f : Flat). IsChildLevel c.args.ground.now.interface.now.types c.type_of-of.result.0 f c.children-inner.result) c.as_seen-seen.ensures c.children-inner.ensures.is))
     (subst (λ table. inner_places c.children-inner.result ≡ child_places (type_at table c.type_of-of.result.0) (inner_types c.children-inner.result)) u.table
@@ -24,12 +24,12 @@ returns-clause-goes c some k u n left there rest tr names nm =
     c.in_ok-next.next c.in_ok-next.ensures.is c.in_ok-next.ensures.places left there tr nm
 
 pub returns-in_err-reach-clause-ends : goal.returns-in_err-reach-clause-ends
-returns-in_err-reach-clause-ends c some k u n left there rest tr names nm e =
+returns-in_err-reach-clause-ends c some k u from n left there rest tr names nm e =
     ended_there k c.args.ground.now u c.args.walker.now.progress c.reach.new.walker.progress _ c.reach.ensures.same.0 tr
     (c.in_err-reach.ensures.ends (err_as c.from_residual.result c.in_err-reach.field-0.0 halts.Here c.from_residual.ensures.1 e))
 
 pub returns-in_err-shape-clause-ends : goal.returns-in_err-shape-clause-ends
-returns-in_err-shape-clause-ends c some k u n left there rest tr names nm e =
+returns-in_err-shape-clause-ends c some k u from n left there rest tr names nm e =
     let same = c.reach.ensures.same in
     let ready = ready_after k c.args.ground.now u c.args.walker.now.progress c.reach.new.walker.progress same.0 c.in_ok-reach.ensures.ready in
     node_stopped k _ c.args.max c.args.levels.top (reverse c.args.levels.below.items) n c.type_of-of.result.0 (c.type_of-of.ensures some) some rest names
@@ -37,7 +37,7 @@ returns-in_err-shape-clause-ends c some k u n left there rest tr names nm e =
     (λ l ks node later tr1 others nm1.
     c.in_err-shape.ensures.ends k u n l ks node ready later (subst (λ p. IsTracing k p (own_due k c.args.home n c.type_of-of.result.0 l ks ++ later)) (sym same.0) tr1) others
     (subst (λ a. IsNaming k a (names_in (own_due k c.args.home n c.type_of-of.result.0 l ks) ++ others)) (sym same.1) nm1)
-    (err_as c.from_residual-in_err-shape.result c.in_err-shape.field-0.0 halts.Here c.from_residual-in_err-shape.ensures.1 e)) refl refl left there tr nm
+    (err_as c.from_residual-in_err-shape.result c.in_err-shape.field-0.0 halts.Here c.from_residual-in_err-shape.ensures.1 e)) refl refl from left there tr nm
 
 pub returns-clause-paid : goal.returns-clause-paid
 returns-clause-paid c =

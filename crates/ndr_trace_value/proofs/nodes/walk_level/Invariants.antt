@@ -4,13 +4,13 @@ use Rattle.nd_value.specs.Tree.{Trees}
 use Rattle.nd_grammar.specs.Entry.{Entry}
 use Rattle.ndr_explain.specs.Cursors.{level_paths, level_places, level_types, name_text}
 use Rattle.ndr_trace_value.specs.Naming.{IsNaming, names_in}
-use Rattle.ndr_trace_value.specs.Tracing.{IsGround, IsTracing, Known}
+use Rattle.ndr_trace_value.specs.Tracing.{IsFrom, IsGround, IsTracing, Known}
 use Rattle.ndr_trace_value.specs.Walking.{AreThere, GoesOn, IsPaid, values_due}
 use Rattle.ndr_trace_value.proofs.nodes.walk_level.Given as goal
 
 abbrev pub invariant-loop-turn : goal.invariant-loop-turn
 invariant-loop-turn l = record {
-  here : 0 < length (level_types l.fn.first) → (k : Known) → IsGround k l.ground → (n : ℕ) (left : Trees)
+  here : 0 < length (level_types l.fn.first) → (k : Known) → IsGround k l.ground → IsFrom k l.home l.from → (n : ℕ) (left : Trees)
       → AreThere k l.home l.max (level_types l.fn.first) (level_paths (name_text l.name) l.fn.first) (level_places l.fn.first) n left
       → (rest : List Entry) → IsTracing k l.fn.walker.progress (values_due k l.home (level_types l.fn.first) n left ++ rest)
       → (names : Placed_cells) → IsNaming k l.fn.walker.cells (names_in (values_due k l.home (level_types l.fn.first) n left) ++ names)

@@ -13,7 +13,7 @@ pub returns-then-progress-len-clause-ends : goal.returns-then-progress-len-claus
 returns-then-progress-len-clause-ends c k u n sp rest t e =
     gap_ends k c.args.ground.now u c.args.spot.now n sp c.args.align rest c.args.progress.now c.end.new.progress
     (some_gap c.args.progress.now.at c.args.align c.requires c.if-progress-align-eq0.false) t (let l = c.len.ensures in let o = c.if-progress-len.true in omega (arith, l, o))
-    c.end.ensures.lines (λ none. c.end.ensures.path none (same_err c.end.result halts.Here e)) c.end.ensures.same c.end.ensures.variable
+    c.end.ensures.lines (λ none. c.end.ensures.path none (same_err c.end.result halts.Here e)) c.end.ensures.same c.end.ensures.variable c.end.ensures.from
 
 pub unreachable-requires : goal.unreachable-requires
 unreachable-requires c =
@@ -26,4 +26,4 @@ pub returns-clause-goes : goal.returns-clause-goes
 returns-clause-goes c k u n rest t =
     gap_goes k c.args.ground.now u c.args.spot.now n c.args.align rest c.args.progress.now c.pass.new.progress
     (some_gap c.args.progress.now.at c.args.align c.requires c.if-progress-align-eq0.false) t c.in-Some.item.now c.in-Some.ensures.some c.append_head.new.text
-    c.append.new.self c.in_ok-append_head.ensures c.in_ok-append.ensures.ok c.pass.ensures.lines c.pass.ensures.next c.pass.ensures.at c.pass.ensures.path c.pass.ensures.variable
+    c.append.new.self c.in_ok-append_head.ensures c.in_ok-append.ensures.ok c.pass.ensures.lines c.pass.ensures.next c.pass.ensures.at c.pass.ensures.path c.pass.ensures.variable c.pass.ensures.from

@@ -1,7 +1,7 @@
 use Rattle.std.proofs.Common.{◌≡◌, rules, Bool, true, false, List, ℕ, ◌++◌, ◌∷◌, ap, sym, ◌∙◌, reverse}
 use Rattle.ndr_explain.specs.Cursors.{name_text, path_to}
 use Rattle.ndr_trace_value.specs.LastMembers.{counted_path, level_variable, whole_types}
-use Rattle.ndr_trace_value.specs.Tracing.{either_path, is_sought}
+use Rattle.ndr_trace_value.specs.Tracing.{either_from, either_path, is_sought}
 use Rattle.ndr_trace_value.proofs.progress.keep.Goals as goal
 
 pub returns-then-not-is_sought-clause-path : goal.returns-then-not-is_sought-clause-path
@@ -24,6 +24,20 @@ returns-then-not-is_sought-clause-variable c =
     (path_to (name_text s.name) (reverse s.below.now.items)) in
     let never : is_sought c.args.ground.now.sought p.next ≡ false = sym c.is_sought.ensures ∙ no in
     sym (ap (λ b. either_path b text p.variable) never)
+
+pub returns-then-not-is_sought-clause-from : goal.returns-then-not-is_sought-clause-from
+returns-then-not-is_sought-clause-from c =
+    let no : c.is_sought.result ≡ false = search rules in
+    let p = c.args.progress.now in
+    let never : is_sought c.args.ground.now.sought p.next ≡ false = sym c.is_sought.ensures ∙ no in
+    sym (ap (λ b. either_from b c.args.spot.now.from.now p.from) never)
+
+pub returns-clause-from : goal.returns-clause-from
+returns-clause-from c =
+    let yes : c.is_sought.result ≡ true = search rules in
+    let p = c.args.progress.now in
+    let always : is_sought c.args.ground.now.sought p.next ≡ true = sym c.is_sought.ensures ∙ yes in
+    c.in_ok-progress-2.ensures ∙ sym (ap (λ b. either_from b c.args.spot.now.from.now p.from) always)
 
 pub returns-clause-path : goal.returns-clause-path
 returns-clause-path c =
