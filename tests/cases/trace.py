@@ -8,6 +8,8 @@ from case import CLOSED, ROOT, Case, CheckOf, example, interface, lines, octets
 COUNTED = interface("typedef struct { short n; [size_is(n)] long a[*]; } s;", "void put([in] s *p);")
 ARMED = interface("typedef [switch_type(short)] union { [case(1)] long x; [case(2)] ; } u; typedef struct { short k; [switch_is(k)] u v; } e;",
                   "void put([in] e a[2]);")
+COUNTS = interface("typedef struct { short n; short m; [first_is(m), length_is(n)] long a[4]; } s; typedef struct { short n; short m; [length_is(m)] long a[4]; } t;",
+                   "void put([in] s *p, [in] t *q);")
 SHARED = interface("void put([in, ptr] long *p, [in, ptr] short *q);")
 PIPE = interface("typedef pipe long lp;", "void feed([in] lp d);")
 LINKS = interface("typedef struct node { long v; [ptr] struct node *next; } node;", "void ring([in, ptr] node *p);")
@@ -49,6 +51,12 @@ CASES = [
            "8 2 num a[1].k 3", "10 fault NoArm a[1].v"),
     traced("a tag that disagrees", ARMED, "put", "0200 0100 07000000", "2: Disagrees wanted 2 found 1", "0 2 num a[0].k 2", "2 2 tag a[0].v 1",
            "4 4 num a[0].v.x 7", "2 fault Disagrees wanted 2 found 1 a[0].v a[0].k"),
+    traced("an offset that disagrees", COUNTS, "put", "0100 0100 00000000 01000000 05000000", "4: Disagrees wanted 1 found 0", "0 2 num @1.n 1", "2 2 num @1.m 1",
+           "4 4 offset @1.a 0", "8 4 actual @1.a 1", "12 4 num @1.a[0] 5", "4 fault Disagrees wanted 1 found 0 @1.a @1.m"),
+    traced("structs that differ in their attributes", COUNTS, "put", "0200 0000 00000000 02000000 05000000 06000000 0200 0300 00000000 02000000 07000000 08000000",
+           "28: Disagrees wanted 3 found 2", "0 2 num @1.n 2", "2 2 num @1.m 0", "4 4 offset @1.a 0", "8 4 actual @1.a 2", "12 4 num @1.a[0] 5", "16 4 num @1.a[1] 6",
+           "20 2 num @2.n 2", "22 2 num @2.m 3", "24 4 offset @2.a 0", "28 4 actual @2.a 2", "32 4 num @2.a[0] 7", "36 4 num @2.a[1] 8",
+           "28 fault Disagrees wanted 3 found 2 @2.a @2.m"),
     traced("a number of another type", SHARED, "put", "02000000 07000000 02000000", "8: OtherType", "0 4 number p 2", "4 4 num @1 7", "8 fault OtherType q"),
     traced("the second chunk of a pipe", PIPE, "feed", "02000000 01000000 02000000 01000000 0300", "18: Truncated", "0 4 chunk d 2", "4 4 num d[0] 1",
            "8 4 num d[1] 2", "12 4 chunk d 1", "18 fault Truncated d[2]"),
