@@ -22,7 +22,7 @@ use nd_types::{Interface, Side};
 use std::alloc::Global;
 use std::sync::Arc;
 
-/// The values of a side of an operation that a listing says. `op` must be the number of an operation. A response is judged beside no request.
+/// The values of a side of an operation that a listing says. `op` must be the number of an operation. A response is judged without a request.
 ///
 /// # Errors
 /// TooMany; WrongNode, the first node that is wrong, where the listing says no graph of the side; Refused by BadValue, the path of the first misfit
@@ -46,7 +46,7 @@ pub fn build(
     build_beside(alloc, compiled, op, side, None, listing)
 }
 
-/// The values of the response to a request that a listing says, judged beside the request. The request must be the values of an input side.
+/// The values of the response to a request that a listing says, judged with the request. The request must be the values of an input side.
 ///
 /// # Errors
 /// As those of [`build`].
@@ -88,7 +88,7 @@ fn build_given(
     build_beside(alloc, compiled, op, Side::Out, Some(request), listing)
 }
 
-// The values that a listing says, beside a request or beside none.
+// The values that a listing says, with a request or without one.
 fn build_beside(
     alloc: Global,
     compiled: &Arc<Compiled>,

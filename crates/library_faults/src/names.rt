@@ -4,7 +4,7 @@ ghost use Rattle.library_faults.specs.Names.{file_of, name_of};
 
 use command_refusals::{CompatFault, IdlReason, Refusal};
 
-/// The name of the file that is refused or absent; no octets where there is none. Takes no memory.
+/// The name of the file that is refused or absent; no octets if it has none. Takes no memory.
 pub fn file(refusal: &Refusal) -> &[u8]
     ensures { result.now ≡ file_of refusal.now }
 {
@@ -16,7 +16,7 @@ pub fn file(refusal: &Refusal) -> &[u8]
 }
 
 /// The word that is left out, the name that is unknown or declared twice, the path of the value that is refused, or the name of the operation that
-/// differs; no octets where there is none of these. Takes no memory.
+/// differs; no octets if it has none of these. Takes no memory.
 pub fn name(refusal: &Refusal) -> &[u8]
     ensures { result.now ≡ name_of refusal.now }
 {

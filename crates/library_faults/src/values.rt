@@ -9,7 +9,7 @@ use nd_grammar::Reason;
 use nd_value::MisfitReason;
 use wide_numbers::Wide;
 
-// The number that is wanted; 0 where there is none.
+// The number that is wanted; 0 if the fault has none.
 pub(crate) fn wanted(refusal: &Refusal) -> Wide
     ensures { joined_halves result ≡ wanted_of refusal.now }
 {
@@ -34,7 +34,7 @@ pub(crate) fn wanted(refusal: &Refusal) -> Wide
     }
 }
 
-// The number that was found; 0 where there is none.
+// The number that was found; 0 if the fault has none.
 pub(crate) fn found(refusal: &Refusal) -> Wide
     ensures { joined_halves result ≡ found_of refusal.now }
 {

@@ -20,7 +20,7 @@ use ndr_decode::{DecodeFault, decode};
 use std::alloc::Global;
 
 /// The items of the values of a side of an operation that octets begin with, in NDR (C706, chapter 14). `op` must be the number of an operation. A
-/// response is judged beside no request.
+/// response is judged without a request.
 ///
 /// # Errors
 /// BadOctets, at the first faulty place, for the one reason that applies there. Memory where memory was refused.
@@ -43,7 +43,7 @@ pub fn items_of(
     log_beside(alloc, compiled, op, side, None, order, octets)
 }
 
-/// The items of the response to a request that octets begin with, in NDR (C706, chapter 14), judged beside the request. The request must be one, the
+/// The items of the response to a request that octets begin with, in NDR (C706, chapter 14), judged with the request. The request must be one, the
 /// values of an input side.
 ///
 /// # Errors
@@ -86,7 +86,7 @@ fn log_given(
     log_beside(alloc, compiled, op, Side::Out, Some(request), order, octets)
 }
 
-// The items of octets, beside a request or beside none.
+// The items of octets, with a request or without one.
 fn log_beside(
     alloc: Global,
     compiled: &Compiled,

@@ -1,4 +1,4 @@
--- A request beside which a response is judged.
+-- A request with which a response is judged.
 use Rattle.std.proofs.Common.{◌≡◌, ℕ, refl}
 use Rattle.nd_types.specs.declared.interface.Interface.{Interface}
 use Rattle.nd_types.specs.declared.types.Side.TheVariants.{In, Out}

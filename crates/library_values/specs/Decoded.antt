@@ -28,7 +28,7 @@ IsOctetsCause w order octets Memory = ⊤
 IsOctetsCause w order octets (BadOctets place (Refused why)) = Bad w order octets place why
 IsOctetsCause w order octets _ = ⊥
 
--- the values are of this side of this operation, beside this request or beside none
+-- the values are of this side of this operation, with this request or without one
 pub record IsOf (i : Interface) (op : ℕ) (side : Side) (given : Option Graph) (f : Fitting) : Type 0 where
   pub interface_is : f.interface ≡ i
   pub op_is : f.op ≡ op

@@ -23,7 +23,7 @@ use std::sync::Arc;
 
 impl Values {
     /// The values of a side of an operation that octets begin with, in NDR (C706, chapter 14), and how many octets they take. `op` must be the number
-    /// of an operation. A response is judged beside no request.
+    /// of an operation. A response is judged without a request.
     ///
     /// # Errors
     /// BadOctets, at the first faulty place, for the one reason that applies there. Memory where memory was refused.
@@ -47,7 +47,7 @@ impl Values {
         decode_beside(alloc, compiled, op, side, None, order, octets)
     }
 
-    /// The values of the response to a request that octets begin with, in NDR (C706, chapter 14), judged beside the request, and how many octets they
+    /// The values of the response to a request that octets begin with, in NDR (C706, chapter 14), judged with the request, and how many octets they
     /// take. The request must be one, the values of an input side.
     ///
     /// # Errors
@@ -93,7 +93,7 @@ fn decode_given(
     decode_beside(alloc, compiled, op, Side::Out, Some(request), order, octets)
 }
 
-// The values that octets begin with, beside a request or beside none.
+// The values that octets begin with, with a request or without one.
 fn decode_beside(
     alloc: Global,
     compiled: &Arc<Compiled>,

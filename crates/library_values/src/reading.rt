@@ -20,7 +20,7 @@ use std::alloc::Global;
 use std::sync::Arc;
 
 impl Values {
-    /// The values of a side of an operation that a text is read as. `op` must be the number of an operation. A response is judged beside no
+    /// The values of a side of an operation that a text is read as. `op` must be the number of an operation. A response is judged without a
     /// request.
     ///
     /// # Errors
@@ -45,7 +45,7 @@ impl Values {
         read_beside(alloc, compiled, op, side, None, text)
     }
 
-    /// The values of the response to a request that a text is read as, judged beside the request. The request must be one, the values of an input
+    /// The values of the response to a request that a text is read as, judged with the request. The request must be one, the values of an input
     /// side.
     ///
     /// # Errors
@@ -86,7 +86,7 @@ fn read_given(
     read_beside(alloc, compiled, op, Side::Out, Some(request), text)
 }
 
-// The values that a text is read as, beside a request or beside none.
+// The values that a text is read as, with a request or without one.
 fn read_beside(
     alloc: Global,
     compiled: &Arc<Compiled>,

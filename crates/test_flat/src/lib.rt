@@ -1,0 +1,11 @@
+//! Tests of the calls on graphs in flat form: a fit that is built and walked over, rows of numbers, structs side by side.
+#![tactic(auto)]
+
+#[cfg(test)]
+mod fits;
+#[cfg(test)]
+mod interface;
+#[cfg(test)]
+mod rows;
+#[cfg(test)]
+mod structs;
