@@ -288,12 +288,12 @@ uint32_t dceidl_label_order(const uint8_t *octets, size_t length, uint32_t *orde
 
 /* Roots and members by their names. Types have numbers, the same for as long as the interface is held: a program asks once, and reads many values. */
 
-/* Sets the number of the root of a side of an operation that has a name, that of a parameter or `return`, and its type. EMPTY; ARGUMENT: operation or
-   side; ABSENT. */
+/* Sets the number of the first root of a side of an operation that has a name, that of a parameter or `return`, and its type. EMPTY; ARGUMENT:
+   operation or side; ABSENT. */
 uint32_t dceidl_root_named(dceidl_interface *interface, uint32_t operation, uint32_t side, const uint8_t *name, size_t length, size_t *root,
                            uint32_t *type);
 
-/* Sets the index of the member of a struct that has a name, as dceidl_node_part takes it, and its type. EMPTY; ARGUMENT: the type is not a struct;
+/* Sets the index of the first member of a struct that has a name, as dceidl_node_part takes it, and its type. EMPTY; ARGUMENT: the type is not a struct;
    ABSENT. */
 uint32_t dceidl_member_named(dceidl_interface *interface, uint32_t type, const uint8_t *name, size_t length, size_t *member, uint32_t *member_type);
 

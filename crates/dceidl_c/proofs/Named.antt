@@ -30,6 +30,7 @@ root_is i j operation side name s x root of found low side_is at_is type_is same
       there = ap (slice_get (named_roots j.types s o)) at_is ∙ h.there;
       name_is = h.name_is;
       type_is = type_is ∙ h.type_is;
+      first = λ i r low. h.first i r (subst (λ n. i < n) at_is low);
     }))
 
 pub no_root : (i j : Interface) (operation side : ℕ) (name : List ℕ) (s : Side)
@@ -53,6 +54,7 @@ member_is i j of name fs x member member_of there named at_is type_is same =
       there = ap (slice_get fs) at_is ∙ named.there;
       name_is = named.name_is;
       type_is = ap type_numbered type_is ∙ named.type_is;
+      first = λ i f low. named.first i f (subst (λ n. i < n) at_is low);
     }))
 
 pub no_member : (i j : Interface) (of : ℕ) (name : List ℕ) (fs : List Field) → Some fs ≡ members_of (type_at j.types of) → HasNoMember fs name → j ≡ i

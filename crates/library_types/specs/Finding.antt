@@ -1,6 +1,6 @@
 -- Roots and members by name, and the types of parts.
 -- `rs` are the roots of a side, `fs` the members of a struct, `x` is a root or a member that was found.
-use Rattle.std.specs.Prelude.{◌≡◌, ℕ, List, Option, Some, None}
+use Rattle.std.specs.Prelude.{◌≡◌, ℕ, ◌<◌, List, Option, Some, None}
 use Rattle.std.specs.List.{slice_get}
 use Rattle.nd_types.specs.declared.types.Field.{Field}
 use Rattle.nd_types.specs.declared.types.TypeDef.{TypeDef}
@@ -8,23 +8,25 @@ use Rattle.nd_types.specs.declared.types.TypeDef.TheVariants.{Array, Pipe, Point
 use Rattle.nd_types.specs.Walk.{NamedRoot}
 use Rattle.library_types.specs.declared.finding.Named.{Named}
 
--- this is the place of a root of that name, and its type
+-- this is the place of the first root of that name, and its type
 pub record IsRootNamed (rs : List NamedRoot) (name : List ℕ) (x : Named) : Type 0 where
   pub root : NamedRoot
   pub there : slice_get rs x.at ≡ Some root
   pub name_is : root.name ≡ name
   pub type_is : x.of.0 ≡ root.of
+  pub first : (i : ℕ) (r : NamedRoot) → i < x.at → slice_get rs i ≡ Some r → r.name ≡ name → ⊥
 
 -- no root has that name
 abbrev pub HasNoRoot : List NamedRoot → List ℕ → Type 0
 HasNoRoot rs name = (i : ℕ) (r : NamedRoot) → slice_get rs i ≡ Some r → r.name ≡ name → ⊥
 
--- this is the place of a member of that name, and its type
+-- this is the place of the first member of that name, and its type
 pub record IsMemberNamed (fs : List Field) (name : List ℕ) (x : Named) : Type 0 where
   pub member : Field
   pub there : slice_get fs x.at ≡ Some member
   pub name_is : member.name ≡ name
   pub type_is : x.of ≡ member.of
+  pub first : (i : ℕ) (f : Field) → i < x.at → slice_get fs i ≡ Some f → f.name ≡ name → ⊥
 
 -- no member has that name
 abbrev pub HasNoMember : List Field → List ℕ → Type 0

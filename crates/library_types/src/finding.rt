@@ -15,7 +15,8 @@ pub struct Named {
     pub of: TypeId,
 }
 
-/// The root of that name of a side of an operation. `op` must be the number of an operation. Takes no memory.
+/// The first root of that name of a side of an operation: a parameter may be named `return` next to a result. `op` must be the number of an
+/// operation. Takes no memory.
 pub fn root_named(interface: &Interface, op: u32, side: Side, name: &[u8]) -> Option<Named>
     requires { op < length interface.now.operations }
     ensures some { IfSome result (λ r. (o : Operation) → slice_get interface.now.operations op ≡ Some o

@@ -32,6 +32,7 @@ returns-then-eq-clause-some c o there =
       there = given_root all c.loop-root.at _ (root_value c.in-Some.root) c.loop-root.invariant.counted turn;
       name_is = same_names c.in-Some.root.name.now c.args.name.now c.eq.result c.eq.ensures c.if-eq.true;
       type_is = refl;
+      first = c.loop-root.invariant.others o there;
     }
 
 pub loop-root-preserved : goal.loop-root-preserved
