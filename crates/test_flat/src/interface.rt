@@ -6,7 +6,7 @@ ghost use Rattle.nd_value.specs.WorkedFit.{add_params, add};
 
 use nd_base::{Memory, Name};
 use nd_types::{
-    AttrVars, Field, Interface, Operation, Operations, Param, Params, TypeId, Types, Way,
+    AttrVars, Field, Interface, Operation, Operations, Param, Params, Tie, TypeId, Types, Way,
 };
 use std::alloc::Global;
 
@@ -80,4 +80,10 @@ pub(crate) fn interface(alloc: Global) -> Result<Interface, Memory>
         layouts,
         operations,
     })
+}
+
+/// The tie to such an interface.
+pub(crate) fn tie(alloc: Global) -> Result<Tie, Memory> {
+    let interface = interface(alloc)?;
+    Ok(interface.tie())
 }

@@ -1,7 +1,10 @@
 // An array of structs that are kept side by side. It conforms to no operation.
-ghost use Rattle.std.specs.Prelude.{◌≡◌, length, IfOk};
+ghost use Rattle.std.specs.Prelude.{◌≡◌, [], ◌∷◌, length, IfOk};
+ghost use Rattle.nd_types.specs.declared.types.Primitive.TheVariants as prim;
+ghost use Rattle.nd_flat.specs.Records.{IsMembers, members_of};
 
-use crate::interface::interface;
+use crate::building::add_root;
+use crate::interface::tie;
 use nd_base::{Memory, Order};
 use nd_flat::{Builder, FlatGraph, Members, Records, Seen, Walk};
 use nd_types::{Prim, Side, Tie};
@@ -19,17 +22,24 @@ const ARRAY: Seen<'static> = Seen::Arr {
     count: 3,
 };
 
-// Three structs of a byte, a hyper and a short, little-endian, with gaps.
+// A byte, a hyper and a short.
+fn members() -> Members
+    ensures members { members_of result ≡ prim.Byte ∷ prim.Hyper ∷ prim.Short ∷ [] }
+    ensures whole { IsMembers result }
+{
+    Members::none()
+        .with(Prim::Byte)
+        .with(Prim::Hyper)
+        .with(Prim::Short)
+}
+
+// Three structs of these, little-endian, with gaps.
 fn structs(alloc: Global, tie: Tie) -> Result<FlatGraph, Memory>
     ensures roots { IfOk result (λ g. length g.roots ≡ 1) }
 {
-    let members = Members::none()
-        .with(Prim::Byte)
-        .with(Prim::Hyper)
-        .with(Prim::Short);
+    let members = members();
     let mut builder = Builder::begin(alloc, tie, 0, Side::In, None);
-    builder.root()?;
-    builder.add(&ARRAY)?;
+    add_root(&mut builder, &ARRAY)?;
     builder.records(&Records {
         order: Order::Little,
         members,
@@ -72,11 +82,17 @@ fn gives_none_within(walk: Walk<'_>) -> bool {
     walk.step() == Some(ARRAY) && walk.step() == Some(Seen::Rec(3)) && walk.records(9).is_none()
 }
 
+// Whether a graph is the array.
+fn is_array(graph: &FlatGraph) -> bool
+    requires { length graph.now.roots ≡ 1 }
+{
+    gives_array(graph.walk(Home::Root(0))) && gives_none_within(graph.walk(Home::Root(0)))
+}
+
 #[test]
 fn structs_are_given(rt: HostRuntime) -> Result<(), Fail> {
-    let interface = interface(rt.alloc())?;
-    let graph = structs(rt.alloc(), interface.tie())?;
-    assert!(rt; gives_array(graph.walk(Home::Root(0))));
-    assert!(rt; gives_none_within(graph.walk(Home::Root(0))));
+    let tie = tie(rt.alloc())?;
+    let graph = structs(rt.alloc(), tie)?;
+    assert!(rt; is_array(&graph));
     Ok(())
 }
