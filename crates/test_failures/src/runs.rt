@@ -61,27 +61,26 @@ pub(crate) fn run_command(
 ) -> Result<Ran, Memory> {
     let words = words_of(alloc, command.words)?;
     let mut files = files_of(alloc, command.files, failing)?;
-    let ends = ends_of(alloc, failing)?;
-    run_over(alloc, command, failing, &words, &mut files, ends)
-}
-
-fn run_over(
-    alloc: Global,
-    command: &Command,
-    failing: &Failing,
-    words: &Words,
-    files: &mut MemFiles,
-    ends: PipeEnds,
-) -> Result<Ran, Memory>
-    requires { AreOpen (ends_seen seen ends) }
-{
-    let mut ends = ends;
-    let fetches = [failing.fetch, failing.fetch_again];
-    let mut input = MemSource::new(alloc, command.input, command.piece.max(1), &fetches)?;
+    let piece = command.piece.max(1);
+    let mut input = MemSource::new(
+        alloc,
+        command.input,
+        piece,
+        &[failing.fetch, failing.fetch_again],
+    )?;
     let mut out = MemSink::new(alloc, failing.out_room, &[failing.put])?;
     let mut notes = MemSink::new(alloc, failing.notes_room, &[failing.note])?;
-    let status = status_of(
-        alloc, words, files, &mut input, &mut out, &mut notes, &mut ends,
+    let mut ends = PipeEnds::new(alloc);
+    add(
+        &mut ends,
+        mem_end(alloc, failing.end_rooms[0], failing.ends[0])?,
+    )?;
+    add(
+        &mut ends,
+        mem_end(alloc, failing.end_rooms[1], failing.ends[1])?,
+    )?;
+    let status = run(
+        alloc, &words, &mut files, &mut input, &mut out, &mut notes, &mut ends,
     );
     Ok(Ran {
         status,
@@ -90,33 +89,6 @@ fn run_over(
         notes,
         ends,
     })
-}
-
-// The outcome of a command line, without what else its contract says.
-fn status_of(
-    alloc: Global,
-    words: &Words,
-    files: &mut MemFiles,
-    input: &mut MemSource,
-    out: &mut MemSink,
-    notes: &mut MemSink,
-    ends: &mut PipeEnds,
-) -> Status
-    requires { AreOpen (ends_seen seen ends.old) }
-{
-    run(alloc, words, files, input, out, notes, ends)
-}
-
-// Two ends in memory.
-fn ends_of(alloc: Global, failing: &Failing) -> Result<PipeEnds, Memory>
-    ensures { IfOk result (λ ends. AreOpen (ends_seen seen ends)) }
-{
-    let first = mem_end(alloc, failing.end_rooms[0], failing.ends[0])?;
-    let second = mem_end(alloc, failing.end_rooms[1], failing.ends[1])?;
-    let mut ends = PipeEnds::new(alloc);
-    add(&mut ends, first)?;
-    add(&mut ends, second)?;
-    Ok(ends)
 }
 
 fn words_of(alloc: Global, given: &[&str]) -> Result<Words, Memory> {
@@ -184,7 +156,7 @@ pub(crate) fn is_finished(calls: &[Call], which: usize) -> bool {
 }
 
 // The calls that are made once so many octets of the input are read.
-pub(crate) fn calls_by(calls: &'static [Call], read: usize) -> &'static [Call] {
+pub(crate) fn calls_by(calls: &[Call], read: usize) -> &[Call] {
     for (at, call) in calls.iter().enumerate() {
         if call.read > read {
             return &calls[..at];
@@ -194,11 +166,7 @@ pub(crate) fn calls_by(calls: &'static [Call], read: usize) -> &'static [Call] {
 }
 
 // A call of an end by its number, from 1, and the calls before it.
-pub(crate) fn call_of(
-    calls: &'static [Call],
-    which: usize,
-    number: u32,
-) -> Option<(&'static [Call], &'static Call)> {
+pub(crate) fn call_of(calls: &[Call], which: usize, number: u32) -> Option<(&[Call], &Call)> {
     let mut count = 0u32;
     for (at, call) in calls.iter().enumerate() {
         if call.end == which {
@@ -212,11 +180,7 @@ pub(crate) fn call_of(
 }
 
 // The call of an end whose line is past its room, and the calls before it.
-pub(crate) fn call_past(
-    calls: &'static [Call],
-    which: usize,
-    room: usize,
-) -> Option<(&'static [Call], &'static Call)> {
+pub(crate) fn call_past(calls: &[Call], which: usize, room: usize) -> Option<(&[Call], &Call)> {
     let mut length = 0usize;
     for (at, call) in calls.iter().enumerate() {
         if call.end == which {

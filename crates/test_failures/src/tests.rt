@@ -11,7 +11,6 @@ use dceidl::Status;
 use nd_base::{Memory, Octets};
 use std::alloc::Global;
 use std::process::Abort;
-use std::test::Fail;
 
 // More calls than a run makes.
 const MOST: u32 = 200;
@@ -43,85 +42,66 @@ fn command(number: u32) -> Command {
     }
 }
 
-// What fails.
-#[derive(Clone, Copy)]
-enum Kind {
-    Load,
-    /// A file is not there.
-    Absence,
-    Put,
-    /// The first put, and that of the notes.
-    PutAndNote,
-    /// The output holds few octets.
-    Out,
-    Note,
-    /// The notes hold few octets.
-    Notes,
-    /// A call of an end.
-    Call(usize),
-    /// An end holds few octets.
-    End(usize),
-}
-
-// An end that failed: the calls whose lines it took, and how many octets it held.
-#[derive(Clone, Copy)]
-struct Failed {
-    end: usize,
-    calls: &'static [Call],
-    room: usize,
-}
-
 // What has to come of a run.
 #[derive(Clone, Copy)]
-struct Wanted {
+struct Wanted<'a> {
     status: Status,
-    out: &'static [u8],
-    /// The notes are these in a row.
-    notes: [&'static [u8]; 3],
+    out: &'a [u8],
+    notes: &'a [u8],
     /// How many octets of the input are left.
     left: usize,
     /// The calls of the ends.
-    calls: &'static [Call],
-    failed: Option<Failed>,
+    calls: &'a [Call],
+    /// The end that failed, and the octets that it took.
+    failed: Option<(usize, &'a [u8])>,
 }
 
 // What comes of a command where nothing fails.
-fn done(command: &Command) -> Wanted {
+fn done<'a>(command: &Command) -> Wanted<'a> {
     Wanted {
         status: command.status,
         out: command.out,
-        notes: [command.notes, b"", b""],
+        notes: command.notes,
         left: command.left,
         calls: command.calls,
         failed: None,
     }
 }
 
-// Whether a run came to what it had to.
-fn came_to(alloc: Global, ran: &Ran, wanted: &Wanted) -> Result<bool, Memory> {
-    let notes = line(alloc, wanted.notes)?;
-    let first = has_end(alloc, ran, 0, wanted)?;
-    let second = has_end(alloc, ran, 1, wanted)?;
-    Ok(
-        ran.status == wanted.status
-            && ran.out.written() == wanted.out
-            && ran.notes.written() == notes.as_slice()
-            && ran.input.left().len() == wanted.left
-            && first
-            && second,
-    )
+// Runs a command, and compares what comes of it.
+fn expect(
+    rt: &impl Abort,
+    alloc: Global,
+    command: &Command,
+    failing: &Failing,
+    wanted: &Wanted<'_>,
+) {
+    match run_command(alloc, command, failing) {
+        Ok(ran) => compare(rt, alloc, command.name, &ran, wanted),
+        Err(_) => assert!(rt; false, "out of memory"),
+    }
+}
+
+fn compare(rt: &impl Abort, alloc: Global, name: &str, ran: &Ran, wanted: &Wanted<'_>) {
+    assert_eq!(rt; ran.status, wanted.status, "{name}: status");
+    assert_eq!(rt; ran.out.written(), wanted.out, "{name}: out");
+    assert_eq!(rt; ran.notes.written(), wanted.notes, "{name}: notes");
+    assert_eq!(rt; ran.input.left().len(), wanted.left, "{name}: octets left");
+    for which in 0..2usize {
+        match has_end(alloc, ran, which, wanted) {
+            Ok(has) => assert!(rt; has, "{name}: end {which}"),
+            Err(_) => assert!(rt; false, "out of memory"),
+        }
+    }
 }
 
 // Whether an end took what it has to take, and is finished where it has to be.
-fn has_end(alloc: Global, ran: &Ran, which: usize, wanted: &Wanted) -> Result<bool, Memory> {
+fn has_end(alloc: Global, ran: &Ran, which: usize, wanted: &Wanted<'_>) -> Result<bool, Memory> {
     let Some(end) = ran.ends.get(which) else {
         return Ok(false);
     };
-    if let Some(failed) = wanted.failed {
-        if failed.end == which {
-            let lines = lines_of(alloc, failed.calls, which)?;
-            let octets = lines.as_slice();
-            let taken = &octets[..failed.room.min(octets.len())];
+    if let Some((failed, taken)) = wanted.failed {
+        if failed == which {
             return Ok(end.shown() == Some(taken) && end.finished());
         }
     }
@@ -130,342 +110,484 @@ fn has_end(alloc: Global, ran: &Ran, which: usize, wanted: &Wanted) -> Result<bo
 }
 
 // Three texts in a row.
-fn line(alloc: Global, texts: [&[u8]; 3]) -> Result<Octets, Memory> {
-    let mut line = Octets::copy(alloc, texts[0])?;
-    line.append(texts[1])?;
-    line.append(texts[2])?;
+fn line(alloc: Global, first: &str, second: &str, third: &str) -> Result<Octets, Memory> {
+    let mut line = Octets::copy(alloc, first.as_bytes())?;
+    line.append(second.as_bytes())?;
+    line.append(third.as_bytes())?;
     Ok(line)
 }
 
-// Runs a command, and answers whether it came to what it had to.
-fn holds(
-    alloc: Global,
-    command: &Command,
-    failing: &Failing,
-    wanted: &Wanted,
-) -> Result<bool, Memory> {
-    let ran = run_command(alloc, command, failing)?;
-    came_to(alloc, &ran, wanted)
-}
-
 // What comes of a command whose load fails: the input is not read.
-fn unloaded(command: &Command, number: u32, status: Status, word: &'static [u8]) -> Option<Wanted> {
-    let name = command.loads.get(number as usize).copied()?;
-    Some(Wanted {
+fn unloaded<'a>(command: &Command, status: Status, notes: &'a [u8]) -> Wanted<'a> {
+    Wanted {
         status,
         out: b"",
-        notes: [word, name.as_bytes(), b"\n"],
+        notes,
         left: command.input.len(),
         calls: &[],
         failed: None,
-    })
+    }
 }
 
-// What comes of a command whose only put fails.
-fn unwritten(command: &Command, number: u32, notes: &'static [u8]) -> Option<Wanted> {
-    if command.status != 0 || number > 0 {
-        return None;
+// Fails one load, and answers whether the run makes it.
+fn load_fails(rt: &impl Abort, alloc: Global, command: &Command, number: u32) -> bool {
+    let failing = Failing {
+        load: number,
+        ..NONE
+    };
+    let Some(name) = command.loads.get((number as usize).saturating_sub(1)) else {
+        expect(rt, alloc, command, &failing, &done(command));
+        return false;
+    };
+    match line(alloc, "file fault: ", name, "\n") {
+        Ok(notes) => expect(
+            rt,
+            alloc,
+            command,
+            &failing,
+            &unloaded(command, 9, notes.as_slice()),
+        ),
+        Err(_) => assert!(rt; false, "out of memory"),
     }
-    Some(Wanted {
+    true
+}
+
+fn loads_fail(rt: &impl Abort, alloc: Global, command: &Command) {
+    for number in 1..=MOST {
+        if !load_fails(rt, alloc, command, number) {
+            return;
+        }
+    }
+    assert!(rt; false, "too many loads");
+}
+
+// One file is not there.
+fn is_absent(rt: &impl Abort, alloc: Global, command: &Command, name: &'static str) {
+    let failing = Failing {
+        absent: name,
+        ..NONE
+    };
+    match line(alloc, "absent: ", name, "\n") {
+        Ok(notes) => expect(
+            rt,
+            alloc,
+            command,
+            &failing,
+            &unloaded(command, 7, notes.as_slice()),
+        ),
+        Err(_) => assert!(rt; false, "out of memory"),
+    }
+}
+
+fn are_absent(rt: &impl Abort, alloc: Global, command: &Command) {
+    for name in command.loads {
+        is_absent(rt, alloc, command, name);
+    }
+}
+
+// Fails one fetch, and then that one and the next, and answers whether the run makes it. The ends have the lines of the chunks that were read.
+fn fetch_fails(rt: &impl Abort, alloc: Global, command: &Command, number: u32) -> bool {
+    let failing = Failing {
+        fetch: number,
+        ..NONE
+    };
+    let length = command.input.len();
+    let read = (number.saturating_sub(1) as usize).saturating_mul(command.piece as usize);
+    let Ok(ran) = run_command(alloc, command, &failing) else {
+        assert!(rt; false, "out of memory");
+        return false;
+    };
+    if ran.status == command.status {
+        compare(rt, alloc, command.name, &ran, &done(command));
+        return false;
+    }
+    let wanted = Wanted {
+        status: 3,
+        out: b"",
+        notes: b"read fault\n",
+        left: length.saturating_sub(read),
+        calls: calls_by(command.calls, read),
+        failed: None,
+    };
+    compare(rt, alloc, command.name, &ran, &wanted);
+    let twice = Failing {
+        fetch_again: number.saturating_add(1),
+        ..failing
+    };
+    match run_command(alloc, command, &twice) {
+        Ok(ran) => compare(rt, alloc, command.name, &ran, &wanted),
+        Err(_) => assert!(rt; false, "out of memory"),
+    }
+    true
+}
+
+fn fetches_fail(rt: &impl Abort, alloc: Global, command: &Command) {
+    for number in 1..=MOST {
+        if !fetch_fails(rt, alloc, command, number) {
+            return;
+        }
+    }
+    assert!(rt; false, "too many fetches");
+}
+
+// Fails one put of the output, and of the notes too if that is asked for, and answers whether the run makes it.
+fn put_fails(rt: &impl Abort, alloc: Global, command: &Command, number: u32, note: u32) -> bool {
+    let failing = Failing {
+        put: number,
+        note,
+        ..NONE
+    };
+    if command.status != 0 || number > 1 {
+        expect(
+            rt,
+            alloc,
+            command,
+            &Failing {
+                put: number,
+                ..NONE
+            },
+            &done(command),
+        );
+        return false;
+    }
+    let notes: &[u8] = if note == 1 { b"" } else { b"write fault\n" };
+    let wanted = Wanted {
         status: 4,
         out: b"",
-        notes: [notes, b"", b""],
+        notes,
         ..done(command)
-    })
+    };
+    expect(rt, alloc, command, &failing, &wanted);
+    true
 }
 
-// What comes of a command whose output is full.
-fn out_is_full(command: &Command, number: u32) -> Option<Wanted> {
-    if command.status != 0 || number > 2 {
-        return None;
+fn puts_fail(rt: &impl Abort, alloc: Global, command: &Command, note: u32) {
+    for number in 1..=MOST {
+        if !put_fails(rt, alloc, command, number, note) {
+            return;
+        }
     }
-    let out: &'static [u8] = command.out;
-    let taken = (out_room(number) as usize).min(out.len());
-    Some(Wanted {
-        status: 4,
-        out: &out[..taken],
-        notes: [b"write fault\n", b"", b""],
-        ..done(command)
-    })
+    assert!(rt; false, "too many puts");
 }
 
-// What comes of a command whose notes hold so many octets.
-fn notes_are_full(command: &Command, room: u32) -> Option<Wanted> {
+// The output holds so many octets.
+fn out_is_full(rt: &impl Abort, alloc: Global, command: &Command, room: u32) {
+    let taken = (room as usize).min(command.out.len());
+    let failing = Failing {
+        out_room: room,
+        ..NONE
+    };
+    let wanted = Wanted {
+        status: 4,
+        out: &command.out[..taken],
+        notes: b"write fault\n",
+        ..done(command)
+    };
+    expect(rt, alloc, command, &failing, &wanted);
+}
+
+fn outs_are_full(rt: &impl Abort, alloc: Global, command: &Command) {
     if command.status == 0 {
-        return None;
+        for room in [0u32, 1, 19] {
+            out_is_full(rt, alloc, command, room);
+        }
     }
-    let notes: &'static [u8] = command.notes;
-    let taken = (room as usize).min(notes.len());
-    Some(Wanted {
+}
+
+// Fails one put of the notes, and answers whether the run makes it.
+fn note_fails(rt: &impl Abort, alloc: Global, command: &Command, number: u32) -> bool {
+    let failing = Failing {
+        note: number,
+        ..NONE
+    };
+    if command.status == 0 || number > 1 {
+        expect(rt, alloc, command, &failing, &done(command));
+        return false;
+    }
+    let wanted = Wanted {
         status: 4,
-        notes: [&notes[..taken], b"", b""],
+        notes: b"",
         ..done(command)
-    })
+    };
+    expect(rt, alloc, command, &failing, &wanted);
+    true
+}
+
+fn notes_fail(rt: &impl Abort, alloc: Global, command: &Command) {
+    for number in 1..=MOST {
+        if !note_fails(rt, alloc, command, number) {
+            return;
+        }
+    }
+    assert!(rt; false, "too many notes");
+}
+
+// The notes hold so many octets.
+fn notes_are_full(rt: &impl Abort, alloc: Global, command: &Command, room: u32) {
+    let taken = (room as usize).min(command.notes.len());
+    let failing = Failing {
+        notes_room: room,
+        ..NONE
+    };
+    let wanted = Wanted {
+        status: 4,
+        notes: &command.notes[..taken],
+        ..done(command)
+    };
+    expect(rt, alloc, command, &failing, &wanted);
+}
+
+fn all_notes_are_full(rt: &impl Abort, alloc: Global, command: &Command) {
+    if command.status != 0 {
+        for room in [0u32, 1, 12] {
+            notes_are_full(rt, alloc, command, room);
+        }
+    }
 }
 
 // What comes of a command whose end fails at a call: no end is called after it, and no octet is read.
-fn end_failed(command: &Command, call: &Call, before: &'static [Call], failed: Failed) -> Wanted {
-    let word: &'static [u8] = if failed.end == 0 { b"0" } else { b"1" };
+fn end_failed<'a>(
+    command: &Command,
+    which: usize,
+    before: &'a [Call],
+    call: &Call,
+    taken: &'a [u8],
+) -> Wanted<'a> {
+    let notes: &[u8] = if which == 0 {
+        b"pipe end 0 failed\n"
+    } else {
+        b"pipe end 1 failed\n"
+    };
     Wanted {
         status: 8,
         out: b"",
-        notes: [b"pipe end ", word, b" failed\n"],
+        notes,
         left: command.input.len().saturating_sub(call.read),
         calls: before,
-        failed: Some(failed),
+        failed: Some((which, taken)),
     }
 }
 
-// What comes of a command of which a call of an end fails.
-fn call_fails(command: &Command, end: usize, number: u32) -> Option<Wanted> {
-    let (before, call) = call_of(command.calls, end, number.saturating_add(1))?;
-    let failed = Failed {
-        end,
-        calls: before,
-        room: AMPLE as usize,
-    };
-    Some(end_failed(command, call, before, failed))
+// The failing call of an end.
+fn ends_failing(which: usize, number: u32) -> [u32; 2] {
+    if which == 0 { [number, 0] } else { [0, number] }
 }
 
-// What comes of a command of which an end holds so many octets.
-fn end_is_full(command: &Command, end: usize, room: u32) -> Option<Wanted> {
-    let (before, call) = call_past(command.calls, end, room as usize)?;
-    let failed = Failed {
-        end,
-        calls: command.calls,
-        room: room as usize,
-    };
-    Some(end_failed(command, call, before, failed))
-}
-
-// How many octets an output holds, by a number.
-fn out_room(number: u32) -> u32 {
-    match number {
-        0 => 0,
-        1 => 1,
-        2 => 19,
-        _ => AMPLE,
-    }
-}
-
-// The same of notes.
-fn notes_room(number: u32) -> u32 {
-    match number {
-        0 => 0,
-        1 => 1,
-        2 => 12,
-        _ => AMPLE,
-    }
-}
-
-// What comes of a command of which the call of a number fails, from 0, or None where the run makes no such call.
-fn wanted_of(command: &Command, kind: Kind, number: u32) -> Option<Wanted> {
-    match kind {
-        Kind::Load => unloaded(command, number, 9, b"file fault: "),
-        Kind::Absence => unloaded(command, number, 7, b"absent: "),
-        Kind::Put => unwritten(command, number, b"write fault\n"),
-        Kind::PutAndNote => unwritten(command, number, b""),
-        Kind::Out => out_is_full(command, number),
-        Kind::Note if number > 0 => None,
-        Kind::Note => notes_are_full(command, 0),
-        Kind::Notes if number > 2 => None,
-        Kind::Notes => notes_are_full(command, notes_room(number)),
-        Kind::Call(end) => call_fails(command, end, number),
-        Kind::End(end) => end_is_full(command, end, number),
-    }
-}
-
-// The call of a number of one end.
-fn of_end(end: usize, number: u32, other: u32) -> [u32; 2] {
-    if end == 0 {
-        [number, other]
-    } else {
-        [other, number]
-    }
-}
-
-// Which call fails then.
-fn failing(command: &Command, kind: Kind, number: u32) -> Failing {
-    let call = number.saturating_add(1);
-    match kind {
-        Kind::Load => Failing { load: call, ..NONE },
-        Kind::Absence => Failing {
-            absent: command.loads.get(number as usize).copied().unwrap_or(""),
-            ..NONE
-        },
-        Kind::Put => Failing { put: call, ..NONE },
-        Kind::PutAndNote if command.status != 0 || number > 0 => Failing { put: call, ..NONE },
-        Kind::PutAndNote => Failing {
-            put: 1,
-            note: 1,
-            ..NONE
-        },
-        Kind::Out => Failing {
-            out_room: out_room(number),
-            ..NONE
-        },
-        Kind::Note => Failing { note: call, ..NONE },
-        Kind::Notes => Failing {
-            notes_room: notes_room(number),
-            ..NONE
-        },
-        Kind::Call(end) => Failing {
-            ends: of_end(end, call, 0),
-            ..NONE
-        },
-        Kind::End(end) => Failing {
-            end_rooms: of_end(end, number, AMPLE),
-            ..NONE
-        },
-    }
-}
-
-// The number of the first call whose failure does not come to what it has to, if there is one.
-fn first_wrong(alloc: Global, command: &Command, kind: Kind) -> Result<Option<u32>, Memory> {
-    for number in 0..MOST {
-        let wanted = wanted_of(command, kind, number);
-        let is_made = wanted.is_some();
-        let wanted = wanted.unwrap_or(done(command));
-        if !holds(alloc, command, &failing(command, kind, number), &wanted)? {
-            return Ok(Some(number));
-        }
-        if !is_made {
-            return Ok(None);
-        }
-    }
-    Ok(Some(MOST))
-}
-
-// Fails calls of a kind in turn, of each command. A failure names its command.
-fn each_fails(rt: &impl Abort, alloc: Global, kind: Kind) -> Result<(), Fail> {
-    for number in 0..COMMANDS {
-        let command = command(number);
-        let name = command.name;
-        assert_eq!(rt; first_wrong(alloc, &command, kind)?, None, "{name}");
-    }
-    Ok(())
-}
-
-// What comes of a command whose fetch fails: the ends have the lines of the chunks that were read.
-fn unread(command: &Command, number: u32) -> Wanted {
-    let read = (number as usize).saturating_mul(command.piece as usize);
-    Wanted {
-        status: 3,
-        out: b"",
-        notes: [b"read fault\n", b"", b""],
-        left: command.input.len().saturating_sub(read),
-        calls: calls_by(command.calls, read),
-        failed: None,
-    }
-}
-
-// Fails one fetch, from 0, and then that one and the next. Answers whether the run makes it, or None if it does not come to what it has to.
-fn fetch_fails(alloc: Global, command: &Command, number: u32) -> Result<Option<bool>, Memory> {
-    let once = Failing {
-        fetch: number.saturating_add(1),
+// Fails one call of an end, and answers whether the run makes it.
+fn call_fails(
+    rt: &impl Abort,
+    alloc: Global,
+    command: &Command,
+    which: usize,
+    number: u32,
+) -> bool {
+    let failing = Failing {
+        ends: ends_failing(which, number),
         ..NONE
     };
-    let ran = run_command(alloc, command, &once)?;
-    if ran.status == command.status {
-        let holds = came_to(alloc, &ran, &done(command))?;
-        return Ok(if holds { Some(false) } else { None });
-    }
-    let twice = Failing {
-        fetch_again: number.saturating_add(2),
-        ..once
+    let Some((before, call)) = call_of(command.calls, which, number) else {
+        expect(rt, alloc, command, &failing, &done(command));
+        return false;
     };
-    let wanted = unread(command, number);
-    let first = came_to(alloc, &ran, &wanted)?;
-    let second = holds(alloc, command, &twice, &wanted)?;
-    Ok(if first && second { Some(true) } else { None })
+    match lines_of(alloc, before, which) {
+        Ok(taken) => expect(
+            rt,
+            alloc,
+            command,
+            &failing,
+            &end_failed(command, which, before, call, taken.as_slice()),
+        ),
+        Err(_) => assert!(rt; false, "out of memory"),
+    }
+    true
 }
 
-// The number of the first fetch whose failure does not come to what it has to, if there is one.
-fn first_wrong_fetch(alloc: Global, command: &Command) -> Result<Option<u32>, Memory> {
-    for number in 0..MOST {
-        match fetch_fails(alloc, command, number)? {
-            Some(true) => {}
-            Some(false) => return Ok(None),
-            None => return Ok(Some(number)),
+fn calls_fail(rt: &impl Abort, alloc: Global, command: &Command, which: usize) {
+    for number in 1..=MOST {
+        if !call_fails(rt, alloc, command, which, number) {
+            return;
         }
     }
-    Ok(Some(MOST))
+    assert!(rt; false, "too many calls of an end");
+}
+
+// How many octets each end holds.
+fn rooms(which: usize, room: u32) -> [u32; 2] {
+    if which == 0 {
+        [room, AMPLE]
+    } else {
+        [AMPLE, room]
+    }
+}
+
+// An end holds so many octets. Answers whether the run gives it more.
+fn end_is_full(rt: &impl Abort, alloc: Global, command: &Command, which: usize, room: u32) -> bool {
+    let failing = Failing {
+        end_rooms: rooms(which, room),
+        ..NONE
+    };
+    let Some((before, call)) = call_past(command.calls, which, room as usize) else {
+        expect(rt, alloc, command, &failing, &done(command));
+        return false;
+    };
+    match lines_of(alloc, command.calls, which) {
+        Ok(lines) => {
+            let octets = lines.as_slice();
+            let taken = &octets[..(room as usize).min(octets.len())];
+            expect(
+                rt,
+                alloc,
+                command,
+                &failing,
+                &end_failed(command, which, before, call, taken),
+            );
+        }
+        Err(_) => assert!(rt; false, "out of memory"),
+    }
+    true
+}
+
+fn ends_are_full(rt: &impl Abort, alloc: Global, command: &Command, which: usize) {
+    for room in 0..MOST {
+        if !end_is_full(rt, alloc, command, which, room) {
+            return;
+        }
+    }
+    assert!(rt; false, "too many octets for an end");
 }
 
 #[test]
-fn nothing_fails(rt: HostRuntime) -> Result<(), Fail> {
+fn nothing_fails(rt: HostRuntime) {
     for number in 0..COMMANDS {
         let command = command(number);
-        let name = command.name;
-        assert!(rt;
-            holds(rt.alloc(), &command, &NONE, &done(&command))?,
-            "{name}"
-        );
+        expect(&rt, rt.alloc(), &command, &NONE, &done(&command));
     }
-    Ok(())
 }
 
 #[test]
-fn each_load_fails(rt: HostRuntime) -> Result<(), Fail> {
-    each_fails(&rt, rt.alloc(), Kind::Load)
-}
-
-#[test]
-fn each_file_is_absent(rt: HostRuntime) -> Result<(), Fail> {
-    each_fails(&rt, rt.alloc(), Kind::Absence)
-}
-
-#[test]
-fn each_fetch_fails(rt: HostRuntime) -> Result<(), Fail> {
+fn each_load_fails(rt: HostRuntime) {
     for number in 0..COMMANDS {
         let command = command(number);
-        let name = command.name;
-        assert_eq!(rt; first_wrong_fetch(rt.alloc(), &command)?, None, "{name}");
+        loads_fail(&rt, rt.alloc(), &command);
     }
-    Ok(())
 }
 
 #[test]
-fn each_put_fails(rt: HostRuntime) -> Result<(), Fail> {
-    each_fails(&rt, rt.alloc(), Kind::Put)
+fn each_file_is_absent(rt: HostRuntime) {
+    for number in 0..COMMANDS {
+        let command = command(number);
+        are_absent(&rt, rt.alloc(), &command);
+    }
 }
 
 #[test]
-fn each_put_and_the_notes_fail(rt: HostRuntime) -> Result<(), Fail> {
-    each_fails(&rt, rt.alloc(), Kind::PutAndNote)
+fn each_fetch_of_a_decoding_fails(rt: HostRuntime) {
+    fetches_fail(&rt, rt.alloc(), &DECODE);
+    fetches_fail(&rt, rt.alloc(), &DECODE_CUT);
 }
 
 #[test]
-fn each_output_is_full(rt: HostRuntime) -> Result<(), Fail> {
-    each_fails(&rt, rt.alloc(), Kind::Out)
+fn each_fetch_of_an_explanation_fails(rt: HostRuntime) {
+    fetches_fail(&rt, rt.alloc(), &EXPLAIN);
 }
 
 #[test]
-fn each_note_fails(rt: HostRuntime) -> Result<(), Fail> {
-    each_fails(&rt, rt.alloc(), Kind::Note)
+fn each_fetch_of_an_encoding_fails(rt: HostRuntime) {
+    fetches_fail(&rt, rt.alloc(), &ENCODE);
+    fetches_fail(&rt, rt.alloc(), &ENCODE_REFUSED);
+    fetches_fail(&rt, rt.alloc(), &ENCODE_RESPONSE);
 }
 
 #[test]
-fn all_notes_are_full_in_turn(rt: HostRuntime) -> Result<(), Fail> {
-    each_fails(&rt, rt.alloc(), Kind::Notes)
+fn each_fetch_of_a_drain_fails(rt: HostRuntime) {
+    fetches_fail(&rt, rt.alloc(), &DRAIN);
+    fetches_fail(&rt, rt.alloc(), &DRAIN_CUT);
+    fetches_fail(&rt, rt.alloc(), &DRAIN_TRAILING);
+    fetches_fail(&rt, rt.alloc(), &DRAIN_TWO);
 }
 
 #[test]
-fn each_call_of_the_first_end_fails(rt: HostRuntime) -> Result<(), Fail> {
-    each_fails(&rt, rt.alloc(), Kind::Call(0))
+fn each_fetch_of_a_response_fails(rt: HostRuntime) {
+    fetches_fail(&rt, rt.alloc(), &DECODE_RESPONSE);
+    fetches_fail(&rt, rt.alloc(), &EXPLAIN_RESPONSE);
+    fetches_fail(&rt, rt.alloc(), &DRAIN_RESPONSE);
 }
 
 #[test]
-fn each_call_of_the_second_end_fails(rt: HostRuntime) -> Result<(), Fail> {
-    each_fails(&rt, rt.alloc(), Kind::Call(1))
+fn no_fetch_is_made(rt: HostRuntime) {
+    fetches_fail(&rt, rt.alloc(), &COMPILE);
+    fetches_fail(&rt, rt.alloc(), &NO_COMMAND);
+    fetches_fail(&rt, rt.alloc(), &NO_WORDS);
 }
 
 #[test]
-fn the_first_end_is_full(rt: HostRuntime) -> Result<(), Fail> {
-    each_fails(&rt, rt.alloc(), Kind::End(0))
+fn each_put_fails(rt: HostRuntime) {
+    for number in 0..COMMANDS {
+        let command = command(number);
+        puts_fail(&rt, rt.alloc(), &command, 0);
+    }
 }
 
 #[test]
-fn the_second_end_is_full(rt: HostRuntime) -> Result<(), Fail> {
-    each_fails(&rt, rt.alloc(), Kind::End(1))
+fn each_put_and_the_notes_fail(rt: HostRuntime) {
+    for number in 0..COMMANDS {
+        let command = command(number);
+        puts_fail(&rt, rt.alloc(), &command, 1);
+    }
+}
+
+#[test]
+fn each_output_is_full(rt: HostRuntime) {
+    for number in 0..COMMANDS {
+        let command = command(number);
+        outs_are_full(&rt, rt.alloc(), &command);
+    }
+}
+
+#[test]
+fn each_note_fails(rt: HostRuntime) {
+    for number in 0..COMMANDS {
+        let command = command(number);
+        notes_fail(&rt, rt.alloc(), &command);
+    }
+}
+
+#[test]
+fn all_notes_are_full_in_turn(rt: HostRuntime) {
+    for number in 0..COMMANDS {
+        let command = command(number);
+        all_notes_are_full(&rt, rt.alloc(), &command);
+    }
+}
+
+#[test]
+fn each_call_of_the_first_end_fails(rt: HostRuntime) {
+    for number in 0..COMMANDS {
+        let command = command(number);
+        calls_fail(&rt, rt.alloc(), &command, 0);
+    }
+}
+
+#[test]
+fn each_call_of_the_second_end_fails(rt: HostRuntime) {
+    for number in 0..COMMANDS {
+        let command = command(number);
+        calls_fail(&rt, rt.alloc(), &command, 1);
+    }
+}
+
+#[test]
+fn the_first_end_is_full(rt: HostRuntime) {
+    for number in 0..COMMANDS {
+        let command = command(number);
+        ends_are_full(&rt, rt.alloc(), &command, 0);
+    }
+}
+
+#[test]
+fn the_second_end_is_full(rt: HostRuntime) {
+    for number in 0..COMMANDS {
+        let command = command(number);
+        ends_are_full(&rt, rt.alloc(), &command, 1);
+    }
 }

@@ -1,9 +1,8 @@
 // A stream is explained with ample memory.
 use crate::fits::{fit, interface};
-use nd_base::{Memory, Steps, Uncounted};
+use nd_base::{Steps, Uncounted};
 use nd_value::{Home, Item, ItemKind, ItemLog};
 use ndr_explain::explain;
-use std::alloc::Global;
 use std::test::Fail;
 
 // An item of a root.
@@ -18,26 +17,16 @@ fn item(at: u32, len: u32, kind: ItemKind, root: u32, value: i128) -> Item {
     }
 }
 
-fn noted(alloc: Global) -> Result<ItemLog, Memory> {
-    let items = [
-        item(0, 4, ItemKind::Num, 0, 1),
-        item(4, 2, ItemKind::Num, 1, 2),
-        item(6, 2, ItemKind::Gap, 2, 0),
-        item(8, 8, ItemKind::Num, 2, 3),
-    ];
-    let mut log = ItemLog::keeping(alloc);
-    let mut steps = Steps::new(Uncounted::new());
-    for item in items {
-        log.note(item, &mut steps)?;
-    }
-    Ok(log)
-}
-
 #[test]
 fn a_stream_is_explained(rt: HostRuntime) -> Result<(), Fail> {
     let interface = interface(rt.alloc())?;
     let fit = fit(rt.alloc(), &interface)?;
-    let items = noted(rt.alloc())?;
+    let mut items = ItemLog::keeping(rt.alloc());
+    let mut steps = Steps::new(Uncounted::new());
+    items.note(item(0, 4, ItemKind::Num, 0, 1), &mut steps)?;
+    items.note(item(4, 2, ItemKind::Num, 1, 2), &mut steps)?;
+    items.note(item(6, 2, ItemKind::Gap, 2, 0), &mut steps)?;
+    items.note(item(8, 8, ItemKind::Num, 2, 3), &mut steps)?;
     let text = explain(rt.alloc(), &interface, &fit, &items)?;
     assert_eq!(rt;
         text.as_slice(),

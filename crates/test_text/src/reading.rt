@@ -16,20 +16,6 @@ fn number_at(graph: &Graph, at: usize) -> Option<i128> {
     }
 }
 
-// Whether a text is read as these three numbers.
-fn is_read(alloc: Global, interface: &Interface, text: &[u8], numbers: [i128; 3]) -> bool
-    requires { 0 < length interface.now.operations }
-{
-    match read_text(alloc, interface, 0, Side::In, text) {
-        Ok(graph) => {
-            number_at(&graph, 0) == Some(numbers[0])
-                && number_at(&graph, 1) == Some(numbers[1])
-                && number_at(&graph, 2) == Some(numbers[2])
-        }
-        Err(_) => false,
-    }
-}
-
 // Where a text is refused, and why.
 fn fault(alloc: Global, interface: &Interface, text: &[u8]) -> Option<(u32, u32, TextReason)>
     requires { 0 < length interface.now.operations }
@@ -50,9 +36,13 @@ fn fault(alloc: Global, interface: &Interface, text: &[u8]) -> Option<(u32, u32,
 fn numbers_are_read(rt: HostRuntime) -> Result<(), Fail> {
     let interface = interface(rt.alloc())?;
     let two = b"values 2\nop add in\na = 1\nb = -2\nc = 3\n";
-    assert!(rt; is_read(rt.alloc(), &interface, two, [1, -2, 3]));
+    let graph = read_text(rt.alloc(), &interface, 0, Side::In, two)?;
+    assert_eq!(rt; number_at(&graph, 0), Some(1));
+    assert_eq!(rt; number_at(&graph, 1), Some(-2));
+    assert_eq!(rt; number_at(&graph, 2), Some(3));
     let one = b"values 1 op add in a=4 b=5 c=-6";
-    assert!(rt; is_read(rt.alloc(), &interface, one, [4, 5, -6]));
+    let graph = read_text(rt.alloc(), &interface, 0, Side::In, one)?;
+    assert_eq!(rt; number_at(&graph, 2), Some(-6));
     let wrong = b"values 2\nop add in\na = 1\nc = 3\n";
     assert_eq!(rt;
         fault(rt.alloc(), &interface, wrong),
