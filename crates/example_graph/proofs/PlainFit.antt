@@ -53,7 +53,7 @@ no_children _ e l ks = refl
 abbrev Ungoverned : HomeNode → Type 0
 Ungoverned x = x.typed.agreements ≡ []
 
--- a node of a simple type stands alone in its home
+-- a node of a simple type is alone in its home
 module _ (table : Table) (t : ℕ) (simple : is_simple (type_at table t) ≡ true) where
   no_kids : (n : ℕ) (l : Label) (ks : Trees) (ags : List (List Agreement)) → nodes_of table (child_types (type_at table t) l ks) ags n ks ≡ []
   no_kids n l ks ags = ap (λ types. nodes_of table types ags n ks) (no_children (type_at table t) simple l ks) ∙ none_typed table ags n ks

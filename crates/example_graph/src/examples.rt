@@ -1,4 +1,4 @@
-//! The types and graphs stand in specs/Examples.
+//! The types and graphs are in specs/Examples.
 ghost use Rattle.std.specs.Prelude.{pos, Some, None};
 ghost use Rattle.nd_value.specs.declared.item.Home.TheVariants as home;
 ghost use Rattle.nd_value.specs.declared.misfit.MisfitReason.TheVariants as misfit;
@@ -16,7 +16,7 @@ pub fn misfits_in_cells()
     ensures zero { IsFirstMisfit said zero_within (record { home = cell_home 1; node = 0; reason = misfit.Zero }) }
 {}
 
-/// The size of an output by an input that does not travel back: without a request it is free, beside one it is the request's number.
+/// The size of an output by an input that does not travel back: without a request it is free, with one it is the request's number.
 pub fn size_by_request()
     ensures free { Conforms (sized_back None) two_back }
     ensures agrees { Conforms (sized_back (Some (asked (pos 2)))) two_back }

@@ -1,5 +1,5 @@
-//! Laws of graphs without a misfit, and worked examples, each a theorem over the definitions: which graphs conform, beside a request or
-//! beside none, and which misfit is the first of those that do not.
+//! Laws of graphs without a misfit, and worked examples, each a theorem over the definitions: which graphs conform, with a request or
+//! without one, and which misfit is the first of those that do not.
 #![tactic(auto)]
 
 pub mod examples;

@@ -1,4 +1,4 @@
--- What is told of the small texts, and what others mean.
+-- What is reported of the small texts, and what others mean.
 use Rattle.std.proofs.Common.{◌≡◌, refl}
 use Rattle.std.specs.Prelude.{map, [], ◌∷◌}
 use Rattle.idl_grammar.specs.Lexemes.{words, symbol_of}

@@ -1,4 +1,4 @@
--- Attribute configuration files beside files of IDL, and which rule is told of them.
+-- Attribute configuration files with files of IDL, and which rule they are reported to break.
 use Rattle.std.specs.Prelude.{ℕ, Bool, true, false, List, [], ◌∷◌, ◌++◌, map, Option, Some, None, codes, Result, Ok, Err}
 use Rattle.std.specs.List.{flat_map}
 use Rattle.grammar_phrases.specs.Reading.{Fault}
@@ -86,7 +86,7 @@ acf_names =
 
 -- ## Places
 
--- an attribute, and whether it may stand at the interface, at a type, at an operation, at a parameter
+-- an attribute, and whether it may be at the interface, at a type, at an operation, at a parameter
 pub record AcfAttribute : Type 0 where
   pub text : List ℕ
   pub of_interface : Bool

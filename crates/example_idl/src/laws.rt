@@ -36,8 +36,8 @@ pub fn listings_are_as_worked()
     ensures forms { listing_of forms_file ≡ forms_listing ∷ [] }
 {}
 
-/// Attribute configuration files beside files of IDL: the directory's own and one of another interface, names that the IDL has and that it lacks,
-/// each attribute at each place, and a file beside IDL that breaks a rule itself, which is reported.
+/// Attribute configuration files with files of IDL: the directory's own and one of another interface, names that the IDL has and that it lacks,
+/// each attribute at each place, and a file with IDL that breaks a rule itself, which is reported.
 pub fn attribute_files_are_judged()
     ensures directory { told_of_directory directory_acf ≡ no_rule }
     ensures other { told_of_directory other_acf ≡ acf_rule_at 0 }

@@ -95,7 +95,7 @@ turned_read : IsReadTo Little ring_2_octets turned_entries 7
 unfolding align_of hoists roots_of
 turned_read = read_so (λ c. 3 - c) Little ring_2_octets turned_entries 7 refl refl refl refl refl
 
--- Read up to there, the second node is named, and does not stand yet: one map carries each node to the other number that it has.
+-- Read up to there, the second node is named, and has not come yet: one map carries each node to the other number that it has.
 pub ring_map : (cells : List (ℕ × ℕ)) × IsOneToOne cells × Among cells (1, 2) × Among cells (2, 1)
 unfolding align_of hoists roots_of
 ring_map =

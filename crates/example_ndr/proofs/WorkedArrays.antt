@@ -74,7 +74,7 @@ pub count_through_structs : Represents nested Little nested_octets nested_graph
 unfolding align_of hoists roots_of
 count_through_structs = represents_so nested Little nested_octets nested_graph [] 20 refl tt refl refl refl refl
 
--- struct { long n; [length_is(n)] short a[4]; } (12, its array 13) by a reference pointer (14): offset and actual count stand before
+-- struct { long n; [length_is(n)] short a[4]; } (12, its array 13) by a reference pointer (14): offset and actual count are before
 -- the elements
 abbrev pub varying : Setting
 varying =

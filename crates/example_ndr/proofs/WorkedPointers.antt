@@ -229,7 +229,7 @@ pub cell_missing : IsFirstMisfit ring ring_without_cell (record { home = home.Ro
 unfolding align_of hoists roots_of
 cell_missing = is_local _ refl
 
--- the shared leaf stands where deferral comes to it first
+-- the shared leaf is where deferral comes to it first
 pub first_of_deferral : Represents pairs Little shared_leaf_octets shared_leaf
 unfolding align_of hoists roots_of
 first_of_deferral = represents_so pairs Little shared_leaf_octets shared_leaf [] 20 refl tt refl refl refl refl
@@ -243,7 +243,7 @@ pub null_before : Represents pairs Little null_y_octets null_y
 unfolding align_of hoists roots_of
 null_before = represents_so pairs Little null_y_octets null_y [] 20 refl tt refl refl refl refl
 
--- a null reference pointer is none
+-- a null reference pointer does not conform
 pub null_reference : IsFirstMisfit pairs null_pair (record { home = home.Root 0; node = 0; reason = misfit.NullRef })
 unfolding align_of hoists roots_of
 null_reference = is_local _ refl
@@ -258,7 +258,7 @@ pub unique_shared : IsFirstMisfit unique_longs shared_five (record { home = home
 unfolding align_of hoists roots_of
 unique_shared = is_shared _ refl refl
 
--- two full pointers of one number name one cell, which stands once, across parameters too
+-- two full pointers of one number name one cell, which comes once, across parameters too
 pub full_shared : Represents full_longs Little one_five_one shared_five
 unfolding align_of hoists roots_of
 full_shared = represents_so full_longs Little one_five_one shared_five [] 20 refl tt refl refl refl refl

@@ -1,4 +1,4 @@
--- Worked examples of responses beside a request.
+-- Worked examples of responses with a request.
 use Rattle.std.proofs.Common.{ℤ, true, false, List, [], ◌∷◌, ◌++◌, Option, Some, None, refl}
 use Rattle.std.specs.Prelude.{pos}
 use Rattle.nd_base.specs.declared.octets.Order.TheVariants.{Little}
@@ -42,7 +42,7 @@ pub size_free : Represents (sized_back None) Little (four 2 (0xAB ∷ 0xCD ∷ [
 unfolding align_of hoists roots_of
 size_free = represents_so (sized_back None) Little (four 2 (0xAB ∷ 0xCD ∷ [])) two_back [] 20 refl tt refl refl refl refl
 
--- beside one it is the request's number
+-- with one it is the request's number
 pub size_given : Represents (sized_back (Some (asked (pos 2)))) Little (four 2 (0xAB ∷ 0xCD ∷ [])) two_back
 unfolding align_of hoists roots_of
 size_given = represents_so (sized_back (Some (asked (pos 2)))) Little (four 2 (0xAB ∷ 0xCD ∷ [])) two_back [] 20 refl tt refl refl refl refl

@@ -16,7 +16,7 @@ sized =
     (def.Struct (field 5 [] ∷ field 13 (attribute attr.Size 0) ∷ []) ∷ def.Array (id 9) None false ∷ def.Pointer Ref (id 12) ∷ [])
     (param 14 ∷ [])
 
--- n beside two elements, 1 and 2
+-- n before two elements, 1 and 2
 abbrev pub sized_graph : ℤ → Graph
 sized_graph n = record {
   roots = pointer_to 1 ∷ [];

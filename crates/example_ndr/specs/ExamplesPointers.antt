@@ -15,7 +15,7 @@ pairs =
     ∷ def.Pointer Full (id 14) ∷ def.Struct (field 15 [] ∷ field 13 [] ∷ []) ∷ def.Pointer Ref (id 16) ∷ [])
     (param 17 ∷ [])
 
--- b and y are one leaf, which b names first in place; it stands where deferral comes to it first, at y
+-- b and y are one leaf, which b names first in place; it is where deferral comes to it first, at y
 abbrev pub shared_leaf : Graph
 shared_leaf = record {
   roots = pointer_to 1 ∷ [];

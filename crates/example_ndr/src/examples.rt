@@ -1,5 +1,5 @@
 //! Worked examples, each a theorem over the definitions: which octets are streams of which graphs, where octets are refused, and
-//! which graphs conform. The types, graphs and octets stand in specs/, in the files whose names begin with Examples; there the types
+//! which graphs conform. The types, graphs and octets are in specs/, in the files whose names begin with Examples; there the types
 //! of an example are numbered from 12 on, after the basic types.
 
 ghost use Rattle.std.specs.Prelude.{[], ◌∷◌, pos, Some, None};
@@ -65,7 +65,7 @@ pub fn ring_renumbered()
     ensures { IsCanon ring ring_swapped ring_of_two }
 {}
 
-/// A referent that two full pointers share stands where deferral comes to it first, and not where it is named first in place.
+/// A referent that two full pointers share is where deferral comes to it first, and not where it is named first in place.
 pub fn first_of_deferral()
     ensures stands { Represents pairs Little shared_leaf_octets shared_leaf }
     ensures written { Chosen pairs Little 1 shared_leaf shared_leaf_octets }

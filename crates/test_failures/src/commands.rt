@@ -390,7 +390,7 @@ const RESPONSE_OCTETS: &[u8] = b"\x02\0\0\0\xab\xcd\0\0\x01\0\0\0\x07\0\0\0\0\0\
 const RESPONSE_TEXT: &[u8] = b"values 2\nop r out\na = x\"abcd\"\nd = [7]\n";
 
 pub(crate) const DECODE_RESPONSE: Command = Command {
-    name: "decode of a response beside its request",
+    name: "decode of a response with its request",
     words: &[
         "decode",
         "t.idl",
@@ -410,7 +410,7 @@ pub(crate) const DECODE_RESPONSE: Command = Command {
 };
 
 pub(crate) const ENCODE_RESPONSE: Command = Command {
-    name: "encode of a response beside its request",
+    name: "encode of a response with its request",
     words: &[
         "encode",
         "t.idl",
@@ -428,7 +428,7 @@ pub(crate) const ENCODE_RESPONSE: Command = Command {
 };
 
 pub(crate) const EXPLAIN_RESPONSE: Command = Command {
-    name: "explain of a response beside its request",
+    name: "explain of a response with its request",
     words: &[
         "explain",
         "t.idl",
@@ -444,7 +444,7 @@ pub(crate) const EXPLAIN_RESPONSE: Command = Command {
 };
 
 pub(crate) const DRAIN_RESPONSE: Command = Command {
-    name: "drain of a response beside its request",
+    name: "drain of a response with its request",
     words: &[
         "drain",
         "t.idl",

@@ -53,7 +53,7 @@ fn misfit(alloc: Global, interface: &Interface, op: u32, graph: Graph) -> Option
     }
 }
 
-// The misfit of the outputs of an operation beside a request.
+// The misfit of the outputs of an operation, judged with a request.
 fn misfit_beside(
     alloc: Global,
     interface: &Interface,

@@ -50,8 +50,8 @@ fn acf_of(alloc: Global, text: &[u8]) -> Result<Acf, Memory> {
     }
 }
 
-/// The rule that is reported, the number of the file, and the octet. None where no rule is broken.
-fn told(alloc: Global, text: &[u8]) -> Result<Option<(u8, u16, u32)>, Memory> {
+/// The rule that is reported, the number of the file, and the octet. None if no rule is broken.
+fn refusal(alloc: Global, text: &[u8]) -> Result<Option<(u8, u16, u32)>, Memory> {
     let scope = scope_of(alloc, IDL)?;
     let acf = acf_of(alloc, text)?;
     match check(alloc, &scope, Some(&acf)) {
@@ -64,7 +64,7 @@ fn told(alloc: Global, text: &[u8]) -> Result<Option<(u8, u16, u32)>, Memory> {
 #[test]
 fn the_interface_is_that_of_the_idl(rt: HostRuntime) -> Result<(), Fail> {
     for row in ROWS {
-        let found = told(rt.alloc(), row.text)?;
+        let found = refusal(rt.alloc(), row.text)?;
         match row.refused {
             Some(at) => assert_eq!(rt; found, Some((40, ACF_FILE, at))),
             None => assert_eq!(rt; found, None),

@@ -4,9 +4,9 @@ use nd_value::CellId;
 use ndr_refs::{RefFault, Referents};
 use std::test::Fail;
 
-// void f([in, ptr] long *a, [in, ptr] short *b), where both pointers have the number 1: it stands for the long.
+// void f([in, ptr] long *a, [in, ptr] short *b), where both pointers have the number 1, which is that of the long.
 #[test]
-fn a_number_stands_for_one_type(rt: HostRuntime) -> Result<(), Fail> {
+fn a_number_is_of_one_type(rt: HostRuntime) -> Result<(), Fail> {
     let mut referents = Referents::new(rt.alloc());
     assert_eq!(rt; referents.len(), 0);
     let first = referents.meet(1, TypeId(7), CellId(1));

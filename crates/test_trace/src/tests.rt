@@ -66,7 +66,7 @@ const ROWS: &[Row] = &[
         lines: b"0 2 num a[0].k 1\n2 2 tag a[0].v 1\n4 4 num a[0].v.x 7\n8 2 num a[1].k 3\n",
         path: b"a[1].v",
     },
-    // A number stands for a referent of another type.
+    // A number is that of a referent of another type.
     Row {
         op: SHARE,
         octets: b"\x02\0\0\0\x07\0\0\0\x02\0\0\0",
