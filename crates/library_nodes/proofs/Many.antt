@@ -145,7 +145,3 @@ row_pushed o p os from next m n xs0 xs ys all u more wide is pushed so_far =
     ∙ ap (λ v. xs ++ (v ∷ lows o p m next os)) is
     ∙ ap (λ vs. xs ++ vs) (sym (lows_next o p os from next m n more wide))
     ∙ so_far
-
--- none is left
-pub row_over : (o : Order) (p : Primitive) (os : List ℕ) (from n : ℕ) (xs0 xs all : List ℕ) → n ≡ 0 → xs ++ lows o p n from os ≡ xs0 ++ all → xs ≡ xs0 ++ all
-row_over o p os from n xs0 xs all none so_far = sym (append-nil xs) ∙ ap (λ k. xs ++ lows o p k from os) (sym none) ∙ so_far

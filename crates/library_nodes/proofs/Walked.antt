@@ -1,6 +1,6 @@
 -- A walk whose nodes are added one by one.
 -- `old` and `now` are what is left of it, `a` and `b` lists of nodes, `o` is the node that is open.
-use Rattle.std.proofs.Common.{◌≡◌, ◌≤◌, ◌+◌, List, [], ◌∷◌, ◌++◌, length, Option, None, refl, ap, sym, ◌∙◌, append_assoc, length-append, arith, subst}
+use Rattle.std.proofs.Common.{◌≡◌, List, [], ◌∷◌, ◌++◌, Option, None, refl, ap, sym, ◌∙◌, append_assoc, subst}
 use Rattle.std.proofs.lemmas.List.{append-nil}
 use Rattle.nd_value.specs.Tree.{Flat, Trees, flat, none}
 use Rattle.library_nodes.specs.declared.node.Node.{Node}
@@ -38,10 +38,3 @@ walks_far old now next done a b c o p is more h = record {
   all = h.all ∙ ap (λ xs. h.done ++ xs) is ∙ sym (append_assoc h.done done next);
   adds = more a h.done h.adds;
 }
-
--- no more are left than before
-pub fewer_left : (now next done : List Flat) → now ≡ done ++ next → length next ≤ length now
-fewer_left now next done is =
-    let e : length now ≡ length (done ++ next) = ap length is in
-    let f : length (done ++ next) ≡ length done + length next = length-append done next in
-    omega (arith, e, f)
