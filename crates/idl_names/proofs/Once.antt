@@ -1,7 +1,7 @@
 -- A walk has one ending, except when out of memory, where it is told which loads fail.
 use Rattle.std.proofs.Common.{◌≡◌, ℕ, ◌<◌, ◌≤◌, Bool, true, false, refl, sym, ap, subst, ◌∙◌, arith, List, ◌++◌, length, Option, Some, None, option_map, Result, Ok, Err}
 use Rattle.std.proofs.lemmas.Option.{same_Some}
-use Rattle.grammar_phrases.specs.Reading.{Fault, Syntax}
+use Rattle.idl_grammar.specs.ReadPhrases.{Fault, Syntax}
 use Rattle.nd_base.specs.Outside.{loaded, IsContent, IsMissing}
 use Rattle.idl_lexer.specs.Lexed.{Lexed, place_of}
 use Rattle.idl_lexer.specs.Verdict.{IsVerdict, AreTokens, Cut, Refused}
@@ -24,7 +24,7 @@ use Rattle.idl_names.specs.Sources.{file_number}
 use Rattle.idl_names.specs.Walk.{State, Due, Ending, Done, Stopped, Walk, most_files, with_known, with_source, all_of}
 use Rattle.idl_names.specs.Walk as walk
 use Rattle.idl_names.specs.Decided.{is_decided, has_memory, FailsAs}
-use Rattle.grammar_phrases.proofs.Parts.{clash as fails_or_not}
+use Rattle.idl_grammar.proofs.Parts.{clash as fails_or_not}
 use Rattle.idl_names.proofs.Loads.{same_fault as same_errors}
 
 -- ## Texts

@@ -2,3 +2,9 @@ mod Adding
 mod Many
 mod Walked
 mod Homes
+mod Outcomes
+mod Lists
+mod Nodes
+mod Counts
+mod Graphs
+mod OneGraph

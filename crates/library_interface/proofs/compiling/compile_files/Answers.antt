@@ -1,5 +1,5 @@
 use Rattle.std.proofs.Common.{None}
-use Rattle.lent_files.specs.Named.{named_after}
+use Rattle.library_interface.specs.Named.{named_after}
 use Rattle.library_interface.proofs.compiling.compile_files.Goals as goal
 
 pub returns-in-Ok-clause-compiled : goal.returns-in-Ok-clause-compiled
