@@ -427,7 +427,7 @@ class Work:
                 text = own.sub(in_own, text)
             text = antt.sub(in_antt, text)
             if group:  # what it used of itself by the name of a crate that it now is
-                text = re.sub(rf"(?<![\w:.])({'|'.join(sorted(group))})::(?=\w)", lambda found: "crate::" if found[1] not in self.into else found[0], text) if path.endswith(".rt") else text
+                text = re.sub(rf"(?<![\w:.])({'|'.join(sorted(group))})::(?=[\w{{])", lambda found: "crate::" if found[1] not in self.into else found[0], text) if path.endswith(".rt") else text
             text = rust.sub(in_rust, text)
             text = page.sub(in_page, text)
             text = plain.sub(lambda found: self.into[found[1]], text)
