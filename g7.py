@@ -1,7 +1,7 @@
 import sys; sys.path.insert(0,'/work/c/tmp/lemmas')
 from e import *
-T='Rattle.nd_base.proofs.Taken'; F='Rattle.nd_grammar.proofs.Following'
-wr('nd_base/proofs/Lib.antt',rd('nd_base/proofs/Lib.antt').rstrip('\n')+'\npub mod Taken\n')
+T='Rattle.nd_base.proofs.Consumed'; F='Rattle.nd_grammar.proofs.Following'
+wr('nd_base/proofs/Lib.antt',rd('nd_base/proofs/Lib.antt').rstrip('\n')+'\npub mod Consumed\n')
 t=rd('nd_grammar/proofs/Lib.antt').replace('pub mod FewItemsLaw\n','pub mod FewItemsLaw\npub mod Following\n'); wr('nd_grammar/proofs/Lib.antt',t)
 f='command_trace/proofs/Steps.antt'
 for n in ('rest_of','parts_of','none_left','may_follow'): dele(f,n)
