@@ -70,7 +70,8 @@ def check(rtlib, name: str) -> Tuple[Dict[str, float], float]:
                 pass  # it has ended
             found = FUNCTION.match(line)
             if found:
-                functions[found["name"]] = functions.get(found["name"], 0.0) + now - before
+                function = found["name"].removeprefix(f"{name}::")
+                functions[function] = functions.get(function, 0.0) + now - before
                 before = now
         if child.wait():
             raise SystemExit(f"{name} is not proved, or what it uses is not built")
