@@ -1,51 +1,42 @@
 // Nodes of values.
-ghost use Rattle.std.specs.Prelude.{◌≡◌, ◌≤◌, ◌<◌, ◌+◌, ◌-◌, ◌++◌, ◌∷◌, [], suc, false, length, take, map, Some, None, IsSomeAnd};
+ghost use Rattle.std.specs.Prelude.{◌≡◌, ◌≤◌, ◌<◌, ◌-◌, suc, true, false, length, take, drop, map};
+ghost use Rattle.std.specs.Prelude.{Some, None, is_some, IsSomeAnd};
 ghost use Rattle.std.specs.List.{slice_get};
 ghost use Rattle.library_nodes.specs.Contents.{numbers_of, octets_of};
 ghost use Rattle.library_nodes.specs.Described.{described};
 ghost use Rattle.library_nodes.specs.Listed.{IsListOf, root_start, cell_start};
 ghost use Rattle.library_nodes.specs.Parts.{IsAfter, has_part};
-ghost use Rattle.dceidl_c.specs.Answers.{values_in};
-ghost use Rattle.dceidl_c.specs.Nodes.{nodes_in, low_octet};
+ghost use Rattle.library_answers.specs.Answers.{values_in};
+ghost use Rattle.library_answers.specs.Nodes.{nodes_in, low_octet};
 
-use crate::answers::{ABSENT, ARGUMENT, EMPTY, MEMORY, OK, SHORT, fill, lay_out};
-use crate::interfaces::free;
+use library_answers::{
+    ARGUMENT, EMPTY, MEMORY, OK, SHORT, copy_bytes, copy_numbers, copy_octets, describe_at, free,
+    list_nodes, set_after, set_number, set_part,
+};
 use library_handles::{Handle, Held};
-use library_nodes::{Description, Nodes};
-use library_values::Values;
+use library_nodes::Description;
 use std::alloc::Global;
 
 /// Fills `nodes` with those of values.
 #[unsafe(no_mangle)]
 pub extern "C" fn dceidl_nodes_of(alloc: Global, values: &mut Handle, nodes: &mut Handle) -> u32
-    ensures known { result ≤ ABSENT }
+    ensures known { result ≤ MEMORY }
+    ensures not_argument { result ≡ ARGUMENT → ⊥ }
     ensures same { values.new.value ≡ values.old.value }
     ensures listed { result ≡ OK → IsSomeAnd (values_in values.old.value) (λ v. IsSomeAnd (nodes_in nodes.new.value) (IsListOf v.graph)) }
     ensures empty { result ≡ EMPTY → values_in values.old.value ≡ None }
+    ensures memory { result ≡ MEMORY → is_some (values_in values.old.value) ≡ true }
     ensures kept { (result ≡ OK → ⊥) → nodes.new.value ≡ nodes.old.value }
 {
     let Some(held) = values.take(alloc) else {
         return EMPTY;
     };
     let status = match &*held {
-        Held::Values(held_values) => list(alloc, held_values, nodes),
+        Held::Values(held_values) => list_nodes(alloc, held_values, nodes),
         _ => EMPTY,
     };
     values.put(alloc, held);
     status
-}
-
-// Fills a handle with the nodes of values.
-fn list(alloc: Global, values: &Values, nodes: &mut Handle) -> u32
-    ensures known { result ≤ ABSENT }
-    ensures not_empty { result ≡ EMPTY → ⊥ }
-    ensures listed { result ≡ OK → IsSomeAnd (nodes_in nodes.new.value) (IsListOf values.now.graph) }
-    ensures kept { (result ≡ OK → ⊥) → nodes.new.value ≡ nodes.old.value }
-{
-    match Nodes::of(alloc, values.fit().flat()) {
-        Ok(made) => fill(alloc, nodes, Held::Nodes(made)),
-        Err(_) => MEMORY,
-    }
 }
 
 /// Lets go of nodes.
@@ -64,11 +55,13 @@ pub extern "C" fn dceidl_home_counts(
     roots: &mut usize,
     cells: &mut usize,
 ) -> u32
-    ensures known { result ≤ ABSENT }
+    ensures known { result ≤ EMPTY }
     ensures same { nodes.new.value ≡ nodes.old.value }
     ensures counts { result ≡ OK → IsSomeAnd (nodes_in nodes.old.value)
         (λ n. (roots.new ≡ n.roots) × (cells.new ≡ length n.starts.items - n.roots)) }
     ensures empty { result ≡ EMPTY → nodes_in nodes.old.value ≡ None }
+    ensures roots_kept { (result ≡ OK → ⊥) → roots.new ≡ roots.old }
+    ensures cells_kept { (result ≡ OK → ⊥) → cells.new ≡ cells.old }
 {
     let Some(held) = nodes.take(alloc) else {
         return EMPTY;
@@ -93,37 +86,22 @@ pub extern "C" fn dceidl_root_node(
     root: usize,
     node: &mut usize,
 ) -> u32
-    ensures known { result ≤ ABSENT }
+    ensures known { result ≤ ARGUMENT }
     ensures same { nodes.new.value ≡ nodes.old.value }
     ensures found { result ≡ OK → IsSomeAnd (nodes_in nodes.old.value) (λ n. root_start n root ≡ Some node.new) }
     ensures argument { result ≡ ARGUMENT → IsSomeAnd (nodes_in nodes.old.value) (λ n. root_start n root ≡ None) }
     ensures empty { result ≡ EMPTY → nodes_in nodes.old.value ≡ None }
+    ensures node_kept { (result ≡ OK → ⊥) → node.new ≡ node.old }
 {
     let Some(held) = nodes.take(alloc) else {
         return EMPTY;
     };
     let status = match &*held {
-        Held::Nodes(list) => set(list.root(root), node),
+        Held::Nodes(list) => set_number(list.root(root), node),
         _ => EMPTY,
     };
     nodes.put(alloc, held);
     status
-}
-
-// Sets a number, if there is one.
-fn set(found: Option<usize>, number: &mut usize) -> u32
-    ensures known { result ≤ ABSENT }
-    ensures not_empty { result ≡ EMPTY → ⊥ }
-    ensures found { result ≡ OK → found ≡ Some number.new }
-    ensures argument { result ≡ ARGUMENT → found ≡ None }
-{
-    match found {
-        Some(at) => {
-            *number = at;
-            OK
-        }
-        None => ARGUMENT,
-    }
 }
 
 /// The first node of a cell.
@@ -134,17 +112,18 @@ pub extern "C" fn dceidl_cell_node(
     cell: u32,
     node: &mut usize,
 ) -> u32
-    ensures known { result ≤ ABSENT }
+    ensures known { result ≤ ARGUMENT }
     ensures same { nodes.new.value ≡ nodes.old.value }
     ensures found { result ≡ OK → IsSomeAnd (nodes_in nodes.old.value) (λ n. cell_start n cell ≡ Some node.new) }
     ensures argument { result ≡ ARGUMENT → IsSomeAnd (nodes_in nodes.old.value) (λ n. cell_start n cell ≡ None) }
     ensures empty { result ≡ EMPTY → nodes_in nodes.old.value ≡ None }
+    ensures node_kept { (result ≡ OK → ⊥) → node.new ≡ node.old }
 {
     let Some(held) = nodes.take(alloc) else {
         return EMPTY;
     };
     let status = match &*held {
-        Held::Nodes(list) => set(list.cell(cell), node),
+        Held::Nodes(list) => set_number(list.cell(cell), node),
         _ => EMPTY,
     };
     nodes.put(alloc, held);
@@ -159,12 +138,13 @@ pub extern "C" fn dceidl_node_at(
     node: usize,
     description: &mut Description,
 ) -> u32
-    ensures known { result ≤ ABSENT }
+    ensures known { result ≤ ARGUMENT }
     ensures same { nodes.new.value ≡ nodes.old.value }
     ensures described { result ≡ OK → IsSomeAnd (nodes_in nodes.old.value)
         (λ n. IsSomeAnd (slice_get n.list.nodes.items node) (λ x. description.new ≡ described x)) }
     ensures argument { result ≡ ARGUMENT → IsSomeAnd (nodes_in nodes.old.value) (λ n. slice_get n.list.nodes.items node ≡ None) }
     ensures empty { result ≡ EMPTY → nodes_in nodes.old.value ≡ None }
+    ensures description_kept { (result ≡ OK → ⊥) → description.new ≡ description.old }
 {
     let Some(held) = nodes.take(alloc) else {
         return EMPTY;
@@ -177,22 +157,6 @@ pub extern "C" fn dceidl_node_at(
     status
 }
 
-// What a node says of itself.
-fn describe_at(list: &Nodes, node: usize, description: &mut Description) -> u32
-    ensures known { result ≤ ABSENT }
-    ensures not_empty { result ≡ EMPTY → ⊥ }
-    ensures described { result ≡ OK → IsSomeAnd (slice_get list.now.list.nodes.items node) (λ x. description.new ≡ described x) }
-    ensures argument { result ≡ ARGUMENT → slice_get list.now.list.nodes.items node ≡ None }
-{
-    match list.list.nodes.as_slice().get(node) {
-        Some(found) => {
-            *description = found.describe();
-            OK
-        }
-        None => ARGUMENT,
-    }
-}
-
 /// The node after one and all its parts.
 #[unsafe(no_mangle)]
 pub extern "C" fn dceidl_node_after(
@@ -201,11 +165,13 @@ pub extern "C" fn dceidl_node_after(
     node: usize,
     after: &mut usize,
 ) -> u32
-    ensures known { result ≤ ABSENT }
+    ensures known { result ≤ ARGUMENT }
     ensures same { nodes.new.value ≡ nodes.old.value }
     ensures found { result ≡ OK → IsSomeAnd (nodes_in nodes.old.value) (λ n. IsAfter n.list.nodes.items node 1 after.new) }
+    ensures there { result ≡ OK → IsSomeAnd (nodes_in nodes.old.value) (λ n. node < length n.list.nodes.items) }
     ensures argument { result ≡ ARGUMENT → IsSomeAnd (nodes_in nodes.old.value) (λ n. length n.list.nodes.items ≤ node) }
     ensures empty { result ≡ EMPTY → nodes_in nodes.old.value ≡ None }
+    ensures after_kept { (result ≡ OK → ⊥) → after.new ≡ after.old }
 {
     let Some(held) = nodes.take(alloc) else {
         return EMPTY;
@@ -218,22 +184,6 @@ pub extern "C" fn dceidl_node_after(
     status
 }
 
-// The node after one and all its parts.
-fn set_after(list: &Nodes, node: usize, after: &mut usize) -> u32
-    ensures known { result ≤ ABSENT }
-    ensures not_empty { result ≡ EMPTY → ⊥ }
-    ensures found { result ≡ OK → IsAfter list.now.list.nodes.items node 1 after.new }
-    ensures argument { result ≡ ARGUMENT → length list.now.list.nodes.items ≤ node }
-{
-    match list.after(node) {
-        Some(at) => {
-            *after = at;
-            OK
-        }
-        None => ARGUMENT,
-    }
-}
-
 /// A part of a node.
 #[unsafe(no_mangle)]
 pub extern "C" fn dceidl_node_part(
@@ -243,12 +193,14 @@ pub extern "C" fn dceidl_node_part(
     index: usize,
     part: &mut usize,
 ) -> u32
-    ensures known { result ≤ ABSENT }
+    ensures known { result ≤ ARGUMENT }
     ensures same { nodes.new.value ≡ nodes.old.value }
     ensures found { result ≡ OK → IsSomeAnd (nodes_in nodes.old.value) (λ n. IsAfter n.list.nodes.items (suc node) index part.new) }
+    ensures there { result ≡ OK → IsSomeAnd (nodes_in nodes.old.value) (λ n. has_part (slice_get n.list.nodes.items node) index ≡ true) }
     ensures argument { result ≡ ARGUMENT → IsSomeAnd (nodes_in nodes.old.value)
         (λ n. has_part (slice_get n.list.nodes.items node) index ≡ false) }
     ensures empty { result ≡ EMPTY → nodes_in nodes.old.value ≡ None }
+    ensures part_kept { (result ≡ OK → ⊥) → part.new ≡ part.old }
 {
     let Some(held) = nodes.take(alloc) else {
         return EMPTY;
@@ -261,22 +213,6 @@ pub extern "C" fn dceidl_node_part(
     status
 }
 
-// A part of a node.
-fn set_part(list: &Nodes, node: usize, index: usize, part: &mut usize) -> u32
-    ensures known { result ≤ ABSENT }
-    ensures not_empty { result ≡ EMPTY → ⊥ }
-    ensures found { result ≡ OK → IsAfter list.now.list.nodes.items (suc node) index part.new }
-    ensures argument { result ≡ ARGUMENT → has_part (slice_get list.now.list.nodes.items node) index ≡ false }
-{
-    match list.part(node, index) {
-        Some(at) => {
-            *part = at;
-            OK
-        }
-        None => ARGUMENT,
-    }
-}
-
 /// Copies the elements of an array or a pipe that are numbers.
 #[unsafe(no_mangle)]
 pub extern "C" fn dceidl_node_numbers(
@@ -286,16 +222,20 @@ pub extern "C" fn dceidl_node_numbers(
     out: &mut [u64],
     count: &mut usize,
 ) -> u32
-    ensures known { result ≤ ABSENT }
+    ensures known { result ≤ SHORT }
+    ensures not_memory { result ≡ MEMORY → ⊥ }
     ensures same { nodes.new.value ≡ nodes.old.value }
     ensures copied { result ≡ OK → IsSomeAnd (nodes_in nodes.old.value)
         (λ n. numbers_of n.list (slice_get n.list.nodes.items node) ≡ Some (take count.new out.new)) }
+    ensures rest { result ≡ OK → drop count.new out.new ≡ drop count.new out.old }
+    ensures room { result ≡ OK → count.new ≤ length out.old }
     ensures short { result ≡ SHORT → IsSomeAnd (nodes_in nodes.old.value)
         (λ n. IsSomeAnd (numbers_of n.list (slice_get n.list.nodes.items node)) (λ zs. (count.new ≡ length zs) × (length out.old < count.new))) }
     ensures argument { result ≡ ARGUMENT → IsSomeAnd (nodes_in nodes.old.value)
         (λ n. numbers_of n.list (slice_get n.list.nodes.items node) ≡ None) }
     ensures empty { result ≡ EMPTY → nodes_in nodes.old.value ≡ None }
     ensures kept { (result ≡ OK → ⊥) → out.new ≡ out.old }
+    ensures count_kept { (result ≡ OK → ⊥) → (result ≡ SHORT → ⊥) → count.new ≡ count.old }
 {
     let Some(held) = nodes.take(alloc) else {
         return EMPTY;
@@ -308,40 +248,6 @@ pub extern "C" fn dceidl_node_numbers(
     status
 }
 
-// Copies the elements of a node that are numbers.
-fn copy_numbers(list: &Nodes, node: usize, out: &mut [u64], count: &mut usize) -> u32
-    ensures known { result ≤ ABSENT }
-    ensures not_empty { result ≡ EMPTY → ⊥ }
-    ensures copied { result ≡ OK → numbers_of list.now.list (slice_get list.now.list.nodes.items node) ≡ Some (take count.new out.new) }
-    ensures short { result ≡ SHORT → IsSomeAnd (numbers_of list.now.list (slice_get list.now.list.nodes.items node))
-        (λ zs. (count.new ≡ length zs) × (length out.old < count.new)) }
-    ensures argument { result ≡ ARGUMENT → numbers_of list.now.list (slice_get list.now.list.nodes.items node) ≡ None }
-    ensures kept { (result ≡ OK → ⊥) → out.new ≡ out.old }
-{
-    match list.numbers_of(node) {
-        Some(numbers) => lay_out_numbers(numbers, out, count),
-        None => ARGUMENT,
-    }
-}
-
-// Lays out numbers at the front of a buffer, if it has room for them, and says how many they are.
-fn lay_out_numbers(numbers: &[u64], out: &mut [u64], count: &mut usize) -> u32
-    ensures known { result ≤ ABSENT }
-    ensures not_empty { result ≡ EMPTY → ⊥ }
-    ensures not_argument { result ≡ ARGUMENT → ⊥ }
-    ensures count { count.new ≡ length numbers.now }
-    ensures done { result ≡ OK → take count.new out.new ≡ numbers.now }
-    ensures short { result ≡ SHORT → length out.old < count.new }
-    ensures kept { (result ≡ OK → ⊥) → out.new ≡ out.old }
-{
-    *count = numbers.len();
-    if numbers.len() > out.len() {
-        return SHORT;
-    }
-    out[..numbers.len()].copy_from_slice(numbers);
-    OK
-}
-
 /// Copies the octets of a string, or of the identifier of a context handle.
 #[unsafe(no_mangle)]
 pub extern "C" fn dceidl_node_octets(
@@ -351,16 +257,20 @@ pub extern "C" fn dceidl_node_octets(
     out: &mut [u8],
     len: &mut usize,
 ) -> u32
-    ensures known { result ≤ ABSENT }
+    ensures known { result ≤ SHORT }
+    ensures not_memory { result ≡ MEMORY → ⊥ }
     ensures same { nodes.new.value ≡ nodes.old.value }
     ensures copied { result ≡ OK → IsSomeAnd (nodes_in nodes.old.value)
         (λ n. octets_of n.list (slice_get n.list.nodes.items node) ≡ Some (take len.new out.new)) }
+    ensures rest { result ≡ OK → drop len.new out.new ≡ drop len.new out.old }
+    ensures room { result ≡ OK → len.new ≤ length out.old }
     ensures short { result ≡ SHORT → IsSomeAnd (nodes_in nodes.old.value)
         (λ n. IsSomeAnd (octets_of n.list (slice_get n.list.nodes.items node)) (λ os. (len.new ≡ length os) × (length out.old < len.new))) }
     ensures argument { result ≡ ARGUMENT → IsSomeAnd (nodes_in nodes.old.value)
         (λ n. octets_of n.list (slice_get n.list.nodes.items node) ≡ None) }
     ensures empty { result ≡ EMPTY → nodes_in nodes.old.value ≡ None }
     ensures kept { (result ≡ OK → ⊥) → out.new ≡ out.old }
+    ensures len_kept { (result ≡ OK → ⊥) → (result ≡ SHORT → ⊥) → len.new ≡ len.old }
 {
     let Some(held) = nodes.take(alloc) else {
         return EMPTY;
@@ -373,22 +283,6 @@ pub extern "C" fn dceidl_node_octets(
     status
 }
 
-// Copies the octets of a node.
-fn copy_octets(list: &Nodes, node: usize, out: &mut [u8], len: &mut usize) -> u32
-    ensures known { result ≤ ABSENT }
-    ensures not_empty { result ≡ EMPTY → ⊥ }
-    ensures copied { result ≡ OK → octets_of list.now.list (slice_get list.now.list.nodes.items node) ≡ Some (take len.new out.new) }
-    ensures short { result ≡ SHORT → IsSomeAnd (octets_of list.now.list (slice_get list.now.list.nodes.items node))
-        (λ os. (len.new ≡ length os) × (length out.old < len.new)) }
-    ensures argument { result ≡ ARGUMENT → octets_of list.now.list (slice_get list.now.list.nodes.items node) ≡ None }
-    ensures kept { (result ≡ OK → ⊥) → out.new ≡ out.old }
-{
-    match list.octets_of(node) {
-        Some(octets) => lay_out(octets, out, len),
-        None => ARGUMENT,
-    }
-}
-
 /// Copies the elements of an array or a pipe that are numbers, an octet each.
 #[unsafe(no_mangle)]
 pub extern "C" fn dceidl_node_bytes(
@@ -398,16 +292,20 @@ pub extern "C" fn dceidl_node_bytes(
     out: &mut [u8],
     len: &mut usize,
 ) -> u32
-    ensures known { result ≤ ABSENT }
+    ensures known { result ≤ SHORT }
+    ensures not_memory { result ≡ MEMORY → ⊥ }
     ensures same { nodes.new.value ≡ nodes.old.value }
     ensures copied { result ≡ OK → IsSomeAnd (nodes_in nodes.old.value)
         (λ n. IsSomeAnd (numbers_of n.list (slice_get n.list.nodes.items node)) (λ zs. take len.new out.new ≡ map low_octet zs)) }
+    ensures rest { result ≡ OK → drop len.new out.new ≡ drop len.new out.old }
+    ensures room { result ≡ OK → len.new ≤ length out.old }
     ensures short { result ≡ SHORT → IsSomeAnd (nodes_in nodes.old.value)
         (λ n. IsSomeAnd (numbers_of n.list (slice_get n.list.nodes.items node)) (λ zs. (len.new ≡ length zs) × (length out.old < len.new))) }
     ensures argument { result ≡ ARGUMENT → IsSomeAnd (nodes_in nodes.old.value)
         (λ n. numbers_of n.list (slice_get n.list.nodes.items node) ≡ None) }
     ensures empty { result ≡ EMPTY → nodes_in nodes.old.value ≡ None }
     ensures kept { (result ≡ OK → ⊥) → out.new ≡ out.old }
+    ensures len_kept { (result ≡ OK → ⊥) → (result ≡ SHORT → ⊥) → len.new ≡ len.old }
 {
     let Some(held) = nodes.take(alloc) else {
         return EMPTY;
@@ -418,50 +316,4 @@ pub extern "C" fn dceidl_node_bytes(
     };
     nodes.put(alloc, held);
     status
-}
-
-// Copies the elements of a node that are numbers, an octet each.
-fn copy_bytes(list: &Nodes, node: usize, out: &mut [u8], len: &mut usize) -> u32
-    ensures known { result ≤ ABSENT }
-    ensures not_empty { result ≡ EMPTY → ⊥ }
-    ensures copied { result ≡ OK → IsSomeAnd (numbers_of list.now.list (slice_get list.now.list.nodes.items node))
-        (λ zs. take len.new out.new ≡ map low_octet zs) }
-    ensures short { result ≡ SHORT → IsSomeAnd (numbers_of list.now.list (slice_get list.now.list.nodes.items node))
-        (λ zs. (len.new ≡ length zs) × (length out.old < len.new)) }
-    ensures argument { result ≡ ARGUMENT → numbers_of list.now.list (slice_get list.now.list.nodes.items node) ≡ None }
-    ensures kept { (result ≡ OK → ⊥) → out.new ≡ out.old }
-{
-    match list.numbers_of(node) {
-        Some(numbers) => lay_out_bytes(numbers, out, len),
-        None => ARGUMENT,
-    }
-}
-
-// Lays out numbers at the front of a buffer, an octet each, if it has room for them, and says how many they are.
-fn lay_out_bytes(numbers: &[u64], out: &mut [u8], len: &mut usize) -> u32
-    ensures known { result ≤ ABSENT }
-    ensures not_empty { result ≡ EMPTY → ⊥ }
-    ensures not_argument { result ≡ ARGUMENT → ⊥ }
-    ensures len { len.new ≡ length numbers.now }
-    ensures done { result ≡ OK → take len.new out.new ≡ map low_octet numbers.now }
-    ensures short { result ≡ SHORT → length out.old < len.new }
-    ensures kept { (result ≡ OK → ⊥) → out.new ≡ out.old }
-{
-    *len = numbers.len();
-    if numbers.len() > out.len() {
-        return SHORT;
-    }
-    for at in 0..numbers.len() {
-        put_octet(out, at, numbers[at]);
-    }
-    OK
-}
-
-// Writes the low octet of a number at a place.
-fn put_octet(out: &mut [u8], at: usize, number: u64)
-    requires { at < length out.old }
-    ensures front { take (at + 1) out.new ≡ take at out.old ++ low_octet number ∷ [] }
-    ensures wide { length out.new ≡ length out.old }
-{
-    out[at] = (number % 256) as u8;
 }

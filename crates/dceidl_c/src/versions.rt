@@ -1,12 +1,11 @@
 // Versions of an interface.
-ghost use Rattle.std.specs.Prelude.{◌≡◌, ◌≤◌, Some, None, IsSomeAnd};
+ghost use Rattle.std.specs.Prelude.{◌≡◌, ◌≤◌, Some, None, true, is_some, IsSomeAnd};
 ghost use Rattle.nd_types.specs.declared.interface.Interface.{Interface};
 ghost use Rattle.library_calls.specs.Versions.{AreCompatible};
-ghost use Rattle.dceidl_c.specs.Answers.{interface_in, refusal_in};
-ghost use Rattle.dceidl_c.specs.Versions.{IsCompareRefusal};
+ghost use Rattle.library_answers.specs.Answers.{interface_in, refusal_in};
+ghost use Rattle.library_answers.specs.Versions.{IsCompareRefusal};
 
-use crate::answers::{ABSENT, EMPTY, OK, REFUSED, refuse};
-use library_calls::compare_versions;
+use library_answers::{ARGUMENT, EMPTY, MEMORY, OK, REFUSED, SHORT, compare};
 use library_handles::{Handle, Held};
 use library_interface::Compiled;
 use std::alloc::Global;
@@ -19,7 +18,9 @@ pub extern "C" fn dceidl_compare(
     newer: &mut Handle,
     fault: &mut Handle,
 ) -> u32
-    ensures known { result ≤ ABSENT }
+    ensures known { result ≤ REFUSED }
+    ensures not_argument { result ≡ ARGUMENT → ⊥ }
+    ensures not_short { result ≡ SHORT → ⊥ }
     ensures older_same { older.new.value ≡ older.old.value }
     ensures newer_same { newer.new.value ≡ newer.old.value }
     ensures compatible { result ≡ OK → IsSomeAnd (interface_in older.old.value)
@@ -27,6 +28,7 @@ pub extern "C" fn dceidl_compare(
     ensures refused { result ≡ REFUSED → IsSomeAnd (interface_in older.old.value)
         (λ i. IsSomeAnd (interface_in newer.old.value) (λ j. IsSomeAnd (refusal_in fault.new.value) (λ e. IsCompareRefusal i j e))) }
     ensures empty { result ≡ EMPTY → (i : Interface) → interface_in older.old.value ≡ Some i → interface_in newer.old.value ≡ None }
+    ensures memory { result ≡ MEMORY → IsSomeAnd (interface_in older.old.value) (λ _. is_some (interface_in newer.old.value) ≡ true) }
     ensures fault_kept { (result ≡ REFUSED → ⊥) → fault.new.value ≡ fault.old.value }
 {
     let Some(held) = older.take(alloc) else {
@@ -42,12 +44,15 @@ pub extern "C" fn dceidl_compare(
 
 // The same, beside the interface of the older version.
 fn compare_with(alloc: Global, older: &Compiled, newer: &mut Handle, fault: &mut Handle) -> u32
-    ensures known { result ≤ ABSENT }
+    ensures known { result ≤ REFUSED }
+    ensures not_argument { result ≡ ARGUMENT → ⊥ }
+    ensures not_short { result ≡ SHORT → ⊥ }
     ensures newer_same { newer.new.value ≡ newer.old.value }
     ensures compatible { result ≡ OK → IsSomeAnd (interface_in newer.old.value) (λ j. AreCompatible older.now j) }
     ensures refused { result ≡ REFUSED → IsSomeAnd (interface_in newer.old.value)
         (λ j. IsSomeAnd (refusal_in fault.new.value) (λ e. IsCompareRefusal older.now j e)) }
     ensures empty { result ≡ EMPTY → interface_in newer.old.value ≡ None }
+    ensures memory { result ≡ MEMORY → is_some (interface_in newer.old.value) ≡ true }
     ensures fault_kept { (result ≡ REFUSED → ⊥) → fault.new.value ≡ fault.old.value }
 {
     let Some(held) = newer.take(alloc) else {
@@ -59,19 +64,4 @@ fn compare_with(alloc: Global, older: &Compiled, newer: &mut Handle, fault: &mut
     };
     newer.put(alloc, held);
     status
-}
-
-// The same, of two interfaces.
-#[tactic(auto, using(crate::proofs::Calls::compare_refused))]
-fn compare(alloc: Global, older: &Compiled, newer: &Compiled, fault: &mut Handle) -> u32
-    ensures known { result ≤ ABSENT }
-    ensures not_empty { result ≡ EMPTY → ⊥ }
-    ensures compatible { result ≡ OK → AreCompatible older.now newer.now }
-    ensures refused { result ≡ REFUSED → IsSomeAnd (refusal_in fault.new.value) (λ e. IsCompareRefusal older.now newer.now e) }
-    ensures fault_kept { (result ≡ REFUSED → ⊥) → fault.new.value ≡ fault.old.value }
-{
-    match compare_versions(alloc, older.interface(), newer.interface()) {
-        Ok(()) => OK,
-        Err(refusal) => refuse(alloc, fault, refusal),
-    }
 }

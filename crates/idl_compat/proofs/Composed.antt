@@ -1,10 +1,12 @@
 -- Comparison is reflexive and transitive: an interface is alike to itself by all its types, and pairs of pairs make alike what each list makes alike.
-use Rattle.std.proofs.Common.{arith, ◌≡◌, ℕ, ◌<◌, ◌≤◌, zero, suc, Bool, true, false, not, ◌&&◌, ◌||◌, eqb, ltb, List, [], ◌∷◌, ◌++◌, Option, Some, None, refl, ap, sym, ◌∙◌, subst, length, inl, inr}
+use Rattle.std.proofs.Common.{arith, ◌≡◌, ℕ, ◌<◌, ◌≤◌, zero, suc, Bool, true, false, not, ◌||◌, eqb, ltb, List, [], ◌∷◌, ◌++◌, Option, Some, None, refl, ap, sym, ◌∙◌, subst, length, inl, inr}
 use Rattle.std.proofs.Common.{◌⊎◌, map}
 use Rattle.std.specs.Prelude.{slice_get}
 use Rattle.std.specs.List.{list_all}
-use Rattle.std.proofs.lemmas.Bool.{eqb-true, eqb-false, ltb-true}
+use Rattle.std.proofs.lemmas.Bool.{eqb-true, eqb-false, ltb-true, or_cases}
 use Rattle.std.proofs.lemmas.Option.{same_Some, slice_get-get_or}
+use Rattle.nd_lemmas.proofs.Booleans.{first_true, second_true}
+use Rattle.nd_lemmas.proofs.Lists.{none_below}
 use Rattle.nd_types.specs.declared.interface.Interface.{Interface}
 use Rattle.nd_types.specs.declared.types.TypeId.{TypeId}
 use Rattle.nd_types.specs.declared.types.TypeDef.{TypeDef}
@@ -42,18 +44,6 @@ below zero zero l f = absurd (f refl)
 below zero (suc n) l f = omega arith
 below (suc t) zero l f = absurd (omega (arith, l))
 below (suc t) (suc n) l f = let a : t < n = below t n (omega (arith, l)) (λ e. f (ap suc e)) in omega (arith, a)
-
-both_true : (a b : Bool) → (a && b) ≡ true → a ≡ true
-both_true true b e = refl
-both_true false b e = cc
-
-rest_true : (a b : Bool) → (a && b) ≡ true → b ≡ true
-rest_true true b e = e
-rest_true false b e = cc
-
-either_true : (a b : Bool) → (a || b) ≡ true → (a ≡ true) ⊎ (b ≡ true)
-either_true true b e = inl refl
-either_true false b e = inr e
 
 module _ (R : ℕ → ℕ → Type 0) where
   fields_self : (fs : List Field) → ((v : ℕ) → Among (map (λ f. f.of.0) fs) v → R v v) → OneByOne (AlikeFields R) fs fs
@@ -121,18 +111,13 @@ selves_has (suc n) t l = by (λ k. selves_has n t k) (eqb t n) refl
 
 all_among : {X : Type 0} (p : X → Bool) (xs : List X) → list_all p xs ≡ true → (x : X) → Among xs x → p x ≡ true
 all_among p [] e x h = absurd h
-all_among p (y ∷ ys) e x (inl h) = ap p h ∙ both_true (p y) (list_all p ys) e
-all_among p (y ∷ ys) e x (inr h) = all_among p ys (rest_true (p y) (list_all p ys) e) x h
+all_among p (y ∷ ys) e x (inl h) = ap p h ∙ first_true (p y) (list_all p ys) e
+all_among p (y ∷ ys) e x (inr h) = all_among p ys (second_true (p y) (list_all p ys) e) x h
 
 at_among : {X : Type 0} (xs : List X) (i : ℕ) (x : X) → slice_get xs i ≡ Some x → Among xs x
 at_among [] i x e = cc
 at_among (y ∷ ys) zero x e = inl (sym (same_Some y x e))
 at_among (y ∷ ys) (suc i) x e = inr (at_among ys i x e)
-
-some_at : {X : Type 0} (xs : List X) (i : ℕ) → i < length xs → slice_get xs i ≡ None → ⊥
-some_at [] i l e = absurd (omega (arith, l))
-some_at (x ∷ xs) zero l e = cc
-some_at (x ∷ xs) (suc i) l e = some_at xs i (omega (arith, l)) e
 
 module _ (i : Interface) where
   abbrev n : ℕ
@@ -153,14 +138,14 @@ module _ (i : Interface) where
       }
 
   types_by : (t : ℕ) (o : Option TypeDef) → type_at i.types t ≡ o → t < n → AlikeTypes self o o
-  types_by t None e l = absurd (some_at i.types t l e)
+  types_by t None e l = absurd (none_below i.types t l e)
   types_by t (Some d) e l =
       let k : list_all (is_in_table i.types) (named_types d) ≡ true =
       all_among (λ x. list_all (is_in_table i.types) (named_types x)) i.types i.legal.types_known d (at_among i.types t d e) in
       types_self self d (λ v h. known v (all_among (is_in_table i.types) (named_types d) k v h))
 
   param_by : (p : Param) → (is_handle p || is_in_table i.types p.field.of.0) ≡ true → ((p.field.of.0 ≡ HANDLE.0) × (p.field.of.0 ≡ HANDLE.0)) ⊎ self p.field.of.0 p.field.of.0
-  param_by p e = by (either_true (is_handle p) (is_in_table i.types p.field.of.0) e)
+  param_by p e = by (or_cases (is_handle p) (is_in_table i.types p.field.of.0) e)
     where
       by : (is_handle p ≡ true) ⊎ (is_in_table i.types p.field.of.0 ≡ true) → ((p.field.of.0 ≡ HANDLE.0) × (p.field.of.0 ≡ HANDLE.0)) ⊎ self p.field.of.0 p.field.of.0
       by (inl a) = inl (eqb-true p.field.of.0 HANDLE.0 a, eqb-true p.field.of.0 HANDLE.0 a)
@@ -171,7 +156,7 @@ module _ (i : Interface) where
   result_by (Some t) e = known t.0 e
 
   operation_by : (k : ℕ) (o : Option Operation) → slice_get i.operations k ≡ o → k < length i.operations → AlikeFound self o o
-  operation_by k None e l = absurd (some_at i.operations k l e)
+  operation_by k None e l = absurd (none_below i.operations k l e)
   operation_by k (Some o) e l =
       let h : Among i.operations o = at_among i.operations k o e in
       let P : Param → Bool = λ p. is_handle p || is_in_table i.types p.field.of.0 in

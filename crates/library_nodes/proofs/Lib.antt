@@ -1,4 +1,11 @@
 mod Adding
 mod Many
 mod Walked
-mod Homes
+mod Single
+mod AddedHomes
+mod Outcomes
+mod Lists
+mod BuiltNodes
+mod Counts
+mod Graphs
+mod OneGraph

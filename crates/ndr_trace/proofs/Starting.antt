@@ -21,18 +21,18 @@ use Rattle.nd_value.specs.Tree as tree
 use Rattle.nd_value.specs.Tree.{Referent, Tree, node}
 use Rattle.nd_value.specs.Variables.{root_agreements}
 use Rattle.nd_value.proofs.Apart.{among_left}
-use Rattle.nd_value.proofs.DeferralBridge.{some_before}
 use Rattle.nd_value.proofs.NodeFacts.{IsSound, sound_partial}
+use Rattle.nd_value.proofs.FewRoots.{few_before_pipes}
 use Rattle.nd_grammar.specs.Entry.{Entry, full_cell, full_cells}
 use Rattle.nd_grammar.specs.Represents.{IsNumbering}
 use Rattle.nd_grammar.specs.Stream.{Stream, pipes_entries, root_test, root_tests, step_entries}
 use Rattle.nd_grammar.proofs.NamedOrder.{named_in_order}
 use Rattle.nd_grammar.proofs.next.StreamPointers.{is_good}
 use Rattle.ndr_decoder_laws.specs.verdict.InOrder.{HasOwnNumbers}
-use Rattle.ndr_trace_laws.specs.Counting.{Counts, IsIn}
-use Rattle.ndr_trace_laws.specs.Untested.{untested}
-use Rattle.ndr_trace_laws.proofs.Numbers.{named_in_turn}
-use Rattle.ndr_trace_laws.proofs.Untested.{untested_append}
+use Rattle.ndr_trace_value.specs.Counting.{Counts, IsIn}
+use Rattle.ndr_trace_value.specs.Untested.{untested}
+use Rattle.ndr_trace_value.proofs.Numbers.{named_in_turn}
+use Rattle.ndr_trace_value.proofs.Untested.{untested_append}
 use Rattle.ndr_trace_value.specs.declared.cells.Cells.{Cells}
 use Rattle.ndr_trace_value.specs.declared.nodes.Walker.{Walker}
 use Rattle.ndr_trace.specs.Homes.{IsPart, step_names}
@@ -71,7 +71,7 @@ module _ (k : Known) (s : IsPart k) (ms : List Entry) (a : Stream k.setting k.gr
 
   mine : AllByRecursion (Mine k.setting k.graph (sound_partial k.setting k.graph s.partial)) (due_roots 0 (before_pipes (root_list k.setting)))
   mine =
-      let few = some_before k.setting k.graph (root_list k.setting) in
+      let few = few_before_pipes (root_list k.setting) in
       roots_mine k.setting k.graph (sound_partial k.setting k.graph s.partial) 0 (before_pipes (root_list k.setting)) (omega (arith, few))
 
   -- cells are named in the order of their numbers

@@ -2,7 +2,6 @@ pub mod Passages
 pub mod Uuids
 pub mod OneMore
 pub mod OpenedValues
-pub mod Arms
 pub mod SmallParts
 pub mod ListParts
 pub mod ByteLists
@@ -17,3 +16,8 @@ pub mod LineParts
 pub mod CellParts
 pub mod WholeTexts
 pub mod TextAnswers
+pub mod FirstTokens
+pub mod Scanning
+pub mod Shown
+pub mod OneStep
+pub mod Quick

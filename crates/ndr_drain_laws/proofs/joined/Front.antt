@@ -3,6 +3,7 @@ use Rattle.std.proofs.Common.{◌≡◌, ◌<◌, ◌≤◌, ◌-◌, ◌∙◌,
 use Rattle.std.specs.List.{AllByRecursion, slice_get}
 use Rattle.std.proofs.lemmas.List.{length-replicate}
 use Rattle.std.proofs.lemmas.Option.{slice_get-get_or}
+use Rattle.std.proofs.lemmas.Bool.{cases_lt}
 use Rattle.nd_base.specs.declared.octets.Order.{Order}
 use Rattle.nd_base.specs.declared.TheConstants.{STREAM_LIMIT}
 use Rattle.nd_types.specs.Roots.{Root}
@@ -14,8 +15,8 @@ use Rattle.nd_value.specs.Deferral.{before_pipes, root_type}
 use Rattle.nd_value.specs.Nodes.{home_nodes, nodes_of}
 use Rattle.nd_value.specs.Setting.{Setting, root_list}
 use Rattle.nd_value.proofs.Apart.{all_append, all_left, all_weaker}
-use Rattle.nd_value.proofs.DeferralBridge.{some_before}
 use Rattle.nd_value.proofs.NodeFacts.{fit_node}
+use Rattle.nd_value.proofs.FewRoots.{few_before_pipes}
 use Rattle.nd_grammar.specs.Entry.{Entry, size_at, end_to_end, end_of, full_cells}
 use Rattle.nd_grammar.specs.LegalSide.{IsLegalSide}
 use Rattle.nd_grammar.specs.Refusal.{Accepts, same_home}
@@ -27,7 +28,6 @@ use Rattle.nd_grammar.proofs.conforming.GoodEntries.{GoodEntry, HoldsNoPipe, goo
 use Rattle.nd_grammar.specs.ReaderState.{IsNoPipe}
 use Rattle.nd_grammar.proofs.conforming.GoodStream.{good_stream}
 use Rattle.nd_grammar.proofs.conforming.GoodTrees.{GoodTrees, IsGoodNode, good_trees}
-use Rattle.nd_grammar.proofs.conforming.StreamConforms.{le_or}
 use Rattle.nd_grammar.proofs.legal.LegalPipes.{holds_no_pipe, plain_before}
 use Rattle.nd_grammar.proofs.next.NextStream.{IsPipeRoot, drop_at}
 use Rattle.nd_lemmas.proofs.Lists.{all_at}
@@ -102,7 +102,7 @@ module _ (w : Setting) (side : IsLegalSide w) (order : Order) (head : List ℕ) 
   pub head_good : AllByRecursion (GoodEntry g) (head_entries w g it.is_head.steps)
   head_good =
       all_left (GoodEntry g) (head_entries w g it.is_head.steps) (pipes_entries w.table n (drop n (root_list w)) (drop n g.roots) none_cut)
-      (good_stream w no_pipes g it.conforms (plain_before w side) (some_before w g (root_list w)) (laid_out w side).pipes (representation w g it.is_head.steps none_cut) own_stream)
+      (good_stream w no_pipes g it.conforms (plain_before w side) (few_before_pipes (root_list w)) (laid_out w side).pipes (representation w g it.is_head.steps none_cut) own_stream)
 
   elem_no_pipe : (i : ℕ) → n ≤ i → i < length (root_list w) → IsNoPipe w.table (elem_at w i)
   elem_no_pipe i low high =
@@ -178,7 +178,7 @@ module _ (w : Setting) (side : IsLegalSide w) (order : Order) (head : List ℕ) 
       let B : List Entry = parts_entries w (first_spot w head) parts in
       let T : List Entry = root_tests w g 0 (root_list w) g.roots in
       let tests : AllByRecursion (λ m. same_home m.home (home.Root z.root) ≡ false) T =
-      root_tests_away z.root w g 0 (root_list w) g.roots (λ j x e. early j x e late (le_or j n)) in
+      root_tests_away z.root w g 0 (root_list w) g.roots (λ j x e. early j x e late (cases_lt j n)) in
       let away : AllByRecursion (λ m. same_home m.home (home.Root z.root) ≡ false) A =
       all_append (λ m. same_home m.home (home.Root z.root) ≡ false) _ T (steps_away z.root w g it.is_head.deferral (early_roots z.root 0 n (omega (arith, late)))) tests in
       at_places (IsBefore z.root z.node) 0 E
