@@ -20,17 +20,17 @@ use std::alloc::Global;
 
 /// Runs the script on the input and returns the exit status.
 ///
-/// The input is read to its end, or to one octet past [`SCRIPT_LIMIT`](ctx_session::SCRIPT_LIMIT), and is checked as a whole. Its lines then open, use
-/// and end resources of the stock, whose fresh ones were never ended, under the identifiers of context handles (C706 section 5.1.6): `open CLIENT UUID`
-/// the first fresh one, `use UUID TEXT` applies a line to one, `close UUID` ends one, `down CLIENT` ends all of a client. Each line is answered by a line
-/// of `out`. After the last line all that is live is ended, client by client. Resources that were ended are appended to the spent ones.
+/// The input is read to its end, or to one octet past [`SCRIPT_LIMIT`](ctx_session::SCRIPT_LIMIT), and is checked as a whole. Its lines then open,
+/// use and end resources of the stock, whose fresh ones were never ended, under the identifiers of context handles (C706 section 5.1.6): `open CLIENT
+/// UUID` the first fresh one, `use UUID TEXT` applies a line to one, `close UUID` ends one, `down CLIENT` ends all of a client. Each line is answered
+/// by a line of `out`. After the last line all that is live is ended, client by client. Resources that were ended are appended to the spent ones.
 ///
-/// With status 0 the whole input was read, `out` has the answers, and `notes` are as before. With status 1 the script is refused: for its first line that
-/// is none, or for its length. Status 3 is a read fault, 4 a fault of `out` or `notes`, 5 out of memory. If the session was not done, the stock is as
-/// before.
+/// With status 0 the whole input was read, `out` has the answers, and `notes` are as before. With status 1 the script is refused: for its first line
+/// that is none, or for its length. Status 3 is a read fault, 4 a fault of `out` or `notes`, 5 out of memory. If the session was not done, the stock
+/// is as before.
 ///
-/// All memory is taken before the first line is done: for the input with a buffer of 65,536 octets, for the resources that the script opens, and for the
-/// answers, 16 octets a line. All but what the stock keeps is released.
+/// All memory is taken before the first line is done: for the input with a buffer of 65,536 octets, for the resources that the script opens, and for
+/// the answers, 16 octets a line. All but what the stock keeps is released.
 pub fn session<S: Source, K: Sink, N: Sink, R: Resource>(
     alloc: Global,
     input: &mut S,

@@ -6,8 +6,9 @@ use nd_base::{OutputSink, Sink};
 use std::fs::OpenOptions;
 use std::rt;
 
-/// A resource that appends each line with a line feed to a file. The file is made, or opened at its end, when the first line is applied, and closed when the
-/// resource is ended. It shows nothing but whether it was ended. A line fails if the file cannot be opened or written; then a part of it may be in the file.
+/// A resource that appends each line with a line feed to a file. The file is made, or opened at its end, when the first line is applied, and closed
+/// when the resource is ended. It shows nothing but whether it was ended. A line fails if the file cannot be opened or written; then a part of it may
+/// be in the file.
 #[derive(Drop)]
 pub struct FileResource<R: rt::Files + Copy> {
     rt: R,

@@ -14,13 +14,14 @@ pub trait Resource: Drop {
     /// The lines applied, where it shows them; whether it was ended; how often it failed.
     ghost shows: { Self → ResourceSeen };
 
-    /// Applies a line. `ResourceFailed` comes only where the count of faults rose; then the line was not added. The resource must not be ended before.
+    /// Applies a line. `ResourceFailed` comes only where the count of faults rose; then the line was not added. The resource must not be ended
+    /// before.
     fn apply(&mut self, line: &[u8]) -> Result<(), ResourceFailed>
         requires { (shows self.old).ended ≡ false }
         ensures { HasApplied (shows self.old) (shows self.new) line.now result };
 
-    /// Ends the resource, and adds no line. `ResourceFailed` comes only where the count of faults rose; the resource is ended then too. It must not be
-    /// ended before.
+    /// Ends the resource, and adds no line. `ResourceFailed` comes only where the count of faults rose; the resource is ended then too. It must not
+    /// be ended before.
     fn end(&mut self) -> Result<(), ResourceFailed>
         requires { (shows self.old).ended ≡ false }
         ensures { HasEnded (shows self.old) (shows self.new) result };

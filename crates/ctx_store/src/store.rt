@@ -1,5 +1,6 @@
 // A store of live resources, in the order of opening. A resource is live from when it is opened until it is ended.
-ghost use Rattle.std.specs.Prelude.{◌≡◌, ◌+◌, ◌<◌, ◌≤◌, ◌++◌, [], ◌∷◌, length, eqb, false, IfOk, IfErr, OnOk, OnErr, MatchResult, MatchOption, option_map, Some, None, map, remove, position};
+ghost use Rattle.std.specs.Prelude.{◌≡◌, ◌+◌, ◌<◌, ◌≤◌, ◌++◌, [], ◌∷◌, length, eqb, false, Some, None, map, remove, position};
+ghost use Rattle.std.specs.Prelude.{IfOk, IfErr, OnOk, OnErr, MatchResult, MatchOption, option_map};
 ghost use Rattle.std.specs.List.{slice_get};
 ghost use Rattle.ctx_store.specs.Resource.{HasApplied, HasEndedSo};
 ghost use Rattle.ctx_store.specs.Live.{AreLive, place_of, first_of};
@@ -60,8 +61,8 @@ struct Entry<R: Drop> {
     resource: R,
 }
 
-/// A store of resources of one type, each opened for a client under the identifier of its context handle (C706 section 6.1.6). It keeps them in the order of opening, and
-/// finds one by a table of the identifiers, in a time that does not grow with their number.
+/// A store of resources of one type, each opened for a client under the identifier of its context handle (C706 section 6.1.6). It keeps them in the
+/// order of opening, and finds one by a table of the identifiers, in a time that does not grow with their number.
 #[derive(Drop)]
 pub struct StoreOf<R: Drop> {
     handles: Handles,
@@ -123,7 +124,8 @@ impl<R: Resource> StoreOf<R> {
         }
     }
 
-    /// Makes room for so many more, which can then be opened without memory. Running out of memory is the only refusal, and changes nothing but the room.
+    /// Makes room for so many more, which can then be opened without memory. Running out of memory is the only refusal, and changes nothing but the
+    /// room.
     pub fn reserve(&mut self, more: u32) -> Result<(), Memory>
         ensures same { store_seen R.shows self.new ≡ store_seen R.shows self.old }
         ensures room { OnOk result (more ≤ store_spare self.new) }
@@ -152,15 +154,17 @@ impl<R: Resource> StoreOf<R> {
         None
     }
 
-    /// Opens a resource, which was never ended, under an identifier, for a client. There must be room. A refusal hands the resource back and changes nothing. Takes no
-    /// memory.
+    /// Opens a resource, which was never ended, under an identifier, for a client. There must be room. A refusal hands the resource back and changes
+    /// nothing. Takes no memory.
     pub fn open(&mut self, client: u32, id: Uuid, resource: R) -> Result<(), (OpenFault, R)>
         requires spare { 0 < store_spare self.old }
         requires live { AreLive (store_seen R.shows self.old) }
         requires fresh { (R.shows resource).ended ≡ false }
-        ensures opened { OnOk result (store_seen R.shows self.new ≡ store_seen R.shows self.old ++ record { id = id; client = client; resource = R.shows resource } ∷ []) }
+        ensures opened { OnOk result (store_seen R.shows self.new
+            ≡ store_seen R.shows self.old ++ record { id = id; client = client; resource = R.shows resource } ∷ []) }
         ensures same { OnErr result (store_seen R.shows self.new ≡ store_seen R.shows self.old) }
-        ensures fault { MatchResult result (λ _. open_fault (store_seen R.shows self.old) id ≡ None) (λ e. open_fault (store_seen R.shows self.old) id ≡ Some e.0) }
+        ensures fault { MatchResult result (λ _. open_fault (store_seen R.shows self.old) id ≡ None)
+            (λ e. open_fault (store_seen R.shows self.old) id ≡ Some e.0) }
         ensures back { IfErr result (λ e. e.1 ≡ resource) }
         ensures live { AreLive (store_seen R.shows self.new) }
         ensures spare { store_spare self.old ≤ store_spare self.new + 1 }
@@ -225,7 +229,9 @@ impl<R: Resource> StoreOf<R> {
     /// identifier is not live. The resources opened later, at most 4,095, are moved. Takes no memory but what the resource takes.
     pub fn close(&mut self, id: Uuid) -> Result<SpentOf<R>, Unknown>
         requires live { AreLive (store_seen R.shows self.old) }
-        ensures does { MatchResult result (λ s. Closes (store_seen R.shows self.old) (store_seen R.shows self.new) id (R.shows s.resource) s.failed) (λ _. IsUnknown (store_seen R.shows self.old) (store_seen R.shows self.new) id) }
+        ensures does { MatchResult result
+            (λ s. Closes (store_seen R.shows self.old) (store_seen R.shows self.new) id (R.shows s.resource) s.failed)
+            (λ _. IsUnknown (store_seen R.shows self.old) (store_seen R.shows self.new) id) }
         ensures live { AreLive (store_seen R.shows self.new) }
         ensures spare { store_spare self.old ≤ store_spare self.new }
     {
@@ -235,12 +241,13 @@ impl<R: Resource> StoreOf<R> {
         }
     }
 
-    /// Ends the first live resource of a client, in the order of opening, and hands it out; it has then left the store, whether or not it failed. None
-    /// comes exactly where the client has none. It looks through the resources in order, and moves those opened later. Takes no memory but what the
-    /// resource takes.
+    /// Ends the first live resource of a client, in the order of opening, and hands it out; it has then left the store, whether or not it failed.
+    /// None comes exactly where the client has none. It looks through the resources in order, and moves those opened later. Takes no memory but what
+    /// the resource takes.
     pub fn run_down(&mut self, client: u32) -> Option<SpentOf<R>>
         requires live { AreLive (store_seen R.shows self.old) }
-        ensures does { MatchOption result (HasNone (store_seen R.shows self.old) (store_seen R.shows self.new) client) (λ s. RunsDown (store_seen R.shows self.old) (store_seen R.shows self.new) client (R.shows s.resource) s.failed) }
+        ensures does { MatchOption result (HasNone (store_seen R.shows self.old) (store_seen R.shows self.new) client)
+            (λ s. RunsDown (store_seen R.shows self.old) (store_seen R.shows self.new) client (R.shows s.resource) s.failed) }
         ensures live { AreLive (store_seen R.shows self.new) }
         ensures spare { store_spare self.old ≤ store_spare self.new }
     {

@@ -3,8 +3,8 @@ ghost use Rattle.std.specs.Prelude.{◌≡◌, ◌<◌, [], ◌∷◌, ◌++◌,
 
 use crate::Memory;
 
-/// Adds an item to the end of a list. It takes memory if the list has no room left; out of memory is the only refusal, and then the list is as it was,
-/// and had no room left.
+/// Adds an item to the end of a list. It takes memory if the list has no room left; out of memory is the only refusal, and then the list is as it
+/// was, and had no room left.
 #[inline(always)]
 pub fn push<T: Drop>(list: &mut Vec<T>, item: T) -> Result<(), Memory>
     ensures ok { OnOk result (list.new.items ≡ list.old.items ++ item ∷ []) }
