@@ -40,43 +40,29 @@ pub fn wanted(machine: &Machine, instr: Instr, values: &EnumLists) -> Want
     match instr {
         Instr::Align { to } => Want::Gap(gap_to(machine.at, to)),
         Instr::Num { of } => Want::Item(width_of(prim_of(of.0)) as u32),
-        Instr::Enum { of: _ } => Want::Item(2),
-        Instr::Vary { bound: _, run: _ } => Want::Item(4),
-        Instr::Confvary { run: _ } => Want::Item(4),
-        Instr::Text { bound: _ } => text_wanted(machine),
+        Instr::Enum { .. } => Want::Item(2),
+        Instr::Vary { .. } => Want::Item(4),
+        Instr::Confvary { .. } => Want::Item(4),
+        Instr::Text { .. } => text_wanted(machine),
         Instr::Hoist => hoist_wanted(machine),
         Instr::Tag { of } => Want::Item(width_of(carrier_of(values, of)) as u32),
-        Instr::Pointer {
-            class: _,
-            to: _,
-            run: _,
-        } => Want::Item(4),
+        Instr::Pointer { .. } => Want::Item(4),
         Instr::Context => Want::Item(20),
         Instr::Void
         | Instr::Ret
-        | Instr::Record { members: _ }
+        | Instr::Record { .. }
         | Instr::Close
-        | Instr::Fixed { count: _, run: _ }
-        | Instr::Conf { run: _ }
-        | Instr::Arm { label: _, run: _ }
-        | Instr::Other { run: _ }
+        | Instr::Fixed { .. }
+        | Instr::Conf { .. }
+        | Instr::Arm { .. }
+        | Instr::Other { .. }
         | Instr::Noarm
-        | Instr::Direct { to: _, run: _ }
-        | Instr::Check {
-            attr: _,
-            field: _,
-            var: _,
-            star: _,
-        }
-        | Instr::Given {
-            attr: _,
-            field: _,
-            var: _,
-            star: _,
-        }
-        | Instr::Pipe { run: _ }
+        | Instr::Direct { .. }
+        | Instr::Check { .. }
+        | Instr::Given { .. }
+        | Instr::Pipe { .. }
         | Instr::Defer
-        | Instr::Call { run: _ } => Want::Gap(0),
+        | Instr::Call { .. } => Want::Gap(0),
     }
 }
 

@@ -2,14 +2,14 @@
 ghost use Rattle.std.specs.Prelude.{◌≡◌, ◌++◌, ◌∷◌, [], OnOk, IfOk};
 ghost use Rattle.nd_types.specs.declared.types.TypeDef.TheVariants as def;
 ghost use Rattle.nd_types.specs.Layout.{hoists};
-ghost use Rattle.ndr_code.specs.declared.instr.Instr.TheVariants.{Align, Num, Enum, Ret};
+ghost use Rattle.ndr_code.specs.declared.instr.Instr.TheVariants.{Align, Num, Enum, Text, Pointer, Ret};
 ghost use Rattle.ndr_code.specs.Code.{id, gap_run, arm_run, arms_code, default_code, member_calls, field_checks, member_checks, struct_run};
 ghost use Rattle.ndr_code.specs.Code.{array_run, union_run, text_bound, place_run, whole_run, type_run};
 ghost use Rattle.ndr_plan.specs.Addresses.{place_in, whole_in};
 
 use crate::addresses::Addresses;
 use nd_base::Memory;
-use nd_types::{Arm, Arms, AttrVars, Fields, Interface, TypeDef, TypeId};
+use nd_types::{Arm, Arms, AttrVars, Class, Fields, Interface, TypeDef, TypeId};
 use ndr_code::{Code, Instr};
 
 // A number as one of a plan. One that is too great is that of a plan for which there is no memory.
@@ -176,6 +176,39 @@ fn push_union(
     push_default(code, addresses, default)
 }
 
+// A string, of at most so many characters where it is bounded.
+fn push_text(code: &mut Code, bound: Option<u32>) -> Result<(), Memory>
+    ensures { OnOk result (code.new ≡ code.old ++ (Align 4 ∷ Text (text_bound bound) ∷ Ret ∷ [])) }
+{
+    code.append(&[
+        Instr::Align { to: 4 },
+        Instr::Text {
+            bound: text_bound(bound),
+        },
+        Instr::Ret,
+    ])
+}
+
+// A pointer, with the whole run of what it names.
+fn push_pointer(
+    code: &mut Code,
+    addresses: &Addresses,
+    class: Class,
+    to: TypeId,
+) -> Result<(), Memory>
+    ensures { OnOk result (code.new ≡ code.old ++ (Align 4 ∷ Pointer class to (whole_in addresses.now to.0) ∷ Ret ∷ [])) }
+{
+    code.append(&[
+        Instr::Align { to: 4 },
+        Instr::Pointer {
+            class,
+            to,
+            run: addresses.whole(to),
+        },
+        Instr::Ret,
+    ])
+}
+
 // The place run of a type.
 pub(crate) fn push_place(
     code: &mut Code,
@@ -199,13 +232,7 @@ pub(crate) fn push_place(
             bound,
             varying,
         } => push_array(code, addresses.place(*elem), *bound, *varying),
-        TypeDef::Text { bound, .. } => code.append(&[
-            Instr::Align { to: 4 },
-            Instr::Text {
-                bound: text_bound(*bound),
-            },
-            Instr::Ret,
-        ]),
+        TypeDef::Text { bound, .. } => push_text(code, *bound),
         TypeDef::Union {
             tag,
             arms,
@@ -215,15 +242,7 @@ pub(crate) fn push_place(
             push_gap(code, interface.align(*tag))?;
             push_union(code, addresses, *tag, arms, default)
         }
-        TypeDef::Pointer { class, to } => code.append(&[
-            Instr::Align { to: 4 },
-            Instr::Pointer {
-                class: *class,
-                to: *to,
-                run: addresses.whole(*to),
-            },
-            Instr::Ret,
-        ]),
+        TypeDef::Pointer { class, to } => push_pointer(code, addresses, *class, *to),
         TypeDef::Context => code.append(&[Instr::Align { to: 4 }, Instr::Context, Instr::Ret]),
         TypeDef::Pipe { elem } => code.append(&[
             Instr::Pipe {
