@@ -1,20 +1,9 @@
 -- Which numbers from 1 to n are reached from some, along edges, is decided by levels: at each level those that were reached before, and those
 -- to which an edge goes from one of them. A level after which no number comes is there before n + 1 levels are over.
 -- `starts` is a test of a number, `goes` a test of two, `f` and `g` are tests, `b` and `c` numbers, `k` and `l` levels or numbers up to which one goes.
-use Rattle.std.proofs.Common.{◌≡◌, ℕ, ◌+◌, ◌<◌, ◌≤◌, zero, suc, Bool, true, false, ◌&&◌, ◌||◌, eqb, leb, ◌≢◌, refl, ap, sym, ◌∙◌, subst, inl, inr, ◌⊎◌, arith}
-use Rattle.std.proofs.lemmas.Bool.{and_parts, and_from, leb-true, leb-false, or_left, or_right}
+use Rattle.std.proofs.Common.{◌≡◌, ℕ, ◌+◌, ◌<◌, ◌≤◌, zero, suc, Bool, true, false, ◌&&◌, ◌||◌, eqb, ◌≢◌, refl, ap, sym, ◌∙◌, subst, inl, inr, ◌⊎◌, arith}
+use Rattle.std.proofs.lemmas.Bool.{and_parts, and_from, or_left, or_right, or_cases, cases_lt}
 use Rattle.std.proofs.lemmas.Bool.Decides.{eqb_tells}
-
-pub or_parts : (a b : Bool) → (a || b) ≡ true → (a ≡ true) ⊎ (b ≡ true)
-or_parts true b h = inl refl
-or_parts false b h = inr h
-
-at_most : (a b : ℕ) → (a ≤ b) ⊎ (b < a)
-at_most a b = go (leb a b) refl
-  where
-    go : (t : Bool) → leb a b ≡ t → (a ≤ b) ⊎ (b < a)
-    go true e = inl (leb-true a b e)
-    go false e = inr (leb-false a b e)
 
 -- how many numbers from 1 to k pass a test
 abbrev one : Bool → ℕ
@@ -84,7 +73,7 @@ module _ (starts : ℕ → Bool) (goes : ℕ → ℕ → Bool) (n : ℕ) where
 
   pub gone_from : (f : ℕ → Bool) (c k : ℕ) → gone f c k ≡ true → (b : ℕ) × (0 < b) × (b ≤ k) × (f b ≡ true) × (goes b c ≡ true)
   gone_from f c zero h = cc
-  gone_from f c (suc k) h = go (or_parts (f (suc k) && goes (suc k) c) (gone f c k) h) (gone_from f c k)
+  gone_from f c (suc k) h = go (or_cases (f (suc k) && goes (suc k) c) (gone f c k) h) (gone_from f c k)
     where
       go : ((f (suc k) && goes (suc k) c) ≡ true) ⊎ (gone f c k ≡ true) → (gone f c k ≡ true → (b : ℕ) × (0 < b) × (b ≤ k) × (f b ≡ true) × (goes b c ≡ true))
           → (b : ℕ) × (0 < b) × (b ≤ suc k) × (f b ≡ true) × (goes b c ≡ true)
@@ -104,14 +93,14 @@ module _ (starts : ℕ → Bool) (goes : ℕ → ℕ → Bool) (n : ℕ) where
   last_or_more zero = inr (omega arith)
   last_or_more (suc l) = go (last_or_more l)
     where
-      more : l ≤ passing (level l) n → (passing (level (suc l)) n ≤ passing (level l) n) ⊎ (passing (level l) n < passing (level (suc l)) n)
+      more : l ≤ passing (level l) n → (passing (level l) n < passing (level (suc l)) n) ⊎ (passing (level (suc l)) n ≤ passing (level l) n)
           → ((k : ℕ) × IsLast k) ⊎ (suc l ≤ passing (level (suc l)) n)
-      more h (inl m) = inl (l, passing_same (level l) (level (suc l)) (level_up l) n m)
-      more h (inr m) = inr (omega (arith, h, m))
+      more h (inl m) = inr (omega (arith, h, m))
+      more h (inr m) = inl (l, passing_same (level l) (level (suc l)) (level_up l) n m)
 
       go : ((k : ℕ) × IsLast k) ⊎ (l ≤ passing (level l) n) → ((k : ℕ) × IsLast k) ⊎ (suc l ≤ passing (level (suc l)) n)
       go (inl k) = inl k
-      go (inr h) = more h (at_most (passing (level (suc l)) n) (passing (level l) n))
+      go (inr h) = more h (cases_lt (passing (level l) n) (passing (level (suc l)) n))
 
   pub last_level : (k : ℕ) × IsLast k
   last_level = go (last_or_more (suc n))
@@ -127,7 +116,7 @@ module _ (starts : ℕ → Bool) (goes : ℕ → ℕ → Bool) (n : ℕ) where
   -- what any level has, the last one has
   pub in_last : (k : ℕ) → IsLast k → (l c : ℕ) → 0 < c → c ≤ n → level l c ≡ true → level k c ≡ true
   in_last k last zero c low high h = started k c h
-  in_last k last (suc l) c low high h = go (or_parts (level l c) (gone (level l) c n) h) (in_last k last l)
+  in_last k last (suc l) c low high h = go (or_cases (level l c) (gone (level l) c n) h) (in_last k last l)
     where
       go : (level l c ≡ true) ⊎ (gone (level l) c n ≡ true) → ((b : ℕ) → 0 < b → b ≤ n → level l b ≡ true → level k b ≡ true) → level k c ≡ true
       go (inl m) before = before c low high m

@@ -2,7 +2,7 @@
 -- `w` is a setting, `g` a graph, `p` a pointer, `b` and `c` are numbers of cells, `x` is a cell, `m` a misfit.
 use Rattle.std.proofs.Common.{◌≡◌, ℕ, ◌<◌, ◌≤◌, ◌^◌, zero, suc, Bool, true, false, ◌||◌, eqb, ◌≢◌, List, [], ◌∷◌, length, Option, Some, None, refl, ap, sym, ◌∙◌, subst, inl, inr, ◌⊎◌, arith}
 use Rattle.std.specs.List.{list_all, slice_get}
-use Rattle.std.proofs.lemmas.Bool.{eqb-true, eq-eqb}
+use Rattle.std.proofs.lemmas.Bool.{eqb-true, eq-eqb, or_cases}
 use Rattle.std.proofs.lemmas.Bool.Decides.{eqb_tells}
 use Rattle.nd_value.specs.declared.value.Graph.{Graph}
 use Rattle.nd_value.specs.Tree.{Referent}
@@ -13,7 +13,7 @@ use Rattle.nd_value.specs.Misfit.{has_machine_values}
 use Rattle.nd_value.specs.Conforms.{Conforms, HasFewNodes, Reached, by_root, by_cell}
 use Rattle.nd_value.specs.FirstMisfit.{MisfitAt, first_local, first_shared, first_disagreeing, IsFirstUnreached, IsFirstMisfit, is_local, is_shared, is_unreached, is_disagreeing}
 use Rattle.nd_value.proofs.Misfits.{passed_conforms}
-use Rattle.example_graph.proofs.Levels.{or_parts, level, gone, level_on, gone_from, last_level, in_last, IsLast}
+use Rattle.example_graph.proofs.Levels.{level, gone, level_on, gone_from, last_level, in_last, IsLast}
 
 -- one of the pointers names the cell
 abbrev is_cell : Option ℕ → ℕ → Bool
@@ -41,7 +41,7 @@ cell_is (Some d) c h = ap Some (eqb-true d c h)
 
 names_has : (ps : List Pending) (c : ℕ) → names ps c ≡ true → (p : Pending) × Among ps p × (p.cell ≡ Some c)
 names_has [] c h = cc
-names_has (q ∷ ps) c h = go (or_parts (is_cell q.cell c) (names ps c) h) (names_has ps c)
+names_has (q ∷ ps) c h = go (or_cases (is_cell q.cell c) (names ps c) h) (names_has ps c)
   where
     go : (is_cell q.cell c ≡ true) ⊎ (names ps c ≡ true) → (names ps c ≡ true → (p : Pending) × Among ps p × (p.cell ≡ Some c))
         → (p : Pending) × Among (q ∷ ps) p × (p.cell ≡ Some c)
@@ -81,7 +81,7 @@ module _ (w : Setting) (g : Graph) where
 
   reached_by : (l c : ℕ) → reached_at l c ≡ true → Reached w g c
   reached_by zero c h = let (p, a, e) = names_has (root_pointers w.table 0 (root_list w) g.roots) c h in by_root p a e
-  reached_by (suc l) c h = go (or_parts (reached_at l c) (gone starts goes (length g.cells) (reached_at l) c (length g.cells)) h) (reached_by l)
+  reached_by (suc l) c h = go (or_cases (reached_at l c) (gone starts goes (length g.cells) (reached_at l) c (length g.cells)) h) (reached_by l)
     where
       edge : (b : ℕ) (o : Option Referent) → cell_of_number g b ≡ o → Reached w g b → goes_by o b c ≡ true → Reached w g c
       edge b None there r y = cc

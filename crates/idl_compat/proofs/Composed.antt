@@ -1,10 +1,11 @@
 -- Comparison is reflexive and transitive: an interface is alike to itself by all its types, and pairs of pairs make alike what each list makes alike.
-use Rattle.std.proofs.Common.{arith, ◌≡◌, ℕ, ◌<◌, ◌≤◌, zero, suc, Bool, true, false, not, ◌&&◌, ◌||◌, eqb, ltb, List, [], ◌∷◌, ◌++◌, Option, Some, None, refl, ap, sym, ◌∙◌, subst, length, inl, inr}
+use Rattle.std.proofs.Common.{arith, ◌≡◌, ℕ, ◌<◌, ◌≤◌, zero, suc, Bool, true, false, not, ◌||◌, eqb, ltb, List, [], ◌∷◌, ◌++◌, Option, Some, None, refl, ap, sym, ◌∙◌, subst, length, inl, inr}
 use Rattle.std.proofs.Common.{◌⊎◌, map}
 use Rattle.std.specs.Prelude.{slice_get}
 use Rattle.std.specs.List.{list_all}
-use Rattle.std.proofs.lemmas.Bool.{eqb-true, eqb-false, ltb-true}
+use Rattle.std.proofs.lemmas.Bool.{eqb-true, eqb-false, ltb-true, or_cases}
 use Rattle.std.proofs.lemmas.Option.{same_Some, slice_get-get_or}
+use Rattle.nd_lemmas.proofs.Booleans.{first_true, second_true}
 use Rattle.nd_types.specs.declared.interface.Interface.{Interface}
 use Rattle.nd_types.specs.declared.types.TypeId.{TypeId}
 use Rattle.nd_types.specs.declared.types.TypeDef.{TypeDef}
@@ -42,18 +43,6 @@ below zero zero l f = absurd (f refl)
 below zero (suc n) l f = omega arith
 below (suc t) zero l f = absurd (omega (arith, l))
 below (suc t) (suc n) l f = let a : t < n = below t n (omega (arith, l)) (λ e. f (ap suc e)) in omega (arith, a)
-
-both_true : (a b : Bool) → (a && b) ≡ true → a ≡ true
-both_true true b e = refl
-both_true false b e = cc
-
-rest_true : (a b : Bool) → (a && b) ≡ true → b ≡ true
-rest_true true b e = e
-rest_true false b e = cc
-
-either_true : (a b : Bool) → (a || b) ≡ true → (a ≡ true) ⊎ (b ≡ true)
-either_true true b e = inl refl
-either_true false b e = inr e
 
 module _ (R : ℕ → ℕ → Type 0) where
   fields_self : (fs : List Field) → ((v : ℕ) → Among (map (λ f. f.of.0) fs) v → R v v) → OneByOne (AlikeFields R) fs fs
@@ -121,8 +110,8 @@ selves_has (suc n) t l = by (λ k. selves_has n t k) (eqb t n) refl
 
 all_among : {X : Type 0} (p : X → Bool) (xs : List X) → list_all p xs ≡ true → (x : X) → Among xs x → p x ≡ true
 all_among p [] e x h = absurd h
-all_among p (y ∷ ys) e x (inl h) = ap p h ∙ both_true (p y) (list_all p ys) e
-all_among p (y ∷ ys) e x (inr h) = all_among p ys (rest_true (p y) (list_all p ys) e) x h
+all_among p (y ∷ ys) e x (inl h) = ap p h ∙ first_true (p y) (list_all p ys) e
+all_among p (y ∷ ys) e x (inr h) = all_among p ys (second_true (p y) (list_all p ys) e) x h
 
 at_among : {X : Type 0} (xs : List X) (i : ℕ) (x : X) → slice_get xs i ≡ Some x → Among xs x
 at_among [] i x e = cc
@@ -160,7 +149,7 @@ module _ (i : Interface) where
       types_self self d (λ v h. known v (all_among (is_in_table i.types) (named_types d) k v h))
 
   param_by : (p : Param) → (is_handle p || is_in_table i.types p.field.of.0) ≡ true → ((p.field.of.0 ≡ HANDLE.0) × (p.field.of.0 ≡ HANDLE.0)) ⊎ self p.field.of.0 p.field.of.0
-  param_by p e = by (either_true (is_handle p) (is_in_table i.types p.field.of.0) e)
+  param_by p e = by (or_cases (is_handle p) (is_in_table i.types p.field.of.0) e)
     where
       by : (is_handle p ≡ true) ⊎ (is_in_table i.types p.field.of.0 ≡ true) → ((p.field.of.0 ≡ HANDLE.0) × (p.field.of.0 ≡ HANDLE.0)) ⊎ self p.field.of.0 p.field.of.0
       by (inl a) = inl (eqb-true p.field.of.0 HANDLE.0 a, eqb-true p.field.of.0 HANDLE.0 a)

@@ -1,7 +1,7 @@
 -- The main file, and what its header says.
 use Rattle.std.proofs.Common.{◌≡◌, ℕ, ◌+◌, ◌≤◌, Bool, true, false, ◌||◌, eqb, List, [], ◌∷◌, ◌++◌, drop, Option, Some, None, refl, sym, ap, arith, ◌∙◌, subst}
 use Rattle.std.specs.List.{slice_get, flat_map}
-use Rattle.std.proofs.lemmas.Bool.{ltb-false}
+use Rattle.std.proofs.lemmas.Bool.{ltb-false, or_parts}
 use Rattle.std.proofs.lemmas.Grind.{flat_map-append}
 use Rattle.std.proofs.lemmas.List.{drop_more}
 use Rattle.std.proofs.lemmas.Option.{slice_get_within, get_or_from_slice_get}
@@ -64,14 +64,6 @@ small_in c before a h =
     at_fails c 4 a.at (is_large_version a)
     (neither (broken_at c 1 a.at (is_out_of_place c.position a) ++ broken_at c 2 a.at (is_repeated before a)) (broken_at c 4 a.at (is_large_version a)) h).1
 
-first_false : (a b : Bool) → (a || b) ≡ false → a ≡ false
-first_false false b h = refl
-first_false true b h = absurd (cc)
-
-second_false : (a b : Bool) → (a || b) ≡ false → b ≡ false
-second_false false b h = h
-second_false true b h = absurd (cc)
-
 small_number : (o : Option ℕ) (n : ℕ) → is_past_65535 o ≡ false → o ≡ Some n → n ≤ 65535
 small_number o n h e = ltb-false 65535 n (sym (ap is_past_65535 e) ∙ h)
 
@@ -80,13 +72,13 @@ abbrev IsSmallSaid : (AttributeKind → Option ℕ) → Type 0
 IsSmallSaid says = (k : AttributeKind) (n : ℕ) → is_large_version_in k ≡ false → says k ≡ Some n → n ≤ 65535
 
 pub small_major : IsSmallSaid major_said
-small_major (tree.Version major minor) n h e = small_number (number_of major.octets) n (first_false (is_past_65535 (number_of major.octets)) (is_large_minor minor) h) e
+small_major (tree.Version major minor) n h e = small_number (number_of major.octets) n (or_parts (is_past_65535 (number_of major.octets)) (is_large_minor minor) h).0 e
 small_major _ n h e = absurd (cc)
 
 pub small_minor : IsSmallSaid minor_said
 small_minor (tree.Version major None) n h e = let f : Some 0 ≡ Some n = e in let g : 0 ≡ n = cc in omega (arith, g)
 small_minor (tree.Version major (Some minor)) n h e =
-    small_number (number_of minor.octets) n (second_false (is_past_65535 (number_of major.octets)) (is_large_minor (Some minor)) h) e
+    small_number (number_of minor.octets) n (or_parts (is_past_65535 (number_of major.octets)) (is_large_minor (Some minor)) h).1 e
 small_minor _ n h e = absurd (cc)
 
 small_by : (says : AttributeKind → Option ℕ) → IsSmallSaid says → (k : AttributeKind) (more : List Attribute) → is_large_version_in k ≡ false → or_none (first_said says more) ≤ 65535

@@ -1,8 +1,8 @@
 -- The graph that a listing says, from what its roots and cells come to.
 -- `w` is a setting, `l` a listing, `m` is what is left after the roots, `n` what is left after the cells, `vs` are the roots, `cs` the cells.
-use Rattle.std.proofs.Common.{◌≡◌, ◌∙◌, ◌≤◌, ◌<◌, ◌^◌, ◌||◌, ℕ, suc, Bool, true, false, nat_lt, List, [], ◌∷◌, ◌++◌, length, map, refl, sym, ap, subst, arith}
+use Rattle.std.proofs.Common.{◌≡◌, ◌∙◌, ◌≤◌, ◌<◌, ◌^◌, ◌||◌, ℕ, suc, Bool, false, nat_lt, List, [], ◌∷◌, ◌++◌, length, map, refl, sym, ap, subst, arith}
 use Rattle.std.proofs.lemmas.List.{append-nil}
-use Rattle.std.proofs.lemmas.Bool.{ltb-false}
+use Rattle.std.proofs.lemmas.Bool.{ltb-false, or_parts}
 use Rattle.nd_types.specs.Table.{Table}
 use Rattle.nd_value.specs.declared.value.Graph.{Graph}
 use Rattle.nd_value.specs.Conforms.{HasFewNodes}
@@ -80,23 +80,14 @@ module _ (w : Setting) (l : Listing) where
 
 -- ## Limits
 
-first_no : (a b : Bool) → (a || b) ≡ false → a ≡ false
-first_no true b e = cc
-first_no false b e = refl
-
-second_no : (a b : Bool) → (a || b) ≡ false → b ≡ false
-second_no true b e = cc
-second_no false b e = e
-
 pub within : (l : Listing) → has_too_many l ≡ false → (length l.nodes.now ≤ 1073741824) × (length l.numbers.now ≤ 1073741824) × (length l.cells.now ≤ 1073741824)
 within l e =
     let a : Bool = nat_lt LISTING_LIMIT (length l.nodes.now) in
     let b : Bool = nat_lt LISTING_LIMIT (length l.numbers.now) in
-    let c : Bool = nat_lt LISTING_LIMIT (length l.cells.now) in (
-      ltb-false 1073741824 (length l.nodes.now) (first_no a b (first_no (a || b) c e)),
-      ltb-false 1073741824 (length l.numbers.now) (second_no a b (first_no (a || b) c e)),
-      ltb-false 1073741824 (length l.cells.now) (second_no (a || b) c e),
-    )
+    let c : Bool = nat_lt LISTING_LIMIT (length l.cells.now) in
+    let (ab, cells) = or_parts (a || b) c e in
+    let (nodes, numbers) = or_parts a b ab in
+    (ltb-false 1073741824 (length l.nodes.now) nodes, ltb-false 1073741824 (length l.numbers.now) numbers, ltb-false 1073741824 (length l.cells.now) cells)
 
 pub few_cells : (w : Setting) (l : Listing) (g : Graph) → has_too_many l ≡ false → Says w l g → length g.cells < 2 ^ 32
 few_cells w l g e s =

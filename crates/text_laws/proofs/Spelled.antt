@@ -5,7 +5,7 @@ use Rattle.std.specs.Prelude.{filter, flat_map}
 use Rattle.std.specs.List.{list_all}
 use Rattle.std.specs.Fmt.{decimal}
 use Rattle.std.proofs.lemmas.List.{take_at}
-use Rattle.std.proofs.lemmas.Bool.{and_parts, and_from, cond-true, cond-false, ltb-true, leb-true}
+use Rattle.std.proofs.lemmas.Bool.{and_parts, and_from, cond-true, cond-false, ltb-true, leb-true, or_parts}
 use Rattle.std.proofs.lemmas.Bool.Decides.{nat_tests}
 use Rattle.nd_base.specs.Text.{is_word, is_letter, is_digit, is_word_octet, is_hex_digit, hex_value, has_form, uuid_form, hex_digit}
 use Rattle.nd_value.specs.Misfit.{is_octet}
@@ -104,17 +104,13 @@ filled (place ∷ form) digits h l = by (eqb place 45) refl digits h l (filled f
 
 -- ## Strings
 
-or_second : (a b : Bool) → (a || b) ≡ false → b ≡ false
-or_second true b h = cc
-or_second false b h = h
-
 character_read : (b : ℕ) (more : List ℕ) → b < 256 → character (escaped b ++ more) ≡ Some (b, more)
 character_read b more low = by (eqb b 34 || eqb b 92) refl (nat_le 32 b && nat_le b 126) refl where
   by : (s : Bool) → (eqb b 34 || eqb b 92) ≡ s → (p : Bool) → (nat_le 32 b && nat_le b 126) ≡ p
       → character (cond s (92 ∷ b ∷ []) (cond p (b ∷ []) (92 ∷ 120 ∷ hex_octet b)) ++ more) ≡ Some (b, more)
   by true s p q = cond-true (eqb b 34 || eqb b 92) (Some (b, more)) _ s
   by false s true q =
-      cond-false (eqb b 92) (escape more) _ (or_second (eqb b 34) (eqb b 92) s)
+      cond-false (eqb b 92) (escape more) _ (or_parts (eqb b 34) (eqb b 92) s).1
       ∙ cond-true (is_plain b) (Some (b, more)) None (and_from (nat_le 32 b && nat_le b 126) (not (eqb b 34 || eqb b 92)) q (ap not s))
   by false s false q =
       let high : b / 16 < 16 = omega (arith, low) in
