@@ -1,11 +1,11 @@
 -- What contains what.
 use Rattle.std.proofs.Common.{◌≡◌, ℕ, suc, zero, ◌≤◌, Bool, true, false, not, eqb, ◌&&◌, ◌||◌, List, [], length, refl, sym, ◌∙◌, subst, inl, inr, arith}
 use Rattle.std.specs.List.{list_all, list_any}
-use Rattle.std.proofs.lemmas.Bool.{false≢true, eqb-true, or_left, or_right}
+use Rattle.std.proofs.lemmas.Bool.{false≢true, eqb-true, or_left, or_right, or_cases}
 use Rattle.std.proofs.lemmas.List.{get_or_past}
 use Rattle.idl_cycles.specs.Graph.{parts_at, contains_within}
 use Rattle.idl_cycles.specs.GraphCycles.{reaches_within}
-use Rattle.idl_cycles.proofs.GraphTests.{or_cases, is_not, never_true, any_weaker, any_of_all}
+use Rattle.idl_cycles.proofs.GraphTests.{is_not, never_true, any_weaker, any_of_all}
 use Rattle.nd_lemmas.proofs.Booleans.{first_true as first_of, second_true as second_of}
 
 -- nothing is in what is no node

@@ -2,14 +2,14 @@
 use Rattle.std.proofs.Common.{◌≡◌, ℕ, suc, zero, ◌<◌, ◌≤◌, ◌+◌, Bool, true, false, not, eqb, cond, ◌&&◌, ◌||◌, ◌⊎◌, List, [], ◌∷◌, ◌++◌, length, get_or, set, take, replicate, Some, None, refl, sym}
 use Rattle.std.proofs.Common.{ap, ◌∙◌, subst, inl, inr, arith}
 use Rattle.std.specs.List.{list_any, slice_get}
-use Rattle.std.proofs.lemmas.Bool.{cases_eq, cases_lt, eqb-true, eq-eqb, ne_eqb, or_left, or_right}
+use Rattle.std.proofs.lemmas.Bool.{cases_eq, cases_lt, eqb-true, eq-eqb, ne_eqb, or_left, or_right, and_from}
 use Rattle.std.proofs.lemmas.List.{get_or-set_same, get_or-set_other, length-set, get_or_append_left, get_or_push, length_push, get_or_past, take_more, get_or_default, get_or-replicate}
 use Rattle.std.proofs.lemmas.List.{length-replicate}
 use Rattle.std.proofs.lemmas.Option.{none-some, slice_get_within, get_or_from_slice_get, slice_get-get_or}
 use Rattle.std.proofs.lemmas.List.Folds.{list_all-append, list_any-append}
 use Rattle.idl_cycles.specs.Graph.{parts_at, contains_itself}
 use Rattle.idl_cycles.specs.GraphCycles.{reaches_within, is_marked, times_in, Waits, Comes, IsReady, is_done, Searches}
-use Rattle.idl_cycles.proofs.GraphTests.{both, all_weaker, none_is, never_true}
+use Rattle.idl_cycles.proofs.GraphTests.{all_weaker, none_is, never_true}
 use Rattle.nd_lemmas.proofs.Booleans.{first_true as first_of, second_true as second_of}
 use Rattle.idl_cycles.proofs.GraphContains.{no_parts, contains_more, part_of_reached, never_comes}
 use Rattle.idl_cycles.proofs.GraphPeeling.{all_of_none as done_of_none}
@@ -66,7 +66,7 @@ comes_again number node seen queue m = record {
   before = λ place h. refl;
   new = λ place h l. absurd (omega arith);
   waits = λ x h. inl h;
-  marks = both (is_marked number seen node) true m refl;
+  marks = and_from (is_marked number seen node) true m refl;
   bound = λ b. b;
 }
 
@@ -116,7 +116,7 @@ comes_first number node seen queue seen' queue' h n s q =
               })
           | inr o ↦ inl (sym (elsewhere x o) ∙ m)
         ];
-        marks = both (is_marked number (set seen node number) node) true here refl;
+        marks = and_from (is_marked number (set seen node number) node) true here refl;
         bound = bounded;
       }
 
@@ -134,7 +134,7 @@ comes_both number ps qs s q s' q' s'' q'' a b = record {
   ];
   waits = λ x m. elim (b.waits x m)
       [ inl k ↦ elim (a.waits x k) [ inl g ↦ inl g | inr w ↦ inr (longer x w) ] | inr w ↦ inr (later x w) ];
-  marks = list_all-append (is_marked number s'') ps qs ∙ both _ _ (all_weaker (is_marked number s') (is_marked number s'') b.stays ps a.marks) b.marks;
+  marks = list_all-append (is_marked number s'') ps qs ∙ and_from _ _ (all_weaker (is_marked number s') (is_marked number s'') b.stays ps a.marks) b.marks;
   bound = λ k. b.bound (a.bound k);
 } where
   earlier : (place : ℕ) → length q ≤ place → place < length q' → list_any (λ p. eqb p (get_or q'' place 0)) ps ≡ true
@@ -209,7 +209,7 @@ search_more graph start number head node seen queue seen' queue' s h at not_star
 
   still_done : (x : ℕ) → is_done graph start number seen x ≡ true → is_done graph start number seen' x ≡ true
   still_done x d = all_weaker (λ p. not (eqb p start) && is_marked number seen p) (λ p. not (eqb p start) && is_marked number seen' p)
-      (λ p w. both (not (eqb p start)) (is_marked number seen' p) (first_of (not (eqb p start)) (is_marked number seen p) w)
+      (λ p w. and_from (not (eqb p start)) (is_marked number seen' p) (first_of (not (eqb p start)) (is_marked number seen p) w)
       (comes.stays p (second_of (not (eqb p start)) (is_marked number seen p) w)))
       (parts_at graph x) d
 

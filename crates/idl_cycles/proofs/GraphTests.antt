@@ -1,16 +1,8 @@
 -- Tests on lists of numbers.
-use Rattle.std.proofs.Common.{◌≡◌, ℕ, Bool, true, false, not, eqb, ◌&&◌, ◌||◌, ◌⊎◌, List, [], ◌∷◌, refl, sym, ◌∙◌, inl, inr}
+use Rattle.std.proofs.Common.{◌≡◌, ℕ, Bool, true, false, not, eqb, ◌&&◌, List, [], ◌∷◌, refl, sym, ◌∙◌, inl, inr}
 use Rattle.std.specs.List.{list_all, list_any}
-use Rattle.std.proofs.lemmas.Bool.{false≢true, or_left, or_right}
+use Rattle.std.proofs.lemmas.Bool.{false≢true, or_left, or_right, or_cases, and_from}
 use Rattle.nd_lemmas.proofs.Booleans.{first_true as first_of, second_true as second_of}
-
-pub or_cases : (a b : Bool) → (a || b) ≡ true → (a ≡ true) ⊎ (b ≡ true)
-or_cases true b e = inl refl
-or_cases false b e = inr e
-
-pub both : (a b : Bool) → a ≡ true → b ≡ true → (a && b) ≡ true
-both true b e f = f
-both false b e f = e
 
 pub is_not : (b : Bool) → not b ≡ true → b ≡ true → ⊥
 is_not true n e = false≢true n
@@ -33,7 +25,7 @@ any_weaker t u f (x ∷ xs) e =
 pub all_weaker : (t u : ℕ → Bool) → ((x : ℕ) → t x ≡ true → u x ≡ true) → (xs : List ℕ) → list_all t xs ≡ true → list_all u xs ≡ true
 all_weaker t u f [] e = refl
 all_weaker t u f (x ∷ xs) e =
-    both (u x) (list_all u xs) (f x (first_of (t x) (list_all t xs) e)) (all_weaker t u f xs (second_of (t x) (list_all t xs) e))
+    and_from (u x) (list_all u xs) (f x (first_of (t x) (list_all t xs) e)) (all_weaker t u f xs (second_of (t x) (list_all t xs) e))
 
 -- a number of a list that passes one test, where all pass the other
 pub any_of_all : (f t : ℕ → Bool) (xs : List ℕ) → list_all f xs ≡ true → list_any t xs ≡ true → (p : ℕ) × (f p ≡ true) × (t p ≡ true)
@@ -48,6 +40,6 @@ none_is p f [] n a = refl
 none_is p f (x ∷ xs) n a =
     let e : eqb x p ≡ false = never_true (eqb x p) (λ h. false≢true (sym n ∙ or_left (eqb x p) (list_any (λ x. eqb x p) xs) h)) in
     let m : list_any (λ x. eqb x p) xs ≡ false = never_true _ (λ h. false≢true (sym n ∙ or_right (eqb x p) (list_any (λ x. eqb x p) xs) h)) in
-    both (not (eqb x p) && f x) (list_all (λ x. not (eqb x p) && f x) xs)
-    (both (not (eqb x p)) (f x) (not_from (eqb x p) e) (first_of (f x) (list_all f xs) a))
+    and_from (not (eqb x p) && f x) (list_all (λ x. not (eqb x p) && f x) xs)
+    (and_from (not (eqb x p)) (f x) (not_from (eqb x p) e) (first_of (f x) (list_all f xs) a))
     (none_is p f xs m (second_of (f x) (list_all f xs) a))

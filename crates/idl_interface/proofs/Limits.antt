@@ -5,7 +5,7 @@ use Rattle.std.specs.Prelude.{nat_le, sum_by}
 use Rattle.std.specs.List.{list_all, slice_get}
 use Rattle.std.proofs.lemmas.List.{length-map}
 use Rattle.std.proofs.lemmas.List.Sums.{sum_by-cons}
-use Rattle.std.proofs.lemmas.Bool.{leb-true}
+use Rattle.std.proofs.lemmas.Bool.{leb-true, and_from}
 use Rattle.std.proofs.lemmas.Option.{slice_get_within, slice_get_cases, slice_get_read, slice_get-map}
 use Rattle.nd_base.specs.declared.octets.Place.{Place}
 use Rattle.nd_types.specs.declared.types.TypeDef.{TypeDef}
@@ -32,7 +32,6 @@ use Rattle.idl_rule_definitions.specs.Types.{IdlType, Void, Handle, ContextHandl
 use Rattle.idl_rule_definitions.specs.Scene.{Scene, parts_declared}
 use Rattle.idl_rule_definitions.specs.Numbering.{Needed, own_types, same_type, number_among, number_of_type}
 use Rattle.idl_rule_definitions.specs.Meaning.{field, parameter, struct_of, defined_at, body_if, is_struct, definition, types_of, operations_of}
-use Rattle.idl_rule_definitions.proofs.Needed.{conjunction}
 use Rattle.idl_constructs.specs.SeenNodes.{seen_construct}
 use Rattle.idl_type_numbers.specs.SeenTypes.{names_at}
 use Rattle.idl_type_numbers.specs.SeenOperations.{Called, called, called_at, HasOperations}
@@ -92,7 +91,7 @@ pub each_few : (n : ℕ) (ds : List TypeDef) → sum_by part_count ds ≤ n → 
 each_few n [] h = refl
 each_few n (d ∷ ds) h =
     let e = sum_by-cons part_count d ds in
-    conjunction (nat_le (part_count d) n) (list_all (λ x. nat_le (part_count x) n) ds) (nat_le_from (part_count d) n (omega (arith, e, h))) (each_few n ds (omega (arith, e, h)))
+    and_from (nat_le (part_count d) n) (list_all (λ x. nat_le (part_count x) n) ds) (nat_le_from (part_count d) n (omega (arith, e, h))) (each_few n ds (omega (arith, e, h)))
 
 struct_count : (fs : List Field) → part_count (struct_of fs) ≡ length fs
 struct_count [] = refl

@@ -2,8 +2,7 @@
 use Rattle.std.proofs.Common.{◌≡◌, Bool, true, false, ◌⊎◌, inl, inr, List, [], ◌∷◌, ◌++◌, map, refl, sym, ap, ◌∙◌, subst}
 use Rattle.std.specs.List.{list_any, list_all, flat_map}
 use Rattle.std.proofs.lemmas.List.Folds.{list_any-append}
-use Rattle.std.proofs.lemmas.Bool.{and_parts as both, or_right as right, or_parts as none_of, or_left as left}
-use Rattle.idl_rule_definitions.proofs.Needed.{conjunction}
+use Rattle.std.proofs.lemmas.Bool.{and_parts as both, or_right as right, or_parts as none_of, or_left as left, and_from}
 use Rattle.idl_legal_laws.proofs.Kept.{neither}
 
 -- x is an element
@@ -115,7 +114,7 @@ all_each p (x ∷ xs) h = let e = both (p x) (list_all p xs) h in (e.0, all_each
 
 pub each_all : {X : Type 0} (p : X → Bool) (xs : List X) → Each (λ x. p x ≡ true) xs → list_all p xs ≡ true
 each_all p [] h = refl
-each_all p (x ∷ xs) h = conjunction (p x) (list_all p xs) h.0 (each_all p xs h.1)
+each_all p (x ∷ xs) h = and_from (p x) (list_all p xs) h.0 (each_all p xs h.1)
 
 pub none_each : {X : Type 0} (p : X → Bool) (xs : List X) → list_any p xs ≡ false → Each (λ x. p x ≡ false) xs
 none_each p [] h = tt

@@ -19,9 +19,8 @@ use Rattle.idl_rule_definitions.specs.Numbering.{Needed, needed, built, needed_b
 use Rattle.idl_rule_definitions.specs.PointerRules.{refers_to_reference}
 use Rattle.idl_rule_definitions.specs.Kept.{KeepsUse}
 use Rattle.idl_legal_laws.proofs.Kept.{neither, keeps_use}
-use Rattle.idl_rule_definitions.proofs.Needed.{conjunction}
 use Rattle.idl_rule_definitions.specs.declared.rule.TheConstants as Rule
-use Rattle.std.proofs.lemmas.Bool.{and_parts as apart, or_parts as none_of}
+use Rattle.std.proofs.lemmas.Bool.{and_parts as apart, or_parts as none_of, and_from}
 
 -- ## From nodes to the types that they need
 
@@ -37,12 +36,12 @@ all_needed s p each [] h = refl
 all_needed s p each (n ∷ ns) h =
     let parts = neither (breaches_at s n.names n.node) (flat_map (λ m. breaches_at s m.names m.node) ns) h in
     list_all-append (λ m. p m.type) (needed_by s.known n.names n.node) (flat_map (λ m. needed_by s.known m.names m.node) ns)
-    ∙ conjunction (all_are p (needed_by s.known n.names n.node)) (all_are p (flat_map (λ m. needed_by s.known m.names m.node) ns))
+    ∙ and_from (all_are p (needed_by s.known n.names n.node)) (all_are p (flat_map (λ m. needed_by s.known m.names m.node) ns))
     (each n.names n.node parts.0) (all_needed s p each ns parts.1)
 
 kept_or_not : (p : IdlType → Bool) (n : Needed) (ns others : List Needed) (b : Bool) → p n.type ≡ true → all_are p ns ≡ true → all_are p others ≡ true
     → all_are p (elim b [ true ↦ n ∷ ns | false ↦ others ]) ≡ true
-kept_or_not p n ns others true h i j = conjunction (p n.type) (all_are p ns) h i
+kept_or_not p n ns others true h i j = and_from (p n.type) (all_are p ns) h i
 kept_or_not p n ns others false h i j = j
 
 pub all_first : (p : IdlType → Bool) (before : List IdlType) (ns : List Needed) → all_are p ns ≡ true → all_are p (first_needed before ns) ≡ true
@@ -74,13 +73,13 @@ good : (bad : IdlType → Bool) (t : IdlType) → bad t ≡ false → is_good ba
 good bad t h = ap not h
 
 pub one_good : (bad : IdlType → Bool) (c : Construct) (t : IdlType) → bad t ≡ false → all_are (is_good bad) (needed c t ∷ []) ≡ true
-one_good bad c t h = conjunction (is_good bad t) true (good bad t h) refl
+one_good bad c t h = and_from (is_good bad t) true (good bad t h) refl
 
 behind : (bad : IdlType → Bool) (ts : List IdlType) (t : IdlType) → list_all (is_good bad) ts ≡ true → bad t ≡ false → list_all (is_good bad) (ts ++ t ∷ []) ≡ true
-behind bad ts t h i = list_all-append (is_good bad) ts (t ∷ []) ∙ conjunction (list_all (is_good bad) ts) (is_good bad t && true) h (conjunction (is_good bad t) true (good bad t i) refl)
+behind bad ts t h i = list_all-append (is_good bad) ts (t ∷ []) ∙ and_from (list_all (is_good bad) ts) (is_good bad t && true) h (and_from (is_good bad t) true (good bad t i) refl)
 
 alone : (bad : IdlType → Bool) (t : IdlType) → (bad t || false) ≡ false → list_all (is_good bad) (t ∷ []) ≡ true
-alone bad t h = conjunction (is_good bad t) true (good bad t (none_of (bad t) false h).0) refl
+alone bad t h = and_from (is_good bad t) true (good bad t (none_of (bad t) false h).0) refl
 
 pub built_good : (bad : IdlType → Bool) (t : IdlType) → list_any bad (chain t) ≡ false → list_all (is_good bad) (built t) ≡ true
 built_good bad (Array t m v) h = let e = none_of (bad (Array t m v)) (list_any bad (chain t)) h in behind bad (built t) (Array t m v) (built_good bad t e.1) e.0

@@ -25,8 +25,8 @@ use Rattle.idl_rule_definitions.specs.Numbering.{Needed, needed, built, needed_b
 use Rattle.idl_rule_definitions.specs.Meaning.{definition, types_of, struct_of, defined_by, defined_at, body_if, is_struct, is_union, is_enum}
 use Rattle.idl_rule_definitions.proofs.Equal.{type_is}
 use Rattle.idl_legal_laws.proofs.Numbers.{at_its_number}
-use Rattle.idl_rule_definitions.proofs.Needed.{conjunction, itself, is_among, each_one, all_among}
-use Rattle.std.proofs.lemmas.Bool.{or_right as right, and_parts as parts, not-true as untrue, or_left as left}
+use Rattle.idl_rule_definitions.proofs.Needed.{itself, is_among, each_one, all_among}
+use Rattle.std.proofs.lemmas.Bool.{or_right as right, and_parts as parts, not-true as untrue, or_left as left, and_from}
 use Rattle.idl_legal_laws.proofs.KeptTypes.{all_are, all_first, no_pointer_to_reference}
 use Rattle.idl_legal_laws.proofs.Inner.{is_hollow, all_solid}
 
@@ -249,7 +249,7 @@ together p q r z f (n ∷ ns) h i j =
     let a = parts (p n.type) (all_are p ns) h in
     let b = parts (q n.type) (all_are q ns) i in
     let c = parts (r n.type) (all_are r ns) j in
-    conjunction (z n.type) (all_are z ns) (f n.type a.0 b.0 c.0) (together p q r z f ns a.1 b.1 c.1)
+    and_from (z n.type) (all_are z ns) (f n.type a.0 b.0 c.0) (together p q r z f ns a.1 b.1 c.1)
 
 -- where no rule is broken, no pointer in the table points to a reference pointer
 pub table_referents : (s : Scene) → breaches_in s ≡ [] → list_all (refers_to_no_reference (types_of s)) (types_of s) ≡ true

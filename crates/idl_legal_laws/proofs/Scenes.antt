@@ -2,7 +2,7 @@
 use Rattle.std.proofs.Common.{◌≡◌, ℕ, ◌+◌, Bool, true, false, not, ◌||◌, ◌&&◌, inl, inr, List, [], ◌∷◌, ◌++◌, map, length, Option, Some, None, refl, sym, ap, ◌∙◌, subst}
 use Rattle.std.specs.List.{list_any, list_all, flat_map}
 use Rattle.std.proofs.lemmas.List.Folds.{list_all-append, list_all-map}
-use Rattle.std.proofs.lemmas.Bool.{lt-ltb, and_parts as both, or_right as right, not-true as untrue}
+use Rattle.std.proofs.lemmas.Bool.{lt-ltb, and_parts as both, or_right as right, not-true as untrue, and_from}
 use Rattle.nd_types.specs.declared.types.TypeDef.{TypeDef}
 use Rattle.nd_types.specs.declared.types.TypeDef.TheVariants as def
 use Rattle.nd_types.specs.Kinds.{basic_types}
@@ -26,7 +26,7 @@ use Rattle.idl_rule_definitions.specs.Numbering.{Needed, built, first_needed, ha
 use Rattle.idl_rule_definitions.specs.Meaning.{definition, types_of, defined_by, defined_at, body_if, is_struct, is_union, is_enum}
 use Rattle.idl_rule_definitions.proofs.Equal.{type_is, place_is}
 use Rattle.idl_legal_laws.proofs.Numbers.{at_its_number}
-use Rattle.idl_rule_definitions.proofs.Needed.{conjunction, itself, is_among, each_one}
+use Rattle.idl_rule_definitions.proofs.Needed.{itself, is_among, each_one}
 use Rattle.idl_legal_laws.proofs.Kept.{neither, keeps_use}
 use Rattle.idl_legal_laws.proofs.KeptTypes.{all_are}
 use Rattle.idl_legal_laws.proofs.Inner.{is_hollow, all_solid, further}
@@ -318,7 +318,7 @@ own_numbers s (Basic p) h i = absurd (let e : false ≡ true = h in cc)
 
 kept_own : (n : Needed) (ns others : List Needed) (b c : Bool) → has_own_number n.type ≡ b → all_are has_own_number ns ≡ true → all_are has_own_number others ≡ true
     → all_are has_own_number (elim (b && c) [ true ↦ n ∷ ns | false ↦ others ]) ≡ true
-kept_own n ns others true true e h i = conjunction (has_own_number n.type) (all_are has_own_number ns) e h
+kept_own n ns others true true e h i = and_from (has_own_number n.type) (all_are has_own_number ns) e h
 kept_own n ns others true false e h i = i
 kept_own n ns others false c e h i = i
 
@@ -353,4 +353,4 @@ own_all s test f =
 pub table_all : (s : Scene) (test : TypeDef → Bool) → list_all test basic_types ≡ true → Fact s test → list_all test (types_of s) ≡ true
 table_all s test h f =
     list_all-append test basic_types (map (λ n. definition s n.type) (own_types s))
-    ∙ conjunction (list_all test basic_types) (list_all test (map (λ n. definition s n.type) (own_types s))) h (own_all s test f)
+    ∙ and_from (list_all test basic_types) (list_all test (map (λ n. definition s n.type) (own_types s))) h (own_all s test f)

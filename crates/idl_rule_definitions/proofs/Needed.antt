@@ -8,11 +8,7 @@ use Rattle.idl_rule_definitions.specs.Types.{IdlType, Void, Handle, ContextHandl
 use Rattle.idl_rule_definitions.specs.Scene.{Scene}
 use Rattle.idl_rule_definitions.specs.Numbering.{Needed, needed_types, own_types, first_needed, has_own_number, same_type, same_count, same_flag, same_class, is_numbered_or_none}
 use Rattle.idl_rule_definitions.proofs.Equal.{type_is}
-use Rattle.std.proofs.lemmas.Bool.{or_right as right}
-
-pub conjunction : (a b : Bool) → a ≡ true → b ≡ true → (a && b) ≡ true
-conjunction true b h i = i
-conjunction false b h i = absurd (let e : false ≡ true = h in cc)
+use Rattle.std.proofs.lemmas.Bool.{or_right as right, and_from}
 
 same_flag_itself : (v : Bool) → same_flag v v ≡ true
 same_flag_itself true = refl
@@ -37,9 +33,9 @@ itself (Struct p) = grind (arith, nat_tests)
 itself (Union p) = grind (arith, nat_tests)
 itself (Enum p) = grind (arith, nat_tests)
 itself (Array t m v) =
-    conjunction (same_type t t && same_count m m) (same_flag v v) (conjunction (same_type t t) (same_count m m) (itself t) (same_count_itself m)) (same_flag_itself v)
-itself (Text t m) = conjunction (same_type t t) (same_count m m) (itself t) (same_count_itself m)
-itself (Pointer c t) = conjunction (same_class c c) (same_type t t) (same_class_itself c) (itself t)
+    and_from (same_type t t && same_count m m) (same_flag v v) (and_from (same_type t t) (same_count m m) (itself t) (same_count_itself m)) (same_flag_itself v)
+itself (Text t m) = and_from (same_type t t) (same_count m m) (itself t) (same_count_itself m)
+itself (Pointer c t) = and_from (same_class c c) (same_type t t) (same_class_itself c) (itself t)
 itself (Pipe t) = itself t
 
 -- whether a type is among those that are needed
@@ -108,7 +104,7 @@ each_one s (Pipe t) h = numbered s (Pipe t) refl h
 pub all_among : (p : IdlType → Bool) (ns : List Needed) → ((t : IdlType) → is_among ns t ≡ true → p t ≡ true) → list_all (λ n. p n.type) ns ≡ true
 all_among p [] h = refl
 all_among p (n ∷ ns) h =
-    conjunction (p n.type) (list_all (λ m. p m.type) ns)
+    and_from (p n.type) (list_all (λ m. p m.type) ns)
     (h n.type (ap (λ b. b || is_among ns n.type) (itself n.type)))
     (all_among p ns (λ t i. h t (right (same_type n.type t) (is_among ns t) i)))
 

@@ -8,8 +8,9 @@ use Rattle.idl_rule_definitions.specs.Scene.{Scene}
 use Rattle.idl_rule_definitions.specs.Numbering.{Needed, needed, built, has_own_number, same_type, first_needed, needed_types, own_types}
 use Rattle.idl_type_numbers.specs.SeenNumbers.{has_number, grown_by, grown, is_settled, IsClosed}
 use Rattle.idl_rule_definitions.proofs.Equal.{type_is}
-use Rattle.std.proofs.lemmas.Bool.{and_parts as both, or_right as right, or_left as left}
-use Rattle.idl_rule_definitions.proofs.Needed.{itself, conjunction}
+use Rattle.std.proofs.lemmas.Bool.{and_parts as both, or_right as right, or_left as left, and_from}
+use Rattle.std.proofs.Math.Bool.{or-false}
+use Rattle.idl_rule_definitions.proofs.Needed.{itself}
 
 pub same_turned : (t u : IdlType) → same_type t u ≡ same_type u t
 same_turned t u = by (same_type t u) (same_type u t) refl refl where
@@ -25,10 +26,6 @@ any_more p (x ∷ xs) ys = ap (λ b. p x || b) (any_more p xs ys) ∙ or_or (p x
   or_or true b c = refl
   or_or false b c = refl
 
-or_false : (b : Bool) → (b || false) ≡ b
-or_false true = refl
-or_false false = refl
-
 pub or_turned : (a b : Bool) → (a || b) ≡ (b || a)
 or_turned true true = refl
 or_turned true false = refl
@@ -36,7 +33,7 @@ or_turned false true = refl
 or_turned false false = refl
 
 pub has_more : (firsts : List Needed) (n : Needed) (t : IdlType) → has_number (firsts ++ n ∷ []) t ≡ (has_number firsts t || same_type n.type t)
-has_more firsts n t = any_more (λ m. same_type m.type t) firsts (n ∷ []) ∙ ap (λ b. has_number firsts t || b) (or_false (same_type n.type t))
+has_more firsts n t = any_more (λ m. same_type m.type t) firsts (n ∷ []) ∙ ap (λ b. has_number firsts t || b) (or-false (same_type n.type t))
 
 -- the types with numbers, with one more or without it
 abbrev pub with_one : Bool → List Needed → Needed → List Needed
@@ -94,7 +91,7 @@ all_kept : (firsts ns : List Needed) (ts : List IdlType) → list_all (is_settle
 all_kept firsts ns [] h = refl
 all_kept firsts ns (t ∷ ts) h =
     let e = both (is_settled firsts t) (list_all (is_settled firsts) ts) h in
-    conjunction (is_settled (grown firsts ns) t) (list_all (is_settled (grown firsts ns)) ts) (settled_kept firsts ns t e.0) (all_kept firsts ns ts e.1)
+    and_from (is_settled (grown firsts ns) t) (list_all (is_settled (grown firsts ns)) ts) (settled_kept firsts ns t e.0) (all_kept firsts ns ts e.1)
 
 -- ## What is settled adds nothing
 
@@ -126,10 +123,10 @@ settled_now firsts n = by (has_own_number n.type) (has_number firsts n.type) ref
       (ap (λ l. has_number l n.type) (one_more firsts n e f) ∙ has_more firsts n n.type ∙ right (has_number firsts n.type) (same_type n.type n.type) (itself n.type))
 
 all_last : (p : IdlType → Bool) (ts : List IdlType) (t : IdlType) → list_all p ts ≡ true → p t ≡ true → list_all p (ts ++ t ∷ []) ≡ true
-all_last p [] t h k = conjunction (p t) true k refl
+all_last p [] t h k = and_from (p t) true k refl
 all_last p (u ∷ ts) t h k =
     let e = both (p u) (list_all p ts) h in
-    conjunction (p u) (list_all p (ts ++ t ∷ [])) e.0 (all_last p ts t e.1 k)
+    and_from (p u) (list_all p (ts ++ t ∷ [])) e.0 (all_last p ts t e.1 k)
 
 -- a type and those of which it is made have the numbers that they need, and so it is of all types with numbers
 record Done (firsts : List Needed) (t : IdlType) : Type 0 where
@@ -192,10 +189,10 @@ abbrev pub are_own : List Needed → Bool
 are_own firsts = list_all (λ n. has_own_number n.type) firsts
 
 pub all_more : {X : Type 0} (p : X → Bool) (xs : List X) (x : X) → list_all p xs ≡ true → p x ≡ true → list_all p (xs ++ x ∷ []) ≡ true
-all_more p [] x h k = conjunction (p x) true k refl
+all_more p [] x h k = and_from (p x) true k refl
 all_more p (y ∷ xs) x h k =
     let e = both (p y) (list_all p xs) h in
-    conjunction (p y) (list_all p (xs ++ x ∷ [])) e.0 (all_more p xs x e.1 k)
+    and_from (p y) (list_all p (xs ++ x ∷ [])) e.0 (all_more p xs x e.1 k)
 
 pub all_own : (firsts ns : List Needed) → are_own firsts ≡ true → are_own (grown firsts ns) ≡ true
 all_own firsts [] h = h

@@ -21,20 +21,6 @@ use Rattle.library_building.specs.Said.{has_form, has_parts, has_numbers, is_wid
 use Rattle.library_building.specs.Steps.{IsStop, Comes, Stops, IsValue, AreOf, AreValues, going, Builds, Halts, IsBuilt, AreBuilt, number_trees}
 use Rattle.library_building.proofs.Outcomes.{after-after, stop-after, none_come}
 
--- ## Tests
-
-pub first_false : (a b : Bool) → a ≡ false → (a && b) ≡ false
-first_false true b e = cc
-first_false false b e = refl
-
-pub second_false : (a b : Bool) → b ≡ false → (a && b) ≡ false
-second_false true b e = e
-second_false false b e = refl
-
-pub both_true : (a b : Bool) → a ≡ true → b ≡ true → (a && b) ≡ true
-both_true true b e f = f
-both_true false b e f = cc
-
 -- ## A node that is wrong
 
 pub halted : (table : Table) (s : Option Saying) (l : Left) (e : Stop) → s ≡ None → e ≡ At (suc (length l.nodes)) → Halts table s l e

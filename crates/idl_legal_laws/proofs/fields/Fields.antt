@@ -20,9 +20,8 @@ use Rattle.idl_rule_definitions.specs.Rules.{breaches}
 use Rattle.idl_rule_definitions.specs.TypeRules.{is_operation}
 use Rattle.idl_rule_definitions.specs.Numbering.{Needed, own_types}
 use Rattle.idl_rule_definitions.specs.Meaning.{field, parameter, operation_in, operations_of, definition, types_of, struct_of, defined_by, defined_at, body_if, is_struct, is_union, is_enum}
-use Rattle.idl_rule_definitions.proofs.Needed.{conjunction}
 use Rattle.idl_legal_laws.proofs.fields.FromNodes.{they_pass, one_passes, body_passes, node_passes, join_all}
-use Rattle.std.proofs.lemmas.Bool.{and_parts as both_of}
+use Rattle.std.proofs.lemmas.Bool.{and_parts as both_of, and_from}
 use Rattle.idl_legal_laws.proofs.fields.Standing.{node_keeps, all_keep, Stands, stands}
 
 -- ## Facts
@@ -48,7 +47,7 @@ they_are : (s : Scene) (test : FieldAt → Bool) → OfFields s test → (names 
 they_are s test fact names is_param list whole index [] h = refl
 they_are s test fact names is_param list whole index (d ∷ ds) h =
     let x = both_of (one_passes (node_keeps s) names is_param list index d) (they_pass (node_keeps s) names is_param list (index + 1) ds) h in
-    conjunction (test (field_here s names is_param list index d))
+    and_from (test (field_here s names is_param list index d))
     (list_all test (map (λ e. record { siblings = map (field s names list) list; index = e.0; is_param = is_param; field = e.1 }) (enumerate_from (index + 1) (map (field s names list) ds))))
     (fact names is_param list whole index d (stands s names is_param list index d x.0)) (they_are s test fact names is_param list whole (index + 1) ds x.1)
 
@@ -135,7 +134,7 @@ by_types : (s : Scene) (test : FieldAt → Bool) → OfFields s test → list_al
     → (ns : List Needed) → list_all (λ d. list_all test (fields_at false (members_of d))) (map (λ n. definition s n.type) ns) ≡ true
 by_types s test fact h [] = refl
 by_types s test fact h (n ∷ ns) =
-    conjunction (list_all test (fields_at false (members_of (definition s n.type)))) (list_all (λ d. list_all test (fields_at false (members_of d))) (map (λ m. definition s m.type) ns))
+    and_from (list_all test (fields_at false (members_of (definition s n.type)))) (list_all (λ d. list_all test (fields_at false (members_of d))) (map (λ m. definition s m.type) ns))
     (by_type s test fact h n.type) (by_types s test fact h ns)
 
 -- ## Operations
@@ -184,7 +183,7 @@ params_are s names list (p ∷ ps) = ap (λ fs. field s names list p ∷ fs) (pa
 
 operation_fields : (s : Scene) (test : FieldAt → Bool) → OfFields s test → OfOperations s (λ o. list_all test (fields_at true (param_fields o)))
 operation_fields s test fact c names name ps result h r o =
-    conjunction (list_all test (fields_at true (map (λ p. p.field) (map (parameter s names ps) ps)))) true
+    and_from (list_all test (fields_at true (map (λ p. p.field) (map (parameter s names ps) ps)))) true
     (ap (λ fs. list_all test (fields_at true fs)) (params_are s names ps ps) ∙ list_is s test fact names true ps h) refl
 
 they_are_params : (s : Scene) (test : Param → Bool) → OfParams s test → (names : Names) (list : List Declared) (index : ℕ) (ds : List Declared)
@@ -192,18 +191,18 @@ they_are_params : (s : Scene) (test : Param → Bool) → OfParams s test → (n
 they_are_params s test fact names list index [] h = refl
 they_are_params s test fact names list index (d ∷ ds) h =
     let x = both_of (one_passes (node_keeps s) names true list index d) (they_pass (node_keeps s) names true list (index + 1) ds) h in
-    conjunction (test (parameter s names list d)) (list_all test (map (parameter s names list) ds))
+    and_from (test (parameter s names list d)) (list_all test (map (parameter s names list) ds))
     (fact names list index d (stands s names true list index d x.0)) (they_are_params s test fact names list (index + 1) ds x.1)
 
 operation_params : (s : Scene) (test : Param → Bool) → OfParams s test → OfOperations s (λ o. list_all test o.params)
 operation_params s test fact c names name ps result h r o =
-    conjunction (list_all test (map (parameter s names ps) ps)) true (they_are_params s test fact names ps 0 ps h) refl
+    and_from (list_all test (map (parameter s names ps) ps)) true (they_are_params s test fact names ps 0 ps h) refl
 
 -- where the files break no rule, a fact of members and parameters where they stand holds of all fields
 pub every_field : (w : World) → breaches w ≡ [] → (test : FieldAt → Bool) → OfFields (scene_of w) test → all_fields test (types_of (scene_of w)) (operations_of (scene_of w)) ≡ true
 every_field w h test fact =
     let s = scene_of w in
-    conjunction (list_all (λ d. list_all test (fields_at false (members_of d))) (types_of s)) (list_all (λ o. list_all test (fields_at true (param_fields o))) (operations_of s))
+    and_from (list_all (λ d. list_all test (fields_at false (members_of d))) (types_of s)) (list_all (λ o. list_all test (fields_at true (param_fields o))) (operations_of s))
     (join_all (λ d. list_all test (fields_at false (members_of d))) basic_types (map (λ n. definition s n.type) (own_types s)) refl (by_types s test fact (all_keep w h) (own_types s)))
     (all_operations w h (λ o. list_all test (fields_at true (param_fields o))) (operation_fields s test fact))
 

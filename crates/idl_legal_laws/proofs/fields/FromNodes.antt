@@ -20,8 +20,7 @@ use Rattle.idl_rule_definitions.specs.Nodes.{ConstantNode, TypeNode, OperationNo
 use Rattle.idl_rule_definitions.specs.Types.{Names, type_of}
 use Rattle.idl_rule_definitions.specs.Scene.{Scoped, is_typedef, names_behind, scoped_from, scene_of}
 use Rattle.idl_rule_definitions.specs.TypeRules.{is_operation}
-use Rattle.idl_rule_definitions.proofs.Needed.{conjunction}
-use Rattle.std.proofs.lemmas.Bool.{and_parts as both_of}
+use Rattle.std.proofs.lemmas.Bool.{and_parts as both_of, and_from}
 
 -- ## What passes
 
@@ -63,7 +62,7 @@ pub split_all : {X : Type 0} (p : X → Bool) (xs ys : List X) → list_all p (x
 split_all p xs ys h = both_of (list_all p xs) (list_all p ys) (sym (list_all-append p xs ys) ∙ h)
 
 pub join_all : {X : Type 0} (p : X → Bool) (xs ys : List X) → list_all p xs ≡ true → list_all p ys ≡ true → list_all p (xs ++ ys) ≡ true
-join_all p xs ys h i = list_all-append p xs ys ∙ conjunction (list_all p xs) (list_all p ys) h i
+join_all p xs ys h i = list_all-append p xs ys ∙ and_from (list_all p xs) (list_all p ys) h i
 
 -- ## Members and parameters
 
@@ -77,9 +76,9 @@ line q names list c type p a [] index rest h i =
 line q names list c type p a (d ∷ ds) index rest h i =
     let e : index + length (d ∷ ds) ≡ (index + 1) + length ds = omega (arith) in
     let x = both_of (q names (DeclaratorNode list index (declared c type d))) (list_all (q names) (declarator_nodes list (index + 1) (map (declared c type) ds))) h in
-    conjunction (one_passes q names false list index (declared c type d)) (they_pass q names false list (index + 1) (map (declared c type) ds ++ rest))
-    (conjunction (q names (DeclaratorNode list index (declared c type d))) (list_all (q names) (attribute_nodes c) && stands_in false c.position) x.0
-    (conjunction (list_all (q names) (attribute_nodes c)) (stands_in false c.position) a p))
+    and_from (one_passes q names false list index (declared c type d)) (they_pass q names false list (index + 1) (map (declared c type) ds ++ rest))
+    (and_from (q names (DeclaratorNode list index (declared c type d))) (list_all (q names) (attribute_nodes c) && stands_in false c.position) x.0
+    (and_from (list_all (q names) (attribute_nodes c)) (stands_in false c.position) a p))
     (line q names list c type p a ds (index + 1) rest x.1 (subst (λ n. they_pass q names false list n rest ≡ true) e i))
 
 -- what is in a line of members
@@ -121,8 +120,8 @@ parameters_stand q names c list index (p ∷ ps) h =
     let x = split_all (q names) (attribute_nodes here ++ type_nodes here p.type) (DeclaratorNode list index d ∷ parameter_nodes c list (index + 1) ps) h in
     let y = split_all (q names) (attribute_nodes here) (type_nodes here p.type) x.0 in
     let z = both_of (q names (DeclaratorNode list index d)) (list_all (q names) (parameter_nodes c list (index + 1) ps)) x.1 in
-    conjunction (one_passes q names true list index d) (they_pass q names true list (index + 1) (declared_parameters c ps))
-    (conjunction (q names (DeclaratorNode list index d)) (list_all (q names) (attribute_nodes here) && true) z.0 (conjunction (list_all (q names) (attribute_nodes here)) true y.0 refl))
+    and_from (one_passes q names true list index d) (they_pass q names true list (index + 1) (declared_parameters c ps))
+    (and_from (q names (DeclaratorNode list index d)) (list_all (q names) (attribute_nodes here) && true) z.0 (and_from (list_all (q names) (attribute_nodes here)) true y.0 refl))
     (parameters_stand q names c list (index + 1) ps z.1)
 
 -- ## Nodes without members and parameters
@@ -152,7 +151,7 @@ mutual
   types_pass q names c (tree.Tag at kind tag) h = refl
   types_pass q names c (tree.Struct at tag ms) h =
       let x = both_of (q names (BodyNode c (tree.Struct at tag ms))) (list_all (q names) (member_nodes c (declared_members c ms) 0 ms)) h in
-      conjunction (body_passes q names c (tree.Struct at tag ms)) (list_all (node_passes q names) (member_nodes c (declared_members c ms) 0 ms))
+      and_from (body_passes q names c (tree.Struct at tag ms)) (list_all (node_passes q names) (member_nodes c (declared_members c ms) 0 ms))
       (members_stand q names c (declared_members c ms) 0 ms x.1) (members_pass q names c (declared_members c ms) 0 ms x.1)
   types_pass q names c (tree.EncapsulatedUnion at tag d name cases) h =
       let u = tree.EncapsulatedUnion at tag d name cases in
@@ -232,9 +231,9 @@ operation_passes q names c result name ps o h =
     (join_all (node_passes q names) (attribute_nodes c ++ type_nodes c result) (r ∷ parameter_nodes c list 0 ps)
     (join_all (node_passes q names) (attribute_nodes c) (type_nodes c result) (attributes_pass q names c [] c.attributes) (types_pass q names c result z.1))
     (parameters_pass q names c list 0 ps w.1))
-    (conjunction (node_passes q names (OperationNode c name list result)) true
-    (conjunction (they_pass q names true list 0 list) (q names r && is_operation c.position) (parameters_stand q names c list 0 ps w.1)
-    (conjunction (q names r) (is_operation c.position) w.0 o)) refl)
+    (and_from (node_passes q names (OperationNode c name list result)) true
+    (and_from (they_pass q names true list 0 list) (q names r && is_operation c.position) (parameters_stand q names c list 0 ps w.1)
+    (and_from (q names r) (is_operation c.position) w.0 o)) refl)
 
 -- ## Nodes with the names that are known there
 
@@ -320,7 +319,7 @@ quiet_line : (c : Construct) (type : TypeSpec) → is_typedef c.position ≡ fal
     → list_all is_quiet (declarator_nodes list index (map (declared c type) ds)) ≡ true
 quiet_line c type e list index [] = refl
 quiet_line c type e list index (d ∷ ds) =
-    conjunction (not (is_typedef c.position)) (list_all is_quiet (declarator_nodes list (index + 1) (map (declared c type) ds))) (ap not e) (quiet_line c type e list (index + 1) ds)
+    and_from (not (is_typedef c.position)) (list_all is_quiet (declarator_nodes list (index + 1) (map (declared c type) ds))) (ap not e) (quiet_line c type e list (index + 1) ds)
 
 quiet_switches : (c : Construct) (o : Option SwitchType) → list_all is_quiet (switch_node c o) ≡ true
 quiet_switches c None = refl
@@ -368,7 +367,7 @@ mutual
       let here = inside c position at a in
       join_all is_quiet (attribute_nodes here ++ type_nodes here type) (DeclaratorNode [] 0 (declared here type d) ∷ [])
       (join_all is_quiet (attribute_nodes here) (type_nodes here type) (quiet_attributes here [] here.attributes) (quiet_types here type))
-      (conjunction (not (is_typedef position)) true (ap not e) refl)
+      (and_from (not (is_typedef position)) true (ap not e) refl)
 
 quiet_parameters : (c : Construct) (list : List Declared) (index : ℕ) (ps : List Parameter) → list_all is_quiet (parameter_nodes c list index ps) ≡ true
 quiet_parameters c list index [] = refl
@@ -384,7 +383,7 @@ quiet_operation c result name ps e =
     join_all is_quiet (attribute_nodes c ++ type_nodes c result ++ r ∷ parameter_nodes c list 0 ps) (OperationNode c name list result ∷ [])
     (join_all is_quiet (attribute_nodes c ++ type_nodes c result) (r ∷ parameter_nodes c list 0 ps)
     (join_all is_quiet (attribute_nodes c) (type_nodes c result) (quiet_attributes c [] c.attributes) (quiet_types c result))
-    (conjunction (not (is_typedef c.position)) (list_all is_quiet (parameter_nodes c list 0 ps)) (ap not e) (quiet_parameters c list 0 ps))) refl
+    (and_from (not (is_typedef c.position)) (list_all is_quiet (parameter_nodes c list 0 ps)) (ap not e) (quiet_parameters c list 0 ps))) refl
 
 -- ## Files
 

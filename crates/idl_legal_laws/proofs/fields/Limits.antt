@@ -37,8 +37,7 @@ use Rattle.idl_rule_definitions.specs.Meaning.{parameter, definition, types_of, 
 use Rattle.idl_rule_definitions.specs.Meaning as meaning
 use Rattle.idl_legal_laws.proofs.Kept.{neither}
 use Rattle.idl_rule_definitions.proofs.Equal.{type_is}
-use Rattle.idl_rule_definitions.proofs.Needed.{conjunction}
-use Rattle.std.proofs.lemmas.Bool.{or_right as right, and_parts as both_of}
+use Rattle.std.proofs.lemmas.Bool.{or_right as right, and_parts as both_of, and_from}
 use Rattle.idl_legal_laws.proofs.Few.{none_too_many, few, joined}
 use Rattle.idl_legal_laws.proofs.fields.FromNodes.{join_all}
 
@@ -94,7 +93,7 @@ operation_params s limit names (OperationNode c name ps result) h =
     let a = few limit (map (λ p. p.construct) ps) h in
     let b = length-map ps (λ p. p.construct) in
     let e = length-map ps (parameter s names ps) in
-    conjunction (nat_le (length (map (parameter s names ps) ps)) limit) true (nat_le_from (length (map (parameter s names ps) ps)) limit (omega (arith, a, b, e))) refl
+    and_from (nat_le (length (map (parameter s names ps) ps)) limit) true (nat_le_from (length (map (parameter s names ps) ps)) limit (omega (arith, a, b, e))) refl
 operation_params s limit names (HeaderNode c at) h = refl
 operation_params s limit names (AttributeNode c before a) h = refl
 operation_params s limit names (SwitchNode c t) h = refl

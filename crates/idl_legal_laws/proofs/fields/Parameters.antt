@@ -25,8 +25,7 @@ use Rattle.idl_rule_definitions.specs.PointerRules.{is_out_type}
 use Rattle.idl_rule_definitions.specs.Numbering.{needed, built, needed_by, number_of_type, is_numbered_or_none}
 use Rattle.idl_rule_definitions.specs.Meaning.{way_by, parameter, result_number, types_of, defined_at, body_if, is_enum}
 use Rattle.idl_legal_laws.proofs.Kept.{keeps_use}
-use Rattle.idl_rule_definitions.proofs.Needed.{conjunction}
-use Rattle.std.proofs.lemmas.Bool.{or_right as right, and_parts as both_of}
+use Rattle.std.proofs.lemmas.Bool.{or_right as right, and_parts as both_of, and_from}
 use Rattle.idl_legal_laws.proofs.Numbers.{at_its_number}
 use Rattle.idl_legal_laws.proofs.Few.{few_types}
 use Rattle.idl_legal_laws.proofs.fields.FromNodes.{stands_in}
@@ -192,7 +191,7 @@ of_results s test fact c names name ps result h r o =
     let y = both_of (is_nothing (breaches_at s names n)) (list_all (λ m. is_numbered_or_none s m.type) (needed_by s.known names n)) r in
     let k = keeps_use s (use_of s.known names [] 0 d) (nothing_is (breaches_at s names n) y.0) in
     let b = sym (list_all-map (λ m. is_numbered_or_none s m.type) (needed d.construct) (built t)) ∙ y.1 in
-    conjunction (result_passes test (result_number s t)) true (fact t (result_right _ (is_result_type t) o k.results) (last_of (is_numbered_or_none s) t b)) refl
+    and_from (result_passes test (result_number s t)) true (fact t (result_right _ (is_result_type t) o k.results) (last_of (is_numbered_or_none s) t b)) refl
 
 pub results_fact : (s : Scene) → OfOperations s (λ o. result_passes (λ t. legal.is_result_type (type_at (types_of s) t)) o.result)
 results_fact s = of_results s (λ n. legal.is_result_type (type_at (types_of s) n)) (right_result s)

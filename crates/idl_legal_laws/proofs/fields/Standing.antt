@@ -21,8 +21,8 @@ use Rattle.idl_rule_definitions.specs.Kept.{KeepsUse}
 use Rattle.idl_rule_definitions.specs.Numbering.{needed, built, needed_by, needed_types, number_of_type, is_numbered_or_none}
 use Rattle.idl_rule_definitions.specs.Meaning.{definition, types_of, struct_of, defined_by, defined_at, body_if, is_struct, is_union, is_enum}
 use Rattle.idl_legal_laws.proofs.Kept.{neither, keeps_use}
-use Rattle.std.proofs.lemmas.Bool.{or_parts as none_of, and_parts as both_of}
-use Rattle.idl_rule_definitions.proofs.Needed.{conjunction, all_numbered}
+use Rattle.std.proofs.lemmas.Bool.{or_parts as none_of, and_parts as both_of, and_from}
+use Rattle.idl_rule_definitions.proofs.Needed.{all_numbered}
 use Rattle.idl_legal_laws.proofs.Numbers.{at_its_number}
 use Rattle.idl_legal_laws.proofs.Few.{few_types}
 use Rattle.idl_legal_laws.proofs.fields.FromNodes.{Test, stands_in, one_passes, node_passes, split_all, members_and_parameters_pass}
@@ -48,8 +48,8 @@ keeps_all s [] h i = refl
 keeps_all s (n ∷ ns) h i =
     let x = neither (breaches_at s n.names n.node) (flat_map (λ m. breaches_at s m.names m.node) ns) h in
     let y = split_all (λ m. is_numbered_or_none s m.type) (needed_by s.known n.names n.node) (flat_map (λ m. needed_by s.known m.names m.node) ns) i in
-    conjunction (node_keeps s n.names n.node) (list_all (λ m. node_keeps s m.names m.node) ns)
-    (conjunction (is_nothing (breaches_at s n.names n.node)) (list_all (λ m. is_numbered_or_none s m.type) (needed_by s.known n.names n.node)) (ap is_nothing x.0) y.0)
+    and_from (node_keeps s n.names n.node) (list_all (λ m. node_keeps s m.names m.node) ns)
+    (and_from (is_nothing (breaches_at s n.names n.node)) (list_all (λ m. is_numbered_or_none s m.type) (needed_by s.known n.names n.node)) (ap is_nothing x.0) y.0)
     (keeps_all s ns x.1 y.1)
 
 each_keeps : (s : Scene) → breaches_in s ≡ [] → list_all (λ n. node_keeps s n.names n.node) s.nodes ≡ true

@@ -32,8 +32,7 @@ use Rattle.idl_rule_definitions.specs.VariableRules.{Listed, listed_from, passes
 use Rattle.idl_rule_definitions.specs.VariableRules.{below_pointer, is_other}
 use Rattle.idl_rule_definitions.specs.Numbering.{number_of_type}
 use Rattle.idl_rule_definitions.specs.Meaning.{index_in, attr_var, vars_of, field_vars, field, types_of}
-use Rattle.std.proofs.lemmas.Bool.{or_parts as none_of, and_parts as both_of}
-use Rattle.idl_rule_definitions.proofs.Needed.{conjunction}
+use Rattle.std.proofs.lemmas.Bool.{or_parts as none_of, and_parts as both_of, and_from}
 use Rattle.idl_legal_laws.proofs.fields.FromNodes.{stands_in, one_passes, they_pass, join_all}
 use Rattle.idl_legal_laws.proofs.fields.Standing.{node_keeps, Stands, stands, Typed, field_typed, referent, meant, first_of}
 use Rattle.idl_legal_laws.proofs.fields.Fields.{OfFields, field_here}
@@ -73,18 +72,18 @@ narrow good word words i (a ∷ more) h =
 
 all_by : {X : Type 0} (p : X → Bool) → ((x : X) → p x ≡ true) → (xs : List X) → list_all p xs ≡ true
 all_by p f [] = refl
-all_by p f (x ∷ xs) = conjunction (p x) (list_all p xs) (f x) (all_by p f xs)
+all_by p f (x ∷ xs) = and_from (p x) (list_all p xs) (f x) (all_by p f xs)
 
 all_where : {X : Type 0} (p q : X → Bool) → ((x : X) → p x ≡ true → q x ≡ true) → (xs : List X) → list_all p xs ≡ true → list_all q xs ≡ true
 all_where p q f [] h = refl
-all_where p q f (x ∷ xs) h = let e = both_of (p x) (list_all p xs) h in conjunction (q x) (list_all q xs) (f x e.0) (all_where p q f xs e.1)
+all_where p q f (x ∷ xs) h = let e = both_of (p x) (list_all p xs) h in and_from (q x) (list_all q xs) (f x e.0) (all_where p q f xs e.1)
 
 all_both : {X : Type 0} (p q : X → Bool) (xs : List X) → list_all p xs ≡ true → list_all q xs ≡ true → list_all (λ x. p x && q x) xs ≡ true
 all_both p q [] h i = refl
 all_both p q (x ∷ xs) h i =
     let e = both_of (p x) (list_all p xs) h in
     let f = both_of (q x) (list_all q xs) i in
-    conjunction (p x && q x) (list_all (λ y. p y && q y) xs) (conjunction (p x) (q x) e.0 f.0) (all_both p q xs e.1 f.1)
+    and_from (p x && q x) (list_all (λ y. p y && q y) xs) (and_from (p x) (q x) e.0 f.0) (all_both p q xs e.1 f.1)
 
 -- a test of the variables of one attribute
 abbrev Passing : (AttrVar → Bool) → List Declared → List Attribute → List ℕ → Attr → Type 0
@@ -157,7 +156,7 @@ standing s names is_param list index (x ∷ xs) h (suc place) d e =
 -- ## Another of the same list
 
 other_index : (i n k : ℕ) → i < n → not (eqb i k) ≡ true → (nat_lt i n && not (i == k)) ≡ true
-other_index i n k h e = conjunction (nat_lt i n) (not (i == k)) (grind (arith, nat_tests, h)) e
+other_index i n k h e = and_from (nat_lt i n) (not (i == k)) (grind (arith, nat_tests, h)) e
 
 is_another : (s : Scene) (names : Names) (list : List Declared) (index : ℕ) (name : List ℕ) (o : Option Listed) → listed_from 0 list name ≡ o → is_other index o ≡ true
     → (nat_lt (index_in o) (length (map (field s names list) list)) && not (index_in o == index)) ≡ true

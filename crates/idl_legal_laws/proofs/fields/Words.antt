@@ -23,8 +23,7 @@ use Rattle.idl_rule_definitions.specs.AttributeRules.{is_out_of_place, is_repeat
 use Rattle.idl_rule_definitions.specs.VariableRules.{variable_if, variables}
 use Rattle.idl_rule_definitions.specs.Meaning.{attr_var, vars_of, field_vars, field}
 use Rattle.idl_legal_laws.proofs.Kept.{neither}
-use Rattle.idl_rule_definitions.proofs.Needed.{conjunction}
-use Rattle.std.proofs.lemmas.Bool.{or_right as right, and_parts as both_of}
+use Rattle.std.proofs.lemmas.Bool.{or_right as right, and_parts as both_of, and_from}
 use Rattle.idl_legal_laws.proofs.fields.FromNodes.{join_all}
 use Rattle.idl_legal_laws.proofs.fields.Standing.{node_keeps, nothing_is, is_nothing}
 use Rattle.idl_rule_definitions.specs.declared.rule.TheConstants as Rule
@@ -195,11 +194,11 @@ one_at_most s names c word w before (a ∷ more) h =
 
 last_in_order : (xs : List AttrVar) (y : AttrVar) → are_ordered xs ≡ true → list_all (λ x. nat_lt (attr_rank x.attr) (attr_rank y.attr)) xs ≡ true → are_ordered (xs ++ y ∷ []) ≡ true
 last_in_order [] y h i = refl
-last_in_order (x ∷ []) y h i = conjunction (nat_lt (attr_rank x.attr) (attr_rank y.attr)) true (both_of (nat_lt (attr_rank x.attr) (attr_rank y.attr)) true i).0 refl
+last_in_order (x ∷ []) y h i = and_from (nat_lt (attr_rank x.attr) (attr_rank y.attr)) true (both_of (nat_lt (attr_rank x.attr) (attr_rank y.attr)) true i).0 refl
 last_in_order (x ∷ z ∷ more) y h i =
     let e = both_of (nat_lt (attr_rank x.attr) (attr_rank z.attr)) (are_ordered (z ∷ more)) h in
     let f = both_of (nat_lt (attr_rank x.attr) (attr_rank y.attr)) (list_all (λ u. nat_lt (attr_rank u.attr) (attr_rank y.attr)) (z ∷ more)) i in
-    conjunction (nat_lt (attr_rank x.attr) (attr_rank z.attr)) (are_ordered (z ∷ more ++ y ∷ [])) e.0 (last_in_order (z ∷ more) y e.1 f.1)
+    and_from (nat_lt (attr_rank x.attr) (attr_rank z.attr)) (are_ordered (z ∷ more ++ y ∷ [])) e.0 (last_in_order (z ∷ more) y e.1 f.1)
 
 behind : (list : List Declared) (a : Attr) (xs : List AttrVar) (vs : List Variable) → are_ordered xs ≡ true → list_all (λ x. nat_lt (attr_rank x.attr) (attr_rank a)) xs ≡ true
     → is_one_or_none vs ≡ true → are_ordered (xs ++ map (attr_var list a) vs) ≡ true
@@ -210,7 +209,7 @@ behind list a xs (v ∷ w ∷ more) h i j = absurd (let e : false ≡ true = j i
 -- these stand before what has a greater rank
 low : (list : List Declared) (k : ℕ) (a : Attr) → nat_lt (attr_rank a) k ≡ true → (vs : List Variable) → list_all (λ x. nat_lt (attr_rank x.attr) k) (map (attr_var list a) vs) ≡ true
 low list k a h [] = refl
-low list k a h (v ∷ vs) = conjunction (nat_lt (attr_rank a) k) (list_all (λ x. nat_lt (attr_rank x.attr) k) (map (attr_var list a) vs)) h (low list k a h vs)
+low list k a h (v ∷ vs) = and_from (nat_lt (attr_rank a) k) (list_all (λ x. nat_lt (attr_rank x.attr) k) (map (attr_var list a) vs)) h (low list k a h vs)
 
 pub ordered_vars : (s : Scene) (names : Names) (c : Construct) (list : List Declared) → list_all (node_keeps s names) (attribute_nodes c) ≡ true
     → are_ordered (field_vars list c.attributes) ≡ true

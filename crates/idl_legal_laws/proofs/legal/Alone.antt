@@ -22,11 +22,10 @@ use Rattle.idl_rule_definitions.specs.Kept.{KeepsUse}
 use Rattle.idl_rule_definitions.specs.Numbering.{own_types, same_type, number_of_type, is_numbered}
 use Rattle.idl_rule_definitions.specs.Meaning.{definition, types_of, struct_of, defined_by, body_if, is_struct, is_union, is_enum}
 use Rattle.idl_legal_laws.proofs.Numbers.{at_its_number}
-use Rattle.idl_rule_definitions.proofs.Needed.{conjunction}
 use Rattle.idl_legal_laws.proofs.KeptTypes.{all_own_good}
 use Rattle.idl_legal_laws.proofs.Inner.{further}
 use Rattle.idl_rule_definitions.proofs.Order.{none as neither_one}
-use Rattle.std.proofs.lemmas.Bool.{not-true as untrue}
+use Rattle.std.proofs.lemmas.Bool.{not-true as untrue, and_from}
 use Rattle.idl_legal_laws.proofs.Among.{Each, each_at, each_join, each_then, each_all}
 use Rattle.idl_legal_laws.proofs.Scenes.{IsKept, BodyThere, KeptPart, kept_parts, part_numbered, is_part, own_fact, is_made, inner_there, table_all}
 use Rattle.idl_legal_laws.proofs.PartNodes.{PartNumber, body_parts}
@@ -217,7 +216,7 @@ own_bad s kept k uses t h =
     (all_own_good s (bad k.m) (record { structs = λ p. refl; unions = λ p. refl; enums = λ p. refl }) (λ u keeps. use_free k.m u.construct.position u.type (uses u keeps)) kept.none) h)
 
 one_free : (s : Scene) (k : Kind s) (n : ℕ) → Free s k n → (not (legal.is_or_refers k.q (types_of s) n) && true) ≡ true
-one_free s k n h = conjunction (not (legal.is_or_refers k.q (types_of s) n)) true h refl
+one_free s k n h = and_from (not (legal.is_or_refers k.q (types_of s) n)) true h refl
 
 made_alone : (s : Scene) → IsKept s → (k : Kind s) → Uses s k → (t : IdlType) → is_made t ≡ true → is_numbered s t ≡ true → legal.stands_alone k.q (types_of s) (definition s t) ≡ true
 made_alone s kept k uses (Array t m v) h i = one_free s k (number_of_type s t) (chain_free s kept k t (inner_there s kept (Array t m v) refl i) (own_bad s kept k uses (Array t m v) i))
@@ -461,14 +460,14 @@ own_right s k t h =
 
 one_right : (s : Scene) → IsKept s → (t : IdlType) → is_numbered s t ≡ true → is_switched s t ≡ false → ((not (legal.is_switched (types_of s) (number_of_type s t)) && true) && true) ≡ true
 one_right s k t h i =
-    conjunction (not (legal.is_switched (types_of s) (number_of_type s t)) && true) true
-    (conjunction (not (legal.is_switched (types_of s) (number_of_type s t))) true (ap not (switched_same s k t h ∙ i)) refl) refl
+    and_from (not (legal.is_switched (types_of s) (number_of_type s t)) && true) true
+    (and_from (not (legal.is_switched (types_of s) (number_of_type s t))) true (ap not (switched_same s k t h ∙ i)) refl) refl
 
 pointer_switched : (s : Scene) → IsKept s → (t : IdlType) → is_numbered s t ≡ true → (is_pointer t && is_switched s t) ≡ false
     → (not (kinds.is_pointer (type_at (types_of s) (number_of_type s t)) && legal.is_switched (types_of s) (number_of_type s t)) && true) ≡ true
 pointer_switched s k t h i =
     let n = number_of_type s t in
-    conjunction (not (kinds.is_pointer (type_at (types_of s) n) && legal.is_switched (types_of s) n)) true
+    and_from (not (kinds.is_pointer (type_at (types_of s) n) && legal.is_switched (types_of s) n)) true
     (ap not
     (ap (λ d. kinds.is_pointer d && legal.is_switched (types_of s) n) (at_its_number s t h)
     ∙ (ap (λ b. b && legal.is_switched (types_of s) n) (pointer_same s t) ∙ (ap (λ b. is_pointer t && b) (switched_same s k t h) ∙ i)))) refl
@@ -502,7 +501,7 @@ body_element s b (tree.Tag at kind tag) = refl
 body_switched : (s : Scene) → IsKept s → (b : Body) → BodyThere s b → legal.holds_no_switched (types_of s) (defined_by s b b.body) ≡ true
 body_switched s k b h =
     let d = defined_by s b b.body in
-    conjunction (list_all (λ t. not (legal.is_switched (types_of s) t)) (legal.element_of d ++ legal.arms_of d))
+    and_from (list_all (λ t. not (legal.is_switched (types_of s) t)) (legal.element_of d ++ legal.arms_of d))
     (list_all (λ t. not (kinds.is_pointer (type_at (types_of s) t) && legal.is_switched (types_of s) t)) (legal.pointee_of d))
     (each_all (λ t. not (legal.is_switched (types_of s) t)) (legal.element_of d ++ legal.arms_of d)
     (each_join (λ n. not (legal.is_switched (types_of s) n) ≡ true) (legal.element_of d) (legal.arms_of d)

@@ -3,7 +3,7 @@ use Rattle.std.proofs.Common.{◌≡◌, ℕ, zero, suc, ◌*◌, ◌≤◌, Boo
 use Rattle.std.specs.Prelude.{pos, negsuc, ◌*ℤ◌, int_le, nat_le, is_none}
 use Rattle.std.specs.List.{list_any, list_all, flat_map}
 use Rattle.std.proofs.lemmas.List.Folds.{list_all-append, list_all-map}
-use Rattle.std.proofs.lemmas.Bool.{le-leb, leb-true, and_parts as both, or_parts as none_of, not-true as untrue}
+use Rattle.std.proofs.lemmas.Bool.{le-leb, leb-true, and_parts as both, or_parts as none_of, not-true as untrue, and_from}
 use Rattle.std.proofs.lemmas.Nat.{mul-le}
 use Rattle.nd_types.specs.declared.TheConstants.{ELEMENT_LIMIT}
 use Rattle.nd_types.specs.declared.types.TypeId.{TypeId}
@@ -36,7 +36,6 @@ use Rattle.idl_rule_definitions.specs.Kept.{KeepsUse}
 use Rattle.idl_rule_definitions.specs.Numbering.{Needed, needed, built, needed_by, needed_types, own_types, same_type, number_of_type, is_numbered}
 use Rattle.idl_rule_definitions.specs.Meaning.{definition, types_of, struct_of, defined_by, body_if, defined_at, is_struct, is_union, is_enum, number, bound, natural}
 use Rattle.idl_legal_laws.proofs.Numbers.{at_its_number}
-use Rattle.idl_rule_definitions.proofs.Needed.{conjunction}
 use Rattle.idl_legal_laws.proofs.KeptTypes.{all_are, all_first, is_good, IsOfDerived, one_good, built_good, tag_good, body_good, all_own_good}
 use Rattle.idl_legal_laws.proofs.Inner.{further}
 use Rattle.idl_rule_definitions.proofs.Order.{none as neither_one}
@@ -69,7 +68,7 @@ node_good s bad is uses names (OperationNode c name ps result) h = refl
 
 all_flat : (p : IdlType → Bool) (f : Scoped → List Needed) (ns : List Scoped) → Each (λ n. all_are p (f n) ≡ true) ns → all_are p (flat_map f ns) ≡ true
 all_flat p f [] h = refl
-all_flat p f (n ∷ ns) h = list_all-append (λ m. p m.type) (f n) (flat_map f ns) ∙ conjunction (all_are p (f n)) (all_are p (flat_map f ns)) h.0 (all_flat p f ns h.1)
+all_flat p f (n ∷ ns) h = list_all-append (λ m. p m.type) (f n) (flat_map f ns) ∙ and_from (all_are p (f n)) (all_are p (flat_map f ns)) h.0 (all_flat p f ns h.1)
 
 pub all_own_there : (s : Scene) (bad : IdlType → Bool) → IsOfDerived bad → UsesThere s bad → all_are (is_good bad) (own_types s) ≡ true
 unfolding own_types needed_types

@@ -20,8 +20,7 @@ use Rattle.idl_rule_definitions.specs.TypeRules.{contains_itself, is_deep_body, 
 use Rattle.idl_rule_definitions.specs.VariableRules.{may_be_switched}
 use Rattle.idl_rule_definitions.specs.Numbering.{own_types, same_type, number_of_type, is_numbered}
 use Rattle.idl_rule_definitions.specs.Meaning.{definition, types_of, struct_of, defined_by, or_handle}
-use Rattle.idl_rule_definitions.proofs.Needed.{conjunction}
-use Rattle.std.proofs.lemmas.Bool.{and_parts as both, not-true as untrue}
+use Rattle.std.proofs.lemmas.Bool.{and_parts as both, not-true as untrue, and_from}
 use Rattle.idl_legal_laws.proofs.Numbers.{at_its_number}
 use Rattle.idl_legal_laws.proofs.Kept.{neither, fails}
 use Rattle.idl_legal_laws.proofs.KeptTypes.{all_own_good}
@@ -179,7 +178,7 @@ numbers_from test all n [] f h = refl
 numbers_from test all n (x ∷ xs) f h =
     let e = both (test (Some x)) (list_all (λ d. test (Some d)) xs) h in
     let at_n : n ≡ n + 0 = omega (arith) in
-    conjunction (test (type_at all n)) (list_all (λ t. test (type_at all t)) (map (λ e. e.0) (enumerate_from (n + 1) xs)))
+    and_from (test (type_at all n)) (list_all (λ t. test (type_at all t)) (map (λ e. e.0) (enumerate_from (n + 1) xs)))
     (ap test (ap (slice_get all) at_n ∙ f 0) ∙ e.0)
     (numbers_from test all (n + 1) xs (λ i. let next : (n + 1) + i ≡ n + suc i = omega (arith) in ap (slice_get all) next ∙ f (suc i)) e.1)
 

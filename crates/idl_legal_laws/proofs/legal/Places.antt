@@ -2,7 +2,7 @@
 use Rattle.std.proofs.Common.{◌≡◌, ℕ, zero, suc, ◌+◌, Bool, true, false, not, ◌||◌, ◌&&◌, List, [], ◌∷◌, map, length, Option, Some, None, ℤ, refl, ap, arith, ◌∙◌, subst}
 use Rattle.std.specs.Prelude.{ltb, is_none}
 use Rattle.std.specs.List.{list_all}
-use Rattle.std.proofs.lemmas.Bool.{lt-ltb, and_parts as both, or_parts as none_of, not-true as untrue}
+use Rattle.std.proofs.lemmas.Bool.{lt-ltb, and_parts as both, or_parts as none_of, not-true as untrue, and_from}
 use Rattle.nd_types.specs.declared.types.TypeId.{TypeId}
 use Rattle.nd_types.specs.declared.types.Field.{Field}
 use Rattle.nd_types.specs.declared.types.Arm as arm
@@ -25,7 +25,6 @@ use Rattle.idl_rule_definitions.specs.ArrayRules.{has_wrong_element, is_member, 
 use Rattle.idl_rule_definitions.specs.Numbering.{own_types, number_of_type, is_numbered}
 use Rattle.idl_rule_definitions.specs.Meaning.{definition, types_of, number, bound, field, struct_of, defined_by, body_if, defined_at, is_struct, is_union, is_enum}
 use Rattle.idl_legal_laws.proofs.Numbers.{at_its_number}
-use Rattle.idl_rule_definitions.proofs.Needed.{conjunction}
 use Rattle.idl_legal_laws.proofs.KeptTypes.{all_own_good}
 use Rattle.idl_legal_laws.proofs.Among.{Each, each_at, each_join, each_then, all_each, each_all, none_each}
 use Rattle.idl_legal_laws.proofs.Scenes.{IsKept, There, BodyThere, KeptPart, kept_parts, part_numbered, use_there, beside_there, found_there, own_fact, is_made, inner_there, table_all}
@@ -203,9 +202,9 @@ simple_element s k t m v h =
     let i = inner_there s k (Array t m v) refl h in
     let types = types_of s in
     let n = number_of_type s t in
-    conjunction (not (layout.hoists types n)) (not (kinds.is_varying_array (type_at types n)) && not (kinds.is_text (type_at types n)))
+    and_from (not (layout.hoists types n)) (not (kinds.is_varying_array (type_at types n)) && not (kinds.is_text (type_at types n)))
     (ap not (hoists_there s k t i g.0))
-    (conjunction (not (kinds.is_varying_array (type_at types n))) (not (kinds.is_text (type_at types n)))
+    (and_from (not (kinds.is_varying_array (type_at types n))) (not (kinds.is_text (type_at types n)))
     (ap (λ d. not (kinds.is_varying_array d)) (at_its_number s t i) ∙ ap not (varying_same s t ∙ f.1))
     (ap (λ d. not (kinds.is_text d)) (at_its_number s t i) ∙ ap not (text_same s t ∙ g.1)))
 
@@ -279,7 +278,7 @@ fits_there s k (suc n) t h i j =
     let parts_good = some_parts s (is_barred_within n s) t j in
     let parts_nest = all_each (nests n s) (in_place s t) i in
     ap (λ o. not (legal.is_barred_in_pipes o) && list_all (Fits s n) (layout.parts o)) (at_its_number s t h)
-    ∙ conjunction (not (legal.is_barred_in_pipes (Some (definition s t)))) (list_all (Fits s n) (layout.parts (Some (definition s t))))
+    ∙ and_from (not (legal.is_barred_in_pipes (Some (definition s t)))) (list_all (Fits s n) (layout.parts (Some (definition s t))))
     (ap not (not_barred s (is_barred_within n s) t h j))
     (each_all (Fits s n) (layout.parts (Some (definition s t)))
     (each_then (Held s (in_place s t)) (λ m. Fits s n m ≡ true)
@@ -360,7 +359,7 @@ members_hoist s k names list index (d ∷ d2 ∷ ds) e h i j =
     let u = use_of s.known names list index d in
     let t = type_of s.known names d in
     let no = last_of_three (is_member d.construct.position) (ltb (index + 1) (length list)) (hoists s t) (use_there s k names list index d h.0).last_hoists i.0 (not_last index (length ds) list e) in
-    conjunction (not (layout.hoists (types_of s) (number_of_type s t))) (legal.only_last_hoists (types_of s) (map (field s names list) (d2 ∷ ds)))
+    and_from (not (layout.hoists (types_of s) (number_of_type s t))) (legal.only_last_hoists (types_of s) (map (field s names list) (d2 ∷ ds)))
     (ap not (hoists_there s k t (part_numbered s names d j.0) no))
     (members_hoist s k names list (index + 1) (d2 ∷ ds) (omega (arith, e)) h.1 i.1 j.1)
 

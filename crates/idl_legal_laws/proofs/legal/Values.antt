@@ -24,8 +24,7 @@ use Rattle.idl_rule_definitions.specs.VariableRules.{may_be_switched}
 use Rattle.idl_rule_definitions.specs.Numbering.{number_of_type}
 use Rattle.idl_rule_definitions.specs.Meaning.{definition, types_of, struct_of, defined_by, body_if, defined_at, is_union, is_enum, or_zero, or_handle, number, arm_by, labelled_arms, default_arm}
 use Rattle.idl_legal_laws.proofs.Numbers.{at_its_number}
-use Rattle.idl_rule_definitions.proofs.Needed.{conjunction}
-use Rattle.std.proofs.lemmas.Bool.{or_right as right, or_parts as none_of, or_left as left}
+use Rattle.std.proofs.lemmas.Bool.{or_right as right, or_parts as none_of, or_left as left, and_from}
 use Rattle.idl_rule_definitions.proofs.Order.{none as neither_one}
 use Rattle.idl_legal_laws.proofs.Among.{Among, among_left, among_right, Each, each_at, each_left, each_right, each_flat, each_then, each_unflat, each_all, none_each}
 use Rattle.std.proofs.lemmas.Grind.{flat_map-append as flat_join}
@@ -45,7 +44,7 @@ small_values : (s : Scene) → IsKept s → (names : Names) (c : Construct) (es 
 small_values s k names c [] h = refl
 small_values s k names c (e ∷ es) h =
     let z = or_zero (world.number_of s.known e.name.octets) in
-    conjunction (int_le (pos 0) z && int_le z (pos ENUMERATOR_LIMIT))
+    and_from (int_le (pos 0) z && int_le z (pos ENUMERATOR_LIMIT))
     (list_all (λ z. int_le (pos 0) z && int_le z (pos ENUMERATOR_LIMIT)) (map (λ e. or_zero (world.number_of s.known e.name.octets)) es))
     (small_value (world.number_of s.known e.name.octets) (fails_at c 13 e.name.at (is_large_enumerator s.known e.name) (keeps_there s k names (EnumeratorNode c e.name) h.0)))
     (small_values s k names c es h.1)
@@ -234,7 +233,7 @@ distinct_arms : (tag : TypeId) (encapsulated : Bool) (default : Option arm.Arm) 
     → has_distinct_labels (def.Union tag encapsulated arms default) ≡ true
 distinct_arms tag encapsulated default [] h = refl
 distinct_arms tag encapsulated default (a ∷ more) h =
-    conjunction (not (list_any (int_eq a.label) (map (λ x. x.label) more))) (has_distinct_labels (def.Union tag encapsulated more default)) (ap not h.0)
+    and_from (not (list_any (int_eq a.label) (map (λ x. x.label) more))) (has_distinct_labels (def.Union tag encapsulated more default)) (ap not h.0)
     (distinct_arms tag encapsulated default more h.1)
 
 later_differs : (s : Scene) → IsKept s → (names : Names) (c : Construct) (body : TypeSpec) (m : ArmLabel) (before ls : List ArmLabel) → Among m before
