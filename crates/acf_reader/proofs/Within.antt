@@ -3,6 +3,7 @@ use Rattle.std.proofs.Common.{◌≡◌, ℕ, ◌+◌, ◌<◌, Bool, true, fals
 use Rattle.grammar_phrases.specs.Text.{Text, symbol_at, is, is_in, Ban}
 use Rattle.grammar_phrases.specs.Reading.{Read, Syntax, Passes, mark_read}
 use Rattle.std.proofs.lemmas.Bool.{eqb-true}
+use Rattle.std.proofs.Math.Bool.{or-false}
 use Rattle.grammar_phrases.proofs.Within.{test_within}
 use Rattle.grammar_phrases.proofs.Sequences.{disjoint, apart}
 use Rattle.idl_grammar.specs.Lexemes.{no_words}
@@ -39,9 +40,5 @@ banned_here t i h = rw h (by_case (is (symbol_at t i) word.Code)) where
 abbrev here : ℕ → Bool → Read (Unit {0})
 here i b = cond b (Ok (tt, i + 1)) (Err (Syntax i))
 
-pub or_false : (b : Bool) → (b || false) ≡ b
-or_false true = refl
-or_false false = refl
-
 pub not_banned : (t : Text) (i : ℕ) → is (symbol_at t i) symbol.BannedAttribute ≡ false → code_read t i ≡ mark_read word.Code t i
-not_banned t i h = rw h (ap (here i) (or_false (is (symbol_at t i) word.Code)))
+not_banned t i h = rw h (ap (here i) (or-false (is (symbol_at t i) word.Code)))

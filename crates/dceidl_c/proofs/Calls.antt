@@ -1,6 +1,7 @@
 -- What is answered of fragments, of labels and of versions, from what the calls below answer.
-use Rattle.std.proofs.Common.{◌≡◌, ◌∙◌, ℕ, ◌<◌, ◌≤◌, List, length, Option, Some, None, Ok, Bool, true, false, ◌&&◌, is_some, nat_le, IsSomeAnd, IsOkAnd, refl, sym, ap, subst}
+use Rattle.std.proofs.Common.{◌≡◌, ◌∙◌, ℕ, ◌<◌, ◌≤◌, List, length, Option, Some, None, Ok, Bool, false, ◌&&◌, is_some, nat_le, IsSomeAnd, IsOkAnd, sym, ap, subst}
 use Rattle.std.proofs.lemmas.Bool.{lt-leb}
+use Rattle.std.proofs.Math.Bool.{and-false}
 use Rattle.nd_base.specs.declared.TheConstants.{STREAM_LIMIT}
 use Rattle.nd_base.specs.declared.octets.Order.{Order}
 use Rattle.nd_types.specs.declared.interface.Interface.{Interface}
@@ -66,34 +67,30 @@ pieces_are side operation order call most stub many h r head_is order_is (octets
 
 -- ## Numbers that mean nothing
 
-false_last : (b : Bool) → (b && false) ≡ false
-false_last true = refl
-false_last false = refl
-
 module _ (side operation order most wide : ℕ) where
   pub no_head : None ≡ head_numbered side operation → can_split side operation order most wide ≡ false
   no_head is = ap (λ (h : Option Head). is_some h && (is_some (order_numbered order) && (nat_le 1024 most && (nat_le most 65535 && nat_le wide STREAM_LIMIT)))) (sym is)
 
   after_head : (is_some (order_numbered order) && (nat_le 1024 most && (nat_le most 65535 && nat_le wide STREAM_LIMIT))) ≡ false → can_split side operation order most wide ≡ false
-  after_head e = ap (λ (b : Bool). is_some (head_numbered side operation) && b) e ∙ false_last (is_some (head_numbered side operation))
+  after_head e = ap (λ (b : Bool). is_some (head_numbered side operation) && b) e ∙ and-false (is_some (head_numbered side operation))
 
   pub no_split_order : None ≡ order_numbered order → can_split side operation order most wide ≡ false
   no_split_order is = after_head (ap (λ (r : Option Order). is_some r && (nat_le 1024 most && (nat_le most 65535 && nat_le wide STREAM_LIMIT))) (sym is))
 
   after_order : (nat_le 1024 most && (nat_le most 65535 && nat_le wide STREAM_LIMIT)) ≡ false → can_split side operation order most wide ≡ false
-  after_order e = after_head (ap (λ (b : Bool). is_some (order_numbered order) && b) e ∙ false_last (is_some (order_numbered order)))
+  after_order e = after_head (ap (λ (b : Bool). is_some (order_numbered order) && b) e ∙ and-false (is_some (order_numbered order)))
 
   pub few : most < 1024 → can_split side operation order most wide ≡ false
   few less = after_order (ap (λ (b : Bool). b && (nat_le most 65535 && nat_le wide STREAM_LIMIT)) (lt-leb 1024 most less))
 
   after_few : (nat_le most 65535 && nat_le wide STREAM_LIMIT) ≡ false → can_split side operation order most wide ≡ false
-  after_few e = after_order (ap (λ (b : Bool). nat_le 1024 most && b) e ∙ false_last (nat_le 1024 most))
+  after_few e = after_order (ap (λ (b : Bool). nat_le 1024 most && b) e ∙ and-false (nat_le 1024 most))
 
   pub many : 65535 < most → can_split side operation order most wide ≡ false
   many more = after_few (ap (λ (b : Bool). b && nat_le wide STREAM_LIMIT) (lt-leb most 65535 more))
 
   pub long_stub : STREAM_LIMIT < wide → can_split side operation order most wide ≡ false
-  long_stub more = after_few (ap (λ (b : Bool). nat_le most 65535 && b) (lt-leb wide STREAM_LIMIT more) ∙ false_last (nat_le most 65535))
+  long_stub more = after_few (ap (λ (b : Bool). nat_le most 65535 && b) (lt-leb wide STREAM_LIMIT more) ∙ and-false (nat_le most 65535))
 
 -- ## Format labels
 

@@ -1,7 +1,8 @@
 -- What numbers mean.
-use Rattle.std.proofs.Common.{◌≡◌, ◌∙◌, ℕ, ◌<◌, ◌≤◌, List, length, Option, Some, None, Bool, true, false, ◌&&◌, is_some, nat_lt, IsSomeAnd, refl, sym, ap, subst}
+use Rattle.std.proofs.Common.{◌≡◌, ◌∙◌, ℕ, ◌<◌, ◌≤◌, List, length, Option, Some, None, Bool, false, ◌&&◌, is_some, nat_lt, IsSomeAnd, sym, ap, subst}
 use Rattle.std.specs.List.{slice_get}
 use Rattle.std.proofs.lemmas.Option.{slice_get_past}
+use Rattle.std.proofs.Math.Bool.{and-false}
 use Rattle.nd_lemmas.proofs.Lists.{item_at}
 use Rattle.nd_base.specs.declared.octets.Order.{Order}
 use Rattle.nd_types.specs.declared.interface.Interface.{Interface}
@@ -24,16 +25,12 @@ of_order order r P is holds = there_and (order_numbered order) r P (sym is) hold
 
 -- ## Numbers that mean nothing
 
-false_last : (b : Bool) → (b && false) ≡ false
-false_last true = refl
-false_last false = refl
-
 pub no_side : (i : Interface) (operation side : ℕ) → None ≡ side_numbered side → is_side i operation side ≡ false
 no_side i operation side is = ap (λ (s : Option Side). is_some s && is_some (slice_get i.operations operation)) (sym is)
 
 pub no_operation : (i : Interface) (operation side : ℕ) → length i.operations ≤ operation → is_side i operation side ≡ false
 no_operation i operation side past =
-    ap (λ (o : Option Operation). is_some (side_numbered side) && is_some o) (slice_get_past i.operations operation past) ∙ false_last (is_some (side_numbered side))
+    ap (λ (o : Option Operation). is_some (side_numbered side) && is_some o) (slice_get_past i.operations operation past) ∙ and-false (is_some (side_numbered side))
 
 pub no_stream_side : (i : Interface) (operation side order : ℕ) → None ≡ side_numbered side → is_stream i operation side order ≡ false
 no_stream_side i operation side order is =
@@ -42,15 +39,15 @@ no_stream_side i operation side order is =
 pub no_stream_order : (i : Interface) (operation side order : ℕ) → None ≡ order_numbered order → is_stream i operation side order ≡ false
 no_stream_order i operation side order is =
     ap (λ (r : Option Order). is_some (side_numbered side) && (is_some r && is_some (slice_get i.operations operation))) (sym is)
-    ∙ false_last (is_some (side_numbered side))
+    ∙ and-false (is_some (side_numbered side))
 
 pub no_stream_operation : (i : Interface) (operation side order : ℕ) → length i.operations ≤ operation → is_stream i operation side order ≡ false
 no_stream_operation i operation side order past =
     ap (λ (o : Option Operation). is_some (side_numbered side) && (is_some (order_numbered order) && is_some o)) (slice_get_past i.operations operation past)
-    ∙ ap (λ (b : Bool). is_some (side_numbered side) && b) (false_last (is_some (order_numbered order))) ∙ false_last (is_some (side_numbered side))
+    ∙ ap (λ (b : Bool). is_some (side_numbered side) && b) (and-false (is_some (order_numbered order))) ∙ and-false (is_some (side_numbered side))
 
 pub no_layout_order : (order chunk : ℕ) → None ≡ order_numbered order → is_layout order chunk ≡ false
 no_layout_order order chunk is = ap (λ (r : Option Order). is_some r && nat_lt 0 chunk) (sym is)
 
 pub no_chunk : (order chunk : ℕ) → chunk ≡ 0 → is_layout order chunk ≡ false
-no_chunk order chunk is = ap (λ n. is_some (order_numbered order) && nat_lt 0 n) is ∙ false_last (is_some (order_numbered order))
+no_chunk order chunk is = ap (λ n. is_some (order_numbered order) && nat_lt 0 n) is ∙ and-false (is_some (order_numbered order))

@@ -1,5 +1,6 @@
 -- Attributes of one word.
 use Rattle.std.proofs.Common.{◌≡◌, ℕ, ◌+◌, ◌<◌, Bool, true, false, ◌||◌, cond, eqb, length, refl, sym, ap, ◌∙◌, List, [], ◌∷◌, Ok, Err, Option, Some, None, option_map}
+use Rattle.std.proofs.Math.Bool.{or-false}
 use Rattle.grammar_phrases.specs.Text.{Text, symbol_at, is, is_in, Ban}
 use Rattle.grammar_phrases.specs.Reading.{Read, Syntax, Passes, mark_read}
 use Rattle.idl_grammar.specs.Symbols as symbol
@@ -29,9 +30,5 @@ banned_here t i h = rw h (by_case (is (symbol_at t i) symbol.Local)) where
 abbrev here : ℕ → Bool → Read (Unit {0})
 here i b = cond b (Ok (tt, i + 1)) (Err (Syntax i))
 
-or_false : (b : Bool) → (b || false) ≡ b
-or_false true = refl
-or_false false = refl
-
 pub not_banned : (t : Text) (i : ℕ) → is (symbol_at t i) symbol.BannedAttribute ≡ false → local_read t i ≡ mark_read symbol.Local t i
-not_banned t i h = rw h (ap (here i) (or_false (is (symbol_at t i) symbol.Local)))
+not_banned t i h = rw h (ap (here i) (or-false (is (symbol_at t i) symbol.Local)))

@@ -5,6 +5,7 @@ use Rattle.std.specs.List.{list_any}
 use Rattle.std.specs.Str.{bytes_eq}
 use Rattle.std.proofs.lemmas.List.{take_more, drop_more, drop_all, map-append}
 use Rattle.std.proofs.lemmas.List.Concat.{flat_map-cons}
+use Rattle.std.proofs.Math.Bool.{or-false}
 use Rattle.idl_grammar.specs.declared.attributes.Attribute as program
 use Rattle.idl_grammar.specs.Seen.{seen_attribute}
 use Rattle.idl_grammar.specs.Tree.{Attribute}
@@ -35,16 +36,12 @@ three w c at i j k a b d first second third last e f g =
 
 -- ## Words that stand in a list
 
-or_false : (b : Bool) → (b || false) ≡ (false || b)
-or_false true = refl
-or_false false = refl
-
 or_or : (a b d : Bool) → (a || (b || d)) ≡ ((a || b) || d)
 or_or true b d = refl
 or_or false b d = refl
 
 pub any_last : {X : Type 0} (test : X → Bool) (xs : List X) (x : X) → list_any test (xs ++ x ∷ []) ≡ (list_any test xs || test x)
-any_last test [] x = or_false (test x)
+any_last test [] x = or-false (test x)
 any_last test (y ∷ xs) x = ap (λ b. test y || b) (any_last test xs x) ∙ or_or (test y) (list_any test xs) (test x)
 
 pub one_word_more : (words : List Word) (before : List Attribute) (a : Attribute) (word : Word) → AreWords words before → spelled word ≡ word_of a.kind
@@ -60,7 +57,7 @@ no_word_more words before a word are is among x =
       by true e =
           let there : has x before ≡ true = ap (λ y. has y before) ((bytes_eq-Decides x (word_of a.kind)).0 e ∙ sym is) ∙ sym (are (spelled word)) ∙ among in
           there ∙ sym (ap (λ b. b || bytes_eq x (word_of a.kind)) there)
-      by false e = sym (ap (λ b. has x before || b) e ∙ or_false (has x before))
+      by false e = sym (ap (λ b. has x before || b) e ∙ or-false (has x before))
 
 -- ## The attributes that are left, after those before them
 

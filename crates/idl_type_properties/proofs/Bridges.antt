@@ -2,6 +2,7 @@
 use Rattle.std.proofs.Common.{◌≡◌, ℕ, suc, zero, ◌<◌, Bool, true, false, ltb, ◌&&◌, ◌||◌, List, [], ◌∷◌, map, replicate, Some, None, arith, refl, sym, ap, ◌∙◌}
 use Rattle.std.specs.List.{list_all, list_any}
 use Rattle.std.proofs.lemmas.Bool.{ltb-true}
+use Rattle.std.proofs.Math.Bool.{or-false}
 use Rattle.idl_cycles.specs.declared.graph.rounds.Rule.{Rule}
 use Rattle.idl_cycles.specs.declared.graph.rounds.Rule.TheVariants.{Always, Never, All, Any, Last}
 use Rattle.nd_types.specs.declared.TheConstants.{NESTING_LIMIT}
@@ -67,10 +68,6 @@ last_of_map f thing [] = refl
 last_of_map f thing (x ∷ []) = refl
 last_of_map f thing (x ∷ y ∷ more) = last_of_map f thing (y ∷ more)
 
-or_false : (b : Bool) → (b || false) ≡ b
-or_false true = refl
-or_false false = refl
-
 hoists_one : (s : Scene) (f : IdlType → Bool) (thing : ℕ → IdlType) (parts : List ℕ) (t : IdlType) → map thing parts ≡ in_place s t
     → hoists_by s f t ≡ has_by (hoists_rule t) (λ p. f (thing p)) parts
 hoists_one s f thing parts (Array t None varying) e = refl
@@ -95,7 +92,7 @@ barred_one : (s : Scene) (f : IdlType → Bool) (thing : ℕ → IdlType) (parts
     → is_barred_by s f t ≡ has_by (barred_rule t) (λ p. f (thing p)) parts
 barred_one s f thing parts (Array t None varying) e = refl
 barred_one s f thing parts (Array t (Some c) true) e = refl
-barred_one s f thing parts (Array t (Some c) false) e = sym (or_false (f t)) ∙ any_held s f thing parts (Array t (Some c) false) e
+barred_one s f thing parts (Array t (Some c) false) e = sym (or-false (f t)) ∙ any_held s f thing parts (Array t (Some c) false) e
 barred_one s f thing parts (Text t c) e = refl
 barred_one s f thing parts (Struct place) e = any_held s f thing parts (Struct place) e
 barred_one s f thing parts Void e = any_held s f thing parts Void e

@@ -6,6 +6,7 @@ use Rattle.std.proofs.Math.Seq.{take-append_seam}
 use Rattle.std.proofs.lemmas.Bool.{cond-true, and_parts, and_from}
 use Rattle.std.proofs.lemmas.Bool.Decides.{nat_tests}
 use Rattle.std.proofs.lemmas.Option.{same_Some}
+use Rattle.std.proofs.Math.Bool.{and-false, or-false}
 use Rattle.nd_base.specs.Text.{is_digit}
 use Rattle.text_grammar.specs.declared.version.Version.{Version}
 use Rattle.text_grammar.specs.Tokens.{Mark, IsCut, is_mark, is_blank, is_plain, begins_bytes, skip, ends_run, escape, character}
@@ -21,16 +22,8 @@ use Rattle.text_lexer.proofs.Scanning.{Reaches, begun, one_more}
 
 -- ## Marks
 
-or_false : (b : Bool) → b ≡ (b || false)
-or_false true = refl
-or_false false = refl
-
 pub same_marks : (c : ℕ) → is_one_of_marks c ≡ is_mark c
-same_marks c = ap (λ b. eqb c 61 || (eqb c 123 || (eqb c 125 || (eqb c 91 || (eqb c 93 || (eqb c 44 || (eqb c 58 || (eqb c 40 || b)))))))) (or_false (eqb c 41))
-
-and_false : (b : Bool) → (b && false) ≡ false
-and_false true = refl
-and_false false = refl
+same_marks c = ap (λ b. eqb c 61 || (eqb c 123 || (eqb c 125 || (eqb c 91 || (eqb c 93 || (eqb c 44 || (eqb c 58 || (eqb c 40 || b)))))))) (sym (or-false (eqb c 41)))
 
 no_x : (due : ℕ) (rest : List ℕ) → is_mark due ≡ true → begins_bytes (due ∷ rest) ≡ false
 no_x due [] m = refl
@@ -41,7 +34,7 @@ pub mark_cut : (v : Version) (due : ℕ) (text rest : List ℕ) → text ≡ due
 mark_cut v due text rest e m = subst (λ (l : List ℕ). IsCut (plain v) l (Mark due) rest) (sym e) (record {
   spelled = (skips, m);
   uuid = refl;
-  bytes = sym (ap (λ (l : List ℕ). is_two v && begins_bytes l) skips ∙ ap (λ b. is_two v && b) (no_x due rest m) ∙ and_false (is_two v));
+  bytes = sym (ap (λ (l : List ℕ). is_two v && begins_bytes l) skips ∙ ap (λ b. is_two v && b) (no_x due rest m) ∙ and-false (is_two v));
 }) where
   no_blank : is_blank due ≡ false
   no_blank = grind (arith, nat_tests, m)
