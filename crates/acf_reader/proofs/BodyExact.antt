@@ -1,10 +1,11 @@
 -- The elements of the body are read exactly.
 use Rattle.std.proofs.Common.{◌≡◌, ℕ, ◌+◌, ◌≤◌, Bool, true, false, List, [], ◌∷◌, cond, length, refl, sym, ap, subst, arith, ◌∙◌, ◌||◌, eq-eqb, ◌⊎◌, inl, inr, Option, Some, None, Ok}
 use Rattle.std.proofs.lemmas.Bool.{eqb-true}
+use Rattle.nd_lemmas.proofs.Booleans.{clash}
 use Rattle.grammar_phrases.specs.Text.{Lexeme, Text, lexeme_at, symbol_at, is, is_in, Lifted, Rel, many, optional, located, made, ◌⊗◌, ◌⊳◌, ◌⊲◌, ◌∣◌}
 use Rattle.grammar_phrases.specs.Reading.{Read, then, turned}
 use Rattle.grammar_phrases.proofs.Exact.{Exact, HasPhrase, Part, pair_exact, turned_exact}
-use Rattle.grammar_phrases.proofs.Parts.{clash, pair_has, turned_has, optional_has}
+use Rattle.grammar_phrases.proofs.Parts.{pair_has, turned_has, optional_has}
 use Rattle.grammar_phrases.proofs.Sequences.{stops, Begins, subset, disjoint, meets_first, skip_exact, skip_begins, end_exact, end_has, end_begins, pair_begins, or_pair_begins, located_exact}
 use Rattle.grammar_phrases.proofs.Sequences.{located_has, bracketed_exact, bracketed_has, bracketed_begins, separated_exact, separated_has, separated_begins, list_exact, choice_exact}
 use Rattle.idl_grammar.specs.declared.words.Spelling.{Spelling}

@@ -5,6 +5,7 @@ use Rattle.std.proofs.lemmas.Bool.{eqb-true}
 use Rattle.std.proofs.Math.Decide.{dec_lt}
 use Rattle.std.proofs.Math.ListN.{get_or-append}
 use Rattle.std.proofs.lemmas.List.{drop_at, get_or_past, get_or-drop, get_or-take, drop-drop}
+use Rattle.nd_lemmas.proofs.Booleans.{clash}
 use Rattle.grammar_phrases.specs.Text.{Rel, Lexeme}
 use Rattle.grammar_phrases.specs.Text.{Text, the_end, lexeme_at, symbol_at, Lifted, mark, many, token, optional, unless, is, Rule}
 use Rattle.grammar_phrases.specs.Reading.{Syntax, Passes, Read, then, turned, token_read, ruled_read, mark_read, optional_read, many_read, to_unit}
@@ -45,9 +46,6 @@ cut_at t k a z h = at_rest (cut t k (a ∷ z)) k a z (cut_rest t k (a ∷ z) h)
 
 cut_more : (t : Text) (k : ℕ) (a : Lexeme) (z : Text) → k ≤ length t → Rest (cut t k (a ∷ z)) (k + 1) z
 cut_more t k a z h = rest_more (cut t k (a ∷ z)) k a z (cut_rest t k (a ∷ z) h)
-
-pub clash : {A : Type 0} (b : Bool) → b ≡ true → b ≡ false → A
-clash b p q = absurd (let e : true ≡ false = sym p ∙ q in cc)
 
 -- ## none of the alternatives
 

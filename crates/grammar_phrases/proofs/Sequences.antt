@@ -3,12 +3,13 @@ use Rattle.std.proofs.Common.{◌≡◌, ℕ, suc, ◌<◌, ◌≤◌, Bool, tru
 use Rattle.std.specs.List.{list_all}
 use Rattle.std.proofs.lemmas.Bool.{leb-false, eqb-true, and_parts as both, not-true as not_true}
 use Rattle.std.proofs.lemmas.Bool.Decides.{eqb_tells}
+use Rattle.nd_lemmas.proofs.Booleans.{clash}
 use Rattle.grammar_phrases.specs.Text.{Lexeme, Text, lexeme_at, symbol_at, is, is_in, Depth, Lifted, Rel, many, token, optional, unless, ◌⊗◌, ◌⊳◌, ◌⊲◌, ◌∣◌, located, some_of, separated, many_brackets}
 use Rattle.grammar_phrases.specs.Text.{bracketed, made}
 use Rattle.grammar_phrases.specs.Reading.{Read, join, then, turned, mark_read, to_unit, skip, ended, end_with, located_read, choice_read, option_read, list_read, some_read, behind_read}
 use Rattle.grammar_phrases.specs.Reading.{separated_read, open_read, bracketed_read}
 use Rattle.grammar_phrases.proofs.Exact.{Stops, Found, Exact, HasPhrase, Meets, pair_exact, Part, turned_exact}
-use Rattle.grammar_phrases.proofs.Parts.{clash, ruled_exact, ruled_has, optional_exact, many_exact, many_has, mark_exact, mark_has, marked, of_symbol, pair_has, turned_has, moves_of}
+use Rattle.grammar_phrases.proofs.Parts.{ruled_exact, ruled_has, optional_exact, many_exact, many_has, mark_exact, mark_has, marked, of_symbol, pair_has, turned_has, moves_of}
 
 -- ## lists of symbols
 

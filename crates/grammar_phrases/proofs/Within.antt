@@ -2,8 +2,8 @@
 use Rattle.std.proofs.Common.{◌≡◌, ℕ, ◌<◌, ◌≤◌, Bool, true, false, length, ap, arith, ◌∙◌}
 use Rattle.std.proofs.Math.Decide.{dec_lt}
 use Rattle.std.proofs.lemmas.List.{get_or_past}
+use Rattle.nd_lemmas.proofs.Booleans.{clash}
 use Rattle.grammar_phrases.specs.Text.{Text, the_end, symbol_at, is}
-use Rattle.grammar_phrases.proofs.Parts.{clash}
 
 pub test_within : (t : Text) (i : ℕ) (good : ℕ → Bool) → good 0 ≡ false → good (symbol_at t i) ≡ true → i < length t
 test_within t i good not_end h = elim (dec_lt i (length t)) as (λ _. i < length t) [

@@ -1,10 +1,10 @@
 -- Where a file could go on, a word that is banned anywhere is answered as such.
 use Rattle.std.proofs.Common.{◌≡◌, ℕ, ◌+◌, ◌<◌, true, [], ◌∷◌, ◌++◌, length, refl, sym, ap, arith, ◌∙◌, Err, inl}
 use Rattle.std.proofs.lemmas.List.{get_or-take}
+use Rattle.nd_lemmas.proofs.Booleans.{clash}
 use Rattle.grammar_phrases.specs.Text.{Lexeme, Text, the_end, lexeme_at, is, Ban}
 use Rattle.grammar_phrases.specs.Reading.{Passes}
 use Rattle.grammar_phrases.specs.Verdict.{begins, derives, lax, limits_before}
-use Rattle.grammar_phrases.proofs.Parts.{clash}
 use Rattle.grammar_phrases.proofs.Within.{mark_within}
 use Rattle.idl_grammar.specs.Symbols as symbol
 use Rattle.idl_grammar.specs.Tree.{Tree}

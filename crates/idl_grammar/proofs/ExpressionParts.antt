@@ -2,9 +2,10 @@
 use Rattle.std.proofs.Common.{◌≡◌, ℕ, zero, suc, ◌+◌, ◌<◌, ◌≤◌, Bool, true, false, List, [], ◌∷◌, length, refl, sym, ap, subst, arith, ◌∙◌, leb, eqb, inl, inr, cond, ◌&&◌, ◌||◌, add-one}
 use Rattle.std.proofs.lemmas.Bool.{le-leb, eqb-true, leb-false}
 use Rattle.std.proofs.lemmas.Bool.Decides.{leb_tells}
+use Rattle.nd_lemmas.proofs.Booleans.{clash}
 use Rattle.grammar_phrases.specs.Text.{Lexeme, Text, lexeme_at, symbol_at, is, is_in, Lifted, Rel, token}
 use Rattle.grammar_phrases.proofs.Exact.{Agrees, Stops, Exact, less}
-use Rattle.grammar_phrases.proofs.Parts.{clash, token_exact, of_symbol}
+use Rattle.grammar_phrases.proofs.Parts.{token_exact, of_symbol}
 use Rattle.grammar_phrases.proofs.Sequences.{disjoint, apart}
 use Rattle.idl_grammar.specs.declared.words.Spelling.{Spelling}
 use Rattle.idl_grammar.specs.declared.expressions.BinaryOperator.{BinaryOperator}

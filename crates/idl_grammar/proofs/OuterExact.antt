@@ -1,8 +1,9 @@
 -- Outermost expressions are read exactly.
 use Rattle.std.proofs.Common.{◌≡◌, ℕ, ◌≤◌, Bool, true, false, List, [], ◌∷◌, length, refl, arith, leb, cond, ◌||◌}
+use Rattle.nd_lemmas.proofs.Booleans.{clash}
 use Rattle.grammar_phrases.specs.Text.{Text, symbol_at, is, is_in, Lifted}
 use Rattle.grammar_phrases.proofs.Exact.{Exact, HasPhrase}
-use Rattle.grammar_phrases.proofs.Parts.{clash, turned_has}
+use Rattle.grammar_phrases.proofs.Parts.{turned_has}
 use Rattle.grammar_phrases.proofs.Sequences.{stops, Begins, subset, smaller, in_more}
 use Rattle.idl_grammar.specs.declared.expressions.Operand.TheVariants as operand
 use Rattle.idl_grammar.specs.Symbols as symbol

@@ -1,10 +1,11 @@
 -- What is between the brackets of an operation is read exactly.
 use Rattle.std.proofs.Common.{◌≡◌, ℕ, ◌+◌, ◌≤◌, Bool, true, false, List, [], ◌∷◌, cond, length, refl, sym, ap, subst, ◌∙◌, Option, Some, None, Ok, ◌||◌, eq-eqb}
 use Rattle.std.proofs.lemmas.Bool.{eqb-true}
+use Rattle.nd_lemmas.proofs.Booleans.{clash}
 use Rattle.grammar_phrases.specs.Text.{Lexeme, Text, lexeme_at, symbol_at, is, is_in, Lifted, Rel, nothing, mark, many, optional, located, separated, made, ◌▹◌, ◌⊗◌, ◌⊳◌}
 use Rattle.grammar_phrases.specs.Reading.{Read, then, turned}
 use Rattle.grammar_phrases.proofs.Exact.{Stops, Exact, HasPhrase, Part, pair_exact, turned_exact}
-use Rattle.grammar_phrases.proofs.Parts.{clash, turned_has, optional_has, many_has}
+use Rattle.grammar_phrases.proofs.Parts.{turned_has, optional_has, many_has}
 use Rattle.grammar_phrases.proofs.Sequences.{stops, Begins, meets_or, pair_begins, list_begins, separated_begins, skip_begins}
 use Rattle.idl_grammar.specs.declared.types.SimpleType.TheVariants as types
 use Rattle.idl_grammar.specs.Symbols as symbol

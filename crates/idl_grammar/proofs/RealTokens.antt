@@ -4,8 +4,8 @@ use Rattle.std.specs.List.{list_all}
 use Rattle.std.specs.Str.{bytes_eq}
 use Rattle.grammar_phrases.specs.Text.{Lexeme}
 use Rattle.grammar_phrases.specs.Gives.{IsText}
-use Rattle.grammar_phrases.proofs.Parts.{clash}
 use Rattle.std.proofs.lemmas.Bool.{and_parts as both, not-true as not_zero}
+use Rattle.nd_lemmas.proofs.Booleans.{clash}
 use Rattle.idl_lexer.specs.declared.tokens.TokenKind.{TokenKind}
 use Rattle.idl_lexer.specs.declared.tokens.TokenKind.TheVariants as token
 use Rattle.idl_lexer.specs.declared.tokens.Token.{Token}

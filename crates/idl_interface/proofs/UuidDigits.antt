@@ -2,7 +2,7 @@
 use Rattle.std.proofs.Common.{◌≡◌, ℕ, zero, suc, ◌+◌, ◌-◌, ◌*◌, ◌^◌, ◌<◌, ◌≤◌, Bool, true, false, ◌||◌, ◌&&◌, cond, eqb, leb, List, [], ◌∷◌, length, drop, slice_index, refl, sym, ap, arith, ◌∙◌}
 use Rattle.std.proofs.lemmas.Bool.{leb-true}
 use Rattle.std.proofs.lemmas.List.{length-drop}
-use Rattle.grammar_phrases.proofs.Parts.{clash}
+use Rattle.nd_lemmas.proofs.Booleans.{clash}
 use Rattle.nd_base.specs.Text.{is_hex_digit}
 use Rattle.idl_lexer.specs.Numbers.{digit_value}
 use Rattle.idl_lexer.specs.Pieces.{is_dash_place, IsUuid}

@@ -4,6 +4,7 @@ use Rattle.std.proofs.Common.{get_or}
 use Rattle.std.proofs.Math.Decide.{dec_lt}
 use Rattle.std.proofs.lemmas.List.{get_or_past}
 use Rattle.std.specs.Prelude.{slice_index, slice_range}
+use Rattle.nd_lemmas.proofs.Booleans.{clash}
 use Rattle.nd_base.specs.Text.{is_letter, is_word_octet}
 use Rattle.idl_lexer.specs.declared.tokens.TokenKind.{TokenKind}
 use Rattle.idl_lexer.specs.declared.tokens.TokenKind.TheVariants as token
@@ -24,7 +25,7 @@ use Rattle.idl_lexer.specs.Literals.{completes_after, Reaches, IsEnd, IsOpen, Is
 use Rattle.idl_lexer.specs.Cut.{IsCut, IsRefused, OpensComment}
 use Rattle.idl_lexer.specs.Verdict.{text_limit, token_of, HasVerdict, Verdict, Cut, Refused}
 use Rattle.idl_lexer.proofs.Ranges.{range_at, range_length}
-use Rattle.idl_lexer.proofs.FirstOctets.{clash, equal_octets}
+use Rattle.idl_lexer.proofs.FirstOctets.{equal_octets}
 use Rattle.idl_lexer.proofs.Cuts.{longest_word, longest_number, word_cut, number_cut, uuid_cut, space_cut, pair_cut, single_cut, comment_cut, bad_octet, long_name, bad_number, some_number}
 use Rattle.idl_lexer.proofs.Comments.{NoEnd, comment_found, comment_none}
 use Rattle.idl_lexer.proofs.LiteralEnds.{next, next_is, reaches_start, reaches_more, is_end, is_bad, is_open, cut_as, open_as, bad_as}

@@ -2,6 +2,7 @@
 use Rattle.std.proofs.Common.{◌≡◌, ℕ, ◌+◌, ◌-◌, ◌<◌, ◌≤◌, Bool, true, false, inl, inr, List, [], ◌∷◌, ◌++◌, length, refl, sym, ap, subst, arith, ◌∙◌}
 use Rattle.std.proofs.Math.Decide.{dec_lt}
 use Rattle.std.specs.Prelude.{slice_index, slice_range, eqb, IsSome, is_some, Option, Some, None}
+use Rattle.nd_lemmas.proofs.Booleans.{clash}
 use Rattle.idl_lexer.specs.declared.tokens.TokenKind.TheVariants as token
 use Rattle.idl_lexer.specs.declared.tokens.LexKind.{LexKind}
 use Rattle.idl_lexer.specs.declared.tokens.LexKind.TheVariants as fault
@@ -15,7 +16,7 @@ use Rattle.idl_lexer.specs.Numbers.{number_of}
 use Rattle.idl_lexer.specs.Pieces.{IsRun, IsUuid, IsComment, IsOf, is_mark}
 use Rattle.idl_lexer.specs.Cut.{IsLongest, IsCut, OpensComment, IsRefused}
 use Rattle.idl_lexer.proofs.Ranges.{range_at, range_length, range_first, range_empty, range_cons, range_one}
-use Rattle.idl_lexer.proofs.FirstOctets.{clash, may_begin, begins, is_some as has_octets, word_kind, space_kind, mark_kind, nothing_begins, hex_word, equal_octets, IsRunKind}
+use Rattle.idl_lexer.proofs.FirstOctets.{may_begin, begins, is_some as has_octets, word_kind, space_kind, mark_kind, nothing_begins, hex_word, equal_octets, IsRunKind}
 
 -- what is there begins with the octet there
 pub begins_at : (text : List ℕ) (from to : ℕ) (kind : PieceKind) → from < to → IsOf kind (slice_range text from to) → may_begin kind (slice_index text from) ≡ true

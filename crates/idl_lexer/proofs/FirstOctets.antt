@@ -10,9 +10,7 @@ use Rattle.nd_base.specs.Text.{is_letter, is_digit, is_hex_digit, is_word_octet}
 use Rattle.idl_lexer.specs.Classes.{is_space, is_one_of, is_mark_octet, are, are_mark}
 use Rattle.idl_lexer.specs.Pieces.{IsOf, char_goes_on, string_goes_on}
 use Rattle.std.proofs.lemmas.Bool.{and_parts as both, not-true as not_true, or_left, or_right}
-
-pub clash : {A : Type 0} (b : Bool) → b ≡ true → b ≡ false → A
-clash b p q = absurd (let e : true ≡ false = sym p ∙ q in cc)
+use Rattle.nd_lemmas.proofs.Booleans.{clash}
 
 pub one_of_passes : (p : ℕ → Bool) (octets : List ℕ) (c : ℕ) → list_all p octets ≡ true → is_one_of octets c ≡ true → p c ≡ true
 one_of_passes p [] c all one = clash false one refl

@@ -2,6 +2,7 @@
 use Rattle.std.proofs.Common.{◌≡◌, ◌≢◌, ℕ, ◌+◌, ◌<◌, ◌≤◌, Bool, true, false, ◌&&◌, cond, ◌⊎◌, inl, inr, List, [], ◌∷◌, ◌++◌, length, refl, sym, ap, subst, arith, ◌∙◌, append_assoc, append-nil, eq-eqb}
 use Rattle.std.proofs.Math.Decide.{dec_lt}
 use Rattle.std.specs.Prelude.{slice_index, slice_range, eqb}
+use Rattle.nd_lemmas.proofs.Booleans.{clash}
 use Rattle.idl_lexer.specs.declared.tokens.TokenKind.{TokenKind}
 use Rattle.idl_lexer.specs.declared.tokens.TokenKind.TheVariants as token
 use Rattle.idl_lexer.specs.declared.tokens.LexKind.TheVariants as fault
@@ -19,7 +20,7 @@ use Rattle.idl_lexer.specs.Pieces.{IsOf, closes, string_goes_on, string_escape_g
 use Rattle.idl_lexer.specs.Literals.{completes, completes_after, is_empty, Reaches, IsEnd, IsOpen, IsBadAt, IsUnended, refusal_of, Opens}
 use Rattle.idl_lexer.specs.Cut.{IsCut, IsRefused, Begins}
 use Rattle.idl_lexer.proofs.Ranges.{range_empty, range_cons, range_split, range_more}
-use Rattle.idl_lexer.proofs.FirstOctets.{clash, may_begin, begins, string_kind, char_kind}
+use Rattle.idl_lexer.proofs.FirstOctets.{may_begin, begins, string_kind, char_kind}
 use Rattle.idl_lexer.proofs.Cuts.{none_empty}
 
 -- ## one octet

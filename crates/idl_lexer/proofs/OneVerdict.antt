@@ -20,8 +20,9 @@ use Rattle.idl_lexer.specs.Lexed.{Lexed}
 use Rattle.idl_lexer.specs.declared.tokens.LexFault.{LexFault}
 use Rattle.idl_lexer.specs.declared.tokens.LexFault.TheVariants as errors
 use Rattle.idl_lexer.proofs.Ranges.{range_split, range_one, range_first}
-use Rattle.idl_lexer.proofs.FirstOctets.{clash, may_begin, begins, IsRunKind, word_kind, space_kind, string_kind, char_kind, mark_kind, hex_word, letter_no_digit, equal_octets}
+use Rattle.idl_lexer.proofs.FirstOctets.{may_begin, begins, IsRunKind, word_kind, space_kind, string_kind, char_kind, mark_kind, hex_word, letter_no_digit, equal_octets}
 use Rattle.std.proofs.lemmas.Bool.{or_left, or_right}
+use Rattle.nd_lemmas.proofs.Booleans.{clash}
 use Rattle.idl_lexer.proofs.Cuts.{mark_size}
 
 -- ## octets have one kind

@@ -1,6 +1,7 @@
 -- A walk has one ending, except when out of memory, where it is told which loads fail.
 use Rattle.std.proofs.Common.{◌≡◌, ℕ, ◌<◌, ◌≤◌, Bool, true, false, refl, sym, ap, subst, ◌∙◌, arith, List, ◌++◌, length, Option, Some, None, option_map, Result, Ok, Err}
 use Rattle.std.proofs.lemmas.Option.{same_Some}
+use Rattle.nd_lemmas.proofs.Booleans.{clash}
 use Rattle.grammar_phrases.specs.Reading.{Fault, Syntax}
 use Rattle.nd_base.specs.Outside.{loaded, IsContent, IsMissing}
 use Rattle.idl_lexer.specs.Lexed.{Lexed, place_of}
@@ -24,7 +25,6 @@ use Rattle.idl_names.specs.Sources.{file_number}
 use Rattle.idl_names.specs.Walk.{State, Due, Ending, Done, Stopped, Walk, most_files, with_known, with_source, all_of}
 use Rattle.idl_names.specs.Walk as walk
 use Rattle.idl_names.specs.Decided.{is_decided, has_memory, FailsAs}
-use Rattle.grammar_phrases.proofs.Parts.{clash as fails_or_not}
 use Rattle.idl_names.proofs.Loads.{same_fault as same_errors}
 
 -- ## Texts
@@ -198,18 +198,18 @@ module _ (f : List ℕ → Option (List ℕ)) (fails : List ℕ → Bool) where
   one_told_ending p q (walk.failed s place name rest due) (walk.cycle _ _ _ _ n g c) fv fw = known_or_new n (file_number s.sources name) g due.new
   one_told_ending p q (walk.failed s place name rest due) (walk.again _ _ _ _ x n g c v) fv fw = known_or_new n (file_number s.sources name) g due.new
   one_told_ending p q (walk.failed s place name rest due) (walk.too_many _ _ _ _ g c) fv fw = room_or_full (length s.sources) due.room c
-  one_told_ending p q (walk.failed s place name rest due) (walk.absent _ _ _ _ other m) fv fw = fails_or_not (fails name) fv fw
+  one_told_ending p q (walk.failed s place name rest due) (walk.absent _ _ _ _ other m) fv fw = clash (fails name) fv fw
   one_told_ending p q (walk.failed s place name rest due) (walk.failed _ _ _ _ other) fv fw = refl
-  one_told_ending p q (walk.failed s place name rest due) (walk.uncut _ _ _ _ text at kind other c v) fv fw = fails_or_not (fails name) fv fw
-  one_told_ending p q (walk.failed s place name rest due) (walk.no_file _ _ _ _ text at n other c v) fv fw = fails_or_not (fails name) fv fw
-  one_told_ending p q (walk.failed s place name rest due) (walk.enters _ _ _ _ x text t other c g v) fv fw = fails_or_not (fails name) fv fw.0
+  one_told_ending p q (walk.failed s place name rest due) (walk.uncut _ _ _ _ text at kind other c v) fv fw = clash (fails name) fv fw
+  one_told_ending p q (walk.failed s place name rest due) (walk.no_file _ _ _ _ text at n other c v) fv fw = clash (fails name) fv fw
+  one_told_ending p q (walk.failed s place name rest due) (walk.enters _ _ _ _ x text t other c g v) fv fw = clash (fails name) fv fw.0
   one_told_ending p q (walk.cycle s place name rest n h d) (walk.failed _ _ _ _ due) fv fw = known_or_new n (file_number s.sources name) h due.new
   one_told_ending p q (walk.again s place name rest e n h d w) (walk.failed _ _ _ _ due) fv fw = known_or_new n (file_number s.sources name) h due.new
   one_told_ending p q (walk.too_many s place name rest h d) (walk.failed _ _ _ _ due) fv fw = room_or_full (length s.sources) due.room d
-  one_told_ending p q (walk.absent s place name rest due m) (walk.failed _ _ _ _ other) fv fw = fails_or_not (fails name) fw fv
-  one_told_ending p q (walk.uncut s place name rest text at kind due c w) (walk.failed _ _ _ _ other) fv fw = fails_or_not (fails name) fw fv
-  one_told_ending p q (walk.no_file s place name rest text at n due c w) (walk.failed _ _ _ _ other) fv fw = fails_or_not (fails name) fw fv
-  one_told_ending p q (walk.enters s place name rest e text t due c h w) (walk.failed _ _ _ _ other) fv fw = fails_or_not (fails name) fw fv.0
+  one_told_ending p q (walk.absent s place name rest due m) (walk.failed _ _ _ _ other) fv fw = clash (fails name) fw fv
+  one_told_ending p q (walk.uncut s place name rest text at kind due c w) (walk.failed _ _ _ _ other) fv fw = clash (fails name) fw fv
+  one_told_ending p q (walk.no_file s place name rest text at n due c w) (walk.failed _ _ _ _ other) fv fw = clash (fails name) fw fv
+  one_told_ending p q (walk.enters s place name rest e text t due c h w) (walk.failed _ _ _ _ other) fv fw = clash (fails name) fw fv.0
   one_told_ending p q (walk.short s rest) v fv fw = undecided p
   one_told_ending p q (walk.short_in_load s place name rest due) v fv fw = undecided p
   one_told_ending p q (walk.short_after_load s place name rest text due c) v fv fw = undecided p

@@ -3,8 +3,8 @@
 use Rattle.std.proofs.Common.{◌≡◌, ◌∙◌, ℕ, Bool, true, false, ◌&&◌, eqb, List, [], ◌∷◌, ◌++◌, map, length, refl, sym, ap, subst, inl, inr, Option, Some, None, option_map, Ok, Err}
 use Rattle.std.specs.List.{list_all}
 use Rattle.std.specs.Cmp.Derive.{both_true}
-use Rattle.grammar_phrases.proofs.Parts.{clash}
 use Rattle.std.proofs.lemmas.Bool.{and_parts as both}
+use Rattle.nd_lemmas.proofs.Booleans.{clash}
 use Rattle.nd_base.specs.declared.octets.Place.{Place}
 use Rattle.nd_base.specs.Outside.{IsContent, IsMissing, loaded}
 use Rattle.nd_base.specs.Text.{is_identifier, position_of}

@@ -5,6 +5,7 @@
 use Rattle.std.proofs.Common.{◌≡◌, ◌⊎◌, inl, inr, ◌∙◌, ℕ, suc, ℤ, ◌+◌, ◌<◌, ◌≤◌, Bool, true, false, List, [], ◌∷◌, ◌++◌, Option, Some, None, map, refl, sym, ap, ap₂, subst, arith}
 use Rattle.std.specs.Prelude.{◌==◌, ◌||◌}
 use Rattle.std.specs.List.{AllByRecursion, slice_get}
+use Rattle.nd_lemmas.proofs.Booleans.{clash}
 use Rattle.nd_types.specs.declared.types.Attr.{Attr}
 use Rattle.nd_types.specs.declared.types.Attr.TheVariants as attr
 use Rattle.nd_types.specs.declared.types.AttrVar.{AttrVar}
@@ -170,10 +171,6 @@ path_twice n m p xs = go (n == m) (n == m) refl
     go : (b c : Bool) → c ≡ b → ◌≡◌ {A = List ℕ} (elim b [ true ↦ p | false ↦ elim c [ true ↦ p | false ↦ path_in xs m ] ]) (elim b [ true ↦ p | false ↦ path_in xs m ])
     go true c e = refl
     go false c e = ap (λ u. elim u [ true ↦ p | false ↦ path_in xs m ]) e
-
-clash : {A : Type 0} (b : Bool) → b ≡ true → b ≡ false → A
-clash true e f = cc
-clash false e f = cc
 
 module _ (w : Setting) (g : Graph) where
   pub both_parts : (ms ns : List Entry) → AreTestsOfFront w g ms → (AreRead ms → AreTestsOfFront w g ns) → AreTestsOfFront w g (ms ++ ns)
