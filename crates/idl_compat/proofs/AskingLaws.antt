@@ -1,5 +1,5 @@
 -- Pairs that are asked for one after the other.
-use Rattle.std.proofs.Common.{arith, ◌≡◌, ℕ, ◌+◌, ◌<◌, ◌≤◌, zero, suc, Bool, true, false, List, [], ◌∷◌, ◌++◌, Option, Some, None, refl, ap, ap₂, sym, ◌∙◌, subst, length, take, append_assoc}
+use Rattle.std.proofs.Common.{arith, ◌≡◌, ℕ, ◌+◌, ◌<◌, ◌≤◌, zero, suc, Bool, true, false, List, [], ◌∷◌, ◌++◌, Option, Some, refl, ap, ap₂, sym, ◌∙◌, subst, length, take, append_assoc}
 use Rattle.std.proofs.Common.{append-nil, take_all}
 use Rattle.std.specs.Prelude.{slice_get}
 use Rattle.std.specs.List.{AllByRecursion}
@@ -107,11 +107,6 @@ module _ {X Y : Type 0} (F : List TypePair → X → Y → Type 0) (xs : List X)
 
   pub other_count : (length xs ≡ length ys → ⊥) → (m : List TypePair) → OneByOne (F m) xs ys → ⊥
   other_count h m p = h (long m xs ys p)
-
-pub none_below : {X : Type 0} (xs : List X) (i : ℕ) → i < length xs → slice_get xs i ≡ None → ⊥
-none_below [] i l e = absurd (omega (arith, l))
-none_below (x ∷ xs) zero l e = cc
-none_below (x ∷ xs) (suc i) l e = none_below xs i (omega (arith, l)) e
 
 pub asked_true : (P : List TypePair → Type 0) (before after : List TypePair) (ok : Bool) → Asks P before after ok → ok ≡ true → Asks P before after true
 asked_true P before after true a e = a

@@ -6,6 +6,7 @@ use Rattle.std.specs.List.{list_all}
 use Rattle.std.proofs.lemmas.Bool.{eqb-true, eqb-false, ltb-true, or_cases}
 use Rattle.std.proofs.lemmas.Option.{same_Some, slice_get-get_or}
 use Rattle.nd_lemmas.proofs.Booleans.{first_true, second_true}
+use Rattle.nd_lemmas.proofs.Lists.{none_below}
 use Rattle.nd_types.specs.declared.interface.Interface.{Interface}
 use Rattle.nd_types.specs.declared.types.TypeId.{TypeId}
 use Rattle.nd_types.specs.declared.types.TypeDef.{TypeDef}
@@ -118,11 +119,6 @@ at_among [] i x e = cc
 at_among (y ∷ ys) zero x e = inl (sym (same_Some y x e))
 at_among (y ∷ ys) (suc i) x e = inr (at_among ys i x e)
 
-some_at : {X : Type 0} (xs : List X) (i : ℕ) → i < length xs → slice_get xs i ≡ None → ⊥
-some_at [] i l e = absurd (omega (arith, l))
-some_at (x ∷ xs) zero l e = cc
-some_at (x ∷ xs) (suc i) l e = some_at xs i (omega (arith, l)) e
-
 module _ (i : Interface) where
   abbrev n : ℕ
   n = length i.types
@@ -142,7 +138,7 @@ module _ (i : Interface) where
       }
 
   types_by : (t : ℕ) (o : Option TypeDef) → type_at i.types t ≡ o → t < n → AlikeTypes self o o
-  types_by t None e l = absurd (some_at i.types t l e)
+  types_by t None e l = absurd (none_below i.types t l e)
   types_by t (Some d) e l =
       let k : list_all (is_in_table i.types) (named_types d) ≡ true =
       all_among (λ x. list_all (is_in_table i.types) (named_types x)) i.types i.legal.types_known d (at_among i.types t d e) in
@@ -160,7 +156,7 @@ module _ (i : Interface) where
   result_by (Some t) e = known t.0 e
 
   operation_by : (k : ℕ) (o : Option Operation) → slice_get i.operations k ≡ o → k < length i.operations → AlikeFound self o o
-  operation_by k None e l = absurd (some_at i.operations k l e)
+  operation_by k None e l = absurd (none_below i.operations k l e)
   operation_by k (Some o) e l =
       let h : Among i.operations o = at_among i.operations k o e in
       let P : Param → Bool = λ p. is_handle p || is_in_table i.types p.field.of.0 in

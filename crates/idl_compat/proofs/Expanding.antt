@@ -2,7 +2,7 @@
 use Rattle.std.proofs.Common.{arith, ◌≡◌, ℕ, ◌+◌, ◌<◌, ◌≤◌, zero, suc, Bool, true, false, List, [], ◌∷◌, ◌++◌, Option, Some, None, refl, ap, sym, ◌∙◌, subst, length, inl, inr, ◌⊎◌, append_assoc}
 use Rattle.std.proofs.Common.{append-nil}
 use Rattle.std.specs.Prelude.{slice_get}
-use Rattle.std.proofs.lemmas.Option.{same_Some, slice_get_within}
+use Rattle.std.proofs.lemmas.Option.{same_Some, slice_get_within, none-some}
 use Rattle.nd_types.specs.declared.types.TypeDef.{TypeDef}
 use Rattle.nd_types.specs.Table.{Table, type_at}
 use Rattle.idl_compat.specs.declared.pairs.TypePair.{TypePair}
@@ -18,14 +18,11 @@ use Rattle.idl_compat.proofs.Carrying.{both_there}
 
 -- ## One pair
 
-none_some : {X : Type 0} {x : X} → None ≡ Some x → ⊥
-none_some e = cc
-
 pub no_old : (R : ℕ → ℕ → Type 0) (d e : Option TypeDef) → d ≡ None → AlikeTypes R d e → ⊥
-no_old R d e is a = let (x, y) = both_there R a in none_some (sym is ∙ x.1)
+no_old R d e is a = let (x, y) = both_there R a in none-some x.0 (sym is ∙ x.1)
 
 pub no_new : (R : ℕ → ℕ → Type 0) (d e : Option TypeDef) → e ≡ None → AlikeTypes R d e → ⊥
-no_new R d e is a = let (x, y) = both_there R a in none_some (sym is ∙ y.1)
+no_new R d e is a = let (x, y) = both_there R a in none-some y.0 (sym is ∙ y.1)
 
 module _ (old new : Table) (t u : ℕ) (d e : TypeDef) (is_old : type_at old t ≡ Some d) (is_new : type_at new u ≡ Some e) where
   moved : (m : List TypePair) → AlikeTypes (IsPair m) (type_at old t) (type_at new u) → AlikeTypes (IsPair m) (Some d) (Some e)

@@ -2,7 +2,7 @@
 use Rattle.std.proofs.Common.{arith, ◌≡◌, ◌≢◌, ℕ, ◌+◌, ◌<◌, zero, suc, Bool, true, false, eqb, List, [], ◌∷◌, ◌++◌, Option, Some, None, refl, ap, sym, ◌∙◌, subst, length, inl, inr, ◌⊎◌, get_or}
 use Rattle.std.specs.Prelude.{slice_set, is_some}
 use Rattle.std.proofs.lemmas.Bool.{eqb-true, eqb-false}
-use Rattle.std.proofs.lemmas.Option.{same_Some}
+use Rattle.std.proofs.lemmas.Option.{same_Some, none-some}
 use Rattle.std.proofs.lemmas.List.{get_or-set_same, get_or-set_other, length-append, length-set}
 use Rattle.idl_compat.specs.declared.pairs.TypePair.{TypePair}
 use Rattle.idl_compat.specs.declared.placing.Pairing.{Pairing}
@@ -33,13 +33,10 @@ pair_split (p ∷ ps) qs t u (inr h) = by (pair_split ps qs t u h)
     by (inl a) = inl (inr a)
     by (inr b) = inr b
 
-none_some : {X : Type 0} {x : X} → None ≡ Some x → ⊥
-none_some e = cc
-
 one_less : (f : List (Option ℕ)) (t u : ℕ) → t < length f → get_or f t None ≡ None → suc (empties (slice_set f t (Some u))) ≡ empties f
 one_less [] t u l e = absurd (omega (arith, l))
 one_less (None ∷ f) zero u l e = refl
-one_less (Some v ∷ f) zero u l e = absurd (none_some (sym e))
+one_less (Some v ∷ f) zero u l e = absurd (none-some v (sym e))
 one_less (None ∷ f) (suc t) u l e = ap suc (one_less f t u (omega (arith, l)) e)
 one_less (Some v ∷ f) (suc t) u l e = one_less f t u (omega (arith, l)) e
 
@@ -58,7 +55,7 @@ clash_new s t u k free taken m one all h = by (get_or s.backward u None) refl ta
     by (Some v) e h' =
         let p : IsPair s.pairs v u = k.of_old v u e in
         let same : v ≡ t = one.old v t u (included m s.pairs all v u p) h in
-        none_some (sym free ∙ k.to_new t u (subst (λ x. IsPair s.pairs x u) same p))
+        none-some u (sym free ∙ k.to_new t u (subst (λ x. IsPair s.pairs x u) same p))
 
 -- one pair more
 pub placed : (s : Pairing) (t u : ℕ) → IsPaired s → t < length s.forward → u < length s.backward → get_or s.forward t None ≡ None → get_or s.backward u None ≡ None
@@ -74,7 +71,7 @@ placed s t u k l l' free free' own =
     to_new x y h = by (pair_split s.pairs (record { old = record { 0 = t }; new = record { 0 = u } } ∷ []) x y h)
       where
         by : IsPair s.pairs x y ⊎ IsPair (record { old = record { 0 = t }; new = record { 0 = u } } ∷ []) x y → get_or (slice_set s.forward t (Some u)) x None ≡ Some y
-        by (inl a) = get_or-set_other s.forward t x (Some u) None (λ e. none_some (sym free ∙ ap (λ z. get_or s.forward z None) (sym e) ∙ k.to_new x y a)) ∙ k.to_new x y a
+        by (inl a) = get_or-set_other s.forward t x (Some u) None (λ e. none-some y (sym free ∙ ap (λ z. get_or s.forward z None) (sym e) ∙ k.to_new x y a)) ∙ k.to_new x y a
         by (inr (inl a)) = ap (λ z. get_or (slice_set s.forward t (Some u)) z None) a.0 ∙ get_or-set_same s.forward t (Some u) None l ∙ ap (λ z. Some z) (sym a.1)
         by (inr (inr a)) = absurd a
 
@@ -82,7 +79,7 @@ placed s t u k l l' free free' own =
     to_old x y h = by (pair_split s.pairs (record { old = record { 0 = t }; new = record { 0 = u } } ∷ []) x y h)
       where
         by : IsPair s.pairs x y ⊎ IsPair (record { old = record { 0 = t }; new = record { 0 = u } } ∷ []) x y → get_or (slice_set s.backward u (Some t)) y None ≡ Some x
-        by (inl a) = get_or-set_other s.backward u y (Some t) None (λ e. none_some (sym free' ∙ ap (λ z. get_or s.backward z None) (sym e) ∙ k.to_old x y a)) ∙ k.to_old x y a
+        by (inl a) = get_or-set_other s.backward u y (Some t) None (λ e. none-some x (sym free' ∙ ap (λ z. get_or s.backward z None) (sym e) ∙ k.to_old x y a)) ∙ k.to_old x y a
         by (inr (inl a)) = ap (λ z. get_or (slice_set s.backward u (Some t)) z None) a.1 ∙ get_or-set_same s.backward u (Some t) None l' ∙ ap (λ z. Some z) (sym a.0)
         by (inr (inr a)) = absurd a
 

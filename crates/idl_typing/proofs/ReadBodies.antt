@@ -1,8 +1,9 @@
 -- One more body is read.
-use Rattle.std.proofs.Common.{◌≡◌, ℕ, zero, suc, ◌+◌, ◌<◌, Bool, true, false, cond, List, [], ◌∷◌, ◌++◌, length, Option, Some, None, is_some, slice_get, refl, sym, ap, ◌∙◌, subst, arith}
+use Rattle.std.proofs.Common.{◌≡◌, ℕ, ◌+◌, ◌<◌, Bool, true, false, cond, List, [], ◌∷◌, ◌++◌, length, Option, Some, None, is_some, slice_get, refl, sym, ap, ◌∙◌, subst, arith}
 use Rattle.std.specs.Option.{option_and_then}
 use Rattle.std.proofs.lemmas.Option.{none-some, same_Some, slice_get_within}
 use Rattle.std.proofs.lemmas.List.{length-append, append-nil}
+use Rattle.nd_lemmas.proofs.Lists.{none_below}
 use Rattle.nd_base.specs.declared.octets.Place.{Place}
 use Rattle.idl_scope.specs.Known.{Known}
 use Rattle.idl_declared_types.specs.declared.kinds.Kind.{Kind}
@@ -63,11 +64,6 @@ among_more (x ∷ bs) body place = by (same_place (place_of x) place) (among_mor
 
 -- ## Bodies
 
-none_past : {X : Type 0} (xs : List X) (i : ℕ) → i < length xs → slice_get xs i ≡ None → ⊥
-none_past [] i h e = omega arith
-none_past (x ∷ xs) zero h e = none-some x (sym e)
-none_past (x ∷ xs) (suc i) h e = none_past xs i (omega arith) e
-
 body_keeps : (known : Known) (n : program_nodes.Nodes) (old new : List Kind) (body : Body) (b : BodyTypes) → Keeps old new → are_below (length old) b.parts.items ≡ true
     → IsBody (bare known) n old body b → IsBody (bare known) n new body b
 body_keeps known n old new body b keeps below h = record {
@@ -114,7 +110,7 @@ module _ (known : Known) (n : program_nodes.Nodes) (front : List Body) (ks : Lis
       by : (o : Option Body) → slice_get front j ≡ o → body_among (front ++ body ∷ []) place ≡ slice_get (front ++ body ∷ []) j
       by (Some x) g =
           among_more front body place ∙ ap (λ o. last_body o (same_place (place_of body) place) body) (among ∙ g) ∙ sym (slice_get_kept front (body ∷ []) j x g)
-      by None g = absurd (none_past front j (h.inside place j f) g)
+      by None g = absurd (none_below front j (h.inside place j f) g)
 
   -- a place that was not
   not_before : (place : Place) → found_place place places ≡ None → body_among (front ++ body ∷ []) place ≡ elim (same_place (place_of body) place) [ true ↦ Some body | false ↦ None ]

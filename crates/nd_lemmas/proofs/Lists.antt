@@ -90,6 +90,9 @@ past_end [] i e = omega arith
 past_end (x ∷ xs) zero e = cc
 past_end (x ∷ xs) (suc i) e = let l : length xs ≤ i = past_end xs i e in omega (arith, l)
 
+pub none_below : {X : Type 0} (xs : List X) (i : ℕ) → i < length xs → slice_get xs i ≡ None → ⊥
+none_below xs i below none = let past : length xs ≤ i = past_end xs i none in omega (arith, below, past)
+
 pub drop_at : {X : Type 0} (xs : List X) (i : ℕ) (x : X) → slice_get xs i ≡ Some x → drop i xs ≡ x ∷ drop (suc i) xs
 drop_at [] i x e = cc
 drop_at (y ∷ ys) zero x e = ap (λ z. z ∷ ys) (same_Some y x e)

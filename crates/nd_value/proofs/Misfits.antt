@@ -4,7 +4,7 @@ use Rattle.std.specs.List.{AllByRecursion, list_all, list_any}
 use Rattle.std.specs.Ordering.{int_eq}
 use Rattle.std.proofs.lemmas.Bool.{eqb-true, eq-eqb, cases_order, or_parts, cond-true, cond-false}
 use Rattle.std.proofs.lemmas.Bool.Decides.{Decides-int_eq}
-use Rattle.std.proofs.lemmas.Option.{same_Some}
+use Rattle.std.proofs.lemmas.Option.{same_Some, none-some}
 use Rattle.nd_types.specs.declared.types.Class.{Class}
 use Rattle.nd_types.specs.declared.types.Class.TheVariants.{Ref, Unique, Full}
 use Rattle.nd_value.specs.declared.value.Graph.{Graph}
@@ -35,9 +35,6 @@ all_right P (x ∷ xs) ys h = all_right P xs ys h.1
 pub all_both : {X : Type 0} (P : X → Type 0) (xs ys : List X) → AllByRecursion P xs → AllByRecursion P ys → AllByRecursion P (xs ++ ys)
 all_both P [] ys a b = b
 all_both P (x ∷ xs) ys a b = (a.0, all_both P xs ys a.1 b)
-
-none_some : {X : Type 0} {x : X} → None ≡ Some x → ⊥
-none_some e = cc
 
 pub neither : (a b : Option MisfitAt) → or_later a b ≡ None → (a ≡ None) × (b ≡ None)
 neither None b e = (refl, e)
@@ -225,10 +222,10 @@ module _ (w : Setting) (g : Graph) where
 
   -- what has a first misfit does not conform
   pub misfit_is_no_fit : (m : MisfitAt) → IsFirstMisfit w g m → ¬ Conforms w g
-  misfit_is_no_fit m (is_local n e) c = let f = local-none c.all_roots c.local in absurd (none_some (sym f ∙ e))
-  misfit_is_no_fit m (is_shared n d e) c = let f = shared-none [] (all_pointers w g) tt c.unshared in absurd (none_some (sym f ∙ e))
+  misfit_is_no_fit m (is_local n e) c = let f = local-none c.all_roots c.local in absurd (none-some _ (sym f ∙ e))
+  misfit_is_no_fit m (is_shared n d e) c = let f = shared-none [] (all_pointers w g) tt c.unshared in absurd (none-some _ (sym f ∙ e))
   misfit_is_no_fit m (is_unreached b d e u) c = u.unreached (c.reached b u.is_cell.0 (omega (arith, u.is_cell.1)))
-  misfit_is_no_fit m (is_disagreeing n d e r f) c = let k = disagreeing-none c.agreed in absurd (none_some (sym k ∙ f))
+  misfit_is_no_fit m (is_disagreeing n d e r f) c = let k = disagreeing-none c.agreed in absurd (none-some _ (sym k ∙ f))
 
   -- what no pass finds a misfit in conforms
   pub passed_conforms : first_local w g ≡ None → first_shared [] (all_pointers w g) ≡ None
@@ -257,19 +254,19 @@ module _ (w : Setting) (g : Graph) where
 
   pub one_first_misfit : (m n : MisfitAt) → IsFirstMisfit w g m → IsFirstMisfit w g n → m ≡ n
   one_first_misfit m n (is_local x e) (is_local y f) = same_Some _ _ (sym e ∙ f)
-  one_first_misfit m n (is_local x e) (is_shared y a f) = absurd (none_some (sym a ∙ e))
-  one_first_misfit m n (is_local x e) (is_unreached d a b v) = absurd (none_some (sym a ∙ e))
-  one_first_misfit m n (is_local x e) (is_disagreeing y a b r f) = absurd (none_some (sym a ∙ e))
-  one_first_misfit m n (is_shared x a e) (is_local y f) = absurd (none_some (sym a ∙ f))
+  one_first_misfit m n (is_local x e) (is_shared y a f) = absurd (none-some _ (sym a ∙ e))
+  one_first_misfit m n (is_local x e) (is_unreached d a b v) = absurd (none-some _ (sym a ∙ e))
+  one_first_misfit m n (is_local x e) (is_disagreeing y a b r f) = absurd (none-some _ (sym a ∙ e))
+  one_first_misfit m n (is_shared x a e) (is_local y f) = absurd (none-some _ (sym a ∙ f))
   one_first_misfit m n (is_shared x a e) (is_shared y b f) = same_Some _ _ (sym e ∙ f)
-  one_first_misfit m n (is_shared x a e) (is_unreached d b k v) = absurd (none_some (sym k ∙ e))
-  one_first_misfit m n (is_shared x a e) (is_disagreeing y b k r f) = absurd (none_some (sym k ∙ e))
-  one_first_misfit m n (is_unreached c a b u) (is_local y f) = absurd (none_some (sym a ∙ f))
-  one_first_misfit m n (is_unreached c a b u) (is_shared y k f) = absurd (none_some (sym b ∙ f))
+  one_first_misfit m n (is_shared x a e) (is_unreached d b k v) = absurd (none-some _ (sym k ∙ e))
+  one_first_misfit m n (is_shared x a e) (is_disagreeing y b k r f) = absurd (none-some _ (sym k ∙ e))
+  one_first_misfit m n (is_unreached c a b u) (is_local y f) = absurd (none-some _ (sym a ∙ f))
+  one_first_misfit m n (is_unreached c a b u) (is_shared y k f) = absurd (none-some _ (sym b ∙ f))
   one_first_misfit m n (is_unreached c a b u) (is_unreached d k l v) =
       ap (λ i. record { home = cell_home i; node = 0; reason = misfit.Unreached }) (one_unreached c d u v)
   one_first_misfit m n (is_unreached c a b u) (is_disagreeing y k l r f) = absurd (u.unreached (r c u.is_cell.0 u.is_cell.1))
-  one_first_misfit m n (is_disagreeing x a b r e) (is_local y f) = absurd (none_some (sym a ∙ f))
-  one_first_misfit m n (is_disagreeing x a b r e) (is_shared y k f) = absurd (none_some (sym b ∙ f))
+  one_first_misfit m n (is_disagreeing x a b r e) (is_local y f) = absurd (none-some _ (sym a ∙ f))
+  one_first_misfit m n (is_disagreeing x a b r e) (is_shared y k f) = absurd (none-some _ (sym b ∙ f))
   one_first_misfit m n (is_disagreeing x a b r e) (is_unreached d k l v) = absurd (v.unreached (r d v.is_cell.0 v.is_cell.1))
   one_first_misfit m n (is_disagreeing x a b r e) (is_disagreeing y k l s f) = same_Some _ _ (sym e ∙ f)

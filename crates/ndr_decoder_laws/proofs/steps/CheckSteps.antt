@@ -5,7 +5,7 @@ use Rattle.std.specs.Prelude.{ℤ, cond, option_map, if◌then◌else◌}
 use Rattle.std.specs.List.{AllByRecursion, slice_get}
 use Rattle.std.specs.Ordering.{int_eq}
 use Rattle.std.proofs.lemmas.List.{append-nil, length-map, map-append}
-use Rattle.std.proofs.lemmas.Option.{same_Some, slice_get_within, slice_get_past as past_end}
+use Rattle.std.proofs.lemmas.Option.{same_Some, slice_get_within, slice_get_past as past_end, none-some}
 use Rattle.nd_base.specs.declared.octets.Order.{Order}
 use Rattle.nd_types.specs.declared.types.Attr.{Attr}
 use Rattle.nd_types.specs.declared.types.AttrVar.{AttrVar}
@@ -77,9 +77,6 @@ pub record AllRead (noted : List Item) (direct : ℕ) (order : Order) (fetched :
 -- how an agreement is judged, by whether it holds
 abbrev verdict : ℤ → ℤ → Option ℕ → Bool → Option (ℕ × Reason)
 verdict wanted found place b = cond b None (option_map (λ n. (n, reason.Disagrees wanted found)) place)
-
-none_some : {X : Type 0} (x : X) → None ≡ Some x → ⊥
-none_some x e = cc
 
 -- what is left of an agreement's list is the rest of it
 agreements_joined : (ks : Trees) (xs ys : List AttrVar) → member_agreements ks (xs ++ ys) ≡ member_agreements ks xs ++ member_agreements ks ys
@@ -198,7 +195,7 @@ module _ (order : Order) (fetched : List ℕ) (code : List Instr) (values : List
             × (slice_get (first_nodes (f.node + 1) f.done) (length done) ≡ Some m.node))
             → KeptAs (length done) (record { node = number; pending = ps + length (pointers table h (types_of done) (f.node + 1) xs) }) x
         by_member (inl e) = let wrong : None ≡ Some (record { node = number; pending = ps + length (pointers table h (types_of done) (f.node + 1) xs) }) =
-            sym e.0 ∙ member_there in absurd (none_some (record { node = number; pending = ps + length (pointers table h (types_of done) (f.node + 1) xs) }) wrong)
+            sym e.0 ∙ member_there in absurd (none-some (record { node = number; pending = ps + length (pointers table h (types_of done) (f.node + 1) xs) }) wrong)
         by_member (inr (m, y, mem, ey, en)) =
             let same : m ≡ record { node = number; pending = ps + length (pointers table h (types_of done) (f.node + 1) xs) } = same_Some m _ (sym mem ∙ member_there) in
             let same_tree : y ≡ x = same_Some y x (sym ey ∙ (ap₂ (λ ts j. tree_at ts j) ed (sym ec) ∙ tree_there xs x ys)) in

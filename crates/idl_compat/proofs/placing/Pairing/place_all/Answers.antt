@@ -1,7 +1,7 @@
 use Rattle.std.proofs.Common.{rules, arith, ◌≡◌, ◌≤◌, ◌<◌, length, Some, None}
 use Rattle.std.specs.Prelude.{slice_get}
+use Rattle.nd_lemmas.proofs.Lists.{none_below}
 use Rattle.idl_compat.specs.declared.placing.Placing.TheVariants as placing
-use Rattle.idl_compat.proofs.AskingLaws.{none_below}
 use Rattle.idl_compat.proofs.Matched.{start, turn, stop, over}
 use Rattle.idl_compat.proofs.placing.Pairing.place_all.Goals as goal
 
