@@ -1,9 +1,9 @@
 -- The files whose resolving has ended are files of the language, so they have identifiers for names.
-use Rattle.std.proofs.Common.{◌≡◌, ℕ, Bool, true, eqb, List, [], ◌∷◌, ◌++◌, map, length, Option, refl, ◌∙◌}
+use Rattle.std.proofs.Common.{◌≡◌, ℕ, Bool, true, eqb, List, [], ◌∷◌, ◌++◌, map, length, Option, refl}
 use Rattle.std.specs.List.{list_all}
 use Rattle.std.specs.Cmp.Derive.{both_true}
-use Rattle.std.proofs.lemmas.List.Folds.{list_all-append}
 use Rattle.std.proofs.lemmas.Bool.{and_parts as both}
+use Rattle.nd_lemmas.proofs.Lists.{join_all}
 use Rattle.idl_grammar.specs.declared.words.Spelling.{Spelling}
 use Rattle.idl_grammar.specs.Tree.{Tree}
 use Rattle.idl_scope.specs.Ended.{Ended, ended}
@@ -22,9 +22,6 @@ due_named (Pass file step) = true
 due_named (Load place name) = true
 due_named (End file t) = tree_named t
 
-join : {X : Type 0} (p : X → Bool) (xs ys : List X) → list_all p xs ≡ true → list_all p ys ≡ true → list_all p (xs ++ ys) ≡ true
-join p xs ys h i = list_all-append p xs ys ∙ both_true h i
-
 passes : (file : ℕ) (steps : List Step) → list_all due_named (map (Pass file) steps) ≡ true
 passes file [] = refl
 passes file (s ∷ steps) = passes file steps
@@ -38,8 +35,8 @@ all_due file t h =
     let a = map (Pass file) (attribute_steps t.attributes) in
     let i = map (load_of file) (imports_of t) in
     let d = map (Pass file) (declaration_steps (eqb file 0) t) in
-    join due_named (a ++ i ++ d) (End file t ∷ [])
-    (join due_named (a ++ i) d (join due_named a i (passes file (attribute_steps t.attributes)) (loads file (imports_of t))) (passes file (declaration_steps (eqb file 0) t)))
+    join_all due_named (a ++ i ++ d) (End file t ∷ [])
+    (join_all due_named (a ++ i) d (join_all due_named a i (passes file (attribute_steps t.attributes)) (loads file (imports_of t))) (passes file (declaration_steps (eqb file 0) t)))
     (both_true h refl)
 
 module _ (held : Option (List ℕ → Option (List ℕ))) (d : State) where
@@ -48,10 +45,10 @@ module _ (held : Option (List ℕ → Option (List ℕ))) (d : State) where
   all_ended (walk.goes_on s file step k rest _ is w) h i = all_ended w h i
   all_ended (walk.ends s file t rest _ w) h i =
       let x = both (tree_named t) (list_all due_named rest) i in
-      all_ended w (join ended_named s.ended (ended file t ∷ []) h (both_true x.0 refl)) x.1
+      all_ended w (join_all ended_named s.ended (ended file t ∷ []) h (both_true x.0 refl)) x.1
   all_ended (walk.again s place name rest _ n is done w) h i = all_ended w h i
   all_ended (walk.enters s place name rest _ text t due content is w) h i =
-      all_ended w h (join due_named (all_of (length s.sources) t) rest (all_due (length s.sources) t (file_named text t is)) i)
+      all_ended w h (join_all due_named (all_of (length s.sources) t) rest (all_due (length s.sources) t (file_named text t is)) i)
 
 pub resolved_named : (held : Option (List ℕ → Option (List ℕ))) (main : List Source) (text : List ℕ) (t : Tree) (s : State) → IsFile text t → IsResolved held main t s
     → list_all ended_named s.ended ≡ true

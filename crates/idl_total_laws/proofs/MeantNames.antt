@@ -5,6 +5,7 @@ use Rattle.std.specs.Cmp.Derive.{both_true}
 use Rattle.std.proofs.lemmas.List.Concat.{flat_map-cons}
 use Rattle.std.proofs.lemmas.List.Folds.{list_all-map}
 use Rattle.std.proofs.lemmas.Bool.{and_parts as both}
+use Rattle.nd_lemmas.proofs.Lists.{join_all}
 use Rattle.nd_base.specs.Text.{is_identifier}
 use Rattle.nd_types.specs.declared.types.Arm as arm
 use Rattle.nd_types.specs.declared.types.Field.{Field}
@@ -28,19 +29,19 @@ use Rattle.idl_total_laws.specs.Judged.{world}
 use Rattle.idl_total_laws.proofs.TreeNames as named
 use Rattle.idl_total_laws.proofs.TreeNames.{are_named, type_named, members_named, cases_named, arms_named, arm_named}
 use Rattle.idl_total_laws.proofs.EndedNames.{resolved_named}
-use Rattle.idl_total_laws.proofs.NodeNames.{join, is_declared, node_named, IsScopedNamed, scene_named}
+use Rattle.idl_total_laws.proofs.NodeNames.{is_declared, node_named, IsScopedNamed, scene_named}
 
 -- ## Lists that are joined
 
 module _ {X Y : Type 0} (q : Y → Bool) (f : X → List Y) where
   each_flat : (xs : List X) → ((x : X) → list_all q (f x) ≡ true) → list_all q (flat_map f xs) ≡ true
   each_flat [] h = refl
-  each_flat (x ∷ xs) h = ap (list_all q) (flat_map-cons f x xs) ∙ join q (f x) (flat_map f xs) (h x) (each_flat xs h)
+  each_flat (x ∷ xs) h = ap (list_all q) (flat_map-cons f x xs) ∙ join_all q (f x) (flat_map f xs) (h x) (each_flat xs h)
 
   those_flat : (p : X → Bool) (xs : List X) → list_all p xs ≡ true → ((x : X) → p x ≡ true → list_all q (f x) ≡ true) → list_all q (flat_map f xs) ≡ true
   those_flat p [] i h = refl
   those_flat p (x ∷ xs) i h =
-      let e = both (p x) (list_all p xs) i in ap (list_all q) (flat_map-cons f x xs) ∙ join q (f x) (flat_map f xs) (h x e.0) (those_flat p xs e.1 h)
+      let e = both (p x) (list_all p xs) i in ap (list_all q) (flat_map-cons f x xs) ∙ join_all q (f x) (flat_map f xs) (h x e.0) (those_flat p xs e.1 h)
 
 -- ## Bodies
 
@@ -54,7 +55,7 @@ members_are c (tree.next_member at a type ds others) h =
     let x = both (type_named type) (are_named ds && members_named others) h in
     let y = both (are_named ds) (members_named others) x.1 in
     let here = inside c InMember at a in
-    join is_declared (map (declared here type) ds) (declared_members c others) (line_is here type ds y.0) (members_are c others y.1)
+    join_all is_declared (map (declared here type) ds) (declared_members c others) (line_is here type ds y.0) (members_are c others y.1)
 
 struct_is : (fs : List Field) → list_all (λ f. is_identifier f.name) fs ≡ true → has_named_parts (struct_of fs) ≡ true
 struct_is [] h = refl
@@ -159,7 +160,7 @@ operations_are : (s : Scene) (ns : List Scoped) → Each IsScopedNamed ns → li
 operations_are s [] h = refl
 operations_are s (n ∷ ns) h =
     ap (list_all has_names) (flat_map-cons (λ (m : Scoped). operation_in s m.names m.node) n ns)
-    ∙ join has_names (operation_in s n.names n.node) (flat_map (λ m. operation_in s m.names m.node) ns) (operation_is s n.names n.node h.0) (operations_are s ns h.1)
+    ∙ join_all has_names (operation_in s n.names n.node) (flat_map (λ m. operation_in s m.names m.node) ns) (operation_is s n.names n.node h.0) (operations_are s ns h.1)
 
 -- what texts mean has identifiers for names
 pub meant_named : (held : Option (List ℕ → Option (List ℕ))) (main : List Source) (text : List ℕ) (t : Tree) (s : State) → IsFile text t → IsResolved held main t s

@@ -3,8 +3,8 @@ use Rattle.std.proofs.Common.{◌≡◌, ℕ, ◌+◌, Bool, true, false, ◌&&�
 use Rattle.std.specs.List.{list_all, flat_map}
 use Rattle.std.specs.Cmp.Derive.{both_true}
 use Rattle.std.proofs.lemmas.List.Concat.{flat_map-cons}
-use Rattle.std.proofs.lemmas.List.Folds.{list_all-append}
 use Rattle.std.proofs.lemmas.Bool.{and_parts as both}
+use Rattle.nd_lemmas.proofs.Lists.{join_all}
 use Rattle.nd_base.specs.Text.{is_identifier}
 use Rattle.idl_grammar.specs.declared.types.SwitchType.{SwitchType}
 use Rattle.idl_grammar.specs.Tree.{Attribute, Declarator, Enumerator, TypeSpec, Members, Cases, Arms, Arm, Parameter, Export}
@@ -36,11 +36,8 @@ node_named _ = true
 abbrev NodesNamed : List Node → Type 0
 NodesNamed ns = list_all node_named ns ≡ true
 
-pub join : {X : Type 0} (p : X → Bool) (xs ys : List X) → list_all p xs ≡ true → list_all p ys ≡ true → list_all p (xs ++ ys) ≡ true
-join p xs ys h i = list_all-append p xs ys ∙ both_true h i
-
 nodes_join : (xs ys : List Node) → NodesNamed xs → NodesNamed ys → NodesNamed (xs ++ ys)
-nodes_join xs ys h i = join node_named xs ys h i
+nodes_join xs ys h i = join_all node_named xs ys h i
 
 -- ## Lists
 

@@ -5,6 +5,7 @@ use Rattle.std.specs.Prelude.{◌&&◌}
 use Rattle.std.specs.List.{list_all, slice_get}
 use Rattle.std.proofs.lemmas.Bool.{and_parts}
 use Rattle.std.proofs.lemmas.Option.{same_Some, slice_get-get_or, slice_get_within}
+use Rattle.nd_lemmas.proofs.Lists.{join_all}
 use Rattle.nd_types.specs.declared.types.Class.TheVariants.{Ref}
 use Rattle.nd_types.specs.declared.types.TypeDef.TheVariants as def
 use Rattle.nd_types.specs.declared.types.TypeId.{TypeId}
@@ -67,10 +68,6 @@ module _ (f : TypedNode → Bool) where
       let own : List HomeNode = map (in_home (home.Root n)) (governed_nodes w.table q.of (root_agreements w g q.vars) u) in
       root_part w g (n + 1) rs vs i r v e d (all_parts (λ (x : HomeNode). f x.typed) own (root_nodes w g (n + 1) rs vs) a).1
 
-all_joined : {X : Type 0} (f : X → Bool) (xs ys : List X) → list_all f xs ≡ true → list_all f ys ≡ true → list_all f (xs ++ ys) ≡ true
-all_joined f [] ys a b = b
-all_joined f (x ∷ xs) ys a b = let (c, d) = and_parts (f x) (list_all f xs) a in ap₂ (λ u v. u && v) c (all_joined f xs ys d b)
-
 -- what is tested of nodes, whatever agreements govern them
 ungoverned : (table : Table) (g : Graph) (types : List ℕ) (ags ags' : List (List Agreement)) (n : ℕ) (ts : Trees)
     → list_all (is_partial_node table g) (nodes_of table types ags n ts) ≡ true → list_all (is_partial_node table g) (nodes_of table types ags' n ts) ≡ true
@@ -84,7 +81,7 @@ ungoverned table g (t ∷ types) ags ags' n (more (node l ks) ts) a =
     let own : TypedNode = record { node = n; of = t; agreements = first_agreements ags; label = l; kids = ks } in
     let (first, later) = and_parts (is_partial_node table g own) (list_all (is_partial_node table g) (inner ++ outer)) a in
     let parts = all_parts (is_partial_node table g) inner outer later in
-    ap₂ (λ u v. u && v) first (all_joined (is_partial_node table g) inner outer' parts.0 (ungoverned table g types (rest_agreements ags) (rest_agreements ags') (n + 1 + node_count ks) ts parts.1))
+    ap₂ (λ u v. u && v) first (join_all (is_partial_node table g) inner outer' parts.0 (ungoverned table g types (rest_agreements ags) (rest_agreements ags') (n + 1 + node_count ks) ts parts.1))
 
 module _ (k : Known) (s : IsPart k) where
   -- a pointer that is not null names a cell of its referent's type

@@ -20,8 +20,9 @@ use Rattle.idl_rule_definitions.specs.Rules.{breaches}
 use Rattle.idl_rule_definitions.specs.TypeRules.{is_operation}
 use Rattle.idl_rule_definitions.specs.Numbering.{Needed, own_types}
 use Rattle.idl_rule_definitions.specs.Meaning.{field, parameter, operation_in, operations_of, definition, types_of, struct_of, defined_by, defined_at, body_if, is_struct, is_union, is_enum}
-use Rattle.idl_legal_laws.proofs.fields.FromNodes.{they_pass, one_passes, body_passes, node_passes, join_all}
+use Rattle.idl_legal_laws.proofs.fields.FromNodes.{they_pass, one_passes, body_passes, node_passes}
 use Rattle.std.proofs.lemmas.Bool.{and_parts as both_of, and_from}
+use Rattle.nd_lemmas.proofs.Lists.{join_all}
 use Rattle.idl_legal_laws.proofs.fields.Standing.{node_keeps, all_keep, Stands, stands}
 
 -- ## Facts

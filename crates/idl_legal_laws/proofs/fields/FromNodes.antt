@@ -21,6 +21,7 @@ use Rattle.idl_rule_definitions.specs.Types.{Names, type_of}
 use Rattle.idl_rule_definitions.specs.Scene.{Scoped, is_typedef, names_behind, scoped_from, scene_of}
 use Rattle.idl_rule_definitions.specs.TypeRules.{is_operation}
 use Rattle.std.proofs.lemmas.Bool.{and_parts as both_of, and_from}
+use Rattle.nd_lemmas.proofs.Lists.{join_all}
 
 -- ## What passes
 
@@ -60,9 +61,6 @@ node_passes q names _ = true
 
 pub split_all : {X : Type 0} (p : X → Bool) (xs ys : List X) → list_all p (xs ++ ys) ≡ true → (list_all p xs ≡ true) × (list_all p ys ≡ true)
 split_all p xs ys h = both_of (list_all p xs) (list_all p ys) (sym (list_all-append p xs ys) ∙ h)
-
-pub join_all : {X : Type 0} (p : X → Bool) (xs ys : List X) → list_all p xs ≡ true → list_all p ys ≡ true → list_all p (xs ++ ys) ≡ true
-join_all p xs ys h i = list_all-append p xs ys ∙ and_from (list_all p xs) (list_all p ys) h i
 
 -- ## Members and parameters
 

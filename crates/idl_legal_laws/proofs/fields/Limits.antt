@@ -38,8 +38,8 @@ use Rattle.idl_rule_definitions.specs.Meaning as meaning
 use Rattle.idl_legal_laws.proofs.Kept.{neither}
 use Rattle.idl_rule_definitions.proofs.Equal.{type_is}
 use Rattle.std.proofs.lemmas.Bool.{or_right as right, and_parts as both_of, and_from}
+use Rattle.nd_lemmas.proofs.Lists.{join_all}
 use Rattle.idl_legal_laws.proofs.Few.{none_too_many, few, joined}
-use Rattle.idl_legal_laws.proofs.fields.FromNodes.{join_all}
 
 -- ## Operations and parameters
 

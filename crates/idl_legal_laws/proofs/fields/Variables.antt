@@ -33,7 +33,8 @@ use Rattle.idl_rule_definitions.specs.VariableRules.{below_pointer, is_other}
 use Rattle.idl_rule_definitions.specs.Numbering.{number_of_type}
 use Rattle.idl_rule_definitions.specs.Meaning.{index_in, attr_var, vars_of, field_vars, field, types_of}
 use Rattle.std.proofs.lemmas.Bool.{or_parts as none_of, and_parts as both_of, and_from}
-use Rattle.idl_legal_laws.proofs.fields.FromNodes.{stands_in, one_passes, they_pass, join_all}
+use Rattle.nd_lemmas.proofs.Lists.{join_all}
+use Rattle.idl_legal_laws.proofs.fields.FromNodes.{stands_in, one_passes, they_pass}
 use Rattle.idl_legal_laws.proofs.fields.Standing.{node_keeps, Stands, stands, Typed, field_typed, referent, meant, first_of}
 use Rattle.idl_legal_laws.proofs.fields.Fields.{OfFields, field_here}
 use Rattle.idl_legal_laws.proofs.fields.Words.{none_is, has_is, switch_is_has, of_switch}

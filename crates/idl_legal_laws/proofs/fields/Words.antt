@@ -24,7 +24,7 @@ use Rattle.idl_rule_definitions.specs.VariableRules.{variable_if, variables}
 use Rattle.idl_rule_definitions.specs.Meaning.{attr_var, vars_of, field_vars, field}
 use Rattle.idl_legal_laws.proofs.Kept.{neither}
 use Rattle.std.proofs.lemmas.Bool.{or_right as right, and_parts as both_of, and_from}
-use Rattle.idl_legal_laws.proofs.fields.FromNodes.{join_all}
+use Rattle.nd_lemmas.proofs.Lists.{join_all}
 use Rattle.idl_legal_laws.proofs.fields.Standing.{node_keeps, nothing_is, is_nothing}
 use Rattle.idl_rule_definitions.specs.declared.rule.TheConstants as Rule
 
