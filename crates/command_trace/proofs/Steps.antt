@@ -1,12 +1,11 @@
 -- The steps of tracing octets in memory, one after the other.
-use Rattle.std.proofs.Common.{◌≡◌, ◌∙◌, ℕ, ◌+◌, true, List, [], ◌∷◌, ◌++◌, length, Option, Some, None, Result, Ok, Err, IfOk, refl, ap, sym, subst, arith}
-use Rattle.std.specs.Io.KnownBytes.{Consumes, IsAtEnd}
+use Rattle.std.proofs.Common.{◌≡◌, ◌∙◌, ℕ, ◌+◌, true, List, [], ◌∷◌, ◌++◌, length, Option, Some, Result, Ok, Err, IfOk, refl, ap, sym, subst, arith}
 use Rattle.std.specs.List.{slice_get}
 use Rattle.std.proofs.lemmas.List.{append-nil, length-append}
-use Rattle.std.proofs.lemmas.Option.{same_Some}
 use Rattle.nd_base.specs.declared.octets.Memory.{Memory as NoMemory}
 use Rattle.nd_base.specs.declared.octets.Order.{Order}
 use Rattle.nd_base.specs.Over.{SourceSeen}
+use Rattle.nd_base.proofs.Taken.{rest_of, parts_of, none_left}
 use Rattle.nd_types.specs.declared.interface.Interface.{Interface}
 use Rattle.nd_types.specs.declared.types.Operation.{Operation}
 use Rattle.nd_types.specs.declared.types.Side.{Side}
@@ -16,12 +15,12 @@ use Rattle.nd_value.specs.Fitting.{setting_beside, setting_of}
 use Rattle.nd_value.specs.Logged.{Logged}
 use Rattle.nd_value.specs.Setting.{Setting}
 use Rattle.nd_grammar.specs.declared.reason.Reason.{Reason}
-use Rattle.nd_grammar.specs.declared.reason.Reason.TheVariants as reason
-use Rattle.nd_grammar.specs.decoded.Verdict.{DecodingSeen, IsDecoded, HasNoted, MayFollow, with_items}
+use Rattle.nd_grammar.specs.decoded.Verdict.{DecodingSeen, IsDecoded, HasNoted, with_items}
 use Rattle.nd_grammar.specs.Entry.{end_to_end}
 use Rattle.nd_grammar.specs.Items.{items}
 use Rattle.nd_grammar.specs.LegalSide.{IsLegalSide}
 use Rattle.nd_grammar.proofs.LegalSides.{interface_side}
+use Rattle.nd_grammar.proofs.Following.{may_follow}
 use Rattle.ndr_decode.specs.Decoding.{IsInOrder}
 use Rattle.ndr_decoder_laws.specs.verdict.InOrder.{IsRefusedInOrder}
 use Rattle.ndr_decoder_state.specs.declared.fault.DecodeFault.{DecodeFault}
@@ -36,23 +35,6 @@ use Rattle.command_trace.specs.declared.held.Traced.{Traced}
 use Rattle.command_trace.specs.declared.held.Traced.TheVariants as traced
 
 -- ## What a decoder answers of octets that are lent
-
-abbrev rest_of : Option (List ℕ) → List ℕ
-rest_of None = []
-rest_of (Some octets) = octets
-
-parts_of : (left left_now : Option (List ℕ)) (front octets : List ℕ) → left ≡ Some octets → Consumes left left_now front → octets ≡ front ++ rest_of left_now
-parts_of None left_now front octets same taken = cc
-parts_of (Some all) None front octets same taken = absurd taken
-parts_of (Some all) (Some rest) front octets same taken = sym (same_Some _ _ same) ∙ taken
-
-none_left : (left_now : Option (List ℕ)) → IsAtEnd left_now → rest_of left_now ≡ []
-none_left None ended = refl
-none_left (Some rest) ended = ended
-
-may_follow : (why : Reason) (more : List ℕ) → (why ≡ reason.Truncated → more ≡ []) → MayFollow why more
-may_follow reason.Truncated more none = none refl
-may_follow _ more none = tt
 
 -- the items that were noted are in a log that was empty
 noted_are : (xs : List Item) (t : DecodingSeen) → t.log ≡ record { keeps = true; items = [] } → HasNoted xs t → t.log_now.items ≡ xs

@@ -20,7 +20,7 @@ use Rattle.nd_base.specs.Over.{SourceSeen}
 use Rattle.nd_grammar.specs.declared.reason.Reason.{Reason}
 use Rattle.nd_grammar.specs.declared.reason.Reason.TheVariants as reason
 use Rattle.nd_grammar.specs.Bad.{Bad}
-use Rattle.nd_grammar.specs.decoded.Verdict.{MayFollow}
+use Rattle.nd_grammar.proofs.Following.{may_follow}
 use Rattle.std.specs.Io.KnownBytes.{IsAtEnd}
 use Rattle.command_decode.specs.Printed.{IsWhole, IsInputCause, IsRefusedInput, IsTrailedInput}
 use Rattle.dceidl.specs.Rows.{IsRefusedAt, IsTrailing}
@@ -36,19 +36,6 @@ IsOctetsCause w order octets (BadOctets place why) = IsRefusedAt w order octets 
 IsOctetsCause w order octets _ = ⊥
 
 -- ## What was taken, where the octets of the input are known
-
-may_follow : (why : Reason) (more : List ℕ) → (why ≡ reason.Truncated → more ≡ []) → MayFollow why more
-may_follow reason.Truncated more h = h refl
-may_follow reason.TooLong more h = tt
-may_follow reason.EnumValue more h = tt
-may_follow reason.PastBound more h = tt
-may_follow reason.TextOffset more h = tt
-may_follow reason.TextEmpty more h = tt
-may_follow reason.TextUnended more h = tt
-may_follow reason.TextZero more h = tt
-may_follow reason.NoArm more h = tt
-may_follow reason.OtherType more h = tt
-may_follow (reason.Disagrees wanted found) more h = tt
 
 module _ (s : SourceSeen) (octets : List ℕ) (input : AreGiven s octets) (w : Setting) (order : Order) where
   -- octets that were refused are those of the input

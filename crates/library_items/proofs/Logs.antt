@@ -2,13 +2,13 @@
 use Rattle.std.proofs.Common.{◌≡◌, ◌∙◌, ℕ, List, [], true, Some, ap}
 use Rattle.nd_base.specs.declared.octets.Order.{Order}
 use Rattle.nd_base.specs.Over.{SourceSeen}
+use Rattle.nd_base.proofs.Taken.{rest_of, parts_of}
 use Rattle.nd_value.specs.declared.value.Graph.{Graph}
 use Rattle.nd_value.specs.Logged.{Logged}
 use Rattle.nd_value.specs.Setting.{Setting}
 use Rattle.nd_grammar.specs.Entry.{end_to_end}
 use Rattle.nd_grammar.specs.Items.{items}
 use Rattle.nd_grammar.specs.decoded.Verdict.{DecodingSeen, IsDecoded, with_items}
-use Rattle.library_values.proofs.Decodes.{rest_of, parts_of}
 use Rattle.library_items.specs.Logged.{IsLoggedOf}
 
 pub logged_is : (w : Setting) (order : Order) (octets : List ℕ) (s : SourceSeen) (t : DecodingSeen) → s.left ≡ Some octets → t.log ≡ record { keeps = true; items = [] }

@@ -1,37 +1,18 @@
 -- What a decoder answers of octets that are lent.
-use Rattle.std.proofs.Common.{◌≡◌, ◌∙◌, ℕ, List, [], ◌++◌, Option, Some, None, refl, sym, subst}
-use Rattle.std.specs.Io.KnownBytes.{Consumes, IsAtEnd}
-use Rattle.std.proofs.lemmas.Option.{same_Some}
+use Rattle.std.proofs.Common.{◌≡◌, ℕ, List, [], Some, sym, subst}
 use Rattle.nd_base.specs.declared.octets.Order.{Order}
 use Rattle.nd_base.specs.Over.{SourceSeen}
+use Rattle.nd_base.proofs.Taken.{rest_of, parts_of, none_left}
 use Rattle.nd_value.specs.declared.value.Graph.{Graph}
 use Rattle.nd_value.specs.Setting.{Setting}
 use Rattle.nd_grammar.specs.declared.reason.Reason.{Reason}
-use Rattle.nd_grammar.specs.declared.reason.Reason.TheVariants as reason
 use Rattle.nd_grammar.specs.Bad.{Bad}
-use Rattle.nd_grammar.specs.decoded.Verdict.{DecodingSeen, IsDecoded, IsRefused, MayFollow}
+use Rattle.nd_grammar.specs.decoded.Verdict.{DecodingSeen, IsDecoded, IsRefused}
+use Rattle.nd_grammar.proofs.Following.{may_follow}
 use Rattle.ndr_decode.specs.Decoding.{IsFault}
 use Rattle.ndr_decoder_state.specs.declared.fault.DecodeFault.{DecodeFault}
 use Rattle.ndr_decoder_state.specs.declared.fault.DecodeFault.TheVariants as fault
 use Rattle.library_values.specs.Decoded.{IsDecodedOf}
-
--- what follows the octets that were taken
-abbrev pub rest_of : Option (List ℕ) → List ℕ
-rest_of None = []
-rest_of (Some octets) = octets
-
-pub parts_of : (left left_now : Option (List ℕ)) (front octets : List ℕ) → left ≡ Some octets → Consumes left left_now front → octets ≡ front ++ rest_of left_now
-parts_of None left_now front octets same taken = cc
-parts_of (Some all) None front octets same taken = absurd taken
-parts_of (Some all) (Some rest) front octets same taken = sym (same_Some _ _ same) ∙ taken
-
-none_left : (left_now : Option (List ℕ)) → IsAtEnd left_now → rest_of left_now ≡ []
-none_left None ended = refl
-none_left (Some rest) ended = ended
-
-may_follow : (why : Reason) (more : List ℕ) → (why ≡ reason.Truncated → more ≡ []) → MayFollow why more
-may_follow reason.Truncated more none = none refl
-may_follow _ more none = tt
 
 module _ (w : Setting) (order : Order) (octets : List ℕ) (s : SourceSeen) (t : DecodingSeen) (lent : s.left ≡ Some octets) where
   pub decoded_is : (taken : ℕ) (g : Graph) → IsDecoded w order s taken g t → IsDecodedOf w order octets taken g

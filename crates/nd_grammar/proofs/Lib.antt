@@ -4,6 +4,7 @@ pub mod conforming
 pub mod ConformingPartial
 pub mod Excluded
 pub mod FewItemsLaw
+pub mod Following
 pub mod ItemSizes
 pub mod legal
 pub mod LegalSides
