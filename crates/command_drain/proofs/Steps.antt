@@ -4,6 +4,7 @@ use Rattle.std.proofs.Common.{◌≡◌, ◌∙◌, ℕ, ◌≤◌, ◌<◌, Lis
 use Rattle.std.proofs.KnownBytes.{Consumes-trans}
 use Rattle.std.proofs.lemmas.List.{append-nil}
 use Rattle.std.specs.Io.KnownBytes.{Consumes, Keeps}
+use Rattle.std.proofs.lemmas.Bool.{cases_lt}
 use Rattle.nd_base.proofs.Rising.{rose_later}
 use Rattle.nd_base.specs.declared.octets.Order.{Order}
 use Rattle.nd_base.specs.Counts.{Rose}
@@ -11,7 +12,6 @@ use Rattle.nd_base.specs.Over.{SourceSeen}
 use Rattle.nd_value.specs.declared.value.Graph.{Graph}
 use Rattle.nd_value.specs.Setting.{Setting}
 use Rattle.nd_grammar.specs.declared.reason.Reason.{Reason}
-use Rattle.nd_grammar.proofs.conforming.StreamConforms.{le_or}
 use Rattle.nd_grammar.specs.decoded.Verdict.{DecodingSeen}
 use Rattle.ndr_pipe.specs.Ends.{EndsSeen}
 use Rattle.ndr_drain.specs.Drained as drained
@@ -47,7 +47,7 @@ taken_is s e w order t taken kept enough d = record {
 
 -- there are enough ends where they are not too few
 pub enough_of : (many found : ℕ) → (found < many → ⊥) → many ≤ found
-enough_of many found h = go (le_or found many)
+enough_of many found h = go (cases_lt found many)
   where
     go : (found < many) ⊎ (many ≤ found) → many ≤ found
     go (inl k) = absurd (h k)

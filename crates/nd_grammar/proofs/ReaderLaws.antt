@@ -2,6 +2,7 @@
 use Rattle.std.proofs.Common.{◌≡◌, ℕ, ◌+◌, ◌<◌, ◌≤◌, zero, suc, List, [], ◌∷◌, ◌++◌, length, Option, Some, None, refl, ap, sym, ◌∙◌, inl, inr, ◌⊎◌, arith, subst, take, drop, length-take}
 use Rattle.std.specs.List.{AllByRecursion}
 use Rattle.std.proofs.lemmas.List.{take-append-drop, append-nil}
+use Rattle.std.proofs.lemmas.Bool.{cases_lt}
 use Rattle.nd_base.specs.declared.octets.Order.{Order}
 use Rattle.nd_types.specs.Number.{AreOctets}
 use Rattle.nd_value.specs.declared.value.Graph.{Graph}
@@ -26,7 +27,6 @@ use Rattle.nd_grammar.proofs.conforming.StreamConforming.{NodeGood, stream_good,
 use Rattle.nd_grammar.proofs.reader.ReaderStream.{Pipes, G, ms, numbering, is_partial, is_stream, numbered, goes_over, ends_within, ends_in_octets, graph_is, head, cells_fit, roots_all_made}
 use Rattle.nd_grammar.proofs.reader.ReaderStream.{all_roots, all_reached, few_cells}
 use Rattle.nd_value.specs.Same.{Same}
-use Rattle.nd_grammar.proofs.conforming.StreamConforms.{le_or}
 use Rattle.nd_grammar.proofs.OneGraph.{one_graph}
 use Rattle.nd_grammar.proofs.Excluded.{excluded}
 
@@ -170,7 +170,7 @@ same_end w side order octets n m g h k a b =
 -- Octets begin with one stream alone, and it is of one graph up to the numbers of its cells.
 pub one_beginning : (w : Setting) → IsLegalSide w → (order : Order) (octets : List ℕ) (n m : ℕ) (g h : Graph)
     → BeginsWith w order octets n g → BeginsWith w order octets m h → (n ≡ m) × Same g h
-one_beginning w side order octets n m g h a b = go (le_or n m)
+one_beginning w side order octets n m g h a b = go (cases_lt n m)
   where
     same_graph : n ≡ m → Same g h
     same_graph e =

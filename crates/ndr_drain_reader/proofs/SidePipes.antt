@@ -3,6 +3,7 @@
 use Rattle.std.proofs.Common.{◌≡◌, ◌≤◌, ◌<◌, ℕ, ◌+◌, ◌-◌, Bool, true, false, List, [], length, drop, Some, None, refl, ap, sym, ◌∙◌, inl, inr, ◌⊎◌, subst, arith}
 use Rattle.std.specs.Prelude.{slice_get, slice_index_or}
 use Rattle.std.proofs.lemmas.Option.{slice_get-get_or, slice_get_past, slice_get_within}
+use Rattle.std.proofs.lemmas.Bool.{cases_lt}
 use Rattle.nd_types.specs.declared.types.Operation.{Operation}
 use Rattle.nd_types.specs.declared.types.Side.{Side}
 use Rattle.nd_types.specs.declared.types.TypeId.{TypeId}
@@ -13,7 +14,6 @@ use Rattle.nd_value.specs.Setting.{Setting}
 use Rattle.nd_lemmas.proofs.Lists.{item_at, all_at, drop_length}
 use Rattle.nd_grammar.specs.LegalSide.{IsLegalSide}
 use Rattle.nd_grammar.proofs.LegalSides.{interface_side, laid_out}
-use Rattle.nd_grammar.proofs.conforming.StreamConforms.{le_or}
 use Rattle.nd_grammar.proofs.next.NextStream.{IsPipeRoot}
 use Rattle.nd_grammar.proofs.reader.ReaderStream.{roots_few}
 use Rattle.ndr_code.specs.Code.{place_at, value_roots}
@@ -147,7 +147,7 @@ module _ (plan : Plan) (op : ℕ) (side : Side) (o : Operation) (there : slice_g
     same_at u v y z e = cc
 
     pub line_calls : (name : List ℕ) (at : ℕ) → slice_get plan.entries next ≡ Some (line.Entry op side name at) → (elem : ℕ) × CallsPipe plan.code at elem
-    line_calls name at l = go (le_or (values + k) (length rs))
+    line_calls name at l = go (cases_lt (values + k) (length rs))
       where
         go : (values + k < length rs) ⊎ (length rs ≤ values + k) → (elem : ℕ) × CallsPipe plan.code at elem
         go (inl h) =
@@ -157,14 +157,14 @@ module _ (plan : Plan) (op : ℕ) (side : Side) (o : Operation) (there : slice_g
         go (inr h) = let few = c.few in absurd (at_end (omega (arith, h, few)) name at l)
 
     pub none_more : ElementsRun plan op side next None → before_pipes (roots_of plan.tie.types side o) + k ≡ length (roots_of plan.tie.types side o)
-    none_more none = go (le_or (values + k) (length rs))
+    none_more none = go (cases_lt (values + k) (length rs))
       where
         go : (values + k < length rs) ⊎ (length rs ≤ values + k) → values + k ≡ length rs
         go (inl h) = let (elem, x) = pipe_there k h in absurd (none x.name x.at (at_line elem x))
         go (inr h) = let few = c.few in omega (arith, h, few)
 
     pub past_lines : length plan.entries ≤ next → before_pipes (roots_of plan.tie.types side o) + k ≡ length (roots_of plan.tie.types side o)
-    past_lines past = go (le_or (values + k) (length rs))
+    past_lines past = go (cases_lt (values + k) (length rs))
       where
         go : (values + k < length rs) ⊎ (length rs ≤ values + k) → values + k ≡ length rs
         go (inl h) =
@@ -174,7 +174,7 @@ module _ (plan : Plan) (op : ℕ) (side : Side) (o : Operation) (there : slice_g
         go (inr h) = let few = c.few in omega (arith, h, few)
 
     pub one_more : (elem : ℕ) → ElementsRun plan op side next (Some elem) → HasCounted plan op side o (next + 1) (k + 1)
-    one_more elem is = go (le_or (values + k) (length rs))
+    one_more elem is = go (cases_lt (values + k) (length rs))
       where
         go : (values + k < length rs) ⊎ (length rs ≤ values + k) → HasCounted plan op side o (next + 1) (k + 1)
         go (inl h) = let here = c.here in record { here = omega (arith, here); few = omega (arith, h) }

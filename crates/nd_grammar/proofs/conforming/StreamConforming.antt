@@ -6,6 +6,7 @@ use Rattle.std.specs.Prelude.{map, flat_map}
 use Rattle.std.specs.List.{AllByRecursion, slice_get}
 use Rattle.std.proofs.lemmas.List.{append-nil}
 use Rattle.std.proofs.lemmas.Option.{same_Some, slice_get-get_or, slice_get_within}
+use Rattle.std.proofs.lemmas.Bool.{cases_lt}
 use Rattle.nd_types.specs.declared.types.TypeDef.{TypeDef}
 use Rattle.nd_types.specs.declared.types.TypeId.{TypeId}
 use Rattle.nd_types.specs.declared.types.TypeDef.TheVariants as def
@@ -46,7 +47,7 @@ use Rattle.nd_grammar.proofs.conforming.StreamMet.{made_no_null, root_made, cell
 use Rattle.nd_grammar.proofs.reader.FewNodes.{one, Bound, AllFew, list_few, value_few, some_members, some_bound, many_ones, ones}
 use Rattle.nd_grammar.specs.ReaderState.{CellMade, RootsMade, Usable, UsablePointer}
 use Rattle.nd_grammar.proofs.legal.LegalUsable.{usable_readable, root_usable, element_usable, pointers_usable}
-use Rattle.nd_grammar.proofs.conforming.StreamConforms.{one_few, le_or, due_all, due_at, all_of, root_pointer, no_child_tests, whole_all, least_chunks, passed_chunks}
+use Rattle.nd_grammar.proofs.conforming.StreamConforms.{one_few, due_all, due_at, all_of, root_pointer, no_child_tests, whole_all, least_chunks, passed_chunks}
 use Rattle.nd_grammar.proofs.next.HoistedMaxes.{HoistsLast}
 
 pub some_before : (rs : List Root) → before_pipes rs ≤ length rs
@@ -142,7 +143,7 @@ module _ (w : Setting) (side : IsLegalSide w) (g : Graph) (typed : AllByRecursio
 
   -- a root is before the pipes, or is one
   root_kind : (j : ℕ) (r : Root) → slice_get rl j ≡ Some r → (j < n) ⊎ IsPipeRoot w.table r
-  root_kind j r e = go (le_or j n)
+  root_kind j r e = go (cases_lt j n)
     where
       go : (j < n) ⊎ (n ≤ j) → (j < n) ⊎ IsPipeRoot w.table r
       go (inl h) = inl h
@@ -434,7 +435,7 @@ module _ (w : Setting) (side : IsLegalSide w) (g : Graph) (typed : AllByRecursio
       (direct_good j r to c ks er (subst (λ u. slice_get g.roots j ≡ Some (node u ks)) el ev) ed)
 
   pub root_good : (j : ℕ) (r : Root) (v : Tree) → slice_get rl j ≡ Some r → slice_get g.roots j ≡ Some v → HomeGood w g (governed_nodes w.table r.of (root_agreements w g r.vars) v) v
-  root_good j r (node l ks) er ev = go (le_or j n)
+  root_good j r (node l ks) er ev = go (cases_lt j n)
     where
       go : (j < n) ⊎ (n ≤ j) → HomeGood w g (governed_nodes w.table r.of (root_agreements w g r.vars) (node l ks)) (node l ks)
       go (inl h) = root_good_by j r l ks er ev h (direct (type_at w.table r.of) (node l ks)) refl (root_met j r (node l ks) er ev h)

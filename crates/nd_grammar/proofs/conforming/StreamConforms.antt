@@ -24,16 +24,6 @@ pub one_few : (b : Bool) → one b ≤ 1
 one_few true = omega arith
 one_few false = omega arith
 
-pub le_or : (a b : ℕ) → (a < b) ⊎ (b ≤ a)
-le_or zero zero = inr (omega arith)
-le_or zero (suc b) = inl (omega arith)
-le_or (suc a) zero = inr (omega arith)
-le_or (suc a) (suc b) = go (le_or a b)
-  where
-    go : (a < b) ⊎ (b ≤ a) → (suc a < suc b) ⊎ (suc b ≤ suc a)
-    go (inl x) = inl (omega arith)
-    go (inr x) = inr (omega arith)
-
 pub due_all : (P : Due → Type 0) (i n : ℕ) → ((j : ℕ) → j < n → P (due_root (i + j))) → AllByRecursion P (due_roots i n)
 due_all P i zero f = tt
 due_all P i (suc n) f =

@@ -4,7 +4,7 @@ use Rattle.std.proofs.Common.{subst, replicate, length-append}
 use Rattle.std.specs.Prelude.{pos, map, flat_map, not, eqb}
 use Rattle.std.specs.List.{AllByRecursion}
 use Rattle.std.proofs.lemmas.List.{length-replicate}
-use Rattle.std.proofs.lemmas.Bool.{and_from, lt-ltb, eq-eqb}
+use Rattle.std.proofs.lemmas.Bool.{and_from, lt-ltb, eq-eqb, cases_lt}
 use Rattle.nd_base.specs.declared.octets.Order.{Order}
 use Rattle.nd_types.specs.declared.types.TypeDef.{TypeDef}
 use Rattle.nd_types.specs.declared.types.TypeId.{TypeId}
@@ -96,27 +96,18 @@ module _ (order : Order) (octets : List ℕ) (all : AreOctets octets) (table : T
   costs_earlier : (p p' q : Progress) (s s' : Names) (ps : List Pending) → M p p' → Costs p' s q s' ps → Costs p s q s' ps
   costs_earlier p p' q s s' ps m c = record { cost = omega (arith, c.cost, m.paid_more); cells = c.cells; covered = c.covered }
 
-  le_or : (a b : ℕ) → (a ≤ b) ⊎ (b < a)
-  le_or zero b = inl (omega arith)
-  le_or (suc a) zero = inr (omega arith)
-  le_or (suc a) (suc b) = go (le_or a b)
-    where
-      go : (a ≤ b) ⊎ (b < a) → (suc a ≤ suc b) ⊎ (suc b < suc a)
-      go (inl x) = inl (omega arith)
-      go (inr x) = inr (omega arith)
-
   costs_joined : (p q r : Progress) (a b c : Names) (ps qs : List Pending) → Costs p a q b ps → Costs q b r c qs → Costs p a r c (ps ++ qs)
   costs_joined p q r a b c ps qs x y =
       let l : length (ps ++ qs) ≡ length ps + length qs = length-append ps qs in
       record {
         cost = omega (arith, l, x.cost, y.cost);
         cells = omega (arith, l, x.cells, y.cells);
-        covered = λ k low high. go k low high (le_or k (length b.cells));
+        covered = λ k low high. go k low high (cases_lt (length b.cells) k);
       }
     where
-      go : (k : ℕ) → length a.cells < k → k ≤ length c.cells → (k ≤ length b.cells) ⊎ (length b.cells < k) → (z : Pending) × Among (ps ++ qs) z × (z.cell ≡ Some k)
-      go k low high (inl i) = let (z, m, e) = x.covered k low i in (z, among_left ps qs z m, e)
-      go k low high (inr i) = let (z, m, e) = y.covered k i high in (z, among_right ps qs z m, e)
+      go : (k : ℕ) → length a.cells < k → k ≤ length c.cells → (length b.cells < k) ⊎ (k ≤ length b.cells) → (z : Pending) × Among (ps ++ qs) z × (z.cell ≡ Some k)
+      go k low high (inl i) = let (z, m, e) = y.covered k i high in (z, among_right ps qs z m, e)
+      go k low high (inr i) = let (z, m, e) = x.covered k low i in (z, among_left ps qs z m, e)
 
   -- what reading a value makes
   pub record Makes (d : Option TypeDef) (p : Progress) (s : Names) (r : Read) : Type 0 where

@@ -1,6 +1,7 @@
 -- Every cell that the reader makes is reached from a root.
-use Rattle.std.proofs.Common.{◌≡◌, ℕ, ◌<◌, ◌≤◌, zero, suc, List, [], ◌∷◌, ◌++◌, length, Some, refl, ap, sym, ◌∙◌, inl, inr, ◌⊎◌, arith, subst}
+use Rattle.std.proofs.Common.{◌≡◌, ℕ, ◌<◌, ◌≤◌, zero, suc, List, [], ◌∷◌, ◌++◌, length, Some, refl, ap, sym, ◌∙◌, inl, inr, ◌⊎◌, subst}
 use Rattle.std.proofs.lemmas.Option.{same_Some}
+use Rattle.std.proofs.lemmas.Bool.{cases_lt}
 use Rattle.nd_value.specs.declared.value.Graph.{Graph}
 use Rattle.nd_value.specs.Tree.{Tree, Referent}
 use Rattle.nd_value.specs.Setting.{Setting, Among, root_list, unread, cell_home, cell_of_number}
@@ -51,28 +52,19 @@ module _ (w : Setting) where
           no_among (home_pointers w.table (cell_home b) x.of x.val) p (ap (home_pointers w.table (cell_home b) x.of) u ∙ unread_pointers w.table (cell_home b) x.of) m) in
           (x, number_in roots (with_value c v t) b ∙ set_other c b v t.cells apart ∙ g', m)
 
-  le_or : (a b : ℕ) → (a ≤ b) ⊎ (b < a)
-  le_or zero b = inl (omega arith)
-  le_or (suc a) zero = inr (omega arith)
-  le_or (suc a) (suc b) = go (le_or a b)
-    where
-      go : (a ≤ b) ⊎ (b < a) → (suc a ≤ suc b) ⊎ (suc b < suc a)
-      go (inl x) = inl (omega arith)
-      go (inr x) = inr (omega arith)
-
   -- a cell's value is read
   pub reached_set : (roots : List Tree) (s t : Names) (new : List Referent) → t.cells ≡ s.cells ++ new → (c : ℕ) (z : Referent) → 0 < c → c ≤ length s.cells → cell_in s.cells c ≡ Some z
       → z.val ≡ unread → (to : ℕ) → z.of ≡ to → (v : Tree)
       → ((k : ℕ) → length s.cells < k → k ≤ length t.cells → (x : Pending) × Among (home_pointers w.table (cell_home c) to v) x × (x.cell ≡ Some k))
       → AllReached w roots s → AllReached w roots (with_value c v t)
-  reached_set roots s t new e c z low high ez blank to et v covered all k a b = go (le_or k (length s.cells))
+  reached_set roots s t new e c z low high ez blank to et v covered all k a b = go (cases_lt (length s.cells) k)
     where
       keeps : Keeps (graph_of roots s) (graph_of roots (with_value c v t))
       keeps = keeps_set roots s t new e c z ez blank v
 
-      go : (k ≤ length s.cells) ⊎ (length s.cells < k) → Reached w (graph_of roots (with_value c v t)) k
-      go (inl h) = still_reached (graph_of roots s) (graph_of roots (with_value c v t)) keeps (all k a h)
-      go (inr h) =
+      go : (length s.cells < k) ⊎ (k ≤ length s.cells) → Reached w (graph_of roots (with_value c v t)) k
+      go (inr h) = still_reached (graph_of roots s) (graph_of roots (with_value c v t)) keeps (all k a h)
+      go (inl h) =
           let l : k ≤ length t.cells = subst (λ u. k ≤ u) (set_length c v t.cells) b in
           let (p, m, f) = covered k h l in
           let there : cell_in t.cells c ≡ Some z = ap (λ u. cell_in u c) e ∙ cell_kept s.cells new c z ez in
@@ -85,7 +77,7 @@ module _ (w : Setting) where
       → root_pointers w.table 0 (root_list w) (roots ++ v ∷ []) ≡ root_pointers w.table 0 (root_list w) roots ++ more
       → ((k : ℕ) → length s.cells < k → k ≤ length t.cells → (x : Pending) × Among more x × (x.cell ≡ Some k))
       → AllReached w roots s → AllReached w (roots ++ v ∷ []) t
-  reached_root roots s t new e v more er covered all k a b = go (le_or k (length s.cells))
+  reached_root roots s t new e v more er covered all k a b = go (cases_lt (length s.cells) k)
     where
       keeps : Keeps (graph_of roots s) (graph_of (roots ++ v ∷ []) t)
       keeps = record {
@@ -93,9 +85,9 @@ module _ (w : Setting) where
         cells = λ b x f p m. (x, number_in (roots ++ v ∷ []) t b ∙ ap (λ u. cell_in u b) e ∙ cell_kept s.cells new b x (sym (number_in roots s b) ∙ f), m);
       }
 
-      go : (k ≤ length s.cells) ⊎ (length s.cells < k) → Reached w (graph_of (roots ++ v ∷ []) t) k
-      go (inl h) = still_reached (graph_of roots s) (graph_of (roots ++ v ∷ []) t) keeps (all k a h)
-      go (inr h) =
+      go : (length s.cells < k) ⊎ (k ≤ length s.cells) → Reached w (graph_of (roots ++ v ∷ []) t) k
+      go (inr h) = still_reached (graph_of roots s) (graph_of (roots ++ v ∷ []) t) keeps (all k a h)
+      go (inl h) =
           let (p, m, f) = covered k h b in
           by_root p (subst (λ u. Among u p) (sym er) (among_right (root_pointers w.table 0 (root_list w) roots) more p m)) f
 

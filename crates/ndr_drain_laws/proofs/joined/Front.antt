@@ -3,6 +3,7 @@ use Rattle.std.proofs.Common.{◌≡◌, ◌<◌, ◌≤◌, ◌-◌, ◌∙◌,
 use Rattle.std.specs.List.{AllByRecursion, slice_get}
 use Rattle.std.proofs.lemmas.List.{length-replicate}
 use Rattle.std.proofs.lemmas.Option.{slice_get-get_or}
+use Rattle.std.proofs.lemmas.Bool.{cases_lt}
 use Rattle.nd_base.specs.declared.octets.Order.{Order}
 use Rattle.nd_base.specs.declared.TheConstants.{STREAM_LIMIT}
 use Rattle.nd_types.specs.Roots.{Root}
@@ -27,7 +28,6 @@ use Rattle.nd_grammar.proofs.conforming.GoodEntries.{GoodEntry, HoldsNoPipe, goo
 use Rattle.nd_grammar.specs.ReaderState.{IsNoPipe}
 use Rattle.nd_grammar.proofs.conforming.GoodStream.{good_stream}
 use Rattle.nd_grammar.proofs.conforming.GoodTrees.{GoodTrees, IsGoodNode, good_trees}
-use Rattle.nd_grammar.proofs.conforming.StreamConforms.{le_or}
 use Rattle.nd_grammar.proofs.legal.LegalPipes.{holds_no_pipe, plain_before}
 use Rattle.nd_grammar.proofs.next.NextStream.{IsPipeRoot, drop_at}
 use Rattle.nd_lemmas.proofs.Lists.{all_at}
@@ -178,7 +178,7 @@ module _ (w : Setting) (side : IsLegalSide w) (order : Order) (head : List ℕ) 
       let B : List Entry = parts_entries w (first_spot w head) parts in
       let T : List Entry = root_tests w g 0 (root_list w) g.roots in
       let tests : AllByRecursion (λ m. same_home m.home (home.Root z.root) ≡ false) T =
-      root_tests_away z.root w g 0 (root_list w) g.roots (λ j x e. early j x e late (le_or j n)) in
+      root_tests_away z.root w g 0 (root_list w) g.roots (λ j x e. early j x e late (cases_lt j n)) in
       let away : AllByRecursion (λ m. same_home m.home (home.Root z.root) ≡ false) A =
       all_append (λ m. same_home m.home (home.Root z.root) ≡ false) _ T (steps_away z.root w g it.is_head.deferral (early_roots z.root 0 n (omega (arith, late)))) tests in
       at_places (IsBefore z.root z.node) 0 E

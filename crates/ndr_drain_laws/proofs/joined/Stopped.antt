@@ -2,6 +2,7 @@
 use Rattle.std.proofs.Common.{◌≡◌, ◌<◌, ◌≤◌, ◌∙◌, ap, sym, subst, refl, ℕ, List, [], ◌++◌, length, inl, inr, ◌⊎◌}
 use Rattle.std.proofs.lemmas.List.{append-nil}
 use Rattle.std.specs.List.{AllByRecursion}
+use Rattle.std.proofs.lemmas.Bool.{cases_lt}
 use Rattle.nd_base.specs.declared.octets.Order.{Order}
 use Rattle.nd_value.specs.declared.value.Graph.{Graph}
 use Rattle.nd_value.specs.Setting.{Setting, root_list}
@@ -12,7 +13,6 @@ use Rattle.nd_grammar.specs.LegalSide.{IsLegalSide}
 use Rattle.nd_grammar.specs.Refusal.{Accepts}
 use Rattle.nd_grammar.specs.Represents.{IsNumbering, IsRendered}
 use Rattle.nd_grammar.proofs.ConformingPartial.{conforming_is_partial}
-use Rattle.nd_grammar.proofs.conforming.StreamConforms.{le_or}
 use Rattle.nd_grammar.specs.decoded.Verdict.{IsReadThrough}
 use Rattle.ndr_drain_laws.specs.parts.Parts.{AreReadTo, BadPart, IsPartThrough, Part, after_all, first_spot, octets_of, part_entries, pipes_of, with_pipes}
 use Rattle.ndr_drain_laws.proofs.parts.Chunks.{parts_entries}
@@ -69,7 +69,7 @@ read_through_chunk w side order head g parts it octets earlier t = record {
 
 pub read_through_parts : (w : Setting) → IsLegalSide w → (order : Order) (head : List ℕ) (g : Graph) (parts : List Part) → (it : AreReadTo w order head g parts)
     → IsReadThrough w order (head ++ octets_of parts) (entries_to w g it.is_head.steps head parts)
-read_through_parts w side order head g parts it = go (le_or (after_all (first_spot w head) parts).root (length (root_list w)))
+read_through_parts w side order head g parts it = go (cases_lt (after_all (first_spot w head) parts).root (length (root_list w)))
   where
     -- a pipe is left: no chunk was begun
     left : (after_all (first_spot w head) parts).root < length (root_list w) → IsReadThrough w order (head ++ octets_of parts) (entries_to w g it.is_head.steps head parts)

@@ -5,6 +5,7 @@ use Rattle.std.specs.Prelude.{sum}
 use Rattle.std.specs.List.{slice_get}
 use Rattle.std.proofs.lemmas.List.{append-nil}
 use Rattle.std.proofs.lemmas.Option.{same_Some, slice_get-get_or}
+use Rattle.std.proofs.lemmas.Bool.{cases_lt}
 use Rattle.nd_base.specs.declared.octets.Order.{Order}
 use Rattle.nd_types.specs.Roots.{Root}
 use Rattle.nd_types.specs.Table.{Table, type_at}
@@ -18,7 +19,6 @@ use Rattle.nd_grammar.specs.InPlace.{entries}
 use Rattle.nd_grammar.specs.LegalSide.{IsLegalSide}
 use Rattle.nd_grammar.specs.Stream.{chunk_entries, chunks, pipe_entries, pipes_entries, Cuts, AllCut}
 use Rattle.nd_grammar.proofs.LegalSides.{laid_out}
-use Rattle.nd_grammar.proofs.conforming.StreamConforms.{le_or}
 use Rattle.nd_grammar.proofs.next.NextPipes.{sum_first}
 use Rattle.nd_grammar.proofs.next.NextStream.{IsPipeRoot, drop_at}
 use Rattle.nd_lemmas.proofs.Lists.{all_at}
@@ -143,7 +143,7 @@ module _ (w : Setting) (side : IsLegalSide w) (order : Order) where
   at_end : (s : Spot) (vs : List Tree) (n : ℕ) (ps : List Part) → Rest ps → AreParts w order (spot_after s n []) ps
       → length (root_list w) ≤ (after_all (spot_after s n []) ps).root → before_pipes (root_list w) ≤ s.root → s.root < length (root_list w)
       → Joins s vs (node tree.Pipe (trees vs) ∷ pipes_of [] ps) (part_entries w s 0 [] ++ parts_entries w (spot_after s n []) ps)
-  at_end s vs n ps rest a e low high = go (le_or (s.root + 1) (length (root_list w)))
+  at_end s vs n ps rest a e low high = go (cases_lt (s.root + 1) (length (root_list w)))
     where
       next : s.root + 1 < length (root_list w) → Joins s vs (node tree.Pipe (trees vs) ∷ pipes_of [] ps) (part_entries w s 0 [] ++ parts_entries w (spot_after s n []) ps)
       next h = ended s vs n (pipes_of [] ps) (parts_entries w (spot_after s n []) ps) (rest (spot_after s n []) [] a e (omega (arith, low)) h) low

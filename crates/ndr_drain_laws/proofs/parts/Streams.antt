@@ -22,7 +22,6 @@ use Rattle.nd_grammar.specs.LegalSide.{IsLegalSide}
 use Rattle.nd_grammar.specs.Represents.{Represents, IsNumbering, IsRendered}
 use Rattle.nd_grammar.specs.Stream.{Stream, AllCut, Cuts, chunks, head_entries, pipes_entries, representation, root_tests}
 use Rattle.nd_grammar.proofs.LegalSides.{laid_out}
-use Rattle.nd_grammar.proofs.conforming.StreamConforms.{le_or}
 use Rattle.nd_grammar.proofs.next.NextStream.{IsPipeRoot}
 use Rattle.nd_grammar.proofs.reader.ReaderTests.{SameTop, Top, tests_same}
 use Rattle.ndr_drain_laws.specs.parts.Parts.{AreParts, AreReadTo, HasEmptyPipes, IsHead, Part, Spot, after, after_all, elem_at, empty_pipe, first_spot, octets_of, pipes_by, pipes_of, with_pipes}
@@ -33,6 +32,7 @@ use Rattle.nd_grammar.proofs.conforming.StreamConforming.{some_before}
 use Rattle.nd_grammar.proofs.reader.ReaderStream.{same_tops}
 use Rattle.nd_lemmas.proofs.Lists.{drop_length as length_drop}
 use Rattle.std.proofs.Math.Seq.{drop-append_seam as drop_first}
+use Rattle.std.proofs.lemmas.Bool.{cases_lt}
 
 -- ## Lists
 
@@ -107,7 +107,7 @@ some_left w side order head parts a e h =
 
 pub all_joined : (w : Setting) (side : IsLegalSide w) (order : Order) (head : List ℕ) (parts : List Part) → AreParts w order (first_spot w head) parts
     → length (root_list w) ≤ (after_all (first_spot w head) parts).root → AreJoined w (pipes_of [] parts) (parts_entries w (first_spot w head) parts)
-all_joined w side order head parts a e = go (le_or (before_pipes (root_list w)) (length (root_list w)))
+all_joined w side order head parts a e = go (cases_lt (before_pipes (root_list w)) (length (root_list w)))
   where
     go : (before_pipes (root_list w) < length (root_list w)) ⊎ (length (root_list w) ≤ before_pipes (root_list w)) → AreJoined w (pipes_of [] parts) (parts_entries w (first_spot w head) parts)
     go (inl h) = some_left w side order head parts a e h
