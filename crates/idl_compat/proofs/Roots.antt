@@ -1,5 +1,5 @@
 -- The roots of alike operations, one by one: equal but for their types, which are related.
-use Rattle.std.proofs.Common.{arith, ◌≡◌, ℕ, ◌+◌, ◌<◌, ◌≤◌, length, zero, suc, Bool, true, false, not, ◌&&◌, List, [], ◌∷◌, ◌++◌, Option, Some, None, refl, ap, ap₂, sym, ◌∙◌, subst, map, eqb, cond}
+use Rattle.std.proofs.Common.{arith, ◌≡◌, ℕ, ◌+◌, ◌<◌, length, zero, suc, Bool, true, false, not, ◌&&◌, List, [], ◌∷◌, ◌++◌, Option, Some, None, refl, ap, ap₂, sym, ◌∙◌, subst, map, eqb, cond}
 use Rattle.std.proofs.Common.{inl, inr, ◌⊎◌, drop}
 use Rattle.std.specs.Prelude.{filter, slice_get}
 use Rattle.std.proofs.lemmas.Bool.{eq-eqb}
@@ -165,14 +165,6 @@ module _ (R : ℕ → ℕ → Type 0) where
       typed_one : (x y : Root) → AlikeRoot R x y → R x.of y.of
       typed_one _ _ (alike_root t u p vs b r) = r
   root_typed (x ∷ xs) (y ∷ ys) a (suc j) h = root_typed xs ys a.1 j (omega (arith, h))
-
-  pub few_before : (rs : List Root) → before_pipes rs ≤ length rs
-  few_before [] = omega arith
-  few_before (r ∷ rs) = by r.is_pipe (before_pipes rs) (length rs) (few_before rs)
-    where
-      by : (b : Bool) (m n : ℕ) → m ≤ n → elim b [ true ↦ 0 | false ↦ suc m ] ≤ suc n
-      by true m n h = omega arith
-      by false m n h = omega (arith, h)
 
   pub drop_alike : (n : ℕ) (rs rs' : List Root) → OneByOne (AlikeRoot R) rs rs' → OneByOne (AlikeRoot R) (drop n rs) (drop n rs')
   drop_alike zero rs rs' a = a

@@ -21,6 +21,7 @@ use Rattle.nd_value.specs.Setting.{Setting, root_list, root_at, cell_at, cell_ho
 use Rattle.nd_value.specs.Variables.{starred, variable, root_agreements}
 use Rattle.nd_value.specs.Deferral.{Pending, home_pointers, Due, due_root, due_referent, due_roots, due_of, before_pipes, Step, root_stands, referent_stands, stands_already, Deferral, none_due}
 use Rattle.nd_value.specs.Deferral.{at_root, at_null, at_standing, at_referent, Standing, standing_root, standing_by, standing_cell, direct, root_type, root_cell, Placed_cells, AreFree}
+use Rattle.nd_value.proofs.FewRoots.{few_before_pipes}
 use Rattle.nd_grammar.specs.Entry.{Entry, Align, Chunk, Unread, end_to_end, end_of, full_cells}
 use Rattle.nd_grammar.specs.InPlace.{entries, tests, in_place, whole_value}
 use Rattle.nd_grammar.specs.Stream.{Stream, standing_entries, step_tests, step_entries, root_test, root_tests, chunk_entries, chunks, pipe_entries, pipes_entries, AllCut, head_entries, representation}
@@ -28,7 +29,7 @@ use Rattle.nd_grammar.specs.Represents.{Represents, IsRendered, IsNumbering}
 use Rattle.idl_compat.specs.Alike.{OneByOne, AlikeTypes, alike_prims, alike_enums, alike_structs, alike_arrays, alike_texts, alike_unions, alike_pointers, alike_contexts, alike_pipes}
 use Rattle.idl_compat.proofs.Tied.{IsTied, one_append, one_map}
 use Rattle.idl_compat.proofs.Nodes.{AlikePending, alike_pending, pointers_alike}
-use Rattle.idl_compat.proofs.Roots.{AlikeRoot, alike_root, index_alike, before_alike, root_typed, few_before, drop_alike}
+use Rattle.idl_compat.proofs.Roots.{AlikeRoot, alike_root, index_alike, before_alike, root_typed, drop_alike}
 use Rattle.idl_compat.proofs.Entries.{bare_all, both_bare, in_place_alike, whole_alike, end_bare, cells_bare, all_bare}
 
 -- a side of an operation, beside no request
@@ -281,7 +282,7 @@ module _ (R : ℕ → ℕ → Type 0) (old new : Table) (k : IsTied R old new) (
       let n : ℕ = before_pipes rs in
       let n' : ℕ = before_pipes rs' in
       let e : n ≡ n' = before_alike R rs rs' rooted in
-      let few : before_pipes rs ≤ length rs = few_before R rs in
+      let few : before_pipes rs ≤ length rs = few_before_pipes rs in
       let due : OneByOne AlikeDue (due_roots 0 n) (due_roots 0 n') =
       subst (λ m. OneByOne AlikeDue (due_roots 0 n) (due_roots 0 m)) e (roots_due 0 n (λ j l. root_typed R rs rs' rooted j (omega (arith, l, few)))) in
       let d = deferral_alike str.deferral (due_roots 0 n') due in

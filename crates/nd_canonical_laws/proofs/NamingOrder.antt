@@ -32,10 +32,11 @@ use Rattle.nd_value.specs.Names.{cells_in, named_by}
 use Rattle.nd_value.proofs.Apart.{all_left, all_right, all_map}
 use Rattle.nd_value.proofs.DeferralExists.{direct_is, direct_pointer}
 use Rattle.nd_value.proofs.DeferralLaws.{full_stands}
-use Rattle.nd_value.proofs.DeferralBridge.{deferral_is, some_before}
+use Rattle.nd_value.proofs.DeferralBridge.{deferral_is}
 use Rattle.nd_lemmas.proofs.Lists.{item_at, all_at}
 use Rattle.nd_value.proofs.NodeFacts.{fit_node, fit_children, sound_conforming, orderly}
 use Rattle.nd_value.proofs.Orderly.{Orderly, Pointee, Fits, PointerFits, pointees, cell_pointees}
+use Rattle.nd_value.proofs.FewRoots.{few_before_pipes}
 use Rattle.nd_grammar.specs.LegalSide.{IsLegalSide}
 use Rattle.nd_grammar.proofs.LegalSides.{laid_out}
 use Rattle.nd_grammar.proofs.next.Mapped.{pipe_pointers}
@@ -359,7 +360,7 @@ module _ (w : Setting) (g : Graph) where
       named_all steps d =
           let n : ℕ = before_pipes (root_list w) in
           let all : length g.roots ≡ length (root_list w) = k.all_roots in
-          let few : n ≤ length (root_list w) = some_before w g (root_list w) in
+          let few : n ≤ length (root_list w) = few_before_pipes (root_list w) in
           let rest : ℕ = length (root_list w) - n in
           let whole : length g.roots ≡ n + rest = omega (arith, all, few) in
           let first : Naming g [] (root_homes 0 n) (named_cells w g steps) =

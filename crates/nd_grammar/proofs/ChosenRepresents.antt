@@ -41,6 +41,7 @@ use Rattle.nd_grammar.specs.Stream.{step_entries, standing_entries, step_tests, 
 use Rattle.nd_grammar.specs.Represents.{Represents}
 use Rattle.nd_grammar.specs.Chosen.{Chosen, octets_from, pipe_cuts, cut_within}
 use Rattle.nd_value.specs.Same.{Same}
+use Rattle.nd_value.proofs.FewRoots.{few_before_pipes}
 use Rattle.nd_grammar.proofs.OneGraph.{IsSpelled, one_spelled}
 use Rattle.std.proofs.lemmas.List.{append-nil}
 use Rattle.nd_grammar.proofs.conforming.GoodEntries.{HoldsNoPipe}
@@ -394,20 +395,12 @@ module _ (w : Setting) (side : IsLegalSide w) (g : Graph) (c : Conforms w g) whe
       either_within k (split_among (named w.table x) (named_cells w g steps) k m) (λ q. named_within (home_pointers w.table x.home x.of x.val) sd k q)
       (λ q. steps_within d (all_append (DueGood w none_inside g) (due_of w.table x) due sd a.1) k q)
 
-  pub some_before : (rs : List Root) → before_pipes rs ≤ length rs
-  some_before [] = omega arith
-  some_before (r ∷ rs) = go r.is_pipe (some_before rs)
-    where
-      go : (b : Bool) → before_pipes rs ≤ length rs → elim b [ true ↦ 0 | false ↦ suc (before_pipes rs) ] ≤ suc (length rs)
-      go true h = omega arith
-      go false h = omega arith
-
   abbrev pub n : ℕ
   n = before_pipes (root_list w)
 
   pub dues : AllByRecursion (DueGood w none_inside g) (due_roots 0 n)
   dues = roots_due w none_inside g c 0 n (λ j h. (
-      let k : 0 + j < length (root_list w) = omega (arith, h, some_before (root_list w)) in
+      let k : 0 + j < length (root_list w) = omega (arith, h, few_before_pipes (root_list w)) in
       let z : 0 + j < n = omega arith in
       let e = slice_get-get_or (root_list w) (0 + j) (record { of = 0; param = None; vars = []; is_pipe = false }) k in
       (_, e, plain_before w side (0 + j) _ e z)))

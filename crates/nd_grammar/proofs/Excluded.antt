@@ -7,7 +7,7 @@ use Rattle.nd_value.specs.declared.value.Graph.{Graph}
 use Rattle.nd_value.specs.Setting.{Setting, root_list}
 use Rattle.nd_value.specs.Conforms.{Conforms}
 use Rattle.nd_value.proofs.Apart.{all_weaker}
-use Rattle.nd_value.proofs.DeferralBridge.{some_before}
+use Rattle.nd_value.proofs.FewRoots.{few_before_pipes}
 use Rattle.nd_grammar.specs.declared.reason.Reason.{Reason}
 use Rattle.nd_grammar.specs.Entry.{size_at, end_to_end, full_cells}
 use Rattle.nd_grammar.specs.LegalSide.{IsLegalSide}
@@ -27,7 +27,7 @@ module _ (w : Setting) (side : IsLegalSide w) (order : Order) where
   pub good : (g : Graph) → Conforms w g → (octets : List ℕ) → (r : Represents w order octets g) → AllByRecursion (GoodEntry g) r.entries
   good g c octets r =
       let laid : IsLaidOut w = laid_out w side in
-      good_stream w (holds_no_pipe w.table side.operations side.legal) g c (plain_before w side) (some_before w g (root_list w)) laid.pipes r.entries r.stream
+      good_stream w (holds_no_pipe w.table side.operations side.legal) g c (plain_before w side) (few_before_pipes (root_list w)) laid.pipes r.entries r.stream
 
   -- the entries of a conforming graph's stream are accepted, whatever octets follow
   pub stream_accepted : (g : Graph) → Conforms w g → (part rest : List ℕ) → (r : Represents w order part g) → Accepts order (part ++ rest) [] (end_to_end 0 r.entries)

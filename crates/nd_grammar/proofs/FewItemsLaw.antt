@@ -19,8 +19,8 @@ use Rattle.nd_types.specs.declared.types.Class.TheVariants.{Ref}
 use Rattle.nd_value.specs.Agreement.{Agreement}
 use Rattle.nd_value.specs.Variables.{root_agreements}
 use Rattle.nd_value.specs.Conforms.{Conforms, Reached, by_root, by_cell}
-use Rattle.nd_value.proofs.DeferralBridge.{some_before}
 use Rattle.nd_value.proofs.DeferralExists.{direct_is, direct_pointer}
+use Rattle.nd_value.proofs.FewRoots.{few_before_pipes}
 use Rattle.nd_grammar.specs.Entry.{Entry, end_of}
 use Rattle.nd_grammar.specs.FewItems.{item_count}
 use Rattle.nd_grammar.specs.LegalSide.{IsLegalSide}
@@ -77,7 +77,7 @@ module _ (w : Setting) (side : IsLegalSide w) (g : Graph) (c : Conforms w g) whe
   all_due : AllByRecursion (DueGood w none_inside g) (due_roots 0 n)
   all_due =
       roots_due w none_inside g c 0 n (λ j h. (
-      let few : n ≤ length (root_list w) = some_before w g (root_list w) in
+      let few : n ≤ length (root_list w) = few_before_pipes (root_list w) in
       let k : 0 + j < length (root_list w) = omega arith in
       let z : 0 + j < n = omega arith in
       let e = slice_get-get_or (root_list w) (0 + j) (record { of = 0; param = None; vars = []; is_pipe = false }) k in
@@ -168,7 +168,7 @@ few_items w side order octets g c r =
     let T : List Entry = root_tests w g 0 (root_list w) g.roots in
     let Q : List Entry = pipes_entries w.table n (drop n (root_list w)) (drop n g.roots) r.stream.cuts in
     let cells : length g.cells ≤ n + numbers F = few_cells w side g c r.stream.steps r.stream.deferral in
-    let some : n ≤ length (root_list w) = some_before w g (root_list w) in
+    let some : n ≤ length (root_list w) = few_before_pipes (root_list w) in
     let roots : length g.roots ≡ length (root_list w) = c.all_roots in
     let size : item_count order octets r.entries + 3 * numbers r.entries + 0 ≤ end_of 0 r.entries = items_size order octets 0 r.entries in
     let end : end_of 0 r.entries ≡ length octets = r.whole in

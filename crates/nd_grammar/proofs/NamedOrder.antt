@@ -30,7 +30,7 @@ use Rattle.nd_value.specs.Deferral.{at_referent, Placed_cells, Standing, standin
 use Rattle.nd_value.specs.Variables.{root_agreements}
 use Rattle.nd_value.proofs.Apart.{all_append, all_right, among_left, among_right}
 use Rattle.nd_value.proofs.NodeFacts.{IsSound}
-use Rattle.nd_value.proofs.DeferralBridge.{some_before}
+use Rattle.nd_value.proofs.FewRoots.{few_before_pipes}
 use Rattle.nd_grammar.specs.Entry.{Kind, Entry, Align, Max, Num, Text, Context, Unread}
 use Rattle.nd_grammar.specs.InPlace.{before_children, entries, in_place, tag_entries, tests, own_tests, child_tests, hoisted_max, hoisted, whole_value}
 use Rattle.nd_grammar.specs.Stream.{Stream, step_entries, standing_entries, step_tests, root_test, root_tests, chunks, pipe_entries, pipes_entries}
@@ -667,7 +667,7 @@ module _ (w : Setting) (g : Graph) (s : IsSound w g) (laid : IsLaidOut w) (subje
       ap cells_met (a.is_representation ∙ append_assoc F T P) ∙ met_append F (T ++ P) ∙ ap (λ u. cells_met F ++ u) (met_append T P) in
       subst (Repeats [] (named_cells w g a.steps)) (sym e)
       (subst (λ u. Repeats [] u (cells_met F ++ (cells_met T ++ cells_met P))) (append-nil (named_cells w g a.steps))
-      (steps_repeat [] (cells_met T ++ cells_met P) a.deferral [] (roots_due 0 n (omega (arith, some_before w g (root_list w)))) (λ later k met.
+      (steps_repeat [] (cells_met T ++ cells_met P) a.deferral [] (roots_due 0 n (omega (arith, few_before_pipes (root_list w)))) (λ later k met.
       then_repeats later [] (cells_met T) [] (cells_met P) (roots_repeat 0 (root_list w) g.roots later s.all_roots (λ j r er. ready later met j r er (cases_lt j n))) (λ l2 w2 v2.
       pipes_repeat n (drop n (root_list w)) (drop n g.roots) a.cuts l2 laid.pipes))))
     where

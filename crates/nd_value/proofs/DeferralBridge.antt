@@ -1,5 +1,5 @@
 -- For graphs whose cells are shared by full pointers alone the two rules of deferral have the same steps.
-use Rattle.std.proofs.Common.{◌≡◌, ℕ, ◌≤◌, zero, suc, List, [], ◌∷◌, ◌++◌, length, Option, Some, None, Bool, true, false, refl, ap, sym, ◌∙◌, subst, inl, inr, ◌⊎◌, arith}
+use Rattle.std.proofs.Common.{◌≡◌, ℕ, zero, List, [], ◌∷◌, ◌++◌, Option, Some, None, refl, ap, sym, ◌∙◌, subst, inl, inr, ◌⊎◌}
 use Rattle.std.proofs.lemmas.Option.{same_Some}
 use Rattle.nd_types.specs.declared.types.Class.{Class}
 use Rattle.nd_types.specs.declared.types.Class.TheVariants.{Ref, Unique, Full}
@@ -14,6 +14,7 @@ use Rattle.nd_value.specs.RepeatedDeferral.{RepeatedDeferral, nothing, root, nul
 use Rattle.nd_value.proofs.DeferralLaws.{one_order}
 use Rattle.nd_value.proofs.DeferralExists.{deferral_of}
 use Rattle.nd_value.proofs.NodeFacts.{IsSound, orderly}
+use Rattle.nd_value.proofs.FewRoots.{few_before_pipes}
 
 -- the cells that stand for full pointers
 abbrev fulls : Placed_cells → List ℕ
@@ -73,20 +74,12 @@ module _ (w : Setting) (g : Graph) where
       let t = one_repeated a b' in
       cc
 
-  pub some_before : (rs : List Root) → before_pipes rs ≤ length rs
-  some_before [] = omega arith
-  some_before (r ∷ rs) = go r.is_pipe (some_before rs)
-    where
-      go : (b : Bool) → before_pipes rs ≤ length rs → elim b [ true ↦ 0 | false ↦ suc (before_pipes rs) ] ≤ suc (length rs)
-      go true h = omega arith
-      go false h = omega arith
-
   abbrev due_first : List Due
   due_first = due_roots 0 (before_pipes (root_list w))
 
   -- a sound graph has an order of deferral
   pub deferral_is : IsSound w g → (steps : List Step) × Deferral w g [] due_first steps
-  deferral_is s = deferral_of w g (orderly w g s) (before_pipes (root_list w)) (some_before (root_list w))
+  deferral_is s = deferral_of w g (orderly w g s) (before_pipes (root_list w)) (few_before_pipes (root_list w))
 
   -- and it is the one by the other rule too
   pub deferral_not_repeated : IsSound w g → (steps : List Step) → RepeatedDeferral w g [] due_first steps → Deferral w g [] due_first steps

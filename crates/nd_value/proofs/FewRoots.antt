@@ -1,10 +1,11 @@
--- A side of an operation has at most one root more than there may be parameters.
+-- A side of an operation has at most one root more than there may be parameters. Those before its pipes are no more than all.
 use Rattle.std.proofs.Common.{◌≡◌, ℕ, ◌+◌, ◌≤◌, zero, suc, Bool, true, false, not, ◌&&◌, eqb, List, [], ◌∷◌, ◌++◌, length, Option, Some, None, ap, arith, length-append, cond}
 use Rattle.std.specs.Prelude.{filter, nat_le}
 use Rattle.std.specs.List.{slice_get, list_all}
 use Rattle.std.proofs.lemmas.Bool.{and_parts, leb-true}
 use Rattle.std.proofs.lemmas.List.{length-map}
 use Rattle.std.proofs.lemmas.Option.{same_Some}
+use Rattle.nd_value.specs.Deferral.{before_pipes}
 use Rattle.nd_types.specs.declared.TheConstants.{HANDLE, PARAM_LIMIT}
 use Rattle.nd_types.specs.declared.types.TypeId.{TypeId}
 use Rattle.nd_types.specs.declared.types.Param.{Param}
@@ -67,3 +68,11 @@ pub few_named_roots : (table : Table) (os : List Operation) (i : ℕ) (s : Side)
     → list_all (λ o. nat_le (length o.params) PARAM_LIMIT) os ≡ true → slice_get os i ≡ Some o → length (named_roots table s o) ≤ PARAM_LIMIT + 1
 few_named_roots table os i s o h e =
     omega (arith, one_few os i o h e, few_roots_of table s o, length-map (roots_of table s o) (named_root o))
+
+pub few_before_pipes : (rs : List Root) → before_pipes rs ≤ length rs
+few_before_pipes [] = omega arith
+few_before_pipes (r ∷ rs) = go r.is_pipe (few_before_pipes rs)
+  where
+    go : (b : Bool) → before_pipes rs ≤ length rs → elim b [ true ↦ 0 | false ↦ suc (before_pipes rs) ] ≤ suc (length rs)
+    go true h = omega arith
+    go false h = omega (arith, h)

@@ -8,11 +8,11 @@ use Rattle.nd_value.specs.declared.item.Item.{Item}
 use Rattle.nd_value.specs.Deferral.{Pending}
 use Rattle.nd_value.specs.Setting.{Setting, root_list}
 use Rattle.nd_value.specs.Tree.{Tree}
+use Rattle.nd_value.proofs.FewRoots.{few_before_pipes}
 use Rattle.nd_grammar.specs.Entry.{EntryAt}
 use Rattle.nd_grammar.specs.LegalSide.{IsLegalSide}
 use Rattle.nd_grammar.specs.StreamReader.{Reading}
 use Rattle.nd_grammar.specs.ReaderState.{paid, State as IsReading}
-use Rattle.nd_grammar.proofs.reader.ReaderRoots.{few_before}
 use Rattle.nd_grammar.proofs.reader.ReaderStream.{roots_few}
 use Rattle.ndr_decoder_laws.specs.reader.Around.{going}
 use Rattle.ndr_decoder_laws.specs.steps.Good.{Told}
@@ -54,7 +54,7 @@ module _ (w : Setting) (side : IsLegalSide w) (order : Order) (fetched : List â„
 
   pub roots_within : length s.roots + n â‰¤ 513
   roots_within =
-      let few = few_before w side order (fetched ++ []) all (root_list w) in
+      let few = few_before_pipes (root_list w) in
       let left = is_reading.roots_left in
       omega (arith, left, few, roots_few w side)
 

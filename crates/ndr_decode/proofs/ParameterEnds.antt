@@ -15,11 +15,11 @@ use Rattle.nd_value.specs.declared.value.Graph.{Graph}
 use Rattle.nd_value.specs.Deferral.{before_pipes}
 use Rattle.nd_value.specs.Setting.{Setting, root_list, unread}
 use Rattle.nd_value.proofs.Apart.{all_append}
+use Rattle.nd_value.proofs.FewRoots.{few_before_pipes}
 use Rattle.nd_grammar.specs.Entry.{Entry, EntryAt}
 use Rattle.nd_grammar.specs.LegalSide.{IsLegalSide}
 use Rattle.nd_grammar.specs.StreamReader.{Reading}
 use Rattle.nd_grammar.specs.declared.reason.Reason.{Reason}
-use Rattle.nd_grammar.proofs.reader.ReaderRoots.{few_before}
 use Rattle.nd_grammar.specs.ReaderState.{State as IsReading}
 use Rattle.ndr_code.specs.declared.instr.Instr.{Instr}
 use Rattle.ndr_code.specs.declared.instr.Instr.TheVariants as op
@@ -93,7 +93,7 @@ module _ (w : Setting) (side : IsLegalSide w) (order : Order) (fetched : List â„
       let a = length-append s.roots (replicate pipes unread) in
       let l = as_long pipes in
       let left = is_reading.roots_left in
-      let few = few_before w side order (fetched ++ []) all (root_list w) in
+      let few = few_before_pipes (root_list w) in
       let d = left_length (before_pipes (root_list w)) (root_list w) few in
       omega (arith, a, l, left, d)
 

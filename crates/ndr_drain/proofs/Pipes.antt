@@ -18,8 +18,8 @@ use Rattle.ndr_drain_laws.specs.parts.Parts.{Spot, Part, spot_after, after_all, 
 use Rattle.ndr_drain.specs.Lines.{line_of, lines}
 use Rattle.ndr_drain.specs.Given.{end_of_root, end_after, ends_after, given_pipes}
 use Rattle.ndr_drain.proofs.Giving.{with_nothing, with_twice}
-use Rattle.nd_grammar.proofs.conforming.StreamConforming.{some_before as few_before}
 use Rattle.nd_value.proofs.SameCells.{back as same_items}
+use Rattle.nd_value.proofs.FewRoots.{few_before_pipes}
 
 -- ## The roots before the pipes
 
@@ -34,7 +34,7 @@ all_empty (v ∷ vs) h = ap (λ x. x ∷ vs) h.0 ∙ ap (λ l. empty_pipe ∷ l)
 front_length : (w : Setting) (g : Graph) → Conforms w g → length (take (before_pipes (root_list w)) g.roots) ≡ before_pipes (root_list w)
 front_length w g c =
     let n : ℕ = before_pipes (root_list w) in
-    let h : n ≤ length (root_list w) = few_before (root_list w) in
+    let h : n ≤ length (root_list w) = few_before_pipes (root_list w) in
     let e : length g.roots ≡ length (root_list w) = c.all_roots in
     length-take-le n g.roots (omega (arith, h, e))
 

@@ -11,6 +11,7 @@ use Rattle.nd_types.specs.Roots.{Root, roots_of}
 use Rattle.nd_value.specs.Deferral.{before_pipes}
 use Rattle.nd_value.specs.Fitting.{setting_of}
 use Rattle.nd_value.specs.Setting.{Setting}
+use Rattle.nd_value.proofs.FewRoots.{few_before_pipes}
 use Rattle.nd_lemmas.proofs.Lists.{item_at, all_at, drop_length}
 use Rattle.nd_grammar.specs.LegalSide.{IsLegalSide}
 use Rattle.nd_grammar.proofs.LegalSides.{interface_side, laid_out}
@@ -27,7 +28,6 @@ use Rattle.ndr_decode.proofs.PipeLines.{HasLine, no_pipe_line, pipe_line}
 use Rattle.ndr_decode.proofs.RootLines.{HasNextRoot, line_read, line_there, many_values, next_root, none_left}
 use Rattle.ndr_decode.proofs.RootTurns.{setting_by}
 use Rattle.ndr_drain_reader.specs.Pipes.{IsChecksBy}
-use Rattle.nd_grammar.proofs.conforming.StreamConforming.{some_before as few_first}
 
 -- so many roots before the pipes were passed, and so many are left
 pub record IsUpTo (plan : Plan) (op : ℕ) (side : Side) (o : Operation) (number : ℕ) : Type 0 where
@@ -64,7 +64,7 @@ module _ (plan : Plan) (op : ℕ) (side : Side) (o : Operation) (there : slice_g
   values = before_pipes (roots_of plan.tie.types side o)
 
   pub few_values : before_pipes (roots_of plan.tie.types side o) ≤ length (roots_of plan.tie.types side o)
-  few_values = few_first rs
+  few_values = few_before_pipes rs
 
   pub roots_small : length (roots_of plan.tie.types side o) ≤ 513
   roots_small = roots_few w legal

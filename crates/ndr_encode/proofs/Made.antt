@@ -11,8 +11,9 @@ use Rattle.nd_value.specs.Deferral.{Step, Deferral, due_roots, before_pipes}
 use Rattle.nd_value.specs.Fitting.{Fitting, IsFit}
 use Rattle.nd_value.specs.Setting.{Setting, root_list}
 use Rattle.nd_value.proofs.Apart.{all_left, all_right}
-use Rattle.nd_value.proofs.DeferralBridge.{deferral_is, some_before}
+use Rattle.nd_value.proofs.DeferralBridge.{deferral_is}
 use Rattle.nd_value.proofs.NodeFacts.{sound_conforming}
+use Rattle.nd_value.proofs.FewRoots.{few_before_pipes}
 use Rattle.nd_grammar.specs.LegalSide.{IsLegalSide}
 use Rattle.nd_grammar.proofs.reader.ReaderStream.{roots_few}
 use Rattle.ndr_code.specs.declared.instr.Instr.{Instr}
@@ -184,7 +185,7 @@ module _ (plan : Plan) (f : Fitting) (tied : plan.tie ≡ f.interface) (k : ℕ)
         let p : length x.pipes ≡ length (drop first (root_list W)) =
         pipes_many (pipe_at f.interface.types f.interface.operations f.op fit.operation f.side) first 0 (length (drop first (root_list W))) in
         let l : length (drop first (root_list W)) ≡ length (root_list W) - first = length-drop first (root_list W) in
-        let few : first ≤ length (root_list W) = some_before W f.graph (root_list W) in
+        let few : first ≤ length (root_list W) = few_before_pipes (root_list W) in
         let roots : length f.graph.roots ≡ length (root_list W) = fit.conforms.all_roots in
         fresh_search plan.code k f.graph x (root_items W 0 first) s n fresh same t (omega (arith, i, p, l, few, roots))
 

@@ -12,6 +12,7 @@ use Rattle.nd_value.specs.Deferral.{before_pipes}
 use Rattle.nd_value.specs.Fitting.{Fitting}
 use Rattle.nd_value.specs.Setting.{root_list}
 use Rattle.nd_value.proofs.Apart.{all_append}
+use Rattle.nd_value.proofs.FewRoots.{few_before_pipes}
 use Rattle.ndr_code.specs.declared.lists.PlanLine.TheVariants as line
 use Rattle.ndr_code.specs.declared.plan.Plan.{Plan}
 use Rattle.ndr_code.specs.Code.{pipe_at}
@@ -29,7 +30,6 @@ use Rattle.ndr_encode.specs.Search.{IsNumbered, unmarked, pending_names, ArePipe
 use Rattle.ndr_encode.specs.Making.{stream_of, HasStream, BeginsPipes, PipesTaken}
 use Rattle.ndr_encode.specs.Work.{setting}
 use Rattle.ndr_encode.proofs.MadeLines.{pipe_line, pipe_line_is, no_checks_line}
-use Rattle.nd_grammar.proofs.conforming.StreamConforming.{some_before as few_first}
 use Rattle.ndr_encode.proofs.MadeRoots.{same_operation, as_many}
 use Rattle.ndr_encode.proofs.Searching.{count_more, room_left, pairs_joined}
 
@@ -94,7 +94,7 @@ module _ (p : Plan) (k : ℕ) (f : Fitting) where
         let rs = root_list (setting f h.operation) in
         let many : ℕ = length (drop (first_pipe h) rs) in
         let d : many ≡ length rs - first_pipe h = length-drop (first_pipe h) rs in
-        let few : first_pipe h ≤ length rs = few_first rs in
+        let few : first_pipe h ≤ length rs = few_before_pipes rs in
         let a : length f.graph.roots ≡ length rs = as_many p k f h in
         let z : 0 ≡ next - first_pipe h = omega (arith, n) in
         record {

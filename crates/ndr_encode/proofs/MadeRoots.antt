@@ -12,6 +12,7 @@ use Rattle.nd_types.specs.Table.{Table, type_at}
 use Rattle.nd_value.specs.Deferral.{before_pipes, root_type}
 use Rattle.nd_value.specs.Fitting.{Fitting}
 use Rattle.nd_value.specs.Setting.{root_list}
+use Rattle.nd_value.proofs.FewRoots.{few_before_pipes}
 use Rattle.ndr_code.specs.declared.lists.PlanLine.TheVariants as line
 use Rattle.ndr_code.specs.declared.plan.Plan.{Plan}
 use Rattle.ndr_code.specs.Code.{root_by as instr_by}
@@ -23,7 +24,6 @@ use Rattle.ndr_encode.specs.Search.{IsSearched, CanSearch, StillSearched, root_b
 use Rattle.ndr_encode.specs.Making.{stream_of, HasStream, BeginsRoots, RootsTaken}
 use Rattle.ndr_encode.specs.Work.{setting}
 use Rattle.ndr_encode.proofs.MadeLines.{HasNextRoot, line_there, next_root, none_are_left}
-use Rattle.nd_grammar.proofs.conforming.StreamConforming.{some_before as few_first}
 
 -- the first instruction of a root's run says which item it is
 item_of : (table : Table) (i t : ℕ) (d : Option TypeDef) → root_by i (Some (instr_by table t d)) ≡ root_item table i t d ∷ []
@@ -118,7 +118,7 @@ module _ (p : Plan) (k : ℕ) (f : Fitting) (tied : p.tie ≡ f.interface) (firs
           let n : HasNextRoot p f b.stream.operation i known.left at = root_here b.stream known in
           let l = n.left in
           let a = known.all in
-          let c = few_first (root_list (setting f b.stream.operation)) in
+          let c = few_before_pipes (root_list (setting f b.stream.operation)) in
           let d = as_many p k f b.stream in
           let e = b.stream.searchable.few_roots in
           omega (arith, l, a, c, d, e)

@@ -7,7 +7,7 @@ use Rattle.nd_value.specs.Setting.{Setting, root_list}
 use Rattle.nd_value.specs.Deferral.{Step, Deferral, due_roots, before_pipes, Standing}
 use Rattle.nd_value.specs.Conforms.{Conforms}
 use Rattle.nd_value.proofs.Apart.{all_append}
-use Rattle.nd_value.proofs.DeferralBridge.{some_before}
+use Rattle.nd_value.proofs.FewRoots.{few_before_pipes}
 use Rattle.nd_grammar.specs.LegalSide.{IsLegalSide}
 use Rattle.nd_flat.specs.Building.{HasHome}
 use Rattle.ndr_code.specs.declared.instr.Instr.{Instr}
@@ -43,7 +43,7 @@ module _ (w : Setting) (side : IsLegalSide w) (g : Graph) (c : Conforms w g) whe
   all_there n steps d =
       let first : ℕ = before_pipes (root_list w) in
       let at : ℕ → ℕ = pipe_at w.table side.operations n w.op w.side in
-      let few : first ≤ length (root_list w) = some_before w g (root_list w) in
+      let few : first ≤ length (root_list w) = few_before_pipes (root_list w) in
       let same : length g.roots ≡ length (root_list w) = c.all_roots in
       let left : length (drop first (root_list w)) ≡ length (root_list w) - first = length-drop first (root_list w) in
       all_append (λ u. HasHome g u.0) (home_turns w.table (standings w g steps)) (pipe_turns at first 0 (length (drop first (root_list w))))

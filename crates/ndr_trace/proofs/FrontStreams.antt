@@ -31,9 +31,9 @@ use Rattle.nd_value.specs.Tree as tree
 use Rattle.nd_value.specs.Tree.{Label, Referent, Tree, Trees, cell_in, count, drop_trees, more, node, node_count, none, take_trees}
 use Rattle.nd_value.specs.Variables.{root_agreements, variable}
 use Rattle.nd_value.proofs.Apart.{all_append, among_left, among_right}
-use Rattle.nd_value.proofs.DeferralBridge.{some_before}
 use Rattle.nd_value.proofs.DeferralExists.{direct_is}
 use Rattle.nd_value.proofs.NodeFacts.{IsSound}
+use Rattle.nd_value.proofs.FewRoots.{few_before_pipes}
 use Rattle.nd_grammar.specs.Entry.{Align, Chunk, Entry, EntryAt, Unread, end_to_end, size_at}
 use Rattle.nd_grammar.specs.InPlace.{entries, in_place, tests, whole_value}
 use Rattle.nd_grammar.specs.LegalSide.{IsLegalSide}
@@ -322,7 +322,7 @@ module _ (w : Setting) (side : IsLegalSide w) (g : Graph) (s : IsSound w g) wher
       let P : List Entry = pipes_entries w.table n (drop n (root_list w)) (drop n g.roots) a.cuts in
       subst There (sym a.is_representation)
       (joined_there (F ++ T) P
-      (joined_there F T (steps_there a.deferral (roots_are_due 0 n (let b = some_before w g (root_list w) in omega (arith, b))))
+      (joined_there F T (steps_there a.deferral (roots_are_due 0 n (let b = few_before_pipes (root_list w) in omega (arith, b))))
       (root_tests_there 0 (root_list w) g.roots (λ j r v there value.
       (let at : 0 + j ≡ j = omega arith in
       subst (λ m. There (root_test g m v (root_agreements w g r.vars))) (sym at)

@@ -26,8 +26,8 @@ use Rattle.nd_value.specs.Tree as tree
 use Rattle.nd_value.specs.Tree.{Label, Referent, Tree, Trees, cell_in, is_pointer, more, node, node_count, none}
 use Rattle.nd_value.specs.Variables.{root_agreements}
 use Rattle.nd_value.proofs.Apart.{all_among, all_append}
-use Rattle.nd_value.proofs.DeferralBridge.{some_before}
 use Rattle.nd_value.proofs.NodeFacts.{IsSound}
+use Rattle.nd_value.proofs.FewRoots.{few_before_pipes}
 use Rattle.nd_grammar.specs.Entry.{Entry, Kind, Test}
 use Rattle.nd_grammar.specs.InPlace.{tests, whole_value}
 use Rattle.nd_grammar.specs.Stream.{Stream, pipes_entries, root_test, root_tests, standing_entries, step_entries, step_tests}
@@ -260,7 +260,7 @@ module _ (w : Setting) (g : Graph) (s : IsSound w g) where
         tried = ap is_test is
 
         due : AllByRecursion IsDue (due_roots 0 (before_pipes (root_list w)))
-        due = roots_are_due 0 (before_pipes (root_list w)) (let b = some_before w g (root_list w) in omega (arith, b))
+        due = roots_are_due 0 (before_pipes (root_list w)) (let b = few_before_pipes (root_list w) in omega (arith, b))
 
         of_root : OneOf w g 0 (root_list w) g.roots m → RootSays p a wanted
         of_root (j, q, v, root_is, value, k) =

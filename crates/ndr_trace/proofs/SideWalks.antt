@@ -18,6 +18,7 @@ use Rattle.nd_value.specs.Deferral.{Placed_cells, Step, before_pipes, due_root, 
 use Rattle.nd_value.specs.Setting.{Setting, or_unread, root_at, root_list, unread}
 use Rattle.nd_value.specs.Tree.{count}
 use Rattle.nd_value.proofs.Apart.{all_append}
+use Rattle.nd_value.proofs.FewRoots.{few_before_pipes}
 use Rattle.nd_grammar.specs.Entry.{Entry}
 use Rattle.nd_grammar.specs.Stream.{AllCut, Cuts, kids_of, pipe_entries, pipes_entries, step_entries}
 use Rattle.ndr_trace_laws.specs.Untested.{untested}
@@ -224,14 +225,6 @@ module _ (k : Known) where
 
   pub no_root_left : (s : IsPart k) (u : Walker) (at : ℕ) → length (root_list k.setting) ≤ at → IsAtRoot k u at → IsTracing k u.progress []
   no_root_left s u at l a =
-      let b : before_pipes (root_list k.setting) ≤ at = (let c = few_before (root_list k.setting) in omega (arith, c, l)) in
+      let b : before_pipes (root_list k.setting) ≤ at = (let c = few_before_pipes (root_list k.setting) in omega (arith, c, l)) in
       let (cuts, t) = at_pipes u at b a in
       subst (λ rs. IsTracing k u.progress (untested (pipes_entries k.setting.table at rs (drop at k.graph.roots) cuts))) (drop_past (root_list k.setting) at l) t.tracing
-    where
-      few_before : (rs : List Root) → before_pipes rs ≤ length rs
-      few_before [] = omega arith
-      few_before (r ∷ rs) = go r.is_pipe (few_before rs)
-        where
-          go : (b : Bool) → before_pipes rs ≤ length rs → elim b [ true ↦ 0 | false ↦ suc (before_pipes rs) ] ≤ suc (length rs)
-          go true h = omega arith
-          go false h = omega (arith, h)

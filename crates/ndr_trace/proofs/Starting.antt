@@ -21,8 +21,8 @@ use Rattle.nd_value.specs.Tree as tree
 use Rattle.nd_value.specs.Tree.{Referent, Tree, node}
 use Rattle.nd_value.specs.Variables.{root_agreements}
 use Rattle.nd_value.proofs.Apart.{among_left}
-use Rattle.nd_value.proofs.DeferralBridge.{some_before}
 use Rattle.nd_value.proofs.NodeFacts.{IsSound, sound_partial}
+use Rattle.nd_value.proofs.FewRoots.{few_before_pipes}
 use Rattle.nd_grammar.specs.Entry.{Entry, full_cell, full_cells}
 use Rattle.nd_grammar.specs.Represents.{IsNumbering}
 use Rattle.nd_grammar.specs.Stream.{Stream, pipes_entries, root_test, root_tests, step_entries}
@@ -71,7 +71,7 @@ module _ (k : Known) (s : IsPart k) (ms : List Entry) (a : Stream k.setting k.gr
 
   mine : AllByRecursion (Mine k.setting k.graph (sound_partial k.setting k.graph s.partial)) (due_roots 0 (before_pipes (root_list k.setting)))
   mine =
-      let few = some_before k.setting k.graph (root_list k.setting) in
+      let few = few_before_pipes (root_list k.setting) in
       roots_mine k.setting k.graph (sound_partial k.setting k.graph s.partial) 0 (before_pipes (root_list k.setting)) (omega (arith, few))
 
   -- cells are named in the order of their numbers

@@ -29,7 +29,7 @@ use Rattle.nd_value.specs.Variables.{root_agreements, variable}
 use Rattle.nd_value.proofs.Apart.{all_append, all_left, all_right}
 use Rattle.nd_value.proofs.NodeFacts.{IsSound}
 use Rattle.nd_value.proofs.DeferralExists.{direct_is}
-use Rattle.nd_value.proofs.DeferralBridge.{some_before}
+use Rattle.nd_value.proofs.FewRoots.{few_before_pipes}
 use Rattle.nd_grammar.specs.Entry.{Entry, Align, Chunk, Unread}
 use Rattle.nd_grammar.specs.InPlace.{entries, in_place, tests, before_children}
 use Rattle.nd_grammar.specs.Stream.{Stream, step_entries, standing_entries, step_tests, root_test, root_tests, chunks, Cuts, pipe_entries, pipes_entries, AllCut}
@@ -474,7 +474,7 @@ module _ (w : Setting) (g : Graph) (s : IsSound w g) (laid : IsLaidOut w) (subje
       let P : List Entry = pipes_entries table n (drop n (root_list w)) (drop n g.roots) a.cuts in
       let e : ms ≡ F ++ (T ++ P) = a.is_representation ∙ append_assoc F T P in
       subst (Finds []) (sym e)
-      (steps_find (T ++ P) a.deferral [] tt (roots_due 0 n (omega (arith, some_before w g (root_list w)))) (λ later within met.
+      (steps_find (T ++ P) a.deferral [] tt (roots_due 0 n (omega (arith, few_before_pipes (root_list w)))) (λ later within met.
       behind T P later (roots_find 0 (root_list w) g.roots later s.all_roots (λ j r er. ready later met j r er (cases_lt j n))) (λ read.
       pipes_find n (drop n (root_list w)) (drop n g.roots) a.cuts (onto T later) laid.pipes a.all_cut (λ j r er.
       subst (λ u. Known g table (r.of ∷ []) (more (or_unread u) none)) (sym (drop_at n g.roots j))

@@ -1,6 +1,6 @@
 -- A partial graph whose stream is accepted whole conforms: each node fits, each agreement holds, and its nodes are few. What comes before the pipes and the
 -- pipes themselves are taken apart, as a head may be read whose pipes come later.
-use Rattle.std.proofs.Common.{◌≡◌, ℕ, ◌+◌, ◌-◌, ◌^◌, ◌<◌, ◌≤◌, zero, suc, Bool, true, false, List, [], ◌∷◌, ◌++◌, length, Option, Some, None, refl, ap, ap₂, sym, ◌∙◌, inl, inr, ◌⊎◌, arith, subst}
+use Rattle.std.proofs.Common.{◌≡◌, ℕ, ◌+◌, ◌-◌, ◌^◌, ◌<◌, ◌≤◌, zero, suc, true, false, List, [], ◌∷◌, ◌++◌, length, Option, Some, None, refl, ap, ap₂, sym, ◌∙◌, inl, inr, ◌⊎◌, arith, subst}
 use Rattle.std.proofs.Common.{replicate, drop}
 use Rattle.std.specs.Prelude.{map, flat_map}
 use Rattle.std.specs.List.{AllByRecursion, slice_get}
@@ -29,6 +29,7 @@ use Rattle.nd_value.specs.Misfit.{misfit_of, has_shape}
 use Rattle.nd_value.specs.Conforms.{Reached, by_root, by_cell, AgreesAt, IsAgreed}
 use Rattle.nd_value.proofs.Apart.{all_append, all_left, all_right, all_among}
 use Rattle.nd_value.proofs.DeferralExists.{direct_is, direct_pointer, no_nodes}
+use Rattle.nd_value.proofs.FewRoots.{few_before_pipes}
 use Rattle.nd_grammar.specs.LegalSide.{IsLegalSide}
 use Rattle.nd_grammar.specs.Entry.{Entry}
 use Rattle.nd_grammar.specs.InPlace.{in_place, own_tests}
@@ -49,14 +50,6 @@ use Rattle.nd_grammar.specs.ReaderState.{CellMade, RootsMade, Usable, UsablePoin
 use Rattle.nd_grammar.proofs.legal.LegalUsable.{usable_readable, root_usable, element_usable, pointers_usable}
 use Rattle.nd_grammar.proofs.conforming.StreamConforms.{one_few, due_all, due_at, all_of, root_pointer, no_child_tests, whole_all, least_chunks, passed_chunks}
 use Rattle.nd_grammar.proofs.next.HoistedMaxes.{HoistsLast}
-
-pub some_before : (rs : List Root) → before_pipes rs ≤ length rs
-some_before [] = omega arith
-some_before (r ∷ rs) = go r.is_pipe (some_before rs)
-  where
-    go : (b : Bool) → before_pipes rs ≤ length rs → elim b [ true ↦ 0 | false ↦ suc (before_pipes rs) ] ≤ suc (length rs)
-    go true h = omega arith
-    go false h = omega arith
 
 pub pipe_label : (e : TypeId) (l : Label) (ks : Trees) → has_shape (Some (def.Pipe e)) l ks ≡ true → l ≡ tree.Pipe
 pipe_label e tree.Pipe ks h = refl
@@ -116,7 +109,7 @@ module _ (w : Setting) (side : IsLegalSide w) (g : Graph) (typed : AllByRecursio
 
   dues_ok : AllByRecursion (DueOk w g typed made as_many) (due_roots 0 n)
   dues_ok = due_all (DueOk w g typed made as_many) 0 n (λ j h. (
-      let b : 0 + j < length rl = omega (arith, h, some_before rl) in
+      let b : 0 + j < length rl = omega (arith, h, few_before_pipes rl) in
       (_, slice_get-get_or rl (0 + j) (record { of = 0; param = None; vars = []; is_pipe = false }) b)))
 
   all_met : AllByRecursion (DueMet w g typed made as_many [] steps) (due_roots 0 n) × Closed w g typed made as_many [] steps

@@ -16,8 +16,8 @@ use Rattle.nd_value.specs.Tree.{Tree, Trees, node, none, more, Label}
 use Rattle.nd_value.specs.Setting.{Setting, root_list, root_at, or_unread}
 use Rattle.nd_value.specs.Variables.{starred}
 use Rattle.nd_value.specs.Deferral.{Step, Deferral, due_roots, before_pipes, root_type}
-use Rattle.nd_value.proofs.DeferralBridge.{some_before}
 use Rattle.nd_value.proofs.NodeFacts.{IsSound}
+use Rattle.nd_value.proofs.FewRoots.{few_before_pipes}
 use Rattle.nd_grammar.proofs.next.PointerPlaces.{root_there}
 use Rattle.nd_grammar.specs.Entry.{Entry}
 use Rattle.nd_grammar.specs.Stream.{Stream, step_entries, root_tests, pipes_entries}
@@ -208,7 +208,7 @@ module _ (two : Readings) (w : Setting) (g g' : Graph) where
         let T : List Entry = root_tests w g 0 (root_list w) g.roots in
         let T' : List Entry = root_tests w g' 0 (root_list w) g'.roots in
         deferral_next two X w g g' (known_cells w g s) (known_cells w g' s') (λ t v v'. maxes_hoisted w.table laid.hoisting g g' t v v') (roots_meet two w g g' s s')
-        s s' a b [] refl refl (no_pairs two w g g') tt (due_match tt 0 n) (roots_due 0 n (omega (arith, some_before w g (root_list w)))) (T ++ ms) (T' ++ ns) 0 (λ p ys st.
+        s s' a b [] refl refl (no_pairs two w g g') tt (due_match tt 0 n) (roots_due 0 n (omega (arith, few_before_pipes (root_list w)))) (T ++ ms) (T' ++ ns) 0 (λ p ys st.
         root_tests_next two W X w g g' ys st.one st.fit (vars_same X ys st) 0 (root_list w) g.roots g'.roots (ready X ys st) ms ns p (λ q. next q ys st))
 
     -- Two streams of sound graphs of one side follow each other, up to an unread value; where both are spelt whole, the graphs are mapped.

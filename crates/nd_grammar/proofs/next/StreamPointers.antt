@@ -26,9 +26,9 @@ use Rattle.nd_value.specs.Deferral.{at_referent, Standing, standing_root, standi
 use Rattle.nd_value.specs.Homes.{in_home, root_nodes, cell_nodes, all_nodes, root_pointers, cell_pointers, all_pointers}
 use Rattle.nd_value.specs.Misfit.{is_no_null_ref, names_cell, names_pointee}
 use Rattle.nd_value.proofs.Apart.{all_append, all_left, all_right, all_map, all_among, among_left, among_right}
-use Rattle.nd_value.proofs.DeferralBridge.{some_before}
 use Rattle.nd_value.proofs.NodeFacts.{IsSound, orderly}
 use Rattle.nd_value.proofs.Orderly.{PointerFits, Pointee, pointee_of_cell}
+use Rattle.nd_value.proofs.FewRoots.{few_before_pipes}
 use Rattle.nd_grammar.specs.Entry.{Kind, Entry, Number}
 use Rattle.nd_grammar.specs.InPlace.{before_children, entries, counts, tag_entries, in_place, tests, own_tests, child_tests, hoisted, hoisted_max, whole_value}
 use Rattle.nd_grammar.specs.Stream.{Stream, step_entries, standing_entries, step_tests, root_test, root_tests, chunk_entries, chunks, pipe_entries, pipes_entries, head_entries}
@@ -296,7 +296,7 @@ module _ (w : Setting) (g : Graph) (s : IsSound w g) where
     pub have_stream : (ms : List Entry) → Stream w g ms → AllByRecursion (HasPointer (all_pointers w g)) ms
     have_stream ms a =
         let n : ℕ = before_pipes (root_list w) in
-        let few : n ≤ length (root_list w) = some_before w g (root_list w) in
+        let few : n ≤ length (root_list w) = few_before_pipes (root_list w) in
         subst (AllByRecursion K) (sym a.is_representation)
         (all_append K (head_entries w g a.steps) (pipes_entries w.table n (drop n (root_list w)) (drop n g.roots) a.cuts)
         (all_append K (flat_map (step_entries w g) a.steps) (root_tests w g 0 (root_list w) g.roots) (have_steps a.deferral (roots_due 0 n (omega arith)))

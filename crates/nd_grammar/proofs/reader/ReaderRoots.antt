@@ -18,10 +18,11 @@ use Rattle.nd_value.specs.declared.item.Home.TheVariants as home
 use Rattle.nd_value.specs.Tree as tree
 use Rattle.nd_value.specs.Tree.{Tree, node, none, more, Referent}
 use Rattle.nd_value.specs.Setting.{Setting, root_list, root_at, or_unread, unread, cell_home, cell_at, cell_tree}
-use Rattle.nd_value.specs.Deferral.{Pending, Due, due_root, due_referent, due_roots, before_pipes, home_pointers, IsPlaced, root_stands, Standing, standing_root, standing_by, direct, root_type}
+use Rattle.nd_value.specs.Deferral.{Pending, Due, due_root, due_referent, due_roots, home_pointers, IsPlaced, root_stands, Standing, standing_root, standing_by, direct, root_type}
 use Rattle.nd_value.specs.Homes.{root_pointers, cell_pointers}
 use Rattle.nd_value.proofs.Apart.{all_append}
 use Rattle.nd_value.proofs.DeferralExists.{direct_pointer}
+use Rattle.nd_value.proofs.FewRoots.{few_before_pipes}
 use Rattle.nd_grammar.specs.LegalSide.{IsLegalSide}
 use Rattle.nd_grammar.specs.declared.reason.Reason.{Reason}
 use Rattle.nd_grammar.specs.InPlace.{whole_value}
@@ -271,14 +272,6 @@ module _ (w : Setting) (side : IsLegalSide w) (order : Order) (octets : List ℕ
         subst (λ t. Turn w side order octets all (due_root i ∷ due) s ps (suc n) (read_root w order octets (type_at w.table t) (is_stopped s.progress.stop) i t due s)) (sym (ap root_type there))
         (root_by_type (type_at w.table r.of) refl (is_stopped s.progress.stop) refl)
 
-  pub few_before : (rs : List Root) → before_pipes rs ≤ length rs
-  few_before [] = omega arith
-  few_before (r ∷ rs) = go r.is_pipe (few_before rs)
-    where
-      go : (b : Bool) → before_pipes rs ≤ length rs → elim b [ true ↦ 0 | false ↦ suc (before_pipes rs) ] ≤ suc (length rs)
-      go true h = omega arith
-      go false h = omega arith
-
   -- the state at the end of what is due
   pub record Done (due : List Due) (s s' : Reading) : Type 0 where
     pub taken_all : List Pending
@@ -291,7 +284,7 @@ module _ (w : Setting) (side : IsLegalSide w) (order : Order) (octets : List ℕ
       → ((due ≡ []) × (ps ≡ []) × (n ≡ 0)) ⊎ Turn w side order octets all due s ps n (read_next w order octets due s)
   turn_of s taken [] zero st due e = inl (e, refl, refl)
   turn_of s taken [] (suc n) st due e =
-      let b : length s.roots < length (root_list w) = omega (arith, st.roots_left, few_before (root_list w)) in
+      let b : length s.roots < length (root_list w) = omega (arith, st.roots_left, few_before_pipes (root_list w)) in
       let there = slice_get-get_or (root_list w) (length s.roots) (record { of = 0; param = None; vars = []; is_pipe = false }) b in
       inr (subst (λ u. Turn w side order octets all u s [] (suc n) (read_next w order octets u s)) (sym e)
       (due_root_turn s taken [] n st _ there (due_roots (suc (length s.roots)) n) refl))

@@ -45,12 +45,12 @@ use Rattle.nd_grammar.proofs.reader.ReaderCells.{no_roots}
 use Rattle.nd_grammar.proofs.reader.ReaderReached.{reached_more}
 use Rattle.nd_grammar.proofs.reader.ReaderStates.{Numbered}
 use Rattle.nd_grammar.proofs.reader.ReaderTurns.{Settled, More}
-use Rattle.nd_grammar.proofs.reader.ReaderRoots.{Done, due_done, few_before, stopped_few}
+use Rattle.nd_grammar.proofs.reader.ReaderRoots.{Done, due_done, stopped_few}
 use Rattle.nd_grammar.proofs.reader.ReaderPipes.{PipesRead, pipes_read}
 use Rattle.nd_grammar.proofs.reader.ReaderTests.{Top, SameTop, root_tests_are, tests_follow, tests_fine, tests_same}
 use Rattle.nd_grammar.proofs.reader.ReaderNumbering.{number_of_cell, numbers_agree, is_numbering}
 use Rattle.nd_lemmas.proofs.Lists.{drop_length as drop_all}
-use Rattle.nd_value.proofs.FewRoots.{few_params as params_few, few_results as result_few}
+use Rattle.nd_value.proofs.FewRoots.{few_params as params_few, few_results as result_few, few_before_pipes}
 
 abbrev one_more : Bool → Root → List Root → List Root
 one_more b r rs = elim b [ true ↦ r ∷ rs | false ↦ rs ]
@@ -220,7 +220,7 @@ module _ (w : Setting) (side_of : IsLegalSide w) (order : Order) (octets : List 
   graph_is = ap (graph_of (H.roots ++ Pipes.roots)) piped.names
 
   pub few_roots : n ≤ length rl
-  few_roots = few_before w side_of order octets all rl
+  few_roots = few_before_pipes rl
 
   pub settled : Settled G H
   settled = record { later = Pipes.roots; roots = refl; cells = λ c h. same c }

@@ -24,6 +24,7 @@ use Rattle.nd_value.specs.Canon.{IsCanon, named, own_cell, named_cells}
 use Rattle.nd_value.proofs.DeferralLaws.{full_stands}
 use Rattle.nd_value.proofs.NodeFacts.{sound_partial}
 use Rattle.nd_value.specs.Same.{Same, renumbered, renumbered_label}
+use Rattle.nd_value.proofs.FewRoots.{few_before_pipes}
 use Rattle.nd_grammar.specs.LegalSide.{IsLegalSide}
 use Rattle.nd_grammar.specs.Reader.{Names, Read, is_stopped, fresh, with_cell, read_if, read_hoisted, read_whole}
 use Rattle.nd_grammar.specs.StreamReader.{Reading, with_value, stands_among, stood, read_referent, read_pending, read_direct, read_placed, read_root, read_first, read_next, read_due, read_start}
@@ -33,7 +34,7 @@ use Rattle.nd_grammar.specs.ReaderState.{cell_in, PointersOk, paid, no_names, St
 use Rattle.nd_grammar.proofs.reader.ReaderCells.{no_roots, set_same, value_length}
 use Rattle.nd_grammar.proofs.reader.ReaderStates.{WholeRead, read_wholly}
 use Rattle.nd_grammar.proofs.reader.ReaderTurns.{Settled, Turn, at_end, pending_turn, value_settled}
-use Rattle.nd_grammar.proofs.reader.ReaderRoots.{Done, due_done, due_root_turn, few_before}
+use Rattle.nd_grammar.proofs.reader.ReaderRoots.{Done, due_done, due_root_turn}
 use Rattle.nd_grammar.proofs.reader.ReaderStream.{G, graph_is, is_partial, is_stream, ms, settled}
 use Rattle.nd_grammar.proofs.NamedOrder.{named_in_order}
 use Rattle.nd_grammar.proofs.legal.LegalUsable.{usable_readable, root_usable, pointee_usable}
@@ -245,7 +246,7 @@ module _ (w : Setting) (side : IsLegalSide w) (order : Order) (octets : List ℕ
       subst (λ u. Counts (length s.names.cells) (named_cells w g steps) (length (read_due w order octets fuel (read_next w order octets u s)).names.cells)) (sym e)
       (nothing_due fuel s z steps (subst (λ u. Deferral w g s.done u steps) (sym f) d))
   by_due fuel claim s taken [] (suc n) st h there due e f settled steps d =
-      let below : length s.roots < length (root_list w) = omega (arith, st.roots_left, few_before w side order octets all (root_list w)) in
+      let below : length s.roots < length (root_list w) = omega (arith, st.roots_left, few_before_pipes (root_list w)) in
       let at = slice_get-get_or (root_list w) (length s.roots) (record { of = 0; param = None; vars = []; is_pipe = false }) below in
       let later : List Due = due_roots (suc (length s.roots)) n in
       let settled' : Settled g (read_due w order octets fuel (read_next w order octets (due_root (length s.roots) ∷ later) s)) =

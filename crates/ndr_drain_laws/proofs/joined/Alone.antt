@@ -13,7 +13,7 @@ use Rattle.nd_value.specs.Same.{renumbered, renumbered_label}
 use Rattle.nd_value.specs.Setting.{Setting, root_list}
 use Rattle.nd_value.specs.Tree as tree
 use Rattle.nd_value.specs.Tree.{Tree, Trees, node, none, more, trees, Label}
-use Rattle.nd_value.proofs.DeferralBridge.{some_before}
+use Rattle.nd_value.proofs.FewRoots.{few_before_pipes}
 use Rattle.nd_grammar.specs.Entry.{end_to_end}
 use Rattle.nd_grammar.specs.LegalSide.{IsLegalSide}
 use Rattle.nd_grammar.specs.Represents.{IsNumbering, Represents}
@@ -100,7 +100,7 @@ module _ (w : Setting) (side : IsLegalSide w) (order : Order) (head : List ℕ) 
   its_graph = conforming w side order head g parts it all
 
   few : before_pipes (root_list w) ≤ length g.roots
-  few = let h : before_pipes (root_list w) ≤ length (root_list w) = some_before w g (root_list w) in omega (arith, h, it.conforms.all_roots)
+  few = let h : before_pipes (root_list w) ≤ length (root_list w) = few_before_pipes (root_list w) in omega (arith, h, it.conforms.all_roots)
 
   abbrev alone : RepresentsAlone w order octets G
   alone = record {

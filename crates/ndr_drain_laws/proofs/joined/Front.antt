@@ -15,8 +15,8 @@ use Rattle.nd_value.specs.Deferral.{before_pipes, root_type}
 use Rattle.nd_value.specs.Nodes.{home_nodes, nodes_of}
 use Rattle.nd_value.specs.Setting.{Setting, root_list}
 use Rattle.nd_value.proofs.Apart.{all_append, all_left, all_weaker}
-use Rattle.nd_value.proofs.DeferralBridge.{some_before}
 use Rattle.nd_value.proofs.NodeFacts.{fit_node}
+use Rattle.nd_value.proofs.FewRoots.{few_before_pipes}
 use Rattle.nd_grammar.specs.Entry.{Entry, size_at, end_to_end, end_of, full_cells}
 use Rattle.nd_grammar.specs.LegalSide.{IsLegalSide}
 use Rattle.nd_grammar.specs.Refusal.{Accepts, same_home}
@@ -102,7 +102,7 @@ module _ (w : Setting) (side : IsLegalSide w) (order : Order) (head : List ℕ) 
   pub head_good : AllByRecursion (GoodEntry g) (head_entries w g it.is_head.steps)
   head_good =
       all_left (GoodEntry g) (head_entries w g it.is_head.steps) (pipes_entries w.table n (drop n (root_list w)) (drop n g.roots) none_cut)
-      (good_stream w no_pipes g it.conforms (plain_before w side) (some_before w g (root_list w)) (laid_out w side).pipes (representation w g it.is_head.steps none_cut) own_stream)
+      (good_stream w no_pipes g it.conforms (plain_before w side) (few_before_pipes (root_list w)) (laid_out w side).pipes (representation w g it.is_head.steps none_cut) own_stream)
 
   elem_no_pipe : (i : ℕ) → n ≤ i → i < length (root_list w) → IsNoPipe w.table (elem_at w i)
   elem_no_pipe i low high =

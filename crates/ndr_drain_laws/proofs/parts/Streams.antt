@@ -17,6 +17,7 @@ use Rattle.nd_value.specs.Setting.{Setting, root_list, root_at, cell_at, or_unre
 use Rattle.nd_value.specs.Conforms.{Conforms}
 use Rattle.nd_value.specs.Deferral.{due_roots, before_pipes}
 use Rattle.nd_value.proofs.Apart.{all_weaker}
+use Rattle.nd_value.proofs.FewRoots.{few_before_pipes}
 use Rattle.nd_grammar.specs.Entry.{Entry, end_of, end_to_end, full_cells}
 use Rattle.nd_grammar.specs.LegalSide.{IsLegalSide}
 use Rattle.nd_grammar.specs.Represents.{Represents, IsNumbering, IsRendered}
@@ -28,7 +29,6 @@ use Rattle.ndr_drain_laws.specs.parts.Parts.{AreParts, AreReadTo, HasEmptyPipes,
 use Rattle.ndr_drain_laws.proofs.parts.Chunks.{Joins, joins, count_trees, parts_entries, pipes_open}
 use Rattle.ndr_drain_laws.proofs.parts.Heads.{IsEarly, early_roots, same_deferral, same_steps}
 use Rattle.ndr_drain_laws.proofs.parts.Spelt.{AreAllSpelt, all_spelt, both_spelt, end_append, full_append, no_cells, place_after}
-use Rattle.nd_grammar.proofs.conforming.StreamConforming.{some_before}
 use Rattle.nd_grammar.proofs.reader.ReaderStream.{same_tops}
 use Rattle.nd_lemmas.proofs.Lists.{drop_length as length_drop}
 use Rattle.std.proofs.Math.Seq.{drop-append_seam as drop_first}
@@ -94,7 +94,7 @@ none_left w order head [] a h = record {
   cuts = [];
   entries_are = no_pipes w (before_pipes (root_list w)) (drop (before_pipes (root_list w)) (root_list w));
   all_cut = tt;
-  as_many = omega (arith, h, some_before (root_list w));
+  as_many = omega (arith, h, few_before_pipes (root_list w));
 }
 none_left w order head (p ∷ ps) a h = absurd (omega (arith, h, a.0.pipe_left))
 
@@ -173,7 +173,7 @@ module _ (w : Setting) (side : IsLegalSide w) (order : Order) (head : List ℕ) 
   G = with_pipes w g pipes
 
   few : n ≤ length g.roots
-  few = omega (arith, conforms.all_roots, some_before rl)
+  few = omega (arith, conforms.all_roots, few_before_pipes rl)
 
   first_roots : length U ≡ n
   first_roots = length_take n g.roots few

@@ -19,7 +19,7 @@ use Rattle.nd_value.specs.Variables.{root_agreements}
 use Rattle.nd_value.specs.Deferral.{Step, Due, due_roots, before_pipes, Deferral, none_due, at_root, at_null, at_standing, at_referent, Placed_cells, Standing, standing_root, standing_cell, due_of}
 use Rattle.nd_value.specs.Conforms.{Conforms}
 use Rattle.nd_value.proofs.Apart.{all_append}
-use Rattle.nd_value.proofs.DeferralBridge.{some_before}
+use Rattle.nd_value.proofs.FewRoots.{few_before_pipes}
 use Rattle.nd_grammar.specs.LegalSide.{IsLegalSide}
 use Rattle.nd_grammar.proofs.LegalSides.{laid_out}
 use Rattle.nd_grammar.proofs.next.NextStream.{IsPipeRoot, drop_at}
@@ -72,7 +72,7 @@ module _ (w : Setting) (side : IsLegalSide w) (g : Graph) (c : Conforms w g) whe
   pub homes_shaped : (steps : List Step) → Deferral w g [] (due_roots 0 (before_pipes (root_list w))) steps
       → AllByRecursion (λ (x : Standing). Shaped 32 w.table (x.of ∷ []) (more x.val none)) (standings w g steps)
   homes_shaped steps d =
-      let few : before_pipes (root_list w) ≤ length (root_list w) = some_before w g (root_list w) in
+      let few : before_pipes (root_list w) ≤ length (root_list w) = few_before_pipes (root_list w) in
       let dues : AllByRecursion (DueGood w no_pipes g) (due_roots 0 (before_pipes (root_list w))) = roots_due w no_pipes g c 0 (before_pipes (root_list w)) (λ j h. (
       let k : 0 + j < length (root_list w) = omega (arith, few, h) in
       let z : 0 + j < before_pipes (root_list w) = omega (arith, h) in

@@ -21,9 +21,9 @@ use Rattle.nd_value.specs.Deferral.{Pending, home_pointers, Step, Due, due_root,
 use Rattle.nd_value.specs.Deferral.{IsPlaced, Standing, standing_root, standing_by, standing_cell, root_type, direct, due_of, root_cell, AreFree}
 use Rattle.nd_value.specs.Conforms.{Conforms}
 use Rattle.nd_value.proofs.Apart.{all_append, all_left, all_right}
-use Rattle.nd_value.proofs.DeferralBridge.{some_before}
 use Rattle.nd_value.proofs.DeferralExists.{direct_is}
 use Rattle.nd_value.proofs.DeferralLaws.{full_stands}
+use Rattle.nd_value.proofs.FewRoots.{few_before_pipes}
 use Rattle.nd_grammar.specs.LegalSide.{IsLegalSide}
 use Rattle.nd_grammar.proofs.conforming.GoodTrees.{GoodTrees, good_roots}
 use Rattle.nd_grammar.proofs.conforming.GoodStream.{StandsGood, DueGood, standing_due, pending_cell, root_good, roots_due}
@@ -181,7 +181,7 @@ module _ (w : Setting) (side : IsLegalSide w) (g : Graph) (k : Conforms w g) whe
   pub turns_are : (steps : List Step) → Deferral w g [] (due_roots 0 (before_pipes (root_list w))) steps
       → Turned C g [] (root_items w 0 (before_pipes (root_list w))) (home_turns w.table (standings w g steps)) (named_cells w g steps)
   turns_are steps d =
-      let few : before_pipes (root_list w) ≤ length (root_list w) = some_before w g (root_list w) in
+      let few : before_pipes (root_list w) ≤ length (root_list w) = few_before_pipes (root_list w) in
       let dues : AllByRecursion GoodDue (due_roots 0 (before_pipes (root_list w))) = roots_due w (no_pipes w side g k) g k 0 (before_pipes (root_list w)) (λ j h. (
       let n : 0 + j < length (root_list w) = omega (arith, few, h) in
       let z : 0 + j < before_pipes (root_list w) = omega (arith, h) in

@@ -3,6 +3,7 @@ use Rattle.std.proofs.lemmas.Result.{err_from_is_err_and}
 use Rattle.nd_base.specs.Over.{source_seen}
 use Rattle.nd_value.specs.Deferral.{before_pipes}
 use Rattle.nd_value.specs.Setting.{root_list}
+use Rattle.nd_value.proofs.FewRoots.{few_before_pipes}
 use Rattle.nd_lemmas.proofs.Lists.{item_at}
 use Rattle.nd_grammar.specs.decoded.Verdict.{decoding_seen}
 use Rattle.ndr_drain_laws.specs.parts.Parts.{elem_at}
@@ -13,7 +14,6 @@ use Rattle.ndr_drain.specs.Given.{end_of_root}
 use Rattle.ndr_drain.specs.Turns.{HasPassed, IsStepCause}
 use Rattle.ndr_drain.proofs.Begun.{of_first, of_moved}
 use Rattle.ndr_drain.proofs.ElementTypes.{as_many, element_at}
-use Rattle.nd_grammar.proofs.conforming.StreamConforming.{some_before as few_before}
 use Rattle.ndr_drain.proofs.UnderWay.{at_first, turn, turn_less, turn_is, stops, open_now, at_end, at_root, below_all}
 use Rattle.ndr_drain.proofs.chunks.drain_pipes.Goals as goal
 
@@ -23,7 +23,7 @@ pipes-init g c = record {
       let first = intake_seen c.args.intake.now in
       let w = setting_in first o in
       at_first w first (g.S.Source.left c.args.source.now) (g.S.Source.ended c.args.source.now) (g.S.Source.faults c.args.source.now) (ends_seen g.E.PipeEnd.seen c.args.ends.now)
-      c.args.items.now (g.L.Ledger.number c.args.steps.now) (c.requires.first o there) (c.requires.all o there) (few_before (root_list w)) c.requires.open;
+      c.args.items.now (g.L.Ledger.number c.args.steps.now) (c.requires.first o there) (c.requires.all o there) (few_before_pipes (root_list w)) c.requires.open;
   ready = c.requires.ready;
   is = refl;
   later = omega arith;
