@@ -10,6 +10,7 @@ use Rattle.nd_types.specs.Table.{width}
 use Rattle.nd_value.specs.Tree as tree
 use Rattle.nd_value.specs.Tree.{Flat}
 use Rattle.nd_flat.specs.FlatForm.{num_flat, num_flats, row_values}
+use Rattle.nd_flat.proofs.RowLaws.{length_row_values}
 use Rattle.library_nodes.specs.declared.node.Elements.{Elements}
 use Rattle.library_nodes.specs.declared.node.Node.{Node}
 use Rattle.library_nodes.specs.declared.node.Node.TheVariants as node
@@ -28,13 +29,9 @@ numbers_low (z ∷ zs) = ap (λ fs. number_flat (low z) ∷ fs) (numbers_low zs)
 all_low : (fs : List Flat) (zs : List ℤ) → low_flats (fs ++ num_flats zs) ≡ low_flats fs ++ map number_flat (map low zs)
 all_low fs zs = map-append low_flat fs (num_flats zs) ∙ ap (λ gs. low_flats fs ++ gs) (numbers_low zs)
 
-many_values : (o : Order) (p : Primitive) (n : ℕ) (os : List ℕ) → length (row_values o p n os) ≡ n
-many_values o p zero os = refl
-many_values o p (suc n) os = ap suc (many_values o p n (drop (width p) os))
-
 -- the low bits of a row's numbers are as many
 pub many_lows : (o : Order) (p : Primitive) (n : ℕ) (os : List ℕ) → n ≡ length (map low (row_values o p n os))
-many_lows o p n os = sym (length-map (row_values o p n os) low ∙ many_values o p n os)
+many_lows o p n os = sym (length-map (row_values o p n os) low ∙ length_row_values o p n os)
 
 -- ## The last of a list
 

@@ -17,6 +17,10 @@ pub flats-append : (os : List ℕ) (ns ms : List Node) → flats os (ns ++ ms) �
 flats-append os [] ms = refl
 flats-append os (n ∷ ns) ms = ap (λ fs. seen_nodes os n ++ fs) (flats-append os ns ms) ∙ sym (append_assoc (seen_nodes os n) (flats os ns) (flats os ms))
 
+pub length_row_values : (o : Order) (p : Primitive) (n : ℕ) (os : List ℕ) → length (row_values o p n os) ≡ n
+length_row_values o p zero os = refl
+length_row_values o p (suc n) os = ap suc (length_row_values o p n (drop (width p) os))
+
 -- the first numbers of a row, and the others
 pub row_parts : (o : Order) (p : Primitive) (n k m : ℕ) (os : List ℕ) → n ≡ k + m
     → row_values o p n os ≡ row_values o p k os ++ row_values o p m (drop (k * width p) os)

@@ -14,6 +14,7 @@ use Rattle.nd_types.specs.Number.{AreOctets, value_of_octets, written}
 use Rattle.nd_types.proofs.NumberLaws.{write_after_read, written-length}
 use Rattle.nd_grammar.specs.Entry.{gap}
 use Rattle.nd_flat.specs.FlatForm.{row_values}
+use Rattle.nd_flat.proofs.RowLaws.{length_row_values}
 use Rattle.ndr_encoder_laws.specs.pieces.Pieces.{Piece, Figure, gap_pieces, number_pieces, row_pieces, pieces_end, pieces_octets}
 use Rattle.ndr_encoder_laws.proofs.pieces.Showing.{end_joined, octets_joined, gap_end, gap_octets}
 use Rattle.ndr_encoder_output.specs.Filling.{FitsPiece, written_all}
@@ -86,10 +87,6 @@ single_octets o order of p n os e other one long h =
     let long2 : length os ≡ n * width p = long ∙ ap (λ q. n * width q) e in
     copied order p other n os long2 h ∙ ap (written_all order p) (singles order o p one n os long2) ∙ ap (λ q. written_all order p (row_values o q n os)) (sym e)
 
-pub values_many : (o : Order) (p : Primitive) (n : ℕ) (os : List ℕ) → length (row_values o p n os) ≡ n
-values_many o p zero os = refl
-values_many o p (suc n) os = ap suc (values_many o p n (drop (width p) os))
-
 pub written_many : (order : Order) (p : Primitive) (zs : List ℤ) → length (written_all order p zs) ≡ length zs * width p
 written_many order p [] = omega arith
 written_many order p (z ∷ zs) =
@@ -98,7 +95,7 @@ written_many order p (z ∷ zs) =
 
 -- octets that are the numbers of a row are as many as these need
 pub written_long : (order o : Order) (p of : Primitive) (n : ℕ) (os : List ℕ) → os ≡ written_all order p (row_values o of n os) → length os ≡ n * width p
-written_long order o p of n os e = ap length e ∙ written_many order p (row_values o of n os) ∙ ap (λ k. k * width p) (values_many o of n os)
+written_long order o p of n os e = ap length e ∙ written_many order p (row_values o of n os) ∙ ap (λ k. k * width p) (length_row_values o of n os)
 
 -- a primitive that is said to be another, and one that is said to be none
 pub same_primitive : (x y : Primitive) → eq-value.it x y ≡ true → x ≡ y

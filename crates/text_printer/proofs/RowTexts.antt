@@ -23,10 +23,6 @@ use Rattle.text_printer.proofs.Walking.{element_then}
 
 -- ## Rows
 
-pub values_many : (o : Order) (p : Primitive) (n : ℕ) (os : List ℕ) → length (row_values o p n os) ≡ n
-values_many o p zero os = refl
-values_many o p (suc n) os = ap suc (values_many o p n (drop (width p) os))
-
 -- the numbers that are left from the i-th on
 abbrev pub left : Order → Primitive → ℕ → ℕ → List ℕ → List ℤ
 left o p n i os = row_values o p (n - i) (drop (i * width p) os)

@@ -11,10 +11,11 @@ use Rattle.nd_value.specs.Tree.{none, take_trees}
 use Rattle.nd_value.specs.Nodes.{child_types}
 use Rattle.nd_lemmas.proofs.Lists.{drop_next as drop-get, drop_past as drop-past}
 use Rattle.nd_flat.specs.FlatForm.{flat_seen, armed_count, row_numbers}
+use Rattle.nd_flat.proofs.RowLaws.{length_row_values}
 use Rattle.text_printer.specs.Texts.{separator, listed, member_texts, arm_text}
 use Rattle.text_printer.specs.Walks.{Writes}
 use Rattle.text_printer.proofs.Walking.{next_written, fewer_after, member_then, members_over, elements_over, bytes_written, union_written, array_written}
-use Rattle.text_printer.proofs.RowTexts.{values_many, row_written, one_written}
+use Rattle.text_printer.proofs.RowTexts.{row_written, one_written}
 use Rattle.text_printer.proofs.walked.+walked.Goals as goal
 
 pub append_next-append_node-requires : goal.append_next-append_node-requires
@@ -73,7 +74,7 @@ pub append_some-returns-in-Some-clause-text : goal.append_some-returns-in-Some-c
 append_some-returns-in-Some-clause-text t c =
     let r = c.in-Some.row in
     row_written c.args.types.now c.args.elem.0 c.args.at r.count (row_numbers r) c.args.text.now c.append_numbers.new.text c.args.walk.now c.row.new.self
-    (values_many r.order r.of r.count r.octets.now) c.in-Some.ensures.some c.in_ok-append_numbers.ensures
+    (length_row_values r.order r.of r.count r.octets.now) c.in-Some.ensures.some c.in_ok-append_numbers.ensures
 
 pub append_some-returns-clause-text : goal.append_some-returns-clause-text
 append_some-returns-clause-text t c =

@@ -3,8 +3,9 @@ use Rattle.std.specs.Prelude.{replicate, get_or}
 use Rattle.nd_types.specs.Table.{width}
 use Rattle.nd_grammar.specs.Entry.{gap}
 use Rattle.nd_flat.specs.FlatForm.{row_numbers}
+use Rattle.nd_flat.proofs.RowLaws.{length_row_values}
 use Rattle.ndr_encoder_laws.specs.pieces.Pieces.{row_pieces}
-use Rattle.ndr_encoder_output.proofs.Rows.{values_many, row_ranged}
+use Rattle.ndr_encoder_output.proofs.Rows.{row_ranged}
 use Rattle.ndr_encoder_output.proofs.Filled.{row_room, row_written, pieces_same, pieces_can}
 use Rattle.ndr_encoder_output.proofs.fill.FillOutput.row.Goals as goal
 
@@ -12,7 +13,7 @@ pub write_gap-start-requires-clause-room : goal.write_gap-start-requires-clause-
 write_gap-start-requires-clause-room c =
     let r = c.args.row.now in
     let s = c.args.self.now in
-    let room = row_room c.args.prim (row_numbers r) s.at r.count c.width_of.result s.out.now _ _ c.requires.some (values_many r.order r.of r.count r.octets.now)
+    let room = row_room c.args.prim (row_numbers r) s.at r.count c.width_of.result s.out.now _ _ c.requires.some (length_row_values r.order r.of r.count r.octets.now)
     c.width_of.ensures.value c.requires.able.1.can_follow in
     omega (arith, room)
 
@@ -23,7 +24,7 @@ pub write_row-self-requires-clause-room : goal.write_row-self-requires-clause-ro
 write_row-self-requires-clause-room c =
     let r = c.args.row.now in
     let s = c.args.self.now in
-    let room = row_room c.args.prim (row_numbers r) s.at r.count c.width_of.result s.out.now _ _ c.requires.some (values_many r.order r.of r.count r.octets.now)
+    let room = row_room c.args.prim (row_numbers r) s.at r.count c.width_of.result s.out.now _ _ c.requires.some (length_row_values r.order r.of r.count r.octets.now)
     c.width_of.ensures.value c.requires.able.1.can_follow in
     omega (arith, room, c.write_gap-start.ensures.end, c.write_gap-start.auto.out)
 
@@ -40,7 +41,7 @@ returns c = λ qs.
     let start : ℕ = c.write_gap-start.result in
     let end : ℕ = c.write_row-self.result in
     let wide = c.width_of.ensures.value in
-    let many : length zs ≡ r.count = values_many r.order r.of r.count r.octets.now in
+    let many : length zs ≡ r.count = length_row_values r.order r.of r.count r.octets.now in
     let from : start ≡ s.at + gap s.at (width p) = c.write_gap-start.ensures.end ∙ ap (λ w. s.at + gap s.at w) wide in
     let zeros : take start mid ≡ take s.at os ++ replicate {A = ℕ} (gap s.at (width p)) 0 =
     c.write_gap-start.ensures.front ∙ ap (λ w. take s.at os ++ replicate {A = ℕ} (gap s.at w) 0) wide in
