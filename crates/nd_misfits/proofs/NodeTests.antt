@@ -5,11 +5,10 @@ use Rattle.std.specs.List.{list_all, list_any, slice_get}
 use Rattle.std.specs.Cmp.Derive.{both_true}
 use Rattle.std.specs.Ordering.{int_eq}
 use Rattle.std.proofs.lemmas.Bool.{eq-eqb, ne_eqb, lt-ltb}
-use Rattle.nd_types.specs.declared.types.Arm.{Arm}
 use Rattle.nd_types.specs.declared.types.Field.{Field}
 use Rattle.nd_types.specs.declared.types.TypeId.{TypeId}
 use Rattle.nd_types.specs.declared.types.TypeDef.TheVariants as def
-use Rattle.nd_types.specs.Table.{Table, labelled, or_else, selected}
+use Rattle.nd_types.specs.Table.{Table}
 use Rattle.nd_value.specs.declared.value.Graph.{Graph}
 use Rattle.nd_value.specs.declared.misfit.MisfitReason.TheVariants as misfit
 use Rattle.nd_value.specs.Tree as tree
@@ -46,18 +45,6 @@ module _ (z : ℤ) where
   pub any_next : (vs : List ℤ) (i : ℕ) (v : ℤ) → slice_get vs i ≡ Some v → int_eq z v ≡ false
       → list_any (int_eq z) (drop i vs) ≡ list_any (int_eq z) (drop (i + 1) vs)
   any_next vs i v e h = ap (list_any (int_eq z)) (drop-get vs i v e) ∙ ap (λ b. b || list_any (int_eq z) (drop (i + 1) vs)) h
-
-module _ (default : Option Arm) (tag : ℤ) where
-  abbrev rest : Arm → List Arm → Bool → Option Arm
-  rest a arms b = or_else (elim b [ true ↦ Some a | false ↦ labelled arms tag ]) default
-
-  -- one arm further
-  pub arm_found : (arms : List Arm) (i : ℕ) (a : Arm) → slice_get arms i ≡ Some a → int_eq a.label tag ≡ true → selected (drop i arms) default tag ≡ Some a
-  arm_found arms i a e h = ap (λ xs. selected xs default tag) (drop-get arms i a e) ∙ ap (rest a (drop (i + 1) arms)) h
-
-  pub arm_next : (arms : List Arm) (i : ℕ) (a : Arm) → slice_get arms i ≡ Some a → int_eq a.label tag ≡ false
-      → selected (drop i arms) default tag ≡ selected (drop (i + 1) arms) default tag
-  arm_next arms i a e h = ap (λ xs. selected xs default tag) (drop-get arms i a e) ∙ ap (rest a (drop (i + 1) arms)) h
 
 -- octets that are below 256 one by one
 pub octets_are : (os : List ℕ) → ((i : ℕ) → get_or os i 0 < 256) → list_all is_octet os ≡ true

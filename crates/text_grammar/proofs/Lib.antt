@@ -5,6 +5,5 @@ pub mod Scanned
 mod Tested
 mod WorkedTexts
 mod WorkedPrinted
-pub mod Labels
 pub mod Names
 pub mod Sizes

@@ -2,7 +2,6 @@ pub mod Passages
 pub mod Uuids
 pub mod OneMore
 pub mod OpenedValues
-pub mod Arms
 pub mod SmallParts
 pub mod ListParts
 pub mod ByteLists

@@ -3,8 +3,8 @@ use Rattle.std.proofs.lemmas.Int.{to_z-of_z}
 use mir.Val.{SFits, of_z, to_z}
 use mir.Syntax.{w128}
 use Rattle.nd_types.specs.Table.{selected}
+use Rattle.nd_types.proofs.ArmLaws.{arm_found, arm_next}
 use Rattle.nd_lemmas.proofs.Lists.{drop_past as drop-past}
-use Rattle.nd_misfits.proofs.NodeTests.{arm_found, arm_next}
 use Rattle.nd_lemmas.proofs.Integers.{equal_to as same_label, other_than as other_label}
 use Rattle.nd_misfits.proofs.node.selected.Goals as goal
 
