@@ -13,7 +13,7 @@ use Rattle.text_grammar.specs.Tokens.{Token, Word, Number, Cell, Str, Bytes, Uui
 use Rattle.text_grammar.specs.Tokens.{is_plain, skip, is_blank, is_mark, ends_run}
 use Rattle.text_grammar.specs.Tokens as tokens
 use Rattle.text_grammar.specs.Printed.{hex_octet, hex_text, uuid_text, fill, escaped, spelled, is_run}
-use Rattle.text_grammar.proofs.Classes.{range_digit}
+use Rattle.text_grammar.proofs.Classes.{range_digit, is_no_hyphen, digit_no_hyphen}
 use Rattle.text_grammar.proofs.Numerals.{written}
 
 -- ## Hexadecimal digits
@@ -70,16 +70,10 @@ abbrev places : List ℕ → ℕ
 places [] = 0
 places (place ∷ form) = elim (eqb place 45) [ true ↦ places form | false ↦ suc (places form) ]
 
-abbrev is_no_hyphen : ℕ → Bool
-is_no_hyphen c = not (eqb c 45)
-
 record IsFilled (form digits text : List ℕ) : Type 0 where
   pub has : has_form form text ≡ true
   pub kept : filter is_no_hyphen text ≡ digits
   pub long : length text ≡ length form
-
-digit_no_hyphen : (c : ℕ) → is_hex_digit c ≡ true → is_no_hyphen c ≡ true
-digit_no_hyphen c h = grind (arith, nat_tests, h)
 
 filled : (form digits : List ℕ) → list_all is_hex_digit digits ≡ true → length digits ≡ places form → IsFilled form digits (fill form digits)
 filled [] [] h l = record { has = refl; kept = refl; long = refl }

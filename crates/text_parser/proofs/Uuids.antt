@@ -11,6 +11,7 @@ use Rattle.nd_value.specs.Misfit.{is_octet}
 use Rattle.text_grammar.specs.declared.version.Version.{Version}
 use Rattle.text_grammar.specs.Tokens.{Token, Uuid, skip, begins_bytes, hex_octets, hex_pair, uuid_octets, IsCut}
 use Rattle.text_grammar.specs.Reads.{Cut, End, Bad}
+use Rattle.text_grammar.proofs.Classes.{is_no_hyphen, digit_no_hyphen}
 use Rattle.text_reading_laws.specs.Settled.{is_two}
 use Rattle.text_lexer.specs.declared.lexeme.Lexeme as shown
 use Rattle.text_lexer.specs.declared.lexeme.Lexeme.TheVariants as lexeme
@@ -41,12 +42,6 @@ module _ (whole text : List ℕ) where
       (subst (λ (l : List ℕ). FormCame whole text places l) (sym (take_all (length (octet ∷ after) - 1) after (omega arith))) (form_next place places octet after fits f))
 
 -- ## Digits
-
-abbrev pub is_no_hyphen : ℕ → Bool
-is_no_hyphen c = not (eqb c 45)
-
-digit_no_hyphen : (c : ℕ) → is_hex_digit c ≡ true → is_no_hyphen c ≡ true
-digit_no_hyphen c h = grind (arith, nat_tests, h)
 
 digit_no_x : (c : ℕ) → is_hex_digit c ≡ true → eqb c 120 ≡ false
 digit_no_x c h = grind (arith, nat_tests, h)

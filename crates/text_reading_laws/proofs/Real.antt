@@ -9,7 +9,7 @@ use Rattle.std.proofs.lemmas.Option.{same_Some}
 use Rattle.nd_base.specs.Text.{is_digit, is_hex_digit, hex_value, has_form, uuid_form}
 use Rattle.nd_value.specs.Misfit.{is_octet, is_count}
 use Rattle.text_grammar.specs.Tokens.{Token, Word, Number, Cell, Str, Bytes, Uuid, Mark, Spells, Begins, skip, character, escape, hex_pair, is_plain, IsQuoted, hex_octets, uuid_octets}
-use Rattle.text_grammar.proofs.Classes.{digit_range}
+use Rattle.text_grammar.proofs.Classes.{digit_range, is_no_hyphen, digit_no_hyphen}
 use Rattle.text_reading_laws.specs.Real.{is_real}
 use Rattle.text_reading_laws.proofs.Quoted.{First}
 
@@ -78,9 +78,6 @@ quoted_octets first takes text (b ∷ bs) rest s = and_from (is_octet b) (list_a
 
 -- ## Identifiers
 
-abbrev is_no_hyphen : ℕ → Bool
-is_no_hyphen c = not (eqb c 45)
-
 -- how many digits a form has
 abbrev places : List ℕ → ℕ
 places [] = 0
@@ -89,9 +86,6 @@ places (place ∷ form) = elim (eqb place 45) [ true ↦ places form | false ↦
 record AreDigits (form octets : List ℕ) : Type 0 where
   pub digits : list_all is_hex_digit (filter is_no_hyphen octets) ≡ true
   pub many : length (filter is_no_hyphen octets) ≡ places form
-
-digit_no_hyphen : (c : ℕ) → is_hex_digit c ≡ true → is_no_hyphen c ≡ true
-digit_no_hyphen c h = grind (arith, nat_tests, h)
 
 form_digits : (form octets : List ℕ) → has_form form octets ≡ true → AreDigits form octets
 form_digits [] [] h = record { digits = refl; many = refl }
