@@ -7,3 +7,4 @@ mod WorkedTexts
 mod WorkedPrinted
 pub mod Names
 pub mod Sizes
+pub mod Bytes

@@ -27,9 +27,9 @@ use Rattle.nd_value.proofs.Apart.{all_left, all_right, all_append}
 use Rattle.nd_value.proofs.NodeFacts.{IsFit}
 use Rattle.nd_grammar.proofs.RenumberedEntries.{count_same, child_types_same}
 use Rattle.text_grammar.specs.declared.version.Version.{Version}
-use Rattle.text_grammar.specs.declared.version.Version.TheVariants as version
 use Rattle.text_grammar.specs.Written.{writes_octets}
 use Rattle.text_grammar.specs.Readable.{is_octet_number, are_octets, may_be_elements, has_text_form}
+use Rattle.text_grammar.proofs.Bytes.{bytes_alone}
 use Rattle.text_laws.specs.Short.{is_short}
 
 -- ## Numbers of at most 20 digits
@@ -197,10 +197,6 @@ module _ (table : Table) (small : list_all has_small_values table ≡ true) wher
         and_from (is_octet_number (renumbered_label m l)) (are_octets (renumbered m ks))
         (one_octet l us (subst (λ (x : Option TypeDef). has_shape x l us ≡ true) e f.shape) (subst (λ (x : Option TypeDef). has_range is_value table x l ≡ true) e f.range))
         (octets_fine t e (rest_agreements ags) (n + 1 + node_count us) ks (all_right Fine K R a.1))
-
-    bytes_alone : (u : Version) (d : Option TypeDef) → writes_octets u d ≡ true → d ≡ Some (def.Prim Byte)
-    bytes_alone version.Two (Some (def.Prim Byte)) e = refl
-    bytes_alone u d e = cc
 
     list_fine : (t : ℕ) (ags : List (List Agreement)) (n : ℕ) (ks : Trees) → AllByRecursion Fine (nodes_of table (replicate (count ks) t) ags n ks)
         → may_be_elements v (type_at table t) (renumbered m ks) ≡ true

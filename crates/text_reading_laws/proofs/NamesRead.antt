@@ -17,7 +17,6 @@ use Rattle.nd_value.specs.Tree.{Tree, Trees, node, none, more, count, Label}
 use Rattle.nd_value.specs.Nodes.{child_types, selected_types}
 use Rattle.nd_value.specs.Misfit.{is_count}
 use Rattle.text_grammar.specs.declared.version.Version.{Version}
-use Rattle.text_grammar.specs.declared.version.Version.TheVariants as version
 use Rattle.text_grammar.specs.declared.fault.TextReason.{TextReason}
 use Rattle.text_grammar.specs.declared.fault.TextReason.TheVariants as reason
 use Rattle.text_grammar.specs.Tokens.{Word, Number, Cell, Str, Bytes, Uuid, Mark}
@@ -26,6 +25,7 @@ use Rattle.text_grammar.specs.Written.{values_pieces, value_pieces}
 use Rattle.text_grammar.specs.Readable.{has_offset, has_maximum, has_text_form}
 use Rattle.text_grammar.specs.Dues.{Due, This, ACount, AString, AUuid, FirstElement, NextElement, AValue, Reading, separated_dues, count_dues, list_dues, value_dues, arm_dues, closes, next_read}
 use Rattle.text_grammar.specs.Dues.{why_not, is_count_token, went_on_if}
+use Rattle.text_grammar.proofs.Bytes.{bytes_alone}
 use Rattle.text_reading_laws.specs.Values.{reading, have_forms, noted_node, noted}
 use Rattle.text_reading_laws.proofs.Alike.{next_open, next_element}
 use Rattle.text_reading_laws.proofs.Forms.{Form, form_of, a_number, an_enum, a_struct, an_array, a_bound_text, a_text, a_union, a_null, a_pointer, a_context, a_pipe}
@@ -222,10 +222,6 @@ module _ (v : Version) (table : Table) where
         numbers_noted p e ks (noted table (child_types (type_at table t) l us) us (noted_node (type_at table t) l nb))
         ∙ ap (λ (d : Option TypeDef). noted table (child_types d l us) us (noted_node d l nb)) e
         ∙ none_noted us nb
-
-    bytes_alone : (u : Version) (d : Option TypeDef) → writes_octets u d ≡ true → d ≡ Some (def.Prim Byte)
-    bytes_alone version.Two (Some (def.Prim Byte)) e = refl
-    bytes_alone u d e = cc
 
     list_read : (ks : Trees) → EachReads (replicate (count ks) t) ks → (ds : List Due) (nb : List (ℕ × ℕ)) (cells : ℕ) (ts : List Piece)
         → all_pieces table (reading v (list_dues (writes_octets v (type_at table t)) t ++ ds) nb cells)

@@ -24,13 +24,13 @@ use Rattle.nd_value.specs.Tree.{Tree, Trees, node, none, more, count, Label}
 use Rattle.nd_value.specs.Nodes.{child_types, selected_types}
 use Rattle.nd_value.specs.Misfit.{is_octet, is_count}
 use Rattle.text_grammar.specs.declared.version.Version.{Version}
-use Rattle.text_grammar.specs.declared.version.Version.TheVariants as version
 use Rattle.text_grammar.specs.Tokens.{Token, Word, Number, Cell, Str, Bytes, Uuid, Mark}
 use Rattle.text_grammar.specs.Written.{Piece, Name, Other, token_of, comma, colon, equals, word, separated, members, named, octets_in, writes_octets, list_pieces, arm_pieces, node_pieces}
 use Rattle.text_grammar.specs.Written.{values_pieces, value_pieces}
 use Rattle.text_grammar.specs.Readable.{has_maximum, has_offset, are_octets, may_be_elements, has_text_form}
 use Rattle.text_grammar.specs.Dues.{Due, This, ACount, AString, AUuid, FirstElement, NextElement, AValue, Reading, separated_dues, count_dues, list_dues, arm_dues, value_dues, closes, may_end}
 use Rattle.text_grammar.specs.Dues.{all_read}
+use Rattle.text_grammar.proofs.Bytes.{bytes_alone}
 use Rattle.text_reading_laws.specs.Values.{reading, have_forms, noted, value_tokens}
 use Rattle.text_reading_laws.specs.Real.{is_real}
 use Rattle.text_reading_laws.proofs.Alike.{all_open, all_element}
@@ -307,10 +307,6 @@ module _ (table : Table) (known : KnowsTypes table) (y : Reading) (ends : may_en
       more_forms v table t (many_of t (byte_trees bs)) (node (tree.Num (pos b)) none) (byte_trees bs)
       (subst (λ (d : Option TypeDef). (has_text_form v table d (tree.Num (pos b)) none && (have_forms v table (child_types d (tree.Num (pos b)) none) none && true)) ≡ true) (sym e) refl)
       (bytes_forms t e bs)
-
-  bytes_alone : (u : Version) (d : Option TypeDef) → writes_octets u d ≡ true → d ≡ Some (def.Prim Byte)
-  bytes_alone version.Two (Some (def.Prim Byte)) e = refl
-  bytes_alone u d e = cc
 
   record ListTaken (t : ℕ) (ts : List Token) : Type 0 where
     pub values : Trees

@@ -15,12 +15,12 @@ use Rattle.nd_value.specs.Tree as tree
 use Rattle.nd_value.specs.Tree.{Tree, Trees, node, none, more, count, Label}
 use Rattle.nd_value.specs.Nodes.{child_types, selected_types}
 use Rattle.text_grammar.specs.declared.version.Version.{Version}
-use Rattle.text_grammar.specs.declared.version.Version.TheVariants as version
 use Rattle.text_grammar.specs.Tokens.{Token, Mark}
 use Rattle.text_grammar.specs.Written.{Piece, Other, token_of, separated, members, named, octet_in, octets_in, writes_octets, list_pieces, array_counts, arm_pieces, node_pieces, values_pieces}
 use Rattle.text_grammar.specs.Written.{value_pieces}
 use Rattle.text_grammar.specs.Readable.{has_offset, has_maximum, may_be_elements, is_octet_number, are_octets, has_text_form}
 use Rattle.text_grammar.specs.Dues.{closes}
+use Rattle.text_grammar.proofs.Bytes.{bytes_alone}
 use Rattle.text_reading_laws.specs.Values.{have_forms, value_tokens}
 use Rattle.text_reading_laws.proofs.Forms.{Form, form_of, a_number, an_enum, a_struct, an_array, a_bound_text, a_text, a_union, a_null, a_pointer, a_context, a_pipe}
 use Rattle.text_reading_laws.proofs.ValuesRead.{tail, separated_tail, map_both, Opens, value_read}
@@ -168,10 +168,6 @@ module _ (v : Version) (table : Table) where
       let others : octets_in ks ≡ octets_in us = cc in
       ap₂ (λ x xs. more x xs) (octet_node p l xs hp ao.0 ∙ ap (λ x. node (tree.Num (pos x)) none) same ∙ sym (octet_node p m ys jp bo.0))
       (octets_one t p e ks us h1.1 i1.1 ao.1 bo.1 others)
-
-  bytes_alone : (u : Version) (d : Option TypeDef) → writes_octets u d ≡ true → d ≡ Some (def.Prim Byte)
-  bytes_alone version.Two (Some (def.Prim Byte)) e = refl
-  bytes_alone u d e = cc
 
   list_one : (t : ℕ) (ks us : Trees) → EachOne (many_of t ks) ks → have_forms v table (many_of t ks) ks ≡ true → have_forms v table (many_of t us) us ≡ true
       → may_be_elements v (type_at table t) ks ≡ true → may_be_elements v (type_at table t) us ≡ true → (ts rs : List Token)

@@ -17,12 +17,12 @@ use Rattle.nd_value.specs.Tree.{Tree, Trees, node, none, more, count, Label}
 use Rattle.nd_value.specs.Nodes.{child_types, selected_types}
 use Rattle.nd_value.specs.Misfit.{is_count}
 use Rattle.text_grammar.specs.declared.version.Version.{Version}
-use Rattle.text_grammar.specs.declared.version.Version.TheVariants as version
 use Rattle.text_grammar.specs.Tokens.{Token, Word, Number, Cell, Str, Bytes, Uuid, Mark}
 use Rattle.text_grammar.specs.Written.{Piece, Name, Other, token_of, comma, colon, equals, separated, members, named, octets_in, writes_octets, list_pieces, array_counts, arm_pieces, node_pieces}
 use Rattle.text_grammar.specs.Written.{values_pieces, value_pieces}
 use Rattle.text_grammar.specs.Readable.{has_offset, has_maximum, has_text_form}
 use Rattle.text_grammar.specs.Dues.{Due, This, ACount, AString, AUuid, FirstElement, NextElement, AValue, separated_dues, named_due, count_dues, list_dues, value_dues, arm_dues, closes, all_read}
+use Rattle.text_grammar.proofs.Bytes.{bytes_alone}
 use Rattle.text_reading_laws.specs.Values.{reading, have_forms, noted_node, noted, value_tokens}
 use Rattle.text_reading_laws.proofs.Alike.{all_open, all_element, name_read, count_read}
 use Rattle.text_reading_laws.proofs.Forms.{Form, form_of, a_number, an_enum, a_struct, an_array, a_bound_text, a_text, a_union, a_null, a_pointer, a_context, a_pipe}
@@ -167,10 +167,6 @@ module _ (v : Version) (table : Table) where
         numbers_noted p e ks (noted table (child_types (type_at table t) l us) us (noted_node (type_at table t) l nb))
         ∙ ap (λ (d : Option TypeDef). noted table (child_types d l us) us (noted_node d l nb)) e
         ∙ none_noted us nb
-
-    bytes_alone : (u : Version) (d : Option TypeDef) → writes_octets u d ≡ true → d ≡ Some (def.Prim Byte)
-    bytes_alone version.Two (Some (def.Prim Byte)) e = refl
-    bytes_alone u d e = cc
 
     list_read : (ks : Trees) → EachReads (replicate (count ks) t) ks → (ds : List Due) (nb : List (ℕ × ℕ)) (cells : ℕ) (ts : List Token)
         → all_read table (reading v (list_dues (writes_octets v (type_at table t)) t ++ ds) nb cells)
