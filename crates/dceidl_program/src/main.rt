@@ -85,7 +85,7 @@ fn file_end(rt: HostRuntime, name: &str) -> Result<Box<FileEnd<HostRuntime>>, Me
 }
 
 // One more end that is not finished.
-#[tactic(auto, using(crate::proofs::Open::all_open))]
+#[tactic(auto, using(ndr_pipe::proofs::Open::all_open))]
 fn add(ends: &mut PipeEnds, end: Box<dyn PipeEnd>) -> Result<(), Memory>
     requires all { AreOpen (ends_seen seen ends.old) }
     requires one { (seen end).finished ≡ false }

@@ -122,7 +122,7 @@ fn mem_end(alloc: Global, room: u32, fails: u32) -> Result<Box<MemEnd>, Memory>
 }
 
 // One more end that is not finished.
-#[tactic(auto, using(crate::proofs::Open::all_open))]
+#[tactic(auto, using(ndr_pipe::proofs::Open::all_open))]
 fn add(ends: &mut PipeEnds, end: Box<dyn PipeEnd>) -> Result<(), Memory>
     requires all { AreOpen (ends_seen seen ends.old) }
     requires one { (seen end).finished ≡ false }
