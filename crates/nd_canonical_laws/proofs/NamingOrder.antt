@@ -46,6 +46,7 @@ use Rattle.nd_canonical.specs.Canonical.{IsCanonical}
 use Rattle.nd_canonical.proofs.Alike.{one_naming}
 use Rattle.nd_canonical.proofs.Complete.{cells_both}
 use Rattle.nd_grammar.proofs.reader.ReaderLeaves.{no_pointer_unread as no_pointer}
+use Rattle.nd_grammar.proofs.conforming.StreamConforms.{due_all}
 
 -- ## The cells that pointers name are those that labels name
 
@@ -308,10 +309,6 @@ module _ (w : Setting) (g : Graph) where
         subst (λ o. Naming g (cells_done done) (cell_homes (target o) ++ homes_due due) (cells_named qs ++ ns)) (sym e)
         (subst (λ u. Naming g (cells_done done) (cell_home c ∷ homes_due due) (u ++ ns)) (sym names) (cell_due c (λ m. free (among_placed done c m)) d'))
 
-    roots_due : (i n : ℕ) → i + n ≤ length (root_list w) → AllByRecursion IsDue (due_roots i n)
-    roots_due i zero l = tt
-    roots_due i (suc n) l = (omega (arith, l), roots_due (suc i) n (omega (arith, l)))
-
     roots_homes : (i n : ℕ) → homes_due (due_roots i n) ≡ root_homes i n
     roots_homes i zero = refl
     roots_homes i (suc n) = ap (λ u. home.Root i ∷ u) (roots_homes (suc i) n)
@@ -364,7 +361,7 @@ module _ (w : Setting) (g : Graph) where
           let rest : ℕ = length (root_list w) - n in
           let whole : length g.roots ≡ n + rest = omega (arith, all, few) in
           let first : Naming g [] (root_homes 0 n) (named_cells w g steps) =
-          subst (λ u. Naming g [] u (named_cells w g steps)) (roots_homes 0 n) (naming d (roots_due 0 n (omega (arith, few)))) in
+          subst (λ u. Naming g [] u (named_cells w g steps)) (roots_homes 0 n) (naming d (due_all IsDue 0 n (λ j h. (let below : 0 + j < length (root_list w) = omega (arith, few, h) in below)))) in
           subst (λ u. Naming g [] u (named_cells w g steps)) (sym (parted 0 n rest (length g.roots) whole))
           (later_homes (root_homes (0 + n) rest) first (λ s. pipes_name_none (0 + n) rest s (omega arith) (omega (arith, few))))
 

@@ -2,7 +2,7 @@
 -- whose maximum count is in front of the value of its home.
 -- `w` is a setting, `g` a partial graph, `i` is the index of a root, `r` a root, `t` a type's number, `l` a label, `ks` are its children, `v` is a value, `x` a
 -- value that stands, `p` a pointer, `c` a cell, `cut` are the counts of the chunks of a pipe.
-use Rattle.std.proofs.Common.{◌≡◌, ◌⊎◌, inl, inr, ◌∙◌, ℕ, zero, suc, ◌+◌, ◌≤◌, true, false, List, [], ◌∷◌, ◌++◌, length, Option, Some, None, refl, sym, ap, subst}
+use Rattle.std.proofs.Common.{◌≡◌, ◌⊎◌, inl, inr, ◌∙◌, ℕ, zero, suc, ◌+◌, ◌≤◌, true, false, List, [], ◌∷◌, ◌++◌, Option, Some, None, refl, sym, ap, subst}
 use Rattle.std.proofs.Common.{add-zero, arith, drop, replicate}
 use Rattle.std.specs.Prelude.{flat_map, map, sum}
 use Rattle.std.specs.List.{AllByRecursion, slice_get}
@@ -23,7 +23,7 @@ use Rattle.nd_value.specs.declared.item.Home.TheVariants as home
 use Rattle.nd_value.specs.declared.value.Graph.{Graph}
 use Rattle.nd_value.specs.Agreement.{Agreement, agreement}
 use Rattle.nd_value.specs.Deferral.{Deferral, Due, Pending, Placed_cells, Standing, Step, at_null, at_referent, at_root, at_standing, before_pipes, direct, due_of, due_referent, due_root}
-use Rattle.nd_value.specs.Deferral.{due_roots, home_pointers, none_due, referent_stands, root_stands, root_type, standing_by, standing_cell, standing_root}
+use Rattle.nd_value.specs.Deferral.{home_pointers, none_due, referent_stands, root_stands, root_type, standing_by, standing_cell, standing_root}
 use Rattle.nd_value.specs.Misfit.{has_counts, has_shape}
 use Rattle.nd_value.specs.Nodes.{TypedNode, child_agreements, child_types, nodes_of, rest_agreements}
 use Rattle.nd_value.specs.Setting.{Among, Setting, cell_at, cell_home, cell_of_number, or_unread, root_at, root_list}
@@ -50,6 +50,7 @@ use Rattle.nd_grammar.proofs.next.Matching.{Known as AreKnown, NodeKnown, Pointe
 use Rattle.nd_grammar.proofs.next.NextPipes.{count_drop, known_drop, known_take, pipe_label, sum_first, unread_pipe}
 use Rattle.nd_grammar.proofs.next.NextStream.{IsLaidOut, IsPipeRoot, drop_at}
 use Rattle.nd_grammar.proofs.next.PointerPlaces.{root_there}
+use Rattle.nd_grammar.proofs.conforming.StreamConforms.{due_all}
 use Rattle.text_grammar.specs.Paths.{cell_types, home_types, home_value, root_types}
 use Rattle.ndr_trace.proofs.FrontTests.{AreTestsOfFront, HaveNodes, IsTestOfFront, both_parts, home_in, in_place_there, inner_nodes, later_nodes, no_tests, own_value_there}
 use Rattle.ndr_trace.proofs.FrontTests.{whole_there}
@@ -310,10 +311,6 @@ module _ (w : Setting) (side : IsLegalSide w) (g : Graph) (s : IsSound w g) wher
 
   -- ## The whole
 
-  roots_are_due : (i n : ℕ) → i + n ≤ length (root_list w) → AllByRecursion IsDue (due_roots i n)
-  roots_are_due i zero h = tt
-  roots_are_due i (suc n) h = (root_there w i (omega (arith, h)), roots_are_due (suc i) n (omega (arith, h)))
-
   stream_there : (ms : List Entry) → Stream w g ms → There ms
   stream_there ms a =
       let n : ℕ = before_pipes (root_list w) in
@@ -322,7 +319,7 @@ module _ (w : Setting) (side : IsLegalSide w) (g : Graph) (s : IsSound w g) wher
       let P : List Entry = pipes_entries w.table n (drop n (root_list w)) (drop n g.roots) a.cuts in
       subst There (sym a.is_representation)
       (joined_there (F ++ T) P
-      (joined_there F T (steps_there a.deferral (roots_are_due 0 n (let b = few_before_pipes (root_list w) in omega (arith, b))))
+      (joined_there F T (steps_there a.deferral (due_all IsDue 0 n (λ j h. root_there w (0 + j) (omega (arith, h, few_before_pipes (root_list w))))))
       (root_tests_there 0 (root_list w) g.roots (λ j r v there value.
       (let at : 0 + j ≡ j = omega arith in
       subst (λ m. There (root_test g m v (root_agreements w g r.vars))) (sym at)

@@ -1,7 +1,7 @@
 -- The agreements that are tried in a cell which a pointer names alone: they are those of the root that the pointer is, or of the member.
 -- `w` is a setting, `g` a partial graph, `p` and `q` are pointers, `c` and `d` cells, `h` is a home, `n` a node's number, `m` an entry, `a` an agreement or an
 -- attribute, `at` and `j` are places of roots, `r` is a root, `v` its value.
-use Rattle.std.proofs.Common.{◌≡◌, ◌⊎◌, inl, inr, ◌∙◌, ℕ, zero, suc, ◌+◌, ◌<◌, ◌≤◌, ℤ, Bool, true, false, List, [], ◌∷◌, ◌++◌, drop, length, map, Option, Some, None, refl, sym, ap, subst, arith}
+use Rattle.std.proofs.Common.{◌≡◌, ◌⊎◌, inl, inr, ◌∙◌, ℕ, ◌+◌, ◌<◌, ℤ, Bool, true, false, List, [], ◌∷◌, ◌++◌, drop, map, Option, Some, None, refl, sym, ap, subst, arith}
 use Rattle.std.specs.Prelude.{flat_map}
 use Rattle.std.specs.List.{AllByRecursion, slice_get}
 use Rattle.std.proofs.lemmas.Grind.{flat_map-append}
@@ -36,6 +36,7 @@ use Rattle.nd_grammar.proofs.next.KnownNodes.{known_roots}
 use Rattle.nd_grammar.proofs.next.Matching.{Known as AreKnown}
 use Rattle.nd_grammar.proofs.next.PointerPlaces.{in_cell, in_standing, root_there}
 use Rattle.nd_grammar.proofs.next.StreamPointers.{is_good}
+use Rattle.nd_grammar.proofs.conforming.StreamConforms.{due_all}
 use Rattle.ndr_trace_laws.specs.Untested.{is_test}
 use Rattle.ndr_trace_value.specs.Variable.{IsAtRoot, NamesAlone}
 use Rattle.ndr_trace.proofs.FrontStreams.{as_pointer}
@@ -147,10 +148,6 @@ module _ (w : Setting) (g : Graph) (s : IsSound w g) where
       (steps_tell d (all_append IsDue (due_of w.table x) due
       (are_due (home_pointers w.table x.home x.of x.val) (in_cell w g c p.to ((is_good w g s p f.0).typed c e))) f.1))
 
-  roots_are_due : (i n : ℕ) → i + n ≤ length (root_list w) → AllByRecursion IsDue (due_roots i n)
-  roots_are_due i zero h = tt
-  roots_are_due i (suc n) h = (root_there w i (omega (arith, h)), roots_are_due (suc i) n (omega (arith, h)))
-
   -- ## The pointer that names the cell alone
 
   -- the pointer is a root, and an attribute of the root states the number
@@ -260,7 +257,7 @@ module _ (w : Setting) (g : Graph) (s : IsSound w g) where
         tried = ap is_test is
 
         due : AllByRecursion IsDue (due_roots 0 (before_pipes (root_list w)))
-        due = roots_are_due 0 (before_pipes (root_list w)) (let b = few_before_pipes (root_list w) in omega (arith, b))
+        due = due_all IsDue 0 (before_pipes (root_list w)) (λ j h. root_there w (0 + j) (omega (arith, h, few_before_pipes (root_list w))))
 
         of_root : OneOf w g 0 (root_list w) g.roots m → RootSays p a wanted
         of_root (j, q, v, root_is, value, k) =
