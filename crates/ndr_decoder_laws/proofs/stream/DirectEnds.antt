@@ -19,7 +19,6 @@ use Rattle.nd_value.specs.Deferral.{Pending, Due, due_root, due_referent, due_ro
 use Rattle.nd_value.specs.Tree as tree
 use Rattle.nd_value.specs.Tree.{Tree, node, none}
 use Rattle.nd_value.proofs.Apart.{all_append, all_left}
-use Rattle.nd_grammar.specs.declared.reason.Reason.{Reason}
 use Rattle.nd_grammar.specs.declared.reason.Reason.TheVariants as reason
 use Rattle.nd_grammar.specs.Entry.{EntryAt}
 use Rattle.nd_grammar.specs.LegalSide.{IsLegalSide}
@@ -30,7 +29,7 @@ use Rattle.nd_grammar.specs.ReaderState.{Usable}
 use Rattle.nd_grammar.proofs.reader.ReaderNames.{Extends, extends_twice, longer}
 use Rattle.nd_grammar.proofs.reader.ReaderStates.{WholeRead, read_wholly}
 use Rattle.nd_grammar.proofs.reader.ReaderTurns.{one_longer, placed_there}
-use Rattle.ndr_decoder_laws.specs.reader.Around.{going, stopped}
+use Rattle.ndr_decoder_laws.specs.reader.Around.{going}
 use Rattle.ndr_decoder_laws.specs.declared.first.First.TheVariants as first
 use Rattle.ndr_decoder_laws.specs.steps.Good.{Told, Whole}
 use Rattle.ndr_decoder_laws.specs.steps.Steps.{State}
@@ -49,6 +48,8 @@ use Rattle.ndr_decoder_laws.proofs.stream.Others.{root_more}
 use Rattle.ndr_decoder_laws.proofs.stream.StreamGrows.{next_then_head}
 use Rattle.ndr_decoder_laws.specs.stream.Added.{Goes}
 use Rattle.ndr_decoder_laws.proofs.stream.References.{one_if, count_more}
+use Rattle.ndr_decoder_laws.specs.stream.Calls.{RefusesWith, GoesWith}
+use Rattle.ndr_decoder_laws.specs.stream.Report.{the_head}
 
 one_cell : (to : ℕ) (s : Names) → Extends s (with_cell to s)
 one_cell to s = record { new = record { of = to; val = unread } ∷ []; cells = refl; blank = (refl, tt); more_numbers = []; numbers = refl; of_new = tt }
@@ -118,13 +119,12 @@ module _ (w : Setting) (side : IsLegalSide w) (order : Order) (fetched : List �
   next_is octets = ap (λ u. read_next w order octets u s) due_is ∙ first_is octets
 
   -- where the referent is refused, so is the head
-  pub direct_refused : (more : List ℕ) → AreOctets more → (at : ℕ) (seen' : List EntryAt) (why : ℕ × Reason) → (target (fetched ++ more)).progress ≡ stopped at seen' why
-      → head_read w order (fetched ++ more) ≡ stopped at seen' why
+  pub direct_refused : RefusesWith the_head w order fetched target
   direct_refused more a at seen' why e =
       next_refused w side order fetched ag.octets s (due_root i) later_due ag.reached due_is more a at seen' why (ap (λ (u : Reading). u.progress) (next_is (fetched ++ more)) ∙ e)
 
   -- what is passed of the referent is passed of the head
-  pub direct_goes : (added : List ℕ) → AreOctets added → Goes (target (fetched ++ added)).progress (head_read w order (fetched ++ added))
+  pub direct_goes : GoesWith the_head w order fetched target
   direct_goes added a =
       subst (λ (u : Reading). Goes u.progress (head_read w order (fetched ++ added))) (next_is (fetched ++ added))
       (next_then_head w side order fetched ag.octets s (due_root i) later_due due_is ag.reached added a)

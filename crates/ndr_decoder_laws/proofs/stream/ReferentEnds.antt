@@ -29,7 +29,7 @@ use Rattle.ndr_decoder_laws.specs.steps.Steps.{State}
 use Rattle.ndr_decoder_laws.proofs.worklist.Turns.{turns}
 use Rattle.ndr_decoder_laws.specs.stream.Parameters.{head_read}
 use Rattle.ndr_decoder_laws.specs.stream.Between.{AreNeeded, Between, Keeps, Agrees, IsKeptOf, IsKeptHome, CellKept, CellFilled, cell_read, kept_at, taken}
-use Rattle.ndr_decoder_laws.specs.stream.Report.{IsRefusedAfter}
+use Rattle.ndr_decoder_laws.specs.stream.Report.{IsRefusedAfter, the_head}
 use Rattle.ndr_decoder_laws.specs.stream.Tests.{disagreement, AllAgree, all_at}
 use Rattle.ndr_decoder_laws.specs.declared.kept.Kept.{Kept}
 use Rattle.ndr_decoder_laws.proofs.stream.Heads.{next_refused, stream_stays}
@@ -41,6 +41,7 @@ use Rattle.ndr_decoder_laws.proofs.stream.StreamGrows.{all_go, goes_twice, next_
 use Rattle.ndr_decoder_laws.specs.stream.Added.{Goes}
 use Rattle.ndr_decoder_laws.proofs.stream.Taken.{kept_taken}
 use Rattle.ndr_decoder_laws.proofs.stream.Tested.{tests_pass, tests_stop, told_tests, keeps_tests}
+use Rattle.ndr_decoder_laws.specs.stream.Calls.{RefusesWith, GoesWith}
 use Rattle.nd_grammar.proofs.reader.ReaderCells.{cell_positive as positive}
 
 pub not_stood : (k : Class) (done : Placed_cells) (c : ℕ) → ¬ IsPlaced done c → stood k done c ≡ false
@@ -104,8 +105,7 @@ module _ (w : Setting) (side : IsLegalSide w) (order : Order) (fetched : List �
     next_is octets = ap (λ u. read_next w order octets u s) due_is ∙ first_is octets
 
     -- where the referent is refused, so is the head
-    pub referent_refused : (more : List ℕ) → AreOctets more → (at : ℕ) (seen' : List EntryAt) (why : ℕ × Reason) → (target (fetched ++ more)).progress ≡ stopped at seen' why
-        → head_read w order (fetched ++ more) ≡ stopped at seen' why
+    pub referent_refused : RefusesWith the_head w order fetched target
     referent_refused more a at seen' why e =
         let octets : List ℕ = fetched ++ more in
         let ms : List Entry = tests (cell_home c) 0 (target octets).tree p.agreements in
@@ -113,7 +113,7 @@ module _ (w : Setting) (side : IsLegalSide w) (order : Order) (fetched : List �
         (ap (λ (u : Reading). u.progress) (next_is octets) ∙ ap (pass_all order octets ms) e ∙ all_stay order octets ms at seen' why)
 
     -- what is passed of the referent is passed of the head
-    pub referent_goes : (added : List ℕ) → AreOctets added → Goes (target (fetched ++ added)).progress (head_read w order (fetched ++ added))
+    pub referent_goes : GoesWith the_head w order fetched target
     referent_goes added a =
         let octets : List ℕ = fetched ++ added in
         let ms : List Entry = tests (cell_home c) 0 (target octets).tree p.agreements in

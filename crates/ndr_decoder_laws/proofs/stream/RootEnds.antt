@@ -14,7 +14,6 @@ use Rattle.nd_value.specs.declared.value.Graph.{Graph}
 use Rattle.nd_value.specs.Setting.{Setting, root_list, cell_home, cell_at}
 use Rattle.nd_value.specs.Deferral.{Pending, Due, due_root, due_referent, due_roots, home_pointers, root_type, before_pipes}
 use Rattle.nd_value.proofs.Apart.{all_append, all_left}
-use Rattle.nd_grammar.specs.declared.reason.Reason.{Reason}
 use Rattle.nd_grammar.specs.declared.reason.Reason.TheVariants as reason
 use Rattle.nd_grammar.specs.Entry.{EntryAt}
 use Rattle.nd_grammar.specs.LegalSide.{IsLegalSide}
@@ -24,7 +23,7 @@ use Rattle.nd_grammar.proofs.legal.LegalUsable.{root_usable}
 use Rattle.nd_grammar.proofs.reader.ReaderStates.{WholeRead, read_wholly}
 use Rattle.nd_grammar.specs.ReaderState.{State as IsReading}
 use Rattle.nd_grammar.proofs.reader.ReaderTurns.{one_longer}
-use Rattle.ndr_decoder_laws.specs.reader.Around.{going, stopped}
+use Rattle.ndr_decoder_laws.specs.reader.Around.{going}
 use Rattle.ndr_decoder_laws.specs.steps.Good.{Whole, owed}
 use Rattle.ndr_decoder_laws.specs.steps.Steps.{State}
 use Rattle.nd_grammar.specs.decoded.Verdict.{is_direct}
@@ -43,6 +42,8 @@ use Rattle.ndr_decoder_laws.proofs.stream.StreamGrows.{next_then_head}
 use Rattle.ndr_decoder_laws.specs.stream.Added.{Goes}
 use Rattle.ndr_decoder_laws.proofs.stream.References.{one_if, count_more}
 use Rattle.ndr_decoder_laws.proofs.stream.DirectEnds.{zero_plus}
+use Rattle.ndr_decoder_laws.specs.stream.Calls.{RefusesWith, GoesWith}
+use Rattle.ndr_decoder_laws.specs.stream.Report.{the_head}
 
 module _ (w : Setting) (side : IsLegalSide w) (order : Order) (fetched : List ℕ) (noted : List Item) (direct : ℕ) (b : Between) (s : Reading) (seen : List EntryAt) (n : ℕ)
     (ag : Agrees w side order fetched noted direct b s seen [] (suc n)) (r : Root) (there : slice_get (root_list w) (length s.roots) ≡ Some r) (plain : is_direct (type_at w.table r.of) ≡ false) where
@@ -81,13 +82,12 @@ module _ (w : Setting) (side : IsLegalSide w) (order : Order) (fetched : List �
   next_is octets = ap (λ u. read_next w order octets u s) due_is ∙ first_is octets
 
   -- where the root is refused, so is the head
-  pub root_refused : (more : List ℕ) → AreOctets more → (at : ℕ) (seen' : List EntryAt) (why : ℕ × Reason) → (target (fetched ++ more)).progress ≡ stopped at seen' why
-      → head_read w order (fetched ++ more) ≡ stopped at seen' why
+  pub root_refused : RefusesWith the_head w order fetched target
   root_refused more a at seen' why e =
       next_refused w side order fetched ag.octets s (due_root i) later_due ag.reached due_is more a at seen' why (ap (λ (u : Reading). u.progress) (next_is (fetched ++ more)) ∙ e)
 
   -- what is passed of the root is passed of the head
-  pub root_goes : (added : List ℕ) → AreOctets added → Goes (target (fetched ++ added)).progress (head_read w order (fetched ++ added))
+  pub root_goes : GoesWith the_head w order fetched target
   root_goes added a =
       subst (λ (u : Reading). Goes u.progress (head_read w order (fetched ++ added))) (next_is (fetched ++ added))
       (next_then_head w side order fetched ag.octets s (due_root i) later_due due_is ag.reached added a)
