@@ -40,9 +40,9 @@ use Rattle.ndr_decoder_pending.specs.Ends.{HomeRan}
 use Rattle.ndr_decoder_pending.specs.Seen.{CellEnds, HasOwn, IsCleared, KeepsAll, KeepsHomes, between_of, pending_in, pending_with}
 use Rattle.ndr_decoder_pending.proofs.GraphEnds.{cell_ends}
 use Rattle.ndr_decode.specs.Streaming.{ArePaid, HomeWhole, StandsWith, WentOnTaking, cells_of, with_next, with_taken}
-use Rattle.ndr_decode.proofs.OwedReads.{agreements_are, cell_is, class_is}
+use Rattle.ndr_decode.proofs.OwedReads.{agreements_are, cell_is}
 use Rattle.ndr_decode.proofs.Placed.{can_close, kept_of, ran, took_by, types_length}
-use Rattle.ndr_decode.proofs.ReferentReads.{cell_there, its_usable}
+use Rattle.ndr_decode.proofs.ReferentReads.{cell_there, its_usable, is_new}
 
 abbrev kept_by : ℕ → List steps.Owed → Building → List (ℕ × Known) → List KeptRoot → List (Option Kept) → Between
 kept_by at os u ns roots read = record { at = at; pending = os; cells = map (λ c. c.of) u.graph.cells; numbers = ns; roots = roots; read = read; graph = closed u }
@@ -59,9 +59,6 @@ module _ (w : Setting) (side : IsLegalSide w) (order : Order) (fetched : List �
 
   is_cell : p.cell ≡ Some c.0
   is_cell = sym (cell_is w side order fetched noted direct o x s seen p ps n st) ∙ ap cell_number some
-
-  new : p.class ≡ Full → kept_at x.cells.items c.0 ≡ None
-  new f = unread (class_is w side order fetched noted direct o x s seen p ps n st ∙ f)
 
   abbrev b : Building
   b = x.machine.builder
@@ -87,6 +84,7 @@ module _ (w : Setting) (side : IsLegalSide w) (order : Order) (fetched : List �
   still_there =
       let l : length s.names.cells ≤ length hw.is.names.cells = longer s.names hw.is.names wholly.extends in
       let at : c.0 ≤ cells_of x = (cell_there w side order fetched noted direct o x s seen p ps n st c some unread).1 in
+      let new = is_new w side order fetched noted direct o x s seen p ps n st c some unread in
       let told = ag.keeps.told (cell_home c.0) (law.free w side order fetched noted direct (with_next o x) s seen p ps n ag c.0 is_cell new) in
       let before : length s.names.cells ≡ cells_of x = sym (length-map s.names.cells (λ c. c.of)) ∙ sym (ap length told.cells_are) ∙ types_length b in
       let now : length hw.is.names.cells ≡ length m.builder.graph.cells = sym (length-map hw.is.names.cells (λ c. c.of)) ∙ sym (ap length hw.is.told.cells_are) ∙ types_length m.builder in
@@ -140,6 +138,7 @@ module _ (w : Setting) (side : IsLegalSide w) (order : Order) (fetched : List �
 
       pub referent_done : WentOnTaking w side order fetched noted (cells_of x) source t q s4 n
       referent_done =
+          let new = is_new w side order fetched noted direct o x s seen p ps n st c some unread in
           let (then, so, qs, agrees) =
           law.ends w side order fetched noted direct (with_next o x) s seen p ps n ag c.0 is_cell new hw.octets hw.all (noted ++ hw.items) (state_of m) hw.is hw.needed k kept all_agree
           s3.cells.items is_kept (closed m.builder) filled in

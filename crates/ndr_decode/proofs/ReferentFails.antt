@@ -34,8 +34,9 @@ use Rattle.ndr_decoder_pending.specs.declared.stream.Stream.{Stream}
 use Rattle.ndr_decoder_pending.specs.Seen.{between_of}
 use Rattle.ndr_decode.specs.Streaming.{HomeWhole, StandsWith, with_next}
 use Rattle.ndr_decode.specs.Tried.{IsFirst}
-use Rattle.ndr_decode.proofs.OwedReads.{agreements_are, cell_is, class_is}
+use Rattle.ndr_decode.proofs.OwedReads.{agreements_are, cell_is}
 use Rattle.ndr_decode.proofs.Standing.{not_cut}
+use Rattle.ndr_decode.proofs.ReferentReads.{is_new}
 
 module _ (w : Setting) (side : IsLegalSide w) (order : Order) (fetched : List ℕ) (noted : List Item) (direct : ℕ) (o : Owed) (x : Stream) (s : Reading) (seen : List EntryAt) (p : Pending)
     (ps : List Pending) (n : ℕ)
@@ -48,9 +49,6 @@ module _ (w : Setting) (side : IsLegalSide w) (order : Order) (fetched : List �
   is_cell : p.cell ≡ Some c.0
   is_cell = sym (cell_is w side order fetched noted direct o x s seen p ps n st) ∙ ap cell_number some
 
-  new : p.class ≡ Full → kept_at x.cells.items c.0 ≡ None
-  new f = unread (class_is w side order fetched noted direct o x s seen p ps n st ∙ f)
-
   abbrev target : List ℕ → Read
   target = home_target w order (between_of x) seen (cell_home c.0) p.to s.names
 
@@ -59,6 +57,7 @@ module _ (w : Setting) (side : IsLegalSide w) (order : Order) (fetched : List �
 
   pub referent_cut : CutOff the_head w order fetched noted n0 source t
   referent_cut =
+      let new = is_new w side order fetched noted direct o x s seen p ps n st c some unread in
       let passed : (target (fetched ++ hw.octets)).progress.seen ≡ hw.is.seen ++ [] =
       subst (λ (f : List ℕ). (target f).progress.seen ≡ hw.is.seen ++ []) (append-nil (fetched ++ hw.octets))
       (sym (ap (λ (r : Read). r.progress.seen) (hw.is.is [])) ∙ sym (append-nil hw.is.seen)) in
@@ -80,6 +79,7 @@ module _ (w : Setting) (side : IsLegalSide w) (order : Order) (fetched : List �
   pub referent_disagrees : (k : Kept) → IsKeptHome x1 k → (place : ℕ) (why : Reason) → IsFirst (owed_of x.wanted.items o).agreements k place why
       → Refused the_head w order fetched noted n0 source t place why
   referent_disagrees k own place why first =
+      let new = is_new w side order fetched noted direct o x s seen p ps n st c some unread in
       let after : IsRefusedAfter w order (fetched ++ hw.octets) (noted ++ hw.items) (length x1.cells) direct x1.at (place, why) =
       law.disagrees w side order fetched noted direct (with_next o x) s seen p ps n ag c.0 is_cell new hw.octets hw.all (noted ++ hw.items) x1 hw.is hw.needed k own
       first.before first.a first.others (place, why) (sym (agreements_are w side order fetched noted direct o x s seen p ps n st) ∙ first.split) first.agree first.is in

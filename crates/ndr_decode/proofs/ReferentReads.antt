@@ -59,8 +59,9 @@ module _ (w : Setting) (side : IsLegalSide w) (order : Order) (fetched : List �
   is_cell : p.cell ≡ Some c.0
   is_cell = sym (cell_is w side order fetched noted direct o x s seen p ps n st) ∙ ap cell_number some
 
-  new : p.class ≡ Full → kept_at x.cells.items c.0 ≡ None
-  new f = unread (class_is w side order fetched noted direct o x s seen p ps n st ∙ f)
+  -- a cell that a full pointer names is new
+  pub is_new : p.class ≡ Full → kept_at x.cells.items c.0 ≡ None
+  is_new f = unread (class_is w side order fetched noted direct o x s seen p ps n st ∙ f)
 
   pub run_is : o.run ≡ whole_at w.table p.to
   run_is = ap (λ (q : steps.Owed). q.run) (due_is w side order fetched noted direct o x s seen p ps n st)
@@ -75,7 +76,7 @@ module _ (w : Setting) (side : IsLegalSide w) (order : Order) (fetched : List �
   at_it =
       let (passed, is) = ag.state [] all_now in
       at_cell w side order (fetched ++ []) all_now s passed p ps n c.0 (map due_referent ps ++ due_roots (length s.roots) n) is is_cell
-      (law.free w side order fetched noted direct (with_next o x) s seen p ps n ag c.0 is_cell new)
+      (law.free w side order fetched noted direct (with_next o x) s seen p ps n ag c.0 is_cell is_new)
 
   -- the cell has its number
   many : length s.names.cells ≡ cells_of x
@@ -91,7 +92,7 @@ module _ (w : Setting) (side : IsLegalSide w) (order : Order) (fetched : List �
 
   -- and nothing of it was kept
   pub cell_unread : kept_at x.cells.items c.0 ≡ None
-  cell_unread = ag.keeps.not_read c.0 (law.free w side order fetched noted direct (with_next o x) s seen p ps n ag c.0 is_cell new)
+  cell_unread = ag.keeps.not_read c.0 (law.free w side order fetched noted direct (with_next o x) s seen p ps n ag c.0 is_cell is_new)
 
   abbrev target : List ℕ → Read
   target = home_target w order (between_of x) seen (cell_home c.0) p.to s.names
@@ -102,7 +103,7 @@ module _ (w : Setting) (side : IsLegalSide w) (order : Order) (fetched : List �
     referent_good =
         subst (λ k. Good order fetched k w.table (cell_home c.0) p.to 32 noted direct target x0) (sym code_is)
         (home_begins w.table operations legal order fetched noted direct (cell_home c.0) seen s.names p.to its_usable (between_of x) ag.keeps.at (between_of x).cells x0 opens
-        (ag.keeps.told (cell_home c.0) (law.free w side order fetched noted direct (with_next o x) s seen p ps n ag c.0 is_cell new)))
+        (ag.keeps.told (cell_home c.0) (law.free w side order fetched noted direct (with_next o x) s seen p ps n ag c.0 is_cell is_new)))
 
     pub referent_safe : IsFine w.table 32 p.to → length fetched ≤ STREAM_LIMIT → IsPaid x0 → (more : List ℕ) (items : List Item) (y : State)
         → Reaches values order code (cell_home c.0) x0 more items y → IsSafe code y
@@ -114,8 +115,8 @@ module _ (w : Setting) (side : IsLegalSide w) (order : Order) (fetched : List �
         → FaultOf the_head w order fetched noted (length x0.cells) source (decoding_of notes) e
     referent_fault source notes x1 e ends =
         fault_comes values order code w.table (cell_home c.0) p.to 32 direct target planned fetched noted x0 referent_good source notes the_head w ag.octets ag.needed
-        (λ part all at so why stop. law.referent_refused w side order fetched noted direct (with_next o x) s seen p ps n ag c.0 is_cell new part all at so why stop)
-        (λ part all. law.referent_goes w side order fetched noted direct (with_next o x) s seen p ps n ag c.0 is_cell new part all)
+        (λ part all at so why stop. law.referent_refused w side order fetched noted direct (with_next o x) s seen p ps n ag c.0 is_cell is_new part all at so why stop)
+        (λ part all. law.referent_goes w side order fetched noted direct (with_next o x) s seen p ps n ag c.0 is_cell is_new part all)
         (few_now w side order fetched noted direct (with_next o x) s seen (p ∷ ps) n ag) x1 e ends
 
     -- what the value is
