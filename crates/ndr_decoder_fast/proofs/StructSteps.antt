@@ -3,6 +3,7 @@
 use Rattle.std.proofs.Common.{◌≡◌, ◌≤◌, ◌⊎◌, inl, inr, ℕ, ◌+◌, List, [], ◌∷◌, ◌++◌, length, Option, Some, None, refl, ap, ap₂, sym, ◌∙◌, subst, arith, append_assoc}
 use Rattle.std.specs.Prelude.{pos, Bool, true, false, if◌then◌else◌, take, drop, slice_get}
 use Rattle.std.proofs.lemmas.List.{append-nil, length-take-le as length_taken, take-append-drop as taken_and_left}
+use Rattle.std.proofs.Math.Path.{subst₃}
 use Rattle.nd_base.specs.declared.octets.Order.{Order}
 use Rattle.nd_base.specs.declared.TheConstants.{STREAM_LIMIT}
 use Rattle.nd_types.specs.declared.types.Class.{Class}
@@ -128,9 +129,6 @@ module _ (values : List EnumList) (order : Order) (code : List Instr) (h : Home)
   abbrev Comes : List ℕ → List Item → State → Type 0
   Comes fetched noted s = Reaches values order code h s0 fetched noted s
 
-  same : {a b : List ℕ} {c d : List Item} {x y : State} → a ≡ b → c ≡ d → x ≡ y → Comes a c x → Comes b d y
-  same {a = a} {b = b} {c = c} {d = d} {x = x} {y = y} e f g r = subst (λ z. Comes b d z) g (subst (λ z. Comes b z x) f (subst (λ z. Comes z c x) e r))
-
   -- a number or a pointer: its item is counted
   record FormCame (back at : ℕ) (ms : List Member) (xs : List First) (fetched os : List ℕ) (noted : List Item) (s : State) : Type 0 where
     items : List Item
@@ -146,7 +144,7 @@ module _ (values : List EnumList) (order : Order) (code : List Instr) (h : Home)
       record {
         items = noted ++ x ∷ [];
         counted = omega (arith, sum, one);
-        came = same (append-nil (fetched ++ os)) (append-nil (noted ++ x ∷ [])) refl
+        came = subst₃ Comes (append-nil (fetched ++ os)) (append-nil (noted ++ x ∷ [])) refl
             (steps_to (fetched ++ os) [] (noted ++ x ∷ []) (within pc at back ms xs t) (within back at back ms xs t) op.Ret r there refl tt refl);
       }
 
@@ -163,7 +161,7 @@ module _ (values : List EnumList) (order : Order) (code : List Instr) (h : Home)
       let same_items : noted ++ step_items order h os (op.Num of) s ≡ noted ++ x ∷ [] =
       ap (λ q. noted ++ item_here h at item.Num (width q) (value_of_octets order q os) (length t.nodes) ∷ []) is in
       let r1 : Comes (fetched ++ os) (noted ++ x ∷ []) n =
-      same refl same_items refl (steps_to fetched os noted s n (op.Num of) r there (size ∙ w_is, subst (λ k. at + k ≤ STREAM_LIMIT) w_is short) octets e) in
+      subst₃ Comes refl same_items refl (steps_to fetched os noted s n (op.Num of) r there (size ∙ w_is, subst (λ k. at + k ≤ STREAM_LIMIT) w_is short) octets e) in
       ended (pc + 1) (at + width p) back ms (xs ++ first.Number (value_of_octets order p os) ∷ []) (form_read order (form.Number p) os t) fetched os noted x refl r1 end
   form_comes pc at back ms xs t (form.Pointer class to run) fetched os noted r (there, some) end octets size short =
       let s : State = within pc at back ms xs t in
@@ -194,7 +192,7 @@ module _ (values : List EnumList) (order : Order) (code : List Instr) (h : Home)
       let n : State = within (run + 1) (at + gap at f.to) back ms xs t in
       let to_is : gap at f.to ≡ gap at to = ap (gap at) parts.1.1 in
       let passed : Comes (fetched ++ gs) (noted ++ gap_items h at gs) n =
-      same refl refl (ap (λ k. within (run + 1) (at + k) back ms xs t) gap_size)
+      subst₃ Comes refl refl (ap (λ k. within (run + 1) (at + k) back ms xs t) gap_size)
       (steps_to fetched gs noted s (within (run + 1) (at + length gs) back ms xs t) (op.Align to) r there (gap_size ∙ to_is) gap_octets refl) in
       let it = form_comes (run + 1) (at + gap at f.to) back ms xs t f.form (fetched ++ gs) os (noted ++ gap_items h at gs) passed
       (formed (slice_get code (run + 1)) f.form parts.1.0) (ends (slice_get code (run + 1 + 1)) parts.0) octets size short in
@@ -204,7 +202,7 @@ module _ (values : List EnumList) (order : Order) (code : List Instr) (h : Home)
       record {
         items = it.items;
         counted = omega (arith, sum, none, one);
-        came = same (append_assoc fetched gs os) refl refl it.came;
+        came = subst₃ Comes (append_assoc fetched gs os) refl refl it.came;
       }
 
   -- a member: its call, and its run
@@ -220,7 +218,7 @@ module _ (values : List EnumList) (order : Order) (code : List Instr) (h : Home)
       let x : First = first_read order f.form os in
       let u : State = form_read order f.form os t in
       let went : Comes fetched r.noted (within one.0 t.at (t.pc + 1) (ms ++ m ∷ []) xs t) =
-      same (append-nil fetched) (append-nil r.noted) refl
+      subst₃ Comes (append-nil fetched) (append-nil r.noted) refl
       (steps_to fetched [] r.noted (within t.pc t.at r.back ms xs t) (within one.0 t.at (t.pc + 1) (ms ++ m ∷ []) xs t) (op.Call one.0) r.reached one.1.0 refl tt refl) in
       let it = run_comes one.0 t.at (t.pc + 1) (ms ++ m ∷ []) xs t f fetched gs os r.noted went (by_gap code one.0 (slice_get code one.0) f one.1.1) gap_octets octets gap_size size short in
       let at_is : t.at + gap t.at f.to + form_width f.form ≡ t.at + n = omega (arith, n_is) in
@@ -231,7 +229,7 @@ module _ (values : List EnumList) (order : Order) (code : List Instr) (h : Home)
         back = t.pc + 1;
         members = r.members ++ m ∷ [];
         firsts = r.firsts ++ x ∷ [];
-        reached = same refl refl
+        reached = subst₃ Comes refl refl
             (ap₂ (λ k l. within (t.pc + 1) (t.at + gap t.at f.to + form_width f.form) (t.pc + 1) k l u) (append_assoc t.members r.members (m ∷ [])) (append_assoc t.firsts r.firsts (x ∷ []))
             ∙ ap (λ k. within (t.pc + 1) k (t.pc + 1) (t.members ++ (r.members ++ m ∷ [])) (t.firsts ++ (r.firsts ++ x ∷ [])) u) at_is) it.came;
         counted = omega (arith, counted, ticked, more);
@@ -247,7 +245,7 @@ module _ (values : List EnumList) (order : Order) (code : List Instr) (h : Home)
         back = 0;
         members = [];
         firsts = [];
-        reached = same refl refl (ap₂ (λ k l. within t.pc t.at 0 k l t) (sym (append-nil t.members)) (sym (append-nil t.firsts)))
+        reached = subst₃ Comes refl refl (ap₂ (λ k l. within t.pc t.at 0 k l t) (sym (append-nil t.members)) (sym (append-nil t.firsts)))
             (steps_to [] [] [] s0 (within t.pc t.at 0 t.members t.firsts t) (op.Record n) begins there refl tt refl);
         counted = omega arith;
       }
@@ -274,7 +272,7 @@ module _ (values : List EnumList) (order : Order) (code : List Instr) (h : Home)
   struct_ended steps steps1 fetched t r there level =
       record {
         noted = r.noted;
-        reached = same (append-nil fetched) (append-nil r.noted)
+        reached = subst₃ Comes (append-nil fetched) (append-nil r.noted)
             (ap₂ (λ k l. jumped (t.pc + 1) (with_members k l t)) (front_taken (length t.members) t.members r.members refl) (front_taken (length t.members) t.firsts r.firsts level))
             (steps_to fetched [] r.noted (within t.pc t.at r.back (t.members ++ r.members) (t.firsts ++ r.firsts) t)
             (jumped (t.pc + 1) (with_members (take (length t.members) (t.members ++ r.members)) (take (length t.members) (t.firsts ++ r.firsts)) t)) op.Close r.reached there refl tt refl);

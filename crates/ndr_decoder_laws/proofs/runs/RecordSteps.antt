@@ -4,6 +4,7 @@ use Rattle.std.proofs.Common.{◌≡◌, ◌≤◌, ◌<◌, ◌⊎◌, inl, inr
 use Rattle.std.specs.Prelude.{ℤ, Bool, true, false, ltb, if◌then◌else◌, take, drop, slice_get}
 use Rattle.std.proofs.lemmas.Bool.{ltb-true, ltb-false, le-ltb}
 use Rattle.std.proofs.lemmas.List.{append-nil, length-take-le as length_taken, take-append-drop as taken_and_left, take_all as all_in}
+use Rattle.std.proofs.Math.Path.{subst₃}
 use Rattle.nd_base.specs.declared.octets.Order.{Order}
 use Rattle.nd_base.specs.declared.TheConstants.{STREAM_LIMIT}
 use Rattle.nd_types.specs.declared.types.Primitive.{Primitive}
@@ -49,9 +50,6 @@ module _ (values : List EnumList) (order : Order) (code : List Instr) (h : Home)
   abbrev Comes : List ℕ → List Item → State → Type 0
   Comes fetched noted s = Reaches values order code h s0 fetched noted s
 
-  same : {a b : List ℕ} {c d : List Item} {x y : State} → a ≡ b → c ≡ d → x ≡ y → Comes a c x → Comes b d y
-  same {a = a} {b = b} {c = c} {d = d} {x = x} {y = y} e f g r = subst (λ z. Comes b d z) g (subst (λ z. Comes b z x) f (subst (λ z. Comes z c x) e r))
-
   abbrev Cut : ℕ → List ℕ → List ℕ → List ℕ → List Item → List Item → Type 0
   Cut at cells fetched os noted items = EndsWithin values order code h s0 at cells fetched os noted items
 
@@ -67,7 +65,7 @@ module _ (values : List EnumList) (order : Order) (code : List Instr) (h : Home)
         last = c.last;
         i = c.i;
         octets = c.octets ∙ append_assoc fetched gs left ∙ ap (λ l. fetched ++ l) e;
-        reached = same refl (append_assoc noted mine more ∙ ap (λ l. noted ++ l) f) refl c.reached;
+        reached = subst₃ Comes refl (append_assoc noted mine more ∙ ap (λ l. noted ++ l) f) refl c.reached;
         there = c.there;
         cut = c.cut;
         place = omega (arith, sizes, p, place_is);
@@ -109,8 +107,8 @@ module _ (values : List EnumList) (order : Order) (code : List Instr) (h : Home)
         let same_items : noted ++ step_items order h os (op.Num of) s ≡ noted ++ item_here h at item.Num (width p) (value_of_octets order p os) (length nodes) ∷ [] =
         ap (λ q. noted ++ item_here h at item.Num (width q) (value_of_octets order q os) (length nodes) ∷ []) is in
         let there : Comes (fetched ++ os) (noted ++ item_here h at item.Num (width p) (value_of_octets order p os) (length nodes) ∷ []) n =
-        same refl same_items refl (steps_to fetched os noted s n (op.Num of) r at_pc (size ∙ w_is, subst (λ k. at + k ≤ STREAM_LIMIT) w_is short) octets e) in
-        same (append-nil (fetched ++ os)) (append-nil (noted ++ item_here h at item.Num (width p) (value_of_octets order p os) (length nodes) ∷ [])) refl
+        subst₃ Comes refl same_items refl (steps_to fetched os noted s n (op.Num of) r at_pc (size ∙ w_is, subst (λ k. at + k ≤ STREAM_LIMIT) w_is short) octets e) in
+        subst₃ Comes (append-nil (fetched ++ os)) (append-nil (noted ++ item_here h at item.Num (width p) (value_of_octets order p os) (length nodes) ∷ [])) refl
         (steps_to (fetched ++ os) [] (noted ++ item_here h at item.Num (width p) (value_of_octets order p os) (length nodes) ∷ []) n
         (within back (at + width p) back (nodes ++ (tree.Num (value_of_octets order p os), 0) ∷ []) ms (xs ++ first.Number (value_of_octets order p os) ∷ [])) op.Ret there ends refl tt refl)
 
@@ -125,7 +123,7 @@ module _ (values : List EnumList) (order : Order) (code : List Instr) (h : Home)
         let empty : gs ≡ [] = no_octets_at gs (gap_size ∙ none) in
         let place : at ≡ at + gap at f.to = omega (arith, none) in
         let z : ℤ = value_of_octets order f.prim os in
-        same (ap (λ l. fetched ++ (l ++ os)) (sym empty))
+        subst₃ Comes (ap (λ l. fetched ++ (l ++ os)) (sym empty))
         (ap₂ (λ l k. noted ++ (gap_items h at l ++ item_here h k item.Num (width f.prim) z (length nodes) ∷ [])) (sym empty) place)
         (ap (λ k. within back (k + width f.prim) back (nodes ++ (tree.Num z, 0) ∷ []) ms (xs ++ first.Number z ∷ [])) place)
         (number_comes run at back nodes ms xs f.prim fetched os noted r number octets size (subst (λ k. k + width f.prim ≤ STREAM_LIMIT) (sym place) short))
@@ -134,9 +132,9 @@ module _ (values : List EnumList) (order : Order) (code : List Instr) (h : Home)
         let n : State = within (run + 1) (at + gap at f.to) back nodes ms xs in
         let z : ℤ = value_of_octets order f.prim os in
         let passed : Comes (fetched ++ gs) (noted ++ gap_items h at gs) n =
-        same refl refl (ap (λ k. within (run + 1) (at + k) back nodes ms xs) gap_size)
+        subst₃ Comes refl refl (ap (λ k. within (run + 1) (at + k) back nodes ms xs) gap_size)
         (steps_to fetched gs noted s (within (run + 1) (at + length gs) back nodes ms xs) (op.Align f.to) r aligned gap_size gap_octets refl) in
-        same (append_assoc fetched gs os)
+        subst₃ Comes (append_assoc fetched gs os)
         (append_assoc noted (gap_items h at gs) (item_here h (at + gap at f.to) item.Num (width f.prim) z (length nodes) ∷ [])) refl
         (number_comes (run + 1) (at + gap at f.to) back nodes ms xs f.prim (fetched ++ gs) os (noted ++ gap_items h at gs) passed number octets size short)
 
@@ -160,7 +158,7 @@ module _ (values : List EnumList) (order : Order) (code : List Instr) (h : Home)
           back = back;
           more_members = [];
           more_firsts = [];
-          reached = same (sym (append-nil fetched) ∙ ap (λ l. fetched ++ l) (sym empty)) (sym (append-nil noted))
+          reached = subst₃ Comes (sym (append-nil fetched) ∙ ap (λ l. fetched ++ l) (sym empty)) (sym (append-nil noted))
               (ap₂ (λ k l. within k l back nodes ms xs) pc_is at_is
               ∙ ap₂ (λ k l. within (pc + 0) (at + length os) back k l xs) (sym (append-nil nodes)) (sym (append-nil ms))
               ∙ ap (λ l. within (pc + 0) (at + length os) back (nodes ++ []) (ms ++ []) l) (sym (append-nil xs))) r;
@@ -183,7 +181,7 @@ module _ (values : List EnumList) (order : Order) (code : List Instr) (h : Home)
         let x : Flat = (tree.Num z, 0) in
         let one : Item = item_here h (at + gap at f.to) item.Num (width f.prim) z (length nodes) in
         let called : Comes fetched noted (within run at (pc + 1) nodes (ms ++ m ∷ []) xs) =
-        same (append-nil fetched) (append-nil noted) refl
+        subst₃ Comes (append-nil fetched) (append-nil noted) refl
         (steps_to fetched [] noted (within pc at back nodes ms xs) (within run at (pc + 1) nodes (ms ++ m ∷ []) xs) (op.Call run) r calls refl tt refl) in
         let read =
         run_comes run at (pc + 1) nodes (ms ++ m ∷ []) xs f fetched gs here noted called is_run (take_octets (gap at f.to) os octets)
@@ -208,7 +206,7 @@ module _ (values : List EnumList) (order : Order) (code : List Instr) (h : Home)
           back = others.back;
           more_members = m ∷ others.more_members;
           more_firsts = first.Number z ∷ others.more_firsts;
-          reached = same octets_are items_are
+          reached = subst₃ Comes octets_are items_are
               (ap₂ (λ k l. within k l others.back ((nodes ++ x ∷ []) ++ slot_flats order (at + gap at f.to + width f.prim) fs rest) ((ms ++ m ∷ []) ++ others.more_members)
               ((xs ++ first.Number z ∷ []) ++ others.more_firsts)) pc_is at_is
               ∙ ap₂ (λ k l. within (pc + length (f ∷ fs)) (at + length os) others.back k l ((xs ++ first.Number z ∷ []) ++ others.more_firsts)) nodes_are
@@ -230,7 +228,7 @@ module _ (values : List EnumList) (order : Order) (code : List Instr) (h : Home)
           last = within run at back nodes ms xs;
           i = op.Align f.to;
           octets = refl;
-          reached = same refl (sym (append-nil noted)) refl r;
+          reached = subst₃ Comes refl (sym (append-nil noted)) refl r;
           there = aligned;
           cut = few;
           place = refl;
@@ -247,7 +245,7 @@ module _ (values : List EnumList) (order : Order) (code : List Instr) (h : Home)
           last = within pc at back nodes ms xs;
           i = op.Num of;
           octets = refl;
-          reached = same refl (sym (append-nil noted)) refl r;
+          reached = subst₃ Comes refl (sym (append-nil noted)) refl r;
           there = at_pc;
           cut = (subst (λ q. length os < width q) (sym is) few, subst (λ q. at + width q ≤ STREAM_LIMIT) (sym is) short);
           place = refl;
@@ -267,7 +265,7 @@ module _ (values : List EnumList) (order : Order) (code : List Instr) (h : Home)
         let s : State = within run at back nodes ms xs in
         let n : State = within (run + 1) (at + gap at f.to) back nodes ms xs in
         let passed : Comes (fetched ++ gs) (noted ++ gap_items h at gs) n =
-        same refl refl (ap (λ k. within (run + 1) (at + k) back nodes ms xs) size)
+        subst₃ Comes refl refl (ap (λ k. within (run + 1) (at + k) back nodes ms xs) size)
         (steps_to fetched gs noted s (within (run + 1) (at + length gs) back nodes ms xs) (op.Align f.to) r aligned size octets refl) in
         cut_after at (at + gap at f.to) b.cells fetched gs left (gs ++ left) noted (gap_items h at gs) [] (gap_items h at gs)
         (number_cut (run + 1) (at + gap at f.to) back nodes ms xs f.prim (fetched ++ gs) left (noted ++ gap_items h at gs) passed number few short)
@@ -313,7 +311,7 @@ module _ (values : List EnumList) (order : Order) (code : List Instr) (h : Home)
         let more_items : List Item = slots_came order h (at + gap at f.to + width f.prim) (length nodes + 1) fs rest in
         let more_nodes : length (nodes ++ x ∷ []) ≡ length nodes + 1 = length-append nodes (x ∷ []) in
         let called : Comes fetched noted (within run at (pc + 1) nodes (ms ++ m ∷ []) xs) =
-        same (append-nil fetched) (append-nil noted) refl
+        subst₃ Comes (append-nil fetched) (append-nil noted) refl
         (steps_to fetched [] noted (within pc at back nodes ms xs) (within run at (pc + 1) nodes (ms ++ m ∷ []) xs) (op.Call run) r calls refl tt refl) in
         let others : gap at f.to + width f.prim ≤ length os → Cut at b.cells fetched os noted (gap_items h at gs ++ (one ∷ more_items)) =
         λ enough.
@@ -400,7 +398,7 @@ module _ (values : List EnumList) (order : Order) (code : List Instr) (h : Home)
       let nodes : List Flat = s.nodes ++ (tree.Rec, length fs) ∷ [] in
       let more_nodes : length nodes ≡ length s.nodes + 1 = length-append s.nodes ((tree.Rec, length fs) ∷ []) in
       let opened : Comes fetched noted (within s (length s.members) (s.top ∷ s.stack) (s.pc + 1) s.at 0 nodes s.members s.firsts) =
-      same (append-nil fetched) (append-nil noted) (begun_within (length fs) s s.top refl among)
+      subst₃ Comes (append-nil fetched) (append-nil noted) (begun_within (length fs) s s.top refl among)
       (steps_to fetched [] noted s (recorded (length fs) s s.top) (op.Record (length fs)) r is.opens refl tt refl) in
       let read : Members s (length s.members) (s.top ∷ s.stack) (s.pc + 1) s.at nodes s.members s.firsts fs fetched os noted =
       members_come s (length s.members) (s.top ∷ s.stack) fs (s.pc + 1) s.at 0 nodes s.members s.firsts fetched os noted opened is.slots octets size short in
@@ -413,7 +411,7 @@ module _ (values : List EnumList) (order : Order) (code : List Instr) (h : Home)
       steps_to (fetched ++ os) [] (noted ++ slot_items order h s.at (length nodes) fs os)
       (within s (length s.members) (s.top ∷ s.stack) (s.pc + 1 + length fs) (s.at + length os) read.back (nodes ++ flats) (s.members ++ read.more_members) (s.firsts ++ read.more_firsts))
       (closed (s.pc + 1 + length fs + 1) (s.at + length os) (nodes ++ flats) ms xs s) op.Close read.reached is.closes refl tt refl in
-      same (append-nil (fetched ++ os))
+      subst₃ Comes (append-nil (fetched ++ os))
       (append-nil (noted ++ slot_items order h s.at (length nodes) fs os) ∙ ap (λ k. noted ++ slot_items order h s.at k fs os) more_nodes)
       (ap₂ (λ k l. closed (s.pc + 1 + length fs + 1) (s.at + length os) (nodes ++ flats) k l s) members_are firsts_are
       ∙ ap (λ l. closed (s.pc + 1 + length fs + 1) (s.at + length os) l s.members s.firsts s) (append_assoc s.nodes ((tree.Rec, length fs) ∷ []) flats)) ended
@@ -427,7 +425,7 @@ module _ (values : List EnumList) (order : Order) (code : List Instr) (h : Home)
     where
       at_run : Comes fetched noted (records_read run at xs (frame.Elements left run back) s)
       at_run =
-          same (append-nil fetched) (append-nil noted) refl
+          subst₃ Comes (append-nil fetched) (append-nil noted) refl
           (steps_to fetched [] noted (records_read (pc + 1 + length fs + 1) at xs (frame.Elements (suc left) run back) s) (records_read run at xs (frame.Elements left run back) s) op.Ret r is.run_ends
           refl tt refl)
 
@@ -437,10 +435,10 @@ module _ (values : List EnumList) (order : Order) (code : List Instr) (h : Home)
           let none : gap at to ≡ 0 = let z : gap at 1 ≡ 0 = omega arith in ap (gap at) one ∙ z in
           let empty : [] ≡ gs = sym (no_octets_at gs (size ∙ none)) in
           let place : at ≡ at + gap at to = omega (arith, none) in
-          same (sym (append-nil fetched) ∙ ap (λ l. fetched ++ l) empty) (sym (append-nil noted) ∙ ap (λ l. noted ++ gap_items h at l) empty)
+          subst₃ Comes (sym (append-nil fetched) ∙ ap (λ l. fetched ++ l) empty) (sym (append-nil noted) ∙ ap (λ l. noted ++ gap_items h at l) empty)
           (ap₂ (λ k l. records_read k l xs (frame.Elements left run back) s) here place) at_run
       by_run (inr (here, aligned)) =
-          same refl refl (ap₂ (λ k l. records_read k (at + l) xs (frame.Elements left run back) s) here size)
+          subst₃ Comes refl refl (ap₂ (λ k l. records_read k (at + l) xs (frame.Elements left run back) s) here size)
           (steps_to fetched gs noted (records_read run at xs (frame.Elements left run back) s) (records_read (run + 1) (at + length gs) xs (frame.Elements left run back) s) (op.Align to)
           at_run aligned size octets refl)
 
@@ -452,7 +450,7 @@ module _ (values : List EnumList) (order : Order) (code : List Instr) (h : Home)
   records_come zero more run back to fs s fetched os noted r top is level octets size short =
       let left_is : 0 + more ≡ more = omega arith in
       let top_is : s.top ≡ frame.Elements more run back = top ∙ ap (λ k. frame.Elements k run back) left_is in
-      same refl refl (ap (λ t. records_read (s.pc + 1 + length fs + 1) (s.at + length os) ((tree.Rec, length fs) ∷ slot_flats order s.at fs os) t s) top_is)
+      subst₃ Comes refl refl (ap (λ t. records_read (s.pc + 1 + length fs + 1) (s.at + length os) ((tree.Rec, length fs) ∷ slot_flats order s.at fs os) t s) top_is)
       (record_comes fs s fetched os noted r is.own (subst IsAmongElements (sym top_is) tt) level octets size short)
   records_come (suc n) more run back to fs s fetched os noted r top is level octets size short =
       let end : ℕ = s.at + slots_len s.at fs in
@@ -472,7 +470,7 @@ module _ (values : List EnumList) (order : Order) (code : List Instr) (h : Home)
       let xs : List Flat = (tree.Rec, length fs) ∷ slot_flats order s.at fs here in
       let first_items : List Item = slot_items order h s.at (length s.nodes + 1) fs here in
       let one : Comes (fetched ++ here) (noted ++ first_items) (records_read (s.pc + 1 + length fs + 1) end xs (frame.Elements (suc (n + more)) run back) s) =
-      same refl refl (ap₂ (λ t k. records_read (s.pc + 1 + length fs + 1) (s.at + k) xs t s) top_is here_size)
+      subst₃ Comes refl refl (ap₂ (λ t k. records_read (s.pc + 1 + length fs + 1) (s.at + k) xs t s) top_is here_size)
       (record_comes fs s fetched here noted r is.own (subst IsAmongElements (sym top_is) tt) level (take_octets (slots_len s.at fs) os octets) here_size
       (omega (arith, here_size, left_size, short))) in
       let s1 : State = records_read s.pc (end + gap end to) xs (frame.Elements (n + more) run back) s in
@@ -490,7 +488,7 @@ module _ (values : List EnumList) (order : Order) (code : List Instr) (h : Home)
       ap (λ k. ((noted ++ first_items) ++ gap_items h end gs) ++ record_items order h (end + gap end to) k to fs n rest) nodes_is
       ∙ append_assoc (noted ++ first_items) (gap_items h end gs) last_items ∙ append_assoc noted first_items (gap_items h end gs ++ last_items) in
       let at_is : (end + gap end to) + length rest ≡ s.at + length os = omega (arith, rest_size, left_size) in
-      same octets_are items_are
+      subst₃ Comes octets_are items_are
       (ap₂ (λ k l. closed (s.pc + 1 + length fs + 1) k l s.members s.firsts (framed s (frame.Elements more run back))) at_is
       (append_assoc s.nodes xs (record_flats order (end + gap end to) to fs n rest))) three
 
@@ -503,7 +501,7 @@ module _ (values : List EnumList) (order : Order) (code : List Instr) (h : Home)
       let nodes : List Flat = s.nodes ++ (tree.Rec, length fs) ∷ [] in
       let more_nodes : length nodes ≡ length s.nodes + 1 = length-append s.nodes ((tree.Rec, length fs) ∷ []) in
       let opened : Comes fetched noted (within s (length s.members) (s.top ∷ s.stack) (s.pc + 1) s.at 0 nodes s.members s.firsts) =
-      same (append-nil fetched) (append-nil noted) (begun_within (length fs) s s.top refl among)
+      subst₃ Comes (append-nil fetched) (append-nil noted) (begun_within (length fs) s s.top refl among)
       (steps_to fetched [] noted s (recorded (length fs) s s.top) (op.Record (length fs)) r is.opens refl tt refl) in
       subst (λ k. Cut s.at s.cells fetched os noted (slots_came order h s.at k fs os)) more_nodes
       (members_cut s (length s.members) (s.top ∷ s.stack) fs (s.pc + 1) s.at 0 nodes s.members s.firsts fetched os noted opened is.slots octets few short)
@@ -542,7 +540,7 @@ module _ (values : List EnumList) (order : Order) (code : List Instr) (h : Home)
             last = records_read run at xs (frame.Elements left run back) s;
             i = op.Align to;
             octets = refl;
-            reached = same (append-nil fetched) refl refl
+            reached = subst₃ Comes (append-nil fetched) refl refl
                 (steps_to fetched [] noted (records_read (pc + 1 + length fs + 1) at xs (frame.Elements (suc left) run back) s)
                 (records_read run at xs (frame.Elements left run back) s) op.Ret r is.run_ends
                 refl tt refl);
@@ -580,7 +578,7 @@ module _ (values : List EnumList) (order : Order) (code : List Instr) (h : Home)
       let xs : List Flat = (tree.Rec, length fs) ∷ slot_flats order s.at fs here in
       let first_items : List Item = slot_items order h s.at (length s.nodes + 1) fs here in
       let one : Comes (fetched ++ here) (noted ++ first_items) (records_read (s.pc + 1 + length fs + 1) end xs (frame.Elements (suc left) run back) s) =
-      same refl refl (ap₂ (λ t k. records_read (s.pc + 1 + length fs + 1) (s.at + k) xs t s) top here_size)
+      subst₃ Comes refl refl (ap₂ (λ t k. records_read (s.pc + 1 + length fs + 1) (s.at + k) xs t s) top here_size)
       (record_comes fs s fetched here noted r is.own (subst IsAmongElements (sym top) tt) level (take_octets (slots_len s.at fs) os octets) here_size (omega (arith, here_size, short))) in
       cut_after s.at end s.cells fetched here rest os noted first_items [] (slots_came order h s.at (length s.nodes + 1) fs here ++ [])
       (next_cut s.pc end to left run back fs xs s (fetched ++ here) rest (noted ++ first_items) one is (omega (arith, few, rest_size)))
@@ -617,11 +615,11 @@ module _ (values : List EnumList) (order : Order) (code : List Instr) (h : Home)
       let rest_size : gap end to + length rest ≡ length left = length_left (gap end to) left many in
       let both : length (here ++ gs) ≡ length here + length gs = length-append here gs in
       let one : Comes (fetched ++ here) (noted ++ first_items) (records_read (s.pc + 1 + length fs + 1) end xs (frame.Elements (suc (n + more)) run back) s) =
-      same refl refl (ap₂ (λ t k. records_read (s.pc + 1 + length fs + 1) (s.at + k) xs t s) top_is here_size)
+      subst₃ Comes refl refl (ap₂ (λ t k. records_read (s.pc + 1 + length fs + 1) (s.at + k) xs t s) top_is here_size)
       (record_comes fs s fetched here noted r is.own (subst IsAmongElements (sym top_is) tt) level (take_octets (slots_len s.at fs) os octets) here_size (omega (arith, here_size, shorter))) in
       let s1 : State = records_read s.pc (end + gap end to) xs (frame.Elements (n + more) run back) s in
       let two : Comes (fetched ++ (here ++ gs)) (noted ++ (first_items ++ gap_items h end gs)) s1 =
-      same (append_assoc fetched here gs) (append_assoc noted first_items (gap_items h end gs)) refl
+      subst₃ Comes (append_assoc fetched here gs) (append_assoc noted first_items (gap_items h end gs)) refl
       (next_comes s.pc end to (n + more) run back fs xs s (fetched ++ here) gs (noted ++ first_items) one is (take_octets (gap end to) left (drop_octets (slots_len s.at fs) os octets)) gap_size) in
       let nodes_is : length (s.nodes ++ xs) ≡ length s.nodes + 1 + length fs = length-append s.nodes xs ∙ flats_length (length s.nodes) fs s.at here in
       let three : Cut (end + gap end to) s.cells (fetched ++ (here ++ gs)) rest (noted ++ (first_items ++ gap_items h end gs))

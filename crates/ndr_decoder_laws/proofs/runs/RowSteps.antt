@@ -3,6 +3,7 @@
 use Rattle.std.proofs.Common.{◌≡◌, ◌≤◌, ◌⊎◌, inl, inr, ℕ, ◌+◌, ◌*◌, zero, suc, List, [], ◌∷◌, ◌++◌, length, Some, None, refl, ap, ap₂, sym, ◌∙◌, subst, arith, append_assoc, length-append}
 use Rattle.std.specs.Prelude.{◌-◌, ◌%◌, take, drop, slice_get}
 use Rattle.std.proofs.lemmas.List.{append-nil, length-take-le as length_taken, take-append-drop as taken_and_left}
+use Rattle.std.proofs.Math.Path.{subst₃}
 use Rattle.nd_base.specs.declared.octets.Order.{Order}
 use Rattle.nd_base.specs.declared.TheConstants.{STREAM_LIMIT}
 use Rattle.nd_types.specs.declared.types.Primitive.{Primitive}
@@ -129,9 +130,6 @@ module _ (values : List EnumList) (order : Order) (code : List Instr) (h : Home)
   abbrev Comes : List ℕ → List Item → State → Type 0
   Comes fetched noted s = Reaches values order code h s0 fetched noted s
 
-  same : {a b : List ℕ} {c d : List Item} {x y : State} → a ≡ b → c ≡ d → x ≡ y → Comes a c x → Comes b d y
-  same {a = a} {b = b} {c = c} {d = d} {x = x} {y = y} e f g r = subst (λ z. Comes b d z) g (subst (λ z. Comes b z x) f (subst (λ z. Comes z c x) e r))
-
   abbrev item_of_row : ℕ → ℕ → List ℕ → Item
   item_of_row at node os = item_here h at item.Num (width p) (value_of_octets order p os) node
 
@@ -147,7 +145,7 @@ module _ (values : List EnumList) (order : Order) (code : List Instr) (h : Home)
       let w_is : width p ≡ width (prim_of of.0) = ap width (sym is) in
       let same_items : noted ++ step_items order h os (op.Num of) s ≡ noted ++ item_of_row s.at (length s.nodes) os ∷ [] =
       ap (λ q. noted ++ item_here h s.at item.Num (width q) (value_of_octets order q os) (length s.nodes) ∷ []) is in
-      same refl same_items refl
+      subst₃ Comes refl same_items refl
       (steps_to fetched os noted s (rowed s (s.pc + 1) (s.at + width p) (s.nodes ++ flat_of_row os ∷ []) (frame.Elements left run back)) (op.Num of) r at_pc
       (size ∙ w_is, subst (λ k. s.at + k ≤ STREAM_LIMIT) w_is short) octets
       (right_prim ∙ ap goes (one_number (width p) (flat_of_row os) s left run back top)))
@@ -164,10 +162,10 @@ module _ (values : List EnumList) (order : Order) (code : List Instr) (h : Home)
       to_run = steps_to fetched [] noted s after_ret op.Ret r (ap (slice_get code) ep ∙ numbers.0) refl tt (ap (λ t. back_to t s) top)
 
       by_run : ((run ≡ pc) × (width p ≡ 1)) ⊎ ((run + 1 ≡ pc) × (slice_get code run ≡ Some (op.Align (width p)))) → Comes fetched noted (rowed s pc s.at s.nodes (frame.Elements left run back))
-      by_run (inl e) = same (append-nil fetched) (append-nil noted) (ap (λ a. rowed s a s.at s.nodes (frame.Elements left run back)) e.0) to_run
+      by_run (inl e) = subst₃ Comes (append-nil fetched) (append-nil noted) (ap (λ a. rowed s a s.at s.nodes (frame.Elements left run back)) e.0) to_run
       by_run (inr e) =
           let z : s.at + 0 ≡ s.at = omega arith in
-          same (append-nil (fetched ++ []) ∙ append-nil fetched) (append-nil (noted ++ []) ∙ append-nil noted)
+          subst₃ Comes (append-nil (fetched ++ []) ∙ append-nil fetched) (append-nil (noted ++ []) ∙ append-nil noted)
           (ap₂ (λ a b. rowed s a b s.nodes (frame.Elements left run back)) e.0 z)
           (steps_to (fetched ++ []) [] (noted ++ []) after_ret (done_after 0 after_ret) (op.Align (width p)) to_run e.1 (sym (no_gap p s.at aligned)) tt refl)
 
@@ -180,7 +178,7 @@ module _ (values : List EnumList) (order : Order) (code : List Instr) (h : Home)
       let one : length os ≡ width p = omega (arith, size) in
       let all : take (width p) os ≡ os = all_taken (width p) os one in
       let left_is : 0 + more ≡ more = omega arith in
-      same refl (ap (λ xs. noted ++ item_of_row s.at (length s.nodes) xs ∷ []) (sym all))
+      subst₃ Comes refl (ap (λ xs. noted ++ item_of_row s.at (length s.nodes) xs ∷ []) (sym all))
       (ap₂ (λ k xs. rowed s (s.pc + 1) (s.at + k) (s.nodes ++ flat_of_row xs ∷ []) (frame.Elements more run back)) (sym one) (sym all))
       (number_comes s fetched os noted of more run back r at_pc is (top ∙ ap (λ k. frame.Elements k run back) left_is) octets one (subst (λ k. s.at + k ≤ STREAM_LIMIT) one short))
   row_comes (suc n) more run back s fetched os noted of r at_pc is top numbers octets size aligned short =
@@ -209,7 +207,7 @@ module _ (values : List EnumList) (order : Order) (code : List Instr) (h : Home)
       (omega (arith, split, short)) in
       let more_nodes : length nodes ≡ length s.nodes + 1 = length-append s.nodes (x ∷ []) in
       let places : at + length rest ≡ s.at + length os = omega (arith, split) in
-      same (append_assoc fetched here_os rest ∙ ap (λ xs. fetched ++ xs) (taken_and_left w os))
+      subst₃ Comes (append_assoc fetched here_os rest ∙ ap (λ xs. fetched ++ xs) (taken_and_left w os))
       (append_assoc noted (item_of_row s.at (length s.nodes) here_os ∷ []) (row_items order p h at (length nodes) (suc n) rest)
       ∙ ap (λ k. noted ++ item_of_row s.at (length s.nodes) here_os ∷ row_items order p h at k (suc n) rest) more_nodes)
       (ap₂ (λ k xs. rowed s (s.pc + 1) k xs (frame.Elements more run back)) places (append_assoc s.nodes (x ∷ []) (num_flats (row_values order p (suc n) rest))))
