@@ -8,6 +8,7 @@ pub mod Misfits
 pub mod NodeFacts
 pub mod Orderly
 pub mod SameCells
+pub mod SameVariables
 pub mod ValueRanges
 pub mod Waiting
 pub mod WorkedFit

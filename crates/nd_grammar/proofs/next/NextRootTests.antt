@@ -1,18 +1,18 @@
 -- The entries before an entry fix the next one, over the agreements of parameters.
-use Rattle.std.proofs.Common.{◌≡◌, ℕ, ◌+◌, ℤ, Bool, true, false, List, [], ◌∷◌, ◌++◌, Option, Some, None, refl, ap, ap₂, sym, ◌∙◌, inl, inr, ◌⊎◌, subst, append_assoc}
+use Rattle.std.proofs.Common.{◌≡◌, ℕ, ◌+◌, ℤ, Bool, true, false, List, [], ◌∷◌, ◌++◌, Option, Some, None, refl, ap, sym, ◌∙◌, inl, inr, ◌⊎◌, subst, append_assoc}
 use Rattle.std.specs.List.{AllByRecursion}
-use Rattle.nd_types.specs.declared.types.AttrVar.{AttrVar}
 use Rattle.nd_types.specs.declared.types.Class.{Class}
 use Rattle.nd_types.specs.Table.{type_at}
-use Rattle.nd_types.specs.Roots.{Root, root_index}
+use Rattle.nd_types.specs.Roots.{Root}
 use Rattle.nd_value.specs.declared.value.Graph.{Graph}
 use Rattle.nd_value.specs.declared.item.Home.TheVariants as home
 use Rattle.nd_value.specs.Tree as tree
 use Rattle.nd_value.specs.Tree.{Tree, Trees, node, none, more, Label, is_pointer, cell_in}
-use Rattle.nd_value.specs.Agreement.{Agreement, agreement, number_of}
-use Rattle.nd_value.specs.Setting.{Setting, root_list, root_at, cell_at, cell_home}
-use Rattle.nd_value.specs.Variables.{variable, starred, given_value, root_agreements}
+use Rattle.nd_value.specs.Agreement.{Agreement, number_of}
+use Rattle.nd_value.specs.Setting.{Setting, root_at, cell_at, cell_home}
+use Rattle.nd_value.specs.Variables.{starred, root_agreements}
 use Rattle.nd_value.proofs.Apart.{all_among}
+use Rattle.nd_value.proofs.SameVariables.{agreements_same}
 use Rattle.nd_grammar.specs.Entry.{Entry}
 use Rattle.nd_grammar.specs.InPlace.{tests}
 use Rattle.nd_grammar.specs.Stream.{root_test, root_tests}
@@ -100,19 +100,6 @@ module _ (two : Readings) (W X : List Pair → Type 0) (w : Setting) (g g' : Gra
       (root_test_by i t (node l ks) (node l' ks') m ags (class_of (type_at w.table t)) (is_pointer l) (cell_in l) (cell_in l') m.0.cells ms ns at next)))
 
   module _ (vars_same : (i : ℕ) (star : Bool) → starred g star (root_at g i) ≡ starred g' star (root_at g' i)) where
-    abbrev of_index : Graph → AttrVar → Option ℕ → Option ℤ
-    of_index k a o = elim o [ None ↦ given_value w a w.given | Some i ↦ starred k a.star (root_at k i) ]
-
-    index_same : (a : AttrVar) (o : Option ℕ) → of_index g a o ≡ of_index g' a o
-    index_same a None = refl
-    index_same a (Some i) = vars_same i a.star
-
-    variable_same : (a : AttrVar) → variable w g a ≡ variable w g' a
-    variable_same a = index_same a (root_index (root_list w) a.var 0)
-
-    agreements_same : (vars : List AttrVar) → root_agreements w g vars ≡ root_agreements w g' vars
-    agreements_same [] = refl
-    agreements_same (a ∷ rest) = ap₂ (λ u v. agreement a.attr u ++ v) (variable_same a) (agreements_same rest)
 
     -- each root has no attributes, or is carried
     abbrev pub RootsReady : List Root → List Tree → List Tree → Type 0
@@ -129,7 +116,7 @@ module _ (two : Readings) (W X : List Pair → Type 0) (w : Setting) (g g' : Gra
         subst (λ u. N at (u ++ ms) (root_test g' i v' (root_agreements w g' r.vars) ++ ns)) (sym none_left)
         (subst (λ u. N at ms (u ++ ns)) (sym none_right) (next at))
     one_root_next i r v v' (inr m) ms ns at next =
-        subst (λ u. N at (root_test g i v (root_agreements w g r.vars) ++ ms) (root_test g' i v' u ++ ns)) (agreements_same r.vars)
+        subst (λ u. N at (root_test g i v (root_agreements w g r.vars) ++ ms) (root_test g' i v' u ++ ns)) (agreements_same w g g' vars_same r.vars)
         (root_test_next i r.of v v' m (root_agreements w g r.vars) ms ns at next)
 
     pub root_tests_next : (i : ℕ) (rs : List Root) (vs vs' : List Tree) → RootsReady rs vs vs'

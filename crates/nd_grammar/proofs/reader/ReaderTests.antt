@@ -1,19 +1,19 @@
 -- The agreements of parameters, as the reader tries them before the pipes are read.
-use Rattle.std.proofs.Common.{◌≡◌, ℕ, ◌+◌, ℤ, Bool, true, false, List, [], ◌∷◌, ◌++◌, length, Option, Some, None, refl, ap, ap₂, sym, ◌∙◌, inl, inr, ◌⊎◌, subst, drop}
+use Rattle.std.proofs.Common.{◌≡◌, ℕ, ◌+◌, ℤ, Bool, true, false, List, [], ◌∷◌, ◌++◌, length, Some, None, refl, ap, ap₂, sym, ◌∙◌, inl, inr, ◌⊎◌, subst, drop}
 use Rattle.std.specs.List.{AllByRecursion}
 use Rattle.nd_base.specs.declared.octets.Order.{Order}
 use Rattle.nd_types.specs.declared.types.Attr.{Attr}
-use Rattle.nd_types.specs.declared.types.AttrVar.{AttrVar}
-use Rattle.nd_types.specs.Roots.{Root, root_index}
+use Rattle.nd_types.specs.Roots.{Root}
 use Rattle.nd_value.specs.declared.value.Graph.{Graph}
 use Rattle.nd_value.specs.declared.item.Home.{Home}
 use Rattle.nd_value.specs.declared.item.Home.TheVariants as home
 use Rattle.nd_value.specs.Tree as tree
 use Rattle.nd_value.specs.Tree.{Tree, Trees, node, none, more}
-use Rattle.nd_value.specs.Agreement.{Agreement, agreement, number_of, found_in}
-use Rattle.nd_value.specs.Setting.{Setting, root_list, root_at, cell_at, cell_home, unread}
-use Rattle.nd_value.specs.Variables.{starred, given_value, variable, root_agreements}
+use Rattle.nd_value.specs.Agreement.{Agreement, number_of, found_in}
+use Rattle.nd_value.specs.Setting.{Setting, root_at, cell_at, cell_home, unread}
+use Rattle.nd_value.specs.Variables.{starred, root_agreements}
 use Rattle.nd_value.proofs.Apart.{all_append}
+use Rattle.nd_value.proofs.SameVariables.{agreements_same}
 use Rattle.nd_grammar.specs.Entry.{Entry, Test}
 use Rattle.nd_grammar.specs.InPlace.{tests}
 use Rattle.nd_grammar.specs.Represents.{Spells}
@@ -78,19 +78,8 @@ module _ (w : Setting) (g g' : Graph) (cells : (c : ℕ) → cell_at g c ≡ cel
   starred_at b v v' (inl e) = starred_same b v ∙ ap (starred g' b) e
   starred_at b v v' (inr (x, y)) = starred_top g b v x ∙ sym (starred_top g' b v' y)
 
-  abbrev by_index : Graph → AttrVar → Option ℕ → Option ℤ
-  by_index k a o = elim o [ None ↦ given_value w a w.given | Some i ↦ starred k a.star (root_at k i) ]
-
-  variable_same : (a : AttrVar) → variable w g a ≡ variable w g' a
-  variable_same a = go (root_index (root_list w) a.var 0)
-    where
-      go : (o : Option ℕ) → by_index g a o ≡ by_index g' a o
-      go None = refl
-      go (Some i) = starred_at a.star (root_at g i) (root_at g' i) (roots i)
-
-  agreements_same : (vars : List AttrVar) → root_agreements w g vars ≡ root_agreements w g' vars
-  agreements_same [] = refl
-  agreements_same (a ∷ vars) = ap₂ (λ o r. agreement a.attr o ++ r) (variable_same a) (agreements_same vars)
+  pub roots_starred : (i : ℕ) (star : Bool) → starred g star (root_at g i) ≡ starred g' star (root_at g' i)
+  roots_starred i star = starred_at star (root_at g i) (root_at g' i) (roots i)
 
   test_same : (i : ℕ) (v : Tree) (ags : List Agreement) → root_test g i v ags ≡ root_test g' i v ags
   test_same i (node (tree.Ptr (Some c)) ks) ags = ap (λ u. tests (cell_home c) 0 u ags) (cells c)
@@ -115,4 +104,4 @@ module _ (w : Setting) (g g' : Graph) (cells : (c : ℕ) → cell_at g c ≡ cel
   tests_same i rs [] vs vs' a = no_tests g i rs vs a ∙ sym (no_tests g' i rs vs' a)
   tests_same i [] (u ∷ us) vs vs' a = refl
   tests_same i (r ∷ rs) (u ∷ us) vs vs' a =
-      ap₂ (λ x y. x ++ y) (test_same i u (root_agreements w g r.vars) ∙ ap (root_test g' i u) (agreements_same r.vars)) (tests_same (i + 1) rs us vs vs' a)
+      ap₂ (λ x y. x ++ y) (test_same i u (root_agreements w g r.vars) ∙ ap (root_test g' i u) (agreements_same w g g' roots_starred r.vars)) (tests_same (i + 1) rs us vs vs' a)

@@ -1,30 +1,29 @@
 -- A head and chunks up to the end of every pipe are a stream of the graph with their elements.
-use Rattle.std.proofs.Common.{◌≡◌, ◌<◌, ◌≤◌, ◌-◌, ◌∙◌, ◌⊎◌, inl, inr, ap, ap₂, sym, subst, refl, ℕ, ◌+◌, zero, suc, ℤ, true, false, Bool, List, [], ◌∷◌, ◌++◌, length, length-append, take, drop}
-use Rattle.std.proofs.Common.{Option, Some, None, arith}
+use Rattle.std.proofs.Common.{◌≡◌, ◌<◌, ◌≤◌, ◌-◌, ◌∙◌, ◌⊎◌, inl, inr, ap, ap₂, sym, subst, refl, ℕ, ◌+◌, zero, suc, List, [], ◌∷◌, ◌++◌, length, length-append, take, drop}
+use Rattle.std.proofs.Common.{arith}
 use Rattle.std.specs.List.{AllByRecursion, slice_get}
 use Rattle.std.proofs.lemmas.List.{append-nil}
 use Rattle.nd_base.specs.declared.octets.Order.{Order}
 use Rattle.nd_base.specs.declared.TheConstants.{STREAM_LIMIT}
-use Rattle.nd_types.specs.Roots.{Root, root_index}
+use Rattle.nd_types.specs.Roots.{Root}
 use Rattle.nd_types.specs.declared.types.AttrVar.{AttrVar}
-use Rattle.nd_value.specs.Agreement.{agreement, number_of}
-use Rattle.nd_value.specs.Variables.{given_value, root_agreements, starred, variable}
+use Rattle.nd_value.specs.Variables.{root_agreements}
 use Rattle.nd_value.specs.declared.value.Graph.{Graph}
 use Rattle.nd_value.specs.declared.item.Home.TheVariants as home
-use Rattle.nd_value.specs.Tree as tree
 use Rattle.nd_value.specs.Tree.{Tree, node, none, trees}
 use Rattle.nd_value.specs.Setting.{Setting, root_list, root_at, cell_at, or_unread}
 use Rattle.nd_value.specs.Conforms.{Conforms}
 use Rattle.nd_value.specs.Deferral.{due_roots, before_pipes}
 use Rattle.nd_value.proofs.Apart.{all_weaker}
 use Rattle.nd_value.proofs.FewRoots.{few_before_pipes}
+use Rattle.nd_value.proofs.SameVariables.{agreements_same}
 use Rattle.nd_grammar.specs.Entry.{Entry, end_of, end_to_end, full_cells}
 use Rattle.nd_grammar.specs.LegalSide.{IsLegalSide}
 use Rattle.nd_grammar.specs.Represents.{Represents, IsNumbering, IsRendered}
 use Rattle.nd_grammar.specs.Stream.{Stream, AllCut, Cuts, chunks, head_entries, pipes_entries, representation, root_tests}
 use Rattle.nd_grammar.proofs.LegalSides.{laid_out}
 use Rattle.nd_grammar.proofs.next.NextStream.{IsPipeRoot}
-use Rattle.nd_grammar.proofs.reader.ReaderTests.{SameTop, Top, tests_same}
+use Rattle.nd_grammar.proofs.reader.ReaderTests.{SameTop, Top, tests_same, roots_starred}
 use Rattle.ndr_drain_laws.specs.parts.Parts.{AreParts, AreReadTo, HasEmptyPipes, IsHead, Part, Spot, after, after_all, elem_at, empty_pipe, first_spot, octets_of, pipes_by, pipes_of, with_pipes}
 use Rattle.ndr_drain_laws.proofs.parts.Chunks.{Joins, joins, count_trees, parts_entries, pipes_open}
 use Rattle.ndr_drain_laws.proofs.parts.Heads.{IsEarly, early_roots, same_deferral, same_steps}
@@ -113,39 +112,6 @@ all_joined w side order head parts a e = go (cases_lt (before_pipes (root_list w
     go (inl h) = some_left w side order head parts a e h
     go (inr h) = none_left w order head parts a h
 
--- the numbers of parameters are the same in graphs with the same cells and tops
-module _ (w : Setting) (g g' : Graph) (cells : (c : ℕ) → cell_at g c ≡ cell_at g' c) (roots : (i : ℕ) → SameTop (root_at g i) (root_at g' i)) where
-  starred_top : (k : Graph) (b : Bool) (v : Tree) → Top v → starred k b v ≡ None
-  starred_top k true v (inl e) = ap (starred k true) e
-  starred_top k false v (inl e) = ap (starred k false) e
-  starred_top k true v (inr (ks, e)) = ap (starred k true) e
-  starred_top k false v (inr (ks, e)) = ap (starred k false) e
-
-  starred_same : (b : Bool) (v : Tree) → starred g b v ≡ starred g' b v
-  starred_same false v = refl
-  starred_same true (node (tree.Ptr (Some c)) ks) = ap number_of (cells c)
-  starred_same true (node (tree.Ptr None) ks) = refl
-  starred_same true (node (tree.Num z) ks) = refl
-  starred_same true (node l ks) = refl
-
-  starred_at : (b : Bool) (v v' : Tree) → SameTop v v' → starred g b v ≡ starred g' b v'
-  starred_at b v v' (inl e) = starred_same b v ∙ ap (starred g' b) e
-  starred_at b v v' (inr (x, y)) = starred_top g b v x ∙ sym (starred_top g' b v' y)
-
-  abbrev by_index : Graph → AttrVar → Option ℕ → Option ℤ
-  by_index k a o = elim o [ None ↦ given_value w a w.given | Some i ↦ starred k a.star (root_at k i) ]
-
-  variable_same : (a : AttrVar) → variable w g a ≡ variable w g' a
-  variable_same a = go (root_index (root_list w) a.var 0)
-    where
-      go : (o : Option ℕ) → by_index g a o ≡ by_index g' a o
-      go None = refl
-      go (Some i) = starred_at a.star (root_at g i) (root_at g' i) (roots i)
-
-  pub agreements_same : (vars : List AttrVar) → root_agreements w g vars ≡ root_agreements w g' vars
-  agreements_same [] = refl
-  agreements_same (a ∷ vars) = ap₂ (λ o r. agreement a.attr o ++ r) (variable_same a) (agreements_same vars)
-
 -- ## The stream
 
 -- The roots before the pipes, and the agreements of parameters, are the same in two graphs.
@@ -232,7 +198,7 @@ module _ (w : Setting) (side : IsLegalSide w) (order : Order) (head : List ℕ) 
 
   -- The graph that is kept, and that with the elements.
   pub same : Same w g G
-  same = record { first_roots = first_roots; roots_are = roots_are; agreements = agreements_same w g G cells tops }
+  same = record { first_roots = first_roots; roots_are = roots_are; agreements = agreements_same w g G (roots_starred w g G cells tops) }
 
 -- the octets are within the limit of a stream
 pub parts_within : (w : Setting) (order : Order) (ps : List Part) (s : Spot) → AreParts w order s ps → s.place ≤ STREAM_LIMIT → s.place + length (octets_of ps) ≤ STREAM_LIMIT
