@@ -7,7 +7,7 @@
                 name in it; so does each name that is used by the short name of a file
     unused      each public name of `specs/` and `proofs/` is used: by a file that imports it, or in its own file
                 outside its own definition. Examples are for readers, and their names are not looked at
-    repeated    no statement of a lemma is in three files. `tests/cases/sources.py` does not ask for this one
+    repeated    no statement of a lemma is in three files
 
 What the toolchain makes from Rust (`declared`, `contracts`, `Goals`) is not looked at.
 """

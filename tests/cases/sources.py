@@ -20,6 +20,7 @@ FILES = {
     "crates/top/src/lib.rt": "ghost use Rattle.low.specs.Sums.{sum};\n#[tactic(auto, using(low::proofs::Laws::one))]\nfn f() {}\n",
 }
 LAWS = FILES["crates/low/proofs/Laws.antt"]
+LEMMA = "same : (x : ℕ) → x ≡ x\nsame x = refl\n"
 WRONG = [
     ({"crates/top/proofs/Top.antt": "use Rattle.low.specs.Sums.{sums}\n"}, "Rattle.low.specs.Sums has no public sums"),
     ({"crates/top/proofs/Top.antt": "use Rattle.low.proofs.Sums.{sum}\n"}, "there is no Rattle.low.proofs.Sums"),
@@ -31,6 +32,8 @@ WRONG = [
     ({"crates/low/proofs/Laws.antt": LAWS + "\n-- two\npub two : ℕ → ℕ\ntwo zero = two zero\n"}, "nothing uses two"),
     ({"crates/low/proofs/Laws.antt": LAWS.replace(" little", "")}, "nothing uses Kind"),
     ({"crates/top/src/lib.rt": "fn f() {}\n"}, "nothing uses one"),
+    ({f"crates/top/proofs/{name}.antt": LEMMA for name in ("One", "Two", "Three")}, "Three.antt, crates/top/proofs/Two.antt: (x : ℕ) → x ≡ x"),
+    ({f"crates/top/proofs/{name}.antt": LEMMA for name in ("One", "Two")}, "(x : ℕ) → x ≡ x", False),
 ]
 
 
@@ -41,7 +44,7 @@ def faults_with(more) -> list:
             path = Path(folder, name)
             path.parent.mkdir(parents=True, exist_ok=True)
             path.write_text(text, encoding="utf-8")
-        return sources.imports(Path(folder)) + sources.unused(Path(folder))
+        return sources.imports(Path(folder)) + sources.unused(Path(folder)) + sources.repeated(Path(folder))
 
 
 def find() -> list:
@@ -56,5 +59,6 @@ def find() -> list:
 CASES = [
     Check("sources: imports find what they name", sources.imports),
     Check("sources: public names are used", sources.unused),
+    Check("sources: statements of lemmas are in two files at most", sources.repeated),
     Check("sources: what is wrong is found", find),
 ]
