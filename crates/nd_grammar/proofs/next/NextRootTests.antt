@@ -100,7 +100,6 @@ module _ (two : Readings) (W X : List Pair → Type 0) (w : Setting) (g g' : Gra
       (root_test_by i t (node l ks) (node l' ks') m ags (class_of (type_at w.table t)) (is_pointer l) (cell_in l) (cell_in l') m.0.cells ms ns at next)))
 
   module _ (vars_same : (i : ℕ) (star : Bool) → starred g star (root_at g i) ≡ starred g' star (root_at g' i)) where
-
     -- each root has no attributes, or is carried
     abbrev pub RootsReady : List Root → List Tree → List Tree → Type 0
     RootsReady (r ∷ rs) (v ∷ vs) (v' ∷ vs') = ((r.vars ≡ []) ⊎ Matched (InMap ys) w.table (r.of ∷ []) (more v none) (more v' none)) × RootsReady rs vs vs'
