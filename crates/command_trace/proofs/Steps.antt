@@ -5,7 +5,7 @@ use Rattle.std.proofs.lemmas.List.{append-nil, length-append}
 use Rattle.nd_base.specs.declared.octets.Memory.{Memory as NoMemory}
 use Rattle.nd_base.specs.declared.octets.Order.{Order}
 use Rattle.nd_base.specs.Over.{SourceSeen}
-use Rattle.nd_base.proofs.Taken.{rest_of, parts_of, none_left}
+use Rattle.nd_base.proofs.Consumed.{rest_of, parts_of, none_left}
 use Rattle.nd_types.specs.declared.interface.Interface.{Interface}
 use Rattle.nd_types.specs.declared.types.Operation.{Operation}
 use Rattle.nd_types.specs.declared.types.Side.{Side}

@@ -1,7 +1,7 @@
 -- What is joined of octets that are lent.
 use Rattle.std.proofs.Common.{◌≡◌, ℕ, List, [], Some, subst}
 use Rattle.nd_base.specs.Over.{SourceSeen}
-use Rattle.nd_base.proofs.Taken.{rest_of, parts_of}
+use Rattle.nd_base.proofs.Consumed.{rest_of, parts_of}
 use Rattle.rpc_pdu.specs.declared.pdu.Joined.{Joined}
 use Rattle.rpc_pdu.specs.declared.pdu.Wanted.{Wanted}
 use Rattle.rpc_pdu.specs.declared.pdu.PduFault.{PduFault}
