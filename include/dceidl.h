@@ -7,8 +7,11 @@
    frees what it held before. To free a handle leaves it holding nothing, so it may be freed twice and used again. Values keep what they need of their
    interface: either may be freed first.
 
-   Answers. Each call but the frees answers a status. Unless DCEIDL_OK, the handles that it would fill and the octets of a buffer are as before, except
-   where a comment says otherwise; numbers that it would set may be either. The fault is set at DCEIDL_REFUSED alone.
+   Answers. Each call but the frees answers a status. A handle that holds nothing, or not what the call needs, is answered by DCEIDL_EMPTY before anything
+   else is looked at. Unless the answer is DCEIDL_OK, what a call would fill, set or write is as before, except that DCEIDL_SHORT sets the length or count
+   that is needed. The fault is filled at DCEIDL_REFUSED alone, and the number of a wrong node is set at DCEIDL_WRONG_NODE alone.
+
+   Buffers. At DCEIDL_OK a call has written as many octets or numbers to the front of a buffer as the length or count says, and the rest of it is as before.
    To learn how long a buffer must be, call with room 0 and the address of any octet: the length is set, and the answer is DCEIDL_SHORT, or
    DCEIDL_OK where the length is 0.
 

@@ -1,6 +1,6 @@
 -- What is answered of fragments, of labels and of versions, from what the calls below answer.
-use Rattle.std.proofs.Common.{◌≡◌, ◌∙◌, ℕ, ◌<◌, ◌≤◌, List, length, Option, Some, None, Ok, Bool, false, ◌&&◌, is_some, nat_le, IsSomeAnd, IsOkAnd, sym, ap, subst}
-use Rattle.std.proofs.lemmas.Bool.{lt-leb}
+use Rattle.std.proofs.Common.{◌≡◌, ◌∙◌, ℕ, ◌<◌, ◌≤◌, List, length, Option, Some, None, Ok, Bool, true, false, ◌&&◌, is_some, nat_le, IsSomeAnd, IsOkAnd, refl, sym, ap, subst}
+use Rattle.std.proofs.lemmas.Bool.{lt-leb, le-leb}
 use Rattle.std.proofs.Math.Bool.{and-false}
 use Rattle.nd_base.specs.declared.TheConstants.{STREAM_LIMIT}
 use Rattle.nd_base.specs.declared.octets.Order.{Order}
@@ -65,7 +65,7 @@ pub pieces_are : (side operation order call most : ℕ) (stub : List ℕ) (many 
 pieces_are side operation order call most stub many h r head_is order_is (octets, split, many_are) =
     record { octets = octets; split = split_is side operation order call most stub octets h r head_is order_is split; many_are = many_are }
 
--- ## Numbers that mean nothing
+-- ## Whether stub data can be split
 
 module _ (side operation order most wide : ℕ) where
   pub no_head : None ≡ head_numbered side operation → can_split side operation order most wide ≡ false
@@ -91,6 +91,16 @@ module _ (side operation order most wide : ℕ) where
 
   pub long_stub : STREAM_LIMIT < wide → can_split side operation order most wide ≡ false
   long_stub more = after_few (ap (λ (b : Bool). nat_le most 65535 && b) (lt-leb wide STREAM_LIMIT more) ∙ and-false (nat_le most 65535))
+
+  -- numbers that mean something
+  pub splits : (h : Head) (r : Order) → Some h ≡ head_numbered side operation → Some r ≡ order_numbered order → 1024 ≤ most → most ≤ 65535 → wide ≤ STREAM_LIMIT
+      → can_split side operation order most wide ≡ true
+  splits h r head_is order_is enough narrow short =
+      ap (λ (x : Option Head). is_some x && (is_some (order_numbered order) && (nat_le 1024 most && (nat_le most 65535 && nat_le wide STREAM_LIMIT)))) (sym head_is)
+      ∙ ap (λ (x : Option Order). is_some x && (nat_le 1024 most && (nat_le most 65535 && nat_le wide STREAM_LIMIT))) (sym order_is)
+      ∙ ap (λ (b : Bool). b && (nat_le most 65535 && nat_le wide STREAM_LIMIT)) (le-leb 1024 most enough)
+      ∙ ap (λ (b : Bool). b && nat_le wide STREAM_LIMIT) (le-leb most 65535 narrow)
+      ∙ le-leb wide STREAM_LIMIT short
 
 -- ## Format labels
 

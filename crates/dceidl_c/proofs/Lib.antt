@@ -4,6 +4,7 @@ pub mod Texts
 pub mod Files
 pub mod Calls
 pub mod Logs
+pub mod Buffers
 pub mod Copies
 pub mod Named
 pub mod Listings

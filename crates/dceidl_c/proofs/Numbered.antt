@@ -1,6 +1,7 @@
 -- What numbers mean.
-use Rattle.std.proofs.Common.{◌≡◌, ◌∙◌, ℕ, ◌<◌, ◌≤◌, List, length, Option, Some, None, Bool, false, ◌&&◌, is_some, nat_lt, IsSomeAnd, sym, ap, subst}
+use Rattle.std.proofs.Common.{◌≡◌, ◌∙◌, ℕ, zero, suc, ◌<◌, ◌≤◌, List, length, Option, Some, None, Bool, true, false, ◌&&◌, is_some, nat_lt, IsSomeAnd, refl, sym, ap, subst, arith}
 use Rattle.std.specs.List.{slice_get}
+use Rattle.std.proofs.lemmas.Bool.{lt-ltb}
 use Rattle.std.proofs.lemmas.Option.{slice_get_past}
 use Rattle.std.proofs.Math.Bool.{and-false}
 use Rattle.nd_lemmas.proofs.Lists.{item_at}
@@ -51,3 +52,12 @@ no_layout_order order chunk is = ap (λ (r : Option Order). is_some r && nat_lt 
 
 pub no_chunk : (order chunk : ℕ) → chunk ≡ 0 → is_layout order chunk ≡ false
 no_chunk order chunk is = ap (λ n. is_some (order_numbered order) && nat_lt 0 n) is ∙ and-false (is_some (order_numbered order))
+
+-- ## Numbers that mean something
+
+positive : (n : ℕ) → (n ≡ 0 → ⊥) → 0 < n
+positive zero some = absurd (some refl)
+positive (suc n) some = omega arith
+
+pub layout_is : (order chunk : ℕ) (r : Order) → Some r ≡ order_numbered order → (chunk ≡ 0 → ⊥) → is_layout order chunk ≡ true
+layout_is order chunk r is some = ap (λ (x : Option Order). is_some x && nat_lt 0 chunk) (sym is) ∙ lt-ltb 0 chunk (positive chunk some)

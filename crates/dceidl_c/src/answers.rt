@@ -1,5 +1,5 @@
 // What calls answer, and what they fill.
-ghost use Rattle.std.specs.Prelude.{◌≡◌, ◌≤◌, ◌<◌, length, take, Some};
+ghost use Rattle.std.specs.Prelude.{◌≡◌, ◌≤◌, ◌<◌, length, take, drop, Some};
 ghost use Rattle.command_refusals.specs.declared.refusal.Refusal.TheVariants.{Memory};
 ghost use Rattle.library_handles.specs.declared.held.Held.TheVariants as kept;
 
@@ -33,10 +33,12 @@ pub(crate) const WRONG_NODE: u32 = 7;
 
 // Fills a handle. The box of a full one is kept.
 pub(crate) fn fill(alloc: Global, handle: &mut Handle, held: Held) -> u32
-    ensures known { result ≤ ABSENT }
+    ensures known { result ≤ MEMORY }
     ensures not_empty { result ≡ EMPTY → ⊥ }
     ensures not_argument { result ≡ ARGUMENT → ⊥ }
+    ensures not_short { result ≡ SHORT → ⊥ }
     ensures not_refused { result ≡ REFUSED → ⊥ }
+    ensures not_absent { result ≡ ABSENT → ⊥ }
     ensures filled { result ≡ OK → handle.new.value ≡ Some held }
     ensures kept { (result ≡ OK → ⊥) → handle.new.value ≡ handle.old.value }
 {
@@ -50,10 +52,12 @@ pub(crate) fn fill(alloc: Global, handle: &mut Handle, held: Held) -> u32
 
 // Fills a handle with a box of its own.
 fn fill_empty(alloc: Global, handle: &mut Handle, held: Held) -> u32
-    ensures known { result ≤ ABSENT }
+    ensures known { result ≤ MEMORY }
     ensures not_empty { result ≡ EMPTY → ⊥ }
     ensures not_argument { result ≡ ARGUMENT → ⊥ }
+    ensures not_short { result ≡ SHORT → ⊥ }
     ensures not_refused { result ≡ REFUSED → ⊥ }
+    ensures not_absent { result ≡ ABSENT → ⊥ }
     ensures filled { result ≡ OK → handle.new.value ≡ Some held }
     ensures kept { (result ≡ OK → ⊥) → handle.new.value ≡ handle.old.value }
 {
@@ -68,10 +72,11 @@ fn fill_empty(alloc: Global, handle: &mut Handle, held: Held) -> u32
 
 // Fills the handle of a fault. That memory was refused is no fault.
 pub(crate) fn refuse(alloc: Global, fault: &mut Handle, refusal: Refusal) -> u32
-    ensures known { result ≤ ABSENT }
+    ensures known { result ≤ REFUSED }
     ensures not_empty { result ≡ EMPTY → ⊥ }
     ensures not_argument { result ≡ ARGUMENT → ⊥ }
     ensures not_short { result ≡ SHORT → ⊥ }
+    ensures not_absent { result ≡ ABSENT → ⊥ }
     ensures not_ok { result ≡ OK → ⊥ }
     ensures reason { result ≡ REFUSED → refusal ≡ Memory → ⊥ }
     ensures refused { result ≡ REFUSED → fault.new.value ≡ Some (kept.Refusal refusal) }
@@ -89,15 +94,20 @@ pub(crate) fn refuse(alloc: Global, fault: &mut Handle, refusal: Refusal) -> u32
     }
 }
 
-// Lays out octets at the front of a buffer, if it has room for them, and says how many they are.
+// Lays out octets at the front of a buffer, if it has room for them, and says how many they are. The rest stays as it was.
+#[tactic(auto, using(crate::proofs::Buffers::rest_kept))]
 pub(crate) fn lay_out(octets: &[u8], out: &mut [u8], len: &mut usize) -> u32
-    ensures known { result ≤ ABSENT }
+    ensures known { result ≤ SHORT }
     ensures not_empty { result ≡ EMPTY → ⊥ }
     ensures not_argument { result ≡ ARGUMENT → ⊥ }
+    ensures not_memory { result ≡ MEMORY → ⊥ }
     ensures not_refused { result ≡ REFUSED → ⊥ }
     ensures len { len.new ≡ length octets.now }
     ensures done { result ≡ OK → take len.new out.new ≡ octets.now }
+    ensures rest { result ≡ OK → drop len.new out.new ≡ drop len.new out.old }
+    ensures room { result ≡ OK → len.new ≤ length out.old }
     ensures short { result ≡ SHORT → length out.old < len.new }
+    ensures len_kept { (result ≡ OK → ⊥) → (result ≡ SHORT → ⊥) → len.new ≡ len.old }
     ensures kept { (result ≡ OK → ⊥) → out.new ≡ out.old }
 {
     *len = octets.len();

@@ -7,7 +7,7 @@ ghost use Rattle.dceidl_c.specs.Answers.{interface_in, values_in, refusal_in, is
 ghost use Rattle.dceidl_c.specs.Building.{IsBuild, IsBuildRefusal, IsWrongNode, IsBuiltReply, IsBuiltReplyRefusal, IsWrongReplyNode};
 ghost use Rattle.dceidl_c.specs.Building.{IsCellType, has_cell};
 
-use crate::answers::{ABSENT, ARGUMENT, EMPTY, OK, REFUSED, WRONG_NODE, refuse};
+use crate::answers::{ABSENT, ARGUMENT, EMPTY, OK, REFUSED, SHORT, WRONG_NODE, refuse};
 use crate::numbers::side_of;
 use crate::reading::{fill_values, is_request};
 use library_building::{BuildFault, Listing, build, build_response};
@@ -30,9 +30,12 @@ pub extern "C" fn dceidl_build(
     fault: &mut Handle,
 ) -> u32
     ensures known { result ≤ WRONG_NODE }
+    ensures not_short { result ≡ SHORT → ⊥ }
+    ensures not_absent { result ≡ ABSENT → ⊥ }
     ensures same { interface.new.value ≡ interface.old.value }
     ensures built { result ≡ OK → IsSomeAnd (interface_in interface.old.value)
         (λ i. IsSomeAnd (values_in values.new.value) (λ v. IsBuild i operation side listing.now v)) }
+    ensures few { result ≡ OK → has_too_many listing.now ≡ false }
     ensures refused { result ≡ REFUSED → IsSomeAnd (interface_in interface.old.value)
         (λ i. IsSomeAnd (refusal_in fault.new.value) (λ e. IsBuildRefusal i operation side listing.now e)) }
     ensures wrong { result ≡ WRONG_NODE → IsSomeAnd (interface_in interface.old.value) (λ i. IsWrongNode i operation side listing.now node.new) }
@@ -40,6 +43,7 @@ pub extern "C" fn dceidl_build(
         (λ i. is_side i operation side ≡ true → has_too_many listing.now ≡ true) }
     ensures empty { result ≡ EMPTY → interface_in interface.old.value ≡ None }
     ensures values_kept { (result ≡ OK → ⊥) → values.new.value ≡ values.old.value }
+    ensures node_kept { (result ≡ WRONG_NODE → ⊥) → node.new ≡ node.old }
     ensures fault_kept { (result ≡ REFUSED → ⊥) → fault.new.value ≡ fault.old.value }
 {
     let Some(held) = interface.take(alloc) else {
@@ -69,13 +73,17 @@ fn build_values(
 ) -> u32
     ensures known { result ≤ WRONG_NODE }
     ensures not_empty { result ≡ EMPTY → ⊥ }
+    ensures not_short { result ≡ SHORT → ⊥ }
+    ensures not_absent { result ≡ ABSENT → ⊥ }
     ensures built { result ≡ OK → IsSomeAnd (values_in values.new.value)
         (λ v. IsBuild (arc_value compiled.now) operation side listing.now v) }
+    ensures few { result ≡ OK → has_too_many listing.now ≡ false }
     ensures refused { result ≡ REFUSED → IsSomeAnd (refusal_in fault.new.value)
         (λ e. IsBuildRefusal (arc_value compiled.now) operation side listing.now e) }
     ensures wrong { result ≡ WRONG_NODE → IsWrongNode (arc_value compiled.now) operation side listing.now node.new }
     ensures argument { result ≡ ARGUMENT → is_side (arc_value compiled.now) operation side ≡ true → has_too_many listing.now ≡ true }
     ensures values_kept { (result ≡ OK → ⊥) → values.new.value ≡ values.old.value }
+    ensures node_kept { (result ≡ WRONG_NODE → ⊥) → node.new ≡ node.old }
     ensures fault_kept { (result ≡ REFUSED → ⊥) → fault.new.value ≡ fault.old.value }
 {
     let Some(side) = side_of(side) else {
@@ -106,15 +114,20 @@ pub extern "C" fn dceidl_build_response(
     fault: &mut Handle,
 ) -> u32
     ensures known { result ≤ WRONG_NODE }
+    ensures not_short { result ≡ SHORT → ⊥ }
+    ensures not_absent { result ≡ ABSENT → ⊥ }
     ensures same { request.new.value ≡ request.old.value }
     ensures built { result ≡ OK → IsSomeAnd (values_in request.old.value)
         (λ q. IsSomeAnd (values_in values.new.value) (λ v. IsBuiltReply q listing.now v)) }
+    ensures few { result ≡ OK → has_too_many listing.now ≡ false }
     ensures refused { result ≡ REFUSED → IsSomeAnd (values_in request.old.value)
         (λ q. IsSomeAnd (refusal_in fault.new.value) (λ e. IsBuiltReplyRefusal q listing.now e)) }
     ensures wrong { result ≡ WRONG_NODE → IsSomeAnd (values_in request.old.value) (λ q. IsWrongReplyNode q listing.now node.new) }
     ensures argument { result ≡ ARGUMENT → IsSomeAnd (values_in request.old.value) (λ q. q.side ≡ In → has_too_many listing.now ≡ true) }
+    ensures request { (result ≡ EMPTY → ⊥) → (result ≡ ARGUMENT → ⊥) → IsSomeAnd (values_in request.old.value) (λ q. q.side ≡ In) }
     ensures empty { result ≡ EMPTY → values_in request.old.value ≡ None }
     ensures values_kept { (result ≡ OK → ⊥) → values.new.value ≡ values.old.value }
+    ensures node_kept { (result ≡ WRONG_NODE → ⊥) → node.new ≡ node.old }
     ensures fault_kept { (result ≡ REFUSED → ⊥) → fault.new.value ≡ fault.old.value }
 {
     let Some(held) = request.take(alloc) else {
@@ -140,11 +153,16 @@ fn build_reply(
 ) -> u32
     ensures known { result ≤ WRONG_NODE }
     ensures not_empty { result ≡ EMPTY → ⊥ }
+    ensures not_short { result ≡ SHORT → ⊥ }
+    ensures not_absent { result ≡ ABSENT → ⊥ }
     ensures built { result ≡ OK → IsSomeAnd (values_in values.new.value) (λ v. IsBuiltReply given.now listing.now v) }
+    ensures few { result ≡ OK → has_too_many listing.now ≡ false }
     ensures refused { result ≡ REFUSED → IsSomeAnd (refusal_in fault.new.value) (λ e. IsBuiltReplyRefusal given.now listing.now e) }
     ensures wrong { result ≡ WRONG_NODE → IsWrongReplyNode given.now listing.now node.new }
     ensures argument { result ≡ ARGUMENT → given.now.side ≡ In → has_too_many listing.now ≡ true }
+    ensures request { (result ≡ ARGUMENT → ⊥) → given.now.side ≡ In }
     ensures values_kept { (result ≡ OK → ⊥) → values.new.value ≡ values.old.value }
+    ensures node_kept { (result ≡ WRONG_NODE → ⊥) → node.new ≡ node.old }
     ensures fault_kept { (result ≡ REFUSED → ⊥) → fault.new.value ≡ fault.old.value }
 {
     if !is_request(given) {
@@ -171,11 +189,12 @@ pub extern "C" fn dceidl_cell_type(
     cell: u32,
     of: &mut u32,
 ) -> u32
-    ensures known { result ≤ ABSENT }
+    ensures known { result ≤ ARGUMENT }
     ensures same { values.new.value ≡ values.old.value }
     ensures found { result ≡ OK → IsSomeAnd (values_in values.old.value) (λ v. IsCellType v.graph cell of.new) }
     ensures argument { result ≡ ARGUMENT → IsSomeAnd (values_in values.old.value) (λ v. has_cell v.graph cell ≡ false) }
     ensures empty { result ≡ EMPTY → values_in values.old.value ≡ None }
+    ensures of_kept { (result ≡ OK → ⊥) → of.new ≡ of.old }
 {
     let Some(held) = values.take(alloc) else {
         return EMPTY;
@@ -191,10 +210,11 @@ pub extern "C" fn dceidl_cell_type(
 // The type of a cell.
 #[tactic(auto, using(crate::proofs::Listings::no_cell, crate::proofs::Listings::past_cells))]
 fn set_cell_type(values: &Values, cell: u32, of: &mut u32) -> u32
-    ensures known { result ≤ ABSENT }
+    ensures known { result ≤ ARGUMENT }
     ensures not_empty { result ≡ EMPTY → ⊥ }
     ensures found { result ≡ OK → IsCellType values.now.graph cell of.new }
     ensures argument { result ≡ ARGUMENT → has_cell values.now.graph cell ≡ false }
+    ensures of_kept { (result ≡ OK → ⊥) → of.new ≡ of.old }
 {
     if cell == 0 {
         return ARGUMENT;

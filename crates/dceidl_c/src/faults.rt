@@ -1,11 +1,11 @@
 // Faults.
-ghost use Rattle.std.specs.Prelude.{◌≡◌, ◌≤◌, ◌<◌, [], length, take, None, IsSomeAnd};
+ghost use Rattle.std.specs.Prelude.{◌≡◌, ◌≤◌, ◌<◌, [], length, take, drop, None, IsSomeAnd};
 ghost use Rattle.command_refusals.specs.Lines.{line_of};
 ghost use Rattle.library_faults.specs.Causes.{IsCauseOf};
 ghost use Rattle.library_faults.specs.Names.{file_of, name_of};
 ghost use Rattle.dceidl_c.specs.Answers.{refusal_in};
 
-use crate::answers::{ABSENT, EMPTY, MEMORY, OK, SHORT, lay_out};
+use crate::answers::{ARGUMENT, EMPTY, MEMORY, OK, SHORT, lay_out};
 use crate::interfaces::free;
 use command_refusals::{Refusal, line};
 use library_faults::{Cause, cause_of, file, name};
@@ -15,10 +15,11 @@ use std::alloc::Global;
 /// Why a call was refused, in numbers.
 #[unsafe(no_mangle)]
 pub extern "C" fn dceidl_fault_cause(alloc: Global, fault: &mut Handle, cause: &mut Cause) -> u32
-    ensures known { result ≤ ABSENT }
+    ensures known { result ≤ EMPTY }
     ensures same { fault.new.value ≡ fault.old.value }
     ensures cause { result ≡ OK → IsSomeAnd (refusal_in fault.old.value) (λ r. IsCauseOf r cause.new) }
     ensures empty { result ≡ EMPTY → refusal_in fault.old.value ≡ None }
+    ensures cause_kept { (result ≡ OK → ⊥) → cause.new ≡ cause.old }
 {
     let Some(held) = fault.take(alloc) else {
         return EMPTY;
@@ -42,12 +43,17 @@ pub extern "C" fn dceidl_fault_file(
     out: &mut [u8],
     len: &mut usize,
 ) -> u32
-    ensures known { result ≤ ABSENT }
+    ensures known { result ≤ SHORT }
+    ensures not_argument { result ≡ ARGUMENT → ⊥ }
+    ensures not_memory { result ≡ MEMORY → ⊥ }
     ensures same { fault.new.value ≡ fault.old.value }
     ensures written { result ≡ OK → IsSomeAnd (refusal_in fault.old.value) (λ r. take len.new out.new ≡ file_of r) }
+    ensures rest { result ≡ OK → drop len.new out.new ≡ drop len.new out.old }
+    ensures room { result ≡ OK → len.new ≤ length out.old }
     ensures short { result ≡ SHORT → IsSomeAnd (refusal_in fault.old.value) (λ r. (len.new ≡ length (file_of r)) × (length out.old < len.new)) }
     ensures empty { result ≡ EMPTY → refusal_in fault.old.value ≡ None }
     ensures kept { (result ≡ OK → ⊥) → out.new ≡ out.old }
+    ensures len_kept { (result ≡ OK → ⊥) → (result ≡ SHORT → ⊥) → len.new ≡ len.old }
 {
     let Some(held) = fault.take(alloc) else {
         return EMPTY;
@@ -68,12 +74,17 @@ pub extern "C" fn dceidl_fault_name(
     out: &mut [u8],
     len: &mut usize,
 ) -> u32
-    ensures known { result ≤ ABSENT }
+    ensures known { result ≤ SHORT }
+    ensures not_argument { result ≡ ARGUMENT → ⊥ }
+    ensures not_memory { result ≡ MEMORY → ⊥ }
     ensures same { fault.new.value ≡ fault.old.value }
     ensures written { result ≡ OK → IsSomeAnd (refusal_in fault.old.value) (λ r. take len.new out.new ≡ name_of r) }
+    ensures rest { result ≡ OK → drop len.new out.new ≡ drop len.new out.old }
+    ensures room { result ≡ OK → len.new ≤ length out.old }
     ensures short { result ≡ SHORT → IsSomeAnd (refusal_in fault.old.value) (λ r. (len.new ≡ length (name_of r)) × (length out.old < len.new)) }
     ensures empty { result ≡ EMPTY → refusal_in fault.old.value ≡ None }
     ensures kept { (result ≡ OK → ⊥) → out.new ≡ out.old }
+    ensures len_kept { (result ≡ OK → ⊥) → (result ≡ SHORT → ⊥) → len.new ≡ len.old }
 {
     let Some(held) = fault.take(alloc) else {
         return EMPTY;
@@ -94,13 +105,17 @@ pub extern "C" fn dceidl_fault_line(
     out: &mut [u8],
     len: &mut usize,
 ) -> u32
-    ensures known { result ≤ ABSENT }
+    ensures known { result ≤ SHORT }
+    ensures not_argument { result ≡ ARGUMENT → ⊥ }
     ensures same { fault.new.value ≡ fault.old.value }
     ensures written { result ≡ OK → IsSomeAnd (refusal_in fault.old.value) (λ r. take len.new out.new ≡ line_of [] [] r) }
+    ensures rest { result ≡ OK → drop len.new out.new ≡ drop len.new out.old }
+    ensures room { result ≡ OK → len.new ≤ length out.old }
     ensures short { result ≡ SHORT → IsSomeAnd (refusal_in fault.old.value)
         (λ r. (len.new ≡ length (line_of [] [] r)) × (length out.old < len.new)) }
     ensures empty { result ≡ EMPTY → refusal_in fault.old.value ≡ None }
     ensures kept { (result ≡ OK → ⊥) → out.new ≡ out.old }
+    ensures len_kept { (result ≡ OK → ⊥) → (result ≡ SHORT → ⊥) → len.new ≡ len.old }
 {
     let Some(held) = fault.take(alloc) else {
         return EMPTY;
@@ -115,11 +130,15 @@ pub extern "C" fn dceidl_fault_line(
 
 // Writes the line that reports a refusal.
 fn write_line(alloc: Global, refusal: &Refusal, out: &mut [u8], len: &mut usize) -> u32
-    ensures known { result ≤ ABSENT }
+    ensures known { result ≤ SHORT }
     ensures not_empty { result ≡ EMPTY → ⊥ }
+    ensures not_argument { result ≡ ARGUMENT → ⊥ }
     ensures written { result ≡ OK → take len.new out.new ≡ line_of [] [] refusal.now }
+    ensures rest { result ≡ OK → drop len.new out.new ≡ drop len.new out.old }
+    ensures room { result ≡ OK → len.new ≤ length out.old }
     ensures short { result ≡ SHORT → (len.new ≡ length (line_of [] [] refusal.now)) × (length out.old < len.new) }
     ensures kept { (result ≡ OK → ⊥) → out.new ≡ out.old }
+    ensures len_kept { (result ≡ OK → ⊥) → (result ≡ SHORT → ⊥) → len.new ≡ len.old }
 {
     match line(alloc, "", "", refusal) {
         Ok(text) => lay_out(text.as_slice(), out, len),

@@ -1,11 +1,11 @@
 // Fragments of requests and responses, and format labels.
-ghost use Rattle.std.specs.Prelude.{◌≡◌, ◌≤◌, ◌<◌, ℕ, List, length, take, None, false, IsSomeAnd};
+ghost use Rattle.std.specs.Prelude.{◌≡◌, ◌≤◌, ◌<◌, ℕ, List, length, take, drop, None, true, false, IsSomeAnd};
 ghost use Rattle.nd_base.specs.declared.TheConstants.{STREAM_LIMIT};
 ghost use Rattle.dceidl_c.specs.Answers.{refusal_in, side_numbered};
 ghost use Rattle.dceidl_c.specs.Fragments.{IsJoin, HasStub, IsJoinRefusal, AreStated, IsSplit, IsSplitOf, HasPieces, can_split};
 ghost use Rattle.dceidl_c.specs.Fragments.{head_numbered, operation_number, wanted_of, IsLabelOrder, IsLabelRefusal};
 
-use crate::answers::{ABSENT, ARGUMENT, EMPTY, MEMORY, OK, REFUSED, SHORT, lay_out, refuse};
+use crate::answers::{ARGUMENT, EMPTY, MEMORY, OK, REFUSED, SHORT, lay_out, refuse};
 use crate::numbers::{number_of_order, order_of, side_of};
 use library_calls::{join_lent, order_stated};
 use library_handles::Handle;
@@ -40,13 +40,17 @@ pub extern "C" fn dceidl_join(
     call: &mut Call,
     fault: &mut Handle,
 ) -> u32
-    ensures known { result ≤ ABSENT }
+    ensures known { result ≤ REFUSED }
     ensures not_empty { result ≡ EMPTY → ⊥ }
     ensures joined { result ≡ OK → IsJoin side octets.now call.new (take len.new out.new) }
+    ensures rest { result ≡ OK → drop len.new out.new ≡ drop len.new out.old }
+    ensures room { result ≡ OK → len.new ≤ length out.old }
     ensures short { result ≡ SHORT → HasStub side octets.now len.new × (length out.old < len.new) }
     ensures refused { result ≡ REFUSED → IsSomeAnd (refusal_in fault.new.value) (λ e. IsJoinRefusal side octets.now e) }
     ensures argument { result ≡ ARGUMENT → side_numbered side ≡ None }
     ensures kept { (result ≡ OK → ⊥) → out.new ≡ out.old }
+    ensures len_kept { (result ≡ OK → ⊥) → (result ≡ SHORT → ⊥) → len.new ≡ len.old }
+    ensures call_kept { (result ≡ OK → ⊥) → call.new ≡ call.old }
     ensures fault_kept { (result ≡ REFUSED → ⊥) → fault.new.value ≡ fault.old.value }
 {
     let Some(side) = side_of(side) else {
@@ -70,23 +74,31 @@ fn wanted(side: Side) -> Wanted
 
 // Writes what was joined.
 fn write_joined(joined: Joined, out: &mut [u8], len: &mut usize, call: &mut Call) -> u32
-    ensures known { result ≤ ABSENT }
+    ensures known { result ≤ SHORT }
     ensures not_empty { result ≡ EMPTY → ⊥ }
     ensures not_argument { result ≡ ARGUMENT → ⊥ }
     ensures not_refused { result ≡ REFUSED → ⊥ }
-    ensures stated { AreStated joined call.new }
+    ensures stated { result ≡ OK → AreStated joined call.new }
     ensures len { len.new ≡ length joined.stub }
     ensures written { result ≡ OK → take len.new out.new ≡ joined.stub }
+    ensures rest { result ≡ OK → drop len.new out.new ≡ drop len.new out.old }
+    ensures room { result ≡ OK → len.new ≤ length out.old }
     ensures short { result ≡ SHORT → length out.old < len.new }
     ensures kept { (result ≡ OK → ⊥) → out.new ≡ out.old }
+    ensures len_kept { (result ≡ OK → ⊥) → (result ≡ SHORT → ⊥) → len.new ≡ len.old }
+    ensures call_kept { (result ≡ OK → ⊥) → call.new ≡ call.old }
 {
+    let status = lay_out(joined.stub.as_slice(), out, len);
+    if status != OK {
+        return status;
+    }
     *call = Call {
         order: number_of_order(joined.order),
         call: joined.call,
         operation: number_or_zero(joined.opnum),
         taken: joined.taken,
     };
-    lay_out(joined.stub.as_slice(), out, len)
+    OK
 }
 
 // The number of an operation, or 0 for none.
@@ -101,7 +113,7 @@ fn number_or_zero(opnum: Option<u16>) -> u32
 
 /// Writes the fragments that stub data are split into.
 #[unsafe(no_mangle)]
-#[tactic(auto, using(crate::proofs::Calls::no_head, crate::proofs::Calls::no_split_order, crate::proofs::Calls::few, crate::proofs::Calls::many, crate::proofs::Calls::long_stub, crate::proofs::Calls::split_is, crate::proofs::Calls::pieces_are))]
+#[tactic(auto, using(crate::proofs::Calls::no_head, crate::proofs::Calls::no_split_order, crate::proofs::Calls::few, crate::proofs::Calls::many, crate::proofs::Calls::long_stub, crate::proofs::Calls::splits, crate::proofs::Calls::split_is, crate::proofs::Calls::pieces_are))]
 pub extern "C" fn dceidl_split(
     alloc: Global,
     side: u32,
@@ -113,13 +125,17 @@ pub extern "C" fn dceidl_split(
     out: &mut [u8],
     len: &mut usize,
 ) -> u32
-    ensures known { result ≤ ABSENT }
+    ensures known { result ≤ SHORT }
     ensures not_empty { result ≡ EMPTY → ⊥ }
     ensures not_refused { result ≡ REFUSED → ⊥ }
     ensures written { result ≡ OK → IsSplit side operation order call most stub.now (take len.new out.new) }
+    ensures rest { result ≡ OK → drop len.new out.new ≡ drop len.new out.old }
+    ensures room { result ≡ OK → len.new ≤ length out.old }
     ensures short { result ≡ SHORT → HasPieces side operation order call most stub.now len.new × (length out.old < len.new) }
     ensures argument { result ≡ ARGUMENT → can_split side operation order most (length stub.now) ≡ false }
+    ensures range { (result ≡ ARGUMENT → ⊥) → can_split side operation order most (length stub.now) ≡ true }
     ensures kept { (result ≡ OK → ⊥) → out.new ≡ out.old }
+    ensures len_kept { (result ≡ OK → ⊥) → (result ≡ SHORT → ⊥) → len.new ≡ len.old }
 {
     let Some(head) = head_of(side, operation) else {
         return ARGUMENT;
@@ -172,14 +188,17 @@ fn write_fragments(
 ) -> u32
     requires wide { 1024 ≤ most }
     requires room { length stub.now ≤ STREAM_LIMIT }
-    ensures known { result ≤ ABSENT }
+    ensures known { result ≤ SHORT }
     ensures not_empty { result ≡ EMPTY → ⊥ }
     ensures not_argument { result ≡ ARGUMENT → ⊥ }
     ensures not_refused { result ≡ REFUSED → ⊥ }
     ensures written { result ≡ OK → IsSplitOf order head call most stub.now (take len.new out.new) }
+    ensures rest { result ≡ OK → drop len.new out.new ≡ drop len.new out.old }
+    ensures room { result ≡ OK → len.new ≤ length out.old }
     ensures short { result ≡ SHORT → (octets : List ℕ) × IsSplitOf order head call most stub.now octets × (len.new ≡ length octets) }
     ensures narrow { result ≡ SHORT → length out.old < len.new }
     ensures kept { (result ≡ OK → ⊥) → out.new ≡ out.old }
+    ensures len_kept { (result ≡ OK → ⊥) → (result ≡ SHORT → ⊥) → len.new ≡ len.old }
 {
     match split(alloc, order, head, call, most, stub) {
         Ok(octets) => lay_out(octets.as_slice(), out, len),
@@ -196,13 +215,14 @@ pub extern "C" fn dceidl_label_order(
     order: &mut u32,
     fault: &mut Handle,
 ) -> u32
-    ensures known { result ≤ ABSENT }
+    ensures known { result ≤ REFUSED }
     ensures not_empty { result ≡ EMPTY → ⊥ }
     ensures not_argument { result ≡ ARGUMENT → ⊥ }
     ensures not_short { result ≡ SHORT → ⊥ }
     ensures stated { result ≡ OK → IsLabelOrder octets.now order.new }
     ensures refused { result ≡ REFUSED → IsSomeAnd (refusal_in fault.new.value) (λ e. IsLabelRefusal octets.now e) }
     ensures fault_kept { (result ≡ REFUSED → ⊥) → fault.new.value ≡ fault.old.value }
+    ensures order_kept { (result ≡ OK → ⊥) → order.new ≡ order.old }
 {
     match order_stated(octets) {
         Ok(stated) => {

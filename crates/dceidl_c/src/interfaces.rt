@@ -1,5 +1,5 @@
 // Interfaces.
-ghost use Rattle.std.specs.Prelude.{◌≡◌, ◌≤◌, ◌<◌, length, take, Some, None, option_map, IfSome, IsSomeAnd, IsUtf8};
+ghost use Rattle.std.specs.Prelude.{◌≡◌, ◌≤◌, ◌<◌, length, take, drop, Some, None, option_map, IfSome, IsSomeAnd, IsUtf8};
 ghost use Rattle.std.specs.Arc.{arc_value};
 ghost use Rattle.std.specs.List.{slice_get};
 ghost use Rattle.nd_types.specs.Operations.{operation_named};
@@ -33,11 +33,14 @@ pub extern "C" fn dceidl_compile(
     interface: &mut Handle,
     fault: &mut Handle,
 ) -> u32
-    ensures known { result ≤ ABSENT }
+    ensures known { result ≤ REFUSED }
     ensures not_empty { result ≡ EMPTY → ⊥ }
+    ensures not_short { result ≡ SHORT → ⊥ }
     ensures compiled { result ≡ OK → IsSomeAnd (interface_in interface.new.value) (λ i. IsFilesCompile files.now acf i) }
     ensures refused { result ≡ REFUSED → IsSomeAnd (refusal_in fault.new.value) (λ e. IsFilesRefusal files.now acf e) }
     ensures argument { result ≡ ARGUMENT → acf < length files.now → HasBadName files.now }
+    ensures there { (result ≡ ARGUMENT → ⊥) → acf < length files.now }
+    ensures named { result ≡ OK → HasBadName files.now → ⊥ }
     ensures interface_kept { (result ≡ OK → ⊥) → interface.new.value ≡ interface.old.value }
     ensures fault_kept { (result ≡ REFUSED → ⊥) → fault.new.value ≡ fault.old.value }
 {
@@ -57,6 +60,7 @@ pub extern "C" fn dceidl_compile(
 #[tactic(auto, using(crate::proofs::Files::bad_name))]
 fn name_of<'a>(files: &[File<'a>], number: usize) -> Option<&'a str>
     ensures named { IfSome result (λ name. name_of_file files.now number ≡ Some name.now) }
+    ensures there { IfSome result (λ _. number < length files.now) }
     ensures bad { result ≡ None → number < length files.now → HasBadName files.now }
 {
     if number >= files.len() {
@@ -87,13 +91,15 @@ fn compile(
     interface: &mut Handle,
     fault: &mut Handle,
 ) -> u32
-    ensures known { result ≤ ABSENT }
+    ensures known { result ≤ REFUSED }
     ensures not_empty { result ≡ EMPTY → ⊥ }
+    ensures not_short { result ≡ SHORT → ⊥ }
     ensures compiled { result ≡ OK → IsSomeAnd (interface_in interface.new.value)
         (λ i. IsCompile files.now idl.now (option_map (λ a. a.now) acf.entry) i) }
     ensures refused { result ≡ REFUSED → IsSomeAnd (refusal_in fault.new.value)
         (λ e. IsCompileRefusal files.now idl.now (option_map (λ a. a.now) acf.entry) e) }
     ensures argument { result ≡ ARGUMENT → HasBadName files.now }
+    ensures named { result ≡ OK → HasBadName files.now → ⊥ }
     ensures interface_kept { (result ≡ OK → ⊥) → interface.new.value ≡ interface.old.value }
     ensures fault_kept { (result ≡ REFUSED → ⊥) → fault.new.value ≡ fault.old.value }
 {
@@ -106,9 +112,10 @@ fn compile(
 
 // Fills a handle with an interface.
 fn fill_compiled(alloc: Global, compiled: Compiled, interface: &mut Handle) -> u32
-    ensures known { result ≤ ABSENT }
+    ensures known { result ≤ MEMORY }
     ensures not_empty { result ≡ EMPTY → ⊥ }
     ensures not_argument { result ≡ ARGUMENT → ⊥ }
+    ensures not_short { result ≡ SHORT → ⊥ }
     ensures not_refused { result ≡ REFUSED → ⊥ }
     ensures filled { result ≡ OK → interface_in interface.new.value ≡ Some compiled }
     ensures kept { (result ≡ OK → ⊥) → interface.new.value ≡ interface.old.value }
@@ -126,9 +133,10 @@ pub extern "C" fn dceidl_interface_again(
     interface: &mut Handle,
     again: &mut Handle,
 ) -> u32
-    ensures known { result ≤ ABSENT }
+    ensures known { result ≤ MEMORY }
+    ensures not_argument { result ≡ ARGUMENT → ⊥ }
     ensures same { interface.new.value ≡ interface.old.value }
-    ensures filled { result ≡ OK → interface_in again.new.value ≡ interface_in interface.old.value }
+    ensures filled { result ≡ OK → IsSomeAnd (interface_in interface.old.value) (λ i. interface_in again.new.value ≡ Some i) }
     ensures empty { result ≡ EMPTY → interface_in interface.old.value ≡ None }
     ensures kept { (result ≡ OK → ⊥) → again.new.value ≡ again.old.value }
 {
@@ -145,8 +153,9 @@ pub extern "C" fn dceidl_interface_again(
 
 // Fills a handle with an interface that others have too.
 fn share(alloc: Global, compiled: &Arc<Compiled>, again: &mut Handle) -> u32
-    ensures known { result ≤ ABSENT }
+    ensures known { result ≤ MEMORY }
     ensures not_empty { result ≡ EMPTY → ⊥ }
+    ensures not_argument { result ≡ ARGUMENT → ⊥ }
     ensures filled { result ≡ OK → interface_in again.new.value ≡ Some (arc_value compiled.now) }
     ensures kept { (result ≡ OK → ⊥) → again.new.value ≡ again.old.value }
 {
@@ -180,10 +189,11 @@ pub extern "C" fn dceidl_operation_count(
     interface: &mut Handle,
     count: &mut usize,
 ) -> u32
-    ensures known { result ≤ ABSENT }
+    ensures known { result ≤ EMPTY }
     ensures same { interface.new.value ≡ interface.old.value }
     ensures count { result ≡ OK → IsSomeAnd (interface_in interface.old.value) (λ i. count.new ≡ length i.operations) }
     ensures empty { result ≡ EMPTY → interface_in interface.old.value ≡ None }
+    ensures count_kept { (result ≡ OK → ⊥) → count.new ≡ count.old }
 {
     let Some(held) = interface.take(alloc) else {
         return EMPTY;
@@ -208,11 +218,16 @@ pub extern "C" fn dceidl_operation_number(
     operation: &mut u32,
 ) -> u32
     ensures known { result ≤ ABSENT }
+    ensures not_memory { result ≡ MEMORY → ⊥ }
+    ensures not_short { result ≡ SHORT → ⊥ }
+    ensures not_refused { result ≡ REFUSED → ⊥ }
     ensures same { interface.new.value ≡ interface.old.value }
     ensures found { result ≡ OK → IsSomeAnd (interface_in interface.old.value) (λ i. operation_named i.operations name.now ≡ Some operation.new) }
     ensures absent { result ≡ ABSENT → IsSomeAnd (interface_in interface.old.value) (λ i. operation_named i.operations name.now ≡ None) }
     ensures empty { result ≡ EMPTY → interface_in interface.old.value ≡ None }
-    ensures argument { result ≡ ARGUMENT → IsUtf8 name.now → ⊥ }
+    ensures argument { result ≡ ARGUMENT → IsSomeAnd (interface_in interface.old.value) (λ _. IsUtf8 name.now → ⊥) }
+    ensures utf8 { (result ≡ EMPTY → ⊥) → (result ≡ ARGUMENT → ⊥) → IsUtf8 name.now }
+    ensures operation_kept { (result ≡ OK → ⊥) → operation.new ≡ operation.old }
 {
     let Some(held) = interface.take(alloc) else {
         return EMPTY;
@@ -229,9 +244,14 @@ pub extern "C" fn dceidl_operation_number(
 fn number(compiled: &Compiled, name: &[u8], operation: &mut u32) -> u32
     ensures known { result ≤ ABSENT }
     ensures not_empty { result ≡ EMPTY → ⊥ }
+    ensures not_memory { result ≡ MEMORY → ⊥ }
+    ensures not_short { result ≡ SHORT → ⊥ }
+    ensures not_refused { result ≡ REFUSED → ⊥ }
     ensures found { result ≡ OK → operation_named compiled.now.operations name.now ≡ Some operation.new }
     ensures absent { result ≡ ABSENT → operation_named compiled.now.operations name.now ≡ None }
     ensures argument { result ≡ ARGUMENT → IsUtf8 name.now → ⊥ }
+    ensures utf8 { (result ≡ ARGUMENT → ⊥) → IsUtf8 name.now }
+    ensures operation_kept { (result ≡ OK → ⊥) → operation.new ≡ operation.old }
 {
     let name = match from_utf8(name) {
         Ok(name) => name,
@@ -255,15 +275,19 @@ pub extern "C" fn dceidl_operation_name(
     out: &mut [u8],
     len: &mut usize,
 ) -> u32
-    ensures known { result ≤ ABSENT }
+    ensures known { result ≤ SHORT }
+    ensures not_memory { result ≡ MEMORY → ⊥ }
     ensures same { interface.new.value ≡ interface.old.value }
     ensures written { result ≡ OK → IsSomeAnd (interface_in interface.old.value)
         (λ i. IsSomeAnd (slice_get i.operations operation) (λ o. take len.new out.new ≡ o.name)) }
+    ensures rest { result ≡ OK → drop len.new out.new ≡ drop len.new out.old }
+    ensures room { result ≡ OK → len.new ≤ length out.old }
     ensures argument { result ≡ ARGUMENT → IsSomeAnd (interface_in interface.old.value) (λ i. slice_get i.operations operation ≡ None) }
     ensures short { result ≡ SHORT → IsSomeAnd (interface_in interface.old.value)
         (λ i. IsSomeAnd (slice_get i.operations operation) (λ o. (len.new ≡ length o.name) × (length out.old < len.new))) }
     ensures empty { result ≡ EMPTY → interface_in interface.old.value ≡ None }
     ensures kept { (result ≡ OK → ⊥) → out.new ≡ out.old }
+    ensures len_kept { (result ≡ OK → ⊥) → (result ≡ SHORT → ⊥) → len.new ≡ len.old }
 {
     let Some(held) = interface.take(alloc) else {
         return EMPTY;
@@ -278,13 +302,17 @@ pub extern "C" fn dceidl_operation_name(
 
 // Writes the name of an operation.
 fn name(compiled: &Compiled, operation: u32, out: &mut [u8], len: &mut usize) -> u32
-    ensures known { result ≤ ABSENT }
+    ensures known { result ≤ SHORT }
     ensures not_empty { result ≡ EMPTY → ⊥ }
+    ensures not_memory { result ≡ MEMORY → ⊥ }
     ensures written { result ≡ OK → IsSomeAnd (slice_get compiled.now.operations operation) (λ o. take len.new out.new ≡ o.name) }
+    ensures rest { result ≡ OK → drop len.new out.new ≡ drop len.new out.old }
+    ensures room { result ≡ OK → len.new ≤ length out.old }
     ensures argument { result ≡ ARGUMENT → slice_get compiled.now.operations operation ≡ None }
     ensures short { result ≡ SHORT → IsSomeAnd (slice_get compiled.now.operations operation)
         (λ o. (len.new ≡ length o.name) × (length out.old < len.new)) }
     ensures kept { (result ≡ OK → ⊥) → out.new ≡ out.old }
+    ensures len_kept { (result ≡ OK → ⊥) → (result ≡ SHORT → ⊥) → len.new ≡ len.old }
 {
     match compiled.interface().operations.get(operation as usize) {
         Some(found) => lay_out(found.name.as_slice(), out, len),

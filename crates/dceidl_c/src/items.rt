@@ -1,12 +1,12 @@
 // Items of octets.
 ghost use Rattle.std.specs.Prelude.{◌≡◌, ◌≤◌, length, Some, None, true, false, is_some, IsSomeAnd};
 ghost use Rattle.std.specs.List.{slice_get};
-ghost use Rattle.nd_types.specs.declared.types.Side.TheVariants.{Out};
+ghost use Rattle.nd_types.specs.declared.types.Side.TheVariants.{In, Out};
 ghost use Rattle.dceidl_c.specs.Answers.{interface_in, values_in, refusal_in, order_numbered, is_stream};
 ghost use Rattle.dceidl_c.specs.Octets.{IsDecodeRefusal, IsResponseRefusal};
 ghost use Rattle.dceidl_c.specs.Items.{items_in, IsItems, IsResponseItems, item_described, kind_numbered, is_in_cell, home_number};
 
-use crate::answers::{ABSENT, ARGUMENT, EMPTY, OK, REFUSED, fill, refuse};
+use crate::answers::{ARGUMENT, EMPTY, MEMORY, OK, REFUSED, SHORT, fill, refuse};
 use crate::interfaces::free;
 use crate::numbers::{order_of, side_of};
 use crate::reading::is_request;
@@ -30,7 +30,8 @@ pub extern "C" fn dceidl_items_of(
     items: &mut Handle,
     fault: &mut Handle,
 ) -> u32
-    ensures known { result ≤ ABSENT }
+    ensures known { result ≤ REFUSED }
+    ensures not_short { result ≡ SHORT → ⊥ }
     ensures same { interface.new.value ≡ interface.old.value }
     ensures logged { result ≡ OK → IsSomeAnd (interface_in interface.old.value)
         (λ i. IsSomeAnd (items_in items.new.value) (IsItems i operation side order octets.now)) }
@@ -66,8 +67,9 @@ fn log(
     items: &mut Handle,
     fault: &mut Handle,
 ) -> u32
-    ensures known { result ≤ ABSENT }
+    ensures known { result ≤ REFUSED }
     ensures not_empty { result ≡ EMPTY → ⊥ }
+    ensures not_short { result ≡ SHORT → ⊥ }
     ensures logged { result ≡ OK → IsSomeAnd (items_in items.new.value) (IsItems compiled.now operation side order octets.now) }
     ensures refused { result ≡ REFUSED → IsSomeAnd (refusal_in fault.new.value)
         (λ e. IsDecodeRefusal compiled.now operation side order octets.now e) }
@@ -92,9 +94,10 @@ fn log(
 
 // Fills a handle with items.
 fn fill_items(alloc: Global, made: ItemLog, items: &mut Handle) -> u32
-    ensures known { result ≤ ABSENT }
+    ensures known { result ≤ MEMORY }
     ensures not_empty { result ≡ EMPTY → ⊥ }
     ensures not_argument { result ≡ ARGUMENT → ⊥ }
+    ensures not_short { result ≡ SHORT → ⊥ }
     ensures not_refused { result ≡ REFUSED → ⊥ }
     ensures filled { result ≡ OK → items_in items.new.value ≡ Some made.items }
     ensures kept { (result ≡ OK → ⊥) → items.new.value ≡ items.old.value }
@@ -112,13 +115,15 @@ pub extern "C" fn dceidl_items_of_response(
     items: &mut Handle,
     fault: &mut Handle,
 ) -> u32
-    ensures known { result ≤ ABSENT }
+    ensures known { result ≤ REFUSED }
+    ensures not_short { result ≡ SHORT → ⊥ }
     ensures same { request.new.value ≡ request.old.value }
     ensures logged { result ≡ OK → IsSomeAnd (values_in request.old.value)
         (λ q. IsSomeAnd (items_in items.new.value) (IsResponseItems q order octets.now)) }
     ensures refused { result ≡ REFUSED → IsSomeAnd (values_in request.old.value)
         (λ q. IsSomeAnd (refusal_in fault.new.value) (λ e. IsResponseRefusal q order octets.now e)) }
-    ensures argument { result ≡ ARGUMENT → is_some (order_numbered order) ≡ true → IsSomeAnd (values_in request.old.value) (λ q. q.side ≡ Out) }
+    ensures argument { result ≡ ARGUMENT → IsSomeAnd (values_in request.old.value) (λ q. is_some (order_numbered order) ≡ true → q.side ≡ Out) }
+    ensures request { (result ≡ EMPTY → ⊥) → (result ≡ ARGUMENT → ⊥) → IsSomeAnd (values_in request.old.value) (λ q. q.side ≡ In) }
     ensures empty { result ≡ EMPTY → values_in request.old.value ≡ None }
     ensures items_kept { (result ≡ OK → ⊥) → items.new.value ≡ items.old.value }
     ensures fault_kept { (result ≡ REFUSED → ⊥) → fault.new.value ≡ fault.old.value }
@@ -144,11 +149,13 @@ fn log_response(
     items: &mut Handle,
     fault: &mut Handle,
 ) -> u32
-    ensures known { result ≤ ABSENT }
+    ensures known { result ≤ REFUSED }
     ensures not_empty { result ≡ EMPTY → ⊥ }
+    ensures not_short { result ≡ SHORT → ⊥ }
     ensures logged { result ≡ OK → IsSomeAnd (items_in items.new.value) (IsResponseItems given.now order octets.now) }
     ensures refused { result ≡ REFUSED → IsSomeAnd (refusal_in fault.new.value) (λ e. IsResponseRefusal given.now order octets.now e) }
     ensures argument { result ≡ ARGUMENT → is_some (order_numbered order) ≡ true → given.now.side ≡ Out }
+    ensures request { (result ≡ ARGUMENT → ⊥) → given.now.side ≡ In }
     ensures items_kept { (result ≡ OK → ⊥) → items.new.value ≡ items.old.value }
     ensures fault_kept { (result ≡ REFUSED → ⊥) → fault.new.value ≡ fault.old.value }
 {
@@ -167,10 +174,11 @@ fn log_response(
 /// The number of items.
 #[unsafe(no_mangle)]
 pub extern "C" fn dceidl_item_count(alloc: Global, items: &mut Handle, count: &mut usize) -> u32
-    ensures known { result ≤ ABSENT }
+    ensures known { result ≤ EMPTY }
     ensures same { items.new.value ≡ items.old.value }
     ensures count { result ≡ OK → IsSomeAnd (items_in items.old.value) (λ xs. count.new ≡ length xs) }
     ensures empty { result ≡ EMPTY → items_in items.old.value ≡ None }
+    ensures count_kept { (result ≡ OK → ⊥) → count.new ≡ count.old }
 {
     let Some(held) = items.take(alloc) else {
         return EMPTY;
@@ -214,12 +222,13 @@ pub extern "C" fn dceidl_item_at(
     index: usize,
     item: &mut ItemDescription,
 ) -> u32
-    ensures known { result ≤ ABSENT }
+    ensures known { result ≤ ARGUMENT }
     ensures same { items.new.value ≡ items.old.value }
     ensures described { result ≡ OK → IsSomeAnd (items_in items.old.value)
         (λ xs. IsSomeAnd (slice_get xs index) (λ x. item.new ≡ item_described x)) }
     ensures argument { result ≡ ARGUMENT → IsSomeAnd (items_in items.old.value) (λ xs. slice_get xs index ≡ None) }
     ensures empty { result ≡ EMPTY → items_in items.old.value ≡ None }
+    ensures item_kept { (result ≡ OK → ⊥) → item.new ≡ item.old }
 {
     let Some(held) = items.take(alloc) else {
         return EMPTY;
@@ -234,10 +243,11 @@ pub extern "C" fn dceidl_item_at(
 
 // An item of a log.
 fn describe_item(log: &ItemLog, index: usize, item: &mut ItemDescription) -> u32
-    ensures known { result ≤ ABSENT }
+    ensures known { result ≤ ARGUMENT }
     ensures not_empty { result ≡ EMPTY → ⊥ }
     ensures described { result ≡ OK → IsSomeAnd (slice_get log.now.items index) (λ x. item.new ≡ item_described x) }
     ensures argument { result ≡ ARGUMENT → slice_get log.now.items index ≡ None }
+    ensures item_kept { (result ≡ OK → ⊥) → item.new ≡ item.old }
 {
     match log.get(index) {
         Some(found) => {

@@ -1,5 +1,5 @@
 // Nodes of values.
-ghost use Rattle.std.specs.Prelude.{◌≡◌, ◌≤◌, ◌<◌, ◌+◌, ◌-◌, ◌++◌, ◌∷◌, [], suc, false, length, take, map, Some, None, IsSomeAnd};
+ghost use Rattle.std.specs.Prelude.{◌≡◌, ◌≤◌, ◌<◌, ◌+◌, ◌-◌, ◌++◌, ◌∷◌, [], suc, true, false, length, take, drop, map, Some, None, IsSomeAnd};
 ghost use Rattle.std.specs.List.{slice_get};
 ghost use Rattle.library_nodes.specs.Contents.{numbers_of, octets_of};
 ghost use Rattle.library_nodes.specs.Described.{described};
@@ -8,7 +8,7 @@ ghost use Rattle.library_nodes.specs.Parts.{IsAfter, has_part};
 ghost use Rattle.dceidl_c.specs.Answers.{values_in};
 ghost use Rattle.dceidl_c.specs.Nodes.{nodes_in, low_octet};
 
-use crate::answers::{ABSENT, ARGUMENT, EMPTY, MEMORY, OK, SHORT, fill, lay_out};
+use crate::answers::{ARGUMENT, EMPTY, MEMORY, OK, SHORT, fill, lay_out};
 use crate::interfaces::free;
 use library_handles::{Handle, Held};
 use library_nodes::{Description, Nodes};
@@ -18,7 +18,8 @@ use std::alloc::Global;
 /// Fills `nodes` with those of values.
 #[unsafe(no_mangle)]
 pub extern "C" fn dceidl_nodes_of(alloc: Global, values: &mut Handle, nodes: &mut Handle) -> u32
-    ensures known { result ≤ ABSENT }
+    ensures known { result ≤ MEMORY }
+    ensures not_argument { result ≡ ARGUMENT → ⊥ }
     ensures same { values.new.value ≡ values.old.value }
     ensures listed { result ≡ OK → IsSomeAnd (values_in values.old.value) (λ v. IsSomeAnd (nodes_in nodes.new.value) (IsListOf v.graph)) }
     ensures empty { result ≡ EMPTY → values_in values.old.value ≡ None }
@@ -37,8 +38,9 @@ pub extern "C" fn dceidl_nodes_of(alloc: Global, values: &mut Handle, nodes: &mu
 
 // Fills a handle with the nodes of values.
 fn list(alloc: Global, values: &Values, nodes: &mut Handle) -> u32
-    ensures known { result ≤ ABSENT }
+    ensures known { result ≤ MEMORY }
     ensures not_empty { result ≡ EMPTY → ⊥ }
+    ensures not_argument { result ≡ ARGUMENT → ⊥ }
     ensures listed { result ≡ OK → IsSomeAnd (nodes_in nodes.new.value) (IsListOf values.now.graph) }
     ensures kept { (result ≡ OK → ⊥) → nodes.new.value ≡ nodes.old.value }
 {
@@ -64,11 +66,13 @@ pub extern "C" fn dceidl_home_counts(
     roots: &mut usize,
     cells: &mut usize,
 ) -> u32
-    ensures known { result ≤ ABSENT }
+    ensures known { result ≤ EMPTY }
     ensures same { nodes.new.value ≡ nodes.old.value }
     ensures counts { result ≡ OK → IsSomeAnd (nodes_in nodes.old.value)
         (λ n. (roots.new ≡ n.roots) × (cells.new ≡ length n.starts.items - n.roots)) }
     ensures empty { result ≡ EMPTY → nodes_in nodes.old.value ≡ None }
+    ensures roots_kept { (result ≡ OK → ⊥) → roots.new ≡ roots.old }
+    ensures cells_kept { (result ≡ OK → ⊥) → cells.new ≡ cells.old }
 {
     let Some(held) = nodes.take(alloc) else {
         return EMPTY;
@@ -93,11 +97,12 @@ pub extern "C" fn dceidl_root_node(
     root: usize,
     node: &mut usize,
 ) -> u32
-    ensures known { result ≤ ABSENT }
+    ensures known { result ≤ ARGUMENT }
     ensures same { nodes.new.value ≡ nodes.old.value }
     ensures found { result ≡ OK → IsSomeAnd (nodes_in nodes.old.value) (λ n. root_start n root ≡ Some node.new) }
     ensures argument { result ≡ ARGUMENT → IsSomeAnd (nodes_in nodes.old.value) (λ n. root_start n root ≡ None) }
     ensures empty { result ≡ EMPTY → nodes_in nodes.old.value ≡ None }
+    ensures node_kept { (result ≡ OK → ⊥) → node.new ≡ node.old }
 {
     let Some(held) = nodes.take(alloc) else {
         return EMPTY;
@@ -112,10 +117,11 @@ pub extern "C" fn dceidl_root_node(
 
 // Sets a number, if there is one.
 fn set(found: Option<usize>, number: &mut usize) -> u32
-    ensures known { result ≤ ABSENT }
+    ensures known { result ≤ ARGUMENT }
     ensures not_empty { result ≡ EMPTY → ⊥ }
     ensures found { result ≡ OK → found ≡ Some number.new }
     ensures argument { result ≡ ARGUMENT → found ≡ None }
+    ensures number_kept { (result ≡ OK → ⊥) → number.new ≡ number.old }
 {
     match found {
         Some(at) => {
@@ -134,11 +140,12 @@ pub extern "C" fn dceidl_cell_node(
     cell: u32,
     node: &mut usize,
 ) -> u32
-    ensures known { result ≤ ABSENT }
+    ensures known { result ≤ ARGUMENT }
     ensures same { nodes.new.value ≡ nodes.old.value }
     ensures found { result ≡ OK → IsSomeAnd (nodes_in nodes.old.value) (λ n. cell_start n cell ≡ Some node.new) }
     ensures argument { result ≡ ARGUMENT → IsSomeAnd (nodes_in nodes.old.value) (λ n. cell_start n cell ≡ None) }
     ensures empty { result ≡ EMPTY → nodes_in nodes.old.value ≡ None }
+    ensures node_kept { (result ≡ OK → ⊥) → node.new ≡ node.old }
 {
     let Some(held) = nodes.take(alloc) else {
         return EMPTY;
@@ -159,12 +166,13 @@ pub extern "C" fn dceidl_node_at(
     node: usize,
     description: &mut Description,
 ) -> u32
-    ensures known { result ≤ ABSENT }
+    ensures known { result ≤ ARGUMENT }
     ensures same { nodes.new.value ≡ nodes.old.value }
     ensures described { result ≡ OK → IsSomeAnd (nodes_in nodes.old.value)
         (λ n. IsSomeAnd (slice_get n.list.nodes.items node) (λ x. description.new ≡ described x)) }
     ensures argument { result ≡ ARGUMENT → IsSomeAnd (nodes_in nodes.old.value) (λ n. slice_get n.list.nodes.items node ≡ None) }
     ensures empty { result ≡ EMPTY → nodes_in nodes.old.value ≡ None }
+    ensures description_kept { (result ≡ OK → ⊥) → description.new ≡ description.old }
 {
     let Some(held) = nodes.take(alloc) else {
         return EMPTY;
@@ -179,10 +187,11 @@ pub extern "C" fn dceidl_node_at(
 
 // What a node says of itself.
 fn describe_at(list: &Nodes, node: usize, description: &mut Description) -> u32
-    ensures known { result ≤ ABSENT }
+    ensures known { result ≤ ARGUMENT }
     ensures not_empty { result ≡ EMPTY → ⊥ }
     ensures described { result ≡ OK → IsSomeAnd (slice_get list.now.list.nodes.items node) (λ x. description.new ≡ described x) }
     ensures argument { result ≡ ARGUMENT → slice_get list.now.list.nodes.items node ≡ None }
+    ensures description_kept { (result ≡ OK → ⊥) → description.new ≡ description.old }
 {
     match list.list.nodes.as_slice().get(node) {
         Some(found) => {
@@ -201,11 +210,13 @@ pub extern "C" fn dceidl_node_after(
     node: usize,
     after: &mut usize,
 ) -> u32
-    ensures known { result ≤ ABSENT }
+    ensures known { result ≤ ARGUMENT }
     ensures same { nodes.new.value ≡ nodes.old.value }
     ensures found { result ≡ OK → IsSomeAnd (nodes_in nodes.old.value) (λ n. IsAfter n.list.nodes.items node 1 after.new) }
+    ensures there { result ≡ OK → IsSomeAnd (nodes_in nodes.old.value) (λ n. node < length n.list.nodes.items) }
     ensures argument { result ≡ ARGUMENT → IsSomeAnd (nodes_in nodes.old.value) (λ n. length n.list.nodes.items ≤ node) }
     ensures empty { result ≡ EMPTY → nodes_in nodes.old.value ≡ None }
+    ensures after_kept { (result ≡ OK → ⊥) → after.new ≡ after.old }
 {
     let Some(held) = nodes.take(alloc) else {
         return EMPTY;
@@ -220,10 +231,12 @@ pub extern "C" fn dceidl_node_after(
 
 // The node after one and all its parts.
 fn set_after(list: &Nodes, node: usize, after: &mut usize) -> u32
-    ensures known { result ≤ ABSENT }
+    ensures known { result ≤ ARGUMENT }
     ensures not_empty { result ≡ EMPTY → ⊥ }
     ensures found { result ≡ OK → IsAfter list.now.list.nodes.items node 1 after.new }
+    ensures there { result ≡ OK → node < length list.now.list.nodes.items }
     ensures argument { result ≡ ARGUMENT → length list.now.list.nodes.items ≤ node }
+    ensures after_kept { (result ≡ OK → ⊥) → after.new ≡ after.old }
 {
     match list.after(node) {
         Some(at) => {
@@ -243,12 +256,14 @@ pub extern "C" fn dceidl_node_part(
     index: usize,
     part: &mut usize,
 ) -> u32
-    ensures known { result ≤ ABSENT }
+    ensures known { result ≤ ARGUMENT }
     ensures same { nodes.new.value ≡ nodes.old.value }
     ensures found { result ≡ OK → IsSomeAnd (nodes_in nodes.old.value) (λ n. IsAfter n.list.nodes.items (suc node) index part.new) }
+    ensures there { result ≡ OK → IsSomeAnd (nodes_in nodes.old.value) (λ n. has_part (slice_get n.list.nodes.items node) index ≡ true) }
     ensures argument { result ≡ ARGUMENT → IsSomeAnd (nodes_in nodes.old.value)
         (λ n. has_part (slice_get n.list.nodes.items node) index ≡ false) }
     ensures empty { result ≡ EMPTY → nodes_in nodes.old.value ≡ None }
+    ensures part_kept { (result ≡ OK → ⊥) → part.new ≡ part.old }
 {
     let Some(held) = nodes.take(alloc) else {
         return EMPTY;
@@ -263,10 +278,12 @@ pub extern "C" fn dceidl_node_part(
 
 // A part of a node.
 fn set_part(list: &Nodes, node: usize, index: usize, part: &mut usize) -> u32
-    ensures known { result ≤ ABSENT }
+    ensures known { result ≤ ARGUMENT }
     ensures not_empty { result ≡ EMPTY → ⊥ }
     ensures found { result ≡ OK → IsAfter list.now.list.nodes.items (suc node) index part.new }
+    ensures there { result ≡ OK → has_part (slice_get list.now.list.nodes.items node) index ≡ true }
     ensures argument { result ≡ ARGUMENT → has_part (slice_get list.now.list.nodes.items node) index ≡ false }
+    ensures part_kept { (result ≡ OK → ⊥) → part.new ≡ part.old }
 {
     match list.part(node, index) {
         Some(at) => {
@@ -286,16 +303,20 @@ pub extern "C" fn dceidl_node_numbers(
     out: &mut [u64],
     count: &mut usize,
 ) -> u32
-    ensures known { result ≤ ABSENT }
+    ensures known { result ≤ SHORT }
+    ensures not_memory { result ≡ MEMORY → ⊥ }
     ensures same { nodes.new.value ≡ nodes.old.value }
     ensures copied { result ≡ OK → IsSomeAnd (nodes_in nodes.old.value)
         (λ n. numbers_of n.list (slice_get n.list.nodes.items node) ≡ Some (take count.new out.new)) }
+    ensures rest { result ≡ OK → drop count.new out.new ≡ drop count.new out.old }
+    ensures room { result ≡ OK → count.new ≤ length out.old }
     ensures short { result ≡ SHORT → IsSomeAnd (nodes_in nodes.old.value)
         (λ n. IsSomeAnd (numbers_of n.list (slice_get n.list.nodes.items node)) (λ zs. (count.new ≡ length zs) × (length out.old < count.new))) }
     ensures argument { result ≡ ARGUMENT → IsSomeAnd (nodes_in nodes.old.value)
         (λ n. numbers_of n.list (slice_get n.list.nodes.items node) ≡ None) }
     ensures empty { result ≡ EMPTY → nodes_in nodes.old.value ≡ None }
     ensures kept { (result ≡ OK → ⊥) → out.new ≡ out.old }
+    ensures count_kept { (result ≡ OK → ⊥) → (result ≡ SHORT → ⊥) → count.new ≡ count.old }
 {
     let Some(held) = nodes.take(alloc) else {
         return EMPTY;
@@ -310,13 +331,17 @@ pub extern "C" fn dceidl_node_numbers(
 
 // Copies the elements of a node that are numbers.
 fn copy_numbers(list: &Nodes, node: usize, out: &mut [u64], count: &mut usize) -> u32
-    ensures known { result ≤ ABSENT }
+    ensures known { result ≤ SHORT }
     ensures not_empty { result ≡ EMPTY → ⊥ }
+    ensures not_memory { result ≡ MEMORY → ⊥ }
     ensures copied { result ≡ OK → numbers_of list.now.list (slice_get list.now.list.nodes.items node) ≡ Some (take count.new out.new) }
+    ensures rest { result ≡ OK → drop count.new out.new ≡ drop count.new out.old }
+    ensures room { result ≡ OK → count.new ≤ length out.old }
     ensures short { result ≡ SHORT → IsSomeAnd (numbers_of list.now.list (slice_get list.now.list.nodes.items node))
         (λ zs. (count.new ≡ length zs) × (length out.old < count.new)) }
     ensures argument { result ≡ ARGUMENT → numbers_of list.now.list (slice_get list.now.list.nodes.items node) ≡ None }
     ensures kept { (result ≡ OK → ⊥) → out.new ≡ out.old }
+    ensures count_kept { (result ≡ OK → ⊥) → (result ≡ SHORT → ⊥) → count.new ≡ count.old }
 {
     match list.numbers_of(node) {
         Some(numbers) => lay_out_numbers(numbers, out, count),
@@ -324,14 +349,19 @@ fn copy_numbers(list: &Nodes, node: usize, out: &mut [u64], count: &mut usize) -
     }
 }
 
-// Lays out numbers at the front of a buffer, if it has room for them, and says how many they are.
+// Lays out numbers at the front of a buffer, if it has room for them, and says how many they are. The rest stays as it was.
+#[tactic(auto, using(crate::proofs::Buffers::rest_kept))]
 fn lay_out_numbers(numbers: &[u64], out: &mut [u64], count: &mut usize) -> u32
-    ensures known { result ≤ ABSENT }
+    ensures known { result ≤ SHORT }
     ensures not_empty { result ≡ EMPTY → ⊥ }
     ensures not_argument { result ≡ ARGUMENT → ⊥ }
+    ensures not_memory { result ≡ MEMORY → ⊥ }
     ensures count { count.new ≡ length numbers.now }
     ensures done { result ≡ OK → take count.new out.new ≡ numbers.now }
+    ensures rest { result ≡ OK → drop count.new out.new ≡ drop count.new out.old }
+    ensures room { result ≡ OK → count.new ≤ length out.old }
     ensures short { result ≡ SHORT → length out.old < count.new }
+    ensures count_kept { (result ≡ OK → ⊥) → (result ≡ SHORT → ⊥) → count.new ≡ count.old }
     ensures kept { (result ≡ OK → ⊥) → out.new ≡ out.old }
 {
     *count = numbers.len();
@@ -351,16 +381,20 @@ pub extern "C" fn dceidl_node_octets(
     out: &mut [u8],
     len: &mut usize,
 ) -> u32
-    ensures known { result ≤ ABSENT }
+    ensures known { result ≤ SHORT }
+    ensures not_memory { result ≡ MEMORY → ⊥ }
     ensures same { nodes.new.value ≡ nodes.old.value }
     ensures copied { result ≡ OK → IsSomeAnd (nodes_in nodes.old.value)
         (λ n. octets_of n.list (slice_get n.list.nodes.items node) ≡ Some (take len.new out.new)) }
+    ensures rest { result ≡ OK → drop len.new out.new ≡ drop len.new out.old }
+    ensures room { result ≡ OK → len.new ≤ length out.old }
     ensures short { result ≡ SHORT → IsSomeAnd (nodes_in nodes.old.value)
         (λ n. IsSomeAnd (octets_of n.list (slice_get n.list.nodes.items node)) (λ os. (len.new ≡ length os) × (length out.old < len.new))) }
     ensures argument { result ≡ ARGUMENT → IsSomeAnd (nodes_in nodes.old.value)
         (λ n. octets_of n.list (slice_get n.list.nodes.items node) ≡ None) }
     ensures empty { result ≡ EMPTY → nodes_in nodes.old.value ≡ None }
     ensures kept { (result ≡ OK → ⊥) → out.new ≡ out.old }
+    ensures len_kept { (result ≡ OK → ⊥) → (result ≡ SHORT → ⊥) → len.new ≡ len.old }
 {
     let Some(held) = nodes.take(alloc) else {
         return EMPTY;
@@ -375,13 +409,17 @@ pub extern "C" fn dceidl_node_octets(
 
 // Copies the octets of a node.
 fn copy_octets(list: &Nodes, node: usize, out: &mut [u8], len: &mut usize) -> u32
-    ensures known { result ≤ ABSENT }
+    ensures known { result ≤ SHORT }
     ensures not_empty { result ≡ EMPTY → ⊥ }
+    ensures not_memory { result ≡ MEMORY → ⊥ }
     ensures copied { result ≡ OK → octets_of list.now.list (slice_get list.now.list.nodes.items node) ≡ Some (take len.new out.new) }
+    ensures rest { result ≡ OK → drop len.new out.new ≡ drop len.new out.old }
+    ensures room { result ≡ OK → len.new ≤ length out.old }
     ensures short { result ≡ SHORT → IsSomeAnd (octets_of list.now.list (slice_get list.now.list.nodes.items node))
         (λ os. (len.new ≡ length os) × (length out.old < len.new)) }
     ensures argument { result ≡ ARGUMENT → octets_of list.now.list (slice_get list.now.list.nodes.items node) ≡ None }
     ensures kept { (result ≡ OK → ⊥) → out.new ≡ out.old }
+    ensures len_kept { (result ≡ OK → ⊥) → (result ≡ SHORT → ⊥) → len.new ≡ len.old }
 {
     match list.octets_of(node) {
         Some(octets) => lay_out(octets, out, len),
@@ -398,16 +436,20 @@ pub extern "C" fn dceidl_node_bytes(
     out: &mut [u8],
     len: &mut usize,
 ) -> u32
-    ensures known { result ≤ ABSENT }
+    ensures known { result ≤ SHORT }
+    ensures not_memory { result ≡ MEMORY → ⊥ }
     ensures same { nodes.new.value ≡ nodes.old.value }
     ensures copied { result ≡ OK → IsSomeAnd (nodes_in nodes.old.value)
         (λ n. IsSomeAnd (numbers_of n.list (slice_get n.list.nodes.items node)) (λ zs. take len.new out.new ≡ map low_octet zs)) }
+    ensures rest { result ≡ OK → drop len.new out.new ≡ drop len.new out.old }
+    ensures room { result ≡ OK → len.new ≤ length out.old }
     ensures short { result ≡ SHORT → IsSomeAnd (nodes_in nodes.old.value)
         (λ n. IsSomeAnd (numbers_of n.list (slice_get n.list.nodes.items node)) (λ zs. (len.new ≡ length zs) × (length out.old < len.new))) }
     ensures argument { result ≡ ARGUMENT → IsSomeAnd (nodes_in nodes.old.value)
         (λ n. numbers_of n.list (slice_get n.list.nodes.items node) ≡ None) }
     ensures empty { result ≡ EMPTY → nodes_in nodes.old.value ≡ None }
     ensures kept { (result ≡ OK → ⊥) → out.new ≡ out.old }
+    ensures len_kept { (result ≡ OK → ⊥) → (result ≡ SHORT → ⊥) → len.new ≡ len.old }
 {
     let Some(held) = nodes.take(alloc) else {
         return EMPTY;
@@ -422,14 +464,18 @@ pub extern "C" fn dceidl_node_bytes(
 
 // Copies the elements of a node that are numbers, an octet each.
 fn copy_bytes(list: &Nodes, node: usize, out: &mut [u8], len: &mut usize) -> u32
-    ensures known { result ≤ ABSENT }
+    ensures known { result ≤ SHORT }
     ensures not_empty { result ≡ EMPTY → ⊥ }
+    ensures not_memory { result ≡ MEMORY → ⊥ }
     ensures copied { result ≡ OK → IsSomeAnd (numbers_of list.now.list (slice_get list.now.list.nodes.items node))
         (λ zs. take len.new out.new ≡ map low_octet zs) }
+    ensures rest { result ≡ OK → drop len.new out.new ≡ drop len.new out.old }
+    ensures room { result ≡ OK → len.new ≤ length out.old }
     ensures short { result ≡ SHORT → IsSomeAnd (numbers_of list.now.list (slice_get list.now.list.nodes.items node))
         (λ zs. (len.new ≡ length zs) × (length out.old < len.new)) }
     ensures argument { result ≡ ARGUMENT → numbers_of list.now.list (slice_get list.now.list.nodes.items node) ≡ None }
     ensures kept { (result ≡ OK → ⊥) → out.new ≡ out.old }
+    ensures len_kept { (result ≡ OK → ⊥) → (result ≡ SHORT → ⊥) → len.new ≡ len.old }
 {
     match list.numbers_of(node) {
         Some(numbers) => lay_out_bytes(numbers, out, len),
@@ -437,14 +483,18 @@ fn copy_bytes(list: &Nodes, node: usize, out: &mut [u8], len: &mut usize) -> u32
     }
 }
 
-// Lays out numbers at the front of a buffer, an octet each, if it has room for them, and says how many they are.
+// Lays out numbers at the front of a buffer, an octet each, if it has room for them, and says how many they are. The rest stays as it was.
 fn lay_out_bytes(numbers: &[u64], out: &mut [u8], len: &mut usize) -> u32
-    ensures known { result ≤ ABSENT }
+    ensures known { result ≤ SHORT }
     ensures not_empty { result ≡ EMPTY → ⊥ }
     ensures not_argument { result ≡ ARGUMENT → ⊥ }
+    ensures not_memory { result ≡ MEMORY → ⊥ }
     ensures len { len.new ≡ length numbers.now }
     ensures done { result ≡ OK → take len.new out.new ≡ map low_octet numbers.now }
+    ensures rest { result ≡ OK → drop len.new out.new ≡ drop len.new out.old }
+    ensures room { result ≡ OK → len.new ≤ length out.old }
     ensures short { result ≡ SHORT → length out.old < len.new }
+    ensures len_kept { (result ≡ OK → ⊥) → (result ≡ SHORT → ⊥) → len.new ≡ len.old }
     ensures kept { (result ≡ OK → ⊥) → out.new ≡ out.old }
 {
     *len = numbers.len();
@@ -461,6 +511,7 @@ fn lay_out_bytes(numbers: &[u64], out: &mut [u8], len: &mut usize) -> u32
 fn put_octet(out: &mut [u8], at: usize, number: u64)
     requires { at < length out.old }
     ensures front { take (at + 1) out.new ≡ take at out.old ++ low_octet number ∷ [] }
+    ensures rest { drop (at + 1) out.new ≡ drop (at + 1) out.old }
     ensures wide { length out.new ≡ length out.old }
 {
     out[at] = (number % 256) as u8;

@@ -6,7 +6,7 @@ ghost use Rattle.dceidl_c.specs.Answers.{interface_in, values_in, refusal_in, or
 ghost use Rattle.dceidl_c.specs.Octets.{IsDecode, IsDecodeRefusal, IsResponse, IsResponseRefusal};
 ghost use Rattle.dceidl_c.specs.Texts.{IsRead, IsReadRefusal, IsReply, IsReplyRefusal};
 
-use crate::answers::{ABSENT, ARGUMENT, EMPTY, OK, REFUSED, fill, refuse};
+use crate::answers::{ABSENT, ARGUMENT, EMPTY, MEMORY, OK, REFUSED, SHORT, fill, refuse};
 use crate::numbers::{order_of, side_of};
 use library_handles::{Handle, Held};
 use library_interface::Compiled;
@@ -28,7 +28,8 @@ pub extern "C" fn dceidl_decode(
     taken: &mut usize,
     fault: &mut Handle,
 ) -> u32
-    ensures known { result ≤ ABSENT }
+    ensures known { result ≤ REFUSED }
+    ensures not_short { result ≡ SHORT → ⊥ }
     ensures same { interface.new.value ≡ interface.old.value }
     ensures decoded { result ≡ OK → IsSomeAnd (interface_in interface.old.value)
         (λ i. IsSomeAnd (values_in values.new.value) (λ v. IsDecode i operation side order octets.now taken.new v)) }
@@ -37,6 +38,7 @@ pub extern "C" fn dceidl_decode(
     ensures argument { result ≡ ARGUMENT → IsSomeAnd (interface_in interface.old.value) (λ i. is_stream i operation side order ≡ false) }
     ensures empty { result ≡ EMPTY → interface_in interface.old.value ≡ None }
     ensures values_kept { (result ≡ OK → ⊥) → values.new.value ≡ values.old.value }
+    ensures taken_kept { (result ≡ OK → ⊥) → taken.new ≡ taken.old }
     ensures fault_kept { (result ≡ REFUSED → ⊥) → fault.new.value ≡ fault.old.value }
 {
     let Some(held) = interface.take(alloc) else {
@@ -65,14 +67,16 @@ fn decode(
     taken: &mut usize,
     fault: &mut Handle,
 ) -> u32
-    ensures known { result ≤ ABSENT }
+    ensures known { result ≤ REFUSED }
     ensures not_empty { result ≡ EMPTY → ⊥ }
+    ensures not_short { result ≡ SHORT → ⊥ }
     ensures decoded { result ≡ OK → IsSomeAnd (values_in values.new.value)
         (λ v. IsDecode (arc_value compiled.now) operation side order octets.now taken.new v) }
     ensures refused { result ≡ REFUSED → IsSomeAnd (refusal_in fault.new.value)
         (λ e. IsDecodeRefusal (arc_value compiled.now) operation side order octets.now e) }
     ensures argument { result ≡ ARGUMENT → is_stream (arc_value compiled.now) operation side order ≡ false }
     ensures values_kept { (result ≡ OK → ⊥) → values.new.value ≡ values.old.value }
+    ensures taken_kept { (result ≡ OK → ⊥) → taken.new ≡ taken.old }
     ensures fault_kept { (result ≡ REFUSED → ⊥) → fault.new.value ≡ fault.old.value }
 {
     let Some(side) = side_of(side) else {
@@ -92,17 +96,23 @@ fn decode(
 
 // Fills a handle with values, and says how many octets they took.
 fn fill_taken(alloc: Global, made: (Values, u32), values: &mut Handle, taken: &mut usize) -> u32
-    ensures known { result ≤ ABSENT }
+    ensures known { result ≤ MEMORY }
     ensures not_empty { result ≡ EMPTY → ⊥ }
     ensures not_argument { result ≡ ARGUMENT → ⊥ }
+    ensures not_short { result ≡ SHORT → ⊥ }
     ensures not_refused { result ≡ REFUSED → ⊥ }
     ensures filled { result ≡ OK → values_in values.new.value ≡ Some made.0 }
-    ensures taken { taken.new ≡ made.1 }
+    ensures taken { result ≡ OK → taken.new ≡ made.1 }
     ensures kept { (result ≡ OK → ⊥) → values.new.value ≡ values.old.value }
+    ensures taken_kept { (result ≡ OK → ⊥) → taken.new ≡ taken.old }
 {
     let (held, count) = made;
+    let status = fill(alloc, values, Held::Values(held));
+    if status != OK {
+        return status;
+    }
     *taken = count as usize;
-    fill(alloc, values, Held::Values(held))
+    OK
 }
 
 /// Fills `values` with those of the response to a request that octets begin with.
@@ -116,15 +126,18 @@ pub extern "C" fn dceidl_decode_response(
     taken: &mut usize,
     fault: &mut Handle,
 ) -> u32
-    ensures known { result ≤ ABSENT }
+    ensures known { result ≤ REFUSED }
+    ensures not_short { result ≡ SHORT → ⊥ }
     ensures same { request.new.value ≡ request.old.value }
     ensures decoded { result ≡ OK → IsSomeAnd (values_in request.old.value)
         (λ q. IsSomeAnd (values_in values.new.value) (λ v. IsResponse q order octets.now taken.new v)) }
     ensures refused { result ≡ REFUSED → IsSomeAnd (values_in request.old.value)
         (λ q. IsSomeAnd (refusal_in fault.new.value) (λ e. IsResponseRefusal q order octets.now e)) }
-    ensures argument { result ≡ ARGUMENT → is_some (order_numbered order) ≡ true → IsSomeAnd (values_in request.old.value) (λ q. q.side ≡ Out) }
+    ensures argument { result ≡ ARGUMENT → IsSomeAnd (values_in request.old.value) (λ q. is_some (order_numbered order) ≡ true → q.side ≡ Out) }
+    ensures request { (result ≡ EMPTY → ⊥) → (result ≡ ARGUMENT → ⊥) → IsSomeAnd (values_in request.old.value) (λ q. q.side ≡ In) }
     ensures empty { result ≡ EMPTY → values_in request.old.value ≡ None }
     ensures values_kept { (result ≡ OK → ⊥) → values.new.value ≡ values.old.value }
+    ensures taken_kept { (result ≡ OK → ⊥) → taken.new ≡ taken.old }
     ensures fault_kept { (result ≡ REFUSED → ⊥) → fault.new.value ≡ fault.old.value }
 {
     let Some(held) = request.take(alloc) else {
@@ -151,12 +164,15 @@ fn decode_response(
     taken: &mut usize,
     fault: &mut Handle,
 ) -> u32
-    ensures known { result ≤ ABSENT }
+    ensures known { result ≤ REFUSED }
     ensures not_empty { result ≡ EMPTY → ⊥ }
+    ensures not_short { result ≡ SHORT → ⊥ }
     ensures decoded { result ≡ OK → IsSomeAnd (values_in values.new.value) (λ v. IsResponse given.now order octets.now taken.new v) }
     ensures refused { result ≡ REFUSED → IsSomeAnd (refusal_in fault.new.value) (λ e. IsResponseRefusal given.now order octets.now e) }
     ensures argument { result ≡ ARGUMENT → is_some (order_numbered order) ≡ true → given.now.side ≡ Out }
+    ensures request { (result ≡ ARGUMENT → ⊥) → given.now.side ≡ In }
     ensures values_kept { (result ≡ OK → ⊥) → values.new.value ≡ values.old.value }
+    ensures taken_kept { (result ≡ OK → ⊥) → taken.new ≡ taken.old }
     ensures fault_kept { (result ≡ REFUSED → ⊥) → fault.new.value ≡ fault.old.value }
 {
     let Some(order) = order_of(order) else {
@@ -193,7 +209,8 @@ pub extern "C" fn dceidl_read(
     values: &mut Handle,
     fault: &mut Handle,
 ) -> u32
-    ensures known { result ≤ ABSENT }
+    ensures known { result ≤ REFUSED }
+    ensures not_short { result ≡ SHORT → ⊥ }
     ensures same { interface.new.value ≡ interface.old.value }
     ensures read { result ≡ OK → IsSomeAnd (interface_in interface.old.value)
         (λ i. IsSomeAnd (values_in values.new.value) (λ v. IsRead i operation side text.now v)) }
@@ -226,8 +243,9 @@ fn read(
     values: &mut Handle,
     fault: &mut Handle,
 ) -> u32
-    ensures known { result ≤ ABSENT }
+    ensures known { result ≤ REFUSED }
     ensures not_empty { result ≡ EMPTY → ⊥ }
+    ensures not_short { result ≡ SHORT → ⊥ }
     ensures read { result ≡ OK → IsSomeAnd (values_in values.new.value) (λ v. IsRead (arc_value compiled.now) operation side text.now v) }
     ensures refused { result ≡ REFUSED → IsSomeAnd (refusal_in fault.new.value)
         (λ e. IsReadRefusal (arc_value compiled.now) operation side text.now e) }
@@ -249,10 +267,12 @@ fn read(
 
 // Fills a handle with values.
 pub(crate) fn fill_values(alloc: Global, made: Values, values: &mut Handle) -> u32
-    ensures known { result ≤ ABSENT }
+    ensures known { result ≤ MEMORY }
     ensures not_empty { result ≡ EMPTY → ⊥ }
     ensures not_argument { result ≡ ARGUMENT → ⊥ }
+    ensures not_short { result ≡ SHORT → ⊥ }
     ensures not_refused { result ≡ REFUSED → ⊥ }
+    ensures not_absent { result ≡ ABSENT → ⊥ }
     ensures filled { result ≡ OK → values_in values.new.value ≡ Some made }
     ensures kept { (result ≡ OK → ⊥) → values.new.value ≡ values.old.value }
 {
@@ -268,13 +288,15 @@ pub extern "C" fn dceidl_read_response(
     values: &mut Handle,
     fault: &mut Handle,
 ) -> u32
-    ensures known { result ≤ ABSENT }
+    ensures known { result ≤ REFUSED }
+    ensures not_short { result ≡ SHORT → ⊥ }
     ensures same { request.new.value ≡ request.old.value }
     ensures read { result ≡ OK → IsSomeAnd (values_in request.old.value)
         (λ q. IsSomeAnd (values_in values.new.value) (λ v. IsReply q text.now v)) }
     ensures refused { result ≡ REFUSED → IsSomeAnd (values_in request.old.value)
         (λ q. IsSomeAnd (refusal_in fault.new.value) (λ e. IsReplyRefusal q text.now e)) }
     ensures argument { result ≡ ARGUMENT → IsSomeAnd (values_in request.old.value) (λ q. q.side ≡ Out) }
+    ensures request { (result ≡ EMPTY → ⊥) → (result ≡ ARGUMENT → ⊥) → IsSomeAnd (values_in request.old.value) (λ q. q.side ≡ In) }
     ensures empty { result ≡ EMPTY → values_in request.old.value ≡ None }
     ensures values_kept { (result ≡ OK → ⊥) → values.new.value ≡ values.old.value }
     ensures fault_kept { (result ≡ REFUSED → ⊥) → fault.new.value ≡ fault.old.value }
@@ -299,11 +321,13 @@ fn read_response(
     values: &mut Handle,
     fault: &mut Handle,
 ) -> u32
-    ensures known { result ≤ ABSENT }
+    ensures known { result ≤ REFUSED }
     ensures not_empty { result ≡ EMPTY → ⊥ }
+    ensures not_short { result ≡ SHORT → ⊥ }
     ensures read { result ≡ OK → IsSomeAnd (values_in values.new.value) (λ v. IsReply given.now text.now v) }
     ensures refused { result ≡ REFUSED → IsSomeAnd (refusal_in fault.new.value) (λ e. IsReplyRefusal given.now text.now e) }
     ensures argument { result ≡ ARGUMENT → given.now.side ≡ Out }
+    ensures request { (result ≡ ARGUMENT → ⊥) → given.now.side ≡ In }
     ensures values_kept { (result ≡ OK → ⊥) → values.new.value ≡ values.old.value }
     ensures fault_kept { (result ≡ REFUSED → ⊥) → fault.new.value ≡ fault.old.value }
 {

@@ -5,7 +5,7 @@ ghost use Rattle.library_types.specs.Finding.{element_of};
 ghost use Rattle.dceidl_c.specs.Answers.{interface_in, is_side};
 ghost use Rattle.dceidl_c.specs.Types.{IsRoot, HasNoRootNamed, IsMember, members_of, HasNoMemberNamed};
 
-use crate::answers::{ABSENT, ARGUMENT, EMPTY, OK};
+use crate::answers::{ABSENT, ARGUMENT, EMPTY, MEMORY, OK, REFUSED, SHORT};
 use crate::numbers::side_of;
 use library_handles::{Handle, Held};
 use library_interface::Compiled;
@@ -25,11 +25,16 @@ pub extern "C" fn dceidl_root_named(
     of: &mut u32,
 ) -> u32
     ensures known { result ≤ ABSENT }
+    ensures not_memory { result ≡ MEMORY → ⊥ }
+    ensures not_short { result ≡ SHORT → ⊥ }
+    ensures not_refused { result ≡ REFUSED → ⊥ }
     ensures same { interface.new.value ≡ interface.old.value }
     ensures found { result ≡ OK → IsSomeAnd (interface_in interface.old.value) (λ i. IsRoot i operation side name.now root.new of.new) }
     ensures absent { result ≡ ABSENT → IsSomeAnd (interface_in interface.old.value) (λ i. HasNoRootNamed i operation side name.now) }
     ensures argument { result ≡ ARGUMENT → IsSomeAnd (interface_in interface.old.value) (λ i. is_side i operation side ≡ false) }
     ensures empty { result ≡ EMPTY → interface_in interface.old.value ≡ None }
+    ensures root_kept { (result ≡ OK → ⊥) → root.new ≡ root.old }
+    ensures of_kept { (result ≡ OK → ⊥) → of.new ≡ of.old }
 {
     let Some(held) = interface.take(alloc) else {
         return EMPTY;
@@ -54,9 +59,14 @@ fn find_root(
 ) -> u32
     ensures known { result ≤ ABSENT }
     ensures not_empty { result ≡ EMPTY → ⊥ }
+    ensures not_memory { result ≡ MEMORY → ⊥ }
+    ensures not_short { result ≡ SHORT → ⊥ }
+    ensures not_refused { result ≡ REFUSED → ⊥ }
     ensures found { result ≡ OK → IsRoot compiled.now operation side name.now root.new of.new }
     ensures absent { result ≡ ABSENT → HasNoRootNamed compiled.now operation side name.now }
     ensures argument { result ≡ ARGUMENT → is_side compiled.now operation side ≡ false }
+    ensures root_kept { (result ≡ OK → ⊥) → root.new ≡ root.old }
+    ensures of_kept { (result ≡ OK → ⊥) → of.new ≡ of.old }
 {
     let Some(side) = side_of(side) else {
         return ARGUMENT;
@@ -93,11 +103,16 @@ pub extern "C" fn dceidl_member_named(
     member_of: &mut u32,
 ) -> u32
     ensures known { result ≤ ABSENT }
+    ensures not_memory { result ≡ MEMORY → ⊥ }
+    ensures not_short { result ≡ SHORT → ⊥ }
+    ensures not_refused { result ≡ REFUSED → ⊥ }
     ensures same { interface.new.value ≡ interface.old.value }
     ensures found { result ≡ OK → IsSomeAnd (interface_in interface.old.value) (λ i. IsMember i of name.now member.new member_of.new) }
     ensures absent { result ≡ ABSENT → IsSomeAnd (interface_in interface.old.value) (λ i. HasNoMemberNamed i of name.now) }
     ensures argument { result ≡ ARGUMENT → IsSomeAnd (interface_in interface.old.value) (λ i. members_of (type_at i.types of) ≡ None) }
     ensures empty { result ≡ EMPTY → interface_in interface.old.value ≡ None }
+    ensures member_kept { (result ≡ OK → ⊥) → member.new ≡ member.old }
+    ensures member_of_kept { (result ≡ OK → ⊥) → member_of.new ≡ member_of.old }
 {
     let Some(held) = interface.take(alloc) else {
         return EMPTY;
@@ -121,9 +136,14 @@ fn find_member(
 ) -> u32
     ensures known { result ≤ ABSENT }
     ensures not_empty { result ≡ EMPTY → ⊥ }
+    ensures not_memory { result ≡ MEMORY → ⊥ }
+    ensures not_short { result ≡ SHORT → ⊥ }
+    ensures not_refused { result ≡ REFUSED → ⊥ }
     ensures found { result ≡ OK → IsMember compiled.now of name.now member.new member_of.new }
     ensures absent { result ≡ ABSENT → HasNoMemberNamed compiled.now of name.now }
     ensures argument { result ≡ ARGUMENT → members_of (type_at compiled.now.types of) ≡ None }
+    ensures member_kept { (result ≡ OK → ⊥) → member.new ≡ member.old }
+    ensures member_of_kept { (result ≡ OK → ⊥) → member_of.new ≡ member_of.old }
 {
     let interface = compiled.interface();
     let Some(members) = members_in(&interface.types, of) else {
@@ -153,11 +173,12 @@ pub extern "C" fn dceidl_element_type(
     of: u32,
     part: &mut u32,
 ) -> u32
-    ensures known { result ≤ ABSENT }
+    ensures known { result ≤ ARGUMENT }
     ensures same { interface.new.value ≡ interface.old.value }
     ensures found { result ≡ OK → IsSomeAnd (interface_in interface.old.value) (λ i. element_of (type_at i.types of) ≡ Some part.new) }
     ensures argument { result ≡ ARGUMENT → IsSomeAnd (interface_in interface.old.value) (λ i. element_of (type_at i.types of) ≡ None) }
     ensures empty { result ≡ EMPTY → interface_in interface.old.value ≡ None }
+    ensures part_kept { (result ≡ OK → ⊥) → part.new ≡ part.old }
 {
     let Some(held) = interface.take(alloc) else {
         return EMPTY;
@@ -172,10 +193,11 @@ pub extern "C" fn dceidl_element_type(
 
 // The type of elements, or of what a pointer points to.
 fn find_element(compiled: &Compiled, of: u32, part: &mut u32) -> u32
-    ensures known { result ≤ ABSENT }
+    ensures known { result ≤ ARGUMENT }
     ensures not_empty { result ≡ EMPTY → ⊥ }
     ensures found { result ≡ OK → element_of (type_at compiled.now.types of) ≡ Some part.new }
     ensures argument { result ≡ ARGUMENT → element_of (type_at compiled.now.types of) ≡ None }
+    ensures part_kept { (result ≡ OK → ⊥) → part.new ≡ part.old }
 {
     let interface = compiled.interface();
     match element_type(&interface.types, TypeId(of)) {

@@ -5,7 +5,7 @@ ghost use Rattle.library_calls.specs.Versions.{AreCompatible};
 ghost use Rattle.dceidl_c.specs.Answers.{interface_in, refusal_in};
 ghost use Rattle.dceidl_c.specs.Versions.{IsCompareRefusal};
 
-use crate::answers::{ABSENT, EMPTY, OK, REFUSED, refuse};
+use crate::answers::{ARGUMENT, EMPTY, OK, REFUSED, SHORT, refuse};
 use library_calls::compare_versions;
 use library_handles::{Handle, Held};
 use library_interface::Compiled;
@@ -19,7 +19,9 @@ pub extern "C" fn dceidl_compare(
     newer: &mut Handle,
     fault: &mut Handle,
 ) -> u32
-    ensures known { result ≤ ABSENT }
+    ensures known { result ≤ REFUSED }
+    ensures not_argument { result ≡ ARGUMENT → ⊥ }
+    ensures not_short { result ≡ SHORT → ⊥ }
     ensures older_same { older.new.value ≡ older.old.value }
     ensures newer_same { newer.new.value ≡ newer.old.value }
     ensures compatible { result ≡ OK → IsSomeAnd (interface_in older.old.value)
@@ -42,7 +44,9 @@ pub extern "C" fn dceidl_compare(
 
 // The same, beside the interface of the older version.
 fn compare_with(alloc: Global, older: &Compiled, newer: &mut Handle, fault: &mut Handle) -> u32
-    ensures known { result ≤ ABSENT }
+    ensures known { result ≤ REFUSED }
+    ensures not_argument { result ≡ ARGUMENT → ⊥ }
+    ensures not_short { result ≡ SHORT → ⊥ }
     ensures newer_same { newer.new.value ≡ newer.old.value }
     ensures compatible { result ≡ OK → IsSomeAnd (interface_in newer.old.value) (λ j. AreCompatible older.now j) }
     ensures refused { result ≡ REFUSED → IsSomeAnd (interface_in newer.old.value)
@@ -64,8 +68,10 @@ fn compare_with(alloc: Global, older: &Compiled, newer: &mut Handle, fault: &mut
 // The same, of two interfaces.
 #[tactic(auto, using(crate::proofs::Calls::compare_refused))]
 fn compare(alloc: Global, older: &Compiled, newer: &Compiled, fault: &mut Handle) -> u32
-    ensures known { result ≤ ABSENT }
+    ensures known { result ≤ REFUSED }
     ensures not_empty { result ≡ EMPTY → ⊥ }
+    ensures not_argument { result ≡ ARGUMENT → ⊥ }
+    ensures not_short { result ≡ SHORT → ⊥ }
     ensures compatible { result ≡ OK → AreCompatible older.now newer.now }
     ensures refused { result ≡ REFUSED → IsSomeAnd (refusal_in fault.new.value) (λ e. IsCompareRefusal older.now newer.now e) }
     ensures fault_kept { (result ≡ REFUSED → ⊥) → fault.new.value ≡ fault.old.value }

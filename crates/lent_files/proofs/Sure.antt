@@ -62,6 +62,35 @@ bad_later files i name text (Err y) e named written same bad failed =
     let that : e ≡ BadName = cc in
     record { place = i; file = f.0; there = f.1; not_text = λ utf8. bad that (subst (λ (n : List ℕ). IsUtf8 n) f.2 utf8) }
 
+-- ## Names that are not UTF-8
+
+past_first : (g : File) (files : List File) → IsUtf8 g.name.now → (k : ℕ) (f : File) → slice_get (g ∷ files) k ≡ Some f → (IsUtf8 f.name.now → ⊥) → HasBadName files
+past_first g files good zero f there bad = absurd (bad (subst (λ (h : File). IsUtf8 h.name.now) (same_Some _ _ there) good))
+past_first g files good (suc k) f there bad = record { place = k; file = f; there = there; not_text = bad }
+
+past_good : (files : List File) (i : ℕ) (f : File) → slice_get files i ≡ Some f → IsUtf8 f.name.now → HasBadName (drop i files) → HasBadName (drop (suc i) files)
+past_good [] i f is good bad = cc
+past_good (g ∷ files) zero f is good bad =
+    past_first g files (subst (λ (h : File). IsUtf8 h.name.now) (sym (same_Some _ _ is)) good) bad.place bad.file bad.there bad.not_text
+past_good (g ∷ files) (suc i) f is good bad = past_good files i f is good bad
+
+-- a name that is not UTF-8 is left where the one that was taken is
+pub bad_left : (files : List File) (i : ℕ) (name text : List ℕ) → option_map (λ (f : File). f.name.now) (slice_get files i) ≡ Some name
+    → option_map (λ (f : File). f.text.now) (slice_get files i) ≡ Some text → IsUtf8 name → HasBadName (drop i files) → HasBadName (drop (i + 1) files)
+bad_left files i name text named written good bad =
+    let f = found_as (slice_get files i) name text named written in
+    let next : i + 1 ≡ suc i = omega arith in
+    subst (λ (k : ℕ). HasBadName (drop k files)) (sym next) (past_good files i f.0 f.1 (subst (λ (n : List ℕ). IsUtf8 n) (sym f.2) good) bad)
+
+none_there : (k : ℕ) (f : File) → slice_get [] k ≡ Some f → ⊥
+none_there k f is = cc
+
+pub none_bad : (files : List File) → files ≡ [] → HasBadName files → ⊥
+none_bad [] over bad = none_there bad.place bad.file bad.there
+none_bad (f ∷ files) over bad = cc
+
+-- ## All files
+
 -- what is held after all files were added, where nothing was held before
 pub held_of : (files : List File) (before after : List ℕ → Option (List ℕ)) → ((name : List ℕ) → before name ≡ None)
     → ((name : List ℕ) → after name ≡ named_after files name (before name)) → (name : List ℕ) → after name ≡ named_after files name None

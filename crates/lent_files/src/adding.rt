@@ -15,6 +15,7 @@ pub(crate) fn add_all(taken: &mut MemFiles, files: &[File<'_>]) -> Result<(), Le
     ensures ok { OnOk result ((name : List ℕ)
         → content_of (entries_of taken.new) name ≡ named_after files.now name (content_of (entries_of taken.old) name)) }
     ensures bad { IsErrOf result BadName → HasBadName files.now }
+    ensures good { OnOk result (HasBadName files.now → ⊥) }
     ensures calls { files_calls taken.new ≡ files_calls taken.old }
 {
     for at in 0..files.len() {
@@ -44,6 +45,7 @@ fn add_file(taken: &mut MemFiles, name: &[u8], text: &[u8]) -> Result<(), LendFa
     ensures ok { OnOk result ((other : List ℕ)
         → content_of (entries_of taken.new) other ≡ with_file name.now text.now (λ _. content_of (entries_of taken.old) other) other) }
     ensures bad { IsErrOf result BadName → IsUtf8 name.now → ⊥ }
+    ensures good { OnOk result (IsUtf8 name.now) }
     ensures calls { files_calls taken.new ≡ files_calls taken.old }
 {
     let name = match from_utf8(name) {

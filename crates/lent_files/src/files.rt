@@ -30,6 +30,7 @@ impl LentFiles {
     pub fn of(alloc: Global, files: &[File<'_>]) -> Result<LentFiles, LendFault>
         ensures held { IfOk result (λ f. (name : List ℕ) → content_under f name ≡ named_after files.now name None) }
         ensures bad { IsErrOf result BadName → HasBadName files.now }
+        ensures good { IfOk result (λ _. HasBadName files.now → ⊥) }
     {
         let mut taken = match MemFiles::new(alloc, &[]) {
             Ok(none) => none,

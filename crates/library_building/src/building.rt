@@ -1,5 +1,5 @@
 // Values are built of a listing.
-ghost use Rattle.std.specs.Prelude.{◌≡◌, ◌<◌, length, Some, None, option_map, IfOk, IfErr};
+ghost use Rattle.std.specs.Prelude.{◌≡◌, ◌<◌, length, Some, None, false, option_map, IfOk, IfErr};
 ghost use Rattle.std.specs.Arc.{arc_value};
 ghost use Rattle.std.specs.List.{slice_get};
 ghost use Rattle.nd_types.specs.declared.types.Operation.{Operation};
@@ -8,7 +8,7 @@ ghost use Rattle.nd_value.specs.Fitting.{setting_beside};
 ghost use Rattle.nd_value.specs.Request.{IsRequestOf};
 ghost use Rattle.command_refusals.specs.declared.refusal.Refusal.TheVariants as refusal;
 ghost use Rattle.library_values.specs.Decoded.{IsOf};
-ghost use Rattle.library_building.specs.Built.{Says, IsBuildCause};
+ghost use Rattle.library_building.specs.Built.{Says, IsBuildCause, has_too_many};
 ghost use Rattle.library_building.specs.declared.fault.BuildFault.TheVariants as fault;
 
 use crate::fault::BuildFault;
@@ -40,6 +40,7 @@ pub fn build(
     ensures built { (o : Operation) → slice_get (arc_value compiled.now).operations op ≡ Some o
         → IfOk result (λ v. Says (setting_beside (arc_value compiled.now) o side None) listing.now v.graph) }
     ensures of { IfOk result (λ v. IsOf (arc_value compiled.now) op side None v) }
+    ensures few { IfOk result (λ _. has_too_many listing.now ≡ false) }
     ensures refused { (o : Operation) → slice_get (arc_value compiled.now).operations op ≡ Some o
         → IfErr result (IsBuildCause (setting_beside (arc_value compiled.now) o side None) listing.now) }
 {
@@ -61,6 +62,7 @@ pub fn build_response(
     ensures built { (o : Operation) → slice_get request.now.interface.operations request.now.op ≡ Some o
         → IfOk result (λ v. Says (setting_beside request.now.interface o Out (Some request.now.graph)) listing.now v.graph) }
     ensures of { IfOk result (λ v. IsOf request.now.interface request.now.op Out (Some request.now.graph) v) }
+    ensures few { IfOk result (λ _. has_too_many listing.now ≡ false) }
     ensures refused { (o : Operation) → slice_get request.now.interface.operations request.now.op ≡ Some o
         → IfErr result (IsBuildCause (setting_beside request.now.interface o Out (Some request.now.graph)) listing.now) }
 {
@@ -79,6 +81,7 @@ fn build_given(
     ensures built { (o : Operation) → slice_get request.now.interface.operations request.now.op ≡ Some o
         → IfOk result (λ v. Says (setting_beside request.now.interface o Out (Some request.now.graph)) listing.now v.graph) }
     ensures of { IfOk result (λ v. IsOf request.now.interface request.now.op Out (Some request.now.graph) v) }
+    ensures few { IfOk result (λ _. has_too_many listing.now ≡ false) }
     ensures refused { (o : Operation) → slice_get request.now.interface.operations request.now.op ≡ Some o
         → IfErr result (IsBuildCause (setting_beside request.now.interface o Out (Some request.now.graph)) listing.now) }
 {
@@ -102,6 +105,7 @@ fn build_beside(
     ensures built { (o : Operation) → slice_get (arc_value compiled.now).operations op ≡ Some o
         → IfOk result (λ v. Says (setting_beside (arc_value compiled.now) o side (option_map (λ f. f.now.graph) given.entry)) listing.now v.graph) }
     ensures of { IfOk result (λ v. IsOf (arc_value compiled.now) op side (option_map (λ f. f.now.graph) given.entry) v) }
+    ensures few { IfOk result (λ _. has_too_many listing.now ≡ false) }
     ensures refused { (o : Operation) → slice_get (arc_value compiled.now).operations op ≡ Some o
         → IfErr result (IsBuildCause (setting_beside (arc_value compiled.now) o side (option_map (λ f. f.now.graph) given.entry)) listing.now) }
 {
@@ -148,6 +152,7 @@ fn fit_listing(
     ensures beside { IfOk result (λ f. f.given ≡ option_map (λ f. f.now.graph) given.entry) }
     ensures built { (o : Operation) → slice_get interface.now.operations op ≡ Some o
         → IfOk result (λ f. Says (setting_beside interface.now o side (option_map (λ f. f.now.graph) given.entry)) listing.now f.graph) }
+    ensures few { IfOk result (λ _. has_too_many listing.now ≡ false) }
     ensures refused { (o : Operation) → slice_get interface.now.operations op ≡ Some o
         → IfErr result (IsBuildCause (setting_beside interface.now o side (option_map (λ f. f.now.graph) given.entry)) listing.now) }
 {

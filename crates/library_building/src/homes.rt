@@ -1,5 +1,5 @@
 // The roots and cells of a listing.
-ghost use Rattle.std.specs.Prelude.{◌≡◌, ◌<◌, ◌^◌, ◌++◌, length, map, Some, Option, IfOk, IfErr};
+ghost use Rattle.std.specs.Prelude.{◌≡◌, ◌<◌, ◌^◌, ◌++◌, length, map, Some, Option, false, IfOk, IfErr};
 ghost use Rattle.std.specs.List.{slice_get};
 ghost use Rattle.nd_types.specs.declared.types.Operation.{Operation as OperationValue};
 ghost use Rattle.nd_types.specs.Walk.{named_roots};
@@ -9,7 +9,7 @@ ghost use Rattle.nd_value.specs.Fitting.{setting_of, setting_beside};
 ghost use Rattle.nd_value.specs.Setting.{Setting};
 ghost use Rattle.library_building.specs.Said.{said};
 ghost use Rattle.library_building.specs.Steps.{IsStop, AreValues, AreCells};
-ghost use Rattle.library_building.specs.Built.{Says, IsRead, IsBuildCause, root_types, whole};
+ghost use Rattle.library_building.specs.Built.{Says, IsRead, IsBuildCause, has_too_many, root_types, whole};
 
 use crate::fault::BuildFault;
 use crate::listing::{Listing, has_too_many};
@@ -39,6 +39,7 @@ pub(crate) fn graph_of(
         → IfOk result (Says (setting_of interface.now o side) listing.now) }
     ensures few_cells { IfOk result (λ g. length g.cells < 2 ^ 32) }
     ensures few_nodes { IfOk result (λ g. HasFewNodes g) }
+    ensures few { IfOk result (λ _. has_too_many listing.now ≡ false) }
     ensures refused { (o : OperationValue) (q : Option GraphValue) → slice_get interface.now.operations op ≡ Some o
         → IfErr result (IsBuildCause (setting_beside interface.now o side q) listing.now) }
 {

@@ -15,3 +15,8 @@ both_ok (Err e) x n P same holds = tt
 pub same_err : {T E : Type 0} (r : Result T E) (fault : E) (C : E → Type 0) → IfErr r (λ e. e ≡ fault) → C fault → IfErr r C
 same_err (Ok v) fault C same holds = tt
 same_err (Err e) fault C same holds = subst C (sym same) holds
+
+-- what holds in any case holds beside a value
+pub any_ok : {T E : Type 0} (r : Result T E) (P : Type 0) → P → IfOk r (λ _. P)
+any_ok (Ok v) P holds = holds
+any_ok (Err e) P holds = tt

@@ -1,7 +1,7 @@
 // An interface is compiled from files that a caller lends.
 ghost use Rattle.std.specs.Prelude.{◌≡◌, ℕ, List, Option, None, option_map, IfOk, IfErr};
 ghost use Rattle.lent_files.specs.Held.{content_under};
-ghost use Rattle.lent_files.specs.Named.{named_after};
+ghost use Rattle.lent_files.specs.Named.{named_after, HasBadName};
 ghost use Rattle.lent_files.specs.declared.file.File.{File as FileValue};
 ghost use Rattle.command_refusals.specs.declared.refusal.Refusal.TheVariants as refusal;
 ghost use Rattle.library_interface.specs.CompiledOf.{IsCompiledOf, IsCompileCause, IsCompileFault};
@@ -30,6 +30,7 @@ pub fn compile_files(
     acf: Option<&str>,
 ) -> Result<Compiled, CompileFault>
     ensures compiled { IfOk result (IsCompiledOf (λ name. named_after files.now name None) idl.now (option_map (λ a. a.now) acf.entry)) }
+    ensures good { IfOk result (λ _. HasBadName files.now → ⊥) }
     ensures refused { IfErr result
         (IsCompileFault files.now (λ name. named_after files.now name None) idl.now (option_map (λ a. a.now) acf.entry)) }
 {

@@ -1,14 +1,14 @@
 -- What is added to a list of nodes.
 -- `a` is a list before, `b` after it, `fs` are the nodes of values, `ss` numbers of nodes, `ts` trees, `xs` numbers of elements.
-use Rattle.std.specs.Prelude.{◌≡◌, ℕ, ◌+◌, ◌-◌, List, ◌++◌, length, map, Option, Some, None, option_map, option_to_list, if◌then◌else◌, nat_lt}
-use Rattle.nd_value.specs.Tree.{Tree, Flat}
+use Rattle.std.specs.Prelude.{◌≡◌, ℕ, ◌+◌, ◌-◌, List, [], ◌++◌, length, map, Option, Some, None, option_map, option_to_list, if◌then◌else◌, nat_lt}
+use Rattle.nd_value.specs.Tree.{Tree, Flat, flat, trees}
 use Rattle.library_nodes.specs.declared.node.Elements.{Elements}
 use Rattle.library_nodes.specs.declared.node.Node.{Node}
 use Rattle.library_nodes.specs.declared.node.Node.TheVariants.{Array, Pipe}
 use Rattle.library_nodes.specs.declared.nodes.NodeList.{NodeList}
 use Rattle.library_nodes.specs.Low.{low_flats}
 use Rattle.library_nodes.specs.Said.{flats_said, SaysFirst}
-use Rattle.library_nodes.specs.Listed.{ArePaired}
+use Rattle.library_nodes.specs.Listed.{ArePaired, AreLaid}
 
 -- Nothing that was there changes.
 pub record Grows (a b : NodeList) : Type 0 where
@@ -69,9 +69,19 @@ pub record AddsOpen (fs : List Flat) (a b : NodeList) (open_node : Option Node) 
 abbrev pub BeginsEver : NodeList → ℕ → Tree → Type 0
 BeginsEver b s t = (ns : List Node) (zs os : List ℕ) → SaysFirst (b.numbers.items ++ zs) (b.octets ++ os) (b.nodes.items ++ ns) s t
 
--- The nodes of values are added, and the numbers of the first of each.
+-- The nodes that are added before one say these values, whatever is added after them.
+pub record IsFront (a b : NodeList) (s : ℕ) (ts : List Tree) : Type 0 where
+  pub front : List Node
+  pub rest : List Node
+  pub nodes : b.nodes.items ≡ (a.nodes.items ++ front) ++ rest
+  pub place : s ≡ length (a.nodes.items ++ front)
+  pub say : (zs os : List ℕ) → flats_said (b.numbers.items ++ zs) (b.octets ++ os) front ≡ low_flats (flat (trees ts))
+
+-- The nodes of values are added, one value after the other, and the numbers of the first of each.
 pub record AddsHomes (ts : List Tree) (a : NodeList) (ss : List ℕ) (b : NodeList) (ss' : List ℕ) : Type 0 where
   pub grows : Grows a b
   pub new : List ℕ
   pub starts : ss' ≡ ss ++ new
   pub begin : ArePaired (BeginsEver b) new ts
+  pub fronts : AreLaid (IsFront a b) [] new ts
+  pub say : (zs os : List ℕ) → flats_said (b.numbers.items ++ zs) (b.octets ++ os) grows.nodes ≡ low_flats (flat (trees ts))

@@ -1,12 +1,14 @@
 -- The nodes of all values of a graph.
 -- `g` is a graph, `n` are the nodes, `l` is a list of nodes, `ss` are numbers of nodes, `ts` trees, `i` is the index of a root, `c` a cell's number.
-use Rattle.std.specs.Prelude.{◌≡◌, ℕ, suc, zero, ◌+◌, List, [], ◌∷◌, ◌++◌, length, map, Option, None, if◌then◌else◌, nat_lt}
+use Rattle.std.specs.Prelude.{◌≡◌, ℕ, suc, zero, ◌+◌, List, [], ◌∷◌, ◌++◌, length, take, map, Option, None, if◌then◌else◌, nat_lt}
 use Rattle.std.specs.List.{slice_get}
 use Rattle.nd_value.specs.declared.value.Graph.{Graph}
-use Rattle.nd_value.specs.Tree.{Tree}
+use Rattle.nd_value.specs.Tree.{Tree, flat, trees}
+use Rattle.library_nodes.specs.declared.node.Node.{Node}
 use Rattle.library_nodes.specs.declared.nodes.NodeList.{NodeList}
 use Rattle.library_nodes.specs.declared.nodes.Nodes.{Nodes}
-use Rattle.library_nodes.specs.Said.{SaysFirst}
+use Rattle.library_nodes.specs.Low.{low_flats}
+use Rattle.library_nodes.specs.Said.{flats_said, SaysFirst}
 
 -- the values of all roots and then of all cells
 abbrev pub home_trees : Graph → List Tree
@@ -22,10 +24,22 @@ ArePaired R _ _ = ⊥
 abbrev pub Begins : NodeList → ℕ → Tree → Type 0
 Begins l s t = SaysFirst l.numbers.items l.octets l.nodes.items s t
 
--- These are the nodes of the graph.
+-- these nodes say these values, one after the other, and nothing else
+abbrev pub AreSaid : NodeList → List Node → List Tree → Type 0
+AreSaid l ns ts = flats_said l.numbers.items l.octets ns ≡ low_flats (flat (trees ts))
+
+-- each of these numbers and the trees before its place, after some earlier ones, are related
+abbrev pub AreLaid : (ℕ → List Tree → Type 0) → List Tree → List ℕ → List Tree → Type 0
+AreLaid R earlier [] [] = Unit {0}
+AreLaid R earlier (s ∷ ss) (t ∷ ts) = R s earlier × AreLaid R (earlier ++ t ∷ []) ss ts
+AreLaid R earlier _ _ = ⊥
+
+-- These are the nodes of the graph: each home begins where those before it end, and nothing follows the last one.
 pub record IsListOf (g : Graph) (n : Nodes) : Type 0 where
   pub roots : n.roots ≡ length g.roots
   pub homes : ArePaired (Begins n.list) n.starts.items (home_trees g)
+  pub before : AreLaid (λ s ts. AreSaid n.list (take s n.list.nodes.items) ts) [] n.starts.items (home_trees g)
+  pub all : AreSaid n.list n.list.nodes.items (home_trees g)
 
 -- the number of the first node of a root
 abbrev pub root_start : Nodes → ℕ → Option ℕ

@@ -1,5 +1,5 @@
 // The parts of nodes by their numbers.
-ghost use Rattle.std.specs.Prelude.{◌≡◌, ◌≤◌, suc, false, length, IfSome, IfNone};
+ghost use Rattle.std.specs.Prelude.{◌≡◌, ◌≤◌, ◌<◌, suc, true, false, length, IfSome, IfNone};
 ghost use Rattle.std.specs.List.{slice_get};
 ghost use Rattle.library_nodes.specs.Parts.{IsAfter, part_count, has_part};
 
@@ -26,6 +26,7 @@ impl Nodes {
     /// The number of the node after one and all its parts, if there is such a node. The time is in proportion to the nodes between. Takes no memory.
     pub fn after(&self, node: usize) -> Option<usize>
         ensures some { IfSome result (IsAfter self.now.list.nodes.items node 1) }
+        ensures there { IfSome result (λ _. node < length self.now.list.nodes.items) }
         ensures none { IfNone result (length self.now.list.nodes.items ≤ node) }
     {
         let nodes = self.list.nodes.as_slice();
@@ -39,6 +40,7 @@ impl Nodes {
     /// The number of a part of a node, if there is one of that index, from 0. The time is in proportion to the nodes between. Takes no memory.
     pub fn part(&self, node: usize, index: usize) -> Option<usize>
         ensures some { IfSome result (IsAfter self.now.list.nodes.items (suc node) index) }
+        ensures there { IfSome result (λ _. has_part (slice_get self.now.list.nodes.items node) index ≡ true) }
         ensures none { IfNone result (has_part (slice_get self.now.list.nodes.items node) index ≡ false) }
     {
         part_of(self.list.nodes.as_slice(), node, index)
@@ -48,6 +50,7 @@ impl Nodes {
 // The number of a part of a node.
 fn part_of(nodes: &[Node], node: usize, index: usize) -> Option<usize>
     ensures some { IfSome result (IsAfter nodes.now (suc node) index) }
+    ensures there { IfSome result (λ _. has_part (slice_get nodes.now node) index ≡ true) }
     ensures none { IfNone result (has_part (slice_get nodes.now node) index ≡ false) }
 {
     let whole = nodes.get(node)?;

@@ -99,8 +99,9 @@ impl Values {
         print_fit(alloc, interface, &self.fit)
     }
 
-    /// Writes the octets of the values to the front of a buffer, in NDR (C706, chapter 14), if they have room there; else it writes nothing, and says
-    /// how many they are. Each chunk of a pipe has `chunk` elements, at least one, except the last, which may have fewer.
+    /// Writes the octets of the values to the front of a buffer, in NDR (C706, chapter 14), if they have room there, and leaves the rest of it as it
+    /// was; else it writes nothing, and says how many they are. Each chunk of a pipe has `chunk` elements, at least one, except the last, which may
+    /// have fewer.
     ///
     /// # Errors
     /// TooLong, exactly where the octets are more than a stream may have: so many. Memory where memory was refused.

@@ -1,4 +1,5 @@
 use Rattle.std.proofs.Common.{◌≡◌, ◌<◌, ◌≤◌, length, arith}
+use Rattle.dceidl_c.proofs.Buffers.{rest_more, rest_all}
 use Rattle.dceidl_c.proofs.Copies.{octets_more, octets_all}
 use Rattle.dceidl_c.proofs.nodes.lay_out_bytes.Goals as goal
 
@@ -12,9 +13,15 @@ loop-at-preserved c =
       within = omega (arith, low);
       room = omega (arith, room, wide);
       front = octets_more xs c.loop-at.out c.put_octet.new.out c.loop-at.at low c.loop-at.invariant.front c.put_octet.ensures.front;
+      rest = rest_more c.args.out.now c.loop-at.out c.put_octet.new.out c.loop-at.at c.put_octet.ensures.rest c.loop-at.invariant.rest;
     }
 
 pub returns-clause-done : goal.returns-clause-done
 returns-clause-done c ok =
     let past : length c.args.numbers.now ≤ c.loop-at.at = omega arith in
     octets_all c.args.numbers.now c.loop-at.out c.loop-at.at past c.loop-at.invariant.within c.loop-at.invariant.front
+
+pub returns-clause-rest : goal.returns-clause-rest
+returns-clause-rest c ok =
+    let past : length c.args.numbers.now ≤ c.loop-at.at = omega arith in
+    rest_all c.args.out.now c.loop-at.out c.loop-at.at (length c.args.numbers.now) past c.loop-at.invariant.within c.loop-at.invariant.rest

@@ -1,4 +1,4 @@
-use Rattle.std.proofs.Common.{◌≡◌, ◌≤◌, length, map, take}
+use Rattle.std.proofs.Common.{◌≡◌, ◌≤◌, length, map, take, drop}
 use Rattle.dceidl_c.specs.Nodes.{low_octet}
 use Rattle.dceidl_c.proofs.nodes.lay_out_bytes.Given as goal
 
@@ -7,4 +7,5 @@ invariant-loop-at l = record {
   within : l.at ≤ length l.numbers;
   room : length l.numbers ≤ length l.out;
   front : take l.at l.out ≡ map low_octet (take l.at l.numbers);
+  rest : drop l.at l.out ≡ drop l.at l.fn.out;
 }

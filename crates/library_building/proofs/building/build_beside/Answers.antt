@@ -1,4 +1,4 @@
-use Rattle.std.proofs.Common.{◌≡◌, ◌<◌, ◌∙◌, Some, length, sym, subst, option_map}
+use Rattle.std.proofs.Common.{◌≡◌, ◌<◌, ◌∙◌, Some, false, length, sym, subst, option_map}
 use Rattle.std.specs.Arc.{arc_value}
 use Rattle.std.specs.List.{slice_get}
 use Rattle.nd_types.specs.declared.interface.Interface.{Interface}
@@ -6,9 +6,9 @@ use Rattle.nd_value.specs.Fitting.{Fitting, setting_beside}
 use Rattle.nd_value.specs.Request.{IsRequestOf}
 use Rattle.command_refusals.specs.declared.refusal.Refusal.TheVariants as refusal
 use Rattle.library_values.specs.Decoded.{IsOf}
-use Rattle.library_interface.proofs.Results.{same_ok, same_err}
+use Rattle.library_interface.proofs.Results.{same_ok, any_ok, same_err}
 use Rattle.library_building.specs.declared.fault.BuildFault.TheVariants as fault
-use Rattle.library_building.specs.Built.{Says, IsBuildCause}
+use Rattle.library_building.specs.Built.{Says, IsBuildCause, has_too_many}
 use Rattle.library_building.proofs.building.build_beside.Goals as goal
 
 pub fit_listing-requires-clause-known : goal.fit_listing-requires-clause-known
@@ -40,6 +40,9 @@ returns-in-Ok-clause-of c =
       side_is = c.in-Ok.ensures.side;
       given_is = c.in-Ok.ensures.beside;
     })
+
+pub returns-in-Ok-clause-few : goal.returns-in-Ok-clause-few
+returns-in-Ok-clause-few c = any_ok c.held.result (has_too_many c.args.listing.now ≡ false) c.in-Ok.ensures.few
 
 pub returns-in-Ok-clause-refused : goal.returns-in-Ok-clause-refused
 returns-in-Ok-clause-refused c o there =

@@ -18,5 +18,8 @@ returns-in-Ok-clause-few_nodes c =
     let (o, there) = item_there c.args.interface.now.operations c.args.op c.requires.known in
     few_nodes (setting_of c.args.interface.now o c.args.side) c.args.listing.now c.in-Ok.graph (sym c.has_too_many.ensures ∙ c.if-has_too_many.false) (c.in-Ok.ensures o there)
 
+pub returns-in-Ok-clause-few : goal.returns-in-Ok-clause-few
+returns-in-Ok-clause-few c = sym c.has_too_many.ensures ∙ c.if-has_too_many.false
+
 pub returns-in-Err-clause-refused : goal.returns-in-Err-clause-refused
 returns-in-Err-clause-refused c = λ o q there. c.fault_of.ensures (setting_beside c.args.interface.now o c.args.side q) (c.in-Err.ensures o there)
