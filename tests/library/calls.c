@@ -54,8 +54,8 @@ static void values(dceidl_interface *interface, dceidl_fault *fault) {
     dceidl_interface counted = DCEIDL_NONE;
     dceidl_values made = DCEIDL_NONE;
     dceidl_cause cause;
-    size_t taken;
-    need(dceidl_decode(interface, 0, DCEIDL_IN, DCEIDL_LITTLE, wrong, 3, &made, &taken, fault) == DCEIDL_REFUSED, "too short");
+    size_t taken = 9;
+    need(dceidl_decode(interface, 0, DCEIDL_IN, DCEIDL_LITTLE, wrong, 3, &made, &taken, fault) == DCEIDL_REFUSED && taken == 9, "too short");
     need(cause_of(fault, DCEIDL_OCTETS, DCEIDL_OCTETS_TRUNCATED, "").place == 3, "place");
     need(dceidl_read(interface, 0, DCEIDL_IN, dceidl_some("values 2\nop ping in\n"), 19, &made, fault) == DCEIDL_REFUSED, "another operation");
     cause = cause_of(fault, DCEIDL_TEXT, DCEIDL_TEXT_OTHER_NAME, "");
@@ -79,10 +79,14 @@ static void fragments(dceidl_fault *fault) {
     need(dceidl_split(DCEIDL_IN, 5, DCEIDL_BIG, 77, 1024, stub, sizeof stub, pieces, sizeof pieces, &length) == DCEIDL_OK, "split");
     need(length == 3 * 1024 && dceidl_split(DCEIDL_IN, 5, DCEIDL_BIG, 77, 1024, stub, sizeof stub, pieces, length - 1, &joined) == DCEIDL_SHORT && joined == length,
          "how many octets");
+    memset(out, 0xa5, sizeof out);
     need(dceidl_join(DCEIDL_IN, pieces, sizeof pieces, out, sizeof out, &joined, &call, fault) == DCEIDL_OK, "join");
     need(joined == sizeof stub && !memcmp(out, stub, joined), "stub data");
+    for (i = joined; i < sizeof out; i++)
+        need(out[i] == 0xa5, "octets after the stub data");
     need(call.order == DCEIDL_BIG && call.call == 77 && call.operation == 5 && call.taken == length, "what is stated");
-    need(dceidl_join(DCEIDL_IN, pieces, length, out, joined - 1, &i, &call, fault) == DCEIDL_SHORT && i == joined, "short");
+    call.call = 1;
+    need(dceidl_join(DCEIDL_IN, pieces, length, out, joined - 1, &i, &call, fault) == DCEIDL_SHORT && i == joined && call.call == 1, "short");
     need(dceidl_join(DCEIDL_OUT, pieces, length, out, sizeof out, &joined, &call, fault) == DCEIDL_REFUSED, "another side");
     need(cause_of(fault, DCEIDL_FRAGMENTS, DCEIDL_FRAGMENTS_KIND, "").place == 2, "place in fragments");
     need(dceidl_join(DCEIDL_IN, pieces, length - 1, out, sizeof out, &joined, &call, fault) == DCEIDL_REFUSED, "cut");
@@ -101,7 +105,7 @@ static void labels(dceidl_fault *fault) {
     uint32_t order;
     need(dceidl_label_order((const uint8_t *)"\x10\0\0\0", 4, &order, fault) == DCEIDL_OK && order == DCEIDL_LITTLE, "little");
     need(dceidl_label_order((const uint8_t *)"\0\0\0\0more", 8, &order, fault) == DCEIDL_OK && order == DCEIDL_BIG, "big");
-    need(dceidl_label_order((const uint8_t *)"\x11\0\0\0", 4, &order, fault) == DCEIDL_REFUSED, "EBCDIC");
+    need(dceidl_label_order((const uint8_t *)"\x11\0\0\0", 4, &order, fault) == DCEIDL_REFUSED && order == DCEIDL_BIG, "EBCDIC");
     cause_of(fault, DCEIDL_LABEL, DCEIDL_LABEL_EBCDIC, "");
     need(dceidl_label_order((const uint8_t *)"\x10\0", 3, &order, fault) == DCEIDL_REFUSED, "a short label");
     cause_of(fault, DCEIDL_LABEL, DCEIDL_LABEL_TRUNCATED, "");
