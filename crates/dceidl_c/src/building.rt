@@ -1,5 +1,5 @@
 // Values of listings.
-ghost use Rattle.std.specs.Prelude.{◌≡◌, ◌≤◌, ◌<◌, length, Some, None, true, false, IsSomeAnd};
+ghost use Rattle.std.specs.Prelude.{◌≡◌, ◌≤◌, ◌<◌, length, Some, None, true, false, is_some, IsSomeAnd};
 ghost use Rattle.std.specs.Arc.{arc_value};
 ghost use Rattle.nd_types.specs.declared.types.Side.TheVariants.{In, Out};
 ghost use Rattle.library_building.specs.Built.{has_too_many};
@@ -7,7 +7,7 @@ ghost use Rattle.dceidl_c.specs.Answers.{interface_in, values_in, refusal_in, is
 ghost use Rattle.dceidl_c.specs.Building.{IsBuild, IsBuildRefusal, IsWrongNode, IsBuiltReply, IsBuiltReplyRefusal, IsWrongReplyNode};
 ghost use Rattle.dceidl_c.specs.Building.{IsCellType, has_cell};
 
-use crate::answers::{ABSENT, ARGUMENT, EMPTY, OK, REFUSED, SHORT, WRONG_NODE, refuse};
+use crate::answers::{ABSENT, ARGUMENT, EMPTY, MEMORY, OK, REFUSED, SHORT, WRONG_NODE, refuse};
 use crate::numbers::side_of;
 use crate::reading::{fill_values, is_request};
 use library_building::{BuildFault, Listing, build, build_response};
@@ -42,6 +42,7 @@ pub extern "C" fn dceidl_build(
     ensures argument { result ≡ ARGUMENT → IsSomeAnd (interface_in interface.old.value)
         (λ i. is_side i operation side ≡ true → has_too_many listing.now ≡ true) }
     ensures empty { result ≡ EMPTY → interface_in interface.old.value ≡ None }
+    ensures memory { result ≡ MEMORY → is_some (interface_in interface.old.value) ≡ true }
     ensures values_kept { (result ≡ OK → ⊥) → values.new.value ≡ values.old.value }
     ensures node_kept { (result ≡ WRONG_NODE → ⊥) → node.new ≡ node.old }
     ensures fault_kept { (result ≡ REFUSED → ⊥) → fault.new.value ≡ fault.old.value }

@@ -1,5 +1,5 @@
 // Faults.
-ghost use Rattle.std.specs.Prelude.{◌≡◌, ◌≤◌, ◌<◌, [], length, take, drop, None, IsSomeAnd};
+ghost use Rattle.std.specs.Prelude.{◌≡◌, ◌≤◌, ◌<◌, [], length, take, drop, None, true, is_some, IsSomeAnd};
 ghost use Rattle.command_refusals.specs.Lines.{line_of};
 ghost use Rattle.library_faults.specs.Causes.{IsCauseOf};
 ghost use Rattle.library_faults.specs.Names.{file_of, name_of};
@@ -114,6 +114,7 @@ pub extern "C" fn dceidl_fault_line(
     ensures short { result ≡ SHORT → IsSomeAnd (refusal_in fault.old.value)
         (λ r. (len.new ≡ length (line_of [] [] r)) × (length out.old < len.new)) }
     ensures empty { result ≡ EMPTY → refusal_in fault.old.value ≡ None }
+    ensures memory { result ≡ MEMORY → is_some (refusal_in fault.old.value) ≡ true }
     ensures kept { (result ≡ OK → ⊥) → out.new ≡ out.old }
     ensures len_kept { (result ≡ OK → ⊥) → (result ≡ SHORT → ⊥) → len.new ≡ len.old }
 {

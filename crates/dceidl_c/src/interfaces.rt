@@ -1,5 +1,5 @@
 // Interfaces.
-ghost use Rattle.std.specs.Prelude.{◌≡◌, ◌≤◌, ◌<◌, length, take, drop, Some, None, option_map, IfSome, IsSomeAnd, IsUtf8};
+ghost use Rattle.std.specs.Prelude.{◌≡◌, ◌≤◌, ◌<◌, length, take, drop, Some, None, true, is_some, option_map, IfSome, IsSomeAnd, IsUtf8};
 ghost use Rattle.std.specs.Arc.{arc_value};
 ghost use Rattle.std.specs.List.{slice_get};
 ghost use Rattle.nd_types.specs.Operations.{operation_named};
@@ -138,6 +138,7 @@ pub extern "C" fn dceidl_interface_again(
     ensures same { interface.new.value ≡ interface.old.value }
     ensures filled { result ≡ OK → IsSomeAnd (interface_in interface.old.value) (λ i. interface_in again.new.value ≡ Some i) }
     ensures empty { result ≡ EMPTY → interface_in interface.old.value ≡ None }
+    ensures memory { result ≡ MEMORY → is_some (interface_in interface.old.value) ≡ true }
     ensures kept { (result ≡ OK → ⊥) → again.new.value ≡ again.old.value }
 {
     let Some(held) = interface.take(alloc) else {

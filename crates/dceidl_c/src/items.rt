@@ -39,6 +39,7 @@ pub extern "C" fn dceidl_items_of(
         (λ i. IsSomeAnd (refusal_in fault.new.value) (λ e. IsDecodeRefusal i operation side order octets.now e)) }
     ensures argument { result ≡ ARGUMENT → IsSomeAnd (interface_in interface.old.value) (λ i. is_stream i operation side order ≡ false) }
     ensures empty { result ≡ EMPTY → interface_in interface.old.value ≡ None }
+    ensures memory { result ≡ MEMORY → is_some (interface_in interface.old.value) ≡ true }
     ensures items_kept { (result ≡ OK → ⊥) → items.new.value ≡ items.old.value }
     ensures fault_kept { (result ≡ REFUSED → ⊥) → fault.new.value ≡ fault.old.value }
 {

@@ -1,5 +1,6 @@
 // Nodes of values.
-ghost use Rattle.std.specs.Prelude.{◌≡◌, ◌≤◌, ◌<◌, ◌+◌, ◌-◌, ◌++◌, ◌∷◌, [], suc, true, false, length, take, drop, map, Some, None, IsSomeAnd};
+ghost use Rattle.std.specs.Prelude.{◌≡◌, ◌≤◌, ◌<◌, ◌+◌, ◌-◌, ◌++◌, ◌∷◌, [], suc, true, false, length, take, drop, map};
+ghost use Rattle.std.specs.Prelude.{Some, None, is_some, IsSomeAnd};
 ghost use Rattle.std.specs.List.{slice_get};
 ghost use Rattle.library_nodes.specs.Contents.{numbers_of, octets_of};
 ghost use Rattle.library_nodes.specs.Described.{described};
@@ -23,6 +24,7 @@ pub extern "C" fn dceidl_nodes_of(alloc: Global, values: &mut Handle, nodes: &mu
     ensures same { values.new.value ≡ values.old.value }
     ensures listed { result ≡ OK → IsSomeAnd (values_in values.old.value) (λ v. IsSomeAnd (nodes_in nodes.new.value) (IsListOf v.graph)) }
     ensures empty { result ≡ EMPTY → values_in values.old.value ≡ None }
+    ensures memory { result ≡ MEMORY → is_some (values_in values.old.value) ≡ true }
     ensures kept { (result ≡ OK → ⊥) → nodes.new.value ≡ nodes.old.value }
 {
     let Some(held) = values.take(alloc) else {

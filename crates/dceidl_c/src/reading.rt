@@ -37,6 +37,7 @@ pub extern "C" fn dceidl_decode(
         (λ i. IsSomeAnd (refusal_in fault.new.value) (λ e. IsDecodeRefusal i operation side order octets.now e)) }
     ensures argument { result ≡ ARGUMENT → IsSomeAnd (interface_in interface.old.value) (λ i. is_stream i operation side order ≡ false) }
     ensures empty { result ≡ EMPTY → interface_in interface.old.value ≡ None }
+    ensures memory { result ≡ MEMORY → is_some (interface_in interface.old.value) ≡ true }
     ensures values_kept { (result ≡ OK → ⊥) → values.new.value ≡ values.old.value }
     ensures taken_kept { (result ≡ OK → ⊥) → taken.new ≡ taken.old }
     ensures fault_kept { (result ≡ REFUSED → ⊥) → fault.new.value ≡ fault.old.value }
@@ -218,6 +219,7 @@ pub extern "C" fn dceidl_read(
         (λ i. IsSomeAnd (refusal_in fault.new.value) (λ e. IsReadRefusal i operation side text.now e)) }
     ensures argument { result ≡ ARGUMENT → IsSomeAnd (interface_in interface.old.value) (λ i. is_side i operation side ≡ false) }
     ensures empty { result ≡ EMPTY → interface_in interface.old.value ≡ None }
+    ensures memory { result ≡ MEMORY → is_some (interface_in interface.old.value) ≡ true }
     ensures values_kept { (result ≡ OK → ⊥) → values.new.value ≡ values.old.value }
     ensures fault_kept { (result ≡ REFUSED → ⊥) → fault.new.value ≡ fault.old.value }
 {

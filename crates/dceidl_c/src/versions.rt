@@ -1,11 +1,11 @@
 // Versions of an interface.
-ghost use Rattle.std.specs.Prelude.{◌≡◌, ◌≤◌, Some, None, IsSomeAnd};
+ghost use Rattle.std.specs.Prelude.{◌≡◌, ◌≤◌, Some, None, true, is_some, IsSomeAnd};
 ghost use Rattle.nd_types.specs.declared.interface.Interface.{Interface};
 ghost use Rattle.library_calls.specs.Versions.{AreCompatible};
 ghost use Rattle.dceidl_c.specs.Answers.{interface_in, refusal_in};
 ghost use Rattle.dceidl_c.specs.Versions.{IsCompareRefusal};
 
-use crate::answers::{ARGUMENT, EMPTY, OK, REFUSED, SHORT, refuse};
+use crate::answers::{ARGUMENT, EMPTY, MEMORY, OK, REFUSED, SHORT, refuse};
 use library_calls::compare_versions;
 use library_handles::{Handle, Held};
 use library_interface::Compiled;
@@ -29,6 +29,7 @@ pub extern "C" fn dceidl_compare(
     ensures refused { result ≡ REFUSED → IsSomeAnd (interface_in older.old.value)
         (λ i. IsSomeAnd (interface_in newer.old.value) (λ j. IsSomeAnd (refusal_in fault.new.value) (λ e. IsCompareRefusal i j e))) }
     ensures empty { result ≡ EMPTY → (i : Interface) → interface_in older.old.value ≡ Some i → interface_in newer.old.value ≡ None }
+    ensures memory { result ≡ MEMORY → IsSomeAnd (interface_in older.old.value) (λ _. is_some (interface_in newer.old.value) ≡ true) }
     ensures fault_kept { (result ≡ REFUSED → ⊥) → fault.new.value ≡ fault.old.value }
 {
     let Some(held) = older.take(alloc) else {
@@ -52,6 +53,7 @@ fn compare_with(alloc: Global, older: &Compiled, newer: &mut Handle, fault: &mut
     ensures refused { result ≡ REFUSED → IsSomeAnd (interface_in newer.old.value)
         (λ j. IsSomeAnd (refusal_in fault.new.value) (λ e. IsCompareRefusal older.now j e)) }
     ensures empty { result ≡ EMPTY → interface_in newer.old.value ≡ None }
+    ensures memory { result ≡ MEMORY → is_some (interface_in newer.old.value) ≡ true }
     ensures fault_kept { (result ≡ REFUSED → ⊥) → fault.new.value ≡ fault.old.value }
 {
     let Some(held) = newer.take(alloc) else {

@@ -1,5 +1,5 @@
 // Values as a text and as octets.
-ghost use Rattle.std.specs.Prelude.{◌≡◌, ◌≤◌, ◌<◌, length, take, drop, None, true, false, IsSomeAnd};
+ghost use Rattle.std.specs.Prelude.{◌≡◌, ◌≤◌, ◌<◌, length, take, drop, None, true, false, is_some, IsSomeAnd};
 ghost use Rattle.dceidl_c.specs.Answers.{values_in, refusal_in, number_of_side, is_layout};
 ghost use Rattle.dceidl_c.specs.Octets.{IsEncode, IsNoRoom, IsEncodeRefusal};
 ghost use Rattle.dceidl_c.specs.Texts.{IsTextOf, HasTextLength};
@@ -57,6 +57,7 @@ pub extern "C" fn dceidl_text(
     ensures room { result ≡ OK → len.new ≤ length out.old }
     ensures short { result ≡ SHORT → IsSomeAnd (values_in values.old.value) (λ v. HasTextLength v len.new × (length out.old < len.new)) }
     ensures empty { result ≡ EMPTY → values_in values.old.value ≡ None }
+    ensures memory { result ≡ MEMORY → is_some (values_in values.old.value) ≡ true }
     ensures kept { (result ≡ OK → ⊥) → out.new ≡ out.old }
     ensures len_kept { (result ≡ OK → ⊥) → (result ≡ SHORT → ⊥) → len.new ≡ len.old }
 {
@@ -112,6 +113,7 @@ pub extern "C" fn dceidl_encode(
     ensures kept { (result ≡ OK → ⊥) → out.new ≡ out.old }
     ensures len_kept { (result ≡ OK → ⊥) → (result ≡ SHORT → ⊥) → len.new ≡ len.old }
     ensures empty { result ≡ EMPTY → values_in values.old.value ≡ None }
+    ensures memory { result ≡ MEMORY → is_some (values_in values.old.value) ≡ true }
     ensures fault_kept { (result ≡ REFUSED → ⊥) → fault.new.value ≡ fault.old.value }
 {
     let Some(held) = values.take(alloc) else {
