@@ -5,6 +5,7 @@ mod PieceNodes
 pub mod ElementsTaken
 mod FirstZeros
 pub mod Going
+pub mod OneStep
 mod TextSteps
 pub mod StringSteps
 mod StructSteps

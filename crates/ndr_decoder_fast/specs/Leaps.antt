@@ -73,3 +73,9 @@ module _ (values : List EnumList) (order : Order) (code : List Instr) (h : Home)
   LeapsOrGivesUp (Ok true) = Leapt
   LeapsOrGivesUp (Ok false) = Stays
   LeapsOrGivesUp (Err e) = GivesUp
+
+-- One step of an instruction was taken, or nothing was done, whatever the code is, where the instruction is at the state's address; or memory failed.
+abbrev pub TakesStep : Order → Instr → State → SourceSeen → ℕ → ℕ → State → Result Bool Memory → Type 0
+TakesStep order i s0 source steps steps_now s1 r =
+    (values : List EnumList) (code : List Instr) (h : Home) → slice_get code s0.pc ≡ Some i
+    → LeapsOrGivesUp values order code h s0 source steps steps_now s1 r

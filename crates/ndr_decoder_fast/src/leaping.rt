@@ -9,6 +9,7 @@ ghost use Rattle.ndr_decoder_state.specs.Seen.{outside, state_of};
 ghost use Rattle.ndr_decoder_fast.specs.Leaps.{Leaps};
 
 use crate::LeapFault;
+use crate::alone::leap_alone;
 use crate::records::leap_records;
 use crate::room::make_room;
 use crate::strings::leap_string;
@@ -19,11 +20,12 @@ use ndr_decoder_input::Intake;
 use ndr_decoder_laws::Frame;
 use ndr_decoder_state::Machine;
 
-/// Takes the steps of a struct of numbers and pointers, of such structs that are elements of an array, or of a string in one go, if the source has
-/// their octets at hand, and says whether it did. A struct with pointers has 64 octets at most and no full pointer among its members, a string 256
-/// octets with its terminator. Else nothing is done. It notes nothing, so it is for a log that keeps nothing; each item but a gap, and each cell that
-/// gets its number, is counted. At `Bad` steps were taken, and the octets of the next are refused; they were taken too. It takes memory for what is
-/// read; after a fault nothing is known of the machine.
+/// Takes the steps of a struct of numbers and pointers, of such structs that are elements of an array, or of a string in one go, or the one step of a
+/// gap, a number or a pointer, if the source has their octets at hand, and says whether it did. A struct with pointers has 64 octets at most and no
+/// full pointer among its members, a string 256 octets with its terminator; a number by itself is no element of an array, and a pointer by itself is
+/// the value of a home and not full. Else nothing is done. It notes nothing, so it is for a log that keeps nothing; each item but a gap, and each
+/// cell that gets its number, is counted. At `Bad` steps were taken, and the octets of the next are refused; they were taken too. It takes memory for
+/// what is read; after a fault nothing is known of the machine.
 #[inline(always)]
 pub fn leap<S: Source, L: Ledger>(
     machine: &mut Machine,
@@ -50,8 +52,33 @@ pub fn leap<S: Source, L: Ledger>(
             machine, order, code, members, values, intake, source, steps,
         ),
         Instr::Hoist => leap_string(machine, order, code, values, intake, source, steps),
-        _ => Ok(false),
+        _ => leap_one(machine, order, code, instr, values, source, steps),
     }
+}
+
+// The same of a gap, a number or a pointer.
+#[inline(always)]
+fn leap_one<S: Source, L: Ledger>(
+    machine: &mut Machine,
+    order: Order,
+    code: &Code,
+    instr: Instr,
+    values: &EnumLists,
+    source: &mut S,
+    steps: &mut Steps<L>,
+) -> Result<bool, LeapFault>
+    requires short { length code.now < 2 ^ 32 }
+    requires here { slice_get code.now machine.old.pc ≡ Some instr }
+    requires safe { (fetched : List ℕ) (noted : List Item) (s : State)
+        → Reaches values.now order code.now machine.old.home (state_of machine.old) fetched noted s → IsSafe code.now s }
+    ensures leaps { Leaps values.now order code.now machine.old.home (state_of machine.old)
+        (source_seen S.Source.left S.Source.ended S.Source.faults source.old source.new) (L.number steps.old) (L.number steps.new)
+        (state_of machine.new) result }
+    ensures outside { OnOk result (outside machine.new ≡ outside machine.old) }
+    ensures later { S.Source.faults source.old ≤ S.Source.faults source.new }
+{
+    let leapt = leap_alone(machine, order, instr, source, steps)?;
+    Ok(leapt)
 }
 
 // The same of a struct, or of structs that are elements of an array.

@@ -1,6 +1,7 @@
 //! Steps of a home's value that are taken in one go, where their octets are at hand and no items are kept.
 #![tactic(auto)]
 
+mod alone;
 mod elements;
 mod fault;
 mod fields;
