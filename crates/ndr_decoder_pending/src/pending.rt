@@ -80,7 +80,8 @@ impl Stream {
         given
     }
 
-    // The pointer of a home that has one at most, and no agreements, becomes the next of the pending referents.
+    // The pointer of a home that has one at most, and no agreements, becomes the next of the pending referents. Where no other is pending, the list
+    // that has it is handed over, so that none is made.
     #[inline(always)]
     fn settle_one(&mut self) -> Result<(), Memory>
         requires few { length self.old.machine.fresh.items < 2 }
@@ -91,6 +92,10 @@ impl Stream {
         ensures cleared { OnOk result (IsCleared self.old.machine self.new.machine) }
         ensures homes { KeepsHomes self.old self.new }
     {
+        if self.machine.fresh.as_slice().len() == 1 && self.todo.as_slice().len() == 0 {
+            self.hand_over();
+            return Ok(());
+        }
         let Some(owed) = self.machine.fresh.pop() else {
             return Ok(());
         };
