@@ -71,7 +71,7 @@ pub fn run<S: Source, L: Ledger>(
     }
 }
 
-// The gap before a home's value, if it is empty.
+// The gap before a home's value, if it is empty or at hand.
 #[inline(always)]
 fn take_lead<S: Source, L: Ledger>(
     machine: &mut Machine,
@@ -100,7 +100,18 @@ fn take_lead<S: Source, L: Ledger>(
         );
         return Ok(progress);
     }
+    if is_gap(instr) {
+        return take_first(
+            machine, order, code, instr, values, intake, source, items, steps,
+        );
+    }
     Ok(Progress::More)
+}
+
+// Whether the instruction is a gap.
+#[inline(always)]
+fn is_gap(instr: Instr) -> bool {
+    matches!(instr, Instr::Align { to: _ })
 }
 
 // Whether the instruction is a gap that is empty.
