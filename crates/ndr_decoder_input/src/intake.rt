@@ -12,8 +12,8 @@ use std::alloc::Global;
 use std::marker::Model;
 use thiserror::Error;
 
-// For how many octets a new intake has room.
-const FIRST_ROOM: usize = 64;
+// For how many octets a buffer has room at the least.
+const LEAST_ROOM: usize = 64;
 
 /// Why octets that are wanted are not there.
 #[derive(Clone, Copy, Debug, PartialEq, Eq, Error)]
@@ -53,12 +53,14 @@ impl Model for Intake {
 }
 
 impl Intake {
-    /// An intake that holds nothing. It takes memory for a few primitives.
+    /// An intake that holds nothing. It allocates nothing.
     pub fn new(alloc: Global) -> Result<Intake, Memory>
         ensures { IfOk result (λ i. i ≡ []) }
     {
-        let buffer = vec![in alloc; 0u8; FIRST_ROOM]?;
-        Ok(Intake { buffer, len: 0 })
+        Ok(Intake {
+            buffer: Vec::new(alloc),
+            len: 0,
+        })
     }
 
     /// The octets that it holds. Takes no memory.
@@ -193,7 +195,7 @@ fn make_room(buffer: &mut Vec<u8>, len: usize, room: usize) -> Result<(), Memory
     ensures longer { length buffer.old.items ≤ length buffer.new.items }
 {
     if buffer.len() - len < room {
-        buffer.resize(len + room, 0)?;
+        buffer.resize((len + room).max(LEAST_ROOM), 0)?;
     }
     Ok(())
 }
