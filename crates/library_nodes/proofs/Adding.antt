@@ -62,6 +62,9 @@ grown a b c ns zs os g en ez eo =
 pub open_none : (a : NodeList) → AddsOpen [] a a None
 open_none a = record { grows = grows_none a; last = tt; say = λ zs os. refl }
 
+pub adds_none : (a : NodeList) → Adds [] a a
+adds_none a = record { grows = grows_none a; say = λ zs os. refl }
+
 -- the node that was open is added
 pub closed : (fs : List Flat) (a b c : NodeList) (o : Option Node) → c.nodes.items ≡ b.nodes.items ++ option_to_list o → c.numbers.items ≡ b.numbers.items → c.octets ≡ b.octets
     → AddsOpen fs a b o → Adds fs a c
@@ -88,6 +91,12 @@ plain_more fs f n a b c more en ez eo says h =
           (says (c.numbers.items ++ zs) os)
           ∙ sym (low_more fs f);
     }
+
+-- a node by itself
+pub alone : (f : Flat) (n : Node) (a c : NodeList) (more : List ℕ) → c.nodes.items ≡ a.nodes.items ++ n ∷ [] → c.numbers.items ≡ a.numbers.items
+    → c.octets ≡ a.octets ++ more → ((zs os : List ℕ) → node_flats zs (c.octets ++ os) n ≡ low_flat f ∷ []) → Adds (f ∷ []) a c
+alone f n a c more en ez eo says =
+    closed (f ∷ []) a c c None (sym (append-nil c.nodes.items)) refl refl (plain_more [] f n a a c more en ez eo says (adds_none a))
 
 -- an array or a pipe is open, none of whose elements is a number yet
 pub opened : (fs : List Flat) (f : Flat) (n : Node) (a b : NodeList) → AreLast b.numbers.items (Some n) → ((zs os : List ℕ) → node_flats zs os n ≡ low_flat f ∷ []) → Adds fs a b

@@ -1,4 +1,5 @@
 mod Adding
 mod Many
 mod Walked
+mod Single
 mod Homes

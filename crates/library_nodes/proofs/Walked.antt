@@ -1,12 +1,11 @@
 -- A walk whose nodes are added one by one.
 -- `old` and `now` are what is left of it, `a` and `b` lists of nodes, `o` is the node that is open.
-use Rattle.std.proofs.Common.{◌≡◌, List, [], ◌∷◌, ◌++◌, Option, None, refl, ap, sym, ◌∙◌, append_assoc, subst}
+use Rattle.std.proofs.Common.{◌≡◌, List, [], ◌∷◌, ◌++◌, Option, refl, ap, sym, ◌∙◌, append_assoc, subst}
 use Rattle.std.proofs.lemmas.List.{append-nil}
 use Rattle.nd_value.specs.Tree.{Flat, Trees, flat, none}
 use Rattle.library_nodes.specs.declared.node.Node.{Node}
 use Rattle.library_nodes.specs.declared.nodes.NodeList.{NodeList}
 use Rattle.library_nodes.specs.Laying.{Adds, AddsOpen}
-use Rattle.library_nodes.proofs.Adding.{open_none}
 
 -- the first nodes of a walk are added, and the others are left
 pub record Walks (old : List Flat) (a : NodeList) (now : List Flat) (b : NodeList) (o : Option Node) : Type 0 where
@@ -14,8 +13,9 @@ pub record Walks (old : List Flat) (a : NodeList) (now : List Flat) (b : NodeLis
   pub all : old ≡ done ++ now
   pub adds : AddsOpen done a b o
 
-pub walks_none : (old : List Flat) (a : NodeList) → Walks old a old a None
-walks_none old a = record { done = []; all = refl; adds = open_none a }
+-- these were added before it began
+pub walks_from : (fs now : List Flat) (a b : NodeList) (o : Option Node) → AddsOpen fs a b o → Walks (fs ++ now) a now b o
+walks_from fs now a b o h = record { done = fs; all = refl; adds = h }
 
 pub walks_on : (old now next : List Flat) (f : Flat) (a b c : NodeList) (o p : Option Node) → now ≡ f ∷ next
     → ((d : NodeList) (fs : List Flat) → AddsOpen fs d b o → AddsOpen (fs ++ f ∷ []) d c p) → Walks old a now b o → Walks old a next c p

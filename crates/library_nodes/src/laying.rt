@@ -1,8 +1,8 @@
 // Values are walked over, and their nodes listed.
-ghost use Rattle.std.specs.Prelude.{◌≡◌, ◌∷◌, ◌++◌, [], length, map, option_to_list, IfOk, OnOk};
+ghost use Rattle.std.specs.Prelude.{◌≡◌, ◌∷◌, ◌++◌, [], length, map, option_to_list, true, IfOk, OnOk};
 ghost use Rattle.std.specs.Prelude.{ℕ, ℤ, List};
 ghost use Rattle.nd_value.specs.Tree as tree;
-ghost use Rattle.nd_value.specs.Tree.{flat, Flat};
+ghost use Rattle.nd_value.specs.Tree.{flat, more, none, Flat, Tree};
 ghost use Rattle.nd_flat.specs.FlatForm.{flat_seen, text_of};
 ghost use Rattle.library_nodes.specs.Low.{low, low_flat};
 ghost use Rattle.library_nodes.specs.Said.{node_flats};
@@ -15,11 +15,12 @@ use crate::nodes::NodeList;
 use crate::rows::{add_row, next_row};
 use nd_base::{Memory, Octets, push};
 use nd_flat::{FlatGraph, Seen, Walk};
+use smallvec::SmallVec;
 
 // Adds the nodes of all roots.
 pub(crate) fn lay_roots(
     list: &mut NodeList,
-    starts: &mut Vec<usize>,
+    starts: &mut SmallVec<usize, 4>,
     graph: &FlatGraph,
 ) -> Result<(), Memory>
     ensures { OnOk result (AddsHomes graph.now.roots list.old starts.old.items list.new starts.new.items) }
@@ -34,7 +35,7 @@ pub(crate) fn lay_roots(
 // Adds the nodes of all cells.
 pub(crate) fn lay_cells(
     list: &mut NodeList,
-    starts: &mut Vec<usize>,
+    starts: &mut SmallVec<usize, 4>,
     graph: &FlatGraph,
 ) -> Result<(), Memory>
     ensures { OnOk result (AddsHomes (map (λ c. c.val) graph.now.cells) list.old starts.old.items list.new starts.new.items) }
@@ -46,21 +47,79 @@ pub(crate) fn lay_cells(
     Ok(())
 }
 
-// Adds the nodes of a home, and notes the number of the first.
-fn lay_home(list: &mut NodeList, starts: &mut Vec<usize>, walk: &mut Walk<'_>) -> Result<(), Memory>
+// Adds the nodes of a home, and notes the number of the first. Most homes are one node that has no parts.
+fn lay_home(
+    list: &mut NodeList,
+    starts: &mut SmallVec<usize, 4>,
+    walk: &mut Walk<'_>,
+) -> Result<(), Memory>
+    requires { (t : Tree) × (walk.old ≡ more t none) }
     ensures starts { OnOk result (starts.new.items ≡ starts.old.items ++ length list.old.nodes.items ∷ []) }
     ensures adds { OnOk result (Adds (flat walk.old) list.old list.new) }
 {
-    push(starts, list.nodes.as_slice().len())?;
-    lay_all(list, walk)?;
+    let Ok(()) = starts.push(list.nodes.as_slice().len()) else {
+        return Err(Memory);
+    };
+    let Some(seen) = walk.step() else {
+        unreachable!()
+    };
+    if is_single(&seen) {
+        return add_single(list, &seen);
+    }
+    let first = seen;
+    lay_parts(list, &first, walk)
+}
+
+// Whether a node has no parts, whatever its value is.
+#[inline(always)]
+fn is_single(seen: &Seen<'_>) -> bool
+    ensures { result ≡ true → (flat_seen seen.now).1 ≡ 0 }
+{
+    match seen {
+        Seen::Num(_)
+        | Seen::Text { max: _, octets: _ }
+        | Seen::Ptr(_)
+        | Seen::Context {
+            attributes: _,
+            id: _,
+        } => true,
+        Seen::Rec(_)
+        | Seen::Arr {
+            max: _,
+            offset: _,
+            count: _,
+        }
+        | Seen::Union { tag: _, armed: _ }
+        | Seen::Pipe(_) => false,
+    }
+}
+
+// Adds a node that is no element of an array or a pipe.
+#[inline(always)]
+fn add_single(list: &mut NodeList, seen: &Seen<'_>) -> Result<(), Memory>
+    ensures { OnOk result (Adds (flat_seen seen.now ∷ []) list.old list.new) }
+{
+    let node = plain_node(&mut list.octets, seen)?;
+    push(&mut list.nodes, node)?;
     Ok(())
 }
 
-// Adds the nodes of a walk. Numbers that are kept side by side and are elements of an array or a pipe are added in one go.
-fn lay_all(list: &mut NodeList, walk: &mut Walk<'_>) -> Result<(), Memory>
-    ensures { OnOk result (Adds (flat walk.old) list.old list.new) }
+// Adds a node and those of a walk, which come after it.
+#[inline(never)]
+fn lay_parts(list: &mut NodeList, first: &Seen<'_>, walk: &mut Walk<'_>) -> Result<(), Memory>
+    ensures { OnOk result (Adds (flat_seen first.now ∷ flat walk.old) list.old list.new) }
 {
-    let mut unfinished = None;
+    let unfinished = add(list, None, first)?;
+    lay_all(list, unfinished, walk)
+}
+
+// Adds the nodes of a walk to those that were added, after which an array or a pipe may be unfinished. Numbers that are kept side by side and are
+// elements of an array or a pipe are added in one go.
+fn lay_all(list: &mut NodeList, begun: Option<Node>, walk: &mut Walk<'_>) -> Result<(), Memory>
+    ensures { OnOk result
+        ((a : ListValue) (fs : List Flat) → AddsOpen fs a list.old begun → Adds (fs ++ flat walk.old) a list.new) }
+{
+    let mut unfinished = begun;
     while let Some(seen) = walk.step() {
         unfinished = add(list, unfinished, &seen)?;
         if let Some(row) = next_row(&unfinished, walk) {
@@ -209,6 +268,7 @@ fn unlisted(count: u32) -> Elements
 }
 
 // A node. The octets of a string are added.
+#[inline(always)]
 fn plain_node(octets: &mut Octets, seen: &Seen<'_>) -> Result<Node, Memory>
     ensures octets { OnOk result (octets.new ≡ octets.old ++ text_of (flat_seen seen.now).0) }
     ensures node { IfOk result (λ n. (zs os : List ℕ) → node_flats zs (octets.new ++ os) n ≡ low_flat (flat_seen seen.now) ∷ []) }

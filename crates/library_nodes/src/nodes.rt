@@ -7,6 +7,7 @@ use crate::laying::{lay_cells, lay_roots};
 use crate::node::Node;
 use nd_base::{Memory, Octets};
 use nd_flat::FlatGraph;
+use smallvec::SmallVec;
 use std::alloc::Global;
 
 /// Nodes, with the numbers that are elements of arrays and pipes, and the octets of strings. A number that is an element takes 8 octets.
@@ -17,12 +18,13 @@ pub struct NodeList {
     pub octets: Octets,
 }
 
-/// The nodes of the roots of a graph and then of its cells, and which of them are the first of these.
+/// The nodes of the roots of a graph and then of its cells, and which of them are the first of these. Of the first four of these homes the numbers
+/// take no memory.
 #[derive(Drop)]
 pub struct Nodes {
     pub list: NodeList,
     /// The number of the first node of each root and then of each cell.
-    pub starts: Vec<usize>,
+    pub starts: SmallVec<usize, 4>,
     /// How many roots there are.
     pub roots: usize,
 }
@@ -34,7 +36,7 @@ impl Nodes {
         ensures { IfOk result (λ n. IsListOf graph.now n) }
     {
         let mut list = empty_list(alloc);
-        let mut starts = Vec::new(alloc);
+        let mut starts = SmallVec::new(alloc);
         lay_roots(&mut list, &mut starts, graph)?;
         lay_cells(&mut list, &mut starts, graph)?;
         Ok(Nodes {

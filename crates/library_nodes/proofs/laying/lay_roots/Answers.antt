@@ -8,6 +8,9 @@ use Rattle.library_nodes.proofs.laying.lay_roots.Goals as goal
 pub loop-at-init : goal.loop-at-init
 loop-at-init c = homes_none c.args.list.now c.args.starts.now.items
 
+pub lay_home-requires : goal.lay_home-requires
+lay_home-requires c = let g = c.args.graph.now in (root_at g c.loop-at.at, c.root_walk-walk.ensures)
+
 pub loop-at-preserved : goal.loop-at-preserved
 loop-at-preserved c =
     let g = c.args.graph.now in
