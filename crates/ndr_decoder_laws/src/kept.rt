@@ -15,3 +15,15 @@ pub struct KeptRoot {
     pub own: Kept,
     pub cell: Option<CellId>,
 }
+
+impl Default for KeptRoot {
+    fn default() -> KeptRoot {
+        KeptRoot {
+            own: Kept {
+                first: First::Other,
+                max_at: None,
+            },
+            cell: None,
+        }
+    }
+}

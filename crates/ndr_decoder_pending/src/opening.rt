@@ -15,6 +15,7 @@ use nd_flat::{Builder, Seen};
 use nd_types::TypeId;
 use nd_value::{CellId, Home};
 use ndr_decoder_state::{DecodeFault, Machine};
+use smallvec::SmallVec;
 use std::alloc::Global;
 
 impl Stream {
@@ -32,7 +33,7 @@ impl Stream {
             machine,
             wanted: Vec::new(alloc),
             todo: Vec::new(alloc),
-            roots: Vec::new(alloc),
+            roots: SmallVec::new(alloc),
             cells: KeptCells::new(alloc),
         }
     }

@@ -6,6 +6,7 @@ ghost use Rattle.ndr_decoder_state.specs.Small.{AreWithin-prop};
 use crate::KeptCells;
 use ndr_decoder_laws::KeptRoot;
 use ndr_decoder_state::{Machine, Owed, Wanted};
+use smallvec::SmallVec;
 
 /// What is kept of a stream that is being decoded.
 #[derive(Drop)]
@@ -17,8 +18,8 @@ pub struct Stream {
     /// The pending referents, of which the last is the next.
     pub todo: Vec<Owed>,
     pub ghost spans: { AllByRecursion (λ o. o.from + o.len ≤ length wanted.items) todo.items } by { AreWithin-prop (length wanted.items) todo.items },
-    /// What is kept of the roots that were read.
-    pub roots: Vec<KeptRoot>,
+    /// What is kept of the roots that were read; of the first four it takes no memory.
+    pub roots: SmallVec<KeptRoot, 4>,
     /// What is kept of the cells that were read, by their numbers less one.
     pub cells: KeptCells,
 }
