@@ -1,5 +1,7 @@
 // What is kept of cells, in little room.
-ghost use Rattle.std.specs.Prelude.{◌≡◌, ◌<◌, ◌+◌, ◌^◌, ℕ, [], length, slice_get, Some, None, true, OnOk, OnErr, IfOk, IfSome, vec_capacity, vec_len};
+ghost use Rattle.std.specs.Prelude.{◌≡◌, ◌<◌, ◌+◌, ◌++◌, ◌∷◌, ◌^◌, ℕ, [], length, slice_get, slice_set, Some, None, true};
+ghost use Rattle.std.specs.Prelude.{OnOk, OnErr, IfOk, IfSome, vec_capacity, vec_len};
+ghost use Rattle.smallvec.specs.SmallVec.{HasRoomFor};
 ghost use Rattle.ndr_decoder_laws.specs.stream.Between.{CellKept, kept_at, or_none};
 ghost use Rattle.ndr_decoder_pending.specs.declared.cells.CellEntry.TheVariants as entry;
 ghost use Rattle.ndr_decoder_pending.specs.declared.cells.Lists.{Lists};
@@ -8,6 +10,7 @@ ghost use Rattle.ndr_decoder_pending.specs.Entries.{HasGrown, HasMore, IsListed,
 use nd_base::{Memory, push};
 use nd_value::CellId;
 use ndr_decoder_laws::{First, Kept};
+use smallvec::SmallVec;
 use std::alloc::Global;
 use std::marker::Model;
 
@@ -24,6 +27,12 @@ pub enum CellEntry {
     Listed(u32),
 }
 
+impl Default for CellEntry {
+    fn default() -> CellEntry {
+        CellEntry::Unread
+    }
+}
+
 /// What is kept of a string, or of an array, whose counts are side by side: they, and the place of its actual count. The maximum count is before its
 /// value, eight octets before that place.
 #[derive(Clone, Copy, Drop)]
@@ -34,18 +43,30 @@ pub struct Counts {
     pub place: u32,
 }
 
+impl Default for Counts {
+    fn default() -> Counts {
+        Counts {
+            max: 0,
+            offset: 0,
+            actual: 0,
+            place: 0,
+        }
+    }
+}
+
 // What is kept of the cells that are not plain.
 #[derive(Drop)]
 pub struct Lists {
-    pub counted: Vec<Counts>,
+    pub counted: SmallVec<Counts, 2>,
     pub listed: Vec<Kept>,
 }
 
 /// What is kept of the cells that were read. Contracts see a list of it, by their numbers less one. A cell takes eight octets, one that an agreement
-/// may speak of an item of a list more, of which counts side by side take sixteen octets.
+/// may speak of an item of a list more, of which counts side by side take sixteen octets; but for the first four cells, and the first two of those
+/// counts, it takes no memory.
 #[derive(Drop)]
 pub struct KeptCells {
-    entries: Vec<CellEntry>,
+    entries: SmallVec<CellEntry, 4>,
     lists: Lists,
 }
 
@@ -68,9 +89,9 @@ impl KeptCells {
         ensures { result.items ≡ [] }
     {
         KeptCells {
-            entries: Vec::new(alloc),
+            entries: SmallVec::new(alloc),
             lists: Lists {
-                counted: Vec::new(alloc),
+                counted: SmallVec::new(alloc),
                 listed: Vec::new(alloc),
             },
         }
@@ -114,7 +135,7 @@ impl KeptCells {
         let at = cell.0 as usize - 1;
         reach(&mut self.entries, at)?;
         let entry = entry_of(&mut self.lists, kept)?;
-        self.entries[at] = entry;
+        put(&mut self.entries, at, entry);
         Ok(())
     }
 
@@ -138,7 +159,7 @@ impl KeptCells {
         let at = cell.0 as usize - 1;
         reach(&mut self.entries, at)?;
         let entry = count(&mut self.lists, counts)?;
-        self.entries[at] = entry;
+        put(&mut self.entries, at, entry);
         Ok(())
     }
 }
@@ -251,10 +272,10 @@ fn count(lists: &mut Lists, counts: Counts) -> Result<CellEntry, Memory>
     ensures within { IfOk result (λ e. IsListed lists.new e) }
     ensures more { OnOk result (HasMore 1 lists.old lists.new) }
     ensures no_more { OnErr result (HasMore 0 lists.old lists.new) }
-    ensures full { OnErr result (vec_len lists.old.counted ≡ vec_capacity lists.old.counted) }
+    ensures full { OnErr result (HasRoomFor lists.old.counted 1 → ⊥) }
 {
     let number = lists.counted.as_slice().len();
-    let Ok(()) = push(&mut lists.counted, counts) else {
+    let Ok(()) = lists.counted.push(counts) else {
         return Err(Memory);
     };
     Ok(CellEntry::Counted(number as u32))
@@ -279,13 +300,13 @@ fn list(lists: &mut Lists, kept: Kept) -> Result<CellEntry, Memory>
 
 // Makes the entry of the cell at a place a plain one. Most cells are read in the order of their numbers, so that it is the next one.
 #[inline(always)]
-fn put_plain(entries: &mut Vec<CellEntry>, at: usize) -> Result<(), Memory>
+fn put_plain(entries: &mut SmallVec<CellEntry, 4>, at: usize) -> Result<(), Memory>
     requires small { at + 1 < 2 ^ 32 }
     ensures put { OnOk result (IsPut at entry.Plain entries.old.items entries.new.items) }
     ensures sound { (l : Lists) → IsSound l entries.old.items → IsSound l entries.new.items }
 {
     if at == entries.as_slice().len() {
-        push(entries, CellEntry::Plain)?;
+        add(entries, CellEntry::Plain)?;
         return Ok(());
     }
     put_plain_apart(entries, at)
@@ -293,26 +314,50 @@ fn put_plain(entries: &mut Vec<CellEntry>, at: usize) -> Result<(), Memory>
 
 // The same where the cell is not the next one.
 #[inline(never)]
-fn put_plain_apart(entries: &mut Vec<CellEntry>, at: usize) -> Result<(), Memory>
+fn put_plain_apart(entries: &mut SmallVec<CellEntry, 4>, at: usize) -> Result<(), Memory>
     requires small { at + 1 < 2 ^ 32 }
     ensures put { OnOk result (IsPut at entry.Plain entries.old.items entries.new.items) }
     ensures sound { (l : Lists) → IsSound l entries.old.items → IsSound l entries.new.items }
 {
     reach(entries, at)?;
-    entries[at] = CellEntry::Plain;
+    put(entries, at, CellEntry::Plain);
+    Ok(())
+}
+
+// Makes the entry at a place this one.
+#[inline(always)]
+fn put(entries: &mut SmallVec<CellEntry, 4>, at: usize, entry: CellEntry)
+    requires within { at < length entries.old.items }
+    ensures is { entries.new.items ≡ slice_set entries.old.items at entry }
+{
+    if let Some(place) = entries.get_mut(at) {
+        *place = entry;
+    }
+}
+
+// Adds an entry. Out of memory is answered only where the list had no room left, and changes nothing.
+#[inline(always)]
+fn add(list: &mut SmallVec<CellEntry, 4>, entry: CellEntry) -> Result<(), Memory>
+    ensures ok { OnOk result (list.new.items ≡ list.old.items ++ entry ∷ []) }
+    ensures err { OnErr result (list.new.items ≡ list.old.items) }
+    ensures full { OnErr result (HasRoomFor list.old 1 → ⊥) }
+{
+    let Ok(()) = list.push(entry) else {
+        return Err(Memory);
+    };
     Ok(())
 }
 
 // Makes room for what is kept of the cell at a place; of those that are not read nothing is kept.
 #[inline(always)]
-fn reach(entries: &mut Vec<CellEntry>, at: usize) -> Result<(), Memory>
+fn reach(entries: &mut SmallVec<CellEntry, 4>, at: usize) -> Result<(), Memory>
     requires small { at + 1 < 2 ^ 32 }
     ensures long { OnOk result (at < length entries.new.items) }
     ensures same { (l : Lists) (i : ℕ) → said_at l entries.new.items i ≡ said_at l entries.old.items i }
     ensures sound { (l : Lists) → IsSound l entries.old.items → IsSound l entries.new.items }
 {
     for _next in entries.as_slice().len()..at + 1 {
-        let Ok(()) = push(entries, CellEntry::Unread) else {
+        let Ok(()) = add(entries, CellEntry::Unread) else {
             return Err(Memory);
         };
     }

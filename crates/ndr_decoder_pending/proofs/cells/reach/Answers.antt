@@ -12,7 +12,7 @@ returns-in_default-clause-sound c n a = subst (IsSound n) (sym c.in_default.ensu
 
 pub loop-next-preserved : goal.loop-next-preserved
 loop-next-preserved c =
-    let e : length c.push.new.list.items ≡ length c.loop-next.entries.items + 1 = ap length c.in-Ok.ensures.ok ∙ length-append c.loop-next.entries.items _ in
+    let e : length c.add.new.list.items ≡ length c.loop-next.entries.items + 1 = ap length c.in-Ok.ensures.ok ∙ length-append c.loop-next.entries.items _ in
     let l : c.loop-next._next ≡ length c.loop-next.entries.items = c.loop-next.invariant.2 in
     let small : c.args.at + 1 < 2 ^ 32 = c.requires.small in (
       λ ks i. ap (λ es. said_at ks es i) c.in-Ok.ensures.ok ∙ none_pushed ks c.loop-next.entries.items i ∙ c.loop-next.invariant.0 ks i,

@@ -1,7 +1,7 @@
-use Rattle.std.proofs.Common.{◌≡◌, ◌-◌, None, map, refl, subst, sym, ◌∙◌, slice_set}
+use Rattle.std.proofs.Common.{◌≡◌, ◌-◌, None, map, subst, sym, ◌∙◌}
 use Rattle.ndr_decoder_laws.specs.stream.Between.{CellKept, kept_at}
 use Rattle.ndr_decoder_pending.specs.Cells.{CellsSeen}
-use Rattle.ndr_decoder_pending.specs.Entries.{entry_seen}
+use Rattle.ndr_decoder_pending.specs.Entries.{IsSound, entry_seen}
 use Rattle.ndr_decoder_pending.proofs.CellsKept.{counted_short, entry_put, listed_short, put_set, sound_same, sound_set, unread_at}
 use Rattle.ndr_decoder_pending.proofs.cells.KeptCells.keep.Goals as goal
 
@@ -21,21 +21,22 @@ invariant_of-self-in_err-entry c =
 
 pub invariant_of-self-2 : goal.invariant_of-self-2
 invariant_of-self-2 c =
-    sound_set c.self.inside.lists c.entry_of.new.lists c.reach.new.entries.items (c.args.cell.0 - 1) c.in_ok-entry.entry c.args.kept c.in_ok-entry.ensures.grown
+    subst (IsSound c.entry_of.new.lists) (sym c.put.ensures.is)
+    (sound_set c.self.inside.lists c.entry_of.new.lists c.reach.new.entries.items (c.args.cell.0 - 1) c.in_ok-entry.entry c.args.kept c.in_ok-entry.ensures.grown
     c.in_ok-entry.ensures.more c.in_ok-reach.ensures.long
     (c.in_ok-reach.ensures.same c.self.inside.lists (c.args.cell.0 - 1)
     ∙ unread_at c.self.inside.lists c.self.inside.entries.items c.args.cell.0 c.requires.there (subst (λ (s : CellsSeen). kept_at s.items c.args.cell.0 ≡ None) (sym c.self.view_is) c.requires.unread))
-    c.in_ok-entry.ensures.within c.in_ok-entry.ensures.seen (c.in_ok-reach.ensures.sound c.self.inside.lists c.self.invariant)
+    c.in_ok-entry.ensures.within c.in_ok-entry.ensures.seen (c.in_ok-reach.ensures.sound c.self.inside.lists c.self.invariant))
 
 pub returns : goal.returns
 returns c =
     record {
       kept = subst
           (λ (s : CellsSeen). CellKept c.args.cell.0 c.args.kept s.items
-          (map (entry_seen c.entry_of.new.lists) (slice_set c.reach.new.entries.items (c.args.cell.0 - 1) c.in_ok-entry.entry))) c.self.view_is
+          (map (entry_seen c.entry_of.new.lists) c.put.new.entries.items)) c.self.view_is
           (entry_put c.self.inside.lists c.entry_of.new.lists c.self.inside.entries.items
-          (slice_set c.reach.new.entries.items (c.args.cell.0 - 1) c.in_ok-entry.entry) c.args.cell.0 c.in_ok-entry.entry c.args.kept c.requires.there
+          c.put.new.entries.items c.args.cell.0 c.in_ok-entry.entry c.args.kept c.requires.there
           c.in_ok-entry.ensures.grown c.self.invariant.listed
-          (put_set c.self.inside.entries.items c.reach.new.entries.items _ (c.args.cell.0 - 1) c.in_ok-entry.entry c.in_ok-reach.ensures.long c.in_ok-reach.ensures.same refl)
+          (put_set c.self.inside.entries.items c.reach.new.entries.items _ (c.args.cell.0 - 1) c.in_ok-entry.entry c.in_ok-reach.ensures.long c.in_ok-reach.ensures.same c.put.ensures.is)
           c.in_ok-entry.ensures.seen);
     }
