@@ -23,19 +23,24 @@ sys.dont_write_bytecode = True
 
 ROOT = Path(__file__).resolve().parent.parent
 LONGEST = {"src": 150, "specs": 150, "proofs": 200}
-LONG_LINES = {"nd_base": 1, "ndr_prim": 1, "idl_attributes": 2, "idl_expressions": 3, "idl_grammar": 1, "idl_parser": 1, "idl_scope": 1, "idl_tokens": 1, "acf_reader": 1,
-              "command_compile": 2, "idl_total_laws": 1, "ctx_store": 3, "example_idl": 3, "dceidl_c": 9}
+LONG_LINES = {"nd_base": 1, "ndr_prim": 1, "idl_declarations": 2, "idl_tokens": 4, "idl_grammar": 1, "idl_parser": 1, "idl_scope": 1, "acf_reader": 1,
+              "command_compile": 3, "ctx_store": 3, "example_idl": 3, "dceidl_c": 9}
 FLOOR = re.compile(r"# (\d+)\. \S.*")
 CRATE = re.compile(r"(?P<name>\w+)[^:#]*:(?P<uses>[^#]*)")
 
 # Names that crates had. Those that are also other words count only where a crate is meant.
 FORMER = """
-dceidl_failures dceidl_rows dceidl_words drain_rows graph_bench graph_laws graph_rows graph_worked idl_answers idl_compiler idl_examples idl_graph idl_kinds
-idl_language idl_laws idl_legal idl_marks idl_meaning idl_nodes idl_rows idl_types idl_values line_words nd_fitting nd_flatten nd_passes ndr_bench ndr_chain
-ndr_chosen ndr_chunks ndr_chunkwise ndr_draining ndr_elements ndr_explaining ndr_heads ndr_homes ndr_intake ndr_kept ndr_label ndr_leaps ndr_machine ndr_maximum
-ndr_output ndr_parameters ndr_part_laws ndr_part_reader ndr_parts ndr_pieces ndr_pipes ndr_printing ndr_reading ndr_rows ndr_runs ndr_sample ndr_shaped ndr_sides
-ndr_state ndr_steps ndr_stream ndr_structs ndr_turns ndr_verdict ndr_worked ndr_worklist ndr_writer ndr_writing ndr_written phrases refusals sample_graph
-text_fitting text_lexing text_parts text_printing text_reader text_reading text_rows
+command_compat command_explain command_label command_text command_trace ctx_laws dceidl_failures dceidl_rows dceidl_words drain_rows example_graph
+grammar_phrases graph_bench graph_laws graph_rows graph_worked idl_answers idl_attributes idl_compiler idl_declarators idl_examples idl_expressions
+idl_gathering idl_graph idl_kinds idl_language idl_laws idl_legal idl_marks idl_meaning idl_nodes idl_rows idl_total_laws idl_type_numbers
+idl_type_properties idl_types idl_values lent_files library_building library_faults library_items library_types line_words listing_words nd_blocks
+nd_canonical nd_canonical_laws nd_fitting nd_flatten nd_passes ndr_bench ndr_chain ndr_chosen ndr_chunks ndr_chunkwise ndr_decoder_agreements
+ndr_decoder_chunks ndr_decoder_input ndr_decoder_pending ndr_draining ndr_elements ndr_encoder_homes ndr_encoder_structs ndr_explaining ndr_heads ndr_homes
+ndr_intake ndr_kept ndr_label ndr_leaps ndr_machine ndr_maximum ndr_output ndr_parameters ndr_part_laws ndr_part_reader ndr_parts ndr_pieces ndr_pipes
+ndr_printing ndr_reading ndr_rows ndr_runs ndr_sample ndr_shaped ndr_sides ndr_state ndr_steps ndr_stream ndr_structs ndr_trace_laws ndr_turns ndr_verdict
+ndr_worked ndr_worklist ndr_writer ndr_writing ndr_written phrases raw_parts refusals sample_graph test_compat test_flat test_pdu test_session test_trace
+test_types text_fitting text_laws text_lexer text_lexing text_parts text_paths text_printing text_reader text_reading text_reading_laws text_rows
+wide_numbers
 """.split()
 ALSO_WORDS = ("phrases", "refusals", "sample_graph")
 FORMER_NAME = re.compile(r"\b(?:%s)\b" % "|".join(name for name in FORMER if name not in ALSO_WORDS))

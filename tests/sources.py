@@ -35,8 +35,8 @@ FIXED = ("Answers.antt", "Invariants.antt", "Lib.antt")  # files whose names the
 EXAMPLE = re.compile(r"/crates/example_|/(?:Worked\w*|\w*Examples|Proof)\.antt$")
 # Crates whose names are not all used: none of these is looked at by `unused`.
 NOT_LOOKED_AT = """
-command_compile ctx_session ctx_store idl_check idl_constructs idl_cycles idl_declared_types idl_expressions idl_grammar idl_lexer idl_listing idl_names
-idl_rule_definitions idl_rules idl_scope idl_type_numbers idl_typing nd_base nd_types nd_value rpc_pdu
+command_compile ctx_session ctx_store idl_check idl_constructs idl_cycles idl_declared_types idl_grammar idl_lexer idl_listing idl_names
+idl_rule_definitions idl_rules idl_scope idl_tokens idl_typing nd_base nd_types nd_value rpc_pdu
 """.split()
 
 # ----------------------------------------------------------------------------------------------------------------------

@@ -13,7 +13,7 @@ LOG = """\
      64.0 [running 120.0] idl_lexer proof 90.0, nd_base tests 60.0
     184.0 rt: idl_lexer proved
     185.0 rt: nd_base: its tests are proved
-    186.0 rt: grammar_phrases is kept: an earlier run on this machine proved the same files over the same libraries
+    186.0 rt: rpc_pdu is kept: an earlier run on this machine proved the same files over the same libraries
     190.0 [running 30.0] idl_lexer edits 24.0, idl_lexer edits 30.0
     220.0 rt: must-fail idl_lexer/any_escape.edit: refused, as it must be
     221.0 rt: idl_parser NOT PROVED
@@ -22,7 +22,7 @@ TABLE = """\
 | Crate | Proof | Tests | Must-fail edits | Proof, processor | Tests, processor | Edits, processor | Number | State |
 |---|---:|---:|---:|---:|---:|---:|---:|---|
 | `nd_base` | 1.0 | 2.0 | - | 0.8 | 1.0 | - | - |  |
-| `grammar_phrases` | - | - | - | - | - | - | - | kept |
+| `rpc_pdu` | - | - | - | - | - | - | - | kept |
 | `idl_lexer` | 2.0 | - | 0.5 | 1.5 | - | 0.9 | 1 |  |
 | `idl_parser` | - | - | - | - | - | - | - | NOT PROVED |
 | all | 3.0 | 2.0 | 0.5 | 2.2 | 1.0 | 0.9 | 1 | |

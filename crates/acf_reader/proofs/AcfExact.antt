@@ -1,9 +1,9 @@
 -- Whole files are read exactly.
 use Rattle.std.proofs.Common.{ℕ, ◌≤◌, false, List, [], ◌∷◌, length, refl, Option}
-use Rattle.grammar_phrases.specs.Text.{Text, Rel, many, optional, located, bracketed, ◌⊗◌, ◌⊳◌}
-use Rattle.grammar_phrases.proofs.Exact.{Exact, HasPhrase, pair_exact, turned_exact}
-use Rattle.grammar_phrases.proofs.Parts.{pair_has, many_has}
-use Rattle.grammar_phrases.proofs.Sequences.{stops, Begins, meets_first, ends_at, skip_exact, skip_has, skip_begins, or_pair_begins, located_exact, bracketed_exact, bracketed_has}
+use Rattle.idl_grammar.specs.Text.{Text, Rel, many, optional, located, bracketed, ◌⊗◌, ◌⊳◌}
+use Rattle.idl_grammar.proofs.Exact.{Exact, HasPhrase, pair_exact, turned_exact}
+use Rattle.idl_grammar.proofs.Parts.{pair_has, many_has}
+use Rattle.idl_grammar.proofs.Sequences.{stops, Begins, meets_first, ends_at, skip_exact, skip_has, skip_begins, or_pair_begins, located_exact, bracketed_exact, bracketed_has}
 use Rattle.idl_grammar.specs.declared.words.Spelling.{Spelling}
 use Rattle.idl_grammar.specs.Symbols as symbol
 use Rattle.acf_reader.specs.Tree.{Attributes, BodyElement}

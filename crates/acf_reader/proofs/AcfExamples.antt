@@ -1,7 +1,7 @@
 -- Texts and what is answered on their tokens, computed.
 use Rattle.std.proofs.Common.{◌≡◌, refl, subst, Result, Ok, Err}
-use Rattle.grammar_phrases.specs.Text.{Ban}
-use Rattle.grammar_phrases.specs.Reading.{Fault, Syntax, Passes}
+use Rattle.idl_grammar.specs.Text.{Ban}
+use Rattle.idl_grammar.specs.ReadPhrases.{Fault, Syntax, Passes}
 use Rattle.idl_lexer.specs.Lexed.{Lexed}
 use Rattle.idl_grammar.specs.Answers.{is_banned}
 use Rattle.acf_reader.specs.Symbols.{names}

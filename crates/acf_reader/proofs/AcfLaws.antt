@@ -1,12 +1,12 @@
 -- What is answered on a file is right, and nothing else is.
 use Rattle.std.proofs.Common.{◌≡◌, ℕ, false, eqb, List, [], refl, arith, Result}
-use Rattle.grammar_phrases.specs.Text.{Text}
-use Rattle.grammar_phrases.specs.Reading.{Fault}
-use Rattle.grammar_phrases.specs.Verdict.{Judges, whole_read}
-use Rattle.grammar_phrases.specs.Gives.{IsText}
-use Rattle.grammar_phrases.proofs.Exact.{Exact}
-use Rattle.grammar_phrases.proofs.Judged.{whole_judged, one_verdict}
-use Rattle.grammar_phrases.proofs.Sequences.{stops}
+use Rattle.idl_grammar.specs.Text.{Text}
+use Rattle.idl_grammar.specs.ReadPhrases.{Fault}
+use Rattle.idl_grammar.specs.Verdict.{Judges, whole_read}
+use Rattle.idl_grammar.specs.Gives.{IsText}
+use Rattle.idl_grammar.proofs.Exact.{Exact}
+use Rattle.idl_grammar.proofs.Judged.{whole_judged, one_verdict}
+use Rattle.idl_grammar.proofs.Sequences.{stops}
 use Rattle.idl_lexer.specs.declared.tokens.TokenKind.{TokenKind}
 use Rattle.idl_lexer.specs.declared.tokens.TokenKind.TheVariants as token
 use Rattle.idl_lexer.specs.Lexed.{Lexed}

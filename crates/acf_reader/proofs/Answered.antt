@@ -1,13 +1,13 @@
 -- From what is read of a whole text to what is answered.
 use Rattle.std.proofs.Common.{◌≡◌, ℕ, ◌≤◌, Bool, true, false, cond, eqb, [], length, sym, subst, arith, Result, Ok, Err}
-use Rattle.grammar_phrases.specs.declared.Refusal.{Refusal}
-use Rattle.grammar_phrases.specs.declared.Refusal.TheVariants as refusal
-use Rattle.grammar_phrases.specs.Text.{Text, Ban}
-use Rattle.grammar_phrases.specs.Reading.{Fault, Syntax, Passes, Read}
-use Rattle.grammar_phrases.specs.Gives.{Fails}
-use Rattle.grammar_phrases.specs.Verdict.{whole_read}
-use Rattle.grammar_phrases.proofs.Exact.{Exact, front}
-use Rattle.grammar_phrases.proofs.Sequences.{stops}
+use Rattle.idl_grammar.specs.declared.refusal.Refusal.{Refusal}
+use Rattle.idl_grammar.specs.declared.refusal.Refusal.TheVariants as refusal
+use Rattle.idl_grammar.specs.Text.{Text, Ban}
+use Rattle.idl_grammar.specs.ReadPhrases.{Fault, Syntax, Passes, Read}
+use Rattle.idl_grammar.specs.Gives.{Fails}
+use Rattle.idl_grammar.specs.Verdict.{whole_read}
+use Rattle.idl_grammar.proofs.Exact.{Exact, front}
+use Rattle.idl_grammar.proofs.Sequences.{stops}
 use Rattle.idl_grammar.specs.Answers.{is_banned, named}
 use Rattle.idl_grammar.specs.declared.fault.SyntaxFault.{SyntaxFault}
 use Rattle.idl_grammar.specs.declared.fault.SyntaxFault.TheVariants as errors

@@ -1,11 +1,11 @@
 -- Attributes are read exactly.
 use Rattle.std.proofs.Common.{◌≡◌, ℕ, ◌+◌, ◌≤◌, true, List, [], ◌∷◌, length, refl, sym, ap, subst, arith, inl, inr}
-use Rattle.grammar_phrases.specs.Text.{Lexeme, Text, symbol_at, is, is_in, Ban, Lifted, Rel, optional, bracketed, located, made, ◌⊗◌, ◌⊳◌}
-use Rattle.grammar_phrases.specs.Reading.{to_unit, mark_read}
-use Rattle.grammar_phrases.proofs.Exact.{Agrees, Exact, HasPhrase, pair_exact, turned_exact}
-use Rattle.grammar_phrases.proofs.Parts.{marked, mark_exact, mark_has, pair_has, turned_has, ruled_exact, of_symbol}
-use Rattle.grammar_phrases.proofs.Sequences.{stops, Begins, BeginsOr, disjoint, ends_at, skip_begins, option_exact, option_begins, separated_exact, separated_has, bracketed_exact, bracketed_has}
-use Rattle.grammar_phrases.proofs.Sequences.{bracketed_begins, located_exact, located_has, made_exact, made_begins}
+use Rattle.idl_grammar.specs.Text.{Lexeme, Text, symbol_at, is, is_in, Ban, Lifted, Rel, optional, bracketed, located, made, ◌⊗◌, ◌⊳◌}
+use Rattle.idl_grammar.specs.ReadPhrases.{to_unit, mark_read}
+use Rattle.idl_grammar.proofs.Exact.{Agrees, Exact, HasPhrase, pair_exact, turned_exact}
+use Rattle.idl_grammar.proofs.Parts.{marked, mark_exact, mark_has, pair_has, turned_has, ruled_exact, of_symbol}
+use Rattle.idl_grammar.proofs.Sequences.{stops, Begins, BeginsOr, disjoint, ends_at, skip_begins, option_exact, option_begins, separated_exact, separated_has, bracketed_exact, bracketed_has}
+use Rattle.idl_grammar.proofs.Sequences.{bracketed_begins, located_exact, located_has, made_exact, made_begins}
 use Rattle.idl_grammar.specs.declared.words.Spelling.{Spelling}
 use Rattle.idl_grammar.specs.Symbols as symbol
 use Rattle.idl_grammar.specs.Grammar.{one_of, in_round, commas, is_banned_attribute}

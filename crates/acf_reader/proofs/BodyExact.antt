@@ -2,12 +2,12 @@
 use Rattle.std.proofs.Common.{◌≡◌, ℕ, ◌+◌, ◌≤◌, Bool, true, false, List, [], ◌∷◌, cond, length, refl, sym, ap, subst, arith, ◌∙◌, ◌||◌, eq-eqb, ◌⊎◌, inl, inr, Option, Some, None, Ok}
 use Rattle.std.proofs.lemmas.Bool.{eqb-true}
 use Rattle.nd_lemmas.proofs.Booleans.{clash}
-use Rattle.grammar_phrases.specs.Text.{Lexeme, Text, lexeme_at, symbol_at, is, is_in, Lifted, Rel, many, optional, located, made, ◌⊗◌, ◌⊳◌, ◌⊲◌, ◌∣◌}
-use Rattle.grammar_phrases.specs.Reading.{Read, then, turned}
-use Rattle.grammar_phrases.proofs.Exact.{Exact, HasPhrase, Part, pair_exact, turned_exact}
-use Rattle.grammar_phrases.proofs.Parts.{pair_has, turned_has, optional_has}
-use Rattle.grammar_phrases.proofs.Sequences.{stops, Begins, subset, disjoint, meets_first, skip_exact, skip_begins, end_exact, end_has, end_begins, pair_begins, or_pair_begins, located_exact}
-use Rattle.grammar_phrases.proofs.Sequences.{located_has, bracketed_exact, bracketed_has, bracketed_begins, separated_exact, separated_has, separated_begins, list_exact, choice_exact}
+use Rattle.idl_grammar.specs.Text.{Lexeme, Text, lexeme_at, symbol_at, is, is_in, Lifted, Rel, many, optional, located, made, ◌⊗◌, ◌⊳◌, ◌⊲◌, ◌∣◌}
+use Rattle.idl_grammar.specs.ReadPhrases.{Read, then, turned}
+use Rattle.idl_grammar.proofs.Exact.{Exact, HasPhrase, Part, pair_exact, turned_exact}
+use Rattle.idl_grammar.proofs.Parts.{pair_has, turned_has, optional_has}
+use Rattle.idl_grammar.proofs.Sequences.{stops, Begins, subset, disjoint, meets_first, skip_exact, skip_begins, end_exact, end_has, end_begins, pair_begins, or_pair_begins, located_exact}
+use Rattle.idl_grammar.proofs.Sequences.{located_has, bracketed_exact, bracketed_has, bracketed_begins, separated_exact, separated_has, separated_begins, list_exact, choice_exact}
 use Rattle.idl_grammar.specs.declared.words.Spelling.{Spelling}
 use Rattle.idl_grammar.specs.Symbols as symbol
 use Rattle.idl_grammar.specs.Expressions.{spelled}
@@ -271,7 +271,7 @@ module _ (depth : ℕ) where
   include_line_exact : (t : Text) (i : ℕ) → i ≤ length t
       → Exact include_line (stops []) t i
       (then (spelled_read word.Include t i)
-      (λ name m. Rattle.grammar_phrases.specs.Reading.choice_read (symbol.Quoted ∷ []) t m (line_read t (commas_read t (spelled_read symbol.Quoted t) m)) (signature_read t depth m)))
+      (λ name m. Rattle.idl_grammar.specs.ReadPhrases.choice_read (symbol.Quoted ∷ []) t m (line_read t (commas_read t (spelled_read symbol.Quoted t) m)) (signature_read t depth m)))
   include_line_exact t i in_text =
       pair_exact (spelled word.Include) behind (stops []) (stops []) (λ lifted x m j b ph stop. refl) behind_has t i (spelled_read word.Include t i) _
       (spelled_exact word.Include refl (stops []) t i in_text)
@@ -282,7 +282,7 @@ module _ (depth : ℕ) where
   include_is : (t : Text) (at i : ℕ)
       → turned (λ p. behind_made at p.0 p.1)
       (then (spelled_read word.Include t i)
-      (λ name m. Rattle.grammar_phrases.specs.Reading.choice_read (symbol.Quoted ∷ []) t m (line_read t (commas_read t (spelled_read symbol.Quoted t) m)) (signature_read t depth m)))
+      (λ name m. Rattle.idl_grammar.specs.ReadPhrases.choice_read (symbol.Quoted ∷ []) t m (line_read t (commas_read t (spelled_read symbol.Quoted t) m)) (signature_read t depth m)))
       ≡ include_read t depth at i
   unfolding include_read
   include_is t at i =
@@ -337,7 +337,7 @@ module _ (depth : ℕ) where
   element_begins lifted x i j (tree.Include at files) ph = ap (λ (s : ℕ). is_in element_firsts s) ph.1.1.0 ∙ include_first
   element_begins lifted x i j (tree.Types at a names) ph = ap (λ (s : ℕ). is_in element_firsts s) ph.1.1.0 ∙ typedef_first
   element_begins lifted x i j (tree.Operation at a name ps) ph =
-      Rattle.grammar_phrases.proofs.Sequences.in_more name_firsts element_firsts (symbol_at x i) names_element (operation_line_begins lifted x i j (a, (name, ps)) ph.1)
+      Rattle.idl_grammar.proofs.Sequences.in_more name_firsts element_firsts (symbol_at x i) names_element (operation_line_begins lifted x i j (a, (name, ps)) ph.1)
 
   types_forth : (lifted : Lifted) (x : Text) (i j : ℕ) (c : BodyElement) → types c lifted x i j → body_element depth c lifted x i j
   unfolding body_element

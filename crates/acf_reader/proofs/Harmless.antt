@@ -2,10 +2,10 @@
 use Rattle.std.proofs.Common.{◌≡◌, ℕ, ◌+◌, ◌<◌, ◌≤◌, Bool, true, false, leb, List, [], ◌∷◌, length, refl, arith, eq-eqb, inl, inr, Option, Some, None, Err}
 use Rattle.std.proofs.Math.Decide.{dec_lt}
 use Rattle.nd_lemmas.proofs.Booleans.{clash}
-use Rattle.grammar_phrases.specs.Text.{Lexeme, Text, Phrase, Rel, Lifted, Depth, Ban, symbol_at, is, is_in, nothing, never, mark, token, unless, optional, many, located, bracketed, many_brackets, ◌▹◌}
-use Rattle.grammar_phrases.specs.Text.{◌⊗◌}
-use Rattle.grammar_phrases.specs.Reading.{Passes, to_unit}
-use Rattle.grammar_phrases.specs.Verdict.{derives, limits_before_but, all_but}
+use Rattle.idl_grammar.specs.Text.{Lexeme, Text, Phrase, Rel, Lifted, Depth, Ban, symbol_at, is, is_in, nothing, never, mark, token, unless, optional, many, located, bracketed, many_brackets, ◌▹◌}
+use Rattle.idl_grammar.specs.Text.{◌⊗◌}
+use Rattle.idl_grammar.specs.ReadPhrases.{Passes, to_unit}
+use Rattle.idl_grammar.specs.Verdict.{derives, limits_before_but, all_but}
 use Rattle.idl_grammar.specs.declared.words.Spelling.{Spelling}
 use Rattle.idl_grammar.specs.Symbols as symbol
 use Rattle.idl_grammar.specs.Expressions.{spelling, spelled}

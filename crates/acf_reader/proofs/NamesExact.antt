@@ -1,9 +1,9 @@
 -- Names are read exactly.
 use Rattle.std.proofs.Common.{◌≡◌, ℕ, ◌≤◌, Bool, true, false, length, refl}
-use Rattle.grammar_phrases.specs.Text.{Text, is_in}
-use Rattle.grammar_phrases.proofs.Exact.{Stops, Exact, HasPhrase}
-use Rattle.grammar_phrases.proofs.Parts.{token_exact, token_has, of_symbol}
-use Rattle.grammar_phrases.proofs.Sequences.{Begins}
+use Rattle.idl_grammar.specs.Text.{Text, is_in}
+use Rattle.idl_grammar.proofs.Exact.{Stops, Exact, HasPhrase}
+use Rattle.idl_grammar.proofs.Parts.{token_exact, token_has, of_symbol}
+use Rattle.idl_grammar.proofs.Sequences.{Begins}
 use Rattle.idl_grammar.specs.Symbols as symbol
 use Rattle.idl_grammar.specs.Expressions.{spelling}
 use Rattle.acf_reader.specs.Symbols.{names}

@@ -1,8 +1,8 @@
 -- What is answered on the tokens of an attribute configuration file.
 use Rattle.std.specs.Prelude.{Result}
-use Rattle.grammar_phrases.specs.Text.{Text}
-use Rattle.grammar_phrases.specs.Reading.{Fault}
-use Rattle.grammar_phrases.specs.Verdict.{whole_read}
+use Rattle.idl_grammar.specs.Text.{Text}
+use Rattle.idl_grammar.specs.ReadPhrases.{Fault}
+use Rattle.idl_grammar.specs.Verdict.{whole_read}
 use Rattle.idl_grammar.specs.Answers.{Answers, named}
 use Rattle.acf_reader.specs.Tree.{Acf}
 use Rattle.acf_reader.specs.Grammar.{acf}

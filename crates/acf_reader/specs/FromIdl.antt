@@ -1,6 +1,6 @@
 -- The tokens of an attribute configuration file, from those that a file of IDL with the same text has.
 use Rattle.std.specs.Prelude.{ℕ, cond, List, [], ◌∷◌}
-use Rattle.grammar_phrases.specs.Text.{Lexeme, is_in}
+use Rattle.idl_grammar.specs.Text.{Lexeme, is_in}
 use Rattle.idl_grammar.specs.Symbols as symbol
 use Rattle.idl_grammar.specs.Lexemes.{symbol_among}
 use Rattle.acf_reader.specs.Symbols.{own_words}

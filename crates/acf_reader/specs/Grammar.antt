@@ -2,8 +2,8 @@
 -- place where it begins and the place past it; each line is one alternative. depth is the number of brackets that are open
 -- where a phrase begins; it is 4 at most, so the limit of 64 refuses nothing.
 use Rattle.std.specs.Prelude.{ℕ, ◌+◌, Bool, true, false, List, [], ◌∷◌}
-use Rattle.grammar_phrases.specs.Text.{Rel, Ban, nothing, mark, token, optional, unless, many, bracketed, located, is_in, ◌▹◌, ◌⊗◌, ◌⊳◌}
-use Rattle.grammar_phrases.specs.Reading.{to_unit}
+use Rattle.idl_grammar.specs.Text.{Rel, Ban, nothing, mark, token, optional, unless, many, bracketed, located, is_in, ◌▹◌, ◌⊗◌, ◌⊳◌}
+use Rattle.idl_grammar.specs.ReadPhrases.{to_unit}
 use Rattle.idl_grammar.specs.declared.words.Spelling.{Spelling}
 use Rattle.idl_grammar.specs.Symbols as symbol
 use Rattle.idl_grammar.specs.Expressions.{spelling, spelled}

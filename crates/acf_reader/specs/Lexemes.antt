@@ -1,7 +1,7 @@
 -- The tokens of a text as the grammar of attribute configuration files sees them. Reserved words, banned words and marks are
 -- those of IDL. Words with which an attribute of IDL begins are mere names here.
 use Rattle.std.specs.Prelude.{ℕ, List, ◌++◌, map, slice_range}
-use Rattle.grammar_phrases.specs.Text.{Lexeme, Text}
+use Rattle.idl_grammar.specs.Text.{Lexeme, Text}
 use Rattle.idl_lexer.specs.declared.tokens.TokenKind.{TokenKind}
 use Rattle.idl_lexer.specs.declared.tokens.TokenKind.TheVariants as token
 use Rattle.idl_lexer.specs.declared.tokens.Token.{Token}

@@ -1,9 +1,9 @@
 -- What the functions of the reader give, on lists: one reading for each function, in the shape of its calls. depth is the number of
 -- brackets that are open at the place.
 use Rattle.std.specs.Prelude.{ℕ, ◌+◌, Bool, true, false, List, [], ◌∷◌, Option, None, Ok}
-use Rattle.grammar_phrases.specs.Text.{Text, lexeme_at, is_in, Ban}
-use Rattle.grammar_phrases.specs.Reading.{Read, then, turned, token_read, ruled_read, mark_read, to_unit, located_read, option_read, list_read}
-use Rattle.grammar_phrases.specs.Reading.{behind_read}
+use Rattle.idl_grammar.specs.Text.{Text, lexeme_at, is_in, Ban}
+use Rattle.idl_grammar.specs.ReadPhrases.{Read, then, turned, token_read, ruled_read, mark_read, to_unit, located_read, option_read, list_read}
+use Rattle.idl_grammar.specs.ReadPhrases.{behind_read}
 use Rattle.idl_grammar.specs.declared.words.Spelling.{Spelling}
 use Rattle.idl_grammar.specs.Symbols as symbol
 use Rattle.idl_grammar.specs.Limits.{Meant, meant}

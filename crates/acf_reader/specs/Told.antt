@@ -1,7 +1,7 @@
 -- What `read_acf` answers, as the grammar has it.
 use Rattle.std.specs.Prelude.{Result, Ok, Err}
-use Rattle.grammar_phrases.specs.Text.{Depth, Ban}
-use Rattle.grammar_phrases.specs.Reading.{Fault, Syntax, Passes}
+use Rattle.idl_grammar.specs.Text.{Depth, Ban}
+use Rattle.idl_grammar.specs.ReadPhrases.{Fault, Syntax, Passes}
 use Rattle.idl_grammar.specs.declared.fault.SyntaxFault.{SyntaxFault}
 use Rattle.idl_grammar.specs.declared.fault.SyntaxFault.TheVariants as errors
 use Rattle.acf_reader.specs.declared.tree.Acf.{Acf}

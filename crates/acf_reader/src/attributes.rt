@@ -1,8 +1,8 @@
 // Names and attributes.
 ghost use Rattle.std.specs.Prelude.{◌≡◌, ◌+◌, ◌≤◌, ◌<◌, length, map, option_map, IfOk, true};
-ghost use Rattle.grammar_phrases.specs.Text.{symbol_at, is_in};
-ghost use Rattle.grammar_phrases.specs.Reading.{behind_read};
-ghost use Rattle.grammar_phrases.specs.Gives.{Gives, GivesPlace};
+ghost use Rattle.idl_grammar.specs.Text.{symbol_at, is_in};
+ghost use Rattle.idl_grammar.specs.ReadPhrases.{behind_read};
+ghost use Rattle.idl_grammar.specs.Gives.{Gives, GivesPlace};
 ghost use Rattle.idl_grammar.specs.Symbols as symbols;
 ghost use Rattle.idl_grammar.specs.Reading.{one_of_read, commas_read};
 ghost use Rattle.idl_tokens.specs.Found.{found};
@@ -14,8 +14,7 @@ ghost use Rattle.acf_reader.specs.Reading.{attribute_kind_read, attribute_read, 
 
 use crate::tree::{Attribute, AttributeKind, Attributes, HandleType};
 use crate::words;
-use grammar_phrases::Refusal;
-use idl_grammar::Identifier;
+use idl_grammar::{Identifier, Refusal};
 use idl_tokens::parser::Parser;
 use idl_tokens::symbol;
 

@@ -1,8 +1,8 @@
 // The body, and whole files.
 ghost use Rattle.std.specs.Prelude.{◌≡◌, ◌+◌, ◌≤◌, ◌<◌, length, map, IfOk, false};
-ghost use Rattle.grammar_phrases.specs.Text.{symbol_at, is_in};
-ghost use Rattle.grammar_phrases.specs.Reading.{behind_read};
-ghost use Rattle.grammar_phrases.specs.Gives.{Gives};
+ghost use Rattle.idl_grammar.specs.Text.{symbol_at, is_in};
+ghost use Rattle.idl_grammar.specs.ReadPhrases.{behind_read};
+ghost use Rattle.idl_grammar.specs.Gives.{Gives};
 ghost use Rattle.idl_grammar.specs.Symbols as symbols;
 ghost use Rattle.idl_grammar.specs.ReadExpressions.{spelled_read};
 ghost use Rattle.idl_grammar.specs.Reading.{commas_read};
@@ -14,8 +14,7 @@ ghost use Rattle.acf_reader.specs.Reading.{element_read, element_firsts, body_re
 use crate::attributes::{attributes, ident, is_name, maybe_attributes};
 use crate::tree::{Acf, BodyElement, Parameter};
 use crate::words;
-use grammar_phrases::Refusal;
-use idl_grammar::{Identifier, Spelling};
+use idl_grammar::{Identifier, Refusal, Spelling};
 use idl_tokens::parser::Parser;
 use idl_tokens::symbol;
 
@@ -165,7 +164,7 @@ fn types(
 }
 
 /// The word `include`, which is also a name.
-#[tactic(auto, using(grammar_phrases::proofs::Within::mark_within, crate::proofs::Within::include_is_word))]
+#[tactic(auto, using(idl_grammar::proofs::Within::mark_within, crate::proofs::Within::include_is_word))]
 fn include_word(parser: &Parser<'_>, at: usize) -> Result<(Identifier, usize), Refusal>
     requires { at ≤ length parser.now }
     ensures gives { Gives (λ x. x) result (spelled_read Include parser.now at) }

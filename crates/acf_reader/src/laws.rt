@@ -1,10 +1,10 @@
 //! Laws over the definitions.
 
 ghost use Rattle.std.specs.Prelude.{◌≡◌, ◌<◌, ℕ, length, false, Result, Ok, Err};
-ghost use Rattle.grammar_phrases.specs.Text.{Text, Depth, Ban, Lifted};
-ghost use Rattle.grammar_phrases.specs.Reading.{Fault, Syntax, Passes};
-ghost use Rattle.grammar_phrases.specs.Gives.{IsText};
-ghost use Rattle.grammar_phrases.specs.Verdict.{derives};
+ghost use Rattle.idl_grammar.specs.Text.{Text, Depth, Ban, Lifted};
+ghost use Rattle.idl_grammar.specs.ReadPhrases.{Fault, Syntax, Passes};
+ghost use Rattle.idl_grammar.specs.Gives.{IsText};
+ghost use Rattle.idl_grammar.specs.Verdict.{derives};
 ghost use Rattle.idl_lexer.specs.Lexed.{Lexed};
 ghost use Rattle.idl_grammar.specs.Answers.{is_banned};
 ghost use Rattle.acf_reader.specs.Answers.{IsAnswer, acf_answer};

@@ -1,6 +1,6 @@
 // Tokens as the grammar sees them.
 ghost use Rattle.std.specs.Prelude.{◌≡◌, map, IfOk};
-ghost use Rattle.grammar_phrases.specs.Text.{is_in};
+ghost use Rattle.idl_grammar.specs.Text.{is_in};
 ghost use Rattle.idl_grammar.specs.Lexemes.{symbol_among, IsFormed};
 ghost use Rattle.idl_tokens.specs.Lexemes.{text_of};
 ghost use Rattle.acf_reader.specs.FromIdl.{names_of_idl, symbol_from};

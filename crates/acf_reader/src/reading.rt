@@ -1,8 +1,8 @@
 // Whole texts.
 ghost use Rattle.std.specs.Prelude.{◌≡◌, ◌≤◌, ◌<◌, length, Result};
-ghost use Rattle.grammar_phrases.specs.Reading.{Fault};
-ghost use Rattle.grammar_phrases.specs.Gives.{GivesWhole};
-ghost use Rattle.grammar_phrases.specs.Verdict.{whole_read};
+ghost use Rattle.idl_grammar.specs.ReadPhrases.{Fault};
+ghost use Rattle.idl_grammar.specs.Gives.{GivesWhole};
+ghost use Rattle.idl_grammar.specs.Verdict.{whole_read};
 ghost use Rattle.acf_reader.specs.Answers.{IsAnswer, acf_answer};
 ghost use Rattle.acf_reader.specs.Lexemes.{lexemes as grammar_lexemes};
 ghost use Rattle.acf_reader.specs.Reading.{acf_read};
@@ -13,8 +13,7 @@ ghost use Rattle.acf_reader.specs.Tree as tree;
 use crate::body::acf;
 use crate::lexemes::lexemes;
 use crate::tree::Acf;
-use grammar_phrases::Refusal;
-use idl_grammar::SyntaxFault;
+use idl_grammar::{Refusal, SyntaxFault};
 use idl_lexer::Tokens;
 use idl_tokens::fault_of;
 use idl_tokens::parser::Parser;

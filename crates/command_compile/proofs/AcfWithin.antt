@@ -1,11 +1,11 @@
 -- The token of a fault of an attribute configuration file is one of the text, or its end.
 use Rattle.std.proofs.Common.{◌≡◌, ℕ, ◌+◌, ◌<◌, ◌≤◌, true, false, Bool, cond, length, refl, sym, subst, arith, Result, Ok, Err}
 use Rattle.std.proofs.lemmas.List.{length-map}
-use Rattle.grammar_phrases.specs.Text.{Depth, Ban}
-use Rattle.grammar_phrases.specs.Reading.{Fault, Syntax, Passes}
-use Rattle.grammar_phrases.specs.Verdict.{whole_read}
-use Rattle.grammar_phrases.proofs.Exact.{front}
-use Rattle.grammar_phrases.proofs.Within.{mark_within}
+use Rattle.idl_grammar.specs.Text.{Depth, Ban}
+use Rattle.idl_grammar.specs.ReadPhrases.{Fault, Syntax, Passes}
+use Rattle.idl_grammar.specs.Verdict.{whole_read}
+use Rattle.idl_grammar.proofs.Exact.{front}
+use Rattle.idl_grammar.proofs.Within.{mark_within}
 use Rattle.idl_lexer.specs.Lexed.{Lexed}
 use Rattle.idl_grammar.specs.Symbols as symbol
 use Rattle.idl_grammar.specs.Answers.{is_banned, named_fault, named}

@@ -1,7 +1,7 @@
 -- What compiling answers, from what its steps answer.
 use Rattle.std.proofs.Common.{◌≡◌, ◌∙◌, ◌≤◌, ℕ, arith, List, [], ◌∷◌, ◌++◌, append_assoc, length, Option, Some, Err, refl, sym, ap, subst, inl, inr}
-use Rattle.grammar_phrases.specs.Text.{Depth, Ban}
-use Rattle.grammar_phrases.specs.Reading.{Syntax, Passes}
+use Rattle.idl_grammar.specs.Text.{Depth, Ban}
+use Rattle.idl_grammar.specs.ReadPhrases.{Syntax, Passes}
 use Rattle.idl_lexer.specs.Lexed.{Lexed}
 use Rattle.idl_lexer.specs.Verdict.{AreTokens}
 use Rattle.idl_grammar.specs.Lexemes.{lexemes}

@@ -1,7 +1,7 @@
 -- What judging files answers that are resolved, from what its steps answer.
 use Rattle.std.proofs.Common.{◌≡◌, ◌∙◌, ℕ, Bool, true, false, eqb, List, Option, Some, None, Err, refl, sym, ap, subst, inl, inr}
-use Rattle.grammar_phrases.specs.Text.{Depth, Ban}
-use Rattle.grammar_phrases.specs.Reading.{Syntax, Passes}
+use Rattle.idl_grammar.specs.Text.{Depth, Ban}
+use Rattle.idl_grammar.specs.ReadPhrases.{Syntax, Passes}
 use Rattle.nd_base.specs.declared.octets.Place.{Place}
 use Rattle.nd_base.specs.Outside.{IsContent, IsMissing}
 use Rattle.nd_types.specs.declared.interface.Interface.{Interface}

@@ -8,3 +8,17 @@ pub mod OneAcf
 pub mod OneWalk
 pub mod OneMeaning
 pub mod OneInterface
+pub mod Read
+pub mod Ends
+pub mod Instances
+pub mod AttributeFiles
+pub mod TreeNames
+pub mod EndedNames
+pub mod NodeNames
+pub mod MeantNames
+pub mod JudgedFiles
+pub mod AcfRead
+pub mod Missing
+pub mod Results
+pub mod Parts
+pub mod Explained

@@ -1,7 +1,7 @@
 -- What the text of an attribute configuration file is read as (C706, section 4.3): its tree, or its first fault. And what is read of the file that
 -- is named beside a file of IDL.
 use Rattle.std.specs.Prelude.{◌≡◌, ℕ, List, Option, None, Some, Result, Ok, Err, option_map, ⊤}
-use Rattle.grammar_phrases.specs.Reading.{Fault}
+use Rattle.idl_grammar.specs.ReadPhrases.{Fault}
 use Rattle.nd_base.specs.Outside.{IsContent}
 use Rattle.idl_lexer.specs.Lexed.{Lexed, place_of}
 use Rattle.idl_lexer.specs.Verdict.{AreTokens}

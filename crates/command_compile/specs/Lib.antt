@@ -4,3 +4,8 @@ pub mod Idl
 pub mod Asked
 pub mod Compiled
 pub mod Reading
+pub mod Read
+pub mod Named
+pub mod Judged
+pub mod Results
+pub mod Compat

@@ -1,2 +1,4 @@
 pub mod Written
 pub mod Prepared
+pub mod Fitted
+pub mod Request

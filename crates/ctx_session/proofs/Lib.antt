@@ -8,3 +8,4 @@ pub mod Places
 pub mod Serving
 pub mod Accounts
 pub mod OneScript
+pub mod Distinct

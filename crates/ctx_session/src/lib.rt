@@ -1,4 +1,5 @@
-//! Sessions: a script opens, uses and ends the resources of a stock, which a store keeps under the identifiers of their context handles.
+//! Sessions: a script opens, uses and ends the resources of a stock, which a store keeps under the identifiers of their context handles. The laws
+//! say that no identifier is live twice.
 #![tactic(auto)]
 
 mod answer;
@@ -9,6 +10,7 @@ mod numbers;
 mod script;
 mod session;
 mod stock;
+pub mod store_laws;
 
 pub use session::{SCRIPT_LIMIT, SessionFault, run_script};
 pub use stock::{Stock, StockOf};

@@ -16,7 +16,7 @@ use Rattle.dceidl.specs.Seen.{Seen}
 use Rattle.command_line.specs.Words.{Subject, Values}
 use Rattle.dceidl.specs.Causes.{IsMade, IsCause}
 use Rattle.text_grammar.specs.declared.TheConstants.{TEXT_LIMIT}
-use Rattle.command_text.specs.Fitted.{IsTextCause}
+use Rattle.command_encode.specs.Fitted.{IsTextCause}
 use Rattle.dceidl.specs.Encode.{IsLabelledEncoding, IsEncodingCause, IsMigration}
 use Rattle.command_refusals.specs.declared.refusal.Refusal.{Refusal}
 use Rattle.command_refusals.specs.declared.refusal.Refusal.TheVariants.{Memory, Absent, FileFailed, BadIdl, NoOperation, ReadFault, BadOctets, BadText, BadValue, TooLong, BadRequest, BadLabel}

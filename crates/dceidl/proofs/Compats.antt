@@ -20,7 +20,7 @@ use Rattle.command_compile.specs.Asked.{FileNames}
 use Rattle.command_compile.specs.Idl.{Means}
 use Rattle.command_compile.specs.Compiled.{IsCompiled, IsIdlCause}
 use Rattle.command_compile.proofs.OneInterface.{one_interface}
-use Rattle.command_compat.specs.Compat.{first_part, second_part, AfterFirst, IsFilesCause, IsDifferent, IsCompatible, IsNotCompatible, IsCompatCause, fault_of}
+use Rattle.command_compile.specs.Compat.{first_part, second_part, AfterFirst, IsFilesCause, IsDifferent, IsCompatible, IsNotCompatible, IsCompatCause, fault_of}
 use Rattle.dceidl.specs.Held.{IsHeld, IsHeldInterface, MustBeNoIdl}
 use Rattle.dceidl.specs.Compat.{CanBeCompared, AreHeld, MustBeIncomparable, IsDueSecond}
 use Rattle.command_streams.specs.Delivery.{IsOneOf}

@@ -11,7 +11,7 @@ use Rattle.nd_value.specs.Setting.{Setting}
 use Rattle.nd_value.specs.Conforms.{Conforms}
 use Rattle.nd_value.specs.Fitting.{Fitting, IsFit, setting_beside}
 use Rattle.command_encode.specs.Written.{IsWritten, IsWritingCause}
-use Rattle.command_text.specs.Fitted.{IsTextCause}
+use Rattle.command_encode.specs.Fitted.{IsTextCause}
 use Rattle.text_grammar.specs.Printed.{IsText}
 use Rattle.text_grammar.specs.Reads.{ReadsAs}
 use Rattle.command_refusals.specs.declared.refusal.Refusal.{Refusal}

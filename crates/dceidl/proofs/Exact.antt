@@ -24,11 +24,11 @@ use Rattle.nd_grammar.specs.Represents.{Represents}
 use Rattle.ndr_drain.specs.Given.{pipe_count}
 use Rattle.command_drain.specs.Printed as draining
 use Rattle.command_drain.specs.Printed.{IsDrainRefusal}
-use Rattle.command_explain.specs.Explanations.{IsExplained}
-use Rattle.command_trace.specs.Stopped.{IsTraceCause}
+use Rattle.command_decode.specs.Explanations.{IsExplained}
+use Rattle.command_decode.specs.Stopped.{IsTraceCause}
 use Rattle.command_decode.specs.Printed.{IsPrinted, IsInputCause}
-use Rattle.command_text.specs.Fitted.{IsTextCause}
-use Rattle.command_text.proofs.OneText.{good_cause, fault_cause, misfit_cause}
+use Rattle.command_encode.specs.Fitted.{IsTextCause}
+use Rattle.command_encode.proofs.OneText.{good_cause, fault_cause, misfit_cause}
 use Rattle.dceidl.specs.Causes.{IsMade, IsCause, IsWrittenBeside, IsUnexplained}
 use Rattle.command_why.specs.declared.lookup.Explained.TheVariants.{Found, Nearest}
 use Rattle.dceidl.proofs.Compats.{compat_done, compat_settled}

@@ -7,7 +7,7 @@ use Rattle.nd_base.specs.Counts.{Rose}
 use Rattle.nd_base.specs.Over.{SourceSeen, HasRisen}
 use Rattle.nd_base.proofs.Rising.{rose_later}
 use Rattle.nd_value.specs.Setting.{Setting}
-use Rattle.command_label.specs.Label.{HasLabel, IsShortLabel, IsLabelCause}
+use Rattle.command_streams.specs.Label.{HasLabel, IsShortLabel, IsLabelCause}
 use Rattle.ndr_pipe.specs.Ends.{EndsSeen}
 use Rattle.ndr_prim.specs.declared.label.LabelFault.{LabelFault}
 use Rattle.ndr_prim.specs.Label.{order_of_label}

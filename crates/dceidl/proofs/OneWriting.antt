@@ -12,10 +12,10 @@ use Rattle.nd_grammar.proofs.ChosenRepresents.{chosen_exists}
 use Rattle.command_encode.specs.Written.{IsWritten, IsLong}
 use Rattle.text_grammar.specs.declared.fault.TextReason.{TextReason}
 use Rattle.text_grammar.specs.Reads.{ReadsAs, IsTextFault}
-use Rattle.text_reading_laws.proofs.Stated.{one_graph}
-use Rattle.text_reading_laws.proofs.OneText.{never_both}
-use Rattle.command_text.specs.Fitted.{IsTextCause, IsMisfitAt}
-use Rattle.command_text.proofs.OneText.{good_cause}
+use Rattle.text_grammar.proofs.Stated.{one_graph}
+use Rattle.text_grammar.proofs.OneText.{never_both}
+use Rattle.command_encode.specs.Fitted.{IsTextCause, IsMisfitAt}
+use Rattle.command_encode.proofs.OneText.{good_cause}
 use Rattle.command_refusals.specs.declared.refusal.Refusal.{Refusal}
 use Rattle.command_refusals.specs.declared.refusal.Refusal.TheVariants.{Memory, Absent, FileFailed, BadIdl, NoOperation, ReadFault, BadOctets, BadText, BadValue, TooLong, BadRequest, BadLabel}
 use Rattle.command_refusals.specs.declared.refusal.Refusal.TheVariants.{ShortLabel, TooFewEnds, EndFailed}

@@ -3,7 +3,7 @@ use Rattle.std.proofs.Common.{◌≡◌, ◌∙◌, ℕ, true, List, [], Option,
 use Rattle.std.specs.Prelude.{option_map}
 use Rattle.nd_base.specs.Over.{FilesSeen}
 use Rattle.command_compile.specs.Asked.{FileNames}
-use Rattle.command_compat.specs.Compat.{IsBeside, IsPlaceWritten}
+use Rattle.command_compile.specs.Compat.{IsBeside, IsPlaceWritten}
 use Rattle.command_line.specs.Words.{Command, Compat}
 use Rattle.command_refusals.specs.Lines.{status_of, line_of}
 use Rattle.command_refusals.specs.declared.refusal.CompatFault.TheVariants as fault

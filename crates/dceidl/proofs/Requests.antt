@@ -14,7 +14,7 @@ use Rattle.command_refusals.specs.declared.refusal.Refusal.{Refusal}
 use Rattle.command_refusals.specs.declared.refusal.Refusal.TheVariants.{Memory, Absent, FileFailed, BadIdl, NoOperation, ReadFault, BadOctets, BadText, BadValue, TooLong, BadRequest, BadLabel}
 use Rattle.command_refusals.specs.declared.refusal.Refusal.TheVariants.{ShortLabel, TooFewEnds, EndFailed}
 use Rattle.command_refusals.specs.declared.refusal.Refusal.TheVariants.{BadPdu, NotCompatible, BadScript, LongScript}
-use Rattle.command_text.specs.Request.{beside, HoldsRequest, HoldsNoRequest}
+use Rattle.command_encode.specs.Request.{beside, HoldsRequest, HoldsNoRequest}
 use Rattle.command_compile.specs.Asked.{AsksFiles, AreAsked, all_due}
 use Rattle.ndr_pipe.specs.Ends.{EndsSeen}
 use Rattle.command_line.specs.declared.command.Task.{Task}

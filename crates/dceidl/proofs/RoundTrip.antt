@@ -14,8 +14,8 @@ use Rattle.nd_grammar.proofs.written.SameForms.{same_written}
 use Rattle.text_grammar.specs.declared.TheConstants.{TEXT_LIMIT}
 use Rattle.text_grammar.specs.Reads.{ReadsAs}
 use Rattle.text_grammar.specs.Printed.{IsText}
-use Rattle.text_reading_laws.proofs.Stated.{one_graph}
-use Rattle.text_laws.proofs.PrintedReads.{printed_reads}
+use Rattle.text_grammar.proofs.Stated.{one_graph}
+use Rattle.value_text.proofs.PrintedReads.{printed_reads}
 use Rattle.command_decode.specs.Printed.{IsDecoding}
 use Rattle.dceidl.specs.Encode.{IsEncoding, IsMigration}
 use Rattle.dceidl.proofs.Sides.{whole_begins}

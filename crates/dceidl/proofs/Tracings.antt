@@ -21,9 +21,9 @@ use Rattle.command_refusals.specs.declared.refusal.Refusal.TheVariants.{ShortLab
 use Rattle.command_refusals.specs.declared.refusal.Refusal.TheVariants.{BadPdu, NotCompatible, BadScript, LongScript}
 use Rattle.command_streams.specs.Input.{AreGiven, AreRead}
 use Rattle.command_streams.proofs.OneInput.{split_input}
-use Rattle.command_trace.specs.Stopped.{IsRefusedSource, IsTraceCause}
-use Rattle.command_trace.specs.Traced.{IsRefusedTrace, IsRefusedWith, IsTrailedTrace}
-use Rattle.command_trace.proofs.Limits.{truncated_within}
+use Rattle.command_decode.specs.Stopped.{IsRefusedSource, IsTraceCause}
+use Rattle.command_decode.specs.Traced.{IsRefusedTrace, IsRefusedWith, IsTrailedTrace}
+use Rattle.command_decode.proofs.Limits.{truncated_within}
 use Rattle.dceidl.specs.Rows.{IsRefusedAt, IsTrailing}
 use Rattle.dceidl.proofs.OneReading.{IsOctetsCause}
 

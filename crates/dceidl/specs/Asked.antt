@@ -13,7 +13,7 @@ use Rattle.command_line.specs.declared.command.Task.TheVariants.{Read, Encode, M
 use Rattle.command_compile.specs.Asked.{AsksFiles, FileNames, AreAsked, all_due}
 use Rattle.ndr_pipe.specs.Ends.{EndsSeen, AreAsBefore}
 use Rattle.command_compile.specs.Idl.{Means}
-use Rattle.command_compat.specs.Compat.{AsksBoth}
+use Rattle.command_compile.specs.Compat.{AsksBoth}
 
 -- the files of the interface that a command asks for, or of the first if it asks for two
 abbrev pub asks_files : Command → Option FileNames

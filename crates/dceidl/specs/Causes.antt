@@ -7,8 +7,8 @@ use Rattle.ndr_pipe.specs.Ends.{AreAsBefore}
 use Rattle.dceidl.specs.Asked.{drains}
 use Rattle.dceidl.specs.Input.{IsMadeOf, IsOpened, IsTaskCause}
 use Rattle.command_compile.specs.Compiled.{IsListed, IsPlanned, IsIdlCause}
-use Rattle.command_compat.specs.Compat.{IsCompatible, IsCompatCause, IsPlaceWritten}
-use Rattle.command_trace.specs.Stopped.{AreLines}
+use Rattle.command_compile.specs.Compat.{IsCompatible, IsCompatCause, IsPlaceWritten}
+use Rattle.command_decode.specs.Stopped.{AreLines}
 use Rattle.command_why.specs.Explained.{explained}
 use Rattle.command_why.specs.declared.lookup.Explained.TheVariants.{Found, Nearest}
 use Rattle.dceidl.specs.Ready.{IsAllReady, IsUnready}

@@ -9,7 +9,7 @@ use Rattle.idl_compat.specs.declared.compared.Compared.TheVariants.{Yes}
 use Rattle.idl_compat.specs.Comparison.{IsCompared}
 use Rattle.command_compile.specs.Asked.{FileNames}
 use Rattle.command_compile.specs.Idl.{Means, IsDueFile}
-use Rattle.command_compat.specs.Compat.{IsDifferent, IsCompatible, IsCompatCause, IsBeside, IsPlaceWritten}
+use Rattle.command_compile.specs.Compat.{IsDifferent, IsCompatible, IsCompatCause, IsBeside, IsPlaceWritten}
 use Rattle.command_line.specs.Words.{Command, Compat}
 use Rattle.command_refusals.specs.declared.refusal.Refusal.{Refusal}
 use Rattle.command_refusals.specs.declared.refusal.Refusal.TheVariants.{BadIdl, NotCompatible}

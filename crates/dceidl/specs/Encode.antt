@@ -10,7 +10,7 @@ use Rattle.command_line.specs.declared.command.OrderWord.TheVariants.{Fixed, Lab
 use Rattle.command_encode.specs.Written.{IsWritten, IsLong}
 use Rattle.command_refusals.specs.declared.refusal.Refusal.{Refusal}
 use Rattle.command_refusals.specs.declared.refusal.Refusal.TheVariants.{TooLong}
-use Rattle.command_text.specs.Fitted.{IsTextCause}
+use Rattle.command_encode.specs.Fitted.{IsTextCause}
 use Rattle.text_grammar.specs.Printed.{IsText}
 use Rattle.text_grammar.specs.Reads.{ReadsAs}
 

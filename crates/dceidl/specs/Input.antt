@@ -7,12 +7,12 @@ use Rattle.text_grammar.specs.declared.TheConstants.{TEXT_LIMIT}
 use Rattle.nd_value.specs.declared.value.Graph.{Graph}
 use Rattle.nd_value.specs.Setting.{Setting}
 use Rattle.command_drain.specs.Printed as draining
-use Rattle.command_explain.specs.Explanations.{IsExplained}
-use Rattle.command_trace.specs.Stopped.{IsTraceCause}
+use Rattle.command_decode.specs.Explanations.{IsExplained}
+use Rattle.command_decode.specs.Stopped.{IsTraceCause}
 use Rattle.command_decode.specs.Printed.{IsPrinted, IsInputCause}
-use Rattle.command_text.specs.Fitted.{IsTextCause}
-use Rattle.command_text.specs.Request.{beside, HoldsRequest, HoldsNoRequest}
-use Rattle.command_label.specs.Label.{IsLabelCause}
+use Rattle.command_encode.specs.Fitted.{IsTextCause}
+use Rattle.command_encode.specs.Request.{beside, HoldsRequest, HoldsNoRequest}
+use Rattle.command_streams.specs.Label.{IsLabelCause}
 use Rattle.command_streams.specs.Input.{AreRead}
 use Rattle.ndr_prim.specs.Label.{order_of_label}
 use Rattle.ndr_pipe.specs.Ends.{EndsSeen, AreAsBefore}

@@ -13,7 +13,7 @@ use Rattle.nd_value.specs.Setting.{Setting}
 use Rattle.command_line.specs.Words.{Subject}
 use Rattle.command_refusals.specs.declared.refusal.Refusal.{Refusal}
 use Rattle.command_refusals.specs.declared.refusal.Refusal.TheVariants.{NoOperation}
-use Rattle.command_text.specs.Request.{beside, HoldsRequest, HoldsNoRequest}
+use Rattle.command_encode.specs.Request.{beside, HoldsRequest, HoldsNoRequest}
 use Rattle.command_compile.specs.Compiled.{IsCompiled, IsIdlCause}
 
 -- the operation of a name, by its number

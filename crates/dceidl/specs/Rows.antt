@@ -28,8 +28,8 @@ use Rattle.dceidl.specs.Asked.{IsRequestDue, asks_files, asks_input}
 use Rattle.dceidl.specs.Held.{IsHeld, MustBeNoIdl}
 use Rattle.dceidl.specs.Input.{IsLabel}
 use Rattle.command_streams.specs.Input.{AreGiven, IsInput}
-use Rattle.command_text.specs.Fitted.{IsMisfitAt}
-use Rattle.command_text.specs.Request.{beside, IsRequestText, IsRequestFault}
+use Rattle.command_encode.specs.Fitted.{IsMisfitAt}
+use Rattle.command_encode.specs.Request.{beside, IsRequestText, IsRequestFault}
 use Rattle.command_compile.specs.Idl.{Means, IsDueFile}
 use Rattle.command_refusals.specs.Lines.{status_of, line_of}
 use Rattle.rpc_pdu.specs.declared.pdu.Wanted.{Wanted}

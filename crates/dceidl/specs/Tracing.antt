@@ -14,8 +14,8 @@ use Rattle.command_line.specs.declared.command.Reading.TheVariants.{Trace}
 use Rattle.command_line.specs.declared.command.Task.TheVariants.{Read}
 use Rattle.command_line.specs.Words.{Command, Subject}
 use Rattle.command_refusals.specs.declared.refusal.Refusal.{Refusal}
-use Rattle.command_trace.specs.declared.tracing.Stopped.{Stopped}
-use Rattle.command_trace.specs.Stopped.{AreLines, IsOther}
+use Rattle.command_decode.specs.declared.tracing.Stopped.{Stopped}
+use Rattle.command_decode.specs.Stopped.{AreLines, IsOther}
 use Rattle.dceidl.specs.Causes.{IsCause, IsUntold, IsWrittenBeside}
 use Rattle.dceidl.specs.Input.{IsOpened, IsTaskCause}
 use Rattle.dceidl.specs.Ready.{IsAllReady}

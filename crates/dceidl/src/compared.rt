@@ -2,12 +2,12 @@
 ghost use Rattle.std.specs.Prelude.{◌≡◌, true, false, option_map, IfSome, IfNone};
 ghost use Rattle.nd_base.specs.Over.{FilesSeen, files_seen};
 ghost use Rattle.command_compile.specs.Asked.{FileNames};
-ghost use Rattle.command_compat.specs.Compat.{AsksBoth, IsIncompatible};
+ghost use Rattle.command_compile.specs.Compat.{AsksBoth, IsIncompatible};
 ghost use Rattle.command_line.specs.Commands.{command_of};
 ghost use Rattle.command_line.specs.Words.{Compat};
 ghost use Rattle.dceidl.specs.Compat.{HasNoPlace, IsComparedOutcome};
 
-use command_compat::{Incompatible, compat_why};
+use command_compile::{Incompatible, compat_why};
 use command_line::Command;
 use command_refusals::{line, status};
 use command_streams::Outcome;

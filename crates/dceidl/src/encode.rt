@@ -4,14 +4,13 @@ ghost use Rattle.std.specs.List.{slice_get};
 ghost use Rattle.nd_types.specs.declared.types.Operation.{Operation};
 ghost use Rattle.nd_value.specs.Fitting.{setting_beside};
 ghost use Rattle.nd_value.specs.Request.{IsRequestOf};
-ghost use Rattle.command_text.specs.Fitted.{IsTextCause};
+ghost use Rattle.command_encode.specs.Fitted.{IsTextCause};
 ghost use Rattle.dceidl.specs.Encode.{IsEncoding, IsLabelledEncoding, IsEncodingCause, IsMigration, label_for};
 
 use crate::ready::Ready;
-use command_encode::write_octets;
+use command_encode::{fit_text, write_octets};
 use command_line::OrderWord;
 use command_refusals::Refusal;
-use command_text::fit_text;
 use nd_base::{Memory, Octets, Order};
 use nd_graph::Fit;
 use std::alloc::Global;

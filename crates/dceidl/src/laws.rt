@@ -30,7 +30,7 @@ ghost use Rattle.command_refusals.specs.declared.refusal.IdlReason.{IdlReason};
 ghost use Rattle.command_refusals.specs.declared.refusal.Refusal.TheVariants as refusal;
 
 use rpc_pdu::laws::pieces_are_fragments;
-use text_laws::laws::same_texts;
+use value_text::laws::same_texts;
 
 /// Where the contents of files are known, a main file means one interface at most with those that it imports, with an attribute configuration file
 /// if one is named, or is refused at one line and column of one file for one reason at most, and never both.

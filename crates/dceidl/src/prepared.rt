@@ -10,9 +10,9 @@ ghost use Rattle.dceidl.specs.Ready.{IsUnready};
 ghost use Rattle.dceidl.specs.Tracing.{IsPrepared};
 
 use crate::ready::{Ready, make_ready};
+use command_encode::load_request;
 use command_line::Subject;
 use command_refusals::Refusal;
-use command_text::load_request;
 use nd_base::Files;
 use nd_graph::Fit;
 use std::alloc::Global;

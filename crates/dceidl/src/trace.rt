@@ -22,11 +22,10 @@ ghost use Rattle.dceidl.specs.Tracing.{IsPrepared, IsStoppedCommand, IsStoppedTa
 
 use crate::prepared::{Prepared, prepare};
 use crate::ready::Ready;
-use command_label::take_label;
+use command_decode::{Stopped, trace_octets};
 use command_line::{Command, OrderWord, Reading, Subject, Task};
 use command_refusals::{line, status};
-use command_streams::Outcome;
-use command_trace::{Stopped, trace_octets};
+use command_streams::{Outcome, take_label};
 use nd_base::{Files, Octets, Source};
 use nd_graph::Fit;
 use std::alloc::Global;

@@ -14,7 +14,7 @@ use Rattle.rpc_pdu.specs.Fragments as pdu
 use Rattle.rpc_pdu.specs.Pieces.{Pieces, want_of, opnum_of}
 use Rattle.command_refusals.specs.declared.refusal.Refusal.{Refusal}
 use Rattle.command_refusals.specs.declared.refusal.Refusal.TheVariants.{Memory}
-use Rattle.command_compat.specs.Compat.{IsRefusal}
+use Rattle.command_compile.specs.Compat.{IsRefusal}
 use Rattle.library_calls.specs.Fragments.{IsJoinedOf, IsFragmentsCause}
 use Rattle.library_calls.specs.Labels.{IsLabelCause}
 use Rattle.library_handles.specs.declared.held.Held.{Held}

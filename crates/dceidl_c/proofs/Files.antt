@@ -3,8 +3,8 @@ use Rattle.std.proofs.Common.{◌≡◌, ◌∙◌, ℕ, zero, suc, List, Option
 use Rattle.std.specs.List.{slice_get}
 use Rattle.std.proofs.lemmas.Option.{same_Some}
 use Rattle.nd_types.specs.declared.interface.Interface.{Interface}
-use Rattle.lent_files.specs.declared.file.File.{File}
-use Rattle.lent_files.specs.Named.{named_after, HasBadName}
+use Rattle.library_interface.specs.declared.file.File.{File}
+use Rattle.library_interface.specs.Named.{named_after, HasBadName}
 use Rattle.command_refusals.specs.declared.refusal.Refusal.{Refusal}
 use Rattle.command_refusals.specs.declared.refusal.Refusal.TheVariants.{Memory}
 use Rattle.library_handles.specs.declared.held.Held.{Held}

@@ -11,9 +11,9 @@ use Rattle.nd_value.specs.Fitting.{Fitting, setting_beside}
 use Rattle.nd_value.specs.Setting.{Setting}
 use Rattle.command_refusals.specs.declared.refusal.Refusal.{Refusal}
 use Rattle.command_refusals.specs.declared.refusal.Refusal.TheVariants.{Memory}
-use Rattle.library_building.specs.declared.fault.BuildFault.TheVariants.{WrongNode, Refused}
-use Rattle.library_building.specs.declared.listing.Listing.{Listing}
-use Rattle.library_building.specs.Built.{Says, IsWrong, IsSaidBadly, IsBuildCause, has_too_many}
+use Rattle.library_nodes.specs.declared.fault.BuildFault.TheVariants.{WrongNode, Refused}
+use Rattle.library_nodes.specs.declared.listing.Listing.{Listing}
+use Rattle.library_nodes.specs.Built.{Says, IsWrong, IsSaidBadly, IsBuildCause, has_too_many}
 use Rattle.library_handles.specs.declared.held.Held.{Held}
 use Rattle.library_values.specs.Decoded.{IsOf}
 use Rattle.dceidl_c.specs.Answers.{side_numbered, values_in, refusal_in, is_side}

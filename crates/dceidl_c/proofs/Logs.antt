@@ -9,7 +9,7 @@ use Rattle.nd_types.specs.declared.types.Side.TheVariants.{Out}
 use Rattle.nd_value.specs.declared.item.Item.{Item}
 use Rattle.nd_value.specs.Fitting.{Fitting, setting_beside}
 use Rattle.library_handles.specs.declared.held.Held.{Held}
-use Rattle.library_items.specs.Logged.{IsLoggedOf}
+use Rattle.library_values.specs.Logged.{IsLoggedOf}
 use Rattle.dceidl_c.specs.Answers.{side_numbered, order_numbered}
 use Rattle.dceidl_c.specs.Items.{items_in, IsItems, IsResponseItems}
 use Rattle.dceidl_c.proofs.Numbered.{there_and, of_side, of_order}

@@ -10,8 +10,8 @@ use Rattle.nd_flat.specs.Building.{referent_type}
 use Rattle.command_refusals.specs.declared.refusal.Refusal.{Refusal}
 use Rattle.command_refusals.specs.declared.refusal.Refusal.TheVariants.{Memory}
 use Rattle.library_values.specs.Decoded.{IsOf}
-use Rattle.library_building.specs.declared.listing.Listing.{Listing}
-use Rattle.library_building.specs.Built.{Says, IsWrong, IsSaidBadly}
+use Rattle.library_nodes.specs.declared.listing.Listing.{Listing}
+use Rattle.library_nodes.specs.Built.{Says, IsWrong, IsSaidBadly}
 use Rattle.dceidl_c.specs.Answers.{OfSide}
 
 -- the listing says the values, which are of that side, beside no request

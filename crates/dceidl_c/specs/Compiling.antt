@@ -2,8 +2,8 @@
 -- `idl` is the name of the main file, `acf` that of the attribute configuration file, or its number.
 use Rattle.std.specs.Prelude.{◌≡◌, ℕ, zero, suc, List, Option, None, option_map, slice_get, IsSomeAnd}
 use Rattle.nd_types.specs.declared.interface.Interface.{Interface}
-use Rattle.lent_files.specs.declared.file.File.{File}
-use Rattle.lent_files.specs.Named.{named_after}
+use Rattle.library_interface.specs.declared.file.File.{File}
+use Rattle.library_interface.specs.Named.{named_after}
 use Rattle.command_refusals.specs.declared.refusal.Refusal.{Refusal}
 use Rattle.command_refusals.specs.declared.refusal.Refusal.TheVariants.{Memory}
 use Rattle.library_interface.specs.CompiledOf.{IsCompiledOf, IsCompileCause}

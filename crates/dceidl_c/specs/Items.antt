@@ -12,7 +12,7 @@ use Rattle.nd_value.specs.declared.item.ItemKind.TheVariants as kind
 use Rattle.nd_value.specs.Fitting.{Fitting, setting_beside}
 use Rattle.library_handles.specs.declared.held.Held.{Held}
 use Rattle.library_handles.specs.declared.held.Held.TheVariants as kept
-use Rattle.library_items.specs.Logged.{IsLoggedOf}
+use Rattle.library_values.specs.Logged.{IsLoggedOf}
 use Rattle.library_nodes.specs.Low.{low}
 use Rattle.dceidl_c.specs.Answers.{OfSide, OfOrder}
 use Rattle.dceidl_c.specs.declared.items.ItemDescription.{ItemDescription}

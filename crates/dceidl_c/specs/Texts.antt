@@ -9,7 +9,7 @@ use Rattle.text_grammar.specs.Printed.{IsText}
 use Rattle.text_grammar.specs.Reads.{ReadsAs}
 use Rattle.command_refusals.specs.declared.refusal.Refusal.{Refusal}
 use Rattle.command_refusals.specs.declared.refusal.Refusal.TheVariants.{Memory}
-use Rattle.command_text.specs.Fitted.{IsTextCause}
+use Rattle.command_encode.specs.Fitted.{IsTextCause}
 use Rattle.library_values.specs.Decoded.{IsOf}
 use Rattle.dceidl_c.specs.Answers.{OfSide}
 

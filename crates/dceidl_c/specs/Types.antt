@@ -7,7 +7,7 @@ use Rattle.nd_types.specs.declared.types.TypeDef.{TypeDef}
 use Rattle.nd_types.specs.declared.types.TypeDef.TheVariants.{Struct}
 use Rattle.nd_types.specs.Table.{type_at}
 use Rattle.nd_types.specs.Walk.{named_roots}
-use Rattle.library_types.specs.Finding.{IsRootNamed, HasNoRoot, IsMemberNamed, HasNoMember}
+use Rattle.library_values.specs.Finding.{IsRootNamed, HasNoRoot, IsMemberNamed, HasNoMember}
 use Rattle.dceidl_c.specs.Answers.{OfSide}
 
 -- the root of that side has that name, and that type

@@ -3,7 +3,7 @@ use Rattle.std.specs.Prelude.{◌≡◌}
 use Rattle.nd_types.specs.declared.interface.Interface.{Interface}
 use Rattle.command_refusals.specs.declared.refusal.Refusal.{Refusal}
 use Rattle.command_refusals.specs.declared.refusal.Refusal.TheVariants.{Memory}
-use Rattle.command_compat.specs.Compat.{IsRefusal}
+use Rattle.command_compile.specs.Compat.{IsRefusal}
 
 -- the comparison answers this reason, and memory is not the reason
 abbrev pub IsCompareRefusal : Interface → Interface → Refusal → Type 0

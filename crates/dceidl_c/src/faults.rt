@@ -1,14 +1,14 @@
 // Faults.
 ghost use Rattle.std.specs.Prelude.{◌≡◌, ◌≤◌, ◌<◌, [], length, take, drop, None, true, is_some, IsSomeAnd};
 ghost use Rattle.command_refusals.specs.Lines.{line_of};
-ghost use Rattle.library_faults.specs.Causes.{IsCauseOf};
-ghost use Rattle.library_faults.specs.Names.{file_of, name_of};
+ghost use Rattle.library_calls.specs.Causes.{IsCauseOf};
+ghost use Rattle.library_calls.specs.Names.{file_of, name_of};
 ghost use Rattle.dceidl_c.specs.Answers.{refusal_in};
 
 use crate::answers::{ARGUMENT, EMPTY, MEMORY, OK, SHORT, lay_out};
 use crate::interfaces::free;
 use command_refusals::{Refusal, line};
-use library_faults::{Cause, cause_of, file, name};
+use library_calls::{Cause, cause_of, file, name};
 use library_handles::{Handle, Held};
 use std::alloc::Global;
 

@@ -3,14 +3,13 @@ ghost use Rattle.std.specs.Prelude.{◌≡◌, ◌≤◌, ◌<◌, length, take,
 ghost use Rattle.std.specs.Arc.{arc_value};
 ghost use Rattle.std.specs.List.{slice_get};
 ghost use Rattle.nd_types.specs.Operations.{operation_named};
-ghost use Rattle.lent_files.specs.Named.{HasBadName};
+ghost use Rattle.library_interface.specs.Named.{HasBadName};
 ghost use Rattle.dceidl_c.specs.Answers.{interface_in, refusal_in};
 ghost use Rattle.dceidl_c.specs.Compiling.{IsCompile, IsCompileRefusal, IsFilesCompile, IsFilesRefusal, name_of_file};
 
 use crate::answers::{ABSENT, ARGUMENT, EMPTY, MEMORY, OK, REFUSED, SHORT, fill, lay_out, refuse};
-use lent_files::File;
 use library_handles::{Handle, Held};
-use library_interface::{CompileFault, Compiled, compile_files};
+use library_interface::{CompileFault, Compiled, File, compile_files};
 use std::alloc::Global;
 use std::str::from_utf8;
 use std::sync::Arc;

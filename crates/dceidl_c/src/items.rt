@@ -12,9 +12,8 @@ use crate::numbers::{order_of, side_of};
 use crate::reading::is_request;
 use library_handles::{Handle, Held};
 use library_interface::Compiled;
-use library_items::{items_of, items_of_response};
 use library_nodes::low;
-use library_values::Values;
+use library_values::{Values, items_of, items_of_response};
 use nd_value::{Home, Item, ItemKind, ItemLog};
 use std::alloc::Global;
 

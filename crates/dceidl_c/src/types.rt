@@ -1,7 +1,7 @@
 // Roots, members and their types.
 ghost use Rattle.std.specs.Prelude.{◌≡◌, ◌≤◌, Some, None, false, option_map, IsSomeAnd};
 ghost use Rattle.nd_types.specs.Table.{type_at};
-ghost use Rattle.library_types.specs.Finding.{element_of};
+ghost use Rattle.library_values.specs.Finding.{element_of};
 ghost use Rattle.dceidl_c.specs.Answers.{interface_in, is_side};
 ghost use Rattle.dceidl_c.specs.Types.{IsRoot, HasNoRootNamed, IsMember, members_of, HasNoMemberNamed};
 
@@ -9,7 +9,7 @@ use crate::answers::{ABSENT, ARGUMENT, EMPTY, MEMORY, OK, REFUSED, SHORT};
 use crate::numbers::side_of;
 use library_handles::{Handle, Held};
 use library_interface::Compiled;
-use library_types::{Named, element_type, member_named, root_named};
+use library_values::{Named, element_type, member_named, root_named};
 use nd_types::{Fields, TypeDef, TypeId, Types};
 use std::alloc::Global;
 

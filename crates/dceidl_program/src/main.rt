@@ -2,17 +2,19 @@
 //! eight resources.
 #![tactic(auto)]
 
+mod standard_input;
+
 ghost use Rattle.std.specs.Prelude.{◌≡◌, false, IfOk};
 ghost use Rattle.ndr_pipe.specs.Ends.{AreOpen};
 ghost use Rattle.ndr_pipe.specs.Seen.{ends_seen};
 ghost use Rattle.ctx_session.specs.Session.{AreFresh};
 ghost use Rattle.ctx_session.specs.Stocked.{fresh_seen};
 
+use crate::standard_input::StandardInput;
 use ctx_session::Stock;
 use ctx_store::{FileResource, Resource};
 use dceidl::{Status, Words, run_with};
 use nd_base::{FolderFiles, Memory, OutputSink};
-use nd_blocks::StandardInput;
 use ndr_pipe::{FileEnd, PipeEnd, PipeEnds};
 use std::env;
 use std::io::ErrorKind;

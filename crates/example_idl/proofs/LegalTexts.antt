@@ -1,7 +1,7 @@
 -- The interfaces that two texts mean are legal.
 use Rattle.std.proofs.Common.{◌≡◌, ℕ, List, Option, Some, None, refl, subst, arith}
 use Rattle.std.specs.Prelude.{Result, Ok, Err, All}
-use Rattle.grammar_phrases.specs.Reading.{Fault}
+use Rattle.idl_grammar.specs.ReadPhrases.{Fault}
 use Rattle.nd_types.specs.Legal.{IsLegal}
 use Rattle.idl_grammar.specs.Tree.{Tree}
 use Rattle.idl_rule_definitions.specs.Rules.{Breach}

@@ -1,7 +1,7 @@
 -- Attribute configuration files with files of IDL, and which rule they are reported to break.
 use Rattle.std.specs.Prelude.{ℕ, Bool, true, false, List, [], ◌∷◌, ◌++◌, map, Option, Some, None, codes, Result, Ok, Err}
 use Rattle.std.specs.List.{flat_map}
-use Rattle.grammar_phrases.specs.Reading.{Fault}
+use Rattle.idl_grammar.specs.ReadPhrases.{Fault}
 use Rattle.idl_grammar.specs.Tree.{Tree}
 use Rattle.acf_reader.specs.Lexemes.{lexemes}
 use Rattle.acf_reader.specs.Tree.{Acf}

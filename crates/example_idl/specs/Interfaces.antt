@@ -1,6 +1,6 @@
 -- Texts, and the interfaces that they mean.
 use Rattle.std.specs.Prelude.{ℕ, pos, false, List, [], ◌∷◌, ◌++◌, Option, Some, None, codes, Result, Ok, Err}
-use Rattle.grammar_phrases.specs.Reading.{Fault}
+use Rattle.idl_grammar.specs.ReadPhrases.{Fault}
 use Rattle.nd_types.specs.declared.types.TypeId.{TypeId}
 use Rattle.nd_types.specs.declared.types.TypeDef.TheVariants.{Enum, Struct, Array, Text, Union, Pointer}
 use Rattle.nd_types.specs.declared.types.Field.{Field}

@@ -19,3 +19,8 @@ pub mod WorkedPlain
 pub mod WorkedPointers
 pub mod WorkedResponses
 pub mod WorkedUnions
+pub mod Rows
+pub mod SimpleCells
+pub mod PlainFit
+pub mod Levels
+pub mod WithoutMisfit

@@ -2,12 +2,12 @@
 ghost use Rattle.idl_rule_definitions.specs.Answers.{Answers};
 ghost use Rattle.idl_rule_definitions.specs.Checked.{world_of};
 
-use idl_gathering::{first_breach, of_files};
+use idl_constructs::{first_breach, of_files};
+use idl_declared_types::numbering;
 use idl_interface::meaning::interface;
 use idl_rule_definitions::RuleFault;
 use idl_rules::{broken, other_breach};
 use idl_scope::Scope;
-use idl_type_numbers::numbering;
 use idl_typing::of_nodes;
 use nd_types::Interface;
 use std::alloc::Global;

@@ -3,7 +3,7 @@ use Rattle.std.proofs.Common.{arith, ◌≡◌, ℕ, ◌+◌, ◌-◌, ◌<◌, 
 use Rattle.std.specs.Prelude.{slice_get}
 use Rattle.nd_types.specs.declared.types.TypeId.{TypeId}
 use Rattle.nd_types.specs.Table.{Table}
-use Rattle.listing_words.proofs.ListedLines.{left_is}
+use Rattle.idl_listing.proofs.ListedLines.{left_is}
 use Rattle.idl_compat_place.specs.declared.steps.Step.{Step}
 use Rattle.idl_compat_place.specs.Places.{led, stepped, child_of}
 use Rattle.idl_compat_place.specs.Lines.{found, step_text, path_text}

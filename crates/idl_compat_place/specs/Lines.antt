@@ -17,7 +17,7 @@ use Rattle.nd_types.specs.declared.types.Way.{Way}
 use Rattle.nd_types.specs.declared.types.Way.TheVariants as way
 use Rattle.nd_types.specs.declared.types.Operation.{Operation}
 use Rattle.nd_types.specs.Table.{Table, type_at}
-use Rattle.listing_words.specs.Lines.{class_word}
+use Rattle.idl_listing.specs.Lines.{class_word}
 use Rattle.idl_compat.specs.declared.pairs.TypePair.{TypePair}
 use Rattle.idl_compat_place.specs.declared.steps.Step.{Step}
 use Rattle.idl_compat_place.specs.declared.steps.Step.TheVariants as step

@@ -17,8 +17,8 @@ ghost use Rattle.idl_compat_place.specs.Lines.{count_lines as count_lines_of, pa
 use crate::children::child;
 use crate::{Difference, Place, Step, Steps};
 use idl_compat::TypePair;
+use idl_listing::class_word;
 use itoa::Buffer;
-use listing_words::class_word;
 use nd_base::text::join;
 use nd_base::{Memory, Octets};
 use nd_types::{Interface, Param, Primitive, TypeDef, TypeId, Types, Way};

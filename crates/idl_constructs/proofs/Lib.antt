@@ -5,3 +5,6 @@ pub mod Gathering
 pub mod Rests
 pub mod Split
 pub mod Judgement
+pub mod Bodies
+pub mod Runs
+pub mod NoListRules

@@ -4,3 +4,11 @@ pub mod PlaceLists
 pub mod NameLists
 pub mod Dimensions
 pub mod KindsOnce
+pub mod LabelTags
+pub mod Fronts
+pub mod Held
+pub mod BodyParts
+pub mod PlacesFilled
+pub mod Grown
+pub mod Numbered
+pub mod NeededNodes

@@ -3,3 +3,7 @@ pub mod Kinds
 pub mod Places
 pub mod SeenNames
 pub mod KindTests
+pub mod SeenTypes
+pub mod InPlace
+pub mod SeenNumbers
+pub mod SeenOperations

@@ -1,11 +1,11 @@
 -- Attributes are read exactly.
 use Rattle.std.proofs.Common.{◌≡◌, ℕ, ◌+◌, ◌<◌, ◌≤◌, Bool, true, false, List, [], ◌∷◌, length, refl, arith, Option}
-use Rattle.grammar_phrases.specs.Text.{Text, is, is_in, Rel, optional, ◌⊗◌, ◌⊳◌}
-use Rattle.grammar_phrases.specs.Reading.{Read, behind_read}
-use Rattle.grammar_phrases.proofs.Exact.{Exact, HasPhrase, pair_exact, turned_exact}
-use Rattle.grammar_phrases.proofs.Parts.{pair_has, turned_has, optional_has}
-use Rattle.grammar_phrases.proofs.Sequences.{stops, Begins, subset, disjoint, meets_first, ends_at, skip_exact, skip_has, skip_begins, option_exact, separated_exact, separated_has, bracketed_exact}
-use Rattle.grammar_phrases.proofs.Sequences.{bracketed_has}
+use Rattle.idl_grammar.specs.Text.{Text, is, is_in, Rel, optional, ◌⊗◌, ◌⊳◌}
+use Rattle.idl_grammar.specs.ReadPhrases.{Read, behind_read}
+use Rattle.idl_grammar.proofs.Exact.{Exact, HasPhrase, pair_exact, turned_exact}
+use Rattle.idl_grammar.proofs.Parts.{pair_has, turned_has, optional_has}
+use Rattle.idl_grammar.proofs.Sequences.{stops, Begins, subset, disjoint, meets_first, ends_at, skip_exact, skip_has, skip_begins, option_exact, separated_exact, separated_has, bracketed_exact}
+use Rattle.idl_grammar.proofs.Sequences.{bracketed_has}
 use Rattle.idl_grammar.specs.declared.words.Spelling.{Spelling}
 use Rattle.idl_grammar.specs.declared.attributes.PointerClass.TheVariants as class
 use Rattle.idl_grammar.specs.declared.attributes.VariableWord.TheVariants as variable

@@ -2,16 +2,16 @@
 use Rattle.std.proofs.Common.{◌≡◌, ℕ, ◌+◌, ◌<◌, true, [], ◌∷◌, ◌++◌, length, refl, sym, ap, arith, ◌∙◌, Err, inl}
 use Rattle.std.proofs.lemmas.List.{get_or-take}
 use Rattle.nd_lemmas.proofs.Booleans.{clash}
-use Rattle.grammar_phrases.specs.Text.{Lexeme, Text, the_end, lexeme_at, is, Ban}
-use Rattle.grammar_phrases.specs.Reading.{Passes}
-use Rattle.grammar_phrases.specs.Verdict.{begins, derives, lax, limits_before}
-use Rattle.grammar_phrases.proofs.Within.{mark_within}
+use Rattle.idl_grammar.specs.Text.{Lexeme, Text, the_end, lexeme_at, is, Ban}
+use Rattle.idl_grammar.specs.ReadPhrases.{Passes}
+use Rattle.idl_grammar.specs.Verdict.{begins, derives, lax, limits_before}
+use Rattle.idl_grammar.proofs.Within.{mark_within}
 use Rattle.idl_grammar.specs.Symbols as symbol
 use Rattle.idl_grammar.specs.Tree.{Tree}
 use Rattle.idl_grammar.specs.Grammar.{file}
 use Rattle.idl_grammar.specs.Answers.{is_banned, Answers}
 use Rattle.idl_grammar.proofs.CleanFile.{no_banned_word}
-use Rattle.grammar_phrases.proofs.Judged.{ended}
+use Rattle.idl_grammar.proofs.Judged.{ended}
 
 -- texts that begin alike have the same tokens there
 agrees : (t x : Text) (n i : ℕ) → begins t n x → i < n → lexeme_at x i ≡ lexeme_at t i

@@ -1,11 +1,11 @@
 -- What is in the bodies of types, but for types: enumerators, labels and discriminants are read exactly.
 use Rattle.std.proofs.Common.{◌≡◌, ℕ, ◌+◌, ◌≤◌, true, false, List, [], ◌∷◌, length, refl, arith, ◌⊎◌, inl, inr, Option}
-use Rattle.grammar_phrases.specs.Text.{Text, is_in, Lifted, Rel, optional, ◌⊗◌, ◌⊳◌, ◌⊲◌, ◌∣◌}
-use Rattle.grammar_phrases.specs.Reading.{mark_read, end_with, option_read, behind_read}
-use Rattle.grammar_phrases.proofs.Exact.{Exact, HasPhrase, Part, pair_exact, turned_exact}
-use Rattle.grammar_phrases.proofs.Parts.{pair_has, turned_has, optional_has}
-use Rattle.grammar_phrases.proofs.Sequences.{stops, Begins, subset, disjoint, meets_first, ends_at, skip_exact, skip_has, skip_begins, end_exact, end_has, end_begins, pair_begins, option_exact}
-use Rattle.grammar_phrases.proofs.Sequences.{some_exact, some_has, some_begins, separated_exact, separated_has, bracketed_exact, bracketed_has, bracketed_begins}
+use Rattle.idl_grammar.specs.Text.{Text, is_in, Lifted, Rel, optional, ◌⊗◌, ◌⊳◌, ◌⊲◌, ◌∣◌}
+use Rattle.idl_grammar.specs.ReadPhrases.{mark_read, end_with, option_read, behind_read}
+use Rattle.idl_grammar.proofs.Exact.{Exact, HasPhrase, Part, pair_exact, turned_exact}
+use Rattle.idl_grammar.proofs.Parts.{pair_has, turned_has, optional_has}
+use Rattle.idl_grammar.proofs.Sequences.{stops, Begins, subset, disjoint, meets_first, ends_at, skip_exact, skip_has, skip_begins, end_exact, end_has, end_begins, pair_begins, option_exact}
+use Rattle.idl_grammar.proofs.Sequences.{some_exact, some_has, some_begins, separated_exact, separated_has, bracketed_exact, bracketed_has, bracketed_begins}
 use Rattle.idl_grammar.specs.declared.words.Spelling.{Spelling}
 use Rattle.idl_grammar.specs.declared.types.SwitchType.{SwitchType}
 use Rattle.idl_grammar.specs.declared.types.Discriminant.{Discriminant}

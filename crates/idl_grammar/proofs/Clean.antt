@@ -3,7 +3,7 @@ use Rattle.std.proofs.Common.{◌≡◌, ℕ, ◌+◌, ◌<◌, ◌≤◌, Bool,
 use Rattle.std.proofs.Math.Decide.{dec_lt}
 use Rattle.std.proofs.lemmas.Bool.{eqb-true}
 use Rattle.nd_lemmas.proofs.Booleans.{clash}
-use Rattle.grammar_phrases.specs.Text.{Lexeme, Text, Phrase, Rel, Rule, symbol_at, is, nothing, never, mark, token, unless, only_if, optional, many, some_of, separated, located, bracketed, ◌▹◌}
+use Rattle.idl_grammar.specs.Text.{Lexeme, Text, Phrase, Rel, Rule, symbol_at, is, nothing, never, mark, token, unless, only_if, optional, many, some_of, separated, located, bracketed, ◌▹◌}
 use Rattle.idl_grammar.specs.Symbols as symbol
 use Rattle.idl_grammar.specs.Grammar.{flag, begins_at}
 use Rattle.idl_grammar.specs.Answers.{is_banned}

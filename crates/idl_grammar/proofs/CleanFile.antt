@@ -1,8 +1,8 @@
 -- No file of the language holds a word that is banned anywhere.
 use Rattle.std.proofs.Common.{◌≡◌, ℕ, ◌+◌, ◌<◌, Bool, true, false, List, [], ◌∷◌, length, refl, arith, leb, Option}
-use Rattle.grammar_phrases.specs.Text.{Text, Phrase, Rel, Lifted, is, is_in, mark, optional, ◌▹◌}
-use Rattle.grammar_phrases.specs.Reading.{to_unit}
-use Rattle.grammar_phrases.specs.Verdict.{derives}
+use Rattle.idl_grammar.specs.Text.{Text, Phrase, Rel, Lifted, is, is_in, mark, optional, ◌▹◌}
+use Rattle.idl_grammar.specs.ReadPhrases.{to_unit}
+use Rattle.idl_grammar.specs.Verdict.{derives}
 use Rattle.idl_grammar.specs.declared.words.Spelling.{Spelling}
 use Rattle.idl_grammar.specs.declared.expressions.Operand.{Operand}
 use Rattle.idl_grammar.specs.declared.expressions.Operand.TheVariants as operand

@@ -3,11 +3,11 @@ use Rattle.std.proofs.Common.{◌≡◌, ℕ, ◌+◌, ◌≤◌, Bool, true, fa
 use Rattle.std.proofs.lemmas.Bool.{eqb-true}
 use Rattle.std.proofs.lemmas.Bool.Decides.{eqb_tells}
 use Rattle.nd_lemmas.proofs.Booleans.{clash}
-use Rattle.grammar_phrases.specs.Text.{Lexeme, Text, lexeme_at, symbol_at, is, is_in, Lifted, Rel, mark, optional, ◌∣◌}
-use Rattle.grammar_phrases.specs.Reading.{Syntax, Read, then, join, turned, mark_read, choice_read}
-use Rattle.grammar_phrases.proofs.Exact.{Stops, Exact, HasPhrase, Meets, Part, turned_exact}
-use Rattle.grammar_phrases.proofs.Parts.{token_exact, token_has, of_symbol, mark_exact, marked, optional_exact, optional_has, turned_has}
-use Rattle.grammar_phrases.proofs.Sequences.{stops, Begins, BeginsOr, disjoint, subset, apart, in_more, choice_exact, choice_begins}
+use Rattle.idl_grammar.specs.Text.{Lexeme, Text, lexeme_at, symbol_at, is, is_in, Lifted, Rel, mark, optional, ◌∣◌}
+use Rattle.idl_grammar.specs.ReadPhrases.{Syntax, Read, then, join, turned, mark_read, choice_read}
+use Rattle.idl_grammar.proofs.Exact.{Stops, Exact, HasPhrase, Meets, Part, turned_exact}
+use Rattle.idl_grammar.proofs.Parts.{token_exact, token_has, of_symbol, mark_exact, marked, optional_exact, optional_has, turned_has}
+use Rattle.idl_grammar.proofs.Sequences.{stops, Begins, BeginsOr, disjoint, subset, apart, in_more, choice_exact, choice_begins}
 use Rattle.idl_grammar.specs.Symbols as symbol
 use Rattle.idl_grammar.specs.Limits.{Meant, symbols_of, value_of, names}
 use Rattle.idl_grammar.specs.Expressions.{spelling, spelled, placed, ident}

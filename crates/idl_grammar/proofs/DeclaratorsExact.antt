@@ -1,12 +1,12 @@
 -- Declarators are read exactly.
 use Rattle.std.proofs.Common.{◌≡◌, ℕ, ◌+◌, ◌≤◌, true, false, List, [], ◌∷◌, length, refl, sym, ap, subst, arith, ◌∙◌, ◌⊎◌, inl, inr, Option, Some, None}
 use Rattle.std.proofs.lemmas.Bool.{eqb-true}
-use Rattle.grammar_phrases.specs.Text.{Text, symbol_at, is_in, Lifted, Rel, mark, many, optional, made, ◌⊗◌, ◌⊳◌, ◌∣◌}
-use Rattle.grammar_phrases.specs.Reading.{mark_read, list_read, behind_read}
-use Rattle.grammar_phrases.proofs.Exact.{Exact, HasPhrase, Part, pair_exact, turned_exact}
-use Rattle.grammar_phrases.proofs.Parts.{marked, mark_exact, mark_has, pair_has, turned_has, optional_has, many_has}
-use Rattle.grammar_phrases.proofs.Sequences.{stops, Begins, subset, disjoint, meets_or, meets_first, skip_exact, skip_begins, pair_begins, or_pair_begins, option_exact, option_begins, list_exact}
-use Rattle.grammar_phrases.proofs.Sequences.{list_begins, separated_exact, separated_has, separated_begins, bracketed_exact, bracketed_begins, made_exact, made_begins}
+use Rattle.idl_grammar.specs.Text.{Text, symbol_at, is_in, Lifted, Rel, mark, many, optional, made, ◌⊗◌, ◌⊳◌, ◌∣◌}
+use Rattle.idl_grammar.specs.ReadPhrases.{mark_read, list_read, behind_read}
+use Rattle.idl_grammar.proofs.Exact.{Exact, HasPhrase, Part, pair_exact, turned_exact}
+use Rattle.idl_grammar.proofs.Parts.{marked, mark_exact, mark_has, pair_has, turned_has, optional_has, many_has}
+use Rattle.idl_grammar.proofs.Sequences.{stops, Begins, subset, disjoint, meets_or, meets_first, skip_exact, skip_begins, pair_begins, or_pair_begins, option_exact, option_begins, list_exact}
+use Rattle.idl_grammar.proofs.Sequences.{list_begins, separated_exact, separated_has, separated_begins, bracketed_exact, bracketed_begins, made_exact, made_begins}
 use Rattle.idl_grammar.specs.declared.words.Spelling.{Spelling}
 use Rattle.idl_grammar.specs.Symbols as symbol
 use Rattle.idl_grammar.specs.Limits.{names}

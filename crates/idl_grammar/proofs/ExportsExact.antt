@@ -1,11 +1,11 @@
 -- Declarations are read exactly.
 use Rattle.std.proofs.Common.{◌≡◌, ℕ, ◌+◌, ◌≤◌, Bool, true, false, List, [], ◌∷◌, length, refl, sym, subst, arith, ◌⊎◌, inl, inr, Option, Some, None}
-use Rattle.grammar_phrases.specs.Text.{Text, lexeme_at, is_in, Lifted, Rel, mark, optional, located, made, ◌⊗◌, ◌⊳◌, ◌⊲◌, ◌∣◌}
-use Rattle.grammar_phrases.specs.Reading.{Read, then, turned, mark_read, located_read}
-use Rattle.grammar_phrases.proofs.Exact.{Exact, HasPhrase, Part, pair_exact}
-use Rattle.grammar_phrases.proofs.Parts.{marked, mark_exact, mark_has, pair_has, turned_has, optional_has}
-use Rattle.grammar_phrases.proofs.Sequences.{stops, Begins, subset, disjoint, meets_first, skip_exact, skip_has, skip_begins, end_exact, end_has, end_begins, pair_begins, or_pair_begins}
-use Rattle.grammar_phrases.proofs.Sequences.{located_exact, bracketed_exact, bracketed_has, made_exact, made_begins}
+use Rattle.idl_grammar.specs.Text.{Text, lexeme_at, is_in, Lifted, Rel, mark, optional, located, made, ◌⊗◌, ◌⊳◌, ◌⊲◌, ◌∣◌}
+use Rattle.idl_grammar.specs.ReadPhrases.{Read, then, turned, mark_read, located_read}
+use Rattle.idl_grammar.proofs.Exact.{Exact, HasPhrase, Part, pair_exact}
+use Rattle.idl_grammar.proofs.Parts.{marked, mark_exact, mark_has, pair_has, turned_has, optional_has}
+use Rattle.idl_grammar.proofs.Sequences.{stops, Begins, subset, disjoint, meets_first, skip_exact, skip_has, skip_begins, end_exact, end_has, end_begins, pair_begins, or_pair_begins}
+use Rattle.idl_grammar.proofs.Sequences.{located_exact, bracketed_exact, bracketed_has, made_exact, made_begins}
 use Rattle.idl_grammar.specs.declared.words.Spelling.{Spelling}
 use Rattle.idl_grammar.specs.declared.types.SimpleType.{SimpleType}
 use Rattle.idl_grammar.specs.Symbols as symbol

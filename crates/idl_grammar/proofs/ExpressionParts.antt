@@ -3,10 +3,10 @@ use Rattle.std.proofs.Common.{◌≡◌, ℕ, zero, suc, ◌+◌, ◌<◌, ◌�
 use Rattle.std.proofs.lemmas.Bool.{le-leb, eqb-true, leb-false}
 use Rattle.std.proofs.lemmas.Bool.Decides.{leb_tells}
 use Rattle.nd_lemmas.proofs.Booleans.{clash}
-use Rattle.grammar_phrases.specs.Text.{Lexeme, Text, lexeme_at, symbol_at, is, is_in, Lifted, Rel, token}
-use Rattle.grammar_phrases.proofs.Exact.{Agrees, Stops, Exact, less}
-use Rattle.grammar_phrases.proofs.Parts.{token_exact, of_symbol}
-use Rattle.grammar_phrases.proofs.Sequences.{disjoint, apart}
+use Rattle.idl_grammar.specs.Text.{Lexeme, Text, lexeme_at, symbol_at, is, is_in, Lifted, Rel, token}
+use Rattle.idl_grammar.proofs.Exact.{Agrees, Stops, Exact, less}
+use Rattle.idl_grammar.proofs.Parts.{token_exact, of_symbol}
+use Rattle.idl_grammar.proofs.Sequences.{disjoint, apart}
 use Rattle.idl_grammar.specs.declared.words.Spelling.{Spelling}
 use Rattle.idl_grammar.specs.declared.expressions.BinaryOperator.{BinaryOperator}
 use Rattle.idl_grammar.specs.declared.expressions.BinaryOperator.TheVariants as binary

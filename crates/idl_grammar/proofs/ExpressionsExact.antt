@@ -3,11 +3,11 @@ use Rattle.std.proofs.Common.{◌≡◌, ℕ, zero, suc, ◌+◌, ◌-◌, ◌<�
 use Rattle.std.proofs.lemmas.Bool.{le-leb, eqb-true, leb-false, lt-leb}
 use Rattle.std.proofs.lemmas.Bool.Decides.{eqb_tells}
 use Rattle.nd_lemmas.proofs.Booleans.{clash}
-use Rattle.grammar_phrases.specs.Text.{Lexeme, Text, lexeme_at, symbol_at, is, Lifted, Rel, Depth, many_brackets, many, optional, ◌⊳◌, ◌⊲◌}
-use Rattle.grammar_phrases.specs.Reading.{Read, then, turned, many_read, behind_read}
-use Rattle.grammar_phrases.proofs.Exact.{Stops, Found, Exact, HasPhrase, pair, Meets, pair_exact, Part, turned_exact}
-use Rattle.grammar_phrases.proofs.Parts.{ruled_exact, optional_exact, optional_has, many_exact, many_has, marked, of_symbol, pair_has, turned_has}
-use Rattle.grammar_phrases.proofs.Sequences.{skip_exact, skip_has, end_meets_exact, end_has}
+use Rattle.idl_grammar.specs.Text.{Lexeme, Text, lexeme_at, symbol_at, is, Lifted, Rel, Depth, many_brackets, many, optional, ◌⊳◌, ◌⊲◌}
+use Rattle.idl_grammar.specs.ReadPhrases.{Read, then, turned, many_read, behind_read}
+use Rattle.idl_grammar.proofs.Exact.{Stops, Found, Exact, HasPhrase, pair, Meets, pair_exact, Part, turned_exact}
+use Rattle.idl_grammar.proofs.Parts.{ruled_exact, optional_exact, optional_has, many_exact, many_has, marked, of_symbol, pair_has, turned_has}
+use Rattle.idl_grammar.proofs.Sequences.{skip_exact, skip_has, end_meets_exact, end_has}
 use Rattle.idl_grammar.specs.declared.expressions.UnaryOperator.{UnaryOperator}
 use Rattle.idl_grammar.specs.declared.expressions.Operand.{Operand}
 use Rattle.idl_grammar.specs.declared.expressions.Operand.TheVariants as operand

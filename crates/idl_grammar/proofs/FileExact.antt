@@ -1,11 +1,11 @@
 -- Files are read exactly.
 use Rattle.std.proofs.Common.{◌≡◌, ℕ, ◌+◌, ◌≤◌, true, false, List, [], ◌∷◌, length, refl, sym, subst, arith, inl, inr, Option, Some, None}
-use Rattle.grammar_phrases.specs.Text.{Text, is_in, Lifted, Rel, located, made, ◌⊗◌, ◌⊳◌, ◌⊲◌, many, bracketed}
-use Rattle.grammar_phrases.specs.Reading.{then}
-use Rattle.grammar_phrases.proofs.Exact.{Exact, HasPhrase, pair_exact, turned_exact}
-use Rattle.grammar_phrases.proofs.Parts.{pair_has, many_has}
-use Rattle.grammar_phrases.proofs.Sequences.{stops, Begins, subset, disjoint, meets_or, skip_exact, skip_has, skip_begins, end_exact, end_has, located_begins, bracketed_exact, bracketed_has}
-use Rattle.grammar_phrases.proofs.Sequences.{made_begins, list_exact, list_begins, separated_exact, separated_has, ends_at}
+use Rattle.idl_grammar.specs.Text.{Text, is_in, Lifted, Rel, located, made, ◌⊗◌, ◌⊳◌, ◌⊲◌, many, bracketed}
+use Rattle.idl_grammar.specs.ReadPhrases.{then}
+use Rattle.idl_grammar.proofs.Exact.{Exact, HasPhrase, pair_exact, turned_exact}
+use Rattle.idl_grammar.proofs.Parts.{pair_has, many_has}
+use Rattle.idl_grammar.proofs.Sequences.{stops, Begins, subset, disjoint, meets_or, skip_exact, skip_has, skip_begins, end_exact, end_has, located_begins, bracketed_exact, bracketed_has}
+use Rattle.idl_grammar.proofs.Sequences.{made_begins, list_exact, list_begins, separated_exact, separated_has, ends_at}
 use Rattle.idl_grammar.specs.declared.words.Spelling.{Spelling}
 use Rattle.idl_grammar.specs.Symbols as symbol
 use Rattle.idl_grammar.specs.Limits.{names}

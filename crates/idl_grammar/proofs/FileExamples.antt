@@ -1,8 +1,8 @@
 -- What is answered on the examples.
 use Rattle.std.proofs.Common.{◌≡◌, refl, subst, arith, Result, Ok, Err}
 use Rattle.idl_lexer.specs.Lexed.{Lexed}
-use Rattle.grammar_phrases.specs.Text.{Depth, Ban}
-use Rattle.grammar_phrases.specs.Reading.{Fault, Syntax, Passes}
+use Rattle.idl_grammar.specs.Text.{Depth, Ban}
+use Rattle.idl_grammar.specs.ReadPhrases.{Fault, Syntax, Passes}
 use Rattle.idl_grammar.specs.Lexemes.{lexemes, words, symbol_of}
 use Rattle.idl_grammar.specs.Limits.{names, binary_operators, unary_operators, binary_of, unary_of, symbol_level, is_unary, is_operator, many_operators}
 use Rattle.idl_grammar.specs.ReadExpressions.{is_operand, operand_of, outer_read}

@@ -1,12 +1,12 @@
 -- What is answered on a file is right, and nothing else is.
 use Rattle.std.proofs.Common.{◌≡◌, ℕ, ◌≤◌, Bool, true, false, cond, [], refl, sym, ap, arith, ◌∙◌, ◌⊎◌, inl, inr, Result, Ok, Err}
-use Rattle.grammar_phrases.specs.Text.{Text, Rel, Depth, Ban}
-use Rattle.grammar_phrases.specs.Reading.{Fault, Syntax, Passes}
-use Rattle.grammar_phrases.specs.Verdict.{IsSyntax, IsRefused, Judges, whole_read}
-use Rattle.grammar_phrases.specs.Gives.{IsText}
-use Rattle.grammar_phrases.proofs.Exact.{Exact}
-use Rattle.grammar_phrases.proofs.Judged.{whole_judged, one_verdict}
-use Rattle.grammar_phrases.proofs.Sequences.{stops}
+use Rattle.idl_grammar.specs.Text.{Text, Rel, Depth, Ban}
+use Rattle.idl_grammar.specs.ReadPhrases.{Fault, Syntax, Passes}
+use Rattle.idl_grammar.specs.Verdict.{IsSyntax, IsRefused, Judges, whole_read}
+use Rattle.idl_grammar.specs.Gives.{IsText}
+use Rattle.idl_grammar.proofs.Exact.{Exact}
+use Rattle.idl_grammar.proofs.Judged.{whole_judged, one_verdict}
+use Rattle.idl_grammar.proofs.Sequences.{stops}
 use Rattle.idl_grammar.specs.Tree.{Tree}
 use Rattle.idl_grammar.specs.Grammar.{file}
 use Rattle.idl_grammar.specs.Reading.{file_read}

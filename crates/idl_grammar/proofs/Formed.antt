@@ -3,7 +3,7 @@ use Rattle.std.proofs.Common.{◌≡◌, ℕ, zero, suc, Bool, true, false, cond
 use Rattle.std.specs.List.{list_all, AllByRecursion}
 use Rattle.std.specs.Str.{bytes_eq}
 use Rattle.nd_base.specs.Text.{is_identifier}
-use Rattle.grammar_phrases.specs.Text.{lexeme_at, symbol_at, is_in}
+use Rattle.idl_grammar.specs.Text.{lexeme_at, symbol_at, is_in}
 use Rattle.std.proofs.lemmas.Bool.{and_parts as both}
 use Rattle.nd_lemmas.proofs.Booleans.{clash}
 use Rattle.idl_lexer.specs.declared.tokens.TokenKind.{TokenKind}

@@ -4,8 +4,8 @@ use Rattle.std.proofs.lemmas.Bool.{leb-true, le-leb, eqb-true}
 use Rattle.std.proofs.lemmas.Bool.Decides.{eqb_tells}
 use Rattle.std.specs.Prelude.{◌≢◌}
 use Rattle.nd_lemmas.proofs.Booleans.{clash}
-use Rattle.grammar_phrases.specs.Text.{Text, symbol_at, Lifted, Rel, Depth, many, token, unless}
-use Rattle.grammar_phrases.proofs.Exact.{pair}
+use Rattle.idl_grammar.specs.Text.{Text, symbol_at, Lifted, Rel, Depth, many, token, unless}
+use Rattle.idl_grammar.proofs.Exact.{pair}
 use Rattle.idl_grammar.specs.declared.expressions.BinaryOperator.{BinaryOperator}
 use Rattle.idl_grammar.specs.Limits.{level, symbol_level, binary_of, many_operators}
 use Rattle.idl_grammar.specs.Tree.{Expr, Leaf, Round, Unary, Binary, Conditional}

@@ -26,3 +26,11 @@ pub mod Identifiers
 pub mod Clean
 mod CleanFile
 mod BannedWords
+pub mod Exact
+pub mod Parts
+pub mod Within
+pub mod Fails
+pub mod Gathered
+pub mod OneVerdict
+pub mod Judged
+pub mod Sequences

@@ -1,10 +1,10 @@
 -- Outermost expressions are read exactly.
 use Rattle.std.proofs.Common.{◌≡◌, ℕ, ◌≤◌, Bool, true, false, List, [], ◌∷◌, length, refl, arith, leb, cond, ◌||◌}
 use Rattle.nd_lemmas.proofs.Booleans.{clash}
-use Rattle.grammar_phrases.specs.Text.{Text, symbol_at, is, is_in, Lifted}
-use Rattle.grammar_phrases.proofs.Exact.{Exact, HasPhrase}
-use Rattle.grammar_phrases.proofs.Parts.{turned_has}
-use Rattle.grammar_phrases.proofs.Sequences.{stops, Begins, subset, smaller, in_more}
+use Rattle.idl_grammar.specs.Text.{Text, symbol_at, is, is_in, Lifted}
+use Rattle.idl_grammar.proofs.Exact.{Exact, HasPhrase}
+use Rattle.idl_grammar.proofs.Parts.{turned_has}
+use Rattle.idl_grammar.proofs.Sequences.{stops, Begins, subset, smaller, in_more}
 use Rattle.idl_grammar.specs.declared.expressions.Operand.TheVariants as operand
 use Rattle.idl_grammar.specs.Symbols as symbol
 use Rattle.idl_grammar.specs.Limits.{names, symbol_level, is_unary, symbols_of, binary_operators, unary_operators, level, binary_of}

@@ -1,11 +1,11 @@
 -- One parameter, and a list of them, are read exactly.
 use Rattle.std.proofs.Common.{◌≡◌, ℕ, ◌+◌, ◌≤◌, true, false, [], ◌∷◌, length, refl, sym, ap, subst, arith, ◌∙◌, Option}
 use Rattle.nd_lemmas.proofs.Booleans.{clash}
-use Rattle.grammar_phrases.specs.Text.{Text, symbol_at, is, is_in, Lifted, Rel, many, optional, located, ◌⊗◌, ◌⊳◌}
-use Rattle.grammar_phrases.specs.Reading.{behind_read}
-use Rattle.grammar_phrases.proofs.Exact.{Exact, HasPhrase, pair_exact, turned_exact}
-use Rattle.grammar_phrases.proofs.Parts.{pair_has, turned_has, optional_has}
-use Rattle.grammar_phrases.proofs.Sequences.{stops, Begins, subset, meets_first, pair_begins, or_pair_begins, located_exact, located_has, list_exact, separated_exact, skip_exact, skip_begins}
+use Rattle.idl_grammar.specs.Text.{Text, symbol_at, is, is_in, Lifted, Rel, many, optional, located, ◌⊗◌, ◌⊳◌}
+use Rattle.idl_grammar.specs.ReadPhrases.{behind_read}
+use Rattle.idl_grammar.proofs.Exact.{Exact, HasPhrase, pair_exact, turned_exact}
+use Rattle.idl_grammar.proofs.Parts.{pair_has, turned_has, optional_has}
+use Rattle.idl_grammar.proofs.Sequences.{stops, Begins, subset, meets_first, pair_begins, or_pair_begins, located_exact, located_has, list_exact, separated_exact, skip_exact, skip_begins}
 use Rattle.idl_grammar.specs.declared.types.SimpleType.{SimpleType}
 use Rattle.idl_grammar.specs.declared.types.SimpleType.TheVariants as types
 use Rattle.idl_grammar.specs.declared.types.IntegerType.TheVariants as integers

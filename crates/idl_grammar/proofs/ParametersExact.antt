@@ -2,11 +2,11 @@
 use Rattle.std.proofs.Common.{◌≡◌, ℕ, ◌+◌, ◌≤◌, Bool, true, false, List, [], ◌∷◌, cond, length, refl, sym, ap, subst, ◌∙◌, Option, Some, None, Ok, ◌||◌, eq-eqb}
 use Rattle.std.proofs.lemmas.Bool.{eqb-true}
 use Rattle.nd_lemmas.proofs.Booleans.{clash}
-use Rattle.grammar_phrases.specs.Text.{Lexeme, Text, lexeme_at, symbol_at, is, is_in, Lifted, Rel, nothing, mark, many, optional, located, separated, made, ◌▹◌, ◌⊗◌, ◌⊳◌}
-use Rattle.grammar_phrases.specs.Reading.{Read, then, turned}
-use Rattle.grammar_phrases.proofs.Exact.{Stops, Exact, HasPhrase, Part, pair_exact, turned_exact}
-use Rattle.grammar_phrases.proofs.Parts.{turned_has, optional_has, many_has}
-use Rattle.grammar_phrases.proofs.Sequences.{stops, Begins, meets_or, pair_begins, list_begins, separated_begins, skip_begins}
+use Rattle.idl_grammar.specs.Text.{Lexeme, Text, lexeme_at, symbol_at, is, is_in, Lifted, Rel, nothing, mark, many, optional, located, separated, made, ◌▹◌, ◌⊗◌, ◌⊳◌}
+use Rattle.idl_grammar.specs.ReadPhrases.{Read, then, turned}
+use Rattle.idl_grammar.proofs.Exact.{Stops, Exact, HasPhrase, Part, pair_exact, turned_exact}
+use Rattle.idl_grammar.proofs.Parts.{turned_has, optional_has, many_has}
+use Rattle.idl_grammar.proofs.Sequences.{stops, Begins, meets_or, pair_begins, list_begins, separated_begins, skip_begins}
 use Rattle.idl_grammar.specs.declared.types.SimpleType.TheVariants as types
 use Rattle.idl_grammar.specs.Symbols as symbol
 use Rattle.idl_grammar.specs.Limits.{names}
@@ -20,7 +20,7 @@ use Rattle.idl_grammar.specs.Reading.{parameters_read}
 use Rattle.idl_grammar.proofs.Combine.{stopped_exact, bind_is, bind_alike, turned_twice, placed_exact}
 use Rattle.idl_grammar.proofs.AttributeLists.{attributes_begin}
 use Rattle.idl_grammar.proofs.DeclaratorsExact.{declarator_firsts, declarator_ends, declarators_ends, declarator_exact, declarator_begins}
-use Rattle.grammar_phrases.proofs.Exact.{turned_exact}
+use Rattle.idl_grammar.proofs.Exact.{turned_exact}
 use Rattle.idl_grammar.specs.Reading.{unless_read}
 use Rattle.idl_grammar.proofs.Combine.{turned_same, unless_exact}
 use Rattle.idl_grammar.proofs.ParameterExact.{members_no_close, parameter_begins, more_exact, list_of_exact, void_type}
@@ -54,7 +54,7 @@ closing_ends x j stop = ap (λ (s : ℕ). is_in declarators_ends s) (eqb-true (s
 module _ (depth : ℕ) where
   -- `void` alone, or a list
   abbrev some_parameters : Rel Parameters
-  some_parameters tree.Absent = Rattle.grammar_phrases.specs.Text.never
+  some_parameters tree.Absent = Rattle.idl_grammar.specs.Text.never
   some_parameters tree.Void = mark symbol.Void
   some_parameters (tree.Listed ps) = commas (parameter depth) ps
 

@@ -2,8 +2,8 @@
 use Rattle.std.proofs.Common.{◌≡◌, ℕ, zero, suc, Bool, true, false, cond, eqb, not, List, [], ◌∷◌, map, refl, ap, arith}
 use Rattle.std.specs.List.{list_all}
 use Rattle.std.specs.Str.{bytes_eq}
-use Rattle.grammar_phrases.specs.Text.{Lexeme}
-use Rattle.grammar_phrases.specs.Gives.{IsText}
+use Rattle.idl_grammar.specs.Text.{Lexeme}
+use Rattle.idl_grammar.specs.Gives.{IsText}
 use Rattle.std.proofs.lemmas.Bool.{and_parts as both, not-true as not_zero}
 use Rattle.nd_lemmas.proofs.Booleans.{clash}
 use Rattle.idl_lexer.specs.declared.tokens.TokenKind.{TokenKind}

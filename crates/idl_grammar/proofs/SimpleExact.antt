@@ -1,10 +1,10 @@
 -- Types without parts are read exactly.
 use Rattle.std.proofs.Common.{◌≡◌, ℕ, ◌≤◌, Bool, true, false, List, [], ◌∷◌, length, refl, sym, subst, ◌⊎◌, inl, inr}
-use Rattle.grammar_phrases.specs.Text.{Text, symbol_at, Lifted, Rel, never, mark, ◌▹◌, ◌⊗◌, ◌⊳◌, ◌∣◌}
-use Rattle.grammar_phrases.specs.Reading.{then, mark_read, behind_read}
-use Rattle.grammar_phrases.proofs.Exact.{Exact, HasPhrase, Part, pair_exact}
-use Rattle.grammar_phrases.proofs.Parts.{marked, mark_exact, mark_has, pair_has, turned_has}
-use Rattle.grammar_phrases.proofs.Sequences.{stops, Begins, disjoint, meets_or, skip_exact, skip_begins, pair_begins}
+use Rattle.idl_grammar.specs.Text.{Text, symbol_at, Lifted, Rel, never, mark, ◌▹◌, ◌⊗◌, ◌⊳◌, ◌∣◌}
+use Rattle.idl_grammar.specs.ReadPhrases.{then, mark_read, behind_read}
+use Rattle.idl_grammar.proofs.Exact.{Exact, HasPhrase, Part, pair_exact}
+use Rattle.idl_grammar.proofs.Parts.{marked, mark_exact, mark_has, pair_has, turned_has}
+use Rattle.idl_grammar.proofs.Sequences.{stops, Begins, disjoint, meets_or, skip_exact, skip_begins, pair_begins}
 use Rattle.idl_grammar.specs.declared.words.Spelling.{Spelling}
 use Rattle.idl_grammar.specs.declared.types.Width.{Width}
 use Rattle.idl_grammar.specs.declared.types.Width.TheVariants as widths
@@ -114,7 +114,7 @@ width_first_begins lifted x i j c ph = let p = width_back lifted x i j c ph in w
 integer_exact : (t : Text) (i : ℕ) → i ≤ length t → Exact width_first (stops simple_ends) t i (integer_read t i)
 unfolding integer_read
 integer_exact t i in_text =
-    Rattle.grammar_phrases.proofs.Exact.turned_exact width_parts width_first width_of_parts (λ lifted x i j a ph. ph) (stops simple_ends) t i (λ lifted x e c j ph stop. width_back lifted x i j c ph) _
+    Rattle.idl_grammar.proofs.Exact.turned_exact width_parts width_first width_of_parts (λ lifted x i j a ph. ph) (stops simple_ends) t i (λ lifted x e c j ph stop. width_back lifted x i j c ph) _
     (pair_exact width (flag symbol.Unsigned ⊗ flag symbol.Int) (stops []) (stops simple_ends) (λ lifted x m j b ph stop. refl)
     (pair_has _ _ (flag_has symbol.Unsigned refl) (flag_has symbol.Int refl)) t i
     (width_read t i) (λ w m. then (flag_read symbol.Unsigned t m) (λ u o. flag_read symbol.Int t o))

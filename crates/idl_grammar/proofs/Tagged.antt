@@ -1,10 +1,10 @@
 -- A word, and a tag with a body or without one, or a body alone.
 use Rattle.std.proofs.Common.{◌≡◌, ℕ, ◌≤◌, Bool, true, false, List, [], ◌∷◌, cond, length, refl, ap, ◌∙◌, ◌⊎◌, inl, inr, Option, Some, None, Ok}
-use Rattle.grammar_phrases.specs.Text.{Text, symbol_at, is, is_in, Rel, optional, ◌⊗◌, ◌∣◌}
-use Rattle.grammar_phrases.specs.Reading.{Read, then, turned, choice_read, option_read}
-use Rattle.grammar_phrases.proofs.Exact.{Exact, HasPhrase, pair_exact}
-use Rattle.grammar_phrases.proofs.Parts.{pair_has, optional_has}
-use Rattle.grammar_phrases.proofs.Sequences.{stops, Begins, disjoint, subset, pair_begins, option_exact, choice_exact, choice_has, fewer_stops}
+use Rattle.idl_grammar.specs.Text.{Text, symbol_at, is, is_in, Rel, optional, ◌⊗◌, ◌∣◌}
+use Rattle.idl_grammar.specs.ReadPhrases.{Read, then, turned, choice_read, option_read}
+use Rattle.idl_grammar.proofs.Exact.{Exact, HasPhrase, pair_exact}
+use Rattle.idl_grammar.proofs.Parts.{pair_has, optional_has}
+use Rattle.idl_grammar.proofs.Sequences.{stops, Begins, disjoint, subset, pair_begins, option_exact, choice_exact, choice_has, fewer_stops}
 use Rattle.idl_grammar.specs.declared.words.Spelling.{Spelling}
 use Rattle.idl_grammar.specs.Limits.{names}
 use Rattle.idl_grammar.specs.Tree.{TypeSpec}

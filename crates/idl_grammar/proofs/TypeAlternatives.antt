@@ -1,9 +1,9 @@
 -- The alternatives of a type as the grammar has them, and as they are read.
 use Rattle.std.proofs.Common.{◌≡◌, ℕ, ◌+◌, true, false, List, [], ◌∷◌, refl, sym, ap, subst, ◌⊎◌, inl, inr, Option, Some, None}
-use Rattle.grammar_phrases.specs.Text.{Text, symbol_at, is, is_in, Lifted, Rel, made}
-use Rattle.grammar_phrases.proofs.Exact.{HasPhrase}
-use Rattle.grammar_phrases.proofs.Parts.{turned_has}
-use Rattle.grammar_phrases.proofs.Sequences.{Begins, disjoint, subset, in_more, made_begins}
+use Rattle.idl_grammar.specs.Text.{Text, symbol_at, is, is_in, Lifted, Rel, made}
+use Rattle.idl_grammar.proofs.Exact.{HasPhrase}
+use Rattle.idl_grammar.proofs.Parts.{turned_has}
+use Rattle.idl_grammar.proofs.Sequences.{Begins, disjoint, subset, in_more, made_begins}
 use Rattle.idl_grammar.specs.declared.words.Spelling.{Spelling}
 use Rattle.idl_grammar.specs.declared.types.TagKind.{TagKind}
 use Rattle.idl_grammar.specs.declared.types.TagKind.TheVariants as tags

@@ -1,8 +1,8 @@
 -- The lists in the tree of a type, and lists of their parts.
 use Rattle.std.proofs.Common.{◌≡◌, ℕ, ◌+◌, Bool, List, [], ◌∷◌, refl, ap, ◌∙◌, Option, Some, None}
-use Rattle.grammar_phrases.specs.Text.{Text, Lifted, Rel, many, some_of}
-use Rattle.grammar_phrases.proofs.Exact.{HasPhrase}
-use Rattle.grammar_phrases.proofs.Sequences.{Begins}
+use Rattle.idl_grammar.specs.Text.{Text, Lifted, Rel, many, some_of}
+use Rattle.idl_grammar.proofs.Exact.{HasPhrase}
+use Rattle.idl_grammar.proofs.Sequences.{Begins}
 use Rattle.idl_grammar.specs.Tree as tree
 use Rattle.idl_grammar.specs.Tree.{Attributes, Declarator, Label, TypeSpec, Members, Cases, Arms, Arm}
 use Rattle.idl_grammar.specs.Grammar.{type_spec, members, some_members, cases, some_cases, arms, some_arms, arm}

@@ -1,11 +1,11 @@
 -- The bodies of types are read exactly, over any phrases of types inside them.
 use Rattle.std.proofs.Common.{◌≡◌, ℕ, ◌+◌, ◌<◌, ◌≤◌, true, false, List, [], ◌∷◌, length, refl, arith, ◌⊎◌, inl, inr, Option, Some, None}
-use Rattle.grammar_phrases.specs.Text.{Text, is_in, Lifted, Rel, mark, optional, bracketed, some_of, located, made, ◌⊗◌, ◌⊲◌, ◌∣◌}
-use Rattle.grammar_phrases.specs.Reading.{Read, then, mark_read, choice_read}
-use Rattle.grammar_phrases.proofs.Exact.{Exact, HasPhrase, Part, pair_exact}
-use Rattle.grammar_phrases.proofs.Parts.{marked, mark_exact, mark_has, pair_has, turned_has, optional_has}
-use Rattle.grammar_phrases.proofs.Sequences.{stops, Begins, subset, disjoint, meets_first, ends_at, end_exact, end_has, end_begins, pair_begins, or_pair_begins, located_exact, located_has}
-use Rattle.grammar_phrases.proofs.Sequences.{located_begins, some_exact, some_has, bracketed_exact, bracketed_has, bracketed_begins, choice_exact, choice_begins, made_exact, made_begins, made_has}
+use Rattle.idl_grammar.specs.Text.{Text, is_in, Lifted, Rel, mark, optional, bracketed, some_of, located, made, ◌⊗◌, ◌⊲◌, ◌∣◌}
+use Rattle.idl_grammar.specs.ReadPhrases.{Read, then, mark_read, choice_read}
+use Rattle.idl_grammar.proofs.Exact.{Exact, HasPhrase, Part, pair_exact}
+use Rattle.idl_grammar.proofs.Parts.{marked, mark_exact, mark_has, pair_has, turned_has, optional_has}
+use Rattle.idl_grammar.proofs.Sequences.{stops, Begins, subset, disjoint, meets_first, ends_at, end_exact, end_has, end_begins, pair_begins, or_pair_begins, located_exact, located_has}
+use Rattle.idl_grammar.proofs.Sequences.{located_begins, some_exact, some_has, bracketed_exact, bracketed_has, bracketed_begins, choice_exact, choice_begins, made_exact, made_begins, made_has}
 use Rattle.idl_grammar.specs.declared.words.Spelling.{Spelling}
 use Rattle.idl_grammar.specs.declared.types.Discriminant.{Discriminant}
 use Rattle.idl_grammar.specs.Symbols as symbol

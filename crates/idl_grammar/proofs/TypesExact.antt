@@ -1,9 +1,9 @@
 -- Types are read exactly.
 use Rattle.std.proofs.Common.{◌≡◌, ℕ, zero, suc, ◌+◌, ◌<◌, ◌≤◌, true, false, List, [], ◌∷◌, length, refl, sym, ap, subst, arith, ◌∙◌, inl, inr, Option, Some, None, Ok}
-use Rattle.grammar_phrases.specs.Text.{Text, Lifted, Rel, made}
-use Rattle.grammar_phrases.specs.Reading.{Read, then, turned}
-use Rattle.grammar_phrases.proofs.Exact.{Exact}
-use Rattle.grammar_phrases.proofs.Sequences.{stops, Begins, disjoint, subset, fewer_stops, made_exact, made_begins}
+use Rattle.idl_grammar.specs.Text.{Text, Lifted, Rel, made}
+use Rattle.idl_grammar.specs.ReadPhrases.{Read, then, turned}
+use Rattle.idl_grammar.proofs.Exact.{Exact}
+use Rattle.idl_grammar.proofs.Sequences.{stops, Begins, disjoint, subset, fewer_stops, made_exact, made_begins}
 use Rattle.idl_grammar.specs.declared.words.Spelling.{Spelling}
 use Rattle.idl_grammar.specs.declared.types.TagKind.{TagKind}
 use Rattle.idl_grammar.specs.declared.types.Discriminant.{Discriminant}

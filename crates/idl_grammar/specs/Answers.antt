@@ -1,9 +1,9 @@
 -- What is answered on the tokens of a file: its tree, or the first fault. A word that is banned anywhere is named as such where
 -- any other token would be a fault of syntax.
 use Rattle.std.specs.Prelude.{◌≡◌, ℕ, Bool, true, false, cond, ◌⊎◌, Result, Ok, Err}
-use Rattle.grammar_phrases.specs.Text.{Text, Phrase, Depth, Ban, symbol_at, is}
-use Rattle.grammar_phrases.specs.Reading.{Fault, Syntax, Passes}
-use Rattle.grammar_phrases.specs.Verdict.{IsTree, IsSyntax, IsRefused, whole_read}
+use Rattle.idl_grammar.specs.Text.{Text, Phrase, Depth, Ban, symbol_at, is}
+use Rattle.idl_grammar.specs.ReadPhrases.{Fault, Syntax, Passes}
+use Rattle.idl_grammar.specs.Verdict.{IsTree, IsSyntax, IsRefused, whole_read}
 use Rattle.idl_grammar.specs.Symbols as symbol
 use Rattle.idl_grammar.specs.Tree.{Tree}
 use Rattle.idl_grammar.specs.Reading.{file_read}

@@ -1,6 +1,6 @@
 -- The grammar of expressions (C706, section 4.2.7).
 use Rattle.std.specs.Prelude.{ℕ, ◌+◌, Bool, eqb, leb}
-use Rattle.grammar_phrases.specs.Text.{Lexeme, Phrase, Rel, Depth, mark, token, unless, only_if, many_brackets, ◌▹◌, is, is_in}
+use Rattle.idl_grammar.specs.Text.{Lexeme, Phrase, Rel, Depth, mark, token, unless, only_if, many_brackets, ◌▹◌, is, is_in}
 use Rattle.idl_grammar.specs.declared.words.Spelling.{Spelling}
 use Rattle.idl_grammar.specs.declared.expressions.BinaryOperator.{BinaryOperator}
 use Rattle.idl_grammar.specs.declared.expressions.UnaryOperator.{UnaryOperator}

@@ -2,9 +2,9 @@
 -- where it begins and the place past it; each line is one alternative. depth is the number of brackets that are open where
 -- a phrase begins, round, square and curly ones together.
 use Rattle.std.specs.Prelude.{◌≡◌, ℕ, ◌+◌, Bool, true, false, List, [], ◌∷◌, Option}
-use Rattle.grammar_phrases.specs.Text.{Text, Phrase, Rel, Ban, Depth, many_brackets, nothing, never, mark, token, optional, unless, many, separated}
-use Rattle.grammar_phrases.specs.Text.{some_of, bracketed, located, lexeme_at, symbol_at, is, is_in, ◌▹◌, ◌⊗◌, ◌⊳◌, ◌⊲◌}
-use Rattle.grammar_phrases.specs.Reading.{to_unit}
+use Rattle.idl_grammar.specs.Text.{Text, Phrase, Rel, Ban, Depth, many_brackets, nothing, never, mark, token, optional, unless, many, separated}
+use Rattle.idl_grammar.specs.Text.{some_of, bracketed, located, lexeme_at, symbol_at, is, is_in, ◌▹◌, ◌⊗◌, ◌⊳◌, ◌⊲◌}
+use Rattle.idl_grammar.specs.ReadPhrases.{to_unit}
 use Rattle.idl_grammar.specs.declared.words.Spelling.{Spelling}
 use Rattle.idl_grammar.specs.declared.attributes.PointerClass.{PointerClass}
 use Rattle.idl_grammar.specs.declared.attributes.PointerClass.TheVariants as class

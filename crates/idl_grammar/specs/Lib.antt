@@ -10,3 +10,7 @@ pub mod Reading
 pub mod Answers
 pub mod Examples
 pub mod Integers
+pub mod Text
+pub mod ReadPhrases
+pub mod Verdict
+pub mod Gives

@@ -1,6 +1,6 @@
 -- Lists of symbols, and what is counted towards the limits of depth.
 use Rattle.std.specs.Prelude.{ℕ, zero, suc, ◌+◌, Bool, ◌||◌, ◌&&◌, cond, leb, eqb, List, [], ◌∷◌}
-use Rattle.grammar_phrases.specs.Text.{Text, symbol_at, is_in}
+use Rattle.idl_grammar.specs.Text.{Text, symbol_at, is_in}
 use Rattle.idl_grammar.specs.Symbols as symbol
 use Rattle.idl_grammar.specs.declared.expressions.BinaryOperator.{BinaryOperator}
 use Rattle.idl_grammar.specs.declared.expressions.BinaryOperator.TheVariants as binary

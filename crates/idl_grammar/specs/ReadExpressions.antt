@@ -1,8 +1,8 @@
 -- What the functions that read tokens and expressions give, on lists.
 use Rattle.std.specs.Prelude.{ℕ, zero, suc, ◌+◌, ◌-◌, Bool, true, false, eqb, List, [], ◌∷◌, cond, length, Option, Some, None, Err}
-use Rattle.grammar_phrases.specs.Text.{Lexeme, Text, symbol_at, is, is_in, Depth, many_brackets}
-use Rattle.grammar_phrases.specs.Reading.{Read, Passes, then, turned, token_read, ruled_read, mark_read, optional_read, many_read, end_with}
-use Rattle.grammar_phrases.specs.Reading.{behind_read}
+use Rattle.idl_grammar.specs.Text.{Lexeme, Text, symbol_at, is, is_in, Depth, many_brackets}
+use Rattle.idl_grammar.specs.ReadPhrases.{Read, Passes, then, turned, token_read, ruled_read, mark_read, optional_read, many_read, end_with}
+use Rattle.idl_grammar.specs.ReadPhrases.{behind_read}
 use Rattle.idl_grammar.specs.declared.words.Spelling.{Spelling}
 use Rattle.idl_grammar.specs.declared.expressions.BinaryOperator.{BinaryOperator}
 use Rattle.idl_grammar.specs.declared.expressions.UnaryOperator.{UnaryOperator}

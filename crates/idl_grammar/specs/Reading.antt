@@ -1,9 +1,9 @@
 -- What the functions of a parser give, on lists: one reading for each function, in the shape of its calls. nesting is the number of
 -- levels that an expression may still nest, and fuel that of types; depth is the number of brackets that are open at the place.
 use Rattle.std.specs.Prelude.{ℕ, zero, suc, ◌+◌, Bool, true, false, List, [], ◌∷◌, cond, Option, Some, None, Ok, Err}
-use Rattle.grammar_phrases.specs.Text.{Text, lexeme_at, symbol_at, is, is_in, Depth, Ban}
-use Rattle.grammar_phrases.specs.Reading.{Read, Passes, then, turned, token_read, ruled_read, mark_read, to_unit, end_with, located_read, option_read}
-use Rattle.grammar_phrases.specs.Reading.{list_read, some_read, behind_read, separated_read, bracketed_read}
+use Rattle.idl_grammar.specs.Text.{Text, lexeme_at, symbol_at, is, is_in, Depth, Ban}
+use Rattle.idl_grammar.specs.ReadPhrases.{Read, Passes, then, turned, token_read, ruled_read, mark_read, to_unit, end_with, located_read, option_read}
+use Rattle.idl_grammar.specs.ReadPhrases.{list_read, some_read, behind_read, separated_read, bracketed_read}
 use Rattle.idl_grammar.specs.declared.words.Spelling.{Spelling}
 use Rattle.idl_grammar.specs.declared.attributes.PointerClass.{PointerClass}
 use Rattle.idl_grammar.specs.declared.attributes.PointerClass.TheVariants as class

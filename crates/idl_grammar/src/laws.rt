@@ -1,10 +1,10 @@
 //! Laws over the definitions.
 
 ghost use Rattle.std.specs.Prelude.{◌≡◌, ℕ, ◌≤◌, ◌<◌, length, true, false, Result, Ok, Err};
-ghost use Rattle.grammar_phrases.specs.Text.{Text, Depth, Ban, Lifted};
-ghost use Rattle.grammar_phrases.specs.Reading.{Fault, Syntax, Passes};
-ghost use Rattle.grammar_phrases.specs.Verdict.{Judges, whole_read, begins, derives, limits_before};
-ghost use Rattle.grammar_phrases.specs.Gives.{IsText};
+ghost use Rattle.idl_grammar.specs.Text.{Text, Depth, Ban, Lifted};
+ghost use Rattle.idl_grammar.specs.ReadPhrases.{Fault, Syntax, Passes};
+ghost use Rattle.idl_grammar.specs.Verdict.{Judges, whole_read, begins, derives, limits_before};
+ghost use Rattle.idl_grammar.specs.Gives.{IsText};
 ghost use Rattle.idl_lexer.specs.Lexed.{Lexed, AreFormed};
 ghost use Rattle.idl_grammar.specs.Lexemes.{lexemes, IsFormed};
 ghost use Rattle.idl_grammar.specs.Examples.{small_file, small_tree, unended, banned_attribute, banned_word, attribute_name, deep};

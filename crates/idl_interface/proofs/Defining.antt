@@ -25,10 +25,10 @@ use Rattle.idl_declared_types.specs.declared.kinds.Kind.{Kind}
 use Rattle.idl_constructs.specs.declared.nodes.Node.{Node}
 use Rattle.idl_constructs.specs.declared.nodes.Node.TheVariants as node
 use Rattle.idl_constructs.specs.declared.nodes.Nodes.{Nodes}
-use Rattle.idl_type_numbers.specs.declared.types.Types.{Types}
-use Rattle.idl_type_numbers.specs.declared.types.BodyTypes.{BodyTypes}
-use Rattle.idl_type_numbers.specs.declared.numbering.Own.{Own}
-use Rattle.idl_type_numbers.specs.declared.numbering.Numbers.{Numbers}
+use Rattle.idl_declared_types.specs.declared.types.Types.{Types}
+use Rattle.idl_declared_types.specs.declared.types.BodyTypes.{BodyTypes}
+use Rattle.idl_declared_types.specs.declared.numbering.Own.{Own}
+use Rattle.idl_declared_types.specs.declared.numbering.Numbers.{Numbers}
 use Rattle.idl_interface.specs.declared.definitions.FoundBody.{FoundBody}
 use Rattle.idl_rule_definitions.specs.World as world
 use Rattle.idl_rule_definitions.specs.World.{World}
@@ -40,9 +40,9 @@ use Rattle.idl_rule_definitions.specs.Numbering.{Needed, own_types}
 use Rattle.idl_declared_types.specs.Kinds.{type_at}
 use Rattle.idl_declared_types.specs.Places.{found_place}
 use Rattle.idl_constructs.specs.SeenNodes.{seen_construct}
-use Rattle.idl_type_numbers.specs.SeenTypes.{names_at, body_at, IsTypes}
-use Rattle.idl_type_numbers.specs.SeenOperations.{HasTags}
-use Rattle.idl_type_numbers.specs.SeenNumbers.{AreNumbers, seen_own, seen_needed}
+use Rattle.idl_declared_types.specs.SeenTypes.{names_at, body_at, IsTypes}
+use Rattle.idl_declared_types.specs.SeenOperations.{HasTags}
+use Rattle.idl_declared_types.specs.SeenNumbers.{AreNumbers, seen_own, seen_needed}
 use Rattle.idl_rule_definitions.specs.Meaning.{number, field, arm_for, name_of_arm, type_of_arm, arm_by, labelled_arms, default_by, first_arm, default_arm, or_handle, or_zero, struct_of, defined_at}
 use Rattle.idl_rule_definitions.specs.Meaning.{body_if, is_struct, is_union, is_enum, definition, types_of}
 use Rattle.nd_types.specs.Kinds.{basic_types}

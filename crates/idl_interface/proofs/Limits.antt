@@ -24,8 +24,8 @@ use Rattle.idl_constructs.specs.declared.nodes.Declared as declared
 use Rattle.idl_constructs.specs.declared.nodes.Node as program_node
 use Rattle.idl_constructs.specs.declared.nodes.Node.TheVariants as node
 use Rattle.idl_constructs.specs.declared.nodes.Nodes.{Nodes}
-use Rattle.idl_type_numbers.specs.declared.types.Types.{Types}
-use Rattle.idl_type_numbers.specs.declared.types.OperationTypes.{OperationTypes}
+use Rattle.idl_declared_types.specs.declared.types.Types.{Types}
+use Rattle.idl_declared_types.specs.declared.types.OperationTypes.{OperationTypes}
 use Rattle.idl_interface.specs.declared.definitions.FoundBody.{FoundBody}
 use Rattle.idl_rule_definitions.specs.Nodes.{Declared}
 use Rattle.idl_rule_definitions.specs.Types.{IdlType, Void, Handle, ContextHandle, Basic, Struct, Union, Enum, Array, Text, Pointer, Pipe, Names}
@@ -33,8 +33,8 @@ use Rattle.idl_rule_definitions.specs.Scene.{Scene, parts_declared}
 use Rattle.idl_rule_definitions.specs.Numbering.{Needed, own_types, same_type, number_among, number_of_type}
 use Rattle.idl_rule_definitions.specs.Meaning.{field, parameter, struct_of, defined_at, body_if, is_struct, definition, types_of, operations_of}
 use Rattle.idl_constructs.specs.SeenNodes.{seen_construct}
-use Rattle.idl_type_numbers.specs.SeenTypes.{names_at}
-use Rattle.idl_type_numbers.specs.SeenOperations.{Called, called, called_at, HasOperations}
+use Rattle.idl_declared_types.specs.SeenTypes.{names_at}
+use Rattle.idl_declared_types.specs.SeenOperations.{Called, called, called_at, HasOperations}
 use Rattle.idl_interface.specs.Made.{has_few_parts, has_few_parameters, parameters_at, operation_made, IsFound}
 use Rattle.idl_interface.proofs.Defining.{there_as}
 use Rattle.idl_interface.proofs.Operating.{operations_are}

@@ -6,7 +6,7 @@ use Rattle.nd_base.specs.declared.octets.Memory.{Memory}
 use Rattle.nd_types.specs.declared.types.TypeDef.{TypeDef}
 use Rattle.nd_types.specs.declared.types.TypeDef.TheVariants as def
 use Rattle.nd_types.specs.Legal.{has_named_parts}
-use Rattle.idl_type_numbers.proofs.Grown.{all_more as one_more}
+use Rattle.idl_declared_types.proofs.Grown.{all_more as one_more}
 
 -- where an item that passes is added, all pass
 pub pushed : {X : Type 0} (test : X → Bool) (xs ys : List X) (x : X) → ys ≡ xs ++ x ∷ [] → list_all test xs ≡ true → test x ≡ true → list_all test ys ≡ true

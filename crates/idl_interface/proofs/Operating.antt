@@ -10,9 +10,9 @@ use Rattle.idl_constructs.specs.declared.nodes.Returned.{Returned}
 use Rattle.idl_constructs.specs.declared.nodes.Declared as declared
 use Rattle.idl_constructs.specs.declared.nodes.Node as program_node
 use Rattle.idl_constructs.specs.declared.nodes.Node.TheVariants as node
-use Rattle.idl_type_numbers.specs.declared.numbering.Numbers.{Numbers}
-use Rattle.idl_type_numbers.specs.declared.types.OperationTypes.{OperationTypes}
-use Rattle.idl_type_numbers.specs.declared.types.Types.{Types}
+use Rattle.idl_declared_types.specs.declared.numbering.Numbers.{Numbers}
+use Rattle.idl_declared_types.specs.declared.types.OperationTypes.{OperationTypes}
+use Rattle.idl_declared_types.specs.declared.types.Types.{Types}
 use Rattle.idl_constructs.proofs.Gathering.{gather, gathered}
 use Rattle.idl_rule_definitions.specs.Nodes.{Declared, Node, HeaderNode, AttributeNode, SwitchNode, TagNode, BodyNode, EnumeratorNode, LabelNode, EmptyArmNode, DeclaratorNode, ConstantNode, TypeNode}
 use Rattle.idl_rule_definitions.specs.Nodes.{OperationNode}
@@ -20,9 +20,9 @@ use Rattle.idl_rule_definitions.specs.Types.{Names, type_of}
 use Rattle.idl_rule_definitions.specs.Scene.{Scene, Scoped}
 use Rattle.idl_declared_types.specs.Kinds.{type_at}
 use Rattle.idl_constructs.specs.SeenNodes.{list_at}
-use Rattle.idl_type_numbers.specs.SeenTypes.{names_at}
-use Rattle.idl_type_numbers.specs.SeenNumbers.{AreNumbers}
-use Rattle.idl_type_numbers.specs.SeenOperations.{Called, called, called_by, called_at, is_operation_node, IsOperation, HasOperations}
+use Rattle.idl_declared_types.specs.SeenTypes.{names_at}
+use Rattle.idl_declared_types.specs.SeenNumbers.{AreNumbers}
+use Rattle.idl_declared_types.specs.SeenOperations.{Called, called, called_by, called_at, is_operation_node, IsOperation, HasOperations}
 use Rattle.idl_rule_definitions.specs.Meaning.{number, parameter, operation_in, operations_of, result_number}
 use Rattle.idl_interface.specs.Made.{ids_of, each_with, parameter_with, operation_made}
 use Rattle.idl_interface.proofs.Defining.{ids_are}

@@ -23,7 +23,7 @@ use Rattle.idl_scope.specs.Known.{Known}
 use Rattle.idl_scope.specs.Tables.{found}
 use Rattle.idl_interface.specs.declared.arms.ValuedArm as program
 use Rattle.idl_declared_types.specs.declared.kinds.Kind.{Kind}
-use Rattle.idl_type_numbers.specs.declared.numbering.Numbers.{Numbers}
+use Rattle.idl_declared_types.specs.declared.numbering.Numbers.{Numbers}
 use Rattle.idl_interface.specs.declared.definitions.FoundBody.{FoundBody}
 use Rattle.idl_interface.specs.declared.definitions.Program.{Program}
 use Rattle.idl_rule_definitions.specs.World.{value_in}
@@ -38,9 +38,9 @@ use Rattle.idl_constructs.specs.declared.nodes.Declared as declared
 use Rattle.idl_constructs.specs.declared.nodes.Node as program_node
 use Rattle.idl_constructs.specs.declared.nodes.Node.TheVariants as node
 use Rattle.idl_constructs.specs.SeenNodes.{seen_construct, list_at}
-use Rattle.idl_type_numbers.specs.SeenNumbers.{number_at, AreNumbers}
-use Rattle.idl_type_numbers.specs.SeenTypes.{IsTypes}
-use Rattle.idl_type_numbers.specs.SeenOperations.{HasTags, HasOperations, Called}
+use Rattle.idl_declared_types.specs.SeenNumbers.{number_at, AreNumbers}
+use Rattle.idl_declared_types.specs.SeenTypes.{IsTypes}
+use Rattle.idl_declared_types.specs.SeenOperations.{HasTags, HasOperations, Called}
 use Rattle.idl_rule_definitions.specs.Meaning.{types_of, field_vars, way_of, arm_for, name_of_arm, parameter, result_number}
 use Rattle.nd_base.specs.declared.octets.Place.{Place}
 

@@ -6,15 +6,15 @@ ghost use Rattle.idl_rule_definitions.specs.Meaning.{operations_of, result_numbe
 ghost use Rattle.idl_declared_types.specs.Kinds.{type_at};
 ghost use Rattle.idl_constructs.specs.SeenNodes as seen;
 ghost use Rattle.idl_constructs.specs.SeenNodes.{seen_declared};
-ghost use Rattle.idl_type_numbers.specs.SeenOperations.{IsOperation, is_operation_node};
-ghost use Rattle.idl_type_numbers.specs.SeenOperations as operations_seen;
+ghost use Rattle.idl_declared_types.specs.SeenOperations.{IsOperation, is_operation_node};
+ghost use Rattle.idl_declared_types.specs.SeenOperations as operations_seen;
 ghost use Rattle.idl_interface.specs.Made.{ids_of, each_with, parameter_with, parameters_at, has_few_parameters, IsProgram, scene_in, operation_made};
 
 use crate::definitions::{Program, node_at, number_of};
 use crate::members::{name_of, numbered, parameters};
 use idl_constructs::nodes::{Declared, Node, Returned};
 use idl_declared_types::kinds::Kind;
-use idl_type_numbers::types::OperationTypes;
+use idl_declared_types::types::OperationTypes;
 use nd_base::Memory;
 use nd_types::{Operation, Operations, TypeId};
 use std::alloc::Global;

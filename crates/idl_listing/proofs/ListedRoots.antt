@@ -13,7 +13,7 @@ use Rattle.nd_types.specs.Table.{Table}
 use Rattle.nd_types.specs.Fields.{param_fields}
 use Rattle.nd_types.specs.Roots.{Root, roots_of, root_of, root_by, pipe_of, params_from, result_root, travels}
 use Rattle.nd_types.specs.Walk.{named_root, named_roots}
-use Rattle.listing_words.specs.Lines.{line, side_word}
+use Rattle.idl_listing.specs.Lines.{line, side_word}
 use Rattle.idl_listing.specs.Listing.{attrs_words, root_line, side_lines}
 use Rattle.idl_listing.specs.Worded.{vars_in, vars_at, named_line}
 

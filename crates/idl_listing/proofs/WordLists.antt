@@ -1,6 +1,6 @@
 -- The words of a type's line, and the digits of base 16.
 use Rattle.std.proofs.Common.{◌≡◌, ◌∙◌, ℕ, zero, suc, ◌-◌, ◌/◌, ◌%◌, ◌≤◌, List, [], ◌∷◌, ◌++◌, ap, sym, append_assoc, codes, arith}
-use Rattle.listing_words.specs.Lines.{line}
+use Rattle.idl_listing.specs.Lines.{line}
 use Rattle.idl_listing.specs.Listing.{hex_digit, hex_digits}
 
 -- the words of a type's line

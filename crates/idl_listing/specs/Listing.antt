@@ -23,7 +23,7 @@ use Rattle.nd_types.specs.Fields.{param_fields}
 use Rattle.nd_types.specs.Roots.{Root, roots_of}
 use Rattle.nd_types.specs.Walk.{root_name}
 use Rattle.nd_types.specs.Meant.{Meant}
-use Rattle.listing_words.specs.Lines.{line, word_if, class_word, side_word}
+use Rattle.idl_listing.specs.Lines.{line, word_if, class_word, side_word}
 
 -- ## The header
 

@@ -7,7 +7,7 @@ use Rattle.nd_types.specs.declared.types.Operation.{Operation}
 use Rattle.nd_types.specs.declared.types.Side.{Side}
 use Rattle.nd_types.specs.Fields.{param_fields}
 use Rattle.nd_types.specs.Walk.{NamedRoot}
-use Rattle.listing_words.specs.Lines.{line, side_word}
+use Rattle.idl_listing.specs.Lines.{line, side_word}
 use Rattle.idl_listing.specs.Listing.{attrs_words}
 
 -- the attributes of a parameter; the result and what is no parameter have none

@@ -1,9 +1,9 @@
 // An attribute of a member or parameter.
 ghost use Rattle.std.specs.Prelude.{◌≡◌, ◌++◌, ◌∷◌, [], OnOk};
 ghost use Rattle.idl_listing.specs.Listing.{attr_word, star};
-ghost use Rattle.listing_words.specs.Lines.{behind};
+ghost use Rattle.idl_listing.specs.Lines.{behind};
 
-use listing_words::word;
+use crate::word;
 use nd_base::{Memory, Octets};
 use nd_types::{Attr, AttrVar};
 

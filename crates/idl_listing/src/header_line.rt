@@ -1,11 +1,11 @@
 // The first line of a listing: the name, the version and the UUID of an interface.
 ghost use Rattle.std.specs.Prelude.{◌≡◌, ◌<◌, ◌++◌, ◌∷◌, [], OnOk};
 ghost use Rattle.idl_listing.specs.Listing.{hex_digit, hex_digits, uuid_text, uuid_word, version_word, header_line};
-ghost use Rattle.listing_words.specs.Lines.{behind};
+ghost use Rattle.idl_listing.specs.Lines.{behind};
 ghost use Rattle.nd_types.specs.Meant.{meant_by};
 
+use crate::{number, word};
 use itoa::Buffer;
-use listing_words::{number, word};
 use nd_base::{Memory, Octets};
 use nd_types::Interface;
 

@@ -4,12 +4,12 @@ ghost use Rattle.std.specs.List.{flat_map, enumerate_from};
 ghost use Rattle.nd_types.specs.declared.types.Operation.{Operation as OperationValue};
 ghost use Rattle.nd_types.specs.Fields.{param_fields};
 ghost use Rattle.nd_types.specs.Walk.{root_value};
-ghost use Rattle.listing_words.specs.Lines.{line, behind};
+ghost use Rattle.idl_listing.specs.Lines.{line, behind};
 ghost use Rattle.idl_listing.specs.Listing.{attrs_words, side_lines, operation_lines, field_name};
 ghost use Rattle.idl_listing.specs.Worded.{vars_at, named_line};
 
 use crate::attribute_words::attribute;
-use listing_words::{number, side_word, word};
+use crate::{number, side_word, word};
 use nd_base::{Memory, Octets};
 use nd_types::{AttrVars, Interface, Operation, RootDef, Side};
 

@@ -3,12 +3,12 @@ ghost use Rattle.std.specs.Prelude.{◌≡◌, ◌++◌, ◌∷◌, [], map, sli
 ghost use Rattle.std.specs.Fmt.{signed_decimal};
 ghost use Rattle.std.specs.List.{flat_map};
 ghost use Rattle.nd_types.specs.declared.types.TypeDef.TheVariants as def;
-ghost use Rattle.listing_words.specs.Lines.{behind};
+ghost use Rattle.idl_listing.specs.Lines.{behind};
 ghost use Rattle.idl_listing.specs.Listing.{attrs_words, form, type_line, member_line, arm_name, arm_type, arm_line, default_line, part_lines};
 ghost use Rattle.idl_listing.specs.Listing.{type_lines, own_types, field_name};
 
 use crate::attribute_words::attribute;
-use listing_words::{class_word, number, signed, word, word_if};
+use crate::{class_word, number, signed, word, word_if};
 use nd_base::{Memory, Name, Octets};
 use nd_types::{
     Arm, Arms, AttrVars, BASIC_TYPES, Field, Fields, Interface, Numbers, TypeDef, TypeId,

@@ -3,12 +3,12 @@ use Rattle.std.proofs.Common.{◌≡◌, ◌⊎◌, inl, inr, ℕ, ◌+◌, ◌<
 use Rattle.std.proofs.Common.{Err, IfOk, IfErr}
 use Rattle.std.proofs.lemmas.List.{length-map, length-append, map-set}
 use Rattle.std.proofs.Math.ListN.{get_or-map}
-use Rattle.grammar_phrases.specs.Text.{Text, Rel, Depth, Ban}
-use Rattle.grammar_phrases.specs.Reading.{Fault, Syntax, Passes, Read}
-use Rattle.grammar_phrases.specs.Verdict.{whole_read}
-use Rattle.grammar_phrases.proofs.Exact.{front, Exact}
-use Rattle.grammar_phrases.proofs.Sequences.{stops}
-use Rattle.grammar_phrases.proofs.Within.{mark_within}
+use Rattle.idl_grammar.specs.Text.{Text, Rel, Depth, Ban}
+use Rattle.idl_grammar.specs.ReadPhrases.{Fault, Syntax, Passes, Read}
+use Rattle.idl_grammar.specs.Verdict.{whole_read}
+use Rattle.idl_grammar.proofs.Exact.{front, Exact}
+use Rattle.idl_grammar.proofs.Sequences.{stops}
+use Rattle.idl_grammar.proofs.Within.{mark_within}
 use Rattle.nd_base.specs.declared.octets.Place.{Place}
 use Rattle.nd_base.specs.declared.outside.FileFault.{FileFault}
 use Rattle.nd_base.specs.declared.outside.FileFault.TheVariants as file_fault

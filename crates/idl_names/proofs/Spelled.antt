@@ -5,7 +5,7 @@ use Rattle.std.specs.List.{position_or_len}
 use Rattle.idl_scope.specs.Ended.{Ended, has_ended}
 use Rattle.idl_scope.specs.Value.{escaped}
 use Rattle.idl_names.specs.Sources.{backslash, before_quote, string_value}
-use Rattle.grammar_phrases.proofs.OneVerdict.{unequal as are_not_same}
+use Rattle.idl_grammar.proofs.OneVerdict.{unequal as are_not_same}
 use Rattle.std.proofs.lemmas.Bool.{eq-eqb as are_same}
 
 pub at_quote : (s : List ℕ) → string_value s ≡ before_quote (drop 1 s)

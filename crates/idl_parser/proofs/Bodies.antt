@@ -1,10 +1,10 @@
 -- What is read after tags and in brackets.
 use Rattle.std.proofs.Common.{◌≡◌, ℕ, Bool, true, false, not, List, [], ◌∷◌, cond, refl, ap, ◌∙◌, Ok, Err, Option, Some, None}
-use Rattle.grammar_phrases.specs.declared.Refusal.{Refusal}
-use Rattle.grammar_phrases.specs.Text.{Text, symbol_at, is_in}
-use Rattle.grammar_phrases.specs.Reading.{Read, join, then, skip, ended, end_with, mark_read, open_read, bracketed_read}
-use Rattle.grammar_phrases.specs.Gives.{Fails}
-use Rattle.grammar_phrases.proofs.Fails.{fails_equal, fails_is}
+use Rattle.idl_grammar.specs.declared.refusal.Refusal.{Refusal}
+use Rattle.idl_grammar.specs.Text.{Text, symbol_at, is_in}
+use Rattle.idl_grammar.specs.ReadPhrases.{Read, join, then, skip, ended, end_with, mark_read, open_read, bracketed_read}
+use Rattle.idl_grammar.specs.Gives.{Fails}
+use Rattle.idl_grammar.proofs.Fails.{fails_equal, fails_is}
 use Rattle.idl_grammar.specs.declared.words.Spelling.{Spelling}
 use Rattle.idl_grammar.specs.Limits.{names}
 use Rattle.idl_grammar.specs.Tree.{TypeSpec}

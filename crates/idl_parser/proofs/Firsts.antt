@@ -1,6 +1,6 @@
 -- What a type begins with.
 use Rattle.std.proofs.Common.{◌≡◌, ℕ, Bool, true, false, ◌||◌, List, [], ◌∷◌, ◌++◌, refl, ap, ◌∙◌, eqb}
-use Rattle.grammar_phrases.specs.Text.{is_in}
+use Rattle.idl_grammar.specs.Text.{is_in}
 use Rattle.idl_grammar.specs.Symbols as symbol
 use Rattle.idl_grammar.specs.Limits.{names}
 use Rattle.idl_grammar.specs.Reading.{type_firsts}

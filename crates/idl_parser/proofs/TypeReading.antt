@@ -1,7 +1,7 @@
 -- The reading of types at a number that is not 0.
 use Rattle.std.proofs.Common.{◌≡◌, ℕ, zero, suc, ◌+◌, ◌-◌, ◌<◌, [], ◌∷◌, sym, ap, arith, false}
-use Rattle.grammar_phrases.specs.Text.{Text}
-use Rattle.grammar_phrases.specs.Reading.{Read, turned}
+use Rattle.idl_grammar.specs.Text.{Text}
+use Rattle.idl_grammar.specs.ReadPhrases.{Read, turned}
 use Rattle.idl_grammar.specs.Symbols as symbol
 use Rattle.idl_grammar.specs.Tree as tree
 use Rattle.idl_grammar.specs.Tree.{TypeSpec}

@@ -1,7 +1,7 @@
 -- What `parse` answers, as the grammar has it.
 use Rattle.std.specs.Prelude.{Result, Ok, Err}
-use Rattle.grammar_phrases.specs.Text.{Depth, Ban}
-use Rattle.grammar_phrases.specs.Reading.{Fault, Syntax, Passes}
+use Rattle.idl_grammar.specs.Text.{Depth, Ban}
+use Rattle.idl_grammar.specs.ReadPhrases.{Fault, Syntax, Passes}
 use Rattle.idl_grammar.specs.declared.files.Tree.{Tree}
 use Rattle.idl_grammar.specs.Tree as tree
 use Rattle.idl_grammar.specs.Seen.{seen_tree}

@@ -1,17 +1,16 @@
 // Declarations and files (C706, sections 4.2.3 to 4.2.8 and 4.2.13).
 ghost use Rattle.std.specs.Prelude.{◌≡◌, ◌+◌, ◌≤◌, ◌<◌, [], ◌∷◌, length, map, option_map, IfOk};
-ghost use Rattle.grammar_phrases.specs.Text.{symbol_at, is_in};
-ghost use Rattle.grammar_phrases.specs.Gives.{Gives};
+ghost use Rattle.idl_grammar.specs.Text.{symbol_at, is_in};
+ghost use Rattle.idl_grammar.specs.Gives.{Gives};
 ghost use Rattle.idl_grammar.specs.Reading.{export_firsts, typedef_read, const_read, signature_read, declared_read, export_read, import_read};
 ghost use Rattle.idl_grammar.specs.Reading.{imports_read, exports_read, file_read};
 ghost use Rattle.idl_grammar.specs.Seen.{seen_parameters, seen_export, seen_import, seen_tree};
 
 use crate::parameters::parameters;
 use crate::types::{begins_type, type_spec};
-use grammar_phrases::Refusal;
-use idl_attributes::attributes::{attributes, maybe_attributes};
-use idl_declarators::declarators::{declarators, init};
-use idl_grammar::{Export, Identifier, Import, Parameters, Tree};
+use idl_declarations::attributes::{attributes, maybe_attributes};
+use idl_declarations::declarators::{declarators, init};
+use idl_grammar::{Export, Identifier, Import, Parameters, Refusal, Tree};
 use idl_tokens::parser::Parser;
 use idl_tokens::symbol;
 

@@ -1,16 +1,15 @@
 // Parameters of operations (C706, sections 4.2.12 and 4.2.13).
 ghost use Rattle.std.specs.Prelude.{◌≡◌, ◌+◌, ◌≤◌, ◌<◌, [], ◌∷◌, length, map, IfOk};
-ghost use Rattle.grammar_phrases.specs.Reading.{turned, behind_read};
-ghost use Rattle.grammar_phrases.specs.Gives.{Gives};
+ghost use Rattle.idl_grammar.specs.ReadPhrases.{turned, behind_read};
+ghost use Rattle.idl_grammar.specs.Gives.{Gives};
 ghost use Rattle.idl_grammar.specs.Symbols as symbols;
 ghost use Rattle.idl_grammar.specs.Reading.{commas_read, parameter_read, more_parameters_read, void_parameters_read, parameters_read};
 ghost use Rattle.idl_grammar.specs.Seen.{seen_parameter, seen_parameters};
 
 use crate::types::type_spec;
-use grammar_phrases::Refusal;
-use idl_attributes::attributes::maybe_attributes;
-use idl_declarators::declarators::declarator;
-use idl_grammar::{Parameter, Parameters, SimpleType, TypeSpec};
+use idl_declarations::attributes::maybe_attributes;
+use idl_declarations::declarators::declarator;
+use idl_grammar::{Parameter, Parameters, Refusal, SimpleType, TypeSpec};
 use idl_tokens::parser::Parser;
 use idl_tokens::symbol;
 

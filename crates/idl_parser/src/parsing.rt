@@ -1,8 +1,8 @@
 // Whole files.
 ghost use Rattle.std.specs.Prelude.{◌≡◌, ◌≤◌, ◌<◌, length, Result};
-ghost use Rattle.grammar_phrases.specs.Reading.{Fault};
-ghost use Rattle.grammar_phrases.specs.Gives.{GivesWhole};
-ghost use Rattle.grammar_phrases.specs.Verdict.{whole_read};
+ghost use Rattle.idl_grammar.specs.ReadPhrases.{Fault};
+ghost use Rattle.idl_grammar.specs.Gives.{GivesWhole};
+ghost use Rattle.idl_grammar.specs.Verdict.{whole_read};
 ghost use Rattle.idl_grammar.specs.Answers.{Answers, file_answer};
 ghost use Rattle.idl_grammar.specs.Grammar.{file as grammar_file};
 ghost use Rattle.idl_grammar.specs.Lexemes.{lexemes as grammar_lexemes};
@@ -12,8 +12,7 @@ ghost use Rattle.idl_grammar.specs.Tree as tree;
 ghost use Rattle.idl_parser.specs.Answered.{Told};
 
 use crate::file::file;
-use grammar_phrases::Refusal;
-use idl_grammar::{SyntaxFault, Tree};
+use idl_grammar::{Refusal, SyntaxFault, Tree};
 use idl_lexer::Tokens;
 use idl_tokens::fault_of;
 use idl_tokens::lexemes::lexemes;

@@ -1,20 +1,19 @@
 // Types (C706, sections 4.2.8 to 4.2.11), by recursive descent. `depth` is the number of brackets that are open,
 // `fuel` the number of levels that types may still nest, and `nesting` that of expressions.
 ghost use Rattle.std.specs.Prelude.{◌≡◌, ℕ, ◌+◌, ◌-◌, ◌≤◌, ◌<◌, [], ◌∷◌, length, map, option_map, IfOk};
-ghost use Rattle.grammar_phrases.specs.Text.{symbol_at, is_in};
-ghost use Rattle.grammar_phrases.specs.Reading.{turned};
-ghost use Rattle.grammar_phrases.specs.Gives.{Gives};
+ghost use Rattle.idl_grammar.specs.Text.{symbol_at, is_in};
+ghost use Rattle.idl_grammar.specs.ReadPhrases.{turned};
+ghost use Rattle.idl_grammar.specs.Gives.{Gives};
 ghost use Rattle.idl_grammar.specs.Tree as tree;
 ghost use Rattle.idl_grammar.specs.Reading.{type_firsts, member_firsts, arm_firsts, member_read, members_read, struct_body_read, members_of};
 ghost use Rattle.idl_grammar.specs.Reading.{struct_read, case_read, cases_read, cases_body_read, arm_read, arms_read, arms_body_read};
 ghost use Rattle.idl_grammar.specs.Reading.{union_body_read, union_read, type_read};
 ghost use Rattle.idl_grammar.specs.Seen.{seen_type, seen_arm, seen_member, seen_case};
 
-use grammar_phrases::Refusal;
-use idl_attributes::attributes::maybe_attributes;
-use idl_declarators::declarators::{declarator, declarators};
-use idl_declarators::enums::{begins_label, enumeration, labels, union_switch};
-use idl_grammar::{Arm, Case, Identifier, Member, TagKind, TypeSpec};
+use idl_declarations::attributes::maybe_attributes;
+use idl_declarations::declarators::{declarator, declarators};
+use idl_declarations::enums::{begins_label, enumeration, labels, union_switch};
+use idl_grammar::{Arm, Case, Identifier, Member, Refusal, TagKind, TypeSpec};
 use idl_tokens::parser::Parser;
 use idl_tokens::symbol;
 

@@ -1,6 +1,6 @@
 -- Texts of one file as examples: their tokens, their trees, and which rule is told of them.
 use Rattle.std.specs.Prelude.{ℕ, zero, suc, ◌+◌, ◌-◌, Bool, true, false, eqb, List, [], ◌∷◌, Option, Some, None, Result, Ok, Err}
-use Rattle.grammar_phrases.specs.Reading.{Fault}
+use Rattle.idl_grammar.specs.ReadPhrases.{Fault}
 use Rattle.nd_base.specs.Text.{is_letter, is_digit, is_word_octet}
 use Rattle.idl_lexer.specs.Classes.{is_space}
 use Rattle.idl_lexer.specs.Pieces.{fits_uuid}

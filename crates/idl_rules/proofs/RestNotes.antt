@@ -23,14 +23,14 @@ use Rattle.idl_rule_definitions.specs.Rules.{Breach, broken_at, broken_in, breac
 use Rattle.idl_rule_definitions.specs.TypeRules.{contains_itself, is_deep_body}
 use Rattle.idl_rule_definitions.specs.DeclarationRules.{lacks_switch_type}
 use Rattle.idl_constructs.specs.SeenNodes.{seen_construct, seen_declared, seen_result, list_at, seen_node}
-use Rattle.idl_type_numbers.specs.SeenTypes.{names_at, scoped_front}
+use Rattle.idl_declared_types.specs.SeenTypes.{names_at, scoped_front}
 use Rattle.idl_rule_definitions.specs.Noted.{noted, of_others}
 use Rattle.idl_rule_definitions.specs.OthersOf.{others_of}
 use Rattle.idl_rule_definitions.specs.OtherBreaches.{other_breaches_at}
 use Rattle.idl_rules.specs.Asked.{body_breaches, switch_breaches, empty_arm_breaches}
 use Rattle.idl_value_rules.specs.RestBreaches.{but_cycles, rest_breaches_at, rest_breaches}
 use Rattle.idl_rules.specs.Asked.{program_breaches}
-use Rattle.idl_type_numbers.proofs.Fronts.{scoped_front_next}
+use Rattle.idl_declared_types.proofs.Fronts.{scoped_front_next}
 use Rattle.idl_rule_definitions.proofs.Noted.{noted_more}
 use Rattle.idl_rule_definitions.proofs.OtherNotes.{others_append, kept, dropped, other_cons, other_one, three_kept, last_kept}
 use Rattle.idl_rules.proofs.UseNotes.{use_kept, body_kept, switch_kept, arm_kept, cycles_append, no_cycle, more_others, more_rest}

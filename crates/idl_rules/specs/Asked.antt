@@ -5,7 +5,7 @@ use Rattle.idl_rules.specs.declared.asked.Asked.{Asked}
 use Rattle.idl_declared_types.specs.declared.kinds.Kind.{Kind}
 use Rattle.idl_declared_types.specs.Kinds.{type_at}
 use Rattle.idl_constructs.specs.SeenNodes.{seen_construct}
-use Rattle.idl_type_numbers.specs.SeenTypes.{IsTypedUse}
+use Rattle.idl_declared_types.specs.SeenTypes.{IsTypedUse}
 use Rattle.idl_rule_definitions.specs.Nodes.{Construct}
 use Rattle.idl_rule_definitions.specs.Types.{IdlType, is_void, is_handle, is_pipe, is_context}
 use Rattle.idl_rule_definitions.specs.Scene.{Scene, Scoped, Body, Use}

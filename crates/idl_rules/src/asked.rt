@@ -9,16 +9,16 @@ ghost use Rattle.idl_rule_definitions.specs.TypeRules.{below_reference};
 ghost use Rattle.idl_rule_definitions.specs.VariableRules.{below_pointer};
 ghost use Rattle.idl_declared_types.specs.Kinds.{type_by, type_at, seen_types};
 ghost use Rattle.idl_constructs.specs.SeenNodes.{seen_construct};
-ghost use Rattle.idl_type_properties.specs.SeenMarks.{IsMark, AreMarks};
+ghost use Rattle.idl_value_rules.specs.SeenMarks.{IsMark, AreMarks};
 ghost use Rattle.idl_rule_definitions.specs.Noted.{noted};
 ghost use Rattle.idl_rule_definitions.specs.Found.{seen_breach};
-ghost use Rattle.idl_type_properties.specs.SeenMarks.{Holds};
+ghost use Rattle.idl_value_rules.specs.SeenMarks.{Holds};
 
 use idl_constructs::nodes::Construct;
 use idl_declared_types::kinds::{Kind, Kinds};
+use idl_declared_types::types::Typed;
 use idl_rule_definitions::Finder;
-use idl_type_numbers::types::Typed;
-use idl_type_properties::marks::{Mark, Marks, NOTHING};
+use idl_value_rules::marks::{Mark, Marks, NOTHING};
 
 /// A declarator where it stands, with the numbers of its types.
 #[derive(Clone, Copy)]

@@ -6,19 +6,19 @@ ghost use Rattle.idl_rule_definitions.specs.CountRules as rules;
 ghost use Rattle.idl_rule_definitions.specs.Found.{seen_breach};
 ghost use Rattle.idl_rule_definitions.specs.Noted.{noted};
 ghost use Rattle.idl_rule_definitions.specs.OtherBreaches.{other_breaches};
-ghost use Rattle.idl_type_numbers.specs.SeenNumbers.{AreNumbers};
-ghost use Rattle.idl_type_numbers.specs.SeenTypes.{scene_seen, IsTypes};
+ghost use Rattle.idl_declared_types.specs.SeenNumbers.{AreNumbers};
+ghost use Rattle.idl_declared_types.specs.SeenTypes.{scene_seen, IsTypes};
 ghost use Rattle.idl_value_rules.specs.SeenCounts.{one_too_many};
 ghost use Rattle.idl_scope.specs.Seen.{known_in};
 
 use crate::uses::other_rules;
 use idl_constructs::nodes::Nodes;
+use idl_declared_types::numbering::Numbers;
+use idl_declared_types::types::Types;
 use idl_rule_definitions::{Breach, Finder, RuleFault};
 use idl_scope::Scope;
-use idl_type_numbers::numbering::Numbers;
-use idl_type_numbers::types::Types;
-use idl_type_properties::marks;
 use idl_value_rules::counts::too_many;
+use idl_value_rules::marks;
 use nd_base::Memory;
 use std::alloc::Global;
 

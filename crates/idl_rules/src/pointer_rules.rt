@@ -10,10 +10,10 @@ ghost use Rattle.idl_rule_definitions.specs.Attributes.{has, out_word};
 ghost use Rattle.idl_rule_definitions.specs.DeclarationRules.{is_parameter};
 ghost use Rattle.idl_declared_types.specs.Kinds.{type_at};
 ghost use Rattle.idl_constructs.specs.SeenNodes.{seen_position, seen_construct};
-ghost use Rattle.idl_type_properties.specs.SeenMarks.{AreMarks};
+ghost use Rattle.idl_value_rules.specs.SeenMarks.{AreMarks};
 ghost use Rattle.idl_rule_definitions.specs.Noted.{noted};
 ghost use Rattle.idl_rule_definitions.specs.Found.{seen_breach};
-ghost use Rattle.idl_type_properties.specs.SeenMarks.{Holds};
+ghost use Rattle.idl_value_rules.specs.SeenMarks.{Holds};
 ghost use Rattle.idl_rules.specs.Asked.{asked_use, IsAsked, with_pointers};
 
 use crate::asked::{Asked, Judge, note};

@@ -8,10 +8,10 @@ ghost use Rattle.idl_rule_definitions.specs.Rules.{Breach};
 ghost use Rattle.idl_rule_definitions.specs.TypeRules as rules;
 ghost use Rattle.idl_declared_types.specs.Kinds.{type_at};
 ghost use Rattle.idl_constructs.specs.SeenNodes.{seen_position, seen_construct};
-ghost use Rattle.idl_type_properties.specs.SeenMarks.{AreMarks};
+ghost use Rattle.idl_value_rules.specs.SeenMarks.{AreMarks};
 ghost use Rattle.idl_rule_definitions.specs.Noted.{noted};
 ghost use Rattle.idl_rule_definitions.specs.Found.{seen_breach};
-ghost use Rattle.idl_type_properties.specs.SeenMarks.{Holds};
+ghost use Rattle.idl_value_rules.specs.SeenMarks.{Holds};
 ghost use Rattle.idl_rules.specs.Asked.{asked_use, IsAsked, with_types};
 ghost use Rattle.idl_rule_definitions.specs.Attributes.{has, in_word, out_word};
 
@@ -19,7 +19,7 @@ use crate::asked::{Asked, Judge, note};
 use idl_constructs::nodes::Position;
 use idl_constructs::words::{Word, has as has_word};
 use idl_rule_definitions::{Finder, rule};
-use idl_type_properties::marks::Mark;
+use idl_value_rules::marks::Mark;
 
 /// The types of a declarator in which no `void` may stand.
 fn without_void(judge: &Judge<'_>, asked: &Asked<'_>) -> Mark

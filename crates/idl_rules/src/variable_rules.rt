@@ -8,13 +8,13 @@ ghost use Rattle.idl_rule_definitions.specs.Rules.{Breach};
 ghost use Rattle.idl_rule_definitions.specs.VariableRules as rules;
 ghost use Rattle.idl_declared_types.specs.Kinds.{type_at};
 ghost use Rattle.idl_constructs.specs.SeenNodes.{seen_position, seen_construct};
-ghost use Rattle.idl_type_properties.specs.SeenMarks.{AreMarks};
+ghost use Rattle.idl_value_rules.specs.SeenMarks.{AreMarks};
 ghost use Rattle.idl_rule_definitions.specs.Noted.{noted};
 ghost use Rattle.idl_rule_definitions.specs.Found.{seen_breach};
-ghost use Rattle.idl_type_properties.specs.SeenMarks.{Holds};
+ghost use Rattle.idl_value_rules.specs.SeenMarks.{Holds};
 ghost use Rattle.idl_rules.specs.Asked.{asked_use, IsAsked, with_unions, with_variables};
 ghost use Rattle.idl_rule_definitions.specs.Attributes.{has, switch_is_word};
-ghost use Rattle.idl_type_numbers.specs.SeenTypes.{has_wrong_switch_variable};
+ghost use Rattle.idl_declared_types.specs.SeenTypes.{has_wrong_switch_variable};
 
 use crate::asked::{Asked, Judge, note};
 use crate::declaration_rules::is_wrongly_cased;
@@ -22,7 +22,7 @@ use idl_constructs::nodes::Position;
 use idl_constructs::words::{Word, has as has_word, has_length, has_size};
 use idl_declared_types::kinds::Kind;
 use idl_rule_definitions::{Finder, rule};
-use idl_type_properties::marks::Mark;
+use idl_value_rules::marks::Mark;
 
 /// Rule 21: whether a type may not tell the arms of a union apart.
 pub(crate) fn may_not_be_switched(judge: &Judge<'_>, number: usize) -> bool

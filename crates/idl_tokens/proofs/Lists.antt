@@ -1,8 +1,8 @@
 -- How the loops begin that gather lists.
 use Rattle.std.proofs.Common.{◌≡◌, ℕ, suc, ◌<◌, ◌≤◌, Bool, true, false, ◌||◌, List, [], ◌∷◌, ◌++◌, length, refl, ap, arith, ◌∙◌, Ok, Err}
-use Rattle.grammar_phrases.specs.Text.{Lexeme, Text, symbol_at, is, is_in}
-use Rattle.grammar_phrases.specs.Reading.{Read, then, join, turned, many_read, list_read, some_read, behind_read, separated_read}
-use Rattle.grammar_phrases.proofs.Gathered.{Gathered}
+use Rattle.idl_grammar.specs.Text.{Lexeme, Text, symbol_at, is, is_in}
+use Rattle.idl_grammar.specs.ReadPhrases.{Read, then, join, turned, many_read, list_read, some_read, behind_read, separated_read}
+use Rattle.idl_grammar.proofs.Gathered.{Gathered}
 
 -- one symbol alone
 pub alone : (t : Text) (m s : ℕ) (b : Bool) → is (symbol_at t m) s ≡ b → is_in (s ∷ []) (symbol_at t m) ≡ b

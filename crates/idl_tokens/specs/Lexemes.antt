@@ -1,6 +1,6 @@
 -- A token as the parser has it, and as the grammar sees it.
 use Rattle.std.specs.Prelude.{List, map}
-use Rattle.grammar_phrases.specs.Text as phrases
+use Rattle.idl_grammar.specs.Text as phrases
 use Rattle.idl_grammar.specs.Symbols.{Spelled}
 use Rattle.idl_tokens.specs.declared.lexemes.Lexeme.{Lexeme}
 use Rattle.idl_tokens.specs.declared.words.Entry.{Entry}

@@ -1,3 +1,4 @@
 pub mod Lexemes
 pub mod Found
 pub mod Refused
+pub mod Views

@@ -1,8 +1,8 @@
 -- How a refusal is answered.
 use Rattle.std.specs.Prelude.{◌≡◌, ℕ, ◌≤◌, cond}
-use Rattle.grammar_phrases.specs.declared.Refusal.{Refusal}
-use Rattle.grammar_phrases.specs.declared.Refusal.TheVariants as refusal
-use Rattle.grammar_phrases.specs.Text.{Text}
+use Rattle.idl_grammar.specs.declared.refusal.Refusal.{Refusal}
+use Rattle.idl_grammar.specs.declared.refusal.Refusal.TheVariants as refusal
+use Rattle.idl_grammar.specs.Text.{Text}
 use Rattle.idl_grammar.specs.Answers.{is_banned}
 use Rattle.idl_grammar.specs.declared.fault.SyntaxFault.{SyntaxFault}
 use Rattle.idl_grammar.specs.declared.fault.SyntaxFault.TheVariants as errors

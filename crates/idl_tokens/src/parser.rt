@@ -1,9 +1,9 @@
 // The parts of one token.
 ghost use Rattle.std.specs.Prelude.{◌≡◌, ◌≤◌, ◌<◌, ◌+◌, length, IfOk, IfErr, false};
-ghost use Rattle.grammar_phrases.specs.declared.Refusal.TheVariants as refusal;
-ghost use Rattle.grammar_phrases.specs.Text.{symbol_at, lexeme_at, is, is_in};
-ghost use Rattle.grammar_phrases.specs.Reading.{mark_read, open_read};
-ghost use Rattle.grammar_phrases.specs.Gives.{Gives, GivesPlace};
+ghost use Rattle.idl_grammar.specs.declared.refusal.Refusal.TheVariants as refusal;
+ghost use Rattle.idl_grammar.specs.Text.{symbol_at, lexeme_at, is, is_in};
+ghost use Rattle.idl_grammar.specs.ReadPhrases.{mark_read, open_read};
+ghost use Rattle.idl_grammar.specs.Gives.{Gives, GivesPlace};
 ghost use Rattle.idl_grammar.specs.Expressions.{spelling as spelling_of};
 ghost use Rattle.idl_grammar.specs.Lexemes.{no_words, IsFormed};
 ghost use Rattle.idl_grammar.specs.Limits.{names};
@@ -13,8 +13,7 @@ ghost use Rattle.idl_tokens.specs.Lexemes.{text_of};
 
 use crate::lexemes::Lexeme;
 use crate::symbol;
-use grammar_phrases::Refusal;
-use idl_grammar::{Identifier, Spelling, UuidText};
+use idl_grammar::{Identifier, Refusal, Spelling, UuidText};
 use nd_base::Octets;
 use std::alloc::Global;
 use std::marker::Model;
@@ -31,7 +30,7 @@ pub struct Parser<'a> {
 }
 
 impl<'a> Model for Parser<'a> {
-    ghost use Rattle.grammar_phrases.specs.Text.{Text};
+    ghost use Rattle.idl_grammar.specs.Text.{Text};
     ghost use Rattle.idl_grammar.specs.Lexemes.{IsFormed};
     ghost use Rattle.idl_tokens.specs.Lexemes.{text_of};
 
@@ -189,7 +188,7 @@ impl Parser<'_> {
     }
 
     /// A mark or a word.
-    #[tactic(auto, using(grammar_phrases::proofs::Within::mark_within))]
+    #[tactic(auto, using(idl_grammar::proofs::Within::mark_within))]
     pub fn mark(&self, wanted: u8, at: usize) -> Result<usize, Refusal>
         requires real { is 0 wanted ≡ false }
         requires within { at ≤ length self.now }
@@ -203,7 +202,7 @@ impl Parser<'_> {
     }
 
     /// The octet of a mark or a word.
-    #[tactic(auto, using(grammar_phrases::proofs::Within::mark_within))]
+    #[tactic(auto, using(idl_grammar::proofs::Within::mark_within))]
     pub fn placed(&self, wanted: u8, at: usize) -> Result<(u32, usize), Refusal>
         requires real { is 0 wanted ≡ false }
         requires within { at ≤ length self.now }
@@ -217,7 +216,7 @@ impl Parser<'_> {
     }
 
     /// The octet of a bracket that opens, with so many others open.
-    #[tactic(auto, using(grammar_phrases::proofs::Within::mark_within))]
+    #[tactic(auto, using(idl_grammar::proofs::Within::mark_within))]
     pub fn opening(&self, depth: usize, wanted: u8, at: usize) -> Result<(u32, usize), Refusal>
         requires real { is 0 wanted ≡ false }
         requires within { at ≤ length self.now }
@@ -234,7 +233,7 @@ impl Parser<'_> {
     }
 
     /// A bracket that opens, with so many others open.
-    #[tactic(auto, using(grammar_phrases::proofs::Within::mark_within))]
+    #[tactic(auto, using(idl_grammar::proofs::Within::mark_within))]
     pub fn open(&self, depth: usize, wanted: u8, at: usize) -> Result<usize, Refusal>
         requires real { is 0 wanted ≡ false }
         requires within { at ≤ length self.now }
@@ -251,7 +250,7 @@ impl Parser<'_> {
     }
 
     /// A token of a symbol, as it is spelled.
-    #[tactic(auto, using(grammar_phrases::proofs::Within::mark_within))]
+    #[tactic(auto, using(idl_grammar::proofs::Within::mark_within))]
     pub fn spelled(&self, wanted: u8, at: usize) -> Result<(Spelling, usize), Refusal>
         requires real { is 0 wanted ≡ false }
         requires within { at ≤ length self.now }
@@ -265,7 +264,7 @@ impl Parser<'_> {
     }
 
     /// A UUID, as it is spelled.
-    #[tactic(auto, using(grammar_phrases::proofs::Within::mark_within))]
+    #[tactic(auto, using(idl_grammar::proofs::Within::mark_within))]
     pub fn uuid_text(&self, at: usize) -> Result<(UuidText, usize), Refusal>
         requires within { at ≤ length self.now }
         ensures gives { Gives (λ x. x) result (spelled_read symbols.UuidValue self.now at) }

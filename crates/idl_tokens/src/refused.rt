@@ -5,8 +5,7 @@ ghost use Rattle.idl_tokens.specs.Refused.{IsWithin, IsNamed};
 
 use crate::parser::Parser;
 use crate::symbol;
-use grammar_phrases::Refusal;
-use idl_grammar::SyntaxFault;
+use idl_grammar::{Refusal, SyntaxFault};
 
 /// Whether a word is at a place that is banned anywhere.
 #[tactic(auto, unfolding(idl_grammar::specs::Answers::is_banned))]

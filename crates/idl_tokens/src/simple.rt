@@ -1,9 +1,9 @@
 // Types without parts (C706, section 4.2.9).
 ghost use Rattle.std.specs.Prelude.{◌≡◌, ◌≤◌, ◌<◌, length, IfOk, Ok, false};
-ghost use Rattle.grammar_phrases.specs.Text.{is_in, symbol_at};
+ghost use Rattle.idl_grammar.specs.Text.{is_in, symbol_at};
 ghost use Rattle.idl_grammar.specs.declared.types.SimpleType.TheVariants as types;
-ghost use Rattle.grammar_phrases.specs.Text.{is};
-ghost use Rattle.grammar_phrases.specs.Gives.{Gives};
+ghost use Rattle.idl_grammar.specs.Text.{is};
+ghost use Rattle.idl_grammar.specs.Gives.{Gives};
 ghost use Rattle.idl_grammar.specs.Grammar.{width_words};
 ghost use Rattle.idl_grammar.specs.Reading.{flag_read, one_of_read, simple_words, simple_firsts, width_read, unsigned_read, integer_read};
 ghost use Rattle.idl_grammar.specs.Reading.{simple_read, switch_type_read};
@@ -11,8 +11,7 @@ ghost use Rattle.idl_tokens.specs.Found.{found};
 
 use crate::parser::Parser;
 use crate::symbol;
-use grammar_phrases::Refusal;
-use idl_grammar::{IntegerType, SimpleType, SwitchType, Width};
+use idl_grammar::{IntegerType, Refusal, SimpleType, SwitchType, Width};
 
 /// The symbols of the widths.
 static WIDTHS: [u8; 4] = [symbol::SMALL, symbol::SHORT, symbol::LONG, symbol::HYPER];
@@ -60,7 +59,7 @@ fn simple_of(symbol: u8) -> Option<SimpleType>
 
 impl Parser<'_> {
     /// Whether a word or a mark is there, and the place past it.
-    #[tactic(auto, using(grammar_phrases::proofs::Within::mark_within))]
+    #[tactic(auto, using(idl_grammar::proofs::Within::mark_within))]
     pub fn flag(&self, wanted: u8, at: usize) -> (bool, usize)
         requires real { is 0 wanted ≡ false }
         requires within { at ≤ length self.now }

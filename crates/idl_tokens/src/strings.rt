@@ -1,15 +1,14 @@
 // Strings with commas between (C706, sections 4.2.5 and 4.2.6).
 ghost use Rattle.std.specs.Prelude.{◌≡◌, ◌≤◌, ◌<◌, length, IfOk};
-ghost use Rattle.grammar_phrases.specs.Reading.{behind_read};
-ghost use Rattle.grammar_phrases.specs.Gives.{Gives};
+ghost use Rattle.idl_grammar.specs.ReadPhrases.{behind_read};
+ghost use Rattle.idl_grammar.specs.Gives.{Gives};
 ghost use Rattle.idl_grammar.specs.Symbols as symbols;
 ghost use Rattle.idl_grammar.specs.ReadExpressions.{spelled_read};
 ghost use Rattle.idl_grammar.specs.Reading.{commas_read};
 
 use crate::parser::Parser;
 use crate::symbol;
-use grammar_phrases::Refusal;
-use idl_grammar::Spelling;
+use idl_grammar::{Refusal, Spelling};
 
 impl Parser<'_> {
     /// A string after a comma.

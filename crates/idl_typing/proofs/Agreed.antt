@@ -14,7 +14,7 @@ use Rattle.idl_rule_definitions.specs.Types.{IdlType, Names, or_void, pipe_or_pl
 use Rattle.idl_rule_definitions.specs.Scene.{Scene, Use, use_of, tag_type, tag_written}
 use Rattle.idl_rule_definitions.specs.VariableRules.{Listed, is_right_variable, passes, passes_listed, variable_of, variables, is_integer, may_be_switched, has_wrong_variable}
 use Rattle.idl_rule_definitions.specs.Attributes.{sizes, lengths, switch_is_word}
-use Rattle.idl_type_numbers.specs.SeenTypes.{has_wrong_switch_variable}
+use Rattle.idl_declared_types.specs.SeenTypes.{has_wrong_switch_variable}
 
 -- of each name these lists say the same
 abbrev pub Same : Names → Names → Type 0

@@ -5,14 +5,14 @@ use Rattle.idl_grammar.specs.Tree.{TypeSpec}
 use Rattle.idl_grammar.specs.declared.words.Spelling.{Spelling}
 use Rattle.idl_scope.specs.Known.{Known}
 use Rattle.idl_declared_types.specs.declared.kinds.Kind.{Kind}
-use Rattle.idl_type_numbers.specs.declared.types.Typed.{Typed}
+use Rattle.idl_declared_types.specs.declared.types.Typed.{Typed}
 use Rattle.idl_rule_definitions.specs.Nodes.{Construct, Declared, result_of}
 use Rattle.idl_rule_definitions.specs.Types.{IdlType, Void, Handle, ContextHandle, Basic, Struct, Union, Enum, Array, Text, Pointer, Pipe, Names, with_attributes, written_type, declared_type, type_of}
 use Rattle.idl_rule_definitions.specs.Scene.{Scene, Use, use_of}
 use Rattle.idl_rule_definitions.specs.VariableRules.{has_no_variable, has_wrong_variable}
 use Rattle.idl_declared_types.specs.Kinds.{type_at, Stands, Keeps}
 use Rattle.idl_declared_types.specs.SeenNames.{seen_names, are_within}
-use Rattle.idl_type_numbers.specs.SeenTypes.{bare, has_wrong_switch_variable, IsTypedUse, AreTypedWithin}
+use Rattle.idl_declared_types.specs.SeenTypes.{bare, has_wrong_switch_variable, IsTypedUse, AreTypedWithin}
 use Rattle.idl_declared_types.proofs.KindLists.{type_at-stands}
 use Rattle.idl_declared_types.proofs.NameLists.{within_stands, are_within-keeps, seen_names-keeps}
 

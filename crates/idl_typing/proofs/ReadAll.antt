@@ -8,16 +8,16 @@ use Rattle.idl_constructs.specs.declared.nodes.Node as program_node
 use Rattle.idl_constructs.specs.declared.nodes.Node.TheVariants as node
 use Rattle.idl_constructs.specs.declared.nodes.Nodes as program_nodes
 use Rattle.idl_declared_types.specs.declared.kinds.Kind.{Kind}
-use Rattle.idl_type_numbers.specs.declared.types.BodyTypes.{BodyTypes}
-use Rattle.idl_type_numbers.specs.declared.types.Typed.{Typed}
-use Rattle.idl_type_numbers.specs.declared.types.Types.{Types}
+use Rattle.idl_declared_types.specs.declared.types.BodyTypes.{BodyTypes}
+use Rattle.idl_declared_types.specs.declared.types.Typed.{Typed}
+use Rattle.idl_declared_types.specs.declared.types.Types.{Types}
 use Rattle.idl_rule_definitions.specs.Types.{Names}
 use Rattle.idl_rule_definitions.specs.Scene.{Scene, Scoped, Body, Use, bodies, body_of}
-use Rattle.idl_type_numbers.specs.SeenTypes.{bare, scene_seen, scoped_front, IsTypedUse, IsTyped, IsBody, IsTypes}
+use Rattle.idl_declared_types.specs.SeenTypes.{bare, scene_seen, scoped_front, IsTypedUse, IsTyped, IsBody, IsTypes}
 use Rattle.idl_typing.specs.ReadTypes.{NamesRead, TypedRead, BodiesOver, BodiesRead, TagsOver, TagsRead, OperationsOver, OperationsRead, AreRead, bodies_in, bodies_front, called_in, called_front}
-use Rattle.idl_type_numbers.specs.declared.types.OperationTypes.{OperationTypes}
-use Rattle.idl_type_numbers.specs.SeenOperations.{Called, called, IsOperation, HasTags, HasOperations}
-use Rattle.idl_type_numbers.proofs.Fronts.{scoped_front_all}
+use Rattle.idl_declared_types.specs.declared.types.OperationTypes.{OperationTypes}
+use Rattle.idl_declared_types.specs.SeenOperations.{Called, called, IsOperation, HasTags, HasOperations}
+use Rattle.idl_declared_types.proofs.Fronts.{scoped_front_all}
 
 -- before the first node
 pub none_read : (known : Known) (n : program_nodes.Nodes) (t : Types) (names : List (List ℕ × ℕ)) → names ≡ [] → t.typed.items ≡ [] → t.bodies.items ≡ [] → t.by_place ≡ [] → t.operations.items ≡ []

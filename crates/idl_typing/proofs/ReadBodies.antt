@@ -11,11 +11,11 @@ use Rattle.idl_constructs.specs.declared.nodes.Node as program_node
 use Rattle.idl_constructs.specs.declared.nodes.Node.TheVariants as node
 use Rattle.idl_rule_definitions.specs.Types.{Names}
 use Rattle.idl_constructs.specs.declared.nodes.Nodes as program_nodes
-use Rattle.idl_type_numbers.specs.declared.types.BodyTypes.{BodyTypes}
+use Rattle.idl_declared_types.specs.declared.types.BodyTypes.{BodyTypes}
 use Rattle.idl_rule_definitions.specs.Scene.{Body, body_among, same_place, place_of}
 use Rattle.idl_declared_types.specs.Kinds.{Keeps}
 use Rattle.idl_declared_types.specs.SeenNames.{are_below}
-use Rattle.idl_type_numbers.specs.SeenTypes.{names_at, bare, body_at, IsBody}
+use Rattle.idl_declared_types.specs.SeenTypes.{names_at, bare, body_at, IsBody}
 use Rattle.idl_declared_types.specs.Places.{found_place}
 use Rattle.idl_typing.specs.ReadTypes.{bodies_front, BodiesOver, BodiesRead, and_place}
 use Rattle.idl_declared_types.proofs.KindLists.{slice_get_kept, slice_get_last}

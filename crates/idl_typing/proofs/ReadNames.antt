@@ -15,9 +15,9 @@ use Rattle.idl_grammar.specs.Seen.{seen_type, seen_enumerator}
 use Rattle.idl_rule_definitions.specs.Types.{Names}
 use Rattle.idl_rule_definitions.specs.Scene.{Scoped, Body, scoped_from, names_behind, body_by}
 use Rattle.idl_constructs.specs.SeenNodes.{seen_node, seen_construct, seen_declared, seen_result, list_at}
-use Rattle.idl_type_numbers.specs.SeenTypes.{names_past, names_at, scoped_front, body_at}
+use Rattle.idl_declared_types.specs.SeenTypes.{names_past, names_at, scoped_front, body_at}
 use Rattle.idl_typing.specs.ReadTypes.{bodies_in, bodies_front}
-use Rattle.idl_type_numbers.proofs.Fronts.{scoped_front_next}
+use Rattle.idl_declared_types.proofs.Fronts.{scoped_front_next}
 
 -- ## Bodies
 

@@ -13,18 +13,18 @@ use Rattle.idl_constructs.specs.declared.nodes.Declared as declared
 use Rattle.idl_constructs.specs.declared.nodes.Node as program_node
 use Rattle.idl_constructs.specs.declared.nodes.Node.TheVariants as node
 use Rattle.idl_constructs.specs.declared.nodes.Nodes as program_nodes
-use Rattle.idl_type_numbers.specs.declared.types.BodyTypes.{BodyTypes}
-use Rattle.idl_type_numbers.specs.declared.types.OperationTypes.{OperationTypes}
+use Rattle.idl_declared_types.specs.declared.types.BodyTypes.{BodyTypes}
+use Rattle.idl_declared_types.specs.declared.types.OperationTypes.{OperationTypes}
 use Rattle.idl_rule_definitions.specs.Nodes.{Construct, ArmLabel, EnumeratorNode, attribute_nodes_from, label_nodes, labels_of}
 use Rattle.idl_rule_definitions.specs.Types.{Names}
 use Rattle.idl_rule_definitions.specs.Scene.{Scoped, Body, scoped_from, tag_type}
 use Rattle.idl_declared_types.specs.Kinds.{type_at, Keeps}
 use Rattle.idl_declared_types.specs.SeenNames.{are_below}
 use Rattle.idl_constructs.specs.SeenNodes.{seen_node, seen_construct}
-use Rattle.idl_type_numbers.specs.SeenTypes.{names_at, scoped_front, bare, body_at}
-use Rattle.idl_type_numbers.specs.SeenOperations.{Called, called_by, called_at, IsOperation}
+use Rattle.idl_declared_types.specs.SeenTypes.{names_at, scoped_front, bare, body_at}
+use Rattle.idl_declared_types.specs.SeenOperations.{Called, called_by, called_at, IsOperation}
 use Rattle.idl_typing.specs.ReadTypes.{bodies_front, is_tag_below, TagsOver, TagsRead, called_in, called_front, OperationsOver, OperationsRead}
-use Rattle.idl_type_numbers.proofs.Fronts.{scoped_front_next}
+use Rattle.idl_declared_types.proofs.Fronts.{scoped_front_next}
 use Rattle.idl_declared_types.proofs.NameLists.{le-keeps, type_at-keeps}
 use Rattle.idl_typing.proofs.PartTypes.{types-keeps, below-le}
 use Rattle.idl_typing.proofs.ReadNames.{body_list, bodies_front_next}

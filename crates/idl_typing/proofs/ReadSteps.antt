@@ -14,7 +14,7 @@ use Rattle.idl_constructs.specs.declared.nodes.Declared as declared
 use Rattle.idl_constructs.specs.declared.nodes.Node as program_node
 use Rattle.idl_constructs.specs.declared.nodes.Node.TheVariants as node
 use Rattle.idl_constructs.specs.declared.nodes.Nodes as program_nodes
-use Rattle.idl_type_numbers.specs.declared.types.Typed.{Typed}
+use Rattle.idl_declared_types.specs.declared.types.Typed.{Typed}
 use Rattle.idl_rule_definitions.specs.Nodes.{Declared, Position, InHeader, InTypedef, InTaggedType, InMember, InParameter, InArm, InCasedArm, InOperation}
 use Rattle.idl_rule_definitions.specs.Types.{IdlType, Names, type_of}
 use Rattle.idl_rule_definitions.specs.Scene.{is_typedef, Use}
@@ -22,11 +22,11 @@ use Rattle.idl_declared_types.specs.Kinds.{type_at, Keeps}
 use Rattle.idl_declared_types.specs.SeenNames.{seen_names, are_within, and_name, declared_in, names_with}
 use Rattle.idl_constructs.specs.SeenNodes.{seen_construct, seen_declared, seen_result, list_at}
 use Rattle.idl_grammar.specs.Seen.{seen_type}
-use Rattle.idl_type_numbers.specs.SeenTypes.{names_at, bare, IsTypedUse, IsTyped, AreTypedWithin}
+use Rattle.idl_declared_types.specs.SeenTypes.{names_at, bare, IsTypedUse, IsTyped, AreTypedWithin}
 use Rattle.idl_typing.specs.ReadTypes.{NamesRead, TypedRead}
 use Rattle.idl_declared_types.proofs.NameLists.{le-keeps, type_at-keeps, are_within-keeps, seen_names-keeps, found_seen}
 use Rattle.idl_typing.proofs.Agreed.{Same, declared_same, type_same, switch_same, tag_same, wrong_same, wrong_switch_same}
-use Rattle.idl_type_numbers.proofs.Fronts.{names_at_next}
+use Rattle.idl_declared_types.proofs.Fronts.{names_at_next}
 use Rattle.idl_typing.proofs.ReadNames.{names_behind_node, names_of}
 
 -- ## What is noted of a node

@@ -9,7 +9,7 @@ use Rattle.idl_rule_definitions.specs.Nodes.{Declared}
 use Rattle.idl_rule_definitions.specs.Types.{IdlType, Names}
 use Rattle.idl_rule_definitions.specs.Scene.{use_of}
 use Rattle.idl_rule_definitions.specs.VariableRules.{Listed, listed_from, variable_if, variables, is_right_variable, passes_listed, is_integer, may_be_switched, has_wrong_variable}
-use Rattle.idl_type_numbers.specs.SeenTypes.{bare, has_wrong_switch_variable}
+use Rattle.idl_declared_types.specs.SeenTypes.{bare, has_wrong_switch_variable}
 use Rattle.idl_typing.specs.Lookups.{passes_it, fails_in}
 use Rattle.idl_typing.proofs.Agreed.{any_same}
 use Rattle.idl_typing.proofs.LookupSteps.{variables_next}

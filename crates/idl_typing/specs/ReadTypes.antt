@@ -8,15 +8,15 @@ use Rattle.idl_scope.specs.Tables.{found}
 use Rattle.idl_declared_types.specs.declared.kinds.Kind.{Kind}
 use Rattle.idl_constructs.specs.declared.nodes.Node as program_node
 use Rattle.idl_constructs.specs.declared.nodes.Nodes as program_nodes
-use Rattle.idl_type_numbers.specs.declared.types.Typed.{Typed}
-use Rattle.idl_type_numbers.specs.declared.types.BodyTypes.{BodyTypes}
-use Rattle.idl_type_numbers.specs.declared.types.OperationTypes.{OperationTypes}
-use Rattle.idl_type_numbers.specs.declared.types.Types.{Types}
+use Rattle.idl_declared_types.specs.declared.types.Typed.{Typed}
+use Rattle.idl_declared_types.specs.declared.types.BodyTypes.{BodyTypes}
+use Rattle.idl_declared_types.specs.declared.types.OperationTypes.{OperationTypes}
+use Rattle.idl_declared_types.specs.declared.types.Types.{Types}
 use Rattle.idl_declared_types.specs.Kinds.{type_at}
-use Rattle.idl_type_numbers.specs.SeenOperations.{Called, called_by, IsOperation}
+use Rattle.idl_declared_types.specs.SeenOperations.{Called, called_by, IsOperation}
 use Rattle.idl_rule_definitions.specs.Scene.{Scoped, Body, body_by, body_among, tag_type}
 use Rattle.idl_declared_types.specs.SeenNames.{seen_names, are_within, are_below}
-use Rattle.idl_type_numbers.specs.SeenTypes.{names_at, scoped_front, bare, IsTyped, AreTypedWithin, IsBody}
+use Rattle.idl_declared_types.specs.SeenTypes.{names_at, scoped_front, bare, IsTyped, AreTypedWithin, IsBody}
 use Rattle.idl_declared_types.specs.Places.{found_place}
 
 -- the bodies among nodes

@@ -5,14 +5,14 @@ ghost use Rattle.idl_rule_definitions.specs.Types as types;
 ghost use Rattle.idl_rule_definitions.specs.Types.{IdlType, Names};
 ghost use Rattle.idl_typing.specs.Lookups.{AreTables};
 ghost use Rattle.idl_typing.specs.ReadTypes.{and_place, is_tag_below, NamesRead, BodiesRead, TagsRead, OperationsRead, AreRead};
-ghost use Rattle.idl_type_numbers.specs.SeenOperations.{HasTags, HasOperations};
+ghost use Rattle.idl_declared_types.specs.SeenOperations.{HasTags, HasOperations};
 ghost use Rattle.idl_rule_definitions.specs.Scene.{place_of_type, is_nonencapsulated_body, parts_declared, enumerators_in, tag_written, tag_type};
 ghost use Rattle.idl_rule_definitions.specs.Scene.{type_of_body, use_of};
 ghost use Rattle.idl_declared_types.specs.LabelValues.{Holds, values_of};
 ghost use Rattle.idl_declared_types.specs.Kinds.{type_by, type_at, is_inside, Keeps};
 ghost use Rattle.idl_declared_types.specs.SeenNames.{are_below, seen_names, are_within, and_name, declared_in, names_with};
 ghost use Rattle.idl_constructs.specs.SeenNodes.{seen_position, seen_construct, seen_declared, seen_result, list_at};
-ghost use Rattle.idl_type_numbers.specs.SeenTypes.{scene_seen, bare, IsTypedUse, tag_seen, IsTyped, AreTypedWithin, IsTypes};
+ghost use Rattle.idl_declared_types.specs.SeenTypes.{scene_seen, bare, IsTypedUse, tag_seen, IsTyped, AreTypedWithin, IsTypes};
 ghost use Rattle.idl_scope.specs.Seen.{known_in};
 
 use crate::variables::{
@@ -21,15 +21,15 @@ use crate::variables::{
 use idl_constructs::attributes::switch_type_in;
 use idl_constructs::nodes::{Construct, Declared, Node, Nodes, Position, Returned};
 use idl_constructs::parts::parts;
+use idl_declared_types::enum_values::enum_values;
 use idl_declared_types::kinds::{Kind, Kinds};
 use idl_declared_types::places::Places;
+use idl_declared_types::types::{BodyTypes, OperationTypes, Typed, Types};
 use idl_declared_types::typing::{declared_type, with_attributes};
 use idl_declared_types::value_set::ValueSet;
 use idl_declared_types::written::{place_of_body, switch, tag, tagged_kind, written};
 use idl_grammar::{Identifier, SwitchType, TagKind, TypeSpec};
 use idl_scope::{Scope, Table};
-use idl_type_numbers::enum_values::enum_values;
-use idl_type_numbers::types::{BodyTypes, OperationTypes, Typed, Types};
 use nd_base::{Memory, Place};
 use std::alloc::Global;
 

@@ -16,7 +16,7 @@ ghost use Rattle.idl_declared_types.specs.Kinds.{type_by, type_at, Keeps};
 ghost use Rattle.idl_typing.specs.Lookups.{found_at, AreTables, no_other, wanted_test, passes_it, fails_in};
 ghost use Rattle.idl_declared_types.specs.SeenNames.{seen_names, are_within};
 ghost use Rattle.idl_constructs.specs.SeenNodes.{seen_position, seen_declared, list_at};
-ghost use Rattle.idl_type_numbers.specs.SeenTypes.{bare, has_wrong_switch_variable};
+ghost use Rattle.idl_declared_types.specs.SeenTypes.{bare, has_wrong_switch_variable};
 
 use crate::types::{note_declared, put_first};
 use idl_constructs::nodes::{Declared, Nodes, Position};

@@ -8,8 +8,8 @@ use Rattle.idl_grammar.specs.Tree.{Attribute, TypeSpec, Enumerator}
 use Rattle.idl_grammar.specs.Seen.{seen_type, seen_enumerator}
 use Rattle.idl_scope.specs.Known.{Known}
 use Rattle.idl_declared_types.specs.declared.kinds.Kind.{Kind}
-use Rattle.idl_type_numbers.specs.declared.numbering.Own.{Own}
-use Rattle.idl_type_numbers.specs.declared.numbering.Numbers.{Numbers}
+use Rattle.idl_declared_types.specs.declared.numbering.Own.{Own}
+use Rattle.idl_declared_types.specs.declared.numbering.Numbers.{Numbers}
 use Rattle.idl_constructs.specs.declared.nodes.Declared as declared
 use Rattle.idl_constructs.specs.declared.nodes.Returned as returned
 use Rattle.idl_constructs.specs.declared.nodes.Node as program_node
@@ -24,8 +24,8 @@ use Rattle.idl_rule_definitions.specs.Scene.{Scene, scoped_from, names_behind}
 use Rattle.idl_rule_definitions.specs.Numbering.{Needed, own_types}
 use Rattle.idl_rule_definitions.specs.CountRules.{first_past, operation_in, parameters_in, member_of, part_in}
 use Rattle.idl_constructs.specs.SeenNodes.{seen_construct, seen_declared, seen_result, seen_node, seen_nodes, list_found, list_at, or_empty}
-use Rattle.idl_type_numbers.specs.SeenTypes.{scene_seen}
-use Rattle.idl_type_numbers.specs.SeenNumbers.{seen_own, seen_needed, AreNumbers}
+use Rattle.idl_declared_types.specs.SeenTypes.{scene_seen}
+use Rattle.idl_declared_types.specs.SeenNumbers.{seen_own, seen_needed, AreNumbers}
 use Rattle.idl_value_rules.specs.SeenCounts.{numbered, one_too_many, operations_at, parameters_at, parts_at}
 use Rattle.idl_rule_definitions.proofs.Noted.{noted_more}
 use Rattle.idl_value_rules.proofs.Passes.{drop_none, none_past, none_numbered}

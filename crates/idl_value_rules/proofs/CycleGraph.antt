@@ -10,13 +10,13 @@ use Rattle.std.proofs.lemmas.List.Concat.{flat_map-cons}
 use Rattle.std.proofs.lemmas.Option.{none-some, same_Some, slice_get_cases, slice_get_within}
 use Rattle.nd_base.specs.declared.octets.Place.{Place}
 use Rattle.idl_constructs.specs.declared.nodes.Nodes as program_nodes
-use Rattle.idl_type_numbers.specs.declared.types.Types as program_types
+use Rattle.idl_declared_types.specs.declared.types.Types as program_types
 use Rattle.idl_rule_definitions.specs.Scene.{Scene, Body, bodies, body_among, body_of, place_of, parts_of, parts_of_found, same_place}
 use Rattle.idl_rule_definitions.specs.TypeRules.{innermost, held_by, held, contains_within, contains, contains_itself}
 use Rattle.idl_cycles.specs.Graph.{parts_at}
 use Rattle.idl_cycles.specs.Graph as graph
 use Rattle.idl_declared_types.specs.Places.{found_place}
-use Rattle.idl_type_numbers.specs.SeenTypes.{IsTypes}
+use Rattle.idl_declared_types.specs.SeenTypes.{IsTypes}
 use Rattle.idl_value_rules.specs.Cycles.{option_list, numbers_of, AreHeldBy}
 use Rattle.idl_rule_definitions.proofs.Equal.{place_is}
 

@@ -8,7 +8,7 @@ use Rattle.idl_rule_definitions.specs.Nodes.{place_in}
 use Rattle.idl_rule_definitions.specs.Scene.{Body}
 use Rattle.idl_rule_definitions.specs.FirstBroken.{rank_in}
 use Rattle.idl_value_rules.specs.Cycles.{key_of, IsKeyAt, AreKeys, AreNumbersWith}
-use Rattle.idl_type_numbers.proofs.PlacesFilled.{Each, each_more}
+use Rattle.idl_declared_types.proofs.PlacesFilled.{Each, each_more}
 
 pub item_read : {X : Type 0} (xs : List X) (i : ℕ) (d x : X) → slice_get xs i ≡ Some x → slice_index_or xs i d ≡ x
 item_read [] i d x h = absurd (none-some x h)

@@ -11,17 +11,17 @@ use Rattle.std.proofs.lemmas.List.Concat.{flat_map-cons, flat_map-append}
 use Rattle.nd_base.specs.declared.octets.Place.{Place}
 use Rattle.idl_constructs.specs.declared.nodes.Nodes as program_nodes
 use Rattle.idl_declared_types.specs.declared.kinds.Kind.{Kind}
-use Rattle.idl_type_numbers.specs.declared.types.Types as program_types
+use Rattle.idl_declared_types.specs.declared.types.Types as program_types
 use Rattle.idl_rule_definitions.specs.Scene.{Scene, Body, bodies, place_of, parts_of_found}
 use Rattle.idl_cycles.specs.Graph.{parts_at}
 use Rattle.idl_rule_definitions.specs.TypeRules.{innermost, held}
 use Rattle.idl_declared_types.specs.Kinds.{type_at}
 use Rattle.idl_declared_types.specs.Places.{found_place}
-use Rattle.idl_type_numbers.specs.SeenTypes.{IsTypes}
+use Rattle.idl_declared_types.specs.SeenTypes.{IsTypes}
 use Rattle.idl_value_rules.specs.Cycles.{option_list, AreInnermost, AreInnermostBelow, numbers_of, AreHeldBy}
 use Rattle.idl_value_rules.proofs.CycleGraph.{index_past, held_parts}
-use Rattle.idl_type_numbers.proofs.Held.{void_past}
-use Rattle.idl_type_numbers.proofs.PlacesFilled.{each_more}
+use Rattle.idl_declared_types.proofs.Held.{void_past}
+use Rattle.idl_declared_types.proofs.PlacesFilled.{each_more}
 
 -- ## Structs and unions of types
 

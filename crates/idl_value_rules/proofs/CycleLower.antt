@@ -9,15 +9,15 @@ use Rattle.std.proofs.lemmas.Bool.Decides.{nat_tests}
 use Rattle.std.proofs.lemmas.Option.{none-some, same_Some, slice_get_within}
 use Rattle.nd_base.specs.declared.octets.Place.{Place}
 use Rattle.idl_constructs.specs.declared.nodes.Nodes as program_nodes
-use Rattle.idl_type_numbers.specs.declared.types.BodyTypes.{BodyTypes}
-use Rattle.idl_type_numbers.specs.declared.types.Types as program_types
+use Rattle.idl_declared_types.specs.declared.types.BodyTypes.{BodyTypes}
+use Rattle.idl_declared_types.specs.declared.types.Types as program_types
 use Rattle.idl_rule_definitions.specs.Scene.{Scene, Body, bodies, place_of}
 use Rattle.idl_declared_types.specs.Places.{found_place}
-use Rattle.idl_type_numbers.specs.SeenTypes.{IsTypes}
+use Rattle.idl_declared_types.specs.SeenTypes.{IsTypes}
 use Rattle.idl_value_rules.specs.Cycles.{first_number, AreOfPlaces}
 use Rattle.idl_value_rules.proofs.CycleGraph.{among_place}
 use Rattle.idl_value_rules.proofs.CycleKeys.{item_there}
-use Rattle.idl_type_numbers.proofs.PlacesFilled.{here_or_before}
+use Rattle.idl_declared_types.proofs.PlacesFilled.{here_or_before}
 use Rattle.nd_lemmas.proofs.Lists.{item_at as some_below}
 
 -- ## One number of a list is set

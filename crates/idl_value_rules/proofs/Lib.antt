@@ -9,3 +9,8 @@ pub mod CycleLower
 pub mod CountedNodes
 pub mod CountedLabels
 pub mod Passes
+pub mod Below
+pub mod Bridges
+pub mod MarkSums
+pub mod MarkLists
+pub mod CountedTypes

@@ -12,8 +12,8 @@ ghost use Rattle.idl_rule_definitions.specs.CountRules.{first_past};
 ghost use Rattle.idl_rule_definitions.specs.Noted.{noted};
 ghost use Rattle.idl_rule_definitions.specs.Found.{seen_breach};
 ghost use Rattle.idl_constructs.specs.SeenNodes.{seen_construct};
-ghost use Rattle.idl_type_numbers.specs.SeenTypes.{scene_seen};
-ghost use Rattle.idl_type_numbers.specs.SeenNumbers.{AreNumbers};
+ghost use Rattle.idl_declared_types.specs.SeenTypes.{scene_seen};
+ghost use Rattle.idl_declared_types.specs.SeenNumbers.{AreNumbers};
 ghost use Rattle.idl_value_rules.specs.SeenCounts as seen;
 ghost use Rattle.idl_value_rules.specs.SeenCounts.{numbered, one_too_many, operations_at, parts_at};
 ghost use Rattle.idl_rule_definitions.specs.Nodes as of_rules;
@@ -22,9 +22,9 @@ ghost use Rattle.idl_grammar.specs.Seen.{seen_attribute, seen_kind, seen_arm, se
 
 use idl_constructs::nodes::{Construct, Declared, Node, Nodes, Position};
 use idl_declared_types::labels::arm_attributes;
+use idl_declared_types::numbering::{Numbers, Own};
 use idl_grammar::{Arm, Attribute, AttributeKind, Case, TypeSpec};
 use idl_rule_definitions::{Finder, rule};
-use idl_type_numbers::numbering::{Numbers, Own};
 use nd_types::{BASIC_TYPES, MEMBER_LIMIT, OPERATION_LIMIT, PARAM_LIMIT, TYPE_LIMIT};
 
 /// Notes the first of the types past a limit, if there is one.

@@ -11,7 +11,7 @@ ghost use Rattle.idl_rule_definitions.specs.Scene.{Scene, Body, bodies, place_of
 ghost use Rattle.idl_rule_definitions.specs.TypeRules.{held, innermost};
 ghost use Rattle.idl_declared_types.specs.declared.kinds.Kind as kinds;
 ghost use Rattle.idl_declared_types.specs.Kinds.{type_at, type_by, seen_types, is_inside};
-ghost use Rattle.idl_type_numbers.specs.SeenTypes.{scene_seen, names_at, body_at, IsTypes};
+ghost use Rattle.idl_declared_types.specs.SeenTypes.{scene_seen, names_at, body_at, IsTypes};
 ghost use Rattle.idl_rule_definitions.specs.Noted.{noted};
 ghost use Rattle.idl_rule_definitions.specs.Found.{seen_breach};
 ghost use Rattle.idl_value_rules.specs.RestBreaches.{cycle_breaches};
@@ -21,9 +21,9 @@ ghost use Rattle.idl_value_rules.specs.Cycles.{AreKeys, AreNumbersWith, IsLeastO
 use idl_constructs::nodes::{Node, Nodes};
 use idl_cycles::{Graph, least_key};
 use idl_declared_types::kinds::{Kind, Kinds};
+use idl_declared_types::types::{BodyTypes, Types};
 use idl_rule_definitions::{Finder, rule};
 use idl_scope::Scope;
-use idl_type_numbers::types::{BodyTypes, Types};
 use nd_base::{Memory, Place};
 use std::alloc::Global;
 

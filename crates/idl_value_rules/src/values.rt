@@ -15,6 +15,7 @@ ghost use Rattle.idl_rule_definitions.specs.OthersOf.{others_of};
 ghost use Rattle.idl_rule_definitions.specs.Found.{seen_breach};
 
 use idl_constructs::nodes::Construct;
+use idl_declared_types::enum_values::number_of;
 use idl_declared_types::ranges::is_in_range;
 use idl_declared_types::typing::number;
 use idl_declared_types::written::simple_kind;
@@ -23,7 +24,6 @@ use idl_grammar::{
 };
 use idl_rule_definitions::{Finder, rule};
 use idl_scope::Scope;
-use idl_type_numbers::enum_values::number_of;
 
 /// The greatest value of an enumerator.
 const ENUMERATOR_LIMIT: i128 = 32_767;

@@ -1,3 +1,7 @@
 pub mod Fragments
 pub mod Labels
 pub mod Versions
+pub mod Reasons
+pub mod Causes
+pub mod Names
+pub mod Halves

@@ -2,7 +2,7 @@
 ghost use Rattle.std.specs.Prelude.{◌≡◌, ◌<◌, length, IfOk, IfErr};
 ghost use Rattle.nd_types.specs.declared.interface.Interface.{Interface as InterfaceValue};
 ghost use Rattle.idl_compat.specs.Comparison.{IsCompared};
-ghost use Rattle.command_compat.specs.Compat.{IsRefusal, IsDifference};
+ghost use Rattle.command_compile.specs.Compat.{IsRefusal, IsDifference};
 ghost use Rattle.library_calls.specs.Versions.{AreCompatible};
 
 use command_refusals::{CompatFault, Refusal};

@@ -8,8 +8,8 @@ ghost use Rattle.library_handles.specs.contracts.held.Held.{the_row as held_row}
 ghost use Rattle.library_handles.specs.declared.held.Held.{Held as HeldValue};
 ghost use Rattle.library_handles.specs.Owned.{handle_owns};
 
+use crate::Loose;
 use crate::held::Held;
-use raw_parts::Loose;
 use std::alloc::Global;
 use std::marker::Model;
 use std::mem::replace;

@@ -3,8 +3,8 @@
 use Rattle.std.specs.Prelude.{ℕ, List, Option, Some, ⊤}
 use Rattle.nd_base.specs.Outside.{IsContent, IsMissing}
 use Rattle.nd_types.specs.declared.interface.Interface.{Interface}
-use Rattle.lent_files.specs.declared.file.File.{File}
-use Rattle.lent_files.specs.Named.{HasBadName}
+use Rattle.library_interface.specs.declared.file.File.{File}
+use Rattle.library_interface.specs.Named.{HasBadName}
 use Rattle.command_compile.specs.Idl.{Means, IsIdlFault, IsDueFile}
 use Rattle.command_refusals.specs.declared.refusal.Refusal.{Refusal}
 use Rattle.command_refusals.specs.declared.refusal.Refusal.TheVariants.{Memory, Absent, BadIdl}

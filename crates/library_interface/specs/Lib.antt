@@ -1,1 +1,3 @@
 pub mod CompiledOf
+pub mod Named
+pub mod Held

@@ -1,17 +1,17 @@
 // An interface is compiled from files that a caller lends.
 ghost use Rattle.std.specs.Prelude.{◌≡◌, ℕ, List, Option, None, option_map, IfOk, IfErr};
-ghost use Rattle.lent_files.specs.Held.{content_under};
-ghost use Rattle.lent_files.specs.Named.{named_after, HasBadName};
-ghost use Rattle.lent_files.specs.declared.file.File.{File as FileValue};
+ghost use Rattle.library_interface.specs.Held.{content_under};
+ghost use Rattle.library_interface.specs.Named.{named_after, HasBadName};
+ghost use Rattle.library_interface.specs.declared.file.File.{File as FileValue};
 ghost use Rattle.command_refusals.specs.declared.refusal.Refusal.TheVariants as refusal;
 ghost use Rattle.library_interface.specs.CompiledOf.{IsCompiledOf, IsCompileCause, IsCompileFault};
 ghost use Rattle.library_interface.specs.declared.fault.CompileFault.TheVariants.{Refused};
 
 use crate::compiled::Compiled;
 use crate::fault::CompileFault;
+use crate::{File, LendFault, LentFiles};
 use command_compile::compile;
 use command_refusals::Refusal;
-use lent_files::{File, LendFault, LentFiles};
 use nd_types::Interface;
 use std::alloc::Global;
 

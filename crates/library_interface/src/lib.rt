@@ -1,10 +1,18 @@
-//! An interface that is compiled from files in memory, with its plan, so that it can be used as often as wanted.
+//! Files that a caller lends, as files to load from: none of their loads fails. An interface that is compiled from such files, with its plan, so that
+//! it can be used as often as wanted.
 #![tactic(auto)]
 
+mod adding;
 mod compiled;
 mod compiling;
 mod fault;
+mod file;
+mod files;
+mod lend_fault;
 
 pub use compiled::Compiled;
 pub use compiling::compile_files;
 pub use fault::CompileFault;
+pub use file::File;
+pub use files::LentFiles;
+pub use lend_fault::LendFault;

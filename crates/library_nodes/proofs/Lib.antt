@@ -3,3 +3,9 @@ mod Many
 mod Walked
 mod Single
 mod Homes
+mod Outcomes
+mod Lists
+mod Nodes
+mod Counts
+mod Graphs
+mod OneGraph

@@ -5,3 +5,7 @@ pub mod Laying
 pub mod Parts
 pub mod Contents
 pub mod Described
+pub mod Left
+pub mod Listings
+pub mod Steps
+pub mod Built

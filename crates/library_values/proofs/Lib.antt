@@ -1,3 +1,5 @@
 pub mod Decodes
 pub mod Encodes
 pub mod Requests
+mod Searching
+mod Logs

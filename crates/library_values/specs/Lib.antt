@@ -1,2 +1,4 @@
 pub mod Decoded
 pub mod Encoded
+pub mod Finding
+pub mod Logged

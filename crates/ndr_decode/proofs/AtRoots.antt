@@ -33,8 +33,8 @@ use Rattle.nd_grammar.specs.decoded.Verdict.{is_direct}
 use Rattle.ndr_decoder_laws.specs.stream.Between.{Opens}
 use Rattle.ndr_decoder_laws.proofs.stream.DirectEnds.{its_usable}
 use Rattle.ndr_decoder_laws.proofs.stream.FineTypes.{usable_fine}
-use Rattle.ndr_decoder_pending.specs.declared.stream.Stream.{Stream}
-use Rattle.ndr_decoder_pending.specs.Seen.{between_of}
+use Rattle.ndr_decoder_stream.specs.declared.stream.Stream.{Stream}
+use Rattle.ndr_decoder_stream.specs.Seen.{between_of}
 use Rattle.ndr_decode.specs.Streaming.{Stands}
 use Rattle.ndr_decode.proofs.PaidHomes.{paid_more, paid_same, roots_kept}
 use Rattle.ndr_decode.proofs.DirectReads.{direct_safe}

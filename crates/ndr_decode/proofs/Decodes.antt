@@ -28,8 +28,8 @@ use Rattle.ndr_decoder_state.specs.declared.fault.DecodeFault.TheVariants as fau
 use Rattle.ndr_decoder_laws.specs.stream.Between.{Begins}
 use Rattle.ndr_decoder_laws.proofs.stream.StreamBegins.{stream_begins}
 use Rattle.nd_grammar.specs.decoded.Verdict.{DecodingSeen, IsDecoded}
-use Rattle.ndr_decoder_pending.specs.declared.stream.Stream.{Stream}
-use Rattle.ndr_decoder_pending.specs.Seen.{between_of}
+use Rattle.ndr_decoder_stream.specs.declared.stream.Stream.{Stream}
+use Rattle.ndr_decoder_stream.specs.Seen.{between_of}
 use Rattle.ndr_decoder_laws.specs.stream.Report.{the_stream}
 use Rattle.ndr_decode.specs.Decoding.{IsFault, IsInOrder}
 use Rattle.ndr_decode.specs.Piping.{EndComes}

@@ -60,10 +60,10 @@ use Rattle.ndr_decoder_laws.proofs.stream.FewReferences.{few_next}
 use Rattle.ndr_decoder_laws.proofs.stream.Graphs.{values_stay}
 use Rattle.ndr_decoder_laws.proofs.stream.HomeFaults.{home_cut}
 use Rattle.ndr_decoder_laws.proofs.stream.StreamGrows.{head_goes}
-use Rattle.ndr_decoder_pending.specs.Ends.{HomeRan, with_reference}
-use Rattle.ndr_decoder_pending.specs.Seen.{KeepsAll, ReferenceEnds, between_of}
-use Rattle.ndr_decoder_pending.specs.declared.stream.Stream.{Stream}
-use Rattle.ndr_decoder_pending.proofs.GraphEnds.{cell_ends}
+use Rattle.ndr_decoder_stream.specs.Ends.{HomeRan, with_reference}
+use Rattle.ndr_decoder_stream.specs.Seen.{KeepsAll, ReferenceEnds, between_of}
+use Rattle.ndr_decoder_stream.specs.declared.stream.Stream.{Stream}
+use Rattle.ndr_decoder_stream.proofs.GraphEnds.{cell_ends}
 use Rattle.nd_grammar.specs.decoded.Verdict.{DecodingSeen, direct_roots, is_direct}
 use Rattle.ndr_decode.specs.Streaming.{FaultOf, HomeWhole, Reads, Stands, WentOn, cells_of, purpose_of}
 use Rattle.ndr_decode.proofs.AtRoots.{code_is, direct_is, direct_placed_safe, legal_is, planned_is}

@@ -14,8 +14,8 @@ use Rattle.nd_grammar.specs.decoded.Verdict.{DecodingSeen, IsDecoded}
 use Rattle.ndr_decoder_laws.specs.stream.Calls.{Follows}
 use Rattle.ndr_decoder_laws.proofs.stream.Joined as joined
 use Rattle.ndr_decoder_laws.proofs.stream.Reports as law
-use Rattle.ndr_decoder_pending.specs.declared.stream.Stream.{Stream}
-use Rattle.ndr_decoder_pending.proofs.Opened.{closed_length}
+use Rattle.ndr_decoder_stream.specs.declared.stream.Stream.{Stream}
+use Rattle.ndr_decoder_stream.proofs.Opened.{closed_length}
 use Rattle.ndr_decode.specs.Streaming.{WasRead, WentOn, cells_of}
 
 pub decoded_reported : (w : Setting) → IsLegalSide w → (order : Order) (source : SourceSeen) (t : DecodingSeen) (x : Stream) → WasRead w order [] [] 0 source t x

@@ -12,7 +12,7 @@ use Rattle.ndr_decoder_state.specs.declared.fault.DecodeFault.TheVariants as fau
 use Rattle.ndr_decoder_state.specs.declared.machine.Owed.{Owed}
 use Rattle.nd_grammar.specs.decoded.Verdict.{DecodingSeen}
 use Rattle.ndr_decoder_laws.specs.stream.Calls.{CutOff}
-use Rattle.ndr_decoder_pending.specs.declared.stream.Stream.{Stream}
+use Rattle.ndr_decoder_stream.specs.declared.stream.Stream.{Stream}
 use Rattle.ndr_decoder_laws.specs.stream.Report.{the_head, the_stream}
 use Rattle.ndr_decoder_laws.proofs.stream.Heads.{cut_stream, refused_stream}
 use Rattle.ndr_decode.specs.Streaming.{FaultOf, Reads, ReadsTaking}

@@ -34,3 +34,7 @@ pub mod SideReads
 pub mod Standing
 pub mod Tried
 pub mod WholeStays
+pub mod Runs
+pub mod Together
+pub mod Numbers
+mod GivenNumbers

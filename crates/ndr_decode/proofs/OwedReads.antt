@@ -25,7 +25,7 @@ use Rattle.ndr_decoder_state.specs.Seen.{owed_of}
 use Rattle.ndr_decoder_laws.specs.declared.kept.Kept.{Kept}
 use Rattle.ndr_decoder_laws.specs.stream.Between.{kept_at}
 use Rattle.ndr_decoder_laws.proofs.stream.OtherTurns.{passes_null, passes_read, disagrees}
-use Rattle.ndr_decoder_pending.specs.declared.stream.Stream.{Stream}
+use Rattle.ndr_decoder_stream.specs.declared.stream.Stream.{Stream}
 use Rattle.ndr_decode.specs.Streaming.{Reads, StandsWith, WentOn, cells_of, with_next}
 use Rattle.ndr_decode.specs.Tried.{AreTried}
 use Rattle.ndr_decode.proofs.Standing.{idle_log, idle_source, not_cut, refused_here, went_nowhere}

@@ -32,8 +32,8 @@ use Rattle.ndr_decoder_laws.specs.stream.Between.{Agrees, Between}
 use Rattle.ndr_decoder_laws.specs.stream.Parameters.{TestsPass, TestsStop, parameter_tests, with_pipes}
 use Rattle.ndr_decoder_laws.specs.stream.Report.{IsRefusedAfter}
 use Rattle.ndr_decoder_laws.proofs.stream.HeadEnds.{parameters_stop}
-use Rattle.ndr_decoder_agreements.specs.Trials.{checks_fail, is_check}
-use Rattle.ndr_decoder_agreements.proofs.Together.{run_passes, run_stops}
+use Rattle.ndr_decode.specs.Trials.{checks_fail, is_check}
+use Rattle.ndr_decode.proofs.Together.{run_passes, run_stops}
 use Rattle.nd_lemmas.proofs.Lists.{drop_length as left_length}
 
 abbrev AreChecks : List Instr → Type 0

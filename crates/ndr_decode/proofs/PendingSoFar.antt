@@ -22,8 +22,8 @@ use Rattle.ndr_decoder_state.specs.Seen.{owed_of}
 use Rattle.nd_grammar.specs.decoded.Verdict.{DecodingSeen, decoding_seen}
 use Rattle.ndr_decoder_laws.specs.stream.Between.{Agrees, Between}
 use Rattle.ndr_decoder_laws.specs.stream.Calls.{Follows, Took}
-use Rattle.ndr_decoder_pending.specs.declared.stream.Stream.{Stream}
-use Rattle.ndr_decoder_pending.specs.Seen.{pending_in}
+use Rattle.ndr_decoder_stream.specs.declared.stream.Stream.{Stream}
+use Rattle.ndr_decoder_stream.specs.Seen.{pending_in}
 use Rattle.ndr_decoder_laws.specs.stream.Report.{the_head}
 use Rattle.ndr_decode.specs.Streaming.{ArePaid, FaultOf, IsAtReferent, IsStreaming, PendingReads, ReferentReads, Stands, WentOn, WentOnTaking, cells_of, with_next, with_taken}
 use Rattle.ndr_decode.proofs.PendingTurns.{HasNext, none_due, stands_next}

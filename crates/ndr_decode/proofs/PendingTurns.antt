@@ -16,7 +16,7 @@ use Rattle.ndr_decoder_laws.specs.steps.Good.{owed}
 use Rattle.ndr_decoder_state.specs.declared.machine.Machine.{Machine}
 use Rattle.ndr_decoder_state.specs.declared.machine.Owed.{Owed}
 use Rattle.ndr_decoder_laws.specs.stream.Between.{Agrees, Between}
-use Rattle.ndr_decoder_pending.specs.declared.stream.Stream.{Stream}
+use Rattle.ndr_decoder_stream.specs.declared.stream.Stream.{Stream}
 use Rattle.ndr_decode.specs.Streaming.{StandsTaking, StandsWith, with_next, with_taken}
 
 module _ (w : Setting) (side : IsLegalSide w) (order : Order) (fetched : List ℕ) (noted : List Item) (direct : ℕ) (q : Option Owed) (x : Stream) (s : Reading) (seen : List EntryAt) (n : ℕ) where

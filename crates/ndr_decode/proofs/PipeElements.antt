@@ -47,9 +47,9 @@ use Rattle.ndr_decoder_laws.proofs.stream.FineTypes.{usable_fine}
 use Rattle.ndr_decoder_laws.specs.pipes.Pipes.{InPipe, OpensChunk, Position, at_chunk, at_elements, kids_of, read_to}
 use Rattle.ndr_decoder_laws.proofs.pipes.Elements.{elements_add, elements_begin, elements_refused}
 use Rattle.ndr_decoder_laws.proofs.pipes.ElementsEnd.{elements_end, not_whole}
-use Rattle.ndr_decoder_chunks.specs.Chunks.{HasMoved, IsAt}
-use Rattle.ndr_decoder_chunks.specs.Opening.{BeginsElements}
-use Rattle.ndr_decoder_pending.specs.Ends.{HomeRan}
+use Rattle.ndr_decoder_stream.specs.Chunks.{HasMoved, IsAt}
+use Rattle.ndr_decoder_stream.specs.Opening.{BeginsElements}
+use Rattle.ndr_decoder_stream.specs.Ends.{HomeRan}
 use Rattle.ndr_decoder_laws.specs.stream.Report.{the_stream}
 use Rattle.ndr_decode.specs.Piping.{IsInPipe, IsPipeBy}
 use Rattle.ndr_decode.specs.Streaming.{FaultOf, HomeWhole}

@@ -30,7 +30,7 @@ use Rattle.ndr_decode.specs.Piping.{ChunkComes, ElementsRead, IsAtChunk, IsAtPip
 use Rattle.ndr_decode.specs.Streaming.{FaultOf}
 use Rattle.ndr_decode.proofs.PipeOpens.{cells_many, opened_cells, pipe_opened}
 use Rattle.ndr_decode.proofs.PipeFaults.{cut_after, cut_at}
-use Rattle.ndr_decoder_chunks.proofs.Counting.{faulty}
+use Rattle.ndr_decoder_stream.proofs.Counting.{faulty}
 use Rattle.ndr_decode.proofs.Standing.{idle_log, idle_source, then_fault, took_nothing}
 
 -- Of the pipe that came next so many elements were read.

@@ -25,10 +25,10 @@ use Rattle.nd_grammar.specs.decoded.Verdict.{DecodingSeen}
 use Rattle.ndr_decoder_laws.specs.stream.Calls.{Took}
 use Rattle.ndr_decoder_laws.specs.pipes.Pipes.{InPipe, InPipes, Position, at_chunk}
 use Rattle.ndr_decoder_laws.proofs.pipes.PipesBegin.{pipe_begins}
-use Rattle.ndr_decoder_chunks.specs.Chunks.{HasMoved, IsAt}
-use Rattle.ndr_decoder_pending.specs.Ends.{HomeRan}
-use Rattle.ndr_decoder_pending.proofs.GraphEnds.{root_ends}
-use Rattle.ndr_decoder_pending.proofs.Opened.{closed_types}
+use Rattle.ndr_decoder_stream.specs.Chunks.{HasMoved, IsAt}
+use Rattle.ndr_decoder_stream.specs.Ends.{HomeRan}
+use Rattle.ndr_decoder_stream.proofs.GraphEnds.{root_ends}
+use Rattle.ndr_decoder_stream.proofs.Opened.{closed_types}
 use Rattle.ndr_decoder_laws.specs.stream.Between.{RootAdded}
 use Rattle.ndr_decode.specs.Piping.{IsBefore, IsInPipe, PipeRead}
 use Rattle.ndr_decode.proofs.Placed.{can_close, types_length}

@@ -31,15 +31,15 @@ use Rattle.ndr_decoder_laws.specs.stream.Report.{StreamCut, the_stream}
 use Rattle.ndr_decoder_laws.proofs.stream.Joined.{took_twice}
 use Rattle.ndr_decoder_laws.specs.pipes.Pipes.{InPipe, Position, at_elements, kids_of, read_to}
 use Rattle.ndr_decoder_laws.proofs.pipes.Elements.{elements_come}
-use Rattle.ndr_decoder_chunks.specs.Chunks.{AfterCount, CountRead, HasMoved}
-use Rattle.ndr_decoder_chunks.specs.Chunks as chunks
-use Rattle.ndr_decoder_chunks.specs.Opening.{BeginsElements}
+use Rattle.ndr_decoder_stream.specs.Chunks.{AfterCount, CountRead, HasMoved}
+use Rattle.ndr_decoder_stream.specs.Chunks as chunks
+use Rattle.ndr_decoder_stream.specs.Opening.{BeginsElements}
 use Rattle.ndr_decode.specs.Piping.{ChunkComes, ElementsRead, IsInPipe, IsPipeBy}
 use Rattle.ndr_decode.specs.Streaming.{FaultOf, HomeWhole}
 use Rattle.ndr_decode.proofs.HomeComes.{decoding_of}
 use Rattle.ndr_decode.proofs.PipeElements as elements
 use Rattle.ndr_decode.proofs.PipeFaults.{cut_after, cut_at}
-use Rattle.ndr_decoder_chunks.proofs.Counting.{faulty}
+use Rattle.ndr_decoder_stream.proofs.Counting.{faulty}
 use Rattle.ndr_decode.proofs.PipeOpens.{cells_many, moved_cells, pipe_ended}
 use Rattle.ndr_decode.proofs.Placed.{took_by}
 use Rattle.ndr_decode.proofs.Standing.{then_fault}

@@ -44,16 +44,16 @@ use Rattle.ndr_decoder_laws.proofs.stream.HeadEnds.{parameters_pass}
 use Rattle.ndr_decoder_laws.proofs.stream.Joined.{took_twice}
 use Rattle.ndr_decoder_laws.specs.pipes.Pipes.{InPipes, Position, pipes_due}
 use Rattle.ndr_decoder_laws.proofs.pipes.PipesBegin.{pipes_begin, pipes_end}
-use Rattle.ndr_decoder_pending.specs.declared.stream.Stream.{Stream}
-use Rattle.ndr_decoder_pending.specs.Seen.{between_of}
-use Rattle.ndr_decoder_pending.proofs.Opened.{closed_types}
+use Rattle.ndr_decoder_stream.specs.declared.stream.Stream.{Stream}
+use Rattle.ndr_decoder_stream.specs.Seen.{between_of}
+use Rattle.ndr_decoder_stream.proofs.Opened.{closed_types}
 use Rattle.ndr_decoder_laws.specs.stream.Report.{the_stream}
 use Rattle.ndr_decode.specs.Piping.{CallsPipe, ElementsRun, EndComes, IsAtPipe, IsBefore, IsPipeBy, IsPipeLine, PipeComes}
 use Rattle.ndr_decode.specs.Streaming.{FaultOf, IsSettingOf, Stands, WasRead, cells_of}
 use Rattle.ndr_decode.proofs.PaidHomes.{paid_between, roots_kept, roots_within}
 use Rattle.ndr_decode.proofs.PipeLines.{HasLine, first_line, no_pipe_line, one_run, pipe_line}
 use Rattle.ndr_decode.proofs.PipeOpens.{closed_roots}
-use Rattle.ndr_decoder_chunks.proofs.Counting.{faulty}
+use Rattle.ndr_decoder_stream.proofs.Counting.{faulty}
 use Rattle.ndr_decode.proofs.Standing.{idle_log, idle_source, then_fault, took_nothing}
 
 -- ## Lists of pipes

@@ -28,10 +28,10 @@ use Rattle.ndr_decoder_laws.specs.declared.kept.KeptRoot.{KeptRoot}
 use Rattle.ndr_decoder_laws.specs.stream.Between.{Agrees, Between, IsKeptHome, RootAdded, home_target, root_read}
 use Rattle.ndr_decoder_laws.specs.stream.Calls.{Took}
 use Rattle.ndr_decoder_laws.proofs.stream.RootEnds as law
-use Rattle.ndr_decoder_pending.specs.declared.stream.Stream.{Stream}
-use Rattle.ndr_decoder_pending.specs.Ends.{HomeRan}
-use Rattle.ndr_decoder_pending.specs.Seen.{HasOwn, KeepsAll, RootEnds, between_of, pending_in}
-use Rattle.ndr_decoder_pending.proofs.GraphEnds.{root_ends}
+use Rattle.ndr_decoder_stream.specs.declared.stream.Stream.{Stream}
+use Rattle.ndr_decoder_stream.specs.Ends.{HomeRan}
+use Rattle.ndr_decoder_stream.specs.Seen.{HasOwn, KeepsAll, RootEnds, between_of, pending_in}
+use Rattle.ndr_decoder_stream.proofs.GraphEnds.{root_ends}
 use Rattle.ndr_decode.specs.Streaming.{HomeWhole, Stands, WentOn, cells_of}
 
 pub ran : (m n : Machine) → outside n ≡ outside m → HomeRan m.builder n.builder

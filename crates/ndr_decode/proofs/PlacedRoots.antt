@@ -35,8 +35,8 @@ use Rattle.ndr_decoder_laws.specs.stream.Report.{AreCells, the_head}
 use Rattle.ndr_decoder_laws.proofs.stream.FewReferences.{few_now}
 use Rattle.ndr_decoder_laws.proofs.stream.HomeFaults.{home_cut}
 use Rattle.ndr_decoder_laws.proofs.stream.RootEnds.{root_goes}
-use Rattle.ndr_decoder_pending.specs.Seen.{KeepsAll, RootEnds, between_of}
-use Rattle.ndr_decoder_pending.specs.declared.stream.Stream.{Stream}
+use Rattle.ndr_decoder_stream.specs.Seen.{KeepsAll, RootEnds, between_of}
+use Rattle.ndr_decoder_stream.specs.declared.stream.Stream.{Stream}
 use Rattle.nd_grammar.specs.decoded.Verdict.{DecodingSeen, is_direct}
 use Rattle.ndr_decode.specs.Streaming.{FaultOf, HomeWhole, Reads, Stands, cells_of, purpose_of}
 use Rattle.ndr_decode.proofs.AtRoots.{call_is, code_is, legal_is, placed_safe, planned_is, usable_is}

@@ -33,8 +33,8 @@ use Rattle.ndr_decoder_laws.specs.declared.kept.Kept.{Kept}
 use Rattle.ndr_decoder_laws.specs.stream.Between.{Opens, home_target, kept_at}
 use Rattle.ndr_decoder_laws.specs.stream.Tests.{AllAgree}
 use Rattle.ndr_decoder_laws.proofs.stream.FineTypes.{usable_fine}
-use Rattle.ndr_decoder_pending.specs.declared.stream.Stream.{Stream}
-use Rattle.ndr_decoder_pending.specs.Seen.{CellEnds, HasOwn, IsCleared, KeepsAll, KeepsHomes, between_of, pending_in, pending_with}
+use Rattle.ndr_decoder_stream.specs.declared.stream.Stream.{Stream}
+use Rattle.ndr_decoder_stream.specs.Seen.{CellEnds, HasOwn, IsCleared, KeepsAll, KeepsHomes, between_of, pending_in, pending_with}
 use Rattle.ndr_decoder_laws.specs.stream.Report.{the_head}
 use Rattle.ndr_decode.specs.Streaming.{ArePaid, FaultOf, HomeWhole, StandsWith, WentOnTaking, cells_of, purpose_of, with_next}
 use Rattle.ndr_decode.specs.Tried.{AreTried}

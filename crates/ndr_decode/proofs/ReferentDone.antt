@@ -35,10 +35,10 @@ use Rattle.ndr_decoder_laws.specs.declared.kept.KeptRoot.{KeptRoot}
 use Rattle.ndr_decoder_laws.specs.stream.Between.{Agrees, Between, CellFilled, CellKept, IsKeptHome, cell_read, home_target, kept_at}
 use Rattle.ndr_decoder_laws.specs.stream.Tests.{AllAgree}
 use Rattle.ndr_decoder_laws.proofs.stream.ReferentEnds as law
-use Rattle.ndr_decoder_pending.specs.declared.stream.Stream.{Stream}
-use Rattle.ndr_decoder_pending.specs.Ends.{HomeRan}
-use Rattle.ndr_decoder_pending.specs.Seen.{CellEnds, HasOwn, IsCleared, KeepsAll, KeepsHomes, between_of, pending_in, pending_with}
-use Rattle.ndr_decoder_pending.proofs.GraphEnds.{cell_ends}
+use Rattle.ndr_decoder_stream.specs.declared.stream.Stream.{Stream}
+use Rattle.ndr_decoder_stream.specs.Ends.{HomeRan}
+use Rattle.ndr_decoder_stream.specs.Seen.{CellEnds, HasOwn, IsCleared, KeepsAll, KeepsHomes, between_of, pending_in, pending_with}
+use Rattle.ndr_decoder_stream.proofs.GraphEnds.{cell_ends}
 use Rattle.ndr_decode.specs.Streaming.{ArePaid, HomeWhole, StandsWith, WentOnTaking, cells_of, with_next, with_taken}
 use Rattle.ndr_decode.proofs.OwedReads.{agreements_are, cell_is}
 use Rattle.ndr_decode.proofs.Placed.{can_close, kept_of, ran, took_by, types_length}

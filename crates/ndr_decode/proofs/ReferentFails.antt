@@ -30,8 +30,8 @@ use Rattle.ndr_decoder_laws.specs.stream.Report.{AreCells, IsRefusedAfter, the_h
 use Rattle.ndr_decoder_laws.proofs.stream.FewReferences.{few_now}
 use Rattle.ndr_decoder_laws.proofs.stream.HomeFaults.{home_cut}
 use Rattle.ndr_decoder_laws.proofs.stream.ReferentEnds as law
-use Rattle.ndr_decoder_pending.specs.declared.stream.Stream.{Stream}
-use Rattle.ndr_decoder_pending.specs.Seen.{between_of}
+use Rattle.ndr_decoder_stream.specs.declared.stream.Stream.{Stream}
+use Rattle.ndr_decoder_stream.specs.Seen.{between_of}
 use Rattle.ndr_decode.specs.Streaming.{HomeWhole, StandsWith, with_next}
 use Rattle.ndr_decode.specs.Tried.{IsFirst}
 use Rattle.ndr_decode.proofs.OwedReads.{agreements_are, cell_is}

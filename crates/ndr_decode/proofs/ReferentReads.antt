@@ -42,8 +42,8 @@ use Rattle.ndr_decoder_laws.specs.stream.Between.{Agrees, Opens, home_target, ke
 use Rattle.ndr_decoder_laws.proofs.stream.FewReferences.{few_now}
 use Rattle.ndr_decoder_laws.proofs.stream.HomeBegins.{home_begins}
 use Rattle.ndr_decoder_laws.proofs.stream.ReferentEnds as law
-use Rattle.ndr_decoder_pending.specs.declared.stream.Stream.{Stream}
-use Rattle.ndr_decoder_pending.specs.Seen.{between_of}
+use Rattle.ndr_decoder_stream.specs.declared.stream.Stream.{Stream}
+use Rattle.ndr_decoder_stream.specs.Seen.{between_of}
 use Rattle.ndr_decoder_laws.specs.stream.Report.{the_head}
 use Rattle.ndr_decode.specs.Streaming.{FaultOf, HomeWhole, StandsWith, cells_of, with_next}
 use Rattle.ndr_decode.proofs.HomeComes.{whole_comes, fault_comes, decoding_of}

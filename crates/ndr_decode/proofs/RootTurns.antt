@@ -31,8 +31,8 @@ use Rattle.nd_grammar.specs.decoded.Verdict.{DecodingSeen, decoding_seen}
 use Rattle.ndr_decoder_laws.specs.stream.Between.{Begins}
 use Rattle.ndr_decoder_laws.specs.stream.Calls.{Follows}
 use Rattle.ndr_decoder_laws.proofs.stream.StreamBegins.{stream_begins}
-use Rattle.ndr_decoder_pending.specs.declared.stream.Stream.{Stream}
-use Rattle.ndr_decoder_pending.specs.Seen.{between_of}
+use Rattle.ndr_decoder_stream.specs.declared.stream.Stream.{Stream}
+use Rattle.ndr_decoder_stream.specs.Seen.{between_of}
 use Rattle.ndr_decoder_laws.specs.stream.Report.{the_head}
 use Rattle.ndr_decode.specs.declared.roots.Found.{Found}
 use Rattle.ndr_decode.specs.Streaming.{FaultOf, IsAtRoot, IsSettingOf, IsStreaming, PendingReads, RootReads, RootsRead, Stands, WentOn, WentThrough, cells_of}

@@ -21,8 +21,8 @@ use Rattle.ndr_code.specs.declared.instr.Instr.TheVariants as op
 use Rattle.ndr_code.specs.declared.plan.Plan.{Plan}
 use Rattle.ndr_code.proofs.SideRuns.{checks_run_at}
 use Rattle.ndr_decoder_value.specs.Parts.{IsTried}
-use Rattle.ndr_decoder_agreements.specs.Trials.{AreKeepable, check_fails, checks_fail, failing, first_of, is_check}
-use Rattle.ndr_decoder_agreements.proofs.Numbers.{kept_keepable}
+use Rattle.ndr_decode.specs.Trials.{AreKeepable, check_fails, checks_fail, failing, first_of, is_check}
+use Rattle.ndr_decode.proofs.Numbers.{kept_keepable}
 use Rattle.ndr_decoder_state.specs.declared.fault.DecodeFault.{DecodeFault}
 use Rattle.ndr_decoder_state.specs.declared.fault.DecodeFault.TheVariants as fault
 use Rattle.ndr_decoder_laws.specs.declared.kept.Kept.{Kept}
@@ -31,8 +31,8 @@ use Rattle.ndr_decoder_laws.specs.stream.Calls.{Follows}
 use Rattle.ndr_code.specs.Tried.{given_number}
 use Rattle.ndr_decoder_laws.specs.stream.Parameters.{TestsPass, parameter_tests, root_number, root_subject}
 use Rattle.nd_grammar.specs.decoded.Verdict.{DecodingSeen}
-use Rattle.ndr_decoder_pending.specs.declared.stream.Stream.{Stream}
-use Rattle.ndr_decoder_pending.specs.Seen.{between_of}
+use Rattle.ndr_decoder_stream.specs.declared.stream.Stream.{Stream}
+use Rattle.ndr_decoder_stream.specs.Seen.{between_of}
 use Rattle.ndr_decoder_laws.specs.stream.Report.{the_head, the_stream}
 use Rattle.ndr_decode.specs.Piping.{EndComes, IsAtPipes, StreamEnds}
 use Rattle.ndr_decode.specs.Streaming.{FaultOf, IsSettingOf, Stands, WentOn, WentThrough, cells_of}

@@ -34,12 +34,12 @@ use Rattle.ndr_decoder_laws.specs.stream.Tests.{disagreement}
 use Rattle.ndr_decoder_laws.proofs.stream.FewReferences.{few_now}
 use Rattle.ndr_decoder_laws.proofs.stream.Joined.{took_twice, took_then_refused, took_then_unread, took_then_cut}
 use Rattle.ndr_decoder_laws.proofs.stream.StreamGrows.{head_goes}
-use Rattle.ndr_decoder_pending.specs.declared.stream.Stream.{Stream}
+use Rattle.ndr_decoder_stream.specs.declared.stream.Stream.{Stream}
 use Rattle.ndr_decoder_state.specs.declared.fault.DecodeFault.{DecodeFault}
 use Rattle.ndr_decoder_state.specs.declared.fault.DecodeFault.TheVariants as fault
 use Rattle.ndr_decoder_state.specs.declared.machine.Owed.{Owed}
 use Rattle.ndr_decode.specs.Streaming.{FaultOf, Stands, StandsTaking, WentOn, WentOnTaking, cells_of}
-use Rattle.ndr_decoder_chunks.proofs.Counting.{none_noted}
+use Rattle.ndr_decoder_stream.proofs.Counting.{none_noted}
 
 -- ## Nothing is read
 

@@ -36,10 +36,10 @@ use Rattle.nd_grammar.specs.decoded.Verdict.{DecodingSeen, direct_roots}
 use Rattle.ndr_decoder_laws.specs.stream.Calls.{Took}
 use Rattle.ndr_decoder_laws.specs.stream.Parameters.{TestsPass, parameter_tests}
 use Rattle.ndr_decoder_laws.specs.pipes.Pipes.{InPipe, InPipes, Position, at_chunk}
-use Rattle.ndr_decoder_chunks.specs.Chunks.{IsAt}
-use Rattle.ndr_decoder_pending.specs.declared.stream.Stream.{Stream}
-use Rattle.ndr_decoder_pending.specs.Ends.{HomeRan}
-use Rattle.ndr_decoder_pending.specs.Seen.{between_of}
+use Rattle.ndr_decoder_stream.specs.Chunks.{IsAt}
+use Rattle.ndr_decoder_stream.specs.declared.stream.Stream.{Stream}
+use Rattle.ndr_decoder_stream.specs.Ends.{HomeRan}
+use Rattle.ndr_decoder_stream.specs.Seen.{between_of}
 use Rattle.ndr_decoder_laws.specs.stream.Report.{the_stream}
 use Rattle.ndr_decode.specs.Streaming.{FaultOf, IsSettingOf, Purpose, Stands, WasRead, cells_of}
 

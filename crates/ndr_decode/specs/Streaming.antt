@@ -35,8 +35,8 @@ use Rattle.nd_grammar.specs.decoded.Verdict.{DecodingSeen}
 use Rattle.ndr_decoder_laws.specs.stream.Between.{Agrees, AreNeeded, Between}
 use Rattle.ndr_decoder_laws.specs.stream.Calls.{Took, Refused, CutOff, Unread}
 use Rattle.ndr_decoder_laws.specs.stream.Report.{Extent, the_head}
-use Rattle.ndr_decoder_pending.specs.declared.stream.Stream.{Stream}
-use Rattle.ndr_decoder_pending.specs.Seen.{between_of, pending_with}
+use Rattle.ndr_decoder_stream.specs.declared.stream.Stream.{Stream}
+use Rattle.ndr_decoder_stream.specs.Seen.{between_of, pending_with}
 use Rattle.ndr_decode.specs.declared.roots.Found.{Found}
 use Rattle.nd_flat.specs.Building.{Building, CanClose, closed}
 

@@ -12,14 +12,12 @@ ghost use Rattle.ndr_decode.specs.Piping.{CallsPipe, ChunkReads, ElementsRun, Is
 ghost use Rattle.ndr_decode.specs.Streaming.{purpose_of};
 
 use crate::homes::read_home;
-use nd_base::{Ledger, Order, Source, Steps};
+use nd_base::{Intake, Ledger, Order, Source, Steps};
 use nd_types::Side;
 use nd_value::ItemLog;
 use ndr_code::{Instr, Plan, PlanLine};
-use ndr_decoder_chunks::{begin_elements, chunk_count, open_pipe};
-use ndr_decoder_input::Intake;
-use ndr_decoder_pending::Stream;
 use ndr_decoder_state::{DecodeFault, Machine};
+use ndr_decoder_stream::{Stream, begin_elements, chunk_count, open_pipe};
 
 // Reads the pipes of a side: those of the lines from `line` on.
 pub(crate) fn read_pipes<S: Source, L: Ledger>(

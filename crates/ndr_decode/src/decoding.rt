@@ -11,22 +11,21 @@ ghost use Rattle.nd_grammar.specs.LegalSide.{IsLegalSide};
 ghost use Rattle.ndr_decoder_state.specs.declared.fault.DecodeFault.TheVariants.{ReadFault};
 ghost use Rattle.nd_grammar.specs.decoded.Verdict.{IsDecoded, decoding_seen};
 ghost use Rattle.ndr_decoder_laws.specs.stream.Between.{Begins};
-ghost use Rattle.ndr_decoder_pending.specs.Seen.{between_of};
+ghost use Rattle.ndr_decoder_stream.specs.Seen.{between_of};
 ghost use Rattle.ndr_decode.specs.Decoding.{IsFault, IsInOrder};
 ghost use Rattle.ndr_decode.specs.Piping.{EndComes};
 ghost use Rattle.ndr_decode.specs.Streaming.{IsSettingOf, cells_of, purpose_of};
 
 use crate::chunks::read_pipes;
 use crate::roots::read_roots;
-use nd_base::{Ledger, Order, Source, Steps};
+use crate::try_parameters;
+use nd_base::{Intake, Ledger, Order, Source, Steps};
 use nd_flat::{Builder, Fit, Given};
 use nd_types::Side;
 use nd_value::ItemLog;
 use ndr_code::Plan;
-use ndr_decoder_agreements::try_parameters;
-use ndr_decoder_input::Intake;
-use ndr_decoder_pending::Stream;
 use ndr_decoder_state::{DecodeFault, Machine};
+use ndr_decoder_stream::Stream;
 use std::alloc::Global;
 
 /// What a stream was decoded to.

@@ -8,10 +8,9 @@ ghost use Rattle.ndr_decoder_state.specs.Notes.{notes_seen};
 ghost use Rattle.ndr_decoder_state.specs.Seen.{outside, state_of};
 ghost use Rattle.ndr_decoder_laws.specs.steps.Steps.{State};
 
-use nd_base::{Ledger, Order, Source, Steps};
+use nd_base::{Intake, Ledger, Order, Source, Steps};
 use nd_value::ItemLog;
 use ndr_code::Plan;
-use ndr_decoder_input::Intake;
 use ndr_decoder_state::{DecodeFault, Machine};
 use ndr_decoder_value::run;
 

@@ -11,18 +11,17 @@ ghost use Rattle.ndr_code.specs.declared.instr.Instr.{Instr};
 ghost use Rattle.ndr_code.specs.declared.instr.Instr.TheVariants as op;
 ghost use Rattle.nd_grammar.specs.decoded.Verdict.{decoding_seen};
 ghost use Rattle.ndr_decoder_laws.specs.stream.Between.{Begins};
-ghost use Rattle.ndr_decoder_pending.specs.Seen.{between_of};
+ghost use Rattle.ndr_decoder_stream.specs.Seen.{between_of};
 ghost use Rattle.ndr_decode.specs.Streaming.{IsAtRoot, RootReads, RootsRead, purpose_of};
 
 use crate::homes::read_home;
 use crate::worklist::read_pending;
-use nd_base::{Ledger, Order, Source, Steps};
+use nd_base::{Intake, Ledger, Order, Source, Steps};
 use nd_types::{Side, TypeId};
 use nd_value::ItemLog;
 use ndr_code::{Instr as Code, Plan, PlanLine};
-use ndr_decoder_input::Intake;
-use ndr_decoder_pending::Stream;
 use ndr_decoder_state::DecodeFault;
+use ndr_decoder_stream::Stream;
 
 // Where the run of the agreements is, and the number of the line after it.
 #[derive(Clone, Copy, Debug, PartialEq, Eq)]

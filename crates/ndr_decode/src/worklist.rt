@@ -9,14 +9,13 @@ ghost use Rattle.ndr_decode.specs.Streaming.{ArePaid, IsAtReferent, IsStreaming,
 ghost use Rattle.ndr_decode.specs.Tried.{AreTried};
 
 use crate::homes::read_home;
-use nd_base::{Ledger, Order, Source, Steps};
+use nd_base::{Intake, Ledger, Order, Source, Steps};
 use nd_types::Class;
 use nd_value::{CellId, ItemLog};
 use ndr_code::Plan;
-use ndr_decoder_input::Intake;
 use ndr_decoder_laws::Kept;
-use ndr_decoder_pending::Stream;
 use ndr_decoder_state::{DecodeFault, Owed, Wanted};
+use ndr_decoder_stream::Stream;
 use ndr_decoder_value::try_in;
 
 // Reads what is pending, one referent after the other, each followed by those that it makes due.

@@ -2,12 +2,11 @@
 -- `ps` are the members of a struct by their primitives, `at` is a place, `count` how many elements there are, `len` how many octets they have, `s`
 -- is a state.
 use Rattle.std.specs.Prelude.{◌≡◌, ◌≤◌, ◌<◌, ℕ, ◌+◌, ◌-◌, ◌%◌, List, length, map}
-use Rattle.nd_base.specs.declared.TheConstants.{STREAM_LIMIT}
+use Rattle.nd_base.specs.declared.TheConstants.{STREAM_LIMIT, PIECE}
 use Rattle.nd_types.specs.declared.types.Primitive.{Primitive}
 use Rattle.nd_types.specs.Table.{width}
 use Rattle.nd_flat.specs.Records.{widest_from, records_len}
 use Rattle.ndr_code.specs.declared.instr.Instr.{Instr}
-use Rattle.ndr_decoder_input.specs.declared.TheConstants.{PIECE}
 use Rattle.ndr_decoder_laws.specs.declared.frame.Frame.{Frame}
 use Rattle.ndr_decoder_laws.specs.declared.frame.Frame.TheVariants as frame
 use Rattle.ndr_decoder_laws.specs.steps.Steps.{State}

@@ -6,10 +6,9 @@ ghost use Rattle.ndr_decoder_state.specs.Seen.{state_of};
 ghost use Rattle.ndr_decoder_fast.specs.Elements.{AreElements, HaveRoom};
 
 use crate::members::members_at;
-use nd_base::STREAM_LIMIT;
+use nd_base::{PIECE, STREAM_LIMIT};
 use nd_flat::Members;
 use ndr_code::{Code, Instr};
-use ndr_decoder_input::PIECE;
 use ndr_decoder_laws::Frame;
 use ndr_decoder_state::Machine;
 

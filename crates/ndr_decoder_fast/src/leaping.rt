@@ -14,9 +14,8 @@ use crate::records::leap_records;
 use crate::room::make_room;
 use crate::strings::leap_string;
 use crate::structs::leap_struct;
-use nd_base::{Ledger, Order, Source, Steps};
+use nd_base::{Intake, Ledger, Order, Source, Steps};
 use ndr_code::{Code, EnumLists, Form, Instr};
-use ndr_decoder_input::Intake;
 use ndr_decoder_laws::Frame;
 use ndr_decoder_state::Machine;
 

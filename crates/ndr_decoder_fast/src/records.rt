@@ -17,10 +17,9 @@ ghost use Rattle.ndr_decoder_fast.specs.Leaps.{Leaps};
 use crate::LeapFault;
 use crate::elements::{Elements, elements_here};
 use crate::octets::are_octets;
-use nd_base::{Ledger, Memory, Order, Source, Steps};
+use nd_base::{Intake, Ledger, Memory, Order, Source, Steps};
 use nd_flat::{Builder, Records};
 use ndr_code::{Code, EnumLists, Instr};
-use ndr_decoder_input::Intake;
 use ndr_decoder_laws::Frame;
 use ndr_decoder_state::{Machine, Phase};
 

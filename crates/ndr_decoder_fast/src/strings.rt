@@ -12,10 +12,9 @@ ghost use Rattle.ndr_decoder_fast.specs.Strings.{CountCame, MaxCame, IsAtString,
 use crate::octets::at_hand;
 use crate::zeros::refused_at;
 use crate::{LeapFault, TextReason};
-use nd_base::{Ledger, Order, STREAM_LIMIT, Source, Steps};
+use nd_base::{Intake, Ledger, Order, STREAM_LIMIT, Source, Steps};
 use nd_flat::Seen;
 use ndr_code::{Code, EnumLists, Instr};
-use ndr_decoder_input::Intake;
 use ndr_decoder_laws::Frame;
 use ndr_decoder_state::{Machine, Phase, gap_before, read_count};
 

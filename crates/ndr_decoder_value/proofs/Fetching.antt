@@ -4,9 +4,9 @@ use Rattle.std.proofs.Common.{◌≡◌, ◌≤◌, ◌<◌, ℕ, ◌+◌, ◌-�
 use Rattle.std.proofs.lemmas.Bool.{cases_lt}
 use Rattle.nd_base.specs.declared.TheConstants.{STREAM_LIMIT}
 use Rattle.nd_base.specs.Over.{SourceSeen}
-use Rattle.ndr_decoder_input.specs.declared.intake.IntakeFault.{IntakeFault}
-use Rattle.ndr_decoder_input.specs.declared.intake.IntakeFault.TheVariants as intake
-use Rattle.ndr_decoder_input.specs.Intake.{IsItemFault}
+use Rattle.nd_base.specs.declared.intake.IntakeFault.{IntakeFault}
+use Rattle.nd_base.specs.declared.intake.IntakeFault.TheVariants as intake
+use Rattle.nd_base.specs.Intake.{IsItemFault}
 use Rattle.ndr_decoder_laws.specs.steps.Steps.{Want, no_octets, gap_of, item_of}
 use Rattle.ndr_decoder_laws.specs.steps.Good.{HasOctets, IsCut}
 use Rattle.ndr_decoder_value.specs.declared.steps.Want.TheVariants as want

@@ -4,7 +4,7 @@ use Rattle.std.proofs.Common.{◌≡◌, ◌<◌, ◌≤◌, ℕ, ◌+◌, ◌-�
 use Rattle.std.specs.Prelude.{slice_get}
 use Rattle.std.specs.Io.KnownBytes.{Consumes}
 use Rattle.nd_base.specs.declared.octets.Order.{Order}
-use Rattle.nd_base.specs.declared.TheConstants.{STREAM_LIMIT}
+use Rattle.nd_base.specs.declared.TheConstants.{STREAM_LIMIT, PIECE}
 use Rattle.nd_base.specs.Over.{SourceSeen}
 use Rattle.nd_types.specs.declared.types.Primitive.{Primitive}
 use Rattle.nd_types.specs.declared.types.Primitive.TheVariants.{Boolean, Char, Byte, Small, UnsignedSmall, Short, UnsignedShort, Long, UnsignedLong, Hyper, UnsignedHyper}
@@ -16,10 +16,9 @@ use Rattle.nd_value.specs.declared.item.Item.{Item}
 use Rattle.ndr_code.specs.declared.instr.Instr.{Instr}
 use Rattle.ndr_code.specs.declared.instr.Instr.TheVariants as op
 use Rattle.ndr_code.specs.declared.lists.EnumList.{EnumList}
-use Rattle.ndr_decoder_input.specs.declared.intake.IntakeFault.{IntakeFault}
-use Rattle.ndr_decoder_input.specs.declared.intake.IntakeFault.TheVariants as intake
-use Rattle.ndr_decoder_input.specs.declared.TheConstants.{PIECE}
-use Rattle.ndr_decoder_input.specs.Intake.{IsItemFault}
+use Rattle.nd_base.specs.declared.intake.IntakeFault.{IntakeFault}
+use Rattle.nd_base.specs.declared.intake.IntakeFault.TheVariants as intake
+use Rattle.nd_base.specs.Intake.{IsItemFault}
 use Rattle.ndr_decoder_laws.specs.steps.Steps.{State, goes, item_of}
 use Rattle.ndr_code.specs.Fields.{prim_of}
 use Rattle.ndr_decoder_laws.specs.runs.Rows.{IsInRow, row_items, row_read}

@@ -13,8 +13,8 @@ use Rattle.nd_grammar.specs.declared.reason.Reason.{Reason}
 use Rattle.nd_grammar.specs.declared.reason.Reason.TheVariants as reason
 use Rattle.ndr_code.specs.declared.instr.Instr.{Instr}
 use Rattle.ndr_code.specs.declared.lists.EnumList.{EnumList}
-use Rattle.ndr_decoder_input.specs.declared.intake.IntakeFault.{IntakeFault}
-use Rattle.ndr_decoder_input.specs.declared.intake.IntakeFault.TheVariants as intake
+use Rattle.nd_base.specs.declared.intake.IntakeFault.{IntakeFault}
+use Rattle.nd_base.specs.declared.intake.IntakeFault.TheVariants as intake
 use Rattle.ndr_decoder_laws.specs.steps.Steps.{State, Want, refused, whole, wants, step}
 use Rattle.ndr_decoder_laws.specs.steps.StepItems.{step_items}
 use Rattle.ndr_decoder_laws.specs.steps.Good.{HasOctets, IsCut, IsTooLong}

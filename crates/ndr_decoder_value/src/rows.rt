@@ -1,8 +1,7 @@
 // Runs of numbers of one primitive, fetched and built in one go.
 ghost use Rattle.std.specs.Prelude.{◌≡◌, ◌<◌, ◌≤◌, ◌+◌, ◌-◌, ◌*◌, ◌%◌, ◌^◌, length, true, Some, slice_get, IfErr, OnOk, OnErr};
 ghost use Rattle.nd_types.specs.Table.{width};
-ghost use Rattle.nd_base.specs.declared.TheConstants.{STREAM_LIMIT};
-ghost use Rattle.ndr_decoder_input.specs.declared.TheConstants.{PIECE};
+ghost use Rattle.nd_base.specs.declared.TheConstants.{STREAM_LIMIT, PIECE};
 ghost use Rattle.nd_flat.specs.Building.{with_numbers};
 ghost use Rattle.nd_flat.specs.FlatForm.{IsRow, row_numbers};
 ghost use Rattle.ndr_code.specs.declared.instr.Instr.TheVariants as op;
@@ -13,12 +12,11 @@ ghost use Rattle.ndr_decoder_laws.specs.runs.Rows.{row_read, HasLeft, with_fewer
 ghost use Rattle.ndr_decoder_state.specs.Notes.{notes_seen};
 ghost use Rattle.ndr_decoder_value.specs.Notes.{RowNoted};
 
-use nd_base::{Ledger, Memory, Order, STREAM_LIMIT, Steps};
+use nd_base::{Ledger, Memory, Order, PIECE, STREAM_LIMIT, Steps};
 use nd_flat::{Builder, Row};
 use nd_types::{Prim, TypeId};
 use nd_value::{ItemKind, ItemLog};
 use ndr_code::{Code, Instr};
-use ndr_decoder_input::PIECE;
 use ndr_decoder_laws::Frame;
 use ndr_decoder_state::{DecodeFault, Machine, Phase};
 use ndr_prim::{read_num, width_of};

@@ -3,11 +3,10 @@ ghost use Rattle.std.specs.Prelude.{◌≡◌, ◌<◌, ◌≤◌, ◌^◌, ◌%
 ghost use Rattle.std.specs.Prelude.{IfOk, IfErr, Ok};
 ghost use Rattle.std.specs.Io.KnownBytes.{Consumes};
 ghost use Rattle.nd_base.specs.Over.{source_seen};
-ghost use Rattle.nd_base.specs.declared.TheConstants.{STREAM_LIMIT};
+ghost use Rattle.nd_base.specs.declared.TheConstants.{STREAM_LIMIT, PIECE};
 ghost use Rattle.nd_types.specs.Number.{AreOctets};
 ghost use Rattle.nd_types.specs.Table.{width};
 ghost use Rattle.nd_value.specs.declared.item.Item.{Item};
-ghost use Rattle.ndr_decoder_input.specs.declared.TheConstants.{PIECE};
 ghost use Rattle.ndr_code.specs.declared.instr.Instr.TheVariants as op;
 ghost use Rattle.ndr_decoder_laws.specs.steps.Steps.{State, IsInner, wants};
 ghost use Rattle.ndr_code.specs.Fields.{prim_of};
@@ -24,13 +23,12 @@ ghost use Rattle.ndr_decoder_value.specs.Reaching.{Ends, Turns, Fetches, stream_
 
 use crate::rows::{note_row, read_row, row_len};
 use crate::steps::{Want, is_flow, is_quick, pass_quick, take_flow, take_step, wanted};
-use nd_base::{Ledger, Order, STREAM_LIMIT, Source, Steps};
+use nd_base::{Intake, IntakeFault, Ledger, Order, STREAM_LIMIT, Source, Steps};
 use nd_grammar::Reason;
 use nd_types::{Prim, TypeId};
 use nd_value::ItemLog;
 use ndr_code::{Code, EnumLists, Instr, prim_of};
 use ndr_decoder_fast::{LeapFault, gap_to, leap};
-use ndr_decoder_input::{Intake, IntakeFault};
 use ndr_decoder_laws::Frame;
 use ndr_decoder_state::{DecodeFault, Machine, Progress};
 use ndr_prim::width_of;

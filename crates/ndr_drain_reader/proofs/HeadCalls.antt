@@ -32,8 +32,8 @@ use Rattle.ndr_decoder_laws.proofs.stream.Heads.{stream_stays}
 use Rattle.ndr_decoder_laws.proofs.stream.Reports as reports
 use Rattle.ndr_drain_laws.specs.parts.Parts.{BadHead}
 use Rattle.ndr_drain_laws.specs.heads.Heads.{HeadThrough, head_tested}
-use Rattle.ndr_decoder_pending.specs.declared.stream.Stream.{Stream}
-use Rattle.ndr_decoder_pending.specs.Seen.{between_of}
+use Rattle.ndr_decoder_stream.specs.declared.stream.Stream.{Stream}
+use Rattle.ndr_decoder_stream.specs.Seen.{between_of}
 use Rattle.ndr_decode.specs.Streaming.{FaultOf, Purpose, cells_of}
 use Rattle.ndr_decode.proofs.Decodes.{purpose_by}
 use Rattle.ndr_decode.proofs.Placed.{types_length}

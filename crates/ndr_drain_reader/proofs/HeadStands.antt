@@ -31,8 +31,8 @@ use Rattle.ndr_decoder_laws.specs.stream.Parameters.{parameter_tests, pipes_from
 use Rattle.ndr_decoder_laws.proofs.stream.FewReferences.{few_now}
 use Rattle.ndr_decoder_laws.proofs.stream.HeadEnds.{parameters_pass}
 use Rattle.ndr_decoder_laws.proofs.stream.StreamGrows.{pipes_go}
-use Rattle.ndr_decoder_pending.specs.declared.stream.Stream.{Stream}
-use Rattle.ndr_decoder_pending.specs.Seen.{between_of}
+use Rattle.ndr_decoder_stream.specs.declared.stream.Stream.{Stream}
+use Rattle.ndr_decoder_stream.specs.Seen.{between_of}
 use Rattle.ndr_decode.specs.Streaming.{cells_of}
 use Rattle.ndr_decode.proofs.Placed.{types_length}
 use Rattle.ndr_drain_laws.specs.heads.Heads.{HeadRead, head_graph, head_tested, roots_read}

@@ -20,9 +20,9 @@ use Rattle.ndr_decoder_state.specs.declared.fault.DecodeFault.TheVariants as fau
 use Rattle.ndr_decoder_state.specs.declared.machine.Machine.{Machine}
 use Rattle.ndr_decoder_laws.specs.steps.StepItems.{gap_items}
 use Rattle.nd_grammar.specs.decoded.Verdict.{DecodingSeen, HasNoted}
-use Rattle.ndr_decoder_chunks.specs.Chunks.{HasMoved}
-use Rattle.ndr_decoder_chunks.specs.Counted.{ChunkCounted, ChunkStopped, count_item_at, in_the_count, in_the_gap}
-use Rattle.ndr_decoder_chunks.specs.Fetched.{CountBad, CountCame, GapBad, GapCame}
+use Rattle.ndr_decoder_stream.specs.Chunks.{HasMoved}
+use Rattle.ndr_decoder_stream.specs.Counted.{ChunkCounted, ChunkStopped, count_item_at, in_the_count, in_the_gap}
+use Rattle.ndr_decoder_stream.specs.Fetched.{CountBad, CountCame, GapBad, GapCame}
 use Rattle.ndr_decode.proofs.HomeComes.{noted_as}
 use Rattle.ndr_drain_laws.specs.parts.Parts.{Spot}
 use Rattle.ndr_drain_laws.specs.reader.PartReader.{IsAtPipe, after_count, header_items, pipe_home}

@@ -49,9 +49,9 @@ use Rattle.ndr_decoder_laws.specs.stream.Between.{AreNeeded}
 use Rattle.ndr_decoder_laws.specs.stream.Calls.{Follows}
 use Rattle.nd_grammar.specs.decoded.Verdict.{DecodingSeen, HasNoted, with_items}
 use Rattle.ndr_decoder_value.specs.Reaching.{End, EndsBad, EndsFault, EndsWhole, IsLogged, IsLoggedPart}
-use Rattle.ndr_decoder_chunks.specs.Chunks.{HasMoved}
-use Rattle.ndr_decoder_chunks.specs.Counted.{ChunkCounted}
-use Rattle.ndr_decoder_chunks.specs.Opening.{BeginsElements}
+use Rattle.ndr_decoder_stream.specs.Chunks.{HasMoved}
+use Rattle.ndr_decoder_stream.specs.Counted.{ChunkCounted}
+use Rattle.ndr_decoder_stream.specs.Opening.{BeginsElements}
 use Rattle.ndr_decode.specs.Piping.{IsPipeBy}
 use Rattle.ndr_decode.specs.Streaming.{HomeWhole}
 use Rattle.ndr_decode.proofs.AtRoots.{planned_is}

@@ -15,8 +15,8 @@ use Rattle.nd_grammar.specs.decoded.Verdict.{DecodingSeen}
 use Rattle.ndr_decoder_laws.specs.stream.Calls.{Took}
 use Rattle.ndr_decoder_laws.specs.stream.Parameters.{TestsPass, parameter_tests}
 use Rattle.ndr_decoder_laws.specs.stream.Report.{the_head}
-use Rattle.ndr_decoder_pending.specs.declared.stream.Stream.{Stream}
-use Rattle.ndr_decoder_pending.specs.Seen.{between_of}
+use Rattle.ndr_decoder_stream.specs.declared.stream.Stream.{Stream}
+use Rattle.ndr_decoder_stream.specs.Seen.{between_of}
 use Rattle.ndr_decode.specs.Streaming.{FaultOf, Purpose, Stands, cells_of}
 use Rattle.ndr_drain_laws.specs.parts.Parts.{empty_pipe}
 

@@ -8,11 +8,10 @@ ghost use Rattle.ndr_drain_reader.specs.Seen.{intake_seen};
 
 use crate::pipes::find_pipes;
 use crate::{Intake, Phase};
-use nd_base::{Memory, Order};
+use nd_base::{Intake as Buffer, Memory, Order};
 use nd_flat::Builder;
 use nd_types::Side;
 use ndr_code::Plan;
-use ndr_decoder_input::Intake as Buffer;
 use std::alloc::Global;
 
 // An intake of which nothing was read.

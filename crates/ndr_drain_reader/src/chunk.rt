@@ -15,14 +15,13 @@ use crate::elements::elements_of;
 use crate::handing::{count_steps, hand_on};
 use crate::passing::{next_run, pass_elements, pass_end};
 use crate::{DecodeFault, Intake};
-use nd_base::{Counted, Ledger, Order, Source, Steps};
+use nd_base::{Counted, Intake as Buffer, Ledger, Order, Source, Steps};
 use nd_flat::Builder;
 use nd_value::{Home, ItemLog, Vals};
 use ndr_code::Plan;
 use ndr_decode::read_home;
-use ndr_decoder_chunks::{begin_elements, chunk_count, open_pipe};
-use ndr_decoder_input::Intake as Buffer;
 use ndr_decoder_state::Machine;
+use ndr_decoder_stream::{begin_elements, chunk_count, open_pipe};
 use std::alloc::Global;
 
 // Reads the next chunk, and answers its elements; at the end of the pipe nothing, and the next pipe is due.

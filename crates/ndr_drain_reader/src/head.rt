@@ -10,7 +10,7 @@ ghost use Rattle.nd_flat.specs.Building.{CanClose};
 ghost use Rattle.nd_grammar.specs.LegalSide.{IsLegalSide};
 ghost use Rattle.nd_grammar.specs.decoded.Verdict.{decoding_seen};
 ghost use Rattle.ndr_decoder_laws.specs.stream.Between.{Begins};
-ghost use Rattle.ndr_decoder_pending.specs.Seen.{between_of};
+ghost use Rattle.ndr_decoder_stream.specs.Seen.{between_of};
 ghost use Rattle.ndr_decode.specs.Streaming.{IsSettingOf, cells_of, purpose_of};
 ghost use Rattle.ndr_drain_reader.specs.Calls.{HasHead, IsHeadCause};
 ghost use Rattle.ndr_drain_reader.specs.Heads.{AddsPipes, HeadReads};
@@ -19,16 +19,14 @@ ghost use Rattle.ndr_drain_reader.specs.Seen.{intake_seen};
 ghost use Rattle.ndr_drain_reader.specs.declared.intake.Phase.TheVariants as phase;
 
 use crate::{DecodeFault, Intake, Phase};
-use nd_base::{Ledger, Memory, Order, Source, Steps};
+use nd_base::{Intake as Buffer, Ledger, Memory, Order, Source, Steps};
 use nd_flat::{Builder, Fit, Given, Seen};
 use nd_types::Side;
 use nd_value::ItemLog;
 use ndr_code::Plan;
-use ndr_decode::read_roots;
-use ndr_decoder_agreements::try_parameters;
-use ndr_decoder_input::Intake as Buffer;
-use ndr_decoder_pending::Stream;
+use ndr_decode::{read_roots, try_parameters};
 use ndr_decoder_state::Machine;
+use ndr_decoder_stream::Stream;
 use ndr_drain_laws::laws::heads::{heads_are_read, heads_are_refused};
 
 // Reads the head of a stream, and adds its pipes without elements.

@@ -16,13 +16,12 @@ use crate::DecodeFault;
 use crate::beginning::begin_intake;
 use crate::chunk::read_chunk;
 use crate::head::read_head;
-use nd_base::{Ledger, Memory, Order, Source, Steps};
+use nd_base::{Intake as Buffer, Ledger, Memory, Order, Source, Steps};
 use nd_flat::{Builder, Fit};
 use nd_types::Side;
 use nd_value::{ItemLog, Vals};
 use ndr_code::Plan;
 use ndr_decode::Decoded;
-use ndr_decoder_input::Intake as Buffer;
 use std::alloc::Global;
 
 /// Which call of an intake may come next.

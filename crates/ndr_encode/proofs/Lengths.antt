@@ -21,8 +21,8 @@ use Rattle.nd_grammar.proofs.written.WrittenEntries.{octets_length}
 use Rattle.ndr_encoder_laws.specs.pieces.Heads.{stream_pieces}
 use Rattle.ndr_encoder_laws.specs.pieces.Pieces.{Piece, Gap, Figure, Name, Raw, Handle, piece_octets, piece_size, pieces_octets, pieces_end}
 use Rattle.ndr_encoder_laws.proofs.pieces.Heads.{stream_octets, stream_end}
-use Rattle.ndr_encoder_homes.proofs.Fits.{Good}
-use Rattle.ndr_encoder_homes.proofs.GoodHomes.{stream_good}
+use Rattle.ndr_encoder_value.proofs.Fits.{Good}
+use Rattle.ndr_encoder_value.proofs.GoodHomes.{stream_good}
 
 module _ (order : Order) (num : ℕ → ℕ) where
   piece_length : (at : ℕ) (p : Piece) → Good p → length (piece_octets order num at p) ≡ piece_size at p

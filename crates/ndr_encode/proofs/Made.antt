@@ -28,9 +28,9 @@ use Rattle.ndr_encoder_laws.specs.turns.Roots.{root_items}
 use Rattle.ndr_encoder_laws.proofs.turns.Turns.{turns_are}
 use Rattle.ndr_encoder_laws.specs.chosen.Written.{turn_pieces, turns_pieces, pipe_turns, all_turns}
 use Rattle.ndr_encoder_laws.proofs.chosen.Written.{ends}
-use Rattle.ndr_encoder_homes.specs.Turns.{turn_pairs}
-use Rattle.ndr_encoder_homes.specs.Counted.{counted_turn, counted_turns, IsCounted}
-use Rattle.ndr_encoder_homes.proofs.Counts.{all_counted, homes_named, pipes_nameless}
+use Rattle.ndr_encoder_value.specs.Turns.{turn_pairs}
+use Rattle.ndr_encoder_value.specs.Counted.{counted_turn, counted_turns, IsCounted}
+use Rattle.ndr_encoder_value.proofs.Counts.{all_counted, homes_named, pipes_nameless}
 use Rattle.ndr_encode.specs.declared.search.Search.{Search}
 use Rattle.ndr_encode.specs.Search.{unmarked, pending_names, Stream, IsNumbered, IsSearchable, AreCounted, IsSearched, ArePipes, IsFresh}
 use Rattle.ndr_encode.specs.Making.{stream_of, HasStream}

@@ -22,9 +22,9 @@ use Rattle.ndr_encoder_output.specs.declared.count.Named.{Named}
 use Rattle.ndr_encoder_output.specs.Counting.{names_of}
 use Rattle.ndr_encoder_laws.specs.turns.Turned.{cells_of}
 use Rattle.ndr_encoder_laws.specs.chosen.Written.{pipe_turns}
-use Rattle.ndr_encoder_homes.specs.declared.turn.Turn.{Turn}
-use Rattle.ndr_encoder_homes.specs.Turns.{turn_pair, turn_pairs}
-use Rattle.ndr_encoder_homes.specs.Counted.{counted_turn, IsCounted}
+use Rattle.ndr_encoder_value.specs.declared.turn.Turn.{Turn}
+use Rattle.ndr_encoder_value.specs.Turns.{turn_pair, turn_pairs}
+use Rattle.ndr_encoder_value.specs.Counted.{counted_turn, IsCounted}
 use Rattle.ndr_encode.specs.declared.search.Search.{Search}
 use Rattle.ndr_encode.specs.Search.{IsNumbered, unmarked, pending_names, ArePipes, IsTaken, CanTake}
 use Rattle.ndr_encode.specs.Making.{stream_of, HasStream, BeginsPipes, PipesTaken}

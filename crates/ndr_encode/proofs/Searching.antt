@@ -27,11 +27,11 @@ use Rattle.ndr_encoder_output.specs.Counting.{names_of, count_whole, CountCan}
 use Rattle.ndr_encoder_output.specs.Filling.{FitsPiece}
 use Rattle.ndr_encoder_laws.specs.turns.Turned.{Item, root_due, direct_due, cell_due, Turned, root_turn, direct_turn, cell_turn, cell_stands, cells_due, cells_of, names_of as run_names}
 use Rattle.ndr_encoder_laws.specs.chosen.Written.{value_at}
-use Rattle.ndr_encoder_homes.specs.declared.turn.Turn.{Turn}
-use Rattle.ndr_encoder_homes.specs.Turns.{turn_pair, turn_pairs}
-use Rattle.ndr_encoder_homes.specs.Counted.{counted_turn, counted_turns, AreCells, IsCounted}
+use Rattle.ndr_encoder_value.specs.declared.turn.Turn.{Turn}
+use Rattle.ndr_encoder_value.specs.Turns.{turn_pair, turn_pairs}
+use Rattle.ndr_encoder_value.specs.Counted.{counted_turn, counted_turns, AreCells, IsCounted}
 use Rattle.ndr_encode.specs.declared.search.Search.{Search}
-use Rattle.ndr_encoder_structs.specs.Structs.{AreKnown}
+use Rattle.ndr_encoder_output.specs.Structs.{AreKnown}
 use Rattle.ndr_encode.specs.Search.{AreWithin, IsNumbered, unmarked, unplaced, pending_names, Stream, IsSearchable, IsSearched, IsTaken, CanTake, first_cell, root_by, called_run, direct_run}
 use Rattle.nd_grammar.proofs.written.CanonNumbers.{among_has, has_among}
 use Rattle.nd_lemmas.proofs.Lists.{marked_elsewhere as get_other, marked_here as get_set, marks_length as set_room, same_first as first_of, same_rest as others_of}

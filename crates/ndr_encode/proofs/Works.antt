@@ -17,9 +17,9 @@ use Rattle.ndr_encoder_laws.specs.pieces.Pieces.{Piece, pieces_octets, pieces_en
 use Rattle.ndr_encoder_output.specs.Filling.{FitsPiece, FillCan}
 use Rattle.ndr_encoder_laws.specs.chosen.Written.{turns_pieces, all_turns}
 use Rattle.ndr_encoder_laws.proofs.chosen.Written.{chosen, ends}
-use Rattle.ndr_encoder_homes.specs.declared.turn.Turn.{Turn}
-use Rattle.ndr_encoder_homes.specs.Turns.{turn_pairs, written_turns}
-use Rattle.ndr_encoder_homes.proofs.Encoded.{all_there, turns_same, turns_fit}
+use Rattle.ndr_encoder_value.specs.declared.turn.Turn.{Turn}
+use Rattle.ndr_encoder_value.specs.Turns.{turn_pairs, written_turns}
+use Rattle.ndr_encoder_value.proofs.Encoded.{all_there, turns_same, turns_fit}
 use Rattle.ndr_encode.specs.Work.{WorkSeen, setting, HasLength, IsWorkFor, IsChosen}
 use Rattle.ndr_encode.proofs.Lengths.{chosen_length}
 use Rattle.nd_grammar.proofs.LegalSides.{operation_there}

@@ -13,12 +13,12 @@ use Rattle.ndr_code.specs.declared.instr.Instr.TheVariants as op
 use Rattle.ndr_encoder_laws.specs.pieces.Pieces.{pieces_end, pieces_names}
 use Rattle.ndr_encoder_output.specs.declared.count.Named.{Named}
 use Rattle.ndr_encoder_output.specs.Counting.{names_of}
-use Rattle.ndr_encoder_structs.specs.Structs.{AreKnown}
+use Rattle.ndr_encoder_output.specs.Structs.{AreKnown}
 use Rattle.ndr_encoder_laws.specs.turns.Turned.{Item, root_due, direct_due, Turned, cells_due, cells_of, names_of as run_names}
 use Rattle.ndr_encoder_laws.specs.chosen.Written.{value_at}
-use Rattle.ndr_encoder_homes.specs.declared.turn.Turn.{Turn}
-use Rattle.ndr_encoder_homes.specs.Turns.{turn_pair, turn_pairs}
-use Rattle.ndr_encoder_homes.specs.Counted.{counted_turn, counted_turns, AreCells, IsCounted}
+use Rattle.ndr_encoder_value.specs.declared.turn.Turn.{Turn}
+use Rattle.ndr_encoder_value.specs.Turns.{turn_pair, turn_pairs}
+use Rattle.ndr_encoder_value.specs.Counted.{counted_turn, counted_turns, AreCells, IsCounted}
 use Rattle.ndr_encode.specs.declared.search.Search.{Search}
 
 -- the number that a cell would have next, after names

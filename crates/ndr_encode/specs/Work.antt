@@ -14,9 +14,9 @@ use Rattle.nd_grammar.specs.Entry.{end_of}
 use Rattle.nd_grammar.specs.Stream.{representation}
 use Rattle.nd_grammar.specs.Chosen.{pipe_cuts, Chosen}
 use Rattle.ndr_encoder_laws.specs.chosen.Written.{all_turns}
-use Rattle.ndr_encoder_homes.specs.declared.turn.Turn.{Turn}
-use Rattle.ndr_encoder_homes.specs.contracts.turn.Turn as turns
-use Rattle.ndr_encoder_homes.specs.Turns.{turn_pairs}
+use Rattle.ndr_encoder_value.specs.declared.turn.Turn.{Turn}
+use Rattle.ndr_encoder_value.specs.contracts.turn.Turn as turns
+use Rattle.ndr_encoder_value.specs.Turns.{turn_pairs}
 
 -- what a work is seen as
 pub record WorkSeen : Type 0 where

@@ -6,7 +6,7 @@ use crate::work::Work;
 use nd_base::Order;
 use nd_flat::Fit;
 use ndr_code::Plan;
-use ndr_encoder_homes::fill_turns;
+use ndr_encoder_value::fill_turns;
 
 /// Writes the octets of a graph in an order of octets: those of its one stream in which gaps are zero, TRUE is 1, the number of each pointer is the
 /// number of its cell in the order of the stream, and each chunk has as many elements as the work says, except the last (C706 chapter 14). The work

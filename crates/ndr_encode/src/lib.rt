@@ -9,5 +9,5 @@ mod search;
 mod work;
 
 pub use encoding::encode_with;
-pub use ndr_encoder_homes::Turn;
+pub use ndr_encoder_value::Turn;
 pub use work::{EncodeFault, Work};

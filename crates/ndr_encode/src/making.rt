@@ -17,7 +17,7 @@ use nd_flat::Fit;
 use nd_types::Side;
 use nd_value::Home;
 use ndr_code::{Plan, PlanLine};
-use ndr_encoder_homes::Turn;
+use ndr_encoder_value::Turn;
 use std::alloc::Global;
 
 // The number of a side among those of its operation.

@@ -14,10 +14,9 @@ use nd_base::{Memory, push};
 use nd_flat::Fit;
 use nd_value::{CellId, Home};
 use ndr_code::Instr;
-use ndr_encoder_homes::{Turn, write_home};
 use ndr_encoder_laws::Frames;
-use ndr_encoder_output::{Count, Named};
-use ndr_encoder_structs::Known;
+use ndr_encoder_output::{Count, Known, Named};
+use ndr_encoder_value::{Turn, write_home};
 use std::alloc::Global;
 
 // How far the search has come: the turns so far, the numbers of the cells that are named and how many these are, the cells that have their turn, and

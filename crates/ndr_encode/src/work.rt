@@ -2,7 +2,7 @@
 ghost use Rattle.std.specs.Prelude.{◌≡◌};
 
 use nd_base::Memory;
-use ndr_encoder_homes::Turn;
+use ndr_encoder_value::Turn;
 use std::marker::Model;
 use thiserror::Error;
 

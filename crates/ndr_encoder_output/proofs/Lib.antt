@@ -1,3 +1,4 @@
 pub mod Rows
 pub mod Filled
 pub mod Counted
+pub mod Following

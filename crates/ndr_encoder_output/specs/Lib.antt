@@ -1,3 +1,4 @@
 pub mod Outputs
 pub mod Filling
 pub mod Counting
+pub mod Structs

@@ -2,3 +2,13 @@ pub mod Elements
 pub mod Going
 pub mod NextNumbers
 pub mod NextMembers
+pub mod Following
+pub mod StructElements
+pub mod Fits
+pub mod GoodHomes
+pub mod Maxima
+pub mod Encoded
+pub mod LastMaxima
+pub mod Sizes
+pub mod Counts
+pub mod Standing

@@ -3,8 +3,8 @@ use Rattle.std.proofs.Common.{◌≡◌, ℕ, ◌+◌, ◌<◌, zero, suc, List,
 use Rattle.std.specs.Prelude.{drop}
 use Rattle.nd_value.specs.Tree.{Flat}
 use Rattle.ndr_encoder_laws.specs.written.Run.{here, later, after}
-use Rattle.ndr_encoder_structs.specs.declared.members.Member.{Member}
-use Rattle.ndr_encoder_structs.specs.Structs.{member_pieces, members_pieces}
+use Rattle.ndr_encoder_output.specs.declared.members.Member.{Member}
+use Rattle.ndr_encoder_output.specs.Structs.{member_pieces, members_pieces}
 
 -- the member at a place, and those after it
 drop_one : (xs : List Member) (i : ℕ) (d : Member) → i < length xs → drop i xs ≡ slice_index_or xs i d ∷ drop (suc i) xs

@@ -6,7 +6,7 @@ ghost use Rattle.ndr_code.specs.declared.instr.Instr.TheVariants.{Align};
 
 use nd_types::{Prim, TypeId};
 use ndr_code::Instr;
-use ndr_encoder_structs::{carrier_of, instr_at};
+use ndr_encoder_output::{carrier_of, instr_at};
 use ndr_prim::width_of;
 
 // The address at which an instruction among the arms of a union ends the search for a tag; None where the next one is to be asked.

@@ -4,14 +4,13 @@ ghost use Rattle.nd_value.specs.Tree.{flat};
 ghost use Rattle.ndr_encoder_laws.specs.pieces.Pieces.{Piece};
 ghost use Rattle.ndr_encoder_output.specs.Outputs.{Moves, Able};
 ghost use Rattle.ndr_encoder_laws.specs.written.Run.{here, later};
-ghost use Rattle.ndr_encoder_structs.specs.Structs.{member_pieces, members_pieces, struct_pieces};
+ghost use Rattle.ndr_encoder_output.specs.Structs.{member_pieces, members_pieces, struct_pieces};
 
 use crate::numbers::write_number;
 use crate::structs::{write_align, write_members, write_struct};
 use nd_base::Memory;
 use nd_flat::PlainWalk;
-use ndr_encoder_output::Output;
-use ndr_encoder_structs::{Member, StructRun};
+use ndr_encoder_output::{Member, Output, StructRun};
 
 // The next node as a member, where it is kept by itself; else false, and nothing was written.
 #[inline(always)]
@@ -99,7 +98,7 @@ fn write_whole<O: Output>(of: &StructRun, nodes: PlainWalk<'_>, out: &mut O) -> 
 /// Writes a struct of numbers and pointers over its nodes: its gap, then its members (C706 sections 14.2 and 14.3). It is fast where the nodes are
 /// kept one by one. It takes no memory itself, and fails only where the output is refused memory.
 #[inline(always)]
-pub fn write_plain_struct<O: Output>(
+pub(crate) fn write_plain_struct<O: Output>(
     of: &StructRun,
     nodes: PlainWalk<'_>,
     out: &mut O,

@@ -4,15 +4,14 @@ ghost use Rattle.nd_value.specs.Tree.{flat};
 ghost use Rattle.ndr_encoder_laws.specs.pieces.Pieces.{Piece, gap_pieces};
 ghost use Rattle.ndr_encoder_output.specs.Outputs.{Moves, Able};
 ghost use Rattle.ndr_encoder_laws.specs.written.Run.{here, later, after};
-ghost use Rattle.ndr_encoder_structs.specs.Structs.{member_pieces, members_pieces, members_of, struct_pieces};
+ghost use Rattle.ndr_encoder_output.specs.Structs.{member_pieces, members_pieces, members_of, struct_pieces};
 
 use crate::nodes::next_node;
 use crate::numbers::write_one;
 use crate::writing::pointer;
 use nd_base::Memory;
 use nd_flat::Walk;
-use ndr_encoder_output::Output;
-use ndr_encoder_structs::{Member, StructRun};
+use ndr_encoder_output::{Member, Output, StructRun};
 
 // The gap before a struct whose gap does not lead to a multiple of four.
 #[inline(never)]
@@ -82,7 +81,7 @@ pub(crate) fn write_members<O: Output>(
 /// Writes a struct of numbers and pointers over the nodes of a walk: its gap, then its members (C706 sections 14.2 and 14.3). It takes no memory
 /// itself, and fails only where the output is refused memory.
 #[inline(always)]
-pub fn write_struct<O: Output>(
+pub(crate) fn write_struct<O: Output>(
     of: &StructRun,
     walk: &mut Walk<'_>,
     out: &mut O,

@@ -17,8 +17,7 @@ use nd_flat::{Seen, Walk};
 use nd_types::Prim;
 use ndr_code::Instr;
 use ndr_encoder_laws::{Frame, Frames};
-use ndr_encoder_output::Output;
-use ndr_encoder_structs::{carrier_of, instr_at, past_checks};
+use ndr_encoder_output::{Output, carrier_of, instr_at, past_checks};
 
 /// What a run is written by: the code of a plan, the maximum count before the home, and the greatest count of a chunk.
 #[derive(Clone, Copy)]
@@ -259,7 +258,7 @@ fn step<O: Output>(
 
 /// Writes what a run of the code writes from an address on over the nodes of a walk, in at most so many steps (C706 sections 14.2 and 14.3). Frames
 /// that are there are taken away first. It takes no memory itself, and fails only where the output is refused memory.
-pub fn write_run<O: Output>(
+pub(crate) fn write_run<O: Output>(
     run: &Run<'_>,
     start: usize,
     most: u64,

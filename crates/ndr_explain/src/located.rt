@@ -13,7 +13,7 @@ use nd_flat::Fit;
 use nd_types::{Interface, Types};
 use nd_value::{CellId, Home};
 use std::alloc::Global;
-use text_paths::root_at;
+use text_printer::root_at;
 
 /// A node of a home of a graph.
 #[derive(Drop)]

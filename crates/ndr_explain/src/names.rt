@@ -14,7 +14,7 @@ use nd_flat::Fit;
 use nd_types::{Interface, RootDef, Side};
 use nd_value::{CellId, Home};
 use text_grammar::append_count;
-use text_paths::root_at;
+use text_printer::root_at;
 
 /// The name of a home: the word of a root, or the number of a cell.
 #[derive(Clone, Copy, Drop)]

@@ -4,7 +4,7 @@ use Rattle.std.specs.List.{slice_get}
 use Rattle.std.proofs.lemmas.List.{drop_all}
 use Rattle.nd_types.specs.declared.types.Field.{Field}
 use Rattle.nd_types.specs.declared.types.TypeDef.{TypeDef}
-use Rattle.listing_words.proofs.ListedLines.{left_is}
+use Rattle.idl_listing.proofs.ListedLines.{left_is}
 use Rattle.ndr_code.specs.declared.instr.Instr.{Instr}
 use Rattle.ndr_code.specs.Code.{field_checks, member_checks, type_run, type_runs}
 

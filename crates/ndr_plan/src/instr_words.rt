@@ -1,11 +1,11 @@
 // The words of an instruction.
 ghost use Rattle.std.specs.Prelude.{◌≡◌, ◌++◌, ◌∷◌, [], OnOk, decimal};
 ghost use Rattle.std.specs.Fmt.{signed_decimal};
-ghost use Rattle.listing_words.specs.Lines.{behind, class_word};
+ghost use Rattle.idl_listing.specs.Lines.{behind, class_word};
 ghost use Rattle.ndr_code.specs.declared.instr.Instr.TheVariants.{Arm, Pointer};
 ghost use Rattle.ndr_plan.specs.Listing.{attr_word, star_digit, check_words, instr_words};
 
-use listing_words::{class_word, number, signed, word};
+use idl_listing::{class_word, number, signed, word};
 use nd_base::{Memory, Octets};
 use nd_types::{Attr, Class, TypeId};
 use ndr_code::Instr;

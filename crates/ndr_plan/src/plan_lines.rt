@@ -2,13 +2,13 @@
 ghost use Rattle.std.specs.Prelude.{◌≡◌, ◌≤◌, ◌++◌, ◌∷◌, [], map, length, OnOk, IfOk, decimal};
 ghost use Rattle.std.specs.Fmt.{signed_decimal};
 ghost use Rattle.std.specs.List.{flat_map, enumerate_from};
-ghost use Rattle.listing_words.specs.Lines.{behind};
+ghost use Rattle.idl_listing.specs.Lines.{behind};
 ghost use Rattle.ndr_code.specs.declared.TheConstants.{ADDRESS_LIMIT};
 ghost use Rattle.ndr_plan.specs.Listing.{instr_line, values_line, place_line, listing};
 
 use crate::instr_words::instr_words;
+use idl_listing::{number, side_word, signed, word};
 use itoa::Buffer;
-use listing_words::{number, side_word, signed, word};
 use nd_base::{Memory, Octets};
 use nd_types::Numbers;
 use ndr_code::{Code, EnumList, EnumLists, Instr, Plan, PlanLine, PlanLines};

@@ -30,7 +30,7 @@ use Rattle.nd_value.proofs.Apart.{all_among, all_left, among_left, among_right}
 use Rattle.nd_value.proofs.NodeFacts.{IsSound}
 use Rattle.nd_grammar.proofs.next.PointerPlaces.{among_two, in_cell, in_home, in_root, in_standing, root_there}
 use Rattle.nd_grammar.proofs.next.StreamPointers.{is_good}
-use Rattle.ndr_trace_laws.specs.Counting.{Counts}
+use Rattle.ndr_trace_value.specs.Counting.{Counts}
 use Rattle.ndr_trace.specs.Homes.{direct_names, names_all, standing_names, step_names}
 use Rattle.ndr_trace_value.specs.Naming.{InTurn, full_one, names_of}
 

@@ -22,8 +22,8 @@ use Rattle.ndr_explain.specs.declared.levels.Level.{Level}
 use Rattle.ndr_explain.specs.declared.levels.Level.TheVariants as level
 use Rattle.ndr_explain.specs.Cursors.{index_paths, level_place, name_text, no_places, path_to}
 use Rattle.ndr_explain.specs.Explained.{home_flats, home_paths, path_in}
-use Rattle.ndr_trace_laws.specs.Untested.{plain, untested}
-use Rattle.ndr_trace_laws.proofs.Untested.{untested_append, untested_values}
+use Rattle.ndr_trace_value.specs.Untested.{plain, untested}
+use Rattle.ndr_trace_value.proofs.Untested.{untested_append, untested_values}
 use Rattle.ndr_trace_value.specs.declared.nodes.Walker.{Walker}
 use Rattle.ndr_trace_value.specs.declared.progress.Progress.{Progress}
 use Rattle.nd_types.specs.declared.types.TypeId.{TypeId}

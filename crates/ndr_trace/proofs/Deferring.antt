@@ -20,8 +20,8 @@ use Rattle.nd_value.proofs.DeferralLaws.{full_stands}
 use Rattle.nd_grammar.specs.Entry.{Entry}
 use Rattle.nd_grammar.specs.InPlace.{tests, whole_value}
 use Rattle.nd_grammar.specs.Stream.{standing_entries, step_entries, step_tests}
-use Rattle.ndr_trace_laws.specs.Untested.{untested}
-use Rattle.ndr_trace_laws.proofs.Untested.{untested_append}
+use Rattle.ndr_trace_value.specs.Untested.{untested}
+use Rattle.ndr_trace_value.proofs.Untested.{untested_append}
 use Rattle.ndr_trace_value.specs.declared.cells.Pending.{Pending}
 use Rattle.ndr_trace.specs.Homes.{names_all, pending_all, standing_names, step_names}
 use Rattle.ndr_trace_value.specs.Tracing.{Known}

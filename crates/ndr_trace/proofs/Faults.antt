@@ -26,8 +26,8 @@ use Rattle.nd_grammar.specs.Entry.{Actual, Align, Chunk, Context, Entry, EntryAt
 use Rattle.nd_grammar.specs.Items.{item_at, item_of, items}
 use Rattle.nd_grammar.specs.Refusal.{is_enumerator, is_long, is_max, is_selected, kind_agrees, kind_refusal, refusal, refused_if, same_home, tested_at, text_refusal}
 use Rattle.nd_grammar.specs.Represents.{piece}
-use Rattle.ndr_trace_laws.specs.Untested.{is_test}
-use Rattle.ndr_trace_laws.proofs.Gaps.{empty_gap}
+use Rattle.ndr_trace_value.specs.Untested.{is_test}
+use Rattle.ndr_trace_value.proofs.Gaps.{empty_gap}
 
 abbrev pub is_disagreement : Reason → Bool
 is_disagreement (reason.Disagrees wanted found) = true

@@ -17,7 +17,7 @@ use Rattle.nd_grammar.specs.Bad.{Bad}
 use Rattle.nd_grammar.specs.Entry.{Actual, Align, Chunk, Context, Entry, EntryAt, Kind, Max, Num, Number, Offset, Tag, Test, Text, Unread, end_to_end, size_at}
 use Rattle.nd_grammar.specs.Items.{items}
 use Rattle.nd_grammar.specs.Represents.{IsRendered}
-use Rattle.ndr_trace_laws.specs.Untested.{is_test}
+use Rattle.ndr_trace_value.specs.Untested.{is_test}
 use Rattle.ndr_trace_value.specs.declared.progress.Ground.{Ground}
 use Rattle.ndr_trace_value.specs.declared.search.Sought.{Sought}
 use Rattle.ndr_trace_value.specs.Tracing.{IsAt, IsGround, kind_in}

@@ -15,8 +15,8 @@ use Rattle.nd_value.specs.Tree as tree
 use Rattle.nd_value.specs.Tree.{Label, Tree, Trees, cell_in, is_pointer, more, node, node_count, none}
 use Rattle.nd_grammar.specs.Entry.{Entry, Kind}
 use Rattle.nd_grammar.specs.InPlace.{before_children, counts, entries, hoisted, hoisted_max, in_place, tag_entries, whole_value}
-use Rattle.ndr_trace_laws.specs.Untested.{kept_if, is_test, plain, untested}
-use Rattle.ndr_trace_laws.proofs.Untested.{untested_append, untested_values}
+use Rattle.ndr_trace_value.specs.Untested.{kept_if, is_test, plain, untested}
+use Rattle.ndr_trace_value.proofs.Untested.{untested_append, untested_values}
 use Rattle.ndr_trace_value.specs.declared.cells.Pending.{Pending}
 use Rattle.ndr_trace.specs.Homes.{names_all, pending_all}
 use Rattle.ndr_trace_value.specs.Tracing.{Known}

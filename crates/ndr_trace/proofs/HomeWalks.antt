@@ -21,7 +21,7 @@ use Rattle.ndr_explain.specs.Explained.{home_paths, path_in}
 use Rattle.ndr_explain.specs.declared.levels.Level.{Level}
 use Rattle.ndr_explain.specs.declared.levels.Level.TheVariants as level
 use Rattle.ndr_explain.specs.declared.names.HomeName.{HomeName}
-use Rattle.ndr_trace_laws.specs.Untested.{plain, untested}
+use Rattle.ndr_trace_value.specs.Untested.{plain, untested}
 use Rattle.ndr_trace_value.specs.declared.cells.Cells.{Cells}
 use Rattle.ndr_trace_value.specs.declared.cells.Pending.{Pending}
 use Rattle.ndr_trace_value.specs.declared.progress.Progress.{Progress}

@@ -27,7 +27,7 @@ use Rattle.nd_grammar.specs.InPlace.{before_children, child_tests, entries, hois
 use Rattle.nd_grammar.specs.Stream.{Stream, chunk_entries, chunks, pipe_entries, pipes_entries, root_test, root_tests, standing_entries, step_entries, step_tests}
 use Rattle.nd_grammar.proofs.Placed.{among_split}
 use Rattle.nd_grammar.proofs.agreements.TestsFind.{IsNoTest, before_plain}
-use Rattle.ndr_trace_laws.specs.Untested.{is_test}
+use Rattle.ndr_trace_value.specs.Untested.{is_test}
 
 -- ## Agreements of members
 

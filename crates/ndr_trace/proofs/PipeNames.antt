@@ -21,8 +21,8 @@ use Rattle.nd_grammar.specs.Stream.{chunk_entries, chunks, pipe_entries, pipes_e
 use Rattle.nd_grammar.proofs.LegalSides.{laid_out}
 use Rattle.nd_grammar.proofs.next.Mapped.{no_pointers}
 use Rattle.nd_grammar.proofs.next.NextStream.{FitsPipes, IsPipeRoot}
-use Rattle.ndr_trace_laws.specs.Untested.{untested}
-use Rattle.ndr_trace_laws.proofs.Untested.{untested_append, untested_values}
+use Rattle.ndr_trace_value.specs.Untested.{untested}
+use Rattle.ndr_trace_value.proofs.Untested.{untested_append, untested_values}
 use Rattle.ndr_trace.specs.Homes.{IsPart, names_all}
 use Rattle.ndr_trace_value.specs.Naming.{named_by, names_in}
 use Rattle.ndr_trace.specs.Sides.{pipes_due}

@@ -24,7 +24,7 @@ use Rattle.ndr_explain.specs.declared.names.HomeName.{HomeName}
 use Rattle.ndr_explain.specs.Cursors.{child_places, index_paths, name_text, no_places, pipe_element}
 use Rattle.ndr_explain.specs.Explained.{home_flats, home_paths, path_in}
 use Rattle.ndr_explain.proofs.Walks.{path_later}
-use Rattle.ndr_trace_laws.specs.Untested.{untested}
+use Rattle.ndr_trace_value.specs.Untested.{untested}
 use Rattle.ndr_trace_value.specs.declared.nodes.Walker.{Walker}
 use Rattle.ndr_trace_value.specs.declared.progress.Progress.{Progress}
 use Rattle.ndr_trace.specs.Chunks.{AfterChunk, IsAtChunk}

@@ -37,7 +37,7 @@ use Rattle.nd_grammar.proofs.next.Matching.{Known as AreKnown}
 use Rattle.nd_grammar.proofs.next.PointerPlaces.{in_cell, in_standing, root_there}
 use Rattle.nd_grammar.proofs.next.StreamPointers.{is_good}
 use Rattle.nd_grammar.proofs.conforming.StreamConforms.{due_all}
-use Rattle.ndr_trace_laws.specs.Untested.{is_test}
+use Rattle.ndr_trace_value.specs.Untested.{is_test}
 use Rattle.ndr_trace_value.specs.Variable.{IsAtRoot, NamesAlone}
 use Rattle.ndr_trace.proofs.FrontStreams.{as_pointer}
 use Rattle.ndr_trace.proofs.OwnTests.{Later, OneOf, Says, pipes_later, roots_tell, same_attr, same_wanted, tests_say, tests_tell, whole_later}

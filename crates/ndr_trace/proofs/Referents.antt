@@ -24,7 +24,7 @@ use Rattle.nd_grammar.proofs.next.PointerPlaces.{in_cell}
 use Rattle.ndr_explain.specs.declared.names.HomeName.{HomeName}
 use Rattle.ndr_explain.specs.declared.names.HomeName.TheVariants as named
 use Rattle.text_grammar.specs.Paths.{home_value}
-use Rattle.ndr_trace_laws.specs.Untested.{untested}
+use Rattle.ndr_trace_value.specs.Untested.{untested}
 use Rattle.ndr_trace_value.specs.declared.cells.Pending.{Pending}
 use Rattle.ndr_trace_value.specs.declared.nodes.Walker.{Walker}
 use Rattle.ndr_trace.specs.Homes.{HasHome, HasPassed, IsAwaiting, IsDeferring, IsNext, IsPart, home_due, pending_all, step_names}

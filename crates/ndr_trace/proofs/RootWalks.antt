@@ -33,7 +33,7 @@ use Rattle.nd_grammar.proofs.next.PointerPlaces.{in_standing}
 use Rattle.text_grammar.specs.Paths.{home_value}
 use Rattle.ndr_explain.specs.declared.names.HomeName.{HomeName}
 use Rattle.ndr_explain.specs.declared.names.HomeName.TheVariants as named
-use Rattle.ndr_trace_laws.specs.Untested.{untested}
+use Rattle.ndr_trace_value.specs.Untested.{untested}
 use Rattle.ndr_trace_value.specs.declared.nodes.Walker.{Walker}
 use Rattle.ndr_trace.specs.Homes.{HasHome, IsAwaiting, IsDeferring, IsPart, IsRoot, direct_names, direct_of, home_due, names_all, pending_all, standing_names, step_names}
 use Rattle.ndr_trace_value.specs.Naming.{HasType, IsNaming, Stand, names_in, only_spot, pending_in, stands_at}

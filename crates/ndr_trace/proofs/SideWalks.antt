@@ -21,8 +21,8 @@ use Rattle.nd_value.proofs.Apart.{all_append}
 use Rattle.nd_value.proofs.FewRoots.{few_before_pipes}
 use Rattle.nd_grammar.specs.Entry.{Entry}
 use Rattle.nd_grammar.specs.Stream.{AllCut, Cuts, kids_of, pipe_entries, pipes_entries, step_entries}
-use Rattle.ndr_trace_laws.specs.Untested.{untested}
-use Rattle.ndr_trace_laws.proofs.Untested.{untested_append}
+use Rattle.ndr_trace_value.specs.Untested.{untested}
+use Rattle.ndr_trace_value.proofs.Untested.{untested_append}
 use Rattle.ndr_trace_value.specs.declared.nodes.Walker.{Walker}
 use Rattle.ndr_trace.specs.Homes.{IsAwaiting, IsDeferring, IsPart, IsRoot, step_names}
 use Rattle.ndr_trace_value.specs.Naming.{IsNaming, named_by, names_in}

@@ -34,7 +34,7 @@ use Rattle.nd_grammar.specs.Stream.{step_entries, step_tests}
 use Rattle.nd_grammar.proofs.next.PointerPlaces.{in_cell, in_standing}
 use Rattle.nd_grammar.proofs.Placed.{among_split}
 use Rattle.nd_grammar.proofs.next.StreamPointers.{is_good}
-use Rattle.ndr_trace_laws.specs.Untested.{is_test, kept_if, untested}
+use Rattle.ndr_trace_value.specs.Untested.{is_test, kept_if, untested}
 use Rattle.ndr_trace.specs.Homes.{direct_names, names_all, standing_names, step_names}
 use Rattle.ndr_trace_value.specs.Naming.{named_by, names_in, names_of}
 use Rattle.ndr_trace.proofs.CellsInTurn.{KnownDirect, Mine, direct_mine, mine_more, standing_is}

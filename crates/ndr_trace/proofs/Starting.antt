@@ -29,10 +29,10 @@ use Rattle.nd_grammar.specs.Stream.{Stream, pipes_entries, root_test, root_tests
 use Rattle.nd_grammar.proofs.NamedOrder.{named_in_order}
 use Rattle.nd_grammar.proofs.next.StreamPointers.{is_good}
 use Rattle.ndr_decoder_laws.specs.verdict.InOrder.{HasOwnNumbers}
-use Rattle.ndr_trace_laws.specs.Counting.{Counts, IsIn}
-use Rattle.ndr_trace_laws.specs.Untested.{untested}
-use Rattle.ndr_trace_laws.proofs.Numbers.{named_in_turn}
-use Rattle.ndr_trace_laws.proofs.Untested.{untested_append}
+use Rattle.ndr_trace_value.specs.Counting.{Counts, IsIn}
+use Rattle.ndr_trace_value.specs.Untested.{untested}
+use Rattle.ndr_trace_value.proofs.Numbers.{named_in_turn}
+use Rattle.ndr_trace_value.proofs.Untested.{untested_append}
 use Rattle.ndr_trace_value.specs.declared.cells.Cells.{Cells}
 use Rattle.ndr_trace_value.specs.declared.nodes.Walker.{Walker}
 use Rattle.ndr_trace.specs.Homes.{IsPart, step_names}

@@ -29,7 +29,7 @@ use Rattle.nd_grammar.proofs.next.Spelt.{not_spelt}
 use Rattle.text_grammar.specs.Paths.{home_name, home_types, home_value, node_paths}
 use Rattle.ndr_explain.specs.Explained.{home_paths, path_in}
 use Rattle.ndr_explain.proofs.Walks.{path_here}
-use Rattle.ndr_trace_laws.specs.Untested.{is_test}
+use Rattle.ndr_trace_value.specs.Untested.{is_test}
 use Rattle.ndr_trace_value.specs.Attributes.{spoken as kind_of}
 use Rattle.ndr_trace_value.specs.LastMembers.{counted_path}
 use Rattle.ndr_trace_value.specs.Variable.{OfMember}

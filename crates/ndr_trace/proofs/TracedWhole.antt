@@ -14,8 +14,8 @@ use Rattle.nd_grammar.specs.Bad.{Bad}
 use Rattle.nd_grammar.specs.Items.{items}
 use Rattle.nd_grammar.specs.LegalSide.{IsLegalSide}
 use Rattle.ndr_decoder_laws.specs.verdict.InOrder.{HasOwnNumbers}
-use Rattle.ndr_trace_laws.specs.Untested.{is_test}
-use Rattle.ndr_trace_laws.proofs.Due.{bad_stops}
+use Rattle.ndr_trace_value.specs.Untested.{is_test}
+use Rattle.ndr_trace_value.proofs.Due.{bad_stops}
 use Rattle.ndr_trace_value.specs.declared.progress.Ground.{Ground}
 use Rattle.ndr_trace_value.specs.declared.progress.Progress.{Progress}
 use Rattle.ndr_trace_value.specs.declared.search.Sought.{Sought}

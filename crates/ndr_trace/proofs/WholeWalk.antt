@@ -4,8 +4,8 @@ use Rattle.std.proofs.Common.{◌≡◌, ◌∙◌, drop, take, sym, ap, subst, 
 use Rattle.std.specs.Prelude.{Err, Result}
 use Rattle.nd_grammar.specs.Entry.{end_to_end}
 use Rattle.ndr_explain.specs.Explained.{explanation}
-use Rattle.ndr_trace_laws.specs.Due.{Stops}
-use Rattle.ndr_trace_laws.specs.Untested.{untested}
+use Rattle.ndr_trace_value.specs.Due.{Stops}
+use Rattle.ndr_trace_value.specs.Untested.{untested}
 use Rattle.ndr_trace_value.specs.declared.nodes.Walker.{Walker}
 use Rattle.ndr_trace.specs.Homes.{IsPart}
 use Rattle.ndr_trace.specs.Sides.{IsAtRoot, IsBeginning, IsStream}

@@ -9,7 +9,7 @@ use Rattle.nd_grammar.specs.Entry.{Entry}
 use Rattle.nd_grammar.specs.Stream.{Cuts, chunks}
 use Rattle.ndr_explain.specs.Cursors.{index_paths, no_places}
 use Rattle.ndr_explain.specs.Explained.{home_paths, path_in}
-use Rattle.ndr_trace_laws.specs.Untested.{untested}
+use Rattle.ndr_trace_value.specs.Untested.{untested}
 use Rattle.ndr_trace_value.specs.declared.nodes.Walker.{Walker}
 use Rattle.ndr_trace_value.specs.Naming.{IsNaming, names_in}
 use Rattle.ndr_trace_value.specs.Tracing.{IsTracing, Known}

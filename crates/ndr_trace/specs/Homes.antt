@@ -29,7 +29,7 @@ use Rattle.nd_grammar.specs.Stream.{step_entries}
 use Rattle.text_grammar.specs.Paths.{home_name, home_types, home_value}
 use Rattle.ndr_explain.specs.Cursors.{name_text}
 use Rattle.ndr_explain.specs.declared.names.HomeName.{HomeName}
-use Rattle.ndr_trace_laws.specs.Untested.{untested}
+use Rattle.ndr_trace_value.specs.Untested.{untested}
 use Rattle.ndr_trace_value.specs.declared.cells.Cells.{Cells}
 use Rattle.ndr_trace_value.specs.declared.cells.Pending.{Pending}
 use Rattle.ndr_trace_value.specs.declared.nodes.Walker.{Walker}

@@ -11,8 +11,8 @@ use Rattle.nd_value.specs.Setting.{root_list}
 use Rattle.nd_grammar.specs.Entry.{Entry, end_to_end, full_cells}
 use Rattle.nd_grammar.specs.Stream.{AllCut, Stream, pipes_entries}
 use Rattle.ndr_decoder_laws.specs.verdict.InOrder.{HasOwnNumbers}
-use Rattle.ndr_trace_laws.specs.Due.{Stops}
-use Rattle.ndr_trace_laws.specs.Untested.{untested}
+use Rattle.ndr_trace_value.specs.Due.{Stops}
+use Rattle.ndr_trace_value.specs.Untested.{untested}
 use Rattle.ndr_trace_value.specs.declared.nodes.Walker.{Walker}
 use Rattle.ndr_trace_value.specs.declared.progress.Ground.{Ground}
 use Rattle.ndr_trace_value.specs.declared.progress.Progress.{Progress}

@@ -8,7 +8,7 @@ ghost use Rattle.nd_value.specs.Tree.{count as count_of};
 ghost use Rattle.nd_grammar.specs.Entry.{Entry};
 ghost use Rattle.nd_grammar.specs.Stream.{Cuts, kids_of, pipe_entries};
 ghost use Rattle.ndr_explain.specs.Cursors.{pipe_element};
-ghost use Rattle.ndr_trace_laws.specs.Untested.{untested};
+ghost use Rattle.ndr_trace_value.specs.Untested.{untested};
 ghost use Rattle.ndr_trace_value.specs.declared.progress.Halt.TheVariants as halts;
 ghost use Rattle.ndr_trace.specs.Homes.{IsRoot, IsPart};
 ghost use Rattle.ndr_trace.specs.Chunks.{AfterChunk, IsAtChunk};

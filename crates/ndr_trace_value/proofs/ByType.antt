@@ -25,7 +25,7 @@ use Rattle.nd_value.proofs.NodeFacts.{IsRead}
 use Rattle.nd_grammar.specs.Entry.{Actual, Align, Context, Entry, Num, Number, Offset, Tag, Text}
 use Rattle.nd_grammar.specs.InPlace.{counts, entries, own_max}
 use Rattle.ndr_explain.specs.Explained.{home_flats, label_in}
-use Rattle.ndr_trace_laws.specs.Untested.{untested}
+use Rattle.ndr_trace_value.specs.Untested.{untested}
 use Rattle.ndr_trace_value.specs.declared.cells.Cells.{Cells}
 use Rattle.ndr_trace_value.specs.declared.nodes.Walker.{Walker}
 use Rattle.ndr_trace_value.specs.declared.progress.Halt.{Halt}

@@ -13,8 +13,8 @@ use Rattle.nd_grammar.specs.declared.reason.Reason.{Reason}
 use Rattle.nd_grammar.specs.Bad.{Bad}
 use Rattle.nd_grammar.specs.Entry.{Actual, Align, Chunk, Context, Entry, EntryAt, Kind, Max, Num, Number, Offset, Tag, Test, Text, Unread, full_cells}
 use Rattle.nd_grammar.specs.Items.{items}
-use Rattle.ndr_trace_laws.specs.Due.{EndsBefore}
-use Rattle.ndr_trace_laws.specs.Untested.{is_test}
+use Rattle.ndr_trace_value.specs.Due.{EndsBefore}
+use Rattle.ndr_trace_value.specs.Untested.{is_test}
 use Rattle.ndr_trace_value.specs.declared.progress.Progress.{Progress}
 use Rattle.ndr_trace_value.specs.Tracing.{IsAt, IsEnded, IsTracing, Known, kept, kept_by, sought_path}
 use Rattle.ndr_trace_value.specs.Traces.{IsShownPath, IsTraceOf, IsVariableOf, entry_path}

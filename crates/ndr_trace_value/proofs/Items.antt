@@ -31,9 +31,9 @@ use Rattle.ndr_explain.specs.Explained.{context_shown, explanation, home_flats, 
 use Rattle.ndr_explain.specs.declared.levels.Level.{Level}
 use Rattle.ndr_explain.proofs.LevelPaths.{steps_after}
 use Rattle.ndr_explain.proofs.Lines.{other_rest, three, two}
-use Rattle.ndr_trace_laws.specs.Due.{Took, its_item}
-use Rattle.ndr_trace_laws.specs.Untested.{is_test}
-use Rattle.ndr_trace_laws.proofs.Gaps.{gap_item}
+use Rattle.ndr_trace_value.specs.Due.{Took, its_item}
+use Rattle.ndr_trace_value.specs.Untested.{is_test}
+use Rattle.ndr_trace_value.proofs.Gaps.{gap_item}
 use Rattle.ndr_trace_value.specs.declared.progress.Ground.{Ground}
 use Rattle.ndr_trace_value.specs.declared.progress.Progress.{Progress}
 use Rattle.ndr_trace_value.specs.declared.progress.Spot.{Spot}

@@ -11,3 +11,9 @@ pub mod Passing
 pub mod Placed
 pub mod Attributes
 pub mod LastVariables
+pub mod Untested
+pub mod Due
+pub mod Numbers
+pub mod Gaps
+pub mod Steps
+pub mod Nodes

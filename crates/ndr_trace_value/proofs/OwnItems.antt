@@ -33,9 +33,9 @@ use Rattle.nd_value.proofs.NodeFacts.{IsRead, IsReadOrNot, read_node}
 use Rattle.nd_grammar.specs.Entry.{Actual, Align, Context, Entry, EntryAt, Kind, Num, Number, Offset, Tag, Text, Unread, end_to_end, size_at}
 use Rattle.nd_grammar.specs.InPlace.{before_children, counts, entries, tag_entries}
 use Rattle.nd_grammar.specs.Represents.{Spells, piece}
-use Rattle.ndr_trace_laws.specs.Due.{NextDue, Stops}
-use Rattle.ndr_trace_laws.specs.Untested.{is_test, untested}
-use Rattle.ndr_trace_laws.proofs.Due.{never_unread, next_due}
+use Rattle.ndr_trace_value.specs.Due.{NextDue, Stops}
+use Rattle.ndr_trace_value.specs.Untested.{is_test, untested}
+use Rattle.ndr_trace_value.proofs.Due.{never_unread, next_due}
 use Rattle.ndr_trace_value.specs.declared.cells.Cells.{Cells}
 use Rattle.ndr_trace_value.specs.declared.progress.Progress.{Progress}
 use Rattle.ndr_trace_value.specs.Naming.{HasNamed, HasType, IsFine, IsNaming, named_by, names_in, pending_in}

@@ -13,10 +13,10 @@ use Rattle.nd_value.specs.declared.item.ItemKind.{ItemKind}
 use Rattle.nd_grammar.specs.Entry.{Align, Entry, EntryAt, Kind, end_to_end, gap, size_at}
 use Rattle.nd_grammar.specs.Represents.{IsRendered}
 use Rattle.ndr_explain.specs.Explained.{explanation, item_line}
-use Rattle.ndr_trace_laws.specs.Due.{CanStop, Stops, Took, its_item}
-use Rattle.ndr_trace_laws.specs.Untested.{is_test}
-use Rattle.ndr_trace_laws.proofs.Gaps.{empty_gap}
-use Rattle.ndr_trace_laws.proofs.Steps.{ended, skipped, took}
+use Rattle.ndr_trace_value.specs.Due.{CanStop, Stops, Took, its_item}
+use Rattle.ndr_trace_value.specs.Untested.{is_test}
+use Rattle.ndr_trace_value.proofs.Gaps.{empty_gap}
+use Rattle.ndr_trace_value.proofs.Steps.{ended, skipped, took}
 use Rattle.ndr_trace_value.specs.declared.progress.Halt.{Halt}
 use Rattle.ndr_trace_value.specs.declared.progress.Halt.TheVariants as halts
 use Rattle.ndr_trace_value.specs.declared.pointers.PointerSpot.{PointerSpot}

@@ -6,3 +6,6 @@ pub mod Walking
 pub mod Attributes
 pub mod Variable
 pub mod Places
+pub mod Untested
+pub mod Due
+pub mod Counting

@@ -24,8 +24,8 @@ use Rattle.text_grammar.specs.Printed.{quoted_text}
 use Rattle.text_printer.specs.Texts.{context_text}
 use Rattle.ndr_explain.specs.Cursors.{Place, level_place, name_text, path_to}
 use Rattle.ndr_explain.specs.Explained.{context_shown, explanation, home_flats, home_paths, label_in, path_in, string_shown}
-use Rattle.ndr_trace_laws.specs.Due.{Stops}
-use Rattle.ndr_trace_laws.specs.Untested.{is_test}
+use Rattle.ndr_trace_value.specs.Due.{Stops}
+use Rattle.ndr_trace_value.specs.Untested.{is_test}
 use Rattle.ndr_trace_value.specs.declared.pointers.PointerSpot.{PointerSpot}
 use Rattle.ndr_trace_value.specs.declared.progress.Ground.{Ground}
 use Rattle.ndr_trace_value.specs.declared.progress.Progress.{Progress}

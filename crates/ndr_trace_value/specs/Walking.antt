@@ -23,7 +23,7 @@ use Rattle.nd_value.specs.Deferral.{Placed_cells}
 use Rattle.ndr_explain.specs.declared.levels.Levels.{Levels}
 use Rattle.ndr_explain.specs.Cursors.{Place, level_types, paths_from, places_from, types_from}
 use Rattle.ndr_explain.specs.Explained.{home_flats, home_paths, label_in, path_in}
-use Rattle.ndr_trace_laws.specs.Untested.{is_test, plain, untested}
+use Rattle.ndr_trace_value.specs.Untested.{is_test, plain, untested}
 use Rattle.ndr_trace_value.specs.declared.cells.Cells.{Cells}
 use Rattle.ndr_trace_value.specs.declared.nodes.Walker.{Walker}
 use Rattle.ndr_trace_value.specs.declared.progress.Progress.{Progress}

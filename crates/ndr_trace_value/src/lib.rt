@@ -1,8 +1,10 @@
-//! Walks over the items of the value of a home, by the log of refused octets: a line for each item, and the path of what is refused.
+//! Walks over the items of the value of a home, by the log of refused octets: a line for each item, and the path of what is refused. The laws say
+//! which entries of a stream are due while they are gone through, and at which of them the log ends.
 #![tactic(auto)]
 
 mod cells;
 mod counted;
+pub mod laws;
 mod members;
 mod nodes;
 mod parameters;

@@ -17,7 +17,7 @@ use nd_flat::{FlatGraph, Seen, Walk};
 use nd_types::{AttrVar, Operation, RootDef, Side};
 use nd_value::{CellId, Home, ItemKind};
 use std::alloc::Global;
-use text_paths::root_at;
+use text_printer::root_at;
 
 /// A root that was read: its parameter, the number that it is, and the cell that it names.
 #[derive(Clone, Copy, Drop)]

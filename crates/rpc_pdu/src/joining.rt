@@ -9,8 +9,7 @@ ghost use Rattle.rpc_pdu.specs.Joined.{IsJoined, IsJoinCause, IsTaken, IsTakeCau
 
 use crate::header::{check_common_fields, check_whole_header};
 use crate::pdu::{Joined, Opening, PduFault, PduReason, Wanted};
-use nd_base::{Octets, Source};
-use ndr_decoder_input::{Intake, IntakeFault};
+use nd_base::{Intake, IntakeFault, Octets, Source};
 use std::alloc::Global;
 
 // What is known after a fragment: what the first states, how many octets the fragments have so far, and whether it was the last.

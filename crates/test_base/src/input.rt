@@ -1,6 +1,5 @@
 // A stream that is cut into pieces of three octets.
-use nd_base::{MemSource, STREAM_LIMIT};
-use ndr_decoder_input::{Intake, IntakeFault};
+use nd_base::{Intake, IntakeFault, MemSource, STREAM_LIMIT};
 use std::test::Fail;
 
 #[test]

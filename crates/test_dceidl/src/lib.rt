@@ -1,6 +1,15 @@
-//! Tests of the public call of the program on worked command lines, each command once.
+//! Tests of the public call of the program on worked command lines, each command once. Tests of sessions: scripts over resources in memory, some of
+//! whose calls fail, and a store that is full.
 #![tactic(auto)]
 
+#[cfg(test)]
+mod full;
+#[cfg(test)]
+mod resource_sessions;
+#[cfg(test)]
+mod scripts;
+#[cfg(test)]
+mod session_runs;
 #[cfg(test)]
 mod sessions;
 #[cfg(test)]

@@ -1,3 +1,4 @@
 pub mod Built
 pub mod Legal
 pub mod Small
+pub mod BasicLegal

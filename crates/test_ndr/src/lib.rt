@@ -1,4 +1,5 @@
-//! Tests of decode and encode on worked octets and on octets that other programs wrote, and on a chain of a million cells.
+//! Tests of decode and encode on worked octets and on octets that other programs wrote, and on a chain of a million cells; and of traces on worked
+//! octets.
 #![tactic(auto)]
 
 #[cfg(test)]
@@ -11,3 +12,7 @@ mod plans;
 mod referents;
 #[cfg(test)]
 mod tests;
+#[cfg(test)]
+mod trace_interface;
+#[cfg(test)]
+mod traces;

@@ -10,7 +10,7 @@ use nd_types::{
 use nd_value::{Cells, Graph, Home, Val, Vals};
 use std::alloc::Global;
 use std::test::Fail;
-use text_paths::path;
+use text_printer::path;
 
 fn param(alloc: Global, name: &[u8], of: u32, vars: AttrVars) -> Result<Param, Memory>
     requires some { 1 ≤ length name.now }

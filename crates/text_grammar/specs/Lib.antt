@@ -9,3 +9,6 @@ pub mod Runs
 pub mod Examples
 pub mod Paths
 pub mod Sound
+pub mod Real
+pub mod Settled
+pub mod Values

@@ -22,16 +22,16 @@ use Rattle.text_grammar.specs.Written.{token_of, octets_in, list_pieces, values_
 use Rattle.text_grammar.specs.Readable.{are_octets, has_text_form}
 use Rattle.text_grammar.specs.Dues.{SomeBytes, list_dues}
 use Rattle.text_grammar.proofs.Runs.{skip_less}
-use Rattle.text_reading_laws.specs.Values.{have_forms, noted, noted_node}
-use Rattle.text_reading_laws.proofs.Quoted.{First, TakesSome, pair_less}
-use Rattle.text_lexer.specs.declared.stop.Stop.{Stop}
-use Rattle.text_lexer.specs.Lexemes.{plain}
-use Rattle.text_lexer.specs.Misses.{Misses}
+use Rattle.text_grammar.specs.Values.{have_forms, noted, noted_node}
+use Rattle.text_grammar.proofs.Quoted.{First, TakesSome, pair_less}
+use Rattle.text_parser.specs.declared.stop.Stop.{Stop}
+use Rattle.text_parser.specs.Lexemes.{plain}
+use Rattle.text_parser.specs.Misses.{Misses}
 use Rattle.text_parser.specs.Passing.{Named, Passes, Halts, AreElements, element_types}
 use Rattle.text_parser.specs.ValueParts.{byte_trees}
 use Rattle.text_parser.proofs.Passages.{passes_one, halts_miss}
 use Rattle.text_parser.proofs.OneMore.{count_trees}
-use Rattle.text_reading_laws.proofs.Real.{hex_small as hex_low}
+use Rattle.text_grammar.proofs.Real.{hex_small as hex_low}
 
 -- ## Octets
 

@@ -10,13 +10,13 @@ use Rattle.text_grammar.specs.Tokens.{Token, Word, Number, Cell, Str, Bytes, Mar
 use Rattle.text_grammar.specs.Reads.{Bad, IsNext}
 use Rattle.text_grammar.specs.Dues.{named_type, with_line, next_read}
 use Rattle.text_grammar.specs.Reader.{ComesTo, Stopped, refused, no_token}
-use Rattle.text_reading_laws.proofs.Settled.{settled_cutting}
-use Rattle.text_reading_laws.proofs.OneText.{some_octets}
-use Rattle.text_lexer.specs.declared.lexeme.Lexeme as shown
-use Rattle.text_lexer.specs.declared.lexeme.Lexeme.TheVariants as lexeme
-use Rattle.text_lexer.specs.declared.stop.Stop.TheVariants as stop
-use Rattle.text_lexer.specs.Lexemes.{plain, Comes, cell_shown, is_end, other_reason}
-use Rattle.text_lexer.proofs.OneStep.{a_cell}
+use Rattle.text_grammar.proofs.Settled.{settled_cutting}
+use Rattle.text_grammar.proofs.OneText.{some_octets}
+use Rattle.text_parser.specs.declared.lexeme.Lexeme as shown
+use Rattle.text_parser.specs.declared.lexeme.Lexeme.TheVariants as lexeme
+use Rattle.text_parser.specs.declared.stop.Stop.TheVariants as stop
+use Rattle.text_parser.specs.Lexemes.{plain, Comes, cell_shown, is_end, other_reason}
+use Rattle.text_parser.proofs.OneStep.{a_cell}
 use Rattle.text_parser.specs.Passing.{Named}
 use Rattle.text_parser.specs.Lines.{at_line, LineHalts, IsCellBegun}
 

@@ -12,15 +12,15 @@ use Rattle.text_grammar.specs.Tokens.{Token, Word, Number, Uuid, Mark, Cutting, 
 use Rattle.text_grammar.specs.Written.{Other, word, comma}
 use Rattle.text_grammar.specs.Dues.{Due, This, ACount, AUuid, AValue, went_on_if}
 use Rattle.text_grammar.specs.Reader.{Ending, Stopped, ComesTo, goes_on}
-use Rattle.text_reading_laws.specs.Settled.{IsSettled}
-use Rattle.text_reading_laws.specs.Values.{reading}
-use Rattle.text_reading_laws.proofs.Settled.{settled_cutting, cutting_ctx_1, cutting_ctx_2, cutting_ctx_3, cutting_ctx_4, cutting_ctx_5, settled_ctx_6}
-use Rattle.text_reading_laws.proofs.Alike.{go_on}
-use Rattle.text_reading_laws.proofs.OneText.{cut_less}
-use Rattle.text_lexer.specs.declared.stop.Stop.{Stop}
-use Rattle.text_lexer.specs.declared.stop.Stop.TheVariants as stop
-use Rattle.text_lexer.specs.Lexemes.{plain, for_uuid}
-use Rattle.text_lexer.specs.Misses.{Misses, MissesUuid}
+use Rattle.text_grammar.specs.Settled.{IsSettled}
+use Rattle.text_grammar.specs.Values.{reading}
+use Rattle.text_grammar.proofs.Settled.{settled_cutting, cutting_ctx_1, cutting_ctx_2, cutting_ctx_3, cutting_ctx_4, cutting_ctx_5, settled_ctx_6}
+use Rattle.text_grammar.proofs.Alike.{go_on}
+use Rattle.text_grammar.proofs.OneText.{cut_less}
+use Rattle.text_parser.specs.declared.stop.Stop.{Stop}
+use Rattle.text_parser.specs.declared.stop.Stop.TheVariants as stop
+use Rattle.text_parser.specs.Lexemes.{plain, for_uuid}
+use Rattle.text_parser.specs.Misses.{Misses, MissesUuid}
 use Rattle.text_parser.specs.Identifiers.{is_id}
 use Rattle.text_parser.specs.Passing.{Named, Halts, IsValue}
 use Rattle.text_parser.proofs.Passages.{miss_comes, halts_open, halts_then, halts_miss}

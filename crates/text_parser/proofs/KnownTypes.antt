@@ -13,9 +13,9 @@ use Rattle.nd_types.specs.Table.{Table, type_at, selected}
 use Rattle.nd_value.specs.Tree.{Tree, none, more}
 use Rattle.nd_value.specs.Nodes.{selected_types}
 use Rattle.text_grammar.specs.Dues.{named_type}
-use Rattle.text_reading_laws.specs.Values.{noted}
-use Rattle.text_reading_laws.proofs.Taken.{parts_known, selected_passes}
-use Rattle.text_reading_laws.proofs.Back.{type_known, values_known}
+use Rattle.text_grammar.specs.Values.{noted}
+use Rattle.text_grammar.proofs.Taken.{parts_known, selected_passes}
+use Rattle.text_grammar.proofs.Back.{type_known, values_known}
 use Rattle.text_parser.specs.Known.{AreKnown, IsType, IsUnion, AreOf, NamesKnown}
 
 module _ (table : Table) (known : AreKnown table) where

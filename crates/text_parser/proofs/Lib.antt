@@ -16,3 +16,8 @@ pub mod LineParts
 pub mod CellParts
 pub mod WholeTexts
 pub mod TextAnswers
+pub mod FirstTokens
+pub mod Scanning
+pub mod Shown
+pub mod OneStep
+pub mod Quick

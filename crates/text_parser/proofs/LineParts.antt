@@ -19,15 +19,15 @@ use Rattle.text_grammar.specs.Tokens.{Token, Word, Number, Cell, Mark, Cutting, 
 use Rattle.text_grammar.specs.Written.{Name, Other, word, equals, token_of, named, version_number, value_pieces}
 use Rattle.text_grammar.specs.Dues.{Due, This, AVersion, AValue, ACellLine, Reading, named_due, named_type, with_line, went_on_if, next_read, all_read}
 use Rattle.text_grammar.specs.Reader.{Ending, Stopped, ComesTo, goes_on}
-use Rattle.text_reading_laws.specs.Settled.{IsSettled}
-use Rattle.text_reading_laws.specs.Values.{reading, have_forms, noted, value_tokens}
-use Rattle.text_reading_laws.proofs.Settled.{settled_cutting, settled_next, settled_head, cutting_first, cutting_second, cutting_third}
-use Rattle.text_reading_laws.proofs.Alike.{go_on}
-use Rattle.text_reading_laws.proofs.OneText.{cut_less}
-use Rattle.text_lexer.specs.declared.stop.Stop.{Stop}
-use Rattle.text_lexer.specs.declared.stop.Stop.TheVariants as stop
-use Rattle.text_lexer.specs.Lexemes.{plain}
-use Rattle.text_lexer.specs.Misses.{Misses}
+use Rattle.text_grammar.specs.Settled.{IsSettled}
+use Rattle.text_grammar.specs.Values.{reading, have_forms, noted, value_tokens}
+use Rattle.text_grammar.proofs.Settled.{settled_cutting, settled_next, settled_head, cutting_first, cutting_second, cutting_third}
+use Rattle.text_grammar.proofs.Alike.{go_on}
+use Rattle.text_grammar.proofs.OneText.{cut_less}
+use Rattle.text_parser.specs.declared.stop.Stop.{Stop}
+use Rattle.text_parser.specs.declared.stop.Stop.TheVariants as stop
+use Rattle.text_parser.specs.Lexemes.{plain}
+use Rattle.text_parser.specs.Misses.{Misses}
 use Rattle.text_parser.specs.Passing.{Named, Passes, Halts, IsValue}
 use Rattle.text_parser.specs.ValueParts.{name_tokens}
 use Rattle.text_parser.specs.Lines.{head_dues, head_tokens, HasHead, HeadHalts, IsLine, lines_due, lines_tokens, AreFormed, all_noted, AreRoots, cell_tokens, cells_tokens, cell_noted, cells_noted}

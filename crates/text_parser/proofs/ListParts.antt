@@ -14,14 +14,14 @@ use Rattle.text_grammar.specs.Readable.{are_octets}
 use Rattle.text_grammar.specs.Reads.{Lexeme, Cut, End, Bad, IsNext}
 use Rattle.text_grammar.specs.Dues.{Due, This, FirstElement, NextElement, AValue, opening_bracket, list_dues, Reading, closes, opened, taken_first, next_read, went_on_if}
 use Rattle.text_grammar.specs.Reader.{ComesTo, Stopped}
-use Rattle.text_reading_laws.specs.Settled.{IsSettled}
-use Rattle.text_reading_laws.specs.Values.{reading, have_forms, noted, value_tokens}
-use Rattle.text_reading_laws.proofs.Settled.{settled_cutting}
-use Rattle.text_reading_laws.proofs.OneText.{cut_less}
-use Rattle.text_lexer.specs.declared.stop.Stop.{Stop}
-use Rattle.text_lexer.specs.declared.stop.Stop.TheVariants as stop
-use Rattle.text_lexer.specs.Lexemes.{plain}
-use Rattle.text_lexer.specs.Misses.{IsWrong, Misses}
+use Rattle.text_grammar.specs.Settled.{IsSettled}
+use Rattle.text_grammar.specs.Values.{reading, have_forms, noted, value_tokens}
+use Rattle.text_grammar.proofs.Settled.{settled_cutting}
+use Rattle.text_grammar.proofs.OneText.{cut_less}
+use Rattle.text_parser.specs.declared.stop.Stop.{Stop}
+use Rattle.text_parser.specs.declared.stop.Stop.TheVariants as stop
+use Rattle.text_parser.specs.Lexemes.{plain}
+use Rattle.text_parser.specs.Misses.{IsWrong, Misses}
 use Rattle.text_parser.specs.Passing.{Named, Passes, Halts, IsValue, AreElements, element_types}
 use Rattle.text_parser.specs.ValueParts.{HaveCome}
 use Rattle.text_parser.proofs.Passages as passages

@@ -7,11 +7,11 @@ use Rattle.text_grammar.specs.declared.version.Version.{Version}
 use Rattle.text_grammar.specs.Tokens.{Word, IsCut}
 use Rattle.text_grammar.specs.Written.{Name, word, equals, token_of, named, value_pieces}
 use Rattle.text_grammar.specs.Dues.{Due, This, AValue, named_due, arm_dues}
-use Rattle.text_reading_laws.specs.Values.{value_tokens}
-use Rattle.text_reading_laws.proofs.OneText.{cut_less}
-use Rattle.text_lexer.specs.declared.stop.Stop.{Stop}
-use Rattle.text_lexer.specs.Lexemes.{plain}
-use Rattle.text_lexer.specs.Misses.{Misses}
+use Rattle.text_grammar.specs.Values.{value_tokens}
+use Rattle.text_grammar.proofs.OneText.{cut_less}
+use Rattle.text_parser.specs.declared.stop.Stop.{Stop}
+use Rattle.text_parser.specs.Lexemes.{plain}
+use Rattle.text_parser.specs.Misses.{Misses}
 use Rattle.text_parser.specs.Passing.{Named, Passes, Halts, IsValue}
 use Rattle.text_parser.specs.ValueParts.{comma_dues, comma_tokens, name_tokens, IsMember, IsArm}
 use Rattle.text_parser.proofs.Passages.{passes_then, halts_then, halts_framed, halts_miss}

@@ -16,11 +16,11 @@ use Rattle.text_grammar.specs.declared.version.Version.{Version}
 use Rattle.text_grammar.specs.Tokens.{Token, Mark, IsCut}
 use Rattle.text_grammar.specs.Written.{Piece, Other, comma, token_of, named, members, separated, values_pieces, value_pieces}
 use Rattle.text_grammar.specs.Dues.{Due, This, AValue, named_due, separated_dues}
-use Rattle.text_reading_laws.specs.Values.{have_forms, noted}
-use Rattle.text_reading_laws.proofs.OneText.{cut_less}
-use Rattle.text_lexer.specs.declared.stop.Stop.{Stop}
-use Rattle.text_lexer.specs.Lexemes.{plain}
-use Rattle.text_lexer.specs.Misses.{Misses}
+use Rattle.text_grammar.specs.Values.{have_forms, noted}
+use Rattle.text_grammar.proofs.OneText.{cut_less}
+use Rattle.text_parser.specs.declared.stop.Stop.{Stop}
+use Rattle.text_parser.specs.Lexemes.{plain}
+use Rattle.text_parser.specs.Misses.{Misses}
 use Rattle.text_parser.specs.Passing.{Named, Passes, Halts, IsValue}
 use Rattle.text_parser.specs.ValueParts.{comma_dues, comma_tokens, IsMember}
 use Rattle.text_parser.proofs.OpenedValues.{opened_value}

@@ -8,7 +8,7 @@ use Rattle.text_grammar.specs.declared.version.Version.{Version}
 use Rattle.text_grammar.specs.Written.{Piece, comma, separated, node_pieces, values_pieces, value_pieces}
 use Rattle.text_grammar.specs.Readable.{has_text_form}
 use Rattle.text_grammar.specs.Dues.{Due, This, separated_dues}
-use Rattle.text_reading_laws.specs.Values.{have_forms, noted, noted_node}
+use Rattle.text_grammar.specs.Values.{have_forms, noted, noted_node}
 
 pub count_trees : (vs : List Tree) → count (trees vs) ≡ length vs
 count_trees [] = refl

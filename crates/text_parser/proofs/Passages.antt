@@ -12,14 +12,14 @@ use Rattle.text_grammar.specs.Reads.{Lexeme, Cut, End, Bad, IsNext}
 use Rattle.text_grammar.specs.Dues.{Due, This, AVersion, ANumber, ACount, AString, SomeBytes, AUuid, ATag, APointer, FirstElement, NextElement, AValue, ACellLine, Reading, taken_first, due_at}
 use Rattle.text_grammar.specs.Dues.{next_read, all_read, value_dues, list_dues, closes}
 use Rattle.text_grammar.specs.Reader.{Ending, Whole, Stopped, ComesTo, goes_on, refused, no_token, ended, at_end}
-use Rattle.text_reading_laws.specs.Settled.{IsSettled, is_simple}
-use Rattle.text_reading_laws.specs.Values.{reading}
-use Rattle.text_reading_laws.proofs.Settled.{settled_cutting, settled_next, settled_head}
-use Rattle.text_reading_laws.proofs.Alike.{go_on, next_open, all_open, next_element, all_element}
-use Rattle.text_lexer.specs.declared.stop.Stop.{Stop}
-use Rattle.text_lexer.specs.declared.stop.Stop.TheVariants as stop
-use Rattle.text_lexer.specs.Lexemes.{plain}
-use Rattle.text_lexer.specs.Misses.{IsWrong, MissesBy, Misses}
+use Rattle.text_grammar.specs.Settled.{IsSettled, is_simple}
+use Rattle.text_grammar.specs.Values.{reading}
+use Rattle.text_grammar.proofs.Settled.{settled_cutting, settled_next, settled_head}
+use Rattle.text_grammar.proofs.Alike.{go_on, next_open, all_open, next_element, all_element}
+use Rattle.text_parser.specs.declared.stop.Stop.{Stop}
+use Rattle.text_parser.specs.declared.stop.Stop.TheVariants as stop
+use Rattle.text_parser.specs.Lexemes.{plain}
+use Rattle.text_parser.specs.Misses.{IsWrong, MissesBy, Misses}
 use Rattle.text_parser.specs.Passing.{Named, Passes, Halts}
 
 pub if_ok : {A E : Type 0} (r : Result A E) (P Q : A → Type 0) → ((x : A) → P x → Q x) → IfOk r P → IfOk r Q

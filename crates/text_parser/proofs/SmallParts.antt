@@ -8,10 +8,10 @@ use Rattle.text_grammar.specs.declared.fault.TextReason.TheVariants as reason
 use Rattle.text_grammar.specs.Tokens.{Word, Number, Mark, IsCut}
 use Rattle.text_grammar.specs.Written.{Name, Other, equals, colon, comma}
 use Rattle.text_grammar.specs.Dues.{This, ANumber, ACount, count_due, went_on_if, is_count_token}
-use Rattle.text_reading_laws.specs.Values.{reading}
-use Rattle.text_lexer.specs.declared.stop.Stop.{Stop}
-use Rattle.text_lexer.specs.Lexemes.{plain}
-use Rattle.text_lexer.specs.Misses.{Misses}
+use Rattle.text_grammar.specs.Values.{reading}
+use Rattle.text_parser.specs.declared.stop.Stop.{Stop}
+use Rattle.text_parser.specs.Lexemes.{plain}
+use Rattle.text_parser.specs.Misses.{Misses}
 use Rattle.text_parser.specs.Passing.{Named, Passes, Halts}
 use Rattle.text_parser.specs.ValueParts.{comma_dues, comma_tokens, name_tokens, count_tokens, written_dues, written_tokens}
 use Rattle.text_parser.proofs.Passages.{passes_none, passes_one, passes_then, halts_miss, halts_then}

@@ -23,11 +23,11 @@ use Rattle.text_grammar.specs.Reads.{ReadsAs, IsFault, IsFirstFault, IsTextFault
 use Rattle.text_grammar.specs.Dues.{Reading, nothing_read, may_end}
 use Rattle.text_grammar.specs.Reader.{Ending, Whole, Stopped, ComesTo, goes_on, refused, no_token, ended}
 use Rattle.text_grammar.proofs.Runs.{skip_less}
-use Rattle.text_reading_laws.proofs.OneText.{cut_less, never_both}
-use Rattle.text_reading_laws.proofs.Faults.{legal_roots}
-use Rattle.text_reading_laws.proofs.Stated.{one_graph, first_fault}
-use Rattle.text_lexer.specs.declared.stop.Stop.{Stop}
-use Rattle.text_lexer.specs.declared.stop.Stop.TheVariants as stop
+use Rattle.text_grammar.proofs.OneText.{cut_less, never_both}
+use Rattle.text_grammar.proofs.Faults.{legal_roots}
+use Rattle.text_grammar.proofs.Stated.{one_graph, first_fault}
+use Rattle.text_parser.specs.declared.stop.Stop.{Stop}
+use Rattle.text_parser.specs.declared.stop.Stop.TheVariants as stop
 use Rattle.text_parser.specs.Lines.{Refuses, left_by, fault_by}
 
 -- ## How much is left

@@ -12,14 +12,14 @@ use Rattle.text_grammar.specs.declared.version.Version.{Version}
 use Rattle.text_grammar.specs.Tokens.{Token, Uuid, skip, begins_bytes, hex_octets, hex_pair, uuid_octets, IsCut}
 use Rattle.text_grammar.specs.Reads.{Cut, End, Bad}
 use Rattle.text_grammar.proofs.Classes.{is_no_hyphen, digit_no_hyphen}
-use Rattle.text_reading_laws.specs.Settled.{is_two}
-use Rattle.text_lexer.specs.declared.lexeme.Lexeme as shown
-use Rattle.text_lexer.specs.declared.lexeme.Lexeme.TheVariants as lexeme
-use Rattle.text_lexer.specs.declared.stop.Stop.TheVariants as stop
-use Rattle.text_lexer.specs.Lexemes.{plain, for_uuid, Comes, other_reason}
-use Rattle.text_lexer.specs.Misses.{MissesUuid}
+use Rattle.text_grammar.specs.Settled.{is_two}
+use Rattle.text_parser.specs.declared.lexeme.Lexeme as shown
+use Rattle.text_parser.specs.declared.lexeme.Lexeme.TheVariants as lexeme
+use Rattle.text_parser.specs.declared.stop.Stop.TheVariants as stop
+use Rattle.text_parser.specs.Lexemes.{plain, for_uuid, Comes, other_reason}
+use Rattle.text_parser.specs.Misses.{MissesUuid}
 use Rattle.text_parser.specs.Identifiers.{fits_place, IsUuid, is_id}
-use Rattle.text_reading_laws.proofs.Real.{hex_small as hex_low}
+use Rattle.text_grammar.proofs.Real.{hex_small as hex_low}
 
 -- ## The form
 

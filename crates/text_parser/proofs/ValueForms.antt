@@ -19,13 +19,13 @@ use Rattle.text_grammar.specs.Tokens.{Token, Word, Number, Cell, Str, Bytes, Uui
 use Rattle.text_grammar.specs.Written.{Other, colon, token_of, array_counts, list_pieces, arm_pieces, values_pieces, writes_octets}
 use Rattle.text_grammar.specs.Readable.{has_offset, has_maximum, may_be_elements, has_text_form}
 use Rattle.text_grammar.specs.Dues.{Due, This, ANumber, AString, ATag, APointer, AValue, count_dues, list_dues, arm_dues, with_name}
-use Rattle.text_reading_laws.specs.Values.{reading, have_forms}
-use Rattle.text_reading_laws.proofs.OneText.{cut_less}
+use Rattle.text_grammar.specs.Values.{reading, have_forms}
+use Rattle.text_grammar.proofs.OneText.{cut_less}
 use Rattle.text_grammar.specs.Reads.{Lexeme, Cut, End, Bad}
-use Rattle.text_lexer.specs.declared.stop.Stop.{Stop}
-use Rattle.text_lexer.specs.declared.stop.Stop.TheVariants as stop
-use Rattle.text_lexer.specs.Lexemes.{plain, reference_token, reference_fits}
-use Rattle.text_lexer.specs.Misses.{IsWrong, Misses}
+use Rattle.text_parser.specs.declared.stop.Stop.{Stop}
+use Rattle.text_parser.specs.declared.stop.Stop.TheVariants as stop
+use Rattle.text_parser.specs.Lexemes.{plain, reference_token, reference_fits}
+use Rattle.text_parser.specs.Misses.{IsWrong, Misses}
 use Rattle.text_parser.specs.Passing.{Named, Passes, Halts, IsValue, AreElements}
 use Rattle.text_parser.specs.Known.{is_numeral}
 use Rattle.text_parser.specs.ValueParts.{written_dues, written_tokens, writes_maximum, known_maximum, maximum_by, has_no_bound, bound_or, noted_reference, IsArm}

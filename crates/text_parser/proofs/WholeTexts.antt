@@ -23,14 +23,14 @@ use Rattle.text_grammar.specs.Readable.{AreNamed}
 use Rattle.text_grammar.specs.Reads.{ReadsAs}
 use Rattle.text_grammar.specs.Dues.{Due, ACellLine, root_dues, named_due, nothing_read}
 use Rattle.text_grammar.specs.Reader.{Stopped, ComesTo}
-use Rattle.text_reading_laws.specs.Settled.{IsSettled}
-use Rattle.text_reading_laws.specs.Values.{reading, noted}
-use Rattle.text_reading_laws.proofs.Nodes.{RootsFormed, CellsFormed, formed_readable, Knows, knows_none, home_knows}
-use Rattle.text_reading_laws.proofs.GraphRead.{roots_noted, roots_know}
-use Rattle.text_reading_laws.proofs.Back.{values_known}
+use Rattle.text_grammar.specs.Settled.{IsSettled}
+use Rattle.text_grammar.specs.Values.{reading, noted}
+use Rattle.text_grammar.proofs.Nodes.{RootsFormed, CellsFormed, formed_readable, Knows, knows_none, home_knows}
+use Rattle.text_grammar.proofs.GraphRead.{roots_noted, roots_know}
+use Rattle.text_grammar.proofs.Back.{values_known}
 use Rattle.text_parser.specs.Known.{AreKnown, NamesKnown}
-use Rattle.text_lexer.specs.declared.stop.Stop.{Stop}
-use Rattle.text_lexer.specs.declared.stop.Stop.TheVariants as stop
+use Rattle.text_parser.specs.declared.stop.Stop.{Stop}
+use Rattle.text_parser.specs.declared.stop.Stop.TheVariants as stop
 use Rattle.text_parser.specs.Passing.{Named, Halts}
 use Rattle.text_parser.specs.Lines.{head_tokens, HasHead, Refuses, HeadHalts, lines_due, lines_tokens, AreFormed, all_noted, AreRoots, cell_tokens, cells_tokens, cell_noted, AreTyped, LineHalts}
 use Rattle.text_parser.specs.Lines.{AreCells}

@@ -4,3 +4,6 @@ pub mod NamedCells
 pub mod Known
 pub mod ValueParts
 pub mod Lines
+pub mod Lexemes
+pub mod Misses
+pub mod Quick

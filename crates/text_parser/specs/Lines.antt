@@ -16,11 +16,11 @@ use Rattle.text_grammar.specs.Tokens.{Token, Word, Number, Cell, Mark, Begins, I
 use Rattle.text_grammar.specs.Written.{Name, word, token_of, named, version_number, value_pieces}
 use Rattle.text_grammar.specs.Dues.{Due, This, AVersion, ACellLine, Reading, named_due, named_type, all_read}
 use Rattle.text_grammar.specs.Reader.{ComesTo, Stopped}
-use Rattle.text_reading_laws.specs.Settled.{IsSettled}
-use Rattle.text_reading_laws.specs.Values.{reading, have_forms, noted, value_tokens}
-use Rattle.text_lexer.specs.declared.stop.Stop.{Stop}
-use Rattle.text_lexer.specs.declared.stop.Stop.TheVariants as stop
-use Rattle.text_lexer.specs.Lexemes.{plain}
+use Rattle.text_grammar.specs.Settled.{IsSettled}
+use Rattle.text_grammar.specs.Values.{reading, have_forms, noted, value_tokens}
+use Rattle.text_parser.specs.declared.stop.Stop.{Stop}
+use Rattle.text_parser.specs.declared.stop.Stop.TheVariants as stop
+use Rattle.text_parser.specs.Lexemes.{plain}
 use Rattle.text_parser.specs.Passing.{Named, Passes}
 
 -- ## The head

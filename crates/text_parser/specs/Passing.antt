@@ -9,10 +9,10 @@ use Rattle.text_grammar.specs.Written.{token_of, writes_octets, list_pieces, val
 use Rattle.text_grammar.specs.Readable.{may_be_elements}
 use Rattle.text_grammar.specs.Dues.{Due, AValue, all_read, list_dues}
 use Rattle.text_grammar.specs.Reader.{ComesTo, Stopped}
-use Rattle.text_reading_laws.specs.Settled.{IsSettled}
-use Rattle.text_reading_laws.specs.Values.{reading, have_forms, noted, value_tokens}
-use Rattle.text_lexer.specs.declared.stop.Stop.{Stop}
-use Rattle.text_lexer.specs.declared.stop.Stop.TheVariants as stop
+use Rattle.text_grammar.specs.Settled.{IsSettled}
+use Rattle.text_grammar.specs.Values.{reading, have_forms, noted, value_tokens}
+use Rattle.text_parser.specs.declared.stop.Stop.{Stop}
+use Rattle.text_parser.specs.declared.stop.Stop.TheVariants as stop
 
 -- the cells that pointers have named, each with its type, the last first
 abbrev pub Named : Type 0

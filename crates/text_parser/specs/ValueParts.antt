@@ -10,7 +10,7 @@ use Rattle.text_grammar.specs.declared.version.Version.{Version}
 use Rattle.text_grammar.specs.Tokens.{Token, Word, Number, Mark}
 use Rattle.text_grammar.specs.Written.{comma, token_of, named, separated, values_pieces, value_pieces, arm_pieces}
 use Rattle.text_grammar.specs.Dues.{Due, This, FirstElement, NextElement, named_due, count_due, arm_dues, with_name}
-use Rattle.text_reading_laws.specs.Values.{have_forms, noted}
+use Rattle.text_grammar.specs.Values.{have_forms, noted}
 use Rattle.text_parser.specs.Passing.{Named, Passes}
 
 -- ## Commas

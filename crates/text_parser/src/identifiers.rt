@@ -5,15 +5,19 @@ ghost use Rattle.nd_base.specs.Text as octets;
 ghost use Rattle.nd_base.specs.Text.{uuid_form};
 ghost use Rattle.text_grammar.specs.Tokens as tokens;
 ghost use Rattle.text_grammar.specs.Tokens.{uuid_octets, IsCut};
-ghost use Rattle.text_lexer.specs.Lexemes.{for_uuid};
-ghost use Rattle.text_lexer.specs.Misses.{MissesUuid};
+ghost use Rattle.text_parser.specs.Lexemes.{for_uuid};
+ghost use Rattle.text_parser.specs.Misses.{MissesUuid};
 ghost use Rattle.text_parser.specs.Identifiers.{fits_place, HasForm, is_id};
 
+use crate::Stop;
+use crate::lexeme::scan;
+use crate::octets::skip_blanks;
+use crate::steps::unexpected;
+use crate::strings::hex_pair;
 use nd_base::text::is_hex_digit;
 use nd_base::{Memory, Octets};
 use std::alloc::Global;
 use text_grammar::Version;
-use text_lexer::{Stop, hex_pair, scan, skip_blanks, unexpected};
 use uuid::Uuid;
 
 /// How the octets of a UUID are written: d is any hexadecimal digit, and a hyphen is itself.

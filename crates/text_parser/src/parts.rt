@@ -12,13 +12,14 @@ ghost use Rattle.text_parser.specs.Passing.{Named, Passes, Halts};
 ghost use Rattle.text_parser.specs.ValueParts.{comma_dues, comma_tokens, name_tokens, count_tokens, writes_maximum, written_dues, written_tokens};
 ghost use Rattle.text_parser.specs.ValueParts.{maximum_by, known_maximum, has_no_bound, bound_or, noted_reference};
 
+use crate::Stop;
 use crate::grammar::Grammar;
 use crate::names::Names;
+use crate::steps::{count, mark, name};
 use nd_base::Memory;
 use nd_types::{Arm, Arms, Prim, TypeDef, TypeId};
 use nd_value::{CellId, Vals};
 use text_grammar::Version;
-use text_lexer::{Stop, count, mark, name};
 
 /// The comma before all members but the first.
 #[inline(always)]

@@ -19,16 +19,18 @@ ghost use Rattle.text_parser.specs.Known.{NamesKnown};
 ghost use Rattle.text_parser.specs.Lines.{HasHead, HeadHalts, Refuses, IsLine, lines_due, AreRoots, AreCells, IsCellLine, IsCellBegun, LineHalts};
 ghost use Rattle.text_parser.specs.Lines.{fault_by, left_by};
 
+use crate::Stop;
 use crate::grammar::Grammar;
+use crate::lexeme::scan;
 use crate::names::Names;
 use crate::parts::named;
+use crate::steps::{cell_in, is_end, mark, name, refused, unexpected, version, word};
 use crate::values::value;
 use nd_base::text::position;
 use nd_types::{Interface, Side, TypeId};
 use nd_value::{Cell, Cells, Graph, Val, Vals};
 use std::alloc::Global;
 use text_grammar::{TEXT_LIMIT, TextFault, TextReason, Version};
-use text_lexer::{Stop, cell_in, is_end, mark, name, refused, scan, unexpected, version, word};
 
 /// Reads a text of the values of an operation's side: the graph that it gives. A text is of version 1 or of version 2, as its second token
 /// says; blanks may be between all tokens. The graph need not conform: whether its numbers, counts, tags and cells are right is

@@ -11,12 +11,13 @@ ghost use Rattle.nd_value.specs.Tree.{trees};
 ghost use Rattle.text_grammar.specs.Tokens.{Mark, IsByteString, IsCut};
 ghost use Rattle.text_grammar.specs.Written.{writes_octets};
 ghost use Rattle.text_grammar.specs.Dues.{AValue, FirstElement, arm_dues, list_dues, named_due};
-ghost use Rattle.text_lexer.specs.Lexemes.{plain};
-ghost use Rattle.text_lexer.specs.declared.stop.Stop.TheVariants as stop;
+ghost use Rattle.text_parser.specs.Lexemes.{plain};
+ghost use Rattle.text_parser.specs.declared.stop.Stop.TheVariants as stop;
 ghost use Rattle.text_parser.specs.Passing.{Named, Halts, IsValue, AreElements};
 ghost use Rattle.text_parser.specs.Known.{IsType, IsUnion, AreOf, is_numeral};
 ghost use Rattle.text_parser.specs.ValueParts.{comma_dues, byte_trees, IsMember, HaveCome, IsArm};
 
+use crate::Stop;
 use crate::grammar::Grammar;
 use crate::identifiers::identifier;
 use crate::names::Names;
@@ -24,12 +25,11 @@ use crate::parts::{
     are_bytes, are_numerals, cell_of, is_unbound, maximum_before, maximum_is_written, maximum_of,
     maximum_or, named, note_reference, selected_type, separator, written_count,
 };
+use crate::steps::{after_mark, bytes, count, mark, number, reference, string, word};
+use crate::strings::{hex_pair, string_octets};
 use nd_types::{Arm, Arms, Fields, TypeDef, TypeId};
 use nd_value::{ArmVal, Val, Vals};
 use std::alloc::Global;
-use text_lexer::{
-    Stop, after_mark, bytes, count, hex_pair, mark, number, reference, string, string_octets, word,
-};
 
 /// A value and what follows it.
 type Read<'a> = Result<(Val, &'a [u8]), Stop>;

@@ -12,8 +12,8 @@ use Rattle.nd_value.specs.Fitting.{Fitting, IsFit, setting_beside}
 use Rattle.nd_value.specs.Setting.{root_list}
 use Rattle.nd_value.specs.Conforms.{Conforms}
 use Rattle.nd_value.specs.Canon.{IsCanon}
-use Rattle.nd_canonical.specs.Canonical.{IsCanonical}
-use Rattle.nd_canonical_laws.proofs.NamingOrder.{canon_of_fit}
+use Rattle.nd_graph.specs.Canonical.{IsCanonical}
+use Rattle.nd_graph.proofs.NamingOrder.{canon_of_fit}
 use Rattle.text_grammar.specs.Printed.{IsText}
 use Rattle.text_printer.specs.Texts.{head_text, roots_text, cells_text}
 use Rattle.text_printer.specs.Walks.{RootsBegin, CellsBegin}

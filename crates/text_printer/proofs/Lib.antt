@@ -9,3 +9,5 @@ pub mod Listing
 pub mod RowTexts
 pub mod Sound
 pub mod Walking
+pub mod HomePaths
+pub mod Nodes

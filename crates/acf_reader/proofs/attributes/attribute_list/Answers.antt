@@ -1,7 +1,7 @@
 use Rattle.std.proofs.Common.{◌≡◌, [], ◌∷◌, ◌++◌, arith, true, false}
-use Rattle.grammar_phrases.specs.Text.{symbol_at, is, is_in}
-use Rattle.grammar_phrases.specs.Reading.{behind_read, separated_read}
-use Rattle.grammar_phrases.proofs.Gathered.{gathers, gathering_fails, gathered}
+use Rattle.idl_grammar.specs.Text.{symbol_at, is, is_in}
+use Rattle.idl_grammar.specs.ReadPhrases.{behind_read, separated_read}
+use Rattle.idl_grammar.proofs.Gathered.{gathers, gathering_fails, gathered}
 use Rattle.idl_grammar.specs.Symbols as symbol
 use Rattle.std.proofs.lemmas.Result.{err_from_is_err_and}
 use Rattle.acf_reader.specs.Reading.{attribute_read}

@@ -1,7 +1,7 @@
 use Rattle.std.proofs.Common.{◌≡◌, [], ◌∷◌, ◌++◌, map, arith, true, false}
-use Rattle.grammar_phrases.specs.Text.{symbol_at, is_in}
-use Rattle.grammar_phrases.specs.Reading.{list_read}
-use Rattle.grammar_phrases.proofs.Gathered.{gathers, gathering_fails, gathered}
+use Rattle.idl_grammar.specs.Text.{symbol_at, is_in}
+use Rattle.idl_grammar.specs.ReadPhrases.{list_read}
+use Rattle.idl_grammar.proofs.Gathered.{gathers, gathering_fails, gathered}
 use Rattle.std.proofs.lemmas.Result.{err_from_is_err_and}
 use Rattle.std.proofs.lemmas.List.{map_push}
 use Rattle.acf_reader.specs.Reading.{element_read, body_read, element_firsts}

@@ -1,7 +1,7 @@
 use Rattle.std.proofs.Common.{◌-◌, ◌≤◌, map, length}
-use Rattle.grammar_phrases.specs.Text.{is_in}
-use Rattle.grammar_phrases.specs.Reading.{list_read}
-use Rattle.grammar_phrases.proofs.Gathered.{Gathered}
+use Rattle.idl_grammar.specs.Text.{is_in}
+use Rattle.idl_grammar.specs.ReadPhrases.{list_read}
+use Rattle.idl_grammar.proofs.Gathered.{Gathered}
 use Rattle.acf_reader.specs.Reading.{element_read, element_firsts}
 use Rattle.acf_reader.specs.Seen.{seen_element}
 use Rattle.acf_reader.proofs.body.body.Given as goal

@@ -1,7 +1,7 @@
 use Rattle.std.proofs.Common.{◌-◌, ◌<◌, [], ◌∷◌, map, length}
-use Rattle.grammar_phrases.specs.Text.{is_in}
-use Rattle.grammar_phrases.specs.Reading.{behind_read, separated_read}
-use Rattle.grammar_phrases.proofs.Gathered.{Gathered}
+use Rattle.idl_grammar.specs.Text.{is_in}
+use Rattle.idl_grammar.specs.ReadPhrases.{behind_read, separated_read}
+use Rattle.idl_grammar.proofs.Gathered.{Gathered}
 use Rattle.idl_grammar.specs.Symbols as symbol
 use Rattle.acf_reader.specs.Reading.{parameter_read}
 use Rattle.acf_reader.specs.Seen.{seen_parameter}

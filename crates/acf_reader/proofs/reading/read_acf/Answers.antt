@@ -1,7 +1,7 @@
 use Rattle.std.proofs.Common.{◌≡◌, length, sym, ap, subst, arith, ◌∙◌, Result}
 use Rattle.std.proofs.lemmas.List.{length-map}
-use Rattle.grammar_phrases.specs.Text.{Text}
-use Rattle.grammar_phrases.specs.Reading.{Fault}
+use Rattle.idl_grammar.specs.Text.{Text}
+use Rattle.idl_grammar.specs.ReadPhrases.{Fault}
 use Rattle.idl_grammar.specs.Lexemes.{IsFormed}
 use Rattle.idl_tokens.specs.Lexemes.{text_of}
 use Rattle.acf_reader.specs.Answers.{IsAnswer, acf_answer}

@@ -1,5 +1,5 @@
 use Rattle.std.proofs.Common.{subst}
-use Rattle.command_compat.specs.Compat.{IsBeside}
+use Rattle.command_compile.specs.Compat.{IsBeside}
 use Rattle.dceidl.proofs.Places.{told_at}
 use Rattle.dceidl.proofs.compared.incompatible.Goals as goal
 

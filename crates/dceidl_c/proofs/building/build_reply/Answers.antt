@@ -1,8 +1,8 @@
 use Rattle.std.proofs.Common.{◌≡◌, Some, sym, subst}
 use Rattle.nd_types.specs.declared.types.Side.TheVariants.{Out}
 use Rattle.nd_value.specs.Fitting.{Fitting, IsFit, setting_beside}
-use Rattle.library_building.specs.declared.fault.BuildFault.{BuildFault}
-use Rattle.library_building.specs.Built.{IsBuildCause}
+use Rattle.library_nodes.specs.declared.fault.BuildFault.{BuildFault}
+use Rattle.library_nodes.specs.Built.{IsBuildCause}
 use Rattle.dceidl_c.proofs.building.build_reply.Goals as goal
 
 pub returns-in-Err-TooMany-clause-argument : goal.returns-in-Err-TooMany-clause-argument

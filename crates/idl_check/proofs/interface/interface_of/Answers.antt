@@ -8,10 +8,10 @@ use Rattle.idl_rule_definitions.specs.Found.{seen_breach}
 use Rattle.idl_rule_definitions.specs.Nodes.{nodes}
 use Rattle.idl_rule_definitions.specs.Scene.{Scene, scene_of}
 use Rattle.idl_constructs.specs.SeenNodes.{seen_nodes}
-use Rattle.idl_type_numbers.specs.SeenNumbers.{AreNumbers}
-use Rattle.idl_type_numbers.specs.SeenOperations.{HasTags, HasOperations}
-use Rattle.idl_type_numbers.specs.SeenTypes.{scene_seen, IsTypes}
-use Rattle.idl_type_numbers.proofs.Fronts.{scene_is}
+use Rattle.idl_declared_types.specs.SeenNumbers.{AreNumbers}
+use Rattle.idl_declared_types.specs.SeenOperations.{HasTags, HasOperations}
+use Rattle.idl_declared_types.specs.SeenTypes.{scene_seen, IsTypes}
+use Rattle.idl_declared_types.proofs.Fronts.{scene_is}
 use Rattle.idl_constructs.proofs.Judgement.{nodes_are, told_by_lists, told_over, none_broken, memory_answers}
 use Rattle.idl_check.proofs.interface.interface_of.Goals as goal
 

@@ -3,7 +3,7 @@ use Rattle.std.proofs.lemmas.Result.{on_ok_weaker}
 use Rattle.idl_scope.specs.Tables.{found, put}
 use Rattle.idl_interface.specs.Made.{AreListed}
 use Rattle.idl_interface.proofs.Listing.{listed_old, listed_new}
-use Rattle.idl_type_numbers.proofs.Numbered.{no_number as lacks}
+use Rattle.idl_declared_types.proofs.Numbered.{no_number as lacks}
 use Rattle.idl_interface.proofs.listed.put.Goals as goal
 
 pub returns-then-is_some : goal.returns-then-is_some

@@ -1,7 +1,7 @@
 use Rattle.std.proofs.Common.{◌≡◌, ◌++◌, true, map, drop}
 use Rattle.std.specs.List.{list_all}
 use Rattle.nd_types.specs.Legal.{has_names}
-use Rattle.idl_type_numbers.specs.SeenOperations.{called}
+use Rattle.idl_declared_types.specs.SeenOperations.{called}
 use Rattle.idl_interface.specs.Made.{scene_in, operation_made}
 use Rattle.idl_interface.proofs.operations.all_operations.Given as goal
 

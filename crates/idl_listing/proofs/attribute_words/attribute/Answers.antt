@@ -1,7 +1,7 @@
 use Rattle.std.proofs.Common.{◌≡◌, ◌∙◌, ap, [], ◌∷◌, ◌++◌}
-use Rattle.listing_words.specs.Lines.{behind}
+use Rattle.idl_listing.specs.Lines.{behind}
 use Rattle.idl_listing.specs.Listing.{attr_word, star}
-use Rattle.listing_words.proofs.WordByWord.{then_words, goes_on}
+use Rattle.idl_listing.proofs.WordByWord.{then_words, goes_on}
 use Rattle.idl_listing.proofs.attribute_words.attribute.Goals as goal
 
 -- the word, then the variable with its star

@@ -1,5 +1,5 @@
 use Rattle.std.proofs.Common.{◌∙◌, codes}
-use Rattle.listing_words.proofs.WordByWord.{then_piece}
+use Rattle.idl_listing.proofs.WordByWord.{then_piece}
 use Rattle.idl_listing.proofs.header_line.uuid_digits.Goals as goal
 
 -- nine pieces, one after the other

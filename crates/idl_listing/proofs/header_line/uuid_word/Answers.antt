@@ -1,7 +1,7 @@
 use Rattle.std.proofs.Common.{◌∙◌, ap, sym, [], ◌∷◌, ◌++◌}
 use Rattle.idl_listing.specs.Listing.{uuid_text, uuid_word}
-use Rattle.listing_words.specs.Lines.{behind}
-use Rattle.listing_words.proofs.WordByWord.{one_behind}
+use Rattle.idl_listing.specs.Lines.{behind}
+use Rattle.idl_listing.proofs.WordByWord.{one_behind}
 use Rattle.idl_listing.proofs.header_line.uuid_word.Goals as goal
 
 pub returns-in_ok-uuid_digits-in-Some : goal.returns-in_ok-uuid_digits-in-Some

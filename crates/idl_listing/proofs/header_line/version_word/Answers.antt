@@ -1,6 +1,6 @@
 use Rattle.std.proofs.Common.{◌∙◌, ap, ap₂, [], ◌∷◌, ◌++◌, codes, decimal}
-use Rattle.listing_words.specs.Lines.{behind}
-use Rattle.listing_words.proofs.WordByWord.{goes_on}
+use Rattle.idl_listing.specs.Lines.{behind}
+use Rattle.idl_listing.proofs.WordByWord.{goes_on}
 use Rattle.idl_listing.proofs.header_line.version_word.Goals as goal
 
 pub returns : goal.returns

@@ -1,7 +1,7 @@
 use Rattle.std.proofs.Common.{◌∙◌, ◌+◌, ◌++◌, ap, sym, drop, arith}
 use Rattle.std.specs.List.{flat_map, enumerate_from}
 use Rattle.idl_listing.specs.Listing.{operation_lines}
-use Rattle.listing_words.proofs.ListedLines.{counted_more, counted_end}
+use Rattle.idl_listing.proofs.ListedLines.{counted_more, counted_end}
 use Rattle.idl_listing.proofs.operation_lines.all_operations.Goals as goal
 
 pub loop-at-preserved : goal.loop-at-preserved

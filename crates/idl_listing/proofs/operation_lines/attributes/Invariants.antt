@@ -1,7 +1,7 @@
 use Rattle.std.proofs.Common.{◌≡◌, ◌++◌, drop}
 use Rattle.std.specs.List.{flat_map}
 use Rattle.nd_types.specs.Fields.{param_fields}
-use Rattle.listing_words.specs.Lines.{behind}
+use Rattle.idl_listing.specs.Lines.{behind}
 use Rattle.idl_listing.specs.Listing.{attr_words, attrs_words}
 use Rattle.idl_listing.proofs.operation_lines.attributes.Given as goal
 

@@ -1,6 +1,6 @@
 use Rattle.std.proofs.Common.{◌∙◌, ap, [], ◌∷◌, ◌++◌, codes, decimal}
-use Rattle.listing_words.specs.Lines.{behind}
-use Rattle.listing_words.proofs.WordByWord.{first_word, then_words, then_end}
+use Rattle.idl_listing.specs.Lines.{behind}
+use Rattle.idl_listing.proofs.WordByWord.{first_word, then_words, then_end}
 use Rattle.idl_listing.proofs.operation_lines.name_line.Goals as goal
 
 pub returns : goal.returns

@@ -1,5 +1,5 @@
 use Rattle.std.proofs.Common.{◌∙◌}
-use Rattle.listing_words.proofs.WordByWord.{then_piece}
+use Rattle.idl_listing.proofs.WordByWord.{then_piece}
 use Rattle.idl_listing.proofs.operation_lines.operation_lines.Goals as goal
 
 pub returns : goal.returns

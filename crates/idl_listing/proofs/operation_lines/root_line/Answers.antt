@@ -1,9 +1,9 @@
 use Rattle.std.proofs.Common.{◌∙◌, ap, [], ◌∷◌, ◌++◌, decimal}
 use Rattle.nd_types.specs.Fields.{param_fields}
 use Rattle.idl_listing.specs.Worded.{vars_at}
-use Rattle.listing_words.specs.Lines.{side_word}
+use Rattle.idl_listing.specs.Lines.{side_word}
 use Rattle.idl_listing.specs.Listing.{attrs_words}
-use Rattle.listing_words.proofs.WordByWord.{first_word, then_words, then_end}
+use Rattle.idl_listing.proofs.WordByWord.{first_word, then_words, then_end}
 use Rattle.idl_listing.proofs.operation_lines.root_line.Goals as goal
 
 pub returns : goal.returns

@@ -1,7 +1,7 @@
 use Rattle.std.proofs.Common.{◌∙◌, ap, [], ◌∷◌, ◌++◌, codes, decimal}
-use Rattle.listing_words.specs.Lines.{behind}
+use Rattle.idl_listing.specs.Lines.{behind}
 use Rattle.idl_listing.specs.Listing.{attrs_words}
-use Rattle.listing_words.proofs.WordByWord.{first_word, then_words, then_end}
+use Rattle.idl_listing.proofs.WordByWord.{first_word, then_words, then_end}
 use Rattle.idl_listing.proofs.type_lines.member_line.Goals as goal
 
 pub returns : goal.returns

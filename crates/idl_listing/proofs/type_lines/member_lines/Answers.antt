@@ -2,7 +2,7 @@ use Rattle.std.proofs.Common.{◌∙◌, ap, sym, drop, ◌++◌, arith}
 use Rattle.idl_listing.specs.Listing.{member_line}
 use Rattle.std.proofs.Common.{◌+◌}
 use Rattle.std.specs.List.{flat_map}
-use Rattle.listing_words.proofs.ListedLines.{line_more, line_end}
+use Rattle.idl_listing.proofs.ListedLines.{line_more, line_end}
 use Rattle.idl_listing.proofs.type_lines.member_lines.Goals as goal
 
 pub loop-at-preserved : goal.loop-at-preserved

@@ -1,8 +1,8 @@
 use Rattle.std.proofs.Common.{◌∙◌, ◌+◌, ◌++◌, ap, sym, drop, arith}
 use Rattle.std.specs.List.{flat_map, enumerate_from}
 use Rattle.idl_listing.specs.Listing.{type_line, part_lines, type_lines}
-use Rattle.listing_words.proofs.WordByWord.{then_piece}
-use Rattle.listing_words.proofs.ListedLines.{counted_more, counted_end}
+use Rattle.idl_listing.proofs.WordByWord.{then_piece}
+use Rattle.idl_listing.proofs.ListedLines.{counted_more, counted_end}
 use Rattle.idl_listing.proofs.type_lines.own_types.Goals as goal
 
 pub loop-at-preserved : goal.loop-at-preserved

@@ -1,7 +1,7 @@
 use Rattle.std.proofs.Common.{◌≡◌, ◌≢◌, ℕ, suc, ◌+◌, ◌-◌, ◌<◌, ◌≤◌, List, [], ◌∷◌, ◌++◌, map, option_map, length, arith, sym, ap, true, false}
-use Rattle.grammar_phrases.specs.Text.{symbol_at, is, is_in}
-use Rattle.grammar_phrases.specs.Reading.{behind_read, separated_read, some_read, list_read}
-use Rattle.grammar_phrases.proofs.Gathered.{Gathered}
+use Rattle.idl_grammar.specs.Text.{symbol_at, is, is_in}
+use Rattle.idl_grammar.specs.ReadPhrases.{behind_read, separated_read, some_read, list_read}
+use Rattle.idl_grammar.proofs.Gathered.{Gathered}
 use Rattle.idl_grammar.specs.Symbols as symbol
 use Rattle.idl_grammar.specs.Reading.{import_read, imports_read}
 use Rattle.idl_grammar.specs.Seen.{seen_import}

@@ -1,7 +1,7 @@
 use Rattle.std.proofs.Common.{◌≡◌, ◌≢◌, ℕ, suc, ◌+◌, ◌-◌, ◌<◌, ◌≤◌, List, [], ◌∷◌, ◌++◌, map, option_map, length, arith, sym, ap, true, false}
-use Rattle.grammar_phrases.specs.Text.{symbol_at, is, is_in}
-use Rattle.grammar_phrases.specs.Reading.{turned, behind_read, separated_read, some_read, list_read}
-use Rattle.grammar_phrases.proofs.Gathered.{Gathered, gathers, gathering_fails, gathered}
+use Rattle.idl_grammar.specs.Text.{symbol_at, is, is_in}
+use Rattle.idl_grammar.specs.ReadPhrases.{turned, behind_read, separated_read, some_read, list_read}
+use Rattle.idl_grammar.proofs.Gathered.{Gathered, gathers, gathering_fails, gathered}
 use Rattle.idl_grammar.specs.Symbols as symbol
 use Rattle.std.proofs.lemmas.Result.{err_from_is_err_and}
 use Rattle.std.proofs.lemmas.List.{map_push}

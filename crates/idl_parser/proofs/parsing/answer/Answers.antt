@@ -1,5 +1,5 @@
 use Rattle.std.proofs.Common.{◌≡◌, refl, Result}
-use Rattle.grammar_phrases.specs.Reading.{Fault}
+use Rattle.idl_grammar.specs.ReadPhrases.{Fault}
 use Rattle.idl_grammar.specs.Answers.{file_answer}
 use Rattle.idl_grammar.specs.Tree as tree
 use Rattle.idl_parser.proofs.Answered.{refused_within, told_tree, told_fault}

@@ -1,7 +1,7 @@
 use Rattle.std.proofs.Common.{◌≡◌, ◌<◌, length, refl, sym, ap, subst, arith, ◌∙◌, Result}
 use Rattle.std.proofs.lemmas.List.{length-map}
-use Rattle.grammar_phrases.specs.Text.{Text}
-use Rattle.grammar_phrases.specs.Reading.{Fault}
+use Rattle.idl_grammar.specs.Text.{Text}
+use Rattle.idl_grammar.specs.ReadPhrases.{Fault}
 use Rattle.idl_grammar.specs.Answers.{Answers, file_answer}
 use Rattle.idl_grammar.specs.Grammar.{file}
 use Rattle.idl_grammar.specs.Lexemes.{lexemes, lexeme_of, IsFormed}

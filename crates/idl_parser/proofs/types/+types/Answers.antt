@@ -1,9 +1,9 @@
 use Rattle.std.proofs.Common.{◌≡◌, ◌≢◌, ℕ, suc, ◌+◌, ◌-◌, ◌<◌, ◌≤◌, List, [], ◌∷◌, ◌++◌, map, option_map, length, arith, sym, ap, subst, refl, ◌∙◌, Ok, Option, true, false}
-use Rattle.grammar_phrases.specs.Text.{symbol_at, is, is_in}
-use Rattle.grammar_phrases.specs.Reading.{Read, then, turned, behind_read, separated_read, some_read, list_read}
-use Rattle.grammar_phrases.specs.Gives.{Gives}
-use Rattle.grammar_phrases.proofs.Fails.{fails_equal, fails_is}
-use Rattle.grammar_phrases.proofs.Gathered.{Gathered, gathers, gathering_fails, gathered}
+use Rattle.idl_grammar.specs.Text.{symbol_at, is, is_in}
+use Rattle.idl_grammar.specs.ReadPhrases.{Read, then, turned, behind_read, separated_read, some_read, list_read}
+use Rattle.idl_grammar.specs.Gives.{Gives}
+use Rattle.idl_grammar.proofs.Fails.{fails_equal, fails_is}
+use Rattle.idl_grammar.proofs.Gathered.{Gathered, gathers, gathering_fails, gathered}
 use Rattle.idl_grammar.specs.Symbols as symbol
 use Rattle.std.proofs.lemmas.Result.{err_from_is_err_and}
 use Rattle.std.proofs.lemmas.List.{map_push}

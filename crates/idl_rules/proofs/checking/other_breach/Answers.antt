@@ -6,7 +6,7 @@ use Rattle.idl_rule_definitions.specs.Found.{seen_breach}
 use Rattle.idl_rule_definitions.specs.Noted.{noted}
 use Rattle.idl_rule_definitions.specs.OtherBreaches.{other_breaches}
 use Rattle.idl_value_rules.specs.SeenCounts.{one_too_many}
-use Rattle.idl_type_numbers.specs.SeenTypes.{scene_seen}
+use Rattle.idl_declared_types.specs.SeenTypes.{scene_seen}
 use Rattle.idl_rules.proofs.checking.other_breach.Goals as goal
 
 pub returns : goal.returns

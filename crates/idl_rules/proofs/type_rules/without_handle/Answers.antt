@@ -5,7 +5,7 @@ use Rattle.idl_declared_types.specs.Kinds.{type_at}
 use Rattle.idl_rule_definitions.specs.Nodes.{InParameter}
 use Rattle.idl_rule_definitions.specs.TypeRules.{without_handle}
 use Rattle.idl_constructs.specs.SeenNodes.{seen_position}
-use Rattle.idl_type_properties.specs.SeenMarks.{Holds}
+use Rattle.idl_value_rules.specs.SeenMarks.{Holds}
 use Rattle.idl_rules.proofs.type_rules.without_handle.Goals as goal
 
 pub returns-in-Parameter-true : goal.returns-in-Parameter-true

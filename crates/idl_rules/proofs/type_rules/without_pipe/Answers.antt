@@ -2,7 +2,7 @@ use Rattle.std.proofs.Common.{sym, subst, ◌⊎◌, inl, inr}
 use Rattle.idl_declared_types.specs.Kinds.{type_at}
 use Rattle.idl_rule_definitions.specs.TypeRules.{without_pipe}
 use Rattle.idl_constructs.specs.SeenNodes.{seen_position}
-use Rattle.idl_type_properties.specs.SeenMarks.{Holds}
+use Rattle.idl_value_rules.specs.SeenMarks.{Holds}
 use Rattle.idl_rules.proofs.type_rules.without_pipe.Goals as goal
 
 pub returns-in-Typedef : goal.returns-in-Typedef

@@ -1,11 +1,11 @@
 use Rattle.std.proofs.Common.{◌≡◌, ◌∙◌, ◌≤◌, length, option_map, Some, slice_get, refl, ap, sym, arith}
 use Rattle.std.proofs.lemmas.Option.{slice_get_read}
 use Rattle.idl_scope.specs.Seen.{seen_files, known_in}
-use Rattle.idl_type_numbers.specs.SeenTypes.{scene_seen, scoped_front}
+use Rattle.idl_declared_types.specs.SeenTypes.{scene_seen, scoped_front}
 use Rattle.idl_rule_definitions.specs.Noted.{noted}
 use Rattle.idl_rule_definitions.specs.Found.{seen_breach}
 use Rattle.idl_value_rules.specs.RestBreaches.{rest_breaches}
-use Rattle.idl_type_numbers.proofs.Fronts.{scoped_front_all}
+use Rattle.idl_declared_types.proofs.Fronts.{scoped_front_all}
 use Rattle.idl_rules.proofs.RestNotes.{node_noted}
 use Rattle.idl_rules.proofs.uses.each_node.Goals as goal
 

@@ -2,8 +2,8 @@ use Rattle.std.proofs.Common.{◌≡◌, option_map}
 use Rattle.idl_scope.specs.Seen.{seen_files, known_in}
 use Rattle.idl_rule_definitions.specs.World.{World}
 use Rattle.idl_rule_definitions.specs.Scene.{Scene}
-use Rattle.idl_type_numbers.specs.SeenTypes.{scene_seen, scoped_front, IsTypes}
-use Rattle.idl_type_properties.specs.SeenMarks.{AreMarks}
+use Rattle.idl_declared_types.specs.SeenTypes.{scene_seen, scoped_front, IsTypes}
+use Rattle.idl_value_rules.specs.SeenMarks.{AreMarks}
 use Rattle.idl_rule_definitions.specs.Noted.{noted}
 use Rattle.idl_rule_definitions.specs.Found.{seen_breach}
 use Rattle.idl_value_rules.specs.RestBreaches.{rest_breaches}

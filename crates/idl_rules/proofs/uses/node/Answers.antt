@@ -5,7 +5,7 @@ use Rattle.idl_rule_definitions.specs.Found.{seen_breach}
 use Rattle.idl_declared_types.specs.Kinds.{type_at}
 use Rattle.idl_rule_definitions.specs.Nodes.{SwitchNode, EmptyArmNode, DeclaratorNode, TypeNode}
 use Rattle.idl_constructs.specs.SeenNodes.{seen_construct, seen_declared, seen_result, list_at}
-use Rattle.idl_type_numbers.specs.SeenTypes.{IsTyped, IsTypedUse}
+use Rattle.idl_declared_types.specs.SeenTypes.{IsTyped, IsTypedUse}
 use Rattle.idl_rule_definitions.specs.Types.{switch_type}
 use Rattle.idl_rule_definitions.specs.Scene.{Body, use_of}
 use Rattle.idl_rule_definitions.specs.DeclarationRules.{has_no_body}

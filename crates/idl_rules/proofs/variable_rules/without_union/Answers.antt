@@ -2,7 +2,7 @@ use Rattle.std.proofs.Common.{sym, subst, true, false}
 use Rattle.idl_declared_types.specs.Kinds.{type_at}
 use Rattle.idl_rule_definitions.specs.Scene.{chain}
 use Rattle.idl_rule_definitions.specs.VariableRules.{below_pointer}
-use Rattle.idl_type_properties.specs.SeenMarks.{Holds}
+use Rattle.idl_value_rules.specs.SeenMarks.{Holds}
 use Rattle.idl_rules.proofs.variable_rules.without_union.Goals as goal
 
 pub returns-then-is_switched_place : goal.returns-then-is_switched_place

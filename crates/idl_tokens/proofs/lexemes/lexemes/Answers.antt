@@ -1,6 +1,6 @@
 use Rattle.std.proofs.Common.{◌≡◌, ◌≤◌, refl, sym, ap, subst, arith, ◌∙◌, ◌++◌, ◌∷◌, [], length, map, List, take}
 use Rattle.std.proofs.lemmas.List.{map_push, take_all}
-use Rattle.grammar_phrases.specs.Text as phrases
+use Rattle.idl_grammar.specs.Text as phrases
 use Rattle.idl_lexer.specs.declared.tokens.Token.{Token}
 use Rattle.idl_grammar.specs.Lexemes.{lexeme_of, lexemes, IsFormed}
 use Rattle.idl_grammar.proofs.Formed.{lexemes_formed}

@@ -1,11 +1,11 @@
 use Rattle.std.proofs.Common.{sym, subst, []}
 use Rattle.idl_scope.specs.Seen.{known_in}
 use Rattle.idl_grammar.specs.Seen.{seen_type}
-use Rattle.idl_type_numbers.specs.declared.types.Typed.{Typed}
+use Rattle.idl_declared_types.specs.declared.types.Typed.{Typed}
 use Rattle.idl_rule_definitions.specs.Scene.{use_of}
 use Rattle.idl_declared_types.specs.SeenNames.{seen_names}
 use Rattle.idl_constructs.specs.SeenNodes.{seen_construct, seen_result}
-use Rattle.idl_type_numbers.specs.SeenTypes.{bare, IsTypedUse}
+use Rattle.idl_declared_types.specs.SeenTypes.{bare, IsTypedUse}
 use Rattle.idl_typing.proofs.NotedTypes.{result_is, noted_within}
 use Rattle.idl_typing.proofs.types.note_result.Goals as goal
 

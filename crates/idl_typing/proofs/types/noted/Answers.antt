@@ -2,7 +2,7 @@ use Rattle.std.proofs.Common.{sym, subst, IfOk}
 use Rattle.idl_scope.specs.Seen.{known_in}
 use Rattle.idl_constructs.specs.declared.nodes.Node.{Node}
 use Rattle.idl_declared_types.specs.SeenNames.{seen_names}
-use Rattle.idl_type_numbers.specs.SeenTypes.{bare, IsTyped}
+use Rattle.idl_declared_types.specs.SeenTypes.{bare, IsTyped}
 use Rattle.idl_typing.proofs.NotedTypes.{ok_then}
 use Rattle.idl_typing.proofs.types.noted.Goals as goal
 

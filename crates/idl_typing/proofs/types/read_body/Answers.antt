@@ -3,11 +3,11 @@ use Rattle.std.proofs.lemmas.Option.{slice_get_read}
 use Rattle.nd_base.specs.declared.octets.Place.{Place}
 use Rattle.idl_grammar.specs.Seen.{seen_type}
 use Rattle.idl_scope.specs.Seen.{known_in}
-use Rattle.idl_type_numbers.specs.declared.types.BodyTypes.{BodyTypes}
+use Rattle.idl_declared_types.specs.declared.types.BodyTypes.{BodyTypes}
 use Rattle.idl_rule_definitions.specs.Scene.{Body, parts_declared}
 use Rattle.idl_declared_types.specs.SeenNames.{seen_names}
 use Rattle.idl_constructs.specs.SeenNodes.{seen_construct}
-use Rattle.idl_type_numbers.specs.SeenTypes.{names_at, bare, body_at, IsBody}
+use Rattle.idl_declared_types.specs.SeenTypes.{names_at, bare, body_at, IsBody}
 use Rattle.idl_typing.specs.ReadTypes.{BodiesRead, TagsRead}
 use Rattle.idl_typing.proofs.Agreed.{types_same, tag_same}
 use Rattle.idl_typing.proofs.NotedTypes.{on_ok_both, on_ok_then}

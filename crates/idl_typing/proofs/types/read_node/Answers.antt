@@ -2,11 +2,11 @@ use Rattle.std.proofs.Common.{◌≡◌, ℕ, ◌+◌, List, [], ◌∷◌, ◌+
 use Rattle.std.proofs.lemmas.Option.{slice_get_read}
 use Rattle.nd_base.specs.declared.octets.Place.{Place}
 use Rattle.idl_scope.specs.Seen.{known_in}
-use Rattle.idl_type_numbers.specs.declared.types.BodyTypes.{BodyTypes}
-use Rattle.idl_type_numbers.specs.declared.types.OperationTypes.{OperationTypes}
-use Rattle.idl_type_numbers.specs.declared.types.Typed.{Typed}
+use Rattle.idl_declared_types.specs.declared.types.BodyTypes.{BodyTypes}
+use Rattle.idl_declared_types.specs.declared.types.OperationTypes.{OperationTypes}
+use Rattle.idl_declared_types.specs.declared.types.Typed.{Typed}
 use Rattle.idl_declared_types.specs.SeenNames.{seen_names}
-use Rattle.idl_type_numbers.specs.SeenTypes.{names_at}
+use Rattle.idl_declared_types.specs.SeenTypes.{names_at}
 use Rattle.idl_typing.specs.ReadTypes.{NamesRead, TypedRead, BodiesRead, TagsRead, OperationsRead, bodies_front, called_front}
 use Rattle.idl_declared_types.proofs.NameLists.{are_within-keeps}
 use Rattle.idl_typing.proofs.ReadSteps.{typed_same, typed_read_keeps, typed_read_next, names_read_keeps, names_read_next}

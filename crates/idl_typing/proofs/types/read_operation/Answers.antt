@@ -2,12 +2,12 @@ use Rattle.std.proofs.Common.{◌≡◌, ℕ, ◌+◌, List, map, length, Some, 
 use Rattle.std.proofs.lemmas.Option.{slice_get_read}
 use Rattle.idl_grammar.specs.Seen.{seen_type}
 use Rattle.idl_scope.specs.Seen.{known_in}
-use Rattle.idl_type_numbers.specs.declared.types.OperationTypes.{OperationTypes}
+use Rattle.idl_declared_types.specs.declared.types.OperationTypes.{OperationTypes}
 use Rattle.idl_rule_definitions.specs.Types.{type_of, written_type}
 use Rattle.idl_declared_types.specs.SeenNames.{seen_names}
 use Rattle.idl_constructs.specs.SeenNodes.{seen_construct, seen_result, list_at}
-use Rattle.idl_type_numbers.specs.SeenTypes.{names_at, bare}
-use Rattle.idl_type_numbers.specs.SeenOperations.{Called, called_at, IsOperation}
+use Rattle.idl_declared_types.specs.SeenTypes.{names_at, bare}
+use Rattle.idl_declared_types.specs.SeenOperations.{Called, called_at, IsOperation}
 use Rattle.idl_typing.specs.ReadTypes.{OperationsRead}
 use Rattle.idl_declared_types.proofs.KindLists.{type_at-stands}
 use Rattle.idl_declared_types.proofs.NameLists.{are_within-keeps, seen_names-keeps, within_stands}

@@ -1,7 +1,7 @@
 use Rattle.std.proofs.Common.{◌≡◌, length}
 use Rattle.idl_constructs.specs.declared.nodes.Nodes as program_nodes
 use Rattle.idl_rule_definitions.specs.Scene.{Scene}
-use Rattle.idl_type_numbers.specs.SeenTypes.{IsTypes}
+use Rattle.idl_declared_types.specs.SeenTypes.{IsTypes}
 use Rattle.idl_value_rules.proofs.CycleLoops.{AreRows}
 use Rattle.idl_value_rules.proofs.cycle_rule.graph_of.Given as goal
 

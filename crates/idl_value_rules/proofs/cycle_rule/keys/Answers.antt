@@ -2,10 +2,10 @@ use Rattle.std.proofs.Common.{◌≡◌, ◌∙◌, ℕ, ◌+◌, ◌<◌, ◌�
 use Rattle.std.proofs.lemmas.Option.{slice_get_read}
 use Rattle.nd_base.specs.declared.octets.Place.{Place}
 use Rattle.idl_scope.specs.Seen.{seen_files}
-use Rattle.idl_type_numbers.specs.declared.types.BodyTypes.{BodyTypes}
+use Rattle.idl_declared_types.specs.declared.types.BodyTypes.{BodyTypes}
 use Rattle.idl_rule_definitions.specs.Nodes.{place_in}
 use Rattle.idl_rule_definitions.specs.Scene.{bodies}
-use Rattle.idl_type_numbers.proofs.PlacesFilled.{Each}
+use Rattle.idl_declared_types.proofs.PlacesFilled.{Each}
 use Rattle.idl_value_rules.proofs.CycleKeys.{KeyAt, key_more, keys_all, joined_key}
 use Rattle.idl_value_rules.proofs.cycle_rule.keys.Goals as goal
 

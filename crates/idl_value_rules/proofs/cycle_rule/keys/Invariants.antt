@@ -1,8 +1,8 @@
 use Rattle.std.proofs.Common.{◌≡◌, length}
 use Rattle.idl_scope.specs.Seen.{seen_files}
 use Rattle.idl_rule_definitions.specs.Scene.{Scene, bodies}
-use Rattle.idl_type_numbers.specs.SeenTypes.{IsTypes}
-use Rattle.idl_type_numbers.proofs.PlacesFilled.{Each}
+use Rattle.idl_declared_types.specs.SeenTypes.{IsTypes}
+use Rattle.idl_declared_types.proofs.PlacesFilled.{Each}
 use Rattle.idl_value_rules.proofs.CycleKeys.{KeyAt}
 use Rattle.idl_value_rules.proofs.cycle_rule.keys.Given as goal
 

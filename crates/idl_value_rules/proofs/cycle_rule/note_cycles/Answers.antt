@@ -1,7 +1,7 @@
 use Rattle.std.proofs.Common.{◌∙◌, ℕ, List, length, option_map, sym, ap, subst}
 use Rattle.idl_scope.specs.Ended.{Ended}
 use Rattle.idl_rule_definitions.specs.Scene.{Scene, bodies}
-use Rattle.idl_type_numbers.specs.SeenTypes.{scene_seen}
+use Rattle.idl_declared_types.specs.SeenTypes.{scene_seen}
 use Rattle.idl_rule_definitions.specs.Found.{seen_breach}
 use Rattle.idl_value_rules.specs.Cycles.{AreKeys, AreNumbersWith, IsLeastOf}
 use Rattle.idl_value_rules.proofs.CycleChosen.{none_told, some_told, has_place, chosen_at}

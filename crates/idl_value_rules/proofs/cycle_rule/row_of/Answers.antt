@@ -3,12 +3,12 @@ use Rattle.std.specs.List.{flat_map}
 use Rattle.std.specs.Result.{IfOk}
 use Rattle.std.proofs.lemmas.Bool.{ltb-true, ltb-false}
 use Rattle.nd_base.specs.declared.octets.Place.{Place}
-use Rattle.idl_type_numbers.specs.declared.types.BodyTypes.{BodyTypes}
+use Rattle.idl_declared_types.specs.declared.types.BodyTypes.{BodyTypes}
 use Rattle.idl_rule_definitions.specs.TypeRules.{innermost}
 use Rattle.idl_declared_types.specs.Kinds.{type_at}
 use Rattle.idl_declared_types.specs.Places.{found_place}
 use Rattle.idl_value_rules.specs.Cycles.{numbers_of}
-use Rattle.idl_type_numbers.proofs.BodyParts.{parts_found, parts_missed}
+use Rattle.idl_declared_types.proofs.BodyParts.{parts_found, parts_missed}
 use Rattle.idl_value_rules.proofs.CycleGraph.{held_parts}
 use Rattle.idl_value_rules.proofs.CycleLoops.{held_none}
 use Rattle.idl_value_rules.proofs.cycle_rule.row_of.Goals as goal

@@ -1,5 +1,5 @@
 use Rattle.std.proofs.Common.{◌∙◌, ℕ, ◌+◌, ◌∷◌, [], List, length, ap, sym, subst, arith, length-append}
-use Rattle.idl_type_numbers.proofs.PlacesFilled.{Each}
+use Rattle.idl_declared_types.proofs.PlacesFilled.{Each}
 use Rattle.idl_value_rules.proofs.CycleKeys.{NumberWith, with_own, with_past, with_more, with_all}
 use Rattle.idl_value_rules.proofs.cycle_rule.with_key.Goals.{then-one-key, else-one-key}
 use Rattle.idl_value_rules.proofs.cycle_rule.with_key.Goals as goal

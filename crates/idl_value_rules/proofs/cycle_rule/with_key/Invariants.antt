@@ -1,5 +1,5 @@
 use Rattle.std.proofs.Common.{◌≡◌, length}
-use Rattle.idl_type_numbers.proofs.PlacesFilled.{Each}
+use Rattle.idl_declared_types.proofs.PlacesFilled.{Each}
 use Rattle.idl_value_rules.proofs.CycleKeys.{NumberWith}
 use Rattle.idl_value_rules.proofs.cycle_rule.with_key.Given as goal
 

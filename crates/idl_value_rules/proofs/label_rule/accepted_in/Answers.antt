@@ -1,8 +1,8 @@
 use Rattle.std.proofs.Common.{◌≡◌, ◌∙◌, ◌<◌, ◌≤◌, List, Some, length, get_or, sym, ap, subst}
 use Rattle.std.proofs.lemmas.Bool.{ltb-true, ltb-false}
-use Rattle.idl_type_numbers.specs.declared.types.BodyTypes.{BodyTypes}
+use Rattle.idl_declared_types.specs.declared.types.BodyTypes.{BodyTypes}
 use Rattle.idl_declared_types.specs.Places.{found_place}
-use Rattle.idl_type_numbers.proofs.LabelTags.{in_body, past_bodies}
+use Rattle.idl_declared_types.proofs.LabelTags.{in_body, past_bodies}
 use Rattle.idl_value_rules.proofs.label_rule.accepted_in.Goals as goal
 
 pub returns-in-Some-get : goal.returns-in-Some-get

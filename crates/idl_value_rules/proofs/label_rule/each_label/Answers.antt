@@ -3,7 +3,7 @@ use Rattle.idl_scope.specs.Seen.{seen_files}
 use Rattle.idl_constructs.specs.SeenNodes.{seen_construct}
 use Rattle.idl_declared_types.specs.LabelValues.{is_among}
 use Rattle.idl_value_rules.specs.AcceptedLabels.{accepts}
-use Rattle.idl_type_numbers.proofs.LabelTags.{holds_copy, values_before, copy_noted, no_label_left}
+use Rattle.idl_declared_types.proofs.LabelTags.{holds_copy, values_before, copy_noted, no_label_left}
 use Rattle.idl_value_rules.proofs.label_rule.each_label.Goals as goal
 
 pub loop-one-init : goal.loop-one-init

@@ -6,7 +6,7 @@ use Rattle.idl_rule_definitions.specs.Noted.{noted}
 use Rattle.idl_rule_definitions.specs.Found.{seen_breach}
 use Rattle.idl_declared_types.specs.LabelValues.{Holds, value_breaches}
 use Rattle.idl_value_rules.specs.AcceptedLabels.{accepts}
-use Rattle.idl_type_numbers.proofs.LabelTags.{values_before, labels_left}
+use Rattle.idl_declared_types.proofs.LabelTags.{values_before, labels_left}
 use Rattle.idl_value_rules.proofs.label_rule.each_label.Given as goal
 
 -- the values before are there, and with the labels that are left it comes to what all come to

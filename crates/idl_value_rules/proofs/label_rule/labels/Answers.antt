@@ -7,7 +7,7 @@ use Rattle.idl_value_rules.specs.AcceptedLabels.{accepts}
 use Rattle.idl_declared_types.specs.LabelValues.{valued, value_breaches}
 use Rattle.idl_rule_definitions.specs.Noted.{noted}
 use Rattle.idl_rule_definitions.specs.Found.{seen_breach}
-use Rattle.idl_type_numbers.proofs.LabelTags.{labels_others}
+use Rattle.idl_declared_types.proofs.LabelTags.{labels_others}
 use Rattle.idl_value_rules.proofs.label_rule.labels.Goals as goal
 
 pub returns-clause-first : goal.returns-clause-first

@@ -1,7 +1,7 @@
 use Rattle.std.proofs.Common.{ap, subst}
 use Rattle.idl_compat.specs.Comparison.{IsCompared}
-use Rattle.command_compat.specs.Compat.{fault_of}
-use Rattle.command_compat.proofs.Parts.{answered, difference_refused}
+use Rattle.command_compile.specs.Compat.{fault_of}
+use Rattle.command_compile.proofs.Parts.{answered, difference_refused}
 use Rattle.library_calls.proofs.comparing.verdict.Goals as goal
 
 pub returns-in-Yes-clause-compatible : goal.returns-in-Yes-clause-compatible

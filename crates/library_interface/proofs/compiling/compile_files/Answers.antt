@@ -1,5 +1,5 @@
 use Rattle.std.proofs.Common.{None}
-use Rattle.lent_files.specs.Named.{named_after, HasBadName}
+use Rattle.library_interface.specs.Named.{named_after, HasBadName}
 use Rattle.library_interface.proofs.Results.{any_ok}
 use Rattle.library_interface.proofs.compiling.compile_files.Goals as goal
 

@@ -1,5 +1,5 @@
 use Rattle.std.proofs.Common.{[]}
-use Rattle.lent_files.specs.Held.{content_under}
+use Rattle.library_interface.specs.Held.{content_under}
 use Rattle.library_interface.proofs.Loaded.{compiled_of, cause_of}
 use Rattle.library_interface.proofs.compiling.compile_interface.Goals as goal
 

@@ -2,7 +2,7 @@ use Rattle.std.proofs.Common.{[], suc}
 use Rattle.nd_base.specs.Over.{count, source_seen}
 use Rattle.ndr_decoder_state.specs.Notes.{notes_seen}
 use Rattle.ndr_decoder_state.specs.Seen.{state_of}
-use Rattle.ndr_decoder_pending.specs.Seen.{between_of}
+use Rattle.ndr_decoder_stream.specs.Seen.{between_of}
 use Rattle.ndr_decode.proofs.AtRoots.{placed_safe}
 use Rattle.ndr_decode.proofs.PaidHomes.{few_kept}
 use Rattle.ndr_decode.proofs.PlacedRoots.{placed_fault, placed_last, placed_unopened, root_purpose}

@@ -8,7 +8,7 @@ use Rattle.nd_value.specs.declared.value.Graph.{Graph}
 use Rattle.nd_flat.specs.Building.{closed}
 use Rattle.ndr_decoder_state.specs.declared.fault.DecodeFault.TheVariants as fault
 use Rattle.nd_grammar.specs.decoded.Verdict.{decoding_seen}
-use Rattle.ndr_decoder_pending.proofs.Opened.{closed_length}
+use Rattle.ndr_decoder_stream.proofs.Opened.{closed_length}
 use Rattle.ndr_decode.specs.Streaming.{Purpose, cells_of}
 use Rattle.ndr_decode.proofs.Decodes as call
 use Rattle.ndr_drain_reader.specs.Calls.{IsHeadCause}

@@ -3,7 +3,7 @@ use Rattle.nd_base.specs.Over.{source_seen}
 use Rattle.nd_lemmas.proofs.Lists.{item_at}
 use Rattle.nd_value.specs.Fitting.{setting_beside}
 use Rattle.ndr_decoder_value.specs.Parts.{IsTried}
-use Rattle.ndr_decoder_agreements.specs.Trials.{checks_fail}
+use Rattle.ndr_decode.specs.Trials.{checks_fail}
 use Rattle.nd_grammar.specs.decoded.Verdict.{decoding_seen}
 use Rattle.ndr_decode.specs.Streaming.{cells_of}
 use Rattle.ndr_decode.proofs.Decodes as call

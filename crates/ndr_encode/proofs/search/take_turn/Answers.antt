@@ -2,8 +2,8 @@ use Rattle.std.proofs.Common.{rules, ◌≡◌, ℕ, List, [], ◌++◌, length,
 use Rattle.ndr_encoder_laws.specs.pieces.Pieces.{Piece, pieces_names}
 use Rattle.ndr_encoder_output.specs.Counting.{names_of}
 use Rattle.ndr_encoder_laws.specs.turns.Turned.{cells_of}
-use Rattle.ndr_encoder_homes.specs.Turns.{turn_pair}
-use Rattle.ndr_encoder_homes.specs.Counted.{counted_turn}
+use Rattle.ndr_encoder_value.specs.Turns.{turn_pair}
+use Rattle.ndr_encoder_value.specs.Counted.{counted_turn}
 use Rattle.ndr_encode.specs.Search.{AreWithin, IsNumbered}
 use Rattle.ndr_encode.proofs.Searching.{pend_turned, named_added, named_room, cells_within, counted_names, counted_end, can_count}
 use Rattle.ndr_encode.proofs.search.take_turn.Goals as goal

@@ -3,8 +3,8 @@ use Rattle.nd_value.specs.Seen.{cell_number}
 use Rattle.nd_value.specs.Tree.{flat}
 use Rattle.ndr_encoder_laws.specs.pieces.Pieces.{Name}
 use Rattle.ndr_encoder_laws.specs.written.Run.{here}
-use Rattle.ndr_encoder_structs.specs.Structs.{member_pieces}
-use Rattle.ndr_encoder_structs.specs.declared.members.Member.TheVariants.{Pointer}
+use Rattle.ndr_encoder_output.specs.Structs.{member_pieces}
+use Rattle.ndr_encoder_output.specs.declared.members.Member.TheVariants.{Pointer}
 use Rattle.ndr_encoder_value.proofs.Going.{able_from, able_on, moves_from, moves_on}
 use Rattle.ndr_encoder_value.proofs.plain.write_plain_member.Goals as goal
 

@@ -1,7 +1,7 @@
 use Rattle.std.proofs.Common.{◌+◌, drop}
 use Rattle.nd_value.specs.Tree.{flat}
 use Rattle.ndr_encoder_laws.specs.written.Run.{later}
-use Rattle.ndr_encoder_structs.specs.Structs.{members_pieces}
+use Rattle.ndr_encoder_output.specs.Structs.{members_pieces}
 use Rattle.ndr_encoder_value.proofs.Going.{able_from, able_on}
 use Rattle.ndr_encoder_value.proofs.NextMembers.{member_first}
 use Rattle.ndr_encoder_value.proofs.plain.write_plain_members.Goals as goal

@@ -1,7 +1,7 @@
 use Rattle.std.proofs.Common.{drop}
 use Rattle.nd_value.specs.Tree.{flat}
 use Rattle.ndr_encoder_output.specs.Outputs.{Moves}
-use Rattle.ndr_encoder_structs.specs.Structs.{members_pieces}
+use Rattle.ndr_encoder_output.specs.Structs.{members_pieces}
 use Rattle.ndr_encoder_value.proofs.plain.write_plain_members.Given as goal
 
 abbrev pub invariant-loop-at : goal.invariant-loop-at

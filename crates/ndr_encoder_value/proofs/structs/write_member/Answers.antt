@@ -2,7 +2,7 @@ use Rattle.std.proofs.Common.{◌∷◌, ◌++◌, ap}
 use Rattle.nd_value.specs.Tree.{flat, cell_in}
 use Rattle.ndr_encoder_laws.specs.pieces.Pieces.{Name}
 use Rattle.ndr_encoder_laws.specs.written.Run.{here}
-use Rattle.ndr_encoder_structs.specs.Structs.{member_pieces}
+use Rattle.ndr_encoder_output.specs.Structs.{member_pieces}
 use Rattle.ndr_encoder_value.proofs.Going.{able_from, able_on, moves_from, moves_on}
 use Rattle.ndr_encoder_value.proofs.structs.write_member.Goals as goal
 

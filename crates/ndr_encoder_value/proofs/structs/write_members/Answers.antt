@@ -1,7 +1,7 @@
 use Rattle.std.proofs.Common.{◌+◌, drop, ap, sym}
 use Rattle.nd_value.specs.Tree.{flat}
 use Rattle.ndr_encoder_laws.specs.written.Run.{later}
-use Rattle.ndr_encoder_structs.specs.Structs.{members_pieces}
+use Rattle.ndr_encoder_output.specs.Structs.{members_pieces}
 use Rattle.ndr_encoder_value.proofs.Going.{able_from, able_on, moves_from, moves_to, moves_on}
 use Rattle.ndr_encoder_value.proofs.NextMembers.{member_first, after_more}
 use Rattle.ndr_encoder_value.proofs.structs.write_members.Goals as goal

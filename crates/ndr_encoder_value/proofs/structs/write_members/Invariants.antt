@@ -2,7 +2,7 @@ use Rattle.std.proofs.Common.{◌≡◌, drop}
 use Rattle.nd_value.specs.Tree.{flat}
 use Rattle.ndr_encoder_output.specs.Outputs.{Moves}
 use Rattle.ndr_encoder_laws.specs.written.Run.{after}
-use Rattle.ndr_encoder_structs.specs.Structs.{members_pieces}
+use Rattle.ndr_encoder_output.specs.Structs.{members_pieces}
 use Rattle.ndr_encoder_value.proofs.structs.write_members.Given as goal
 
 abbrev pub invariant-loop-member : goal.invariant-loop-member

@@ -1,7 +1,7 @@
 use Rattle.std.proofs.Common.{◌∙◌, ◌+◌, ◌++◌, ap, sym, drop, arith}
 use Rattle.std.specs.List.{flat_map}
 use Rattle.ndr_plan.specs.Listing.{values_line}
-use Rattle.listing_words.proofs.ListedLines.{line_more, line_end}
+use Rattle.idl_listing.proofs.ListedLines.{line_more, line_end}
 use Rattle.ndr_plan.proofs.plan_lines.all_values.Goals as goal
 
 pub loop-at-preserved : goal.loop-at-preserved

@@ -1,6 +1,6 @@
 use Rattle.std.proofs.Common.{◌∙◌, [], ◌∷◌, ◌++◌, map, codes, decimal}
 use Rattle.std.specs.Fmt.{signed_decimal}
-use Rattle.listing_words.proofs.WordByWord.{first_word, then_words, then_end}
+use Rattle.idl_listing.proofs.WordByWord.{first_word, then_words, then_end}
 use Rattle.ndr_plan.proofs.plan_lines.values_line.Goals as goal
 
 pub returns : goal.returns

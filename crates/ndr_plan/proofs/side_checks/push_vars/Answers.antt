@@ -1,6 +1,6 @@
 use Rattle.std.proofs.Common.{◌∙◌, ◌+◌, ◌++◌, ap, sym, drop, arith}
 use Rattle.std.specs.List.{flat_map}
-use Rattle.listing_words.proofs.ListedLines.{line_more, line_end}
+use Rattle.idl_listing.proofs.ListedLines.{line_more, line_end}
 use Rattle.ndr_plan.specs.Numbers.{number_in}
 use Rattle.ndr_plan.specs.Checks.{check_by}
 use Rattle.ndr_plan.proofs.side_checks.push_vars.Goals as goal

@@ -6,7 +6,7 @@ use Rattle.nd_value.specs.Setting.{root_at}
 use Rattle.nd_value.specs.Tree.{count}
 use Rattle.nd_grammar.specs.Entry.{Entry}
 use Rattle.nd_grammar.specs.Stream.{Cuts, kids_of, pipe_entries}
-use Rattle.ndr_trace_laws.specs.Untested.{untested}
+use Rattle.ndr_trace_value.specs.Untested.{untested}
 use Rattle.ndr_trace.specs.Chunks.{IsAtChunk}
 use Rattle.ndr_trace.specs.Homes.{IsRoot, IsPart}
 use Rattle.ndr_trace_value.specs.Naming.{IsNaming, names_in}

@@ -1,9 +1,9 @@
 use Rattle.std.proofs.Common.{◌≡◌, ℕ, false, List, take, sym, subst}
 use Rattle.nd_base.specs.Text.{has_form, uuid_form}
 use Rattle.text_grammar.specs.Tokens.{Uuid, skip}
-use Rattle.text_reading_laws.proofs.OneText.{cut_less, form_length as form_long}
-use Rattle.text_lexer.specs.Lexemes.{for_uuid}
-use Rattle.text_lexer.specs.Misses.{MissesUuid}
+use Rattle.text_grammar.proofs.OneText.{cut_less, form_length as form_long}
+use Rattle.text_parser.specs.Lexemes.{for_uuid}
+use Rattle.text_parser.specs.Misses.{MissesUuid}
 use Rattle.text_parser.specs.Identifiers.{IsUuid}
 use Rattle.text_parser.proofs.Uuids.{an_id, uuid_cut, no_uuid}
 use Rattle.text_parser.proofs.identifiers.identifier.Goals as goal

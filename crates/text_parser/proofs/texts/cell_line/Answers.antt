@@ -1,8 +1,8 @@
 use Rattle.std.proofs.Common.{◌+◌, refl, arith}
 use Rattle.std.proofs.lemmas.Result.{err_from_is_err_and}
 use Rattle.text_grammar.specs.Tokens.{Cell}
-use Rattle.text_reading_laws.proofs.OneText.{cut_less}
-use Rattle.text_lexer.specs.Lexemes.{plain}
+use Rattle.text_grammar.proofs.OneText.{cut_less}
+use Rattle.text_parser.specs.Lexemes.{plain}
 use Rattle.text_parser.proofs.KnownTypes.{cell_known}
 use Rattle.text_parser.proofs.LineParts.{equals_halts, cell_halts, cell_read}
 use Rattle.text_parser.proofs.texts.cell_line.Goals as goal

@@ -16,8 +16,8 @@ use Rattle.nd_types.specs.declared.types.TypeId.{TypeId}
 use Rattle.text_grammar.specs.Tokens.{Mark}
 use Rattle.text_grammar.specs.Written.{Name, equals}
 use Rattle.text_grammar.specs.Dues.{This, AValue, arm_dues, list_dues, named_due}
-use Rattle.text_reading_laws.proofs.OneText.{cut_less}
-use Rattle.text_lexer.specs.Lexemes.{plain}
+use Rattle.text_grammar.proofs.OneText.{cut_less}
+use Rattle.text_parser.specs.Lexemes.{plain}
 use Rattle.text_parser.specs.Passing.{Passes, Halts, IsValue}
 use Rattle.text_parser.specs.Known.{is_numeral, AreOf}
 use Rattle.text_parser.specs.ValueParts.{written_dues, written_tokens, maximum_by, comma_dues, name_tokens, IsMember, IsArm}

@@ -5,8 +5,8 @@ use mir.Syntax.{w128}
 use Rattle.nd_value.specs.Tree as tree
 use Rattle.nd_value.specs.Tree.{node, none}
 use Rattle.text_grammar.specs.Tokens.{hex_pair}
-use Rattle.text_reading_laws.proofs.Quoted.{pair_quote}
-use Rattle.text_lexer.proofs.Scanning.{begun, one_more, whole}
+use Rattle.text_grammar.proofs.Quoted.{pair_quote}
+use Rattle.text_parser.proofs.Scanning.{begun, one_more, whole}
 use Rattle.text_parser.specs.ValueParts.{byte_trees}
 use Rattle.text_parser.proofs.ByteLists.{byte_more}
 use Rattle.text_parser.proofs.values.byte_values.Goals as goal

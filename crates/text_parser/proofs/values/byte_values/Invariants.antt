@@ -1,6 +1,6 @@
 use Rattle.std.proofs.Common.{◌≡◌, List, ℕ, length}
 use Rattle.text_grammar.specs.Tokens.{hex_pair}
-use Rattle.text_lexer.proofs.Scanning.{Reaches}
+use Rattle.text_parser.proofs.Scanning.{Reaches}
 use Rattle.text_parser.specs.ValueParts.{byte_trees}
 use Rattle.text_parser.proofs.values.byte_values.Given as goal
 

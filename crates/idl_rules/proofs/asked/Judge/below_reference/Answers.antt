@@ -2,8 +2,8 @@ use Rattle.std.proofs.Common.{◌≡◌, ◌∙◌, ap, sym, subst}
 use Rattle.idl_rule_definitions.specs.Scene.{below}
 use Rattle.idl_rule_definitions.specs.TypeRules.{below_reference}
 use Rattle.idl_declared_types.specs.Kinds.{seen_types}
-use Rattle.idl_type_properties.specs.SeenMarks.{Holds}
-use Rattle.idl_type_properties.proofs.Below.{referent_below, no_referent_below}
+use Rattle.idl_value_rules.specs.SeenMarks.{Holds}
+use Rattle.idl_value_rules.proofs.Below.{referent_below, no_referent_below}
 use Rattle.idl_rules.proofs.asked.Judge.below_reference.Goals as goal
 
 pub returns-in-Some : goal.returns-in-Some

@@ -30,7 +30,7 @@ use Rattle.std.proofs.alloc.Global.TheLaws as heap_laws
 use Rattle.std.specs.contracts.impls.GlobalAllocator.TheImpl.{ghosts}
 use Rattle.std.proofs.raw_atomic.Walks.{proved_at, leaves}
 use Rattle.std_alloc.proofs.ResultValues.{and_tt}
-use Rattle.raw_parts.proofs.Values.{both, Loose, loose_good, loose_in}
+use Rattle.library_handles.proofs.Values.{both, Loose, loose_good, loose_in}
 use Rattle.library_handles.specs.contracts.held.Held as kept
 use Rattle.library_handles.proofs.Words.{H, two, handle_out, either_held}
 use Rattle.library_handles.specs.contracts.handle.Handle.loose.{ended, clauses}

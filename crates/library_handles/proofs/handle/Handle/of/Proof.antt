@@ -20,7 +20,7 @@ use Rattle.core.specs.declared.option.Option.TheVariants.{Some}
 use Rattle.std.proofs.alloc.Global.TheLaws as heap_laws
 use Rattle.std.specs.contracts.impls.GlobalAllocator.TheImpl.{ghosts}
 use Rattle.std.proofs.raw_atomic.Walks.{proved_at, leaves}
-use Rattle.raw_parts.proofs.Values.{both, Loose, loose_good, loose_out}
+use Rattle.library_handles.proofs.Values.{both, Loose, loose_good, loose_out}
 use Rattle.library_handles.specs.contracts.held.Held as kept
 use Rattle.library_handles.proofs.Words.{two, handle_in}
 use Rattle.std.specs.contracts.alloc.Global as heap

@@ -1,0 +1,1 @@
+use Rattle.command_decode.proofs.tracing.trace_octets.Goals as goal

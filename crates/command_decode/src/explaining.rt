@@ -1,0 +1,101 @@
+// The octets of a source are decoded, and their items are written in words.
+ghost use Rattle.std.specs.Prelude.{◌≡◌, ◌≤◌, ◌<◌, [], true, length, Some, option_map, IfOk, IfErr};
+ghost use Rattle.std.specs.List.{slice_get};
+ghost use Rattle.nd_base.specs.Over.{source_seen};
+ghost use Rattle.nd_types.specs.declared.types.Operation.{Operation};
+ghost use Rattle.nd_value.specs.Fitting.{setting_beside};
+ghost use Rattle.nd_value.specs.Request.{IsRequestOf};
+ghost use Rattle.command_decode.specs.Printed.{IsInputCause};
+ghost use Rattle.command_decode.specs.Explanations.{IsExplained, IsLogged};
+
+use crate::end;
+use command_refusals::{OctetsFault, Refusal};
+use nd_base::{Octets, Order, Source, Steps, Uncounted};
+use nd_graph::{Fit, ItemLog};
+use nd_types::{Interface, Side};
+use ndr_code::Plan;
+use ndr_decode::{DecodeFault, Decoded};
+use ndr_explain::explain;
+use ndr_plan::make;
+use std::alloc::Global;
+
+/// The items of the values of a side of an operation, in words, a line for each, of the octets that a source has left, in NDR (C706, chapter 14).
+/// `op` must be the number of an operation of the interface. A request that is given must be one of that operation, and then the side is that of
+/// its outputs: the values are judged beside it.
+///
+/// The source is asked for no octet past the values but one, which tells whether they end it.
+///
+/// # Errors
+/// BadOctets, the first place at which the octets are refused: that of an octet which follows the values, if one does. ReadFault, where the source
+/// failed. Memory where memory was refused.
+///
+/// Takes memory for the plan of the interface, the values, the items and the text. The time is in proportion to these and the octets.
+pub fn explain_octets<S: Source>(
+    alloc: Global,
+    interface: &Interface,
+    op: u32,
+    side: Side,
+    given: Option<&Fit>,
+    order: Order,
+    input: &mut S,
+) -> Result<Octets, Refusal>
+    requires known { op < length interface.now.operations }
+    requires request { IsRequestOf interface.now op side (option_map (λ f. f.now) given) }
+    ensures explained { (o : Operation) → slice_get interface.now.operations op ≡ Some o
+        → IfOk result
+        (IsExplained (source_seen S.left S.ended S.faults input.old input.new)
+        (setting_beside interface.now o side (option_map (λ f. f.now.graph) given.entry)) order) }
+    ensures refused { (o : Operation) → slice_get interface.now.operations op ≡ Some o
+        → IfErr result
+        (IsInputCause (source_seen S.left S.ended S.faults input.old input.new)
+        (setting_beside interface.now o side (option_map (λ f. f.now.graph) given.entry)) order) }
+{
+    let plan = make(alloc, interface)?;
+    let mut items = ItemLog::keeping(alloc);
+    let decoded = decode(alloc, &plan, op, side, given, order, input, &mut items)?;
+    end(input, decoded.taken)?;
+    let text = explain(alloc, interface, &decoded.fit, &items)?;
+    Ok(text)
+}
+
+// The values of the octets that a source has left, and their items.
+fn decode<S: Source>(
+    alloc: Global,
+    plan: &Plan,
+    op: u32,
+    side: Side,
+    given: Option<&Fit>,
+    order: Order,
+    input: &mut S,
+    items: &mut ItemLog,
+) -> Result<Decoded, Refusal>
+    requires known { op < length plan.now.tie.operations }
+    requires request { IsRequestOf plan.now.tie op side (option_map (λ f. f.now) given) }
+    requires empty { items.old ≡ record { keeps = true; items = [] } }
+    ensures logged { (o : Operation) → slice_get plan.now.tie.operations op ≡ Some o
+        → IfOk result
+        (λ d. IsLogged (source_seen S.left S.ended S.faults input.old input.new)
+        (setting_beside plan.now.tie o side (option_map (λ f. f.now.graph) given.entry)) order d.taken d.fit.graph items.new.items) }
+    ensures interface { IfOk result (λ d. d.fit.interface ≡ plan.now.tie) }
+    ensures number { IfOk result (λ d. d.fit.op ≡ op) }
+    ensures side { IfOk result (λ d. d.fit.side ≡ side) }
+    ensures beside { IfOk result (λ d. d.fit.given ≡ option_map (λ f. f.now.graph) given.entry) }
+    ensures refused { (o : Operation) → slice_get plan.now.tie.operations op ≡ Some o
+        → IfErr result
+        (IsInputCause (source_seen S.left S.ended S.faults input.old input.new)
+        (setting_beside plan.now.tie o side (option_map (λ f. f.now.graph) given.entry)) order) }
+    ensures later { S.faults input.old ≤ S.faults input.new }
+{
+    let mut steps = Steps::new(Uncounted::new());
+    match ndr_decode::decode(
+        alloc, plan, op, side, order, given, input, items, &mut steps,
+    ) {
+        Ok(decoded) => Ok(decoded),
+        Err(DecodeFault::Memory) => Err(Refusal::Memory),
+        Err(DecodeFault::ReadFault) => Err(Refusal::ReadFault),
+        Err(DecodeFault::Bad { place, reason }) => Err(Refusal::BadOctets {
+            place,
+            why: OctetsFault::Refused(reason),
+        }),
+    }
+}

@@ -1,5 +1,0 @@
-pub mod Paths
-pub mod Beside
-pub mod Fitted
-pub mod OneText
-pub mod Requests

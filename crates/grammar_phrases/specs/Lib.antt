@@ -1,4 +1,0 @@
-pub mod Text
-pub mod Reading
-pub mod Verdict
-pub mod Gives

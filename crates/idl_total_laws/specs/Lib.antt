@@ -1,4 +1,0 @@
-pub mod Read
-pub mod Named
-pub mod Judged
-pub mod Results

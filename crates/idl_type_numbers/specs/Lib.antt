@@ -1,4 +1,0 @@
-pub mod SeenTypes
-pub mod InPlace
-pub mod SeenNumbers
-pub mod SeenOperations

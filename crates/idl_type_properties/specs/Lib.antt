@@ -1,4 +1,0 @@
-pub mod SeenMarks
-pub mod OwnMarks
-pub mod Counted
-pub mod TypeProperties

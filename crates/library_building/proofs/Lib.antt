@@ -1,6 +1,0 @@
-mod Outcomes
-mod Lists
-mod Nodes
-mod Counts
-mod Graphs
-mod OneGraph

@@ -1,6 +1,0 @@
-use Rattle.std.proofs.Common.{ap}
-use Rattle.library_building.specs.declared.fault.BuildFault.TheVariants.{Refused}
-use Rattle.library_building.proofs.building.held.Goals as goal
-
-pub returns-in-Err-clause-err : goal.returns-in-Err-clause-err
-returns-in-Err-clause-err c = ap Refused c.in-Err.ensures.err

@@ -1,4 +1,0 @@
-pub mod Left
-pub mod Said
-pub mod Steps
-pub mod Built

@@ -1,2 +1,0 @@
-pub mod WordByWord
-pub mod ListedLines

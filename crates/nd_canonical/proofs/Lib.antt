@@ -1,8 +1,0 @@
-pub mod Alike
-pub mod Carried
-pub mod Compared
-pub mod Complete
-pub mod Numbers
-pub mod Ordered
-pub mod Renumbered
-pub mod Walks

@@ -1,5 +1,0 @@
-pub mod NamingOrder
-pub mod Images
-mod CarriedNumbers
-pub mod OneCanonical
-pub mod CanonicalForms

@@ -1,4 +1,0 @@
-pub mod Runs
-pub mod Together
-pub mod Numbers
-mod GivenNumbers

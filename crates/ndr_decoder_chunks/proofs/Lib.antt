@@ -1,4 +1,0 @@
-mod Opening
-pub mod Counting
-mod Twice
-mod Alone

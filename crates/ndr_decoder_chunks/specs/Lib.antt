@@ -1,4 +1,0 @@
-pub mod Fetched
-pub mod Chunks
-pub mod Opening
-pub mod Counted

@@ -1,5 +1,0 @@
-pub mod GraphEnds
-pub mod Deferred
-pub mod Opened
-pub mod CellsKept
-pub mod Begun

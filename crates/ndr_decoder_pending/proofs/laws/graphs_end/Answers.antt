@@ -1,8 +1,0 @@
-use Rattle.ndr_decoder_pending.proofs.GraphEnds as law
-use Rattle.ndr_decoder_pending.proofs.laws.graphs_end.Goals as goal
-
-pub returns : goal.returns
-returns z = record {
-  root = λ b n v r e. law.root_ends b n v r e;
-  cell = λ b n c v r e above there. law.cell_ends b n c v r e above there;
-}

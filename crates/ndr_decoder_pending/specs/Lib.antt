@@ -1,4 +1,0 @@
-pub mod Cells
-pub mod Entries
-pub mod Seen
-pub mod Ends

@@ -1,0 +1,9 @@
+pub mod GraphEnds
+pub mod Deferred
+pub mod Opened
+pub mod CellsKept
+pub mod Begun
+mod Opening
+pub mod Counting
+mod Twice
+mod Alone

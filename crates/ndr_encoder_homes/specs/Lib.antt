@@ -1,4 +1,0 @@
-pub mod Elements
-pub mod Turns
-pub mod Maximum
-pub mod Counted

@@ -1,5 +1,0 @@
-use Rattle.ndr_trace_laws.proofs.Numbers.{named_in_turn}
-use Rattle.ndr_trace_laws.proofs.laws.cells_in_turn.Goals as goal
-
-pub returns : goal.returns
-returns c = named_in_turn

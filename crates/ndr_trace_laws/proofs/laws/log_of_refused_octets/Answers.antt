@@ -1,5 +1,0 @@
-use Rattle.ndr_trace_laws.proofs.Due.{bad_stops}
-use Rattle.ndr_trace_laws.proofs.laws.log_of_refused_octets.Goals as goal
-
-pub returns : goal.returns
-returns c = bad_stops

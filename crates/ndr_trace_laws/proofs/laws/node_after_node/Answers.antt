@@ -1,5 +1,0 @@
-use Rattle.ndr_trace_laws.proofs.Nodes.{after_own}
-use Rattle.ndr_trace_laws.proofs.laws.node_after_node.Goals as goal
-
-pub returns : goal.returns
-returns c = after_own

@@ -1,5 +1,0 @@
-use Rattle.ndr_trace_laws.proofs.Untested.{untested_values}
-use Rattle.ndr_trace_laws.proofs.laws.values_without_agreements.Goals as goal
-
-pub returns : goal.returns
-returns c = untested_values

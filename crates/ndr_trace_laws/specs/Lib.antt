@@ -1,3 +1,0 @@
-pub mod Untested
-pub mod Due
-pub mod Counting

@@ -1,8 +1,0 @@
-use Rattle.text_laws.proofs.SameTexts.{text_alone, text_exists}
-use Rattle.text_laws.proofs.laws.one_text.Goals as goal
-
-pub returns-clause-exists : goal.returns-clause-exists
-returns-clause-exists c = text_exists
-
-pub returns-clause-alone : goal.returns-clause-alone
-returns-clause-alone c = text_alone

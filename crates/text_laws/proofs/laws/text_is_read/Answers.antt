@@ -1,5 +1,0 @@
-use Rattle.text_laws.proofs.Lines.{text_reads}
-use Rattle.text_laws.proofs.laws.text_is_read.Goals as goal
-
-pub returns : goal.returns
-returns c = λ v w g side r short h. text_reads w side v g r short h

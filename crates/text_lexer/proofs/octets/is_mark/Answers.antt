@@ -1,6 +1,0 @@
-use Rattle.std.proofs.Common.{◌∙◌}
-use Rattle.text_lexer.proofs.Quick.{same_marks}
-use Rattle.text_lexer.proofs.octets.is_mark.Goals as goal
-
-pub returns : goal.returns
-returns c = c.is_one_of_marks.ensures ∙ same_marks c.args.octet

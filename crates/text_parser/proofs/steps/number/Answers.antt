@@ -1,0 +1,19 @@
+use Rattle.std.proofs.Common.{sym, subst}
+use Rattle.text_grammar.specs.Tokens.{Number}
+use Rattle.text_grammar.specs.Dues.{ANumber}
+use Rattle.text_grammar.proofs.OneText.{cut_less}
+use Rattle.text_parser.specs.Lexemes.{plain, other_reason}
+use Rattle.text_parser.specs.Misses.{Misses}
+use Rattle.text_parser.proofs.OneStep.{a_number, misses, no_number}
+use Rattle.text_parser.proofs.steps.number.Goals as goal
+
+pub returns-in-Some-clause-less : goal.returns-in-Some-clause-less
+returns-in-Some-clause-less c =
+    cut_less (plain c.args.version) c.args.text.now (Number c.in-Some.value) c.scan-next.result.rest.now
+    (a_number c.args.version c.args.text.now c.scan-next.result.rest.now c.in-Some.value c.scan-next.result.lexeme c.scan-next.ensures.comes (sym c.in-Some.ensures))
+
+pub returns-in-None-clause-err : goal.returns-in-None-clause-err
+returns-in-None-clause-err c =
+    subst (Misses c.args.version (ANumber) c.args.text.now) (sym c.unexpected.ensures)
+    (misses c.args.version (ANumber) c.args.text.now c.scan-next.result.here.now c.scan-next.result.rest.now c.scan-next.result.lexeme
+    (other_reason c.scan-next.result.lexeme) c.scan-next.ensures.here c.scan-next.ensures.comes (no_number c.scan-next.result.lexeme (sym c.in-None.ensures)))

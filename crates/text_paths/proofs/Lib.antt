@@ -1,2 +1,0 @@
-pub mod HomePaths
-pub mod Nodes

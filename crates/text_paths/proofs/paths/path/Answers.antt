@@ -1,4 +1,0 @@
-use Rattle.text_paths.proofs.paths.path.Goals as goal
-
-pub returns : goal.returns
-returns c o there p h = c.in_ok-append_path.ensures c.new-text.ensures o there p h

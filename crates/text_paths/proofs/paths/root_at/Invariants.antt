@@ -1,5 +1,0 @@
-use Rattle.std.proofs.Common.{◌≡◌, ◌≤◌, length}
-use Rattle.text_paths.proofs.paths.root_at.Given as goal
-
-abbrev pub invariant-loop-root : goal.invariant-loop-root
-invariant-loop-root l = record { counted : l.place ≡ length l.yielded; before : l.place ≤ l.at }

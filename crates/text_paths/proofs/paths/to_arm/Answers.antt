@@ -1,4 +1,0 @@
-use Rattle.text_paths.proofs.paths.to_arm.Goals as goal
-
-pub returns-in-Some : goal.returns-in-Some
-returns-in-Some c = rw c.in-Some.is c.to_one_arm.ensures

@@ -1,0 +1,4 @@
+use Rattle.text_printer.proofs.paths.to_arm.Goals as goal
+
+pub returns-in-Some : goal.returns-in-Some
+returns-in-Some c = rw c.in-Some.is c.to_one_arm.ensures
