@@ -10,13 +10,13 @@ overflow_cast-number g c =
     let q = c.requires.at in
     let many = first_number c.args.plan.now c.args.op c.args.side c.args.order q.w q.legal q.setting q.fetched q.noted q.direct c.args.stream.now q.s q.seen q.stands q.hold in
     let few = few_numbers c.args.plan.now c.args.op c.args.side c.args.order q.w q.legal q.setting q.fetched q.noted q.direct c.args.stream.now q.s q.seen q.stands q.hold in
-    let is : length c.as_slice.result.now ≡ length c.args.stream.now.roots.items = ap length c.as_slice.ensures.value in
+    let is : length c.as_slice.result.now ≡ length c.args.stream.now.roots.items = ap length c.as_slice.ensures in
     omega (arith, many, few, is)
 
 pub loop-next-init : goal.loop-next-init
 loop-next-init g c = (
   λ w legal fetched noted direct s seen setting st hold.
-      let is : length c.as_slice.result.now ≡ length c.args.stream.now.roots.items = ap length c.as_slice.ensures.value in (
+      let is : length c.as_slice.result.now ≡ length c.args.stream.now.roots.items = ap length c.as_slice.ensures in (
         0,
         (
           none_read c.args.plan.now c.args.op c.args.side c.args.order w legal setting fetched noted direct c.args.stream.now s seen st hold (g.S.Source.left c.args.source.now)
