@@ -2,10 +2,10 @@ mod Adding
 mod Many
 mod Walked
 mod Single
-mod Homes
+mod AddedHomes
 mod Outcomes
 mod Lists
-mod Nodes
+mod BuiltNodes
 mod Counts
 mod Graphs
 mod OneGraph

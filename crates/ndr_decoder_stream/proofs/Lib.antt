@@ -3,7 +3,6 @@ pub mod Deferred
 pub mod Opened
 pub mod CellsKept
 pub mod Begun
-mod Opening
 pub mod Counting
 mod Twice
 mod Alone

@@ -1,13 +1,13 @@
 -- A graph whose open home is closed has the cells that it had.
-use Rattle.std.proofs.Common.{◌≡◌, ℕ, [], ◌∷◌, ◌++◌, length, Option, Some, None, refl, ap, sym, ◌∙◌, map}
+use Rattle.std.proofs.Common.{◌≡◌, ℕ, List, [], ◌∷◌, ◌++◌, length, Option, Some, None, refl, ap, sym, ◌∙◌, map}
 use Rattle.std.proofs.lemmas.List.{length-map}
 use Rattle.nd_value.specs.declared.item.Home.{Home}
 use Rattle.nd_value.specs.declared.item.Home.TheVariants as home
 use Rattle.nd_value.specs.declared.value.Graph.{Graph}
 use Rattle.nd_value.specs.Setting.{unread, cell_home}
 use Rattle.nd_value.specs.Tree as tree
-use Rattle.nd_value.specs.Tree.{Tree, node, none, more, flat}
-use Rattle.nd_flat.specs.Building.{Building, closed, opened, put, with_cell, with_graph, with_node, with_nodes, with_root}
+use Rattle.nd_value.specs.Tree.{Flat, Tree, node, none, more, flat}
+use Rattle.nd_flat.specs.Building.{Building, closed, opened, put, raised, with_cell, with_graph, with_node, with_nodes, with_root}
 use Rattle.nd_flat.proofs.Homes.{root_closed}
 use Rattle.ndr_decoder_stream.specs.Ends.{with_reference}
 use Rattle.nd_flat.specs.Forest.{tree_in}
@@ -46,3 +46,8 @@ reference_built b o r n new c to e f g h =
     let whole : n ≡ with_node (tree.Ptr (Some c), 0) (with_graph (with_cell to O.graph) O) =
     g ∙ ap (with_node (tree.Ptr (Some c), 0)) (f ∙ ap (λ (u : Building). with_graph (with_cell to u.graph) u) e) in
     h ∙ ap (λ (u : Building). opened (cell_home c) (closed u) u) whole ∙ ap (λ (x : Graph). opened (cell_home c) x b) (reference_opened b c to)
+
+-- a chunk of a pipe begins with as many nodes
+pub raised_length : (k : ℕ) (fs : List Flat) → length fs ≡ length (raised k fs)
+raised_length k [] = refl
+raised_length k (f ∷ fs) = refl

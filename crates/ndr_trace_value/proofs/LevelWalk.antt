@@ -28,7 +28,7 @@ use Rattle.ndr_explain.specs.Cursors.{Place, child_places, inner_places, level_p
 use Rattle.ndr_explain.proofs.LevelPaths.{path_first}
 use Rattle.ndr_explain.proofs.LevelPlaces.{inner_length, place_first}
 use Rattle.ndr_explain.proofs.Walks.{ComesAfter, after_step, path_here, path_later}
-use Rattle.ndr_trace_value.proofs.Nodes.{after_own}
+use Rattle.ndr_trace_value.proofs.NextNodes.{after_own}
 use Rattle.ndr_trace_value.proofs.Passing.{all_lines, from_all, kept_all, variable_all}
 use Rattle.ndr_trace_value.proofs.Placed.{placed_joined}
 use Rattle.ndr_trace_value.specs.declared.cells.Cells.{Cells}

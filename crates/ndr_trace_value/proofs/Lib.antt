@@ -16,4 +16,4 @@ pub mod Due
 pub mod Numbers
 pub mod Gaps
 pub mod Steps
-pub mod Nodes
+pub mod NextNodes

@@ -2,7 +2,7 @@ use Rattle.std.proofs.Common.{◌<◌, take, length, subst}
 use Rattle.nd_value.specs.Setting.{root_at}
 use Rattle.nd_value.specs.Tree.{Trees, flat}
 use Rattle.library_nodes.specs.Laying.{Adds}
-use Rattle.library_nodes.proofs.Homes.{homes_none, homes_more, root_next}
+use Rattle.library_nodes.proofs.AddedHomes.{homes_none, homes_more, root_next}
 use Rattle.library_nodes.proofs.laying.lay_roots.Goals as goal
 
 pub loop-at-init : goal.loop-at-init

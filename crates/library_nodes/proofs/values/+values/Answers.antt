@@ -18,7 +18,7 @@ use Rattle.nd_lemmas.proofs.Lists.{length_map}
 use Rattle.library_nodes.specs.Listings.{has_form, has_parts, is_wide, meant, plain, saying}
 use Rattle.library_nodes.specs.Steps.{IsBuilt, AreBuilt}
 use Rattle.library_nodes.proofs.Lists.{none_came, next_came, all_came, stops_at, get_replicate, begun, pushed, next_counted}
-use Rattle.library_nodes.proofs.Nodes.{value_of, no_type, no_node, plain_wrong, parts_built, part_halts, arm_built, elements_are, union_built, union_halts}
+use Rattle.library_nodes.proofs.BuiltNodes.{value_of, no_type, no_node, plain_wrong, parts_built, part_halts, arm_built, elements_are, union_built, union_halts}
 use Rattle.library_nodes.proofs.values.+values.Goals as goal
 
 pub value-returns-in_default : goal.value-returns-in_default

@@ -4,7 +4,7 @@ use Rattle.std.proofs.lemmas.List.{length-take-le}
 use Rattle.nd_value.specs.Tree as tree
 use Rattle.nd_value.specs.Tree.{node, none}
 use Rattle.library_nodes.specs.Listings.{is_context}
-use Rattle.library_nodes.proofs.Nodes.{plain_wrong, leaf_built}
+use Rattle.library_nodes.proofs.BuiltNodes.{plain_wrong, leaf_built}
 use Rattle.library_nodes.proofs.values.context.Goals as goal
 
 pub returns-then-not-is_context : goal.returns-then-not-is_context

@@ -2,7 +2,7 @@ use Rattle.std.proofs.Common.{◌∙◌, [], List, refl, sym, subst}
 use Rattle.nd_value.specs.Tree.{Tree, node, none, trees}
 use Rattle.library_nodes.specs.Listings.{has_form, plain}
 use Rattle.library_nodes.specs.Steps.{Builds}
-use Rattle.library_nodes.proofs.Nodes.{plain_wrong, leaf_built}
+use Rattle.library_nodes.proofs.BuiltNodes.{plain_wrong, leaf_built}
 use Rattle.library_nodes.proofs.values.no_value.Goals as goal
 
 pub returns-then-not-has_form : goal.returns-then-not-has_form

@@ -5,7 +5,7 @@ use mir.Syntax.{w128}
 use Rattle.nd_value.specs.Tree as tree
 use Rattle.nd_value.specs.Tree.{node, none}
 use Rattle.library_nodes.specs.Listings.{has_form, is_wide, meant}
-use Rattle.library_nodes.proofs.Nodes.{plain_wrong, leaf_built}
+use Rattle.library_nodes.proofs.BuiltNodes.{plain_wrong, leaf_built}
 use Rattle.library_nodes.proofs.values.number.Goals as goal
 
 pub returns-then-not-has_form : goal.returns-then-not-has_form

@@ -1,7 +1,7 @@
 use Rattle.std.proofs.Common.{◌≡◌, ◌∙◌, ◌<◌, ◌≤◌, true, false, ◌&&◌, leb, length, sym, arith}
 use Rattle.std.proofs.lemmas.Bool.{le-leb, lt-leb, and_from, and_left, and_right}
 use Rattle.library_nodes.specs.Listings.{has_numbers}
-use Rattle.library_nodes.proofs.Nodes.{numeric_wrong, numeric_built}
+use Rattle.library_nodes.proofs.BuiltNodes.{numeric_wrong, numeric_built}
 use Rattle.library_nodes.proofs.values.numbers.Goals as goal
 
 pub returns-then-not-has_numbers : goal.returns-then-not-has_numbers

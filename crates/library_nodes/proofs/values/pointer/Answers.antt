@@ -2,7 +2,7 @@ use Rattle.std.proofs.Common.{◌≡◌, ◌∙◌, ◌≤◌, ℕ, [], Option, 
 use Rattle.nd_value.specs.Tree as tree
 use Rattle.nd_value.specs.Tree.{node, none}
 use Rattle.library_nodes.specs.Listings.{has_form, is_pointer, cell_numbered}
-use Rattle.library_nodes.proofs.Nodes.{plain_wrong, leaf_built}
+use Rattle.library_nodes.proofs.BuiltNodes.{plain_wrong, leaf_built}
 use Rattle.library_nodes.proofs.values.pointer.Goals as goal
 
 pub returns-then-not-is_pointer : goal.returns-then-not-is_pointer

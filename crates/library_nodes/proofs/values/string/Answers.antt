@@ -3,7 +3,7 @@ use Rattle.std.proofs.lemmas.Bool.{le-leb, lt-leb, and_from, and_left, and_right
 use Rattle.nd_value.specs.Tree as tree
 use Rattle.nd_value.specs.Tree.{node, none}
 use Rattle.library_nodes.specs.Listings.{has_form}
-use Rattle.library_nodes.proofs.Nodes.{plain_wrong, leaf_built}
+use Rattle.library_nodes.proofs.BuiltNodes.{plain_wrong, leaf_built}
 use Rattle.library_nodes.proofs.values.string.Goals as goal
 
 pub returns-then-not-has_form : goal.returns-then-not-has_form

@@ -2,7 +2,7 @@ use Rattle.std.proofs.Common.{ap, sym, ◌∙◌, ◌+◌, ◌≤◌, length}
 use Rattle.nd_flat.specs.Building.{Building}
 use Rattle.ndr_decoder_state.specs.declared.machine.Owed.{Owed}
 use Rattle.ndr_decoder_state.specs.Small.{IsSmall}
-use Rattle.ndr_decoder_stream.proofs.Opening.{raised_length}
+use Rattle.ndr_decoder_stream.proofs.Opened.{raised_length}
 use Rattle.nd_lemmas.proofs.Lists.{all_of_none}
 use Rattle.ndr_decoder_stream.proofs.elements.begin_elements.Goals as goal
 

@@ -1,7 +1,6 @@
 use Rattle.std.proofs.Common.{ap, sym, ◌∙◌, length}
-use Rattle.nd_value.specs.declared.item.Home.TheVariants as home
 use Rattle.nd_flat.specs.Building.{Building}
-use Rattle.ndr_decoder_stream.proofs.Opening.{opened_length}
+use Rattle.ndr_decoder_stream.proofs.Opened.{opened_length}
 use Rattle.ndr_decoder_stream.proofs.elements.open_pipe.Goals as goal
 
 pub invariant_of-machine-2 : goal.invariant_of-machine-2
@@ -10,7 +9,7 @@ invariant_of-machine-2 c = record {
   small = c.args.machine.now.small;
   spans = c.args.machine.now.spans;
   counted = sym (ap (λ (b : Building). length b.nodes) c.in_ok-root.ensures.ok);
-  numbered = c.args.machine.now.numbered ∙ opened_length c.args.machine.now.builder c.root.new.self (home.Root (length c.args.machine.now.builder.graph.roots)) c.in_ok-root.ensures.ok;
+  numbered = c.args.machine.now.numbered ∙ sym (opened_length c.args.machine.now.builder c.root.new.self c.in_ok-root.ensures.ok);
 }
 
 pub invariant_of-machine-in-Break-branch-2 : goal.invariant_of-machine-in-Break-branch-2

@@ -1,5 +1,5 @@
 use Rattle.std.proofs.Common.{refl}
-use Rattle.library_nodes.proofs.Homes.{listed}
+use Rattle.library_nodes.proofs.AddedHomes.{listed}
 use Rattle.library_nodes.proofs.nodes.Nodes.of.Goals as goal
 
 pub returns : goal.returns
