@@ -226,7 +226,7 @@ def report(crates: Dict[str, Times], uses: Dict[str, List[str]], end: float) -> 
     print(f"The longest chain of proofs: {steps}: {minutes(sum(proofs.get(name, 0.0) for name in chain))} minutes of a processor.")
     rest = {(name, work): crates[name].seconds.get(work, 0.0) for name in crates for work in WORKS[1:]}
     (name, work), longest = max(rest.items(), key=lambda it: it[1])
-    print(f"The longest work beside the proofs: {work} of {name}, {minutes(longest)} minutes.")
+    print(f"The longest work other than proofs: {work} of {name}, {minutes(longest)} minutes.")
 
 
 def keep_minutes(crates: Dict[str, Times], uses: Dict[str, List[str]], kept: Path) -> None:

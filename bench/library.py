@@ -1,5 +1,5 @@
 #!/usr/bin/env python3
-"""Measures the calls of the library in C beside those below them: how many times as long `dceidl_decode` takes as `decode`, and `dceidl_encode` as `Work::for_graph` with
+"""Measures the calls of the library in C next to those below them: how many times as long `dceidl_decode` takes as `decode`, and `dceidl_encode` as `Work::for_graph` with
 `encode_with`, on the five works of bench/ndr.py, in turns; and how long a message of 40 octets takes to be decoded, read by its nodes and let go.
 
     bench/library.py                 builds the library and the program crates/bench_ndr if they are not there

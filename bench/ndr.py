@@ -1,5 +1,5 @@
 #!/usr/bin/env python3
-"""Measures `decode`, `Work::for_graph` and `encode_with` by the program crates/bench_ndr: nanoseconds an item for five works at two sizes, beside a copy of the octets, and the peak
+"""Measures `decode`, `Work::for_graph` and `encode_with` by the program crates/bench_ndr: nanoseconds an item for five works at two sizes, next to a copy of the octets, and the peak
 memory of decoding beyond that of an empty run, where the octets come straight from the input.
 
     bench/ndr.py                 builds the program if it is not there, and measures it
@@ -125,7 +125,7 @@ def lesser(some, others):
     return [min(pair) for pair in zip(some, others)] if others else some
 
 
-def beside(name, items, decode, prepare, encode, theirs):
+def next_to_libndr(name, items, decode, prepare, encode, theirs):
     """What libndr takes for a work, and how many times as long ours takes."""
     ours = [("decode", "decode", decode), ("encode_with", "encode", encode), ("prepare and encode_with", "encode", prepare + encode)]
     told = [f"{what} {ns / items / theirs[name, side]:.2f} times its {side} of {theirs[name, side]:.2f}" for what, side, ns in ours if (name, side) in theirs]
@@ -169,7 +169,7 @@ def main():
             print(f"{name}: {items} items; ns an item: copy {copy / items:.2f}, decode {decode / items:.2f}, prepare {prepare / items:.2f}, encode {encode / items:.2f}; ", end="")
             print(f"grows {growth:.1f} times from a half; {memory:.1f} octets of memory an item{' TOO MUCH' if bad else ''}", flush=True)
             if words.libndr:
-                print(f"  beside libndr: {beside(name, items, decode, prepare, encode, theirs)}", flush=True)
+                print(f"  next to libndr: {next_to_libndr(name, items, decode, prepare, encode, theirs)}", flush=True)
     return status
 
 

@@ -1,5 +1,5 @@
 #!/usr/bin/env python3
-"""Measures how fast texts are printed: `decode` and `explain` of streams from a file, in megabytes of what is printed a second of a processor, beside `cat` and
+"""Measures how fast texts are printed: `decode` and `explain` of streams from a file, in megabytes of what is printed a second of a processor, next to `cat` and
 `wc -w` of the same text and Python's `json.dumps` of the same values.
 
     bench/printing.py                    uses bin/dceidl, which is built first if it is out of date

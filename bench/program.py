@@ -40,8 +40,8 @@ MOST_SECONDS_OF_A_PLAN = 1.0  # the time that the plan of the most types may tak
 MOST_SECONDS_OF_A_COMPARISON = 0.01  # the time that the comparison of two interfaces of the most types may take
 MOST_OCTETS = 100  # the memory for each octet of an interface file
 PLANNED_MEMBERS = 60_000
-NOISE = 0.001  # seconds; a difference below them is not told from none
-TIME = shutil.which("time")  # the program `time`, which tells the peak memory of what it runs
+NOISE = 0.001  # seconds; a difference below them cannot be told from none
+TIME = shutil.which("time")  # the program `time`, which reports the peak memory of what it runs
 
 
 @dataclass(frozen=True)
@@ -94,7 +94,7 @@ class Bench:
         return usage.ru_utime + usage.ru_stime
 
     def peak(self, run: Run) -> Optional[int]:
-        """The peak memory of a run of its own. (What Python itself is told of a child is never less than its own memory.)"""
+        """The peak memory of a run of its own. (What Python itself learns of a child is never less than its own memory.)"""
         if TIME is None:
             return None
         kilobytes = self.folder / "peak"
@@ -322,7 +322,7 @@ def text_of(values: Sequence[int]) -> bytes:
 
 
 def large_text_of(values: Sequence[int], size: int) -> bytes:
-    """The same text with so many blanks behind each token that it has about this many octets."""
+    """The same text with so many blanks after each token that it has about this many octets."""
     tokens = text_of(values).split()
     room = max(1, (size - sum(len(token) for token in tokens)) // len(tokens))
     chance = random.Random(size)
@@ -398,13 +398,13 @@ def measure_calls(bench: Bench, idl: Path, nothing: Path, encodes: bool) -> Meas
     tell(base, start)
     nets = [tell(call, base) for call in calls]
     if encodes:
-        tell_ratio("encode beside decode, net, little", nets[1], nets[0])
-        tell_ratio("encode beside decode, net, big", nets[3], nets[2])
+        tell_ratio("encode next to decode, net, little", nets[1], nets[0])
+        tell_ratio("encode next to decode, net, big", nets[3], nets[2])
     return start
 
 
 def measure_text(bench: Bench, idl: Path, start: Measured, size: int) -> None:
-    """A large text, of blanks for the most part, beside two programs that only read it."""
+    """A large text, of blanks for the most part, next to two programs that only read it."""
     values = numbers(2)
     small = bench.write("small", large_text_of(values, size // 10))
     large = bench.write("large", large_text_of(values, size))
@@ -422,7 +422,7 @@ def measure_text(bench: Bench, idl: Path, start: Measured, size: int) -> None:
     check_growth(bench, "encode", *nets)
     for other in others:
         tell(other, None, True)
-        tell_ratio(f"encode beside {other.what.split(',')[0]}", of_large.seconds, other.seconds)
+        tell_ratio(f"encode next to {other.what.split(',')[0]}", of_large.seconds, other.seconds)
 
 
 def measure_files(bench: Bench, nothing: Path, start: Measured) -> None:
@@ -454,7 +454,7 @@ def check_listing(bench: Bench, idl: Path, types: Optional[int] = None, operatio
 
 
 def measure_language(bench: Bench, start: Measured) -> None:
-    """Files of the whole language, which are compiled to their listing, beside a compiler of C on as much C."""
+    """Files of the whole language, which are compiled to their listing, next to a compiler of C on as much C."""
     files = [bench.write(f"whole.{size}.idl", large_idl(size)) for size in (FILE_LIMIT // 4, FILE_LIMIT)]
     for file in files:
         check_listing(bench, file)
@@ -472,7 +472,7 @@ def measure_language(bench: Bench, start: Measured) -> None:
     check_memory(bench, of_large)
     for other in others:
         tell(other, None, True)
-        tell_ratio("compile beside cc", of_large.seconds, other.seconds)
+        tell_ratio("compile next to cc", of_large.seconds, other.seconds)
 
 
 def measure_types(bench: Bench, start: Measured) -> None:

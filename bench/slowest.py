@@ -3,7 +3,7 @@
 
     bench/slowest.py [CRATE ..]     checks these crates, one after the other with one job each, and prints the fifty functions that took most
 
-Without names the crates are those of the longest chain of proofs by bench/minutes.txt, and the five that take most besides. What they use must be built
+Without names the crates are those of the longest chain of proofs by bench/minutes.txt, and the five others that take most. What they use must be built
 in this clone, as it is after `.ci/run`. Seconds are of a processor, so other work on the machine changes them little. Nothing is kept: each check begins
 from nothing, and all that is between two functions, such as the lemmas that the second cites, counts for the second.
 """
@@ -26,7 +26,7 @@ sys.dont_write_bytecode = True
 import gate
 
 ROOT = Path(__file__).resolve().parent.parent
-BESIDE = 5  # crates besides the longest chain
+OTHERS = 5  # crates that are not of the longest chain
 SHOWN = 50
 FUNCTION = re.compile(r"^checked (?P<name>\S+), [0-9]+ of [0-9]+$")
 
@@ -41,12 +41,12 @@ def load_rt():
 
 
 def default_crates() -> List[str]:
-    """The crates of the longest chain, and those that take most besides."""
+    """The crates of the longest chain, and those of the others that take most."""
     uses = gate.libraries((ROOT / "crates.txt").read_text(encoding="utf-8"))
     rows = [line.split("#")[0].split() for line in (ROOT / "bench" / "minutes.txt").read_text(encoding="utf-8").splitlines()]
     proofs = {words[0]: float(words[1]) for words in rows if words}
     chain = gate.longest_chain(uses, proofs)
-    return chain + sorted(set(uses) - set(chain), key=lambda name: -proofs.get(name, 0.0))[:BESIDE]
+    return chain + sorted(set(uses) - set(chain), key=lambda name: -proofs.get(name, 0.0))[:OTHERS]
 
 
 def used(process: int) -> float:

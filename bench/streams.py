@@ -10,7 +10,7 @@ The large ones are a list of 2,000,000 nodes, a ring of 1,000,000 nodes and an a
 also at a tenth of the size. All run with a stack of 8 MB, and what is printed has to be the text of the values. The others have a maximum count, a
 count of a chunk or an actual count of up to FFFFFFFF, and a few octets after it.
 
-A pipe of longs and one of structs are drained, whose chunks of 4,096 elements fill the stream, beside `decode` of the same elements as an array, and each
+A pipe of longs and one of structs are drained, whose chunks of 4,096 elements fill the stream, next to `decode` of the same elements as an array, and each
 at a tenth of the size. An array of 16 MiB is explained, and one of a tenth of it. An array is decoded after a format label, and without one.
 
 The status is 1 if ten times the input takes more than sixteen times as long, if a count that claims too much takes 1 MiB more than an honest one, if
@@ -33,7 +33,7 @@ ROOT = Path(__file__).resolve().parent.parent
 MOST_GROWTH = 16.0
 MOST_CLAIMED = 1 << 20  # octets of memory
 MOST_DRAINED = 1 << 20  # octets of memory
-MOST_BESIDE = 4.0
+MOST_TIMES_OF_DECODING = 4.0
 MOST_LABEL = 1.25
 STREAM_LIMIT = 67_108_864
 IDL = b"""[uuid(11111111-2222-3333-4444-555555555555), pointer_default(unique)] interface t {
@@ -232,7 +232,7 @@ class Bench:
         ran = self.run(of.operation, given)
         octets, text = given.stat().st_size, ran.out.stat().st_size
         print(f"{of.operation}: {count:,} items, {octets:,} octets: {ran.seconds:.2f} s, {octets / max(ran.seconds, 1e-6) / 1e6:.1f} MB/s; "
-              f"peak memory {ran.peak / 1e6:.0f} MB, {(ran.peak - text) / octets:.1f} octets for each octet beside the text")
+              f"peak memory {ran.peak / 1e6:.0f} MB, {(ran.peak - text) / octets:.1f} octets for each octet without the text")
         if ran.status != 0:
             self.fail(f"status {ran.status}: {ran.notes.decode(errors='replace').strip()}")
         elif digest(pieces(ran.out)) != digest([f"values 2\nop {of.operation} in\n".encode(), *of.text(count)]):
@@ -262,19 +262,19 @@ class Bench:
         return ran
 
     def drains(self, of: Elements, part: int) -> None:
-        """Draining beside a tenth of it, and beside decoding."""
+        """Draining next to a tenth of it, and next to decoding."""
         small, large = (self.drain(of, max(1, of.count // part // share)) for share in (10, 1))
         count = of.count // part
         decoded = self.measure(f"decode of {count:,} {of.name}", of.array, array(of, count), array_text(of, count))
-        beside = large.seconds / max(decoded.seconds, 1e-6)
+        times = large.seconds / max(decoded.seconds, 1e-6)
         print(f"{of.name}: ten times the input takes {large.seconds / max(small.seconds, 1e-6):.1f} times as long and {(large.peak - small.peak) / 1024:.0f} KiB more; "
-              f"draining takes {beside:.1f} times as long as decoding", flush=True)
+              f"draining takes {times:.1f} times as long as decoding", flush=True)
         if large.seconds > MOST_GROWTH * max(small.seconds, 1e-6):
             self.fail("the time grows more than the input")
         if large.peak - small.peak > MOST_DRAINED:
             self.fail("draining takes memory for the stream")
-        if beside > MOST_BESIDE:
-            self.fail("draining is slow beside decoding")
+        if times > MOST_TIMES_OF_DECODING:
+            self.fail("draining is slow next to decoding")
 
     def explains(self, part: int) -> None:
         """The items of an array, and of a tenth of it."""
@@ -297,7 +297,7 @@ class Bench:
             self.fail("a format label takes time")
 
     def claim(self, of: Claim) -> None:
-        """A count that claims too much, beside an honest one."""
+        """A count that claims too much, next to an honest one."""
         given = self.folder / "given"
         given.write_bytes(bytes.fromhex(of.honest))
         honest = self.run(of.operation, given)
@@ -305,7 +305,7 @@ class Bench:
             self.fail(f"the honest octets of {of.operation} end with status {honest.status}: {honest.notes.decode(errors='replace').strip()}")
         given.write_bytes(bytes.fromhex(of.claims))
         ran = self.run(of.operation, given)
-        print(f"{of.operation} {of.claims[:8]}: {(ran.peak - honest.peak) / 1024:.0f} KiB beside the honest count's {honest.peak / 1024:.0f}")
+        print(f"{of.operation} {of.claims[:8]}: {(ran.peak - honest.peak) / 1024:.0f} KiB more than the honest count's {honest.peak / 1024:.0f}")
         if (ran.status, ran.notes) != (1, f"refused: octets at {of.place}: {of.reason}\n".encode()):
             self.fail(f"status {ran.status}: {ran.notes.decode(errors='replace').strip()}; it should be refused at {of.place}: {of.reason}")
         if ran.peak - honest.peak > MOST_CLAIMED:

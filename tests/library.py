@@ -9,7 +9,7 @@ the octets of tests/outside and mutated copies of them (tests/library/streams.c)
 nodes: COUNT copies of each under AddressSanitizer, 800 if it is left out, and a twentieth of these under valgrind. The library is built and installed
 in a folder of its own, or taken from FOLDER, as bin/dceidl-lib fills it.
 
-It needs `cc`; what is missing besides is named and left out. The last line is `N passed, M failed, K left out`, and the status is 1 if one failed.
+It needs `cc`; what else is missing is named and left out. The last line is `N passed, M failed, K left out`, and the status is 1 if one failed.
 """
 
 from __future__ import annotations

@@ -29,7 +29,7 @@ TABLE = """\
 
 The whole run: 3.7 minutes.
 The longest chain of proofs: nd_base 0.8 -> idl_lexer 1.5: 2.2 minutes of a processor.
-The longest work beside the proofs: tests of nd_base, 2.0 minutes.
+The longest work other than proofs: tests of nd_base, 2.0 minutes.
 """
 
 
