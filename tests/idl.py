@@ -15,10 +15,10 @@ Text = Union[str, bytes]
 
 
 def marked(text: Text) -> Tuple[bytes, str]:
-    """The octets of a text without its one mark, and LINE:COLUMN of what stood behind the mark."""
-    before, behind = (text.encode() if isinstance(text, str) else text).split(MARK.encode())
+    """The octets of a text without its one mark, and LINE:COLUMN of what was after the mark."""
+    before, after = (text.encode() if isinstance(text, str) else text).split(MARK.encode())
     column = len(before) - (before.rfind(b"\n") + 1) + 1
-    return before + behind, f"{before.count(10) + 1}:{column}"
+    return before + after, f"{before.count(10) + 1}:{column}"
 
 
 def readable(text: Text) -> str:
@@ -62,5 +62,5 @@ def value(what: str, *texts: str) -> List[Case]:
 
 
 def parsed(*texts: str) -> List[Case]:
-    """Files with a constant of this value, which is of the language: the first fault is the empty declaration behind it."""
+    """Files with a constant of this value, which is of the language: the first fault is the empty declaration after it."""
     return export("Syntax", *(f"const long A = {text};{MARK};" for text in texts))

@@ -73,7 +73,7 @@ def code_of(text: str) -> str:
 
 
 def closing(code: str, at: int) -> int:
-    """Just behind the brace that closes the one at `at`."""
+    """Just after the brace that closes the one at `at`."""
     depth = 0
     for place in range(at, len(code)):
         depth += {"{": 1, "}": -1}.get(code[place], 0)

@@ -84,7 +84,7 @@ class Module:
     path: Path
     imports: Imports = field(default_factory=Imports)
     texts: Dict[str, str] = field(default_factory=dict)  # the text of each definition
-    heads: str = ""  # telescopes of modules, which stand for all of them
+    heads: str = ""  # telescopes of modules, which hold for all of them
 
 
 class Sources:

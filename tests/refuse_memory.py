@@ -6,7 +6,7 @@ is refused, and it is one that the program can do without, the run may also end 
     tests/refuse_memory.py --program PATH     runs another program
     tests/refuse_memory.py --most N           at most N growths of each command, spread over all of them (default: all)
 
-The commands are an encoding and a decoding, the directory interface's compile, encode, decode, explain and trace, a drain, a response beside its request, a
+The commands are an encoding and a decoding, the directory interface's compile, encode, decode, explain and trace, a drain, a response with its request, a
 call, a wrap, comparisons, a session and the sample. In the run of number N the Nth call of `malloc` or `realloc` is refused; then all calls from the
 Nth on are. The gate does not run this. It needs a C compiler, `cc`, for what refuses, and a program that is linked with the C library as a shared object.
 
@@ -102,7 +102,7 @@ LISTING = lines(
 PDUS = pdu(PUT[:40], flags=1, number=1, hint=len(PUT)) + pdu(PUT[40:], flags=2, number=1, hint=len(PUT))
 PIPES = {"t.idl": interface("typedef pipe long lp;", "void feed([in] lp d);")}
 PIPE_OCTETS = octets("02000000 01000000 02000000 01000000 03000000 00000000")
-BESIDE = {"t.idl": interface("void r([in] unsigned long n, [out, size_is(n)] byte a[*]);"), "request.txt": lines("values 2", "op r in", "n = 2")}
+ANSWERED = {"t.idl": interface("void r([in] unsigned long n, [out, size_is(n)] byte a[*]);"), "request.txt": lines("values 2", "op r in", "n = 2")}
 DIFFERING = {"old.idl": interface("typedef struct s { [unique] struct s *n; } s;", "void f([in] s a);", "void g([in] s b);"),
              "new.idl": interface("typedef struct s { [unique] struct s *n; } s;", "typedef struct r { [unique] struct s *n; } r;", "void f([in] s a);",
                                   "void g([in] r b);")}
@@ -127,7 +127,7 @@ COMMANDS = [
     Command("directory: trace", directory("trace"), DIRECTORY_FILES, PUT[:-1], PUT_TRACED, status=1, notes=PUT_FAULT),
     Command("drain", ["drain", "t.idl", "-", "feed", "in", "little"], PIPES, PIPE_OCTETS, lines("values 2", "op feed in", "d = []"),
             {"pipe0.out": lines("1", "2", "3")}),
-    Command("response", ["decode", "t.idl", "-", "r", "out", "little", "given", "request.txt"], BESIDE, octets("02000000 ABCD"),
+    Command("response", ["decode", "t.idl", "-", "r", "out", "little", "given", "request.txt"], ANSWERED, octets("02000000 ABCD"),
             lines("values 2", "op r out", 'a = x"abcd"')),
     Command("call", ["call", "dir.idl", "dir.acf", "-"], DIRECTORY_FILES, PDUS, lines("call 7") + PUT_TEXT),
     Command("wrap", directory("wrap", "7", "1024"), DIRECTORY_FILES, PUT_TEXT, pdu(PUT, number=1)),

@@ -36,7 +36,7 @@ COMPILE = ["compile", "t.idl", "t.acf"]
 
 
 def accepted(*texts, group="acf"):
-    """Attribute files beside the interface above that are right."""
+    """Attribute files for the interface above that are right."""
     return [Case(f"{group}: {readable(text)}", COMPILE, {**FILES, "t.acf": text.encode()}, out=LISTING) for text in texts]
 
 
@@ -44,7 +44,7 @@ NO_NUMBERS = b"[local] interface t { void none(void); void bare(); void h([in] h
 
 
 def without_numbers(text, *out):
-    """An attribute file beside operations without parameters, and one with a handle alone: right, with this listing, or refused at its mark."""
+    """An attribute file for operations without parameters, and one with a handle alone: right, with this listing, or refused at its mark."""
     if out:
         return Case(f"acf, no numbers: {readable(text)}", COMPILE, {"t.idl": NO_NUMBERS, "t.acf": text.encode()}, out=lines(*out))
     content, place = marked(text)
@@ -52,7 +52,7 @@ def without_numbers(text, *out):
 
 
 def refused(what, *texts):
-    """Attribute files beside it that are refused at their mark."""
+    """Attribute files for it that are refused at their mark."""
     return [refused_as(what, readable(text), text) for text in texts]
 
 

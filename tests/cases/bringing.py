@@ -29,8 +29,8 @@ def rows(section):
 def compiled(heading, text):
     """The words and files by which a text of a section is compiled, and the name that is reported."""
     if heading == "Attribute configuration files":
-        beside = f"{HEAD}typedef long n; void f([in] long x);\n}}\n"
-        return ["compile", "t.idl", "t.acf"], {"t.idl": beside.encode(), "t.acf": text.encode()}, "t.acf"
+        idl = f"{HEAD}typedef long n; void f([in] long x);\n}}\n"
+        return ["compile", "t.idl", "t.acf"], {"t.idl": idl.encode(), "t.acf": text.encode()}, "t.acf"
     whole = heading in ("The file and its header", "A whole file")
     content = text if whole else f"{HEAD}{text}\n}}\n"
     return ["compile", "t.idl", "-"], {"t.idl": content.encode(), **BASE}, "t.idl"

@@ -166,7 +166,7 @@ def explained(name, old, new, op, *place):
 
 
 LIST = "typedef struct s {{ long x; [unique] struct s *next; {} y[2]; }} s; void f([in] s a);"
-BESIDE = ("old struct 1", "new struct 1")
+PARTED = ("old struct 1", "new struct 1")
 
 PLACES = [
     explained("a primitive", "void f([in] long a);", "void f([in] unsigned long a);", "f", "op f parameter a", "old long", "new unsigned long"),
@@ -200,11 +200,11 @@ PLACES = [
               "op f parameter b", "old byte", "new short"),
     explained("a primitive that has itself as its partner already", "void f([in] long a, [in] long b);", "void f([in] long c, [in] short d);", "f",
               "op f parameter b", "old long", "new short"),
-    explained("two structs for one", PAIR, TWO, "f", "op f parameter b", *BESIDE, "earlier", "op f parameter a", *BESIDE),
-    explained("one struct for two", TWO, PAIR, "f", "op f parameter b", *BESIDE, "earlier", "op f parameter a", *BESIDE),
+    explained("two structs for one", PAIR, TWO, "f", "op f parameter b", *PARTED, "earlier", "op f parameter a", *PARTED),
+    explained("one struct for two", TWO, PAIR, "f", "op f parameter b", *PARTED, "earlier", "op f parameter a", *PARTED),
     explained("a struct of an earlier operation", "typedef struct { long x; } s; void f([in] s *p); void g([in] s a);",
               "typedef struct { long x; } s; typedef struct { long x; } r; void f([in] s *p); void g([in] r a);", "g",
-              "op g parameter a", *BESIDE, "earlier", "op f parameter p", "path pointee", *BESIDE),
+              "op g parameter a", *PARTED, "earlier", "op f parameter p", "path pointee", *PARTED),
     Case("compat: why: compatible", ["compat", "old.idl", "-", "new.idl", "-", "why"], {"old.idl": version(SUM), "new.idl": version(LATER, "1.1")},
          out=lines("compatible 1")),
     Case("compat: why: another answer", ["compat", "old.idl", "-", "new.idl", "-", "why"], {"old.idl": version(PING), "new.idl": version(PING, "2.0")},

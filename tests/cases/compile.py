@@ -12,7 +12,7 @@ def listed(name, text, *listing, **more):
 
 
 def local(name, declarations, *listing):
-    """Declarations of an interface without UUID and version, and the lines behind its header."""
+    """Declarations of an interface without UUID and version, and the lines after its header."""
     return listed(name, f"[local] interface t {{ {declarations} }}\n", LOCAL, *listing)
 
 
@@ -161,7 +161,7 @@ OPERATIONS = [
     local("a handle does not travel", "void f([in] handle_t h, [in] long a);", "op 0 f", "in a 7"),
     local("both sides", "long f([in, out] long *a, [in] short b, [out] hyper *c);",
           "type 12 ref 7 align 4", "type 13 ref 9 align 4", "op 0 f", "in a 12", "in b 5", "out a 12", "out c 13", "out return 7"),
-    local("pipes stand behind the result", "typedef pipe long p; long f([in, out] p a, [in] p *b, [out] p *c, [in] byte d, [out] long *e);",
+    local("pipes come after the result", "typedef pipe long p; long f([in, out] p a, [in] p *b, [out] p *c, [in] byte d, [out] long *e);",
           "type 12 pipe 7 align 4", "type 13 ref 12 align 4", "type 14 ref 7 align 4", "op 0 f",
           "in d 2", "in a 12", "in b 12", "out e 14", "out return 7", "out a 12", "out c 12"),
     local("context handles", "typedef [context_handle] void *c; void f([in] c a, [out] c *b);",
@@ -186,12 +186,12 @@ TYPES = [
     local("a pointer with a count", "void f([in] long n, [in, unique, size_is(n)] hyper *a, [in, string, max_is(n)] char *b);",
           "type 12 conf 9 align 8 hoists", "type 13 unique 12 align 4", "type 14 conftext 1 align 4 hoists", "type 15 ref 14 align 4",
           "op 0 f", "in n 7", "in a 13 size_is n", "in b 15 max_is n"),
-    local("a variable behind a pointer", "void f([in] long *n, [in, size_is(*n)] byte a[*]);",
+    local("a variable that a pointer names", "void f([in] long *n, [in, size_is(*n)] byte a[*]);",
           "type 12 ref 7 align 4", "type 13 conf 2 align 1 hoists", "op 0 f", "in n 12", "in a 13 size_is *n"),
     local("a variable that is not on that side", "void f([in] long n, [in, out, size_is(n)] byte a[*], [out] long *m, [in, length_is(*m)] byte b[2]);",
           "type 12 conf 2 align 1 hoists", "type 13 ref 7 align 4", "type 14 vary 2 2 align 4",
           "op 0 f", "in n 7", "in a 12 size_is n", "in b 14 length_is *m", "out a 12 size_is n", "out m 13"),
-    local("a variable that stands behind", "struct s { [unique, size_is(n), first_is(f), last_is(l)] long *a; long n; short f; small l; };",
+    local("a variable that comes later", "struct s { [unique, size_is(n), first_is(f), last_is(l)] long *a; long n; short f; small l; };",
           "type 12 struct align 4", "member a 14 size_is n first_is f last_is l", "member n 7", "member f 5", "member l 3",
           "type 13 confvary 7 align 4 hoists", "type 14 unique 13 align 4"),
     local("a union with a tag", "typedef union switch (long k) of_k { case -5: case 3: hyper a; default: ; case 2147483647: char c; } u;",
@@ -319,7 +319,7 @@ ORDER = [
     refusal("a rule of an import before that on ACFs", COMPILE,
             {**FILES, "base.idl": b"[local] interface base { long; const long NAME_MAX = 16;\ntypedef enum { FILE_KIND, FOLDER_KIND = 4 } kind_t; }",
              "dir.acf": b"interface other { }"}, "idl base.idl:1:26: Rule 5"),
-    refusal("the directory beside another interface's ACF", COMPILE, {**FILES, "dir.acf": b"interface other { }"}, "idl dir.acf:1:1: Rule 40"),
+    refusal("the directory with another interface's ACF", COMPILE, {**FILES, "dir.acf": b"interface other { }"}, "idl dir.acf:1:1: Rule 40"),
     refusal("an ACF that is the IDL file", ["compile", "dir.idl", "dir.idl"], FILES, "idl dir.idl:1:2: Syntax"),
     refusal("an ACF that is an imported file", ["compile", "dir.idl", "base.idl"], FILES, "idl base.idl:1:2: Syntax"),
     refusal("IDL that is an ACF", ["compile", "dir.acf", "dir.acf"], FILES, "idl dir.acf:1:2: Syntax"),

@@ -80,7 +80,7 @@ TOO_MANY = [
     refused("an octet after three integers", ADD, "add", ADD_OCTETS + octets("00"), 16, "Trailing"),
     refused("many octets after three integers", ADD, "add", ADD_OCTETS * 5, 16, "Trailing"),
     refused("an octet after three integers, each by itself", ADD, "add", OneAtATime(ADD_OCTETS + octets("EE")), 16, "Trailing"),
-    refused("an octet where a gap would stand", interface("void f([in] hyper a, [in] small b);"), "f",
+    refused("an octet where a gap would be", interface("void f([in] hyper a, [in] small b);"), "f",
             octets("0100000000000000 02 EE"), 9, "Trailing"),
     refused("an input as long as the stream limit", ADD, "add", Sparse(67_108_864), 16, "Trailing"),
     refused("an input past the stream limit", ADD, "add", Sparse(67_108_865), 16, "Trailing"),

@@ -38,7 +38,7 @@ CASES = [
     encode("a boolean", ["void f([in] boolean b);"], "f", "in", "little", lines("values 1", "op f in", "b = 1"), "01"),
     decode("a handle takes no octets", ["void f([in] handle_t h, [in] small x);"], "f", "in", "little", "05", lines("values 2", "op f in", "x = 5")),
     decode("a typedef of a primitive", ["typedef long n;", "n f([in] n x);"], "f", "in", "little", "05000000", lines("values 2", "op f in", "x = 5")),
-    decode("types beside it", [NODE, "void f([in] small x);"], "f", "in", "little", "05", lines("values 2", "op f in", "x = 5")),
+    decode("other types in the file", [NODE, "void f([in] small x);"], "f", "in", "little", "05", lines("values 2", "op f in", "x = 5")),
     decode("one side is of primitives, the other is not", ["void f([in] small x, [out] long *y);"], "f", "in", "little", "05", lines("values 2", "op f in", "x = 5")),
     encode("the other side", ["void f([in] small x, [out] long *y);"], "f", "out", "little", lines("values 1", "op f out", "y = @1", "@1 = 7"), "07000000"),
     encode("an enumerated result", ["typedef enum { A, B } kind;", "kind f();"], "f", "out", "big", lines("values 1", "op f out", "return = 1"), "0001"),

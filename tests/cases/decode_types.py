@@ -1,4 +1,4 @@
-"""Decoding of every form of type, on both sides, beside a request and beside none. The octets and the texts were made from C706 and the pages of docs/."""
+"""Decoding of every form of type, on both sides, with a request and without one. The octets and the texts were made from C706 and the pages of docs/."""
 
 from case import Case, OneAtATime, interface, lines, octets
 
@@ -153,7 +153,7 @@ ORDERS = [
 ]
 
 # ----------------------------------------------------------------------------------------------------------------------
-# Beside a request
+# With a request
 
 ANSWER = interface("void r([in] unsigned long n, [out, size_is(n)] byte a[*]);")
 ANSWER_OCTETS = octets("02000000 abcd")
@@ -173,8 +173,8 @@ def request_refused(name, text, notes, status=1, file=ANSWER, input=ANSWER_OCTET
 
 
 GIVEN = [
-    decoded("a response beside no request", ANSWER, "r", ANSWER_OCTETS, 'a = x"abcd"', side="out"),
-    decoded("a response beside its request", ANSWER, "r", ANSWER_OCTETS, 'a = x"abcd"', side="out", request=request("n = 2")),
+    decoded("a response without a request", ANSWER, "r", ANSWER_OCTETS, 'a = x"abcd"', side="out"),
+    decoded("a response with its request", ANSWER, "r", ANSWER_OCTETS, 'a = x"abcd"', side="out", request=request("n = 2")),
     decoded("a request of version 2", ANSWER, "r", ANSWER_OCTETS, 'a = x"abcd"', side="out", request=request("n = 2", version=2)),
     refused("a response that differs from its request", ANSWER, "r", ANSWER_OCTETS, 0, "Disagrees wanted 3 found 2", side="out", request=request("n = 3")),
     decoded("a variable that travels in the response", OWN, "s2", octets("01000000 01000000 07"), "n = @1", 'a = x"07"', "@1 = 1",
@@ -188,7 +188,7 @@ GIVEN = [
             request=SHORT_REQUEST.encode() + b" " * (1_048_576 - len(SHORT_REQUEST))),
     request_refused("a request that does not exist", None, "absent: request.text", status=7),
     request_refused("the request comes before the octets", request("n ="), "refused: given: text 4:1: Expected", input=b""),
-    Case("decode given: a request beside inputs", ["decode", "t.idl", "-", "r", "in", "little", "given", "request.text"],
+    Case("decode given: a request with inputs", ["decode", "t.idl", "-", "r", "in", "little", "given", "request.text"],
          files(ANSWER, request("n = 2")), octets("02000000"), notes=lines("words refused"), status=2),
     Case("decode given: no file", ["decode", "t.idl", "-", "r", "out", "little", "given"],
          files(ANSWER, request("n = 2")), ANSWER_OCTETS, notes=lines("words refused"), status=2),

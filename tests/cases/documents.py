@@ -211,7 +211,7 @@ def spelled_out(path: str) -> List[str]:
 
 
 def wrong_paths(text: str) -> Iterator[str]:
-    """The paths of crates that a page names and that are not there. A word in capitals stands for any name."""
+    """The paths of crates that a page names and that are not there. A word in capitals means any name."""
     for path in (whole for found in PATH.findall(text) for whole in spelled_out(found)):
         pattern = re.sub(r"[A-Z]{4,}", "*", path).rstrip("/")
         if not any(ROOT.glob(pattern)):

@@ -1,4 +1,4 @@
-"""The command `drain`: elements of every form, several pipes, responses, requests beside them, and the files that are the ends."""
+"""The command `drain`: elements of every form, several pipes, responses, with requests too, and the files that are the ends."""
 
 from case import Case, Folder, OneAtATime, interface, lines, octets
 
@@ -28,7 +28,7 @@ NO_DEFAULT = "typedef union switch (short k) { case 1: long a; } e;"
 KIND = "typedef enum { A, B = 4 } e;"
 BOTH = interface(LONGS, "void f([in] lp a, [in, out] lp b, [out] lp c);", "long g([in] long n, [out] lp d, [out] long *m);")
 POINTED = interface(LONGS, "void f([in, unique] long *q, [in] lp d, [in] short s);")
-BESIDE = interface(LONGS, "void r([in] unsigned long n, [out, size_is(n)] byte a[*], [out] lp d);")
+SIZED = interface(LONGS, "void r([in] unsigned long n, [out, size_is(n)] byte a[*], [out] lp d);")
 RESPONSE = octets("02000000 ABCD 0000 02000000 07000000 08000000 00000000")
 REQUEST = lines("values 2", "op r in", "n = 2")
 NINE = interface("typedef pipe byte bp;", "void f(" + ", ".join(f"[out] bp p{at}" for at in range(9)) + ", [in] bp q);")
@@ -38,9 +38,9 @@ FED = lines("values 2", "op f in", "d = []")
 GIVEN = ("given", "request.txt")
 
 
-def beside(name, request, *, status=0, notes="", left=RESPONSE, files=None):
-    """A response that is drained beside this request."""
-    made = {"t.idl": BESIDE, **({"request.txt": request} if files is None else files)}
+def with_request(name, request, *, status=0, notes="", left=RESPONSE, files=None):
+    """A response that is drained with this request."""
+    made = {"t.idl": SIZED, **({"request.txt": request} if files is None else files)}
     if status == 0:
         return Case(f"drain: {name}", words("r", "out", "little", *GIVEN), made, RESPONSE, lines("values 2", "op r out", 'a = x"abcd"', "d = []"),
                     ends={"pipe0.out": lines("7", "8")}, left=b"")
@@ -84,7 +84,7 @@ CASES = [
             "octets at 20: Truncated", "1", "2"),
     refused("cut in a gap", GAPS, "01000000 0000", "octets at 6: Truncated"),
     refused("cut in a count", "typedef long e;", "01000000 01000000 0000", "octets at 10: Truncated", "1"),
-    # Sides, several pipes, and values beside them.
+    # Sides, several pipes, and values that are in no pipe.
     Case("drain: the pipes of the inputs alone", words("f"), {"t.idl": BOTH}, octets("01000000 01000000 00000000 01000000 02000000 00000000"),
          lines("values 2", "op f in", "a = []", "b = []"), ends={"pipe0.out": lines("1"), "pipe1.out": lines("2")}),
     Case("drain: the pipes of the outputs alone", words("f", "out"), {"t.idl": BOTH}, octets("00000000 02000000 03000000 04000000 00000000"),
@@ -103,15 +103,15 @@ CASES = [
          lines("values 2", "op f in", 'q = x""'), ends={"pipe0.out": lines("7")}),
     Case("drain: nine pipes of a response", words("f", "out"), {"t.idl": NINE}, octets("00000000"),
          notes=lines("refused: TooFewEnds wanted 9 found 8"), status=1, left=octets("00000000")),
-    # A response beside its request.
-    beside("beside a request", REQUEST),
-    beside("beside a request that it does not answer", lines("values 2", "op r in", "n = 3"), status=1,
+    # A response with its request.
+    with_request("with a request", REQUEST),
+    with_request("with a request that it does not answer", lines("values 2", "op r in", "n = 3"), status=1,
            notes="refused: octets at 0: Disagrees wanted 3 found 2", left=RESPONSE[6:]),
-    beside("beside the text of a response", lines("values 2", "op r out", 'a = x""', "d = []"), status=1, notes="refused: given: text 2:6: OtherName"),
-    beside("beside values that do not conform", lines("values 2", "op r in", "n = -1"), status=1, notes="refused: given: value at n: Range"),
-    beside("beside a request that is not there", b"", status=7, notes="absent: request.txt", files={}),
-    beside("beside a folder", b"", status=9, notes="file fault: request.txt", files={"request.txt": Folder()}),
-    Case("drain: a request beside inputs", words("f", "in", "little", *GIVEN), {"t.idl": FEED, "request.txt": REQUEST}, ONE_TO_THREE,
+    with_request("with the text of a response", lines("values 2", "op r out", 'a = x""', "d = []"), status=1, notes="refused: given: text 2:6: OtherName"),
+    with_request("with values that do not conform", lines("values 2", "op r in", "n = -1"), status=1, notes="refused: given: value at n: Range"),
+    with_request("with a request that is not there", b"", status=7, notes="absent: request.txt", files={}),
+    with_request("with a folder", b"", status=9, notes="file fault: request.txt", files={"request.txt": Folder()}),
+    Case("drain: a request with inputs", words("f", "in", "little", *GIVEN), {"t.idl": FEED, "request.txt": REQUEST}, ONE_TO_THREE,
          notes=lines("words refused"), status=2, left=ONE_TO_THREE),
     Case("drain: a bad request before too few ends", words("f", "out", "little", *GIVEN), {"t.idl": NINE, "request.txt": b"values 2\nop g in"},
          octets("00"), notes=lines("refused: given: text 2:4: OtherName"), status=1, left=octets("00")),

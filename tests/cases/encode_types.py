@@ -1,4 +1,4 @@
-"""Encoding of every form of type, on both sides, in both orders, beside a request and beside none; and octets that other programs wrote, encoded again.
+"""Encoding of every form of type, on both sides, in both orders, with a request and without one; and octets that other programs wrote, encoded again.
 The octets and the texts were made from C706 and the pages of docs/."""
 
 from case import Case, interface, lines, octets
@@ -100,8 +100,8 @@ PIPES = [
 ]
 
 GIVEN = [
-    encoded("a response beside no request", ANSWER, "r", ANSWER_OCTETS, "a = [171, 205]", side="out"),
-    encoded("a response beside its request", ANSWER, "r", ANSWER_OCTETS, "a = [171, 205]", side="out", given=request("n = 2")),
+    encoded("a response without a request", ANSWER, "r", ANSWER_OCTETS, "a = [171, 205]", side="out"),
+    encoded("a response with its request", ANSWER, "r", ANSWER_OCTETS, "a = [171, 205]", side="out", given=request("n = 2")),
     refused("a response that differs from its request", ANSWER, "r", "refused: value at a: Disagrees wanted 3 found 2", "a = [171, 205]",
             side="out", given=request("n = 3")),
     encoded("a variable that travels in the response", OWN, "s2", octets("01000000 01000000 07"), "n = @1", "a = [7]", "@1 = 1",
@@ -113,13 +113,13 @@ GIVEN = [
          notes=lines("refused: given: text 4:1: Expected"), status=1),
     Case("encode given: a request that does not exist", words("r", "out", given=b""), {"t.idl": ANSWER}, text("r", "out", ["a = [171, 205]"]),
          notes=lines("absent: request.text"), status=7),
-    Case("encode given: a request beside inputs", words("r", "in", given=b""), files(ANSWER, request("n = 2")), text("r", "in", ["n = 2"]),
+    Case("encode given: a request with inputs", words("r", "in", given=b""), files(ANSWER, request("n = 2")), text("r", "in", ["n = 2"]),
          notes=lines("words refused"), status=2),
     Case("encode given: no file", [*words("r", "out"), "given"], files(ANSWER, request("n = 2")), text("r", "out", ["a = [171, 205]"]),
          notes=lines("words refused"), status=2),
     Case("encode given: another word", [*words("r", "out"), "beside", "request.text"], files(ANSWER, request("n = 2")), text("r", "out", ["a = [171, 205]"]),
          notes=lines("words refused"), status=2),
-    Case("migrate given: a request beside what is migrated", ["migrate", "t.idl", "-", "r", "out", "given", "request.text"], files(ANSWER, request("n = 2")),
+    Case("migrate given: a request with what is migrated", ["migrate", "t.idl", "-", "r", "out", "given", "request.text"], files(ANSWER, request("n = 2")),
          text("r", "out", ["a = [171, 205]"]), notes=lines("words refused"), status=2),
 ]
 

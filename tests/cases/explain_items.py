@@ -1,4 +1,4 @@
-"""The command `explain`: every kind of item, on every form of type and on both sides, and responses beside their requests."""
+"""The command `explain`: every kind of item, on every form of type and on both sides, and responses with their requests."""
 
 from case import Case, Folder, interface, lines, octets
 
@@ -37,7 +37,7 @@ LINKS = interface("typedef struct node { long v; [ptr] struct node *next; } node
 POINTERS = interface("typedef [unique] short *up; typedef struct { up a[3]; } h;", "void f([in] h *p);")
 SIDES = interface(LONGS, "long g([in] long n, [in, out] short *m, [out] lp d);")
 STRUCTS = interface("typedef struct { byte b; hyper h; } e; typedef pipe e p;", "void f([in] p d);")
-BESIDE = interface("void r([in] unsigned long n, [out, size_is(n)] byte a[*]);")
+SIZED = interface("void r([in] unsigned long n, [out, size_is(n)] byte a[*]);")
 
 
 CASES = [
@@ -69,15 +69,15 @@ CASES = [
     explained("an array without elements", interface("void f([in, size_is(n)] hyper a[*], [in] long n);"), "f", "00000000 00000000",
               "0 4 max a 0", "4 4 num n 0"),
     explained("a label of the other order", SIDES, "g", "00000000 00000008 0009", "0 4 num n 8", "4 2 num @1 9", order="label"),
-    explained("beside a request", BESIDE, "r", "02000000 ABCD", "0 4 max a 2", "4 1 num a[0] 171", "5 1 num a[1] 205", side="out",
+    explained("with a request", SIZED, "r", "02000000 ABCD", "0 4 max a 2", "4 1 num a[0] 171", "5 1 num a[1] 205", side="out",
               more=("given", "request.txt"), files={"request.txt": lines("values 2", "op r in", "n = 2")}),
-    Case("explain: beside a request that it does not answer", ["explain", "t.idl", "-", "r", "out", "little", "given", "request.txt"],
-         {"t.idl": BESIDE, "request.txt": lines("values 2", "op r in", "n = 3")}, octets("02000000 ABCD"),
+    Case("explain: with a request that it does not answer", ["explain", "t.idl", "-", "r", "out", "little", "given", "request.txt"],
+         {"t.idl": SIZED, "request.txt": lines("values 2", "op r in", "n = 3")}, octets("02000000 ABCD"),
          notes=lines("refused: octets at 0: Disagrees wanted 3 found 2"), status=1, left=b""),
-    Case("explain: beside a request that is not there", ["explain", "t.idl", "-", "r", "out", "little", "given", "request.txt"],
-         {"t.idl": BESIDE}, octets("02000000 ABCD"), notes=lines("absent: request.txt"), status=7, left=octets("02000000 ABCD")),
-    Case("explain: beside a folder", ["explain", "t.idl", "-", "r", "out", "little", "given", "request.txt"],
-         {"t.idl": BESIDE, "request.txt": Folder()}, octets("02000000 ABCD"), notes=lines("file fault: request.txt"), status=9,
+    Case("explain: with a request that is not there", ["explain", "t.idl", "-", "r", "out", "little", "given", "request.txt"],
+         {"t.idl": SIZED}, octets("02000000 ABCD"), notes=lines("absent: request.txt"), status=7, left=octets("02000000 ABCD")),
+    Case("explain: with a folder", ["explain", "t.idl", "-", "r", "out", "little", "given", "request.txt"],
+         {"t.idl": SIZED, "request.txt": Folder()}, octets("02000000 ABCD"), notes=lines("file fault: request.txt"), status=9,
          left=octets("02000000 ABCD")),
     refused("cut", ARRAYS, "fx", "01 00 0100 02", "octets at 5: Truncated"),
     refused("no octet", KIND, "e", "", "octets at 0: Truncated"),

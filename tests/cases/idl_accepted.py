@@ -28,7 +28,7 @@ def identified(name, uuid):
 
 
 def between(separator):
-    """A file with this before, between and behind all tokens."""
+    """A file with this before, between and after all tokens."""
     tokens = "[ uuid ( 11111111-2222-3333-4444-555555555555 ) ] interface t { void f ( [ in ] small x ) ; }".split()
     return separator.join(["", *tokens, ""]).encode()
 
@@ -39,14 +39,14 @@ LAYOUT = [
     accepted("on four lines", PLAIN),
     accepted("no separator but those between words", f"{HEADER}interface t{{void f([in]small x);}}".encode()),
     accepted("a line a token", PLAIN.replace(b" ", b"\n").replace(b"(", b"\n(\n").replace(b"[", b"\n[\n")),
-    accepted("spaces and line feeds before, between and behind all tokens", between(" \n ")),
+    accepted("spaces and line feeds before, between and after all tokens", between(" \n ")),
     accepted("a tab between words", PLAIN.replace(b"void f", b"void\tf")),
     accepted("a tab on a line of its own", PLAIN.replace(b"\n}", b"\n\t\n}")),
     accepted("carriage returns and line feeds", PLAIN.replace(b"\n", b"\r\n")),
     accepted("carriage returns in the place of line feeds", PLAIN.replace(b"\n", b"\r")),
     accepted("a carriage return at the end", PLAIN + b"\r"),
     accepted("form feeds in the place of spaces", PLAIN.replace(b" ", b"\f")),
-    accepted("each separator before, between and behind all tokens", between(" \t\r\n\f")),
+    accepted("each separator before, between and after all tokens", between(" \t\r\n\f")),
     accepted("1,048,576 octets", PLAIN.ljust(1_048_576)),
     accepted("1,048,576 octets, most of them in the middle", PLAIN.replace(b"\n}", b"\n" * (1_048_576 - len(PLAIN) + 1) + b"}")),
     accepted("1,024 operations", interface(*(f"void g{n}();" for n in range(1023)), "void f([in] small x);")),
@@ -55,9 +55,9 @@ LAYOUT = [
 COMMENTS = [
     accepted("a comment before", b"/* about t */ " + PLAIN),
     accepted("a comment inside", PLAIN.replace(b"small x", b"small /* first */ x")),
-    accepted("a comment behind", PLAIN + b"/* done */"),
+    accepted("a comment after", PLAIN + b"/* done */"),
     accepted("a comment and no separator", PLAIN.replace(b"void f", b"void/**/f")),
-    accepted("a comment before, between and behind all tokens", between("/* */")),
+    accepted("a comment before, between and after all tokens", between("/* */")),
     accepted("comments of a star, between all tokens", between("/***/")),
     accepted("comments of several lines, between all tokens", between("/*\n one\r\n *\n * /\n **/")),
     accepted("comments one after the other", PLAIN + b"/**//*/ */ /***/ /****/\n/* */"),

@@ -1,4 +1,4 @@
-"""The grammar of IDL as a whole: one text with every alternative, cut and disturbed behind each token; and 64 and 65 brackets and operators of all kinds.
+"""The grammar of IDL as a whole: one text with every alternative, cut and disturbed after each token; and 64 and 65 brackets and operators of all kinds.
 
 Where the grammar is refused line by line is in idl_syntax.py.
 """
@@ -19,7 +19,7 @@ def export(name, what, text):
 
 
 def taken(name, text):
-    """A file of one declaration that is of the language. The first fault is the empty declaration behind it."""
+    """A file of one declaration that is of the language. The first fault is the empty declaration after it."""
     return export(name, "Syntax", f"{text}{MARK};")
 
 
@@ -70,36 +70,36 @@ def begun(count):
 
 # Nothing follows a whole file.
 WHOLE = [
-    fault("behind every alternative", "Syntax", f"{' '.join(TOKENS)} {MARK};"),
-    fault("behind every alternative, on lines", "Syntax", f"{EVERY}{MARK};"),
+    fault("after every alternative", "Syntax", f"{' '.join(TOKENS)} {MARK};"),
+    fault("after every alternative, on lines", "Syntax", f"{EVERY}{MARK};"),
 ]
 
 # Where the text ends early it is only the beginning of one. `interface` goes on with the attributes of the file alone, and a
 # word that is banned anywhere with nothing.
-CUT = [fault(f"the end behind {count} tokens", "Syntax", begun(count) + MARK) for count in range(len(TOKENS))]
+CUT = [fault(f"the end after {count} tokens", "Syntax", begun(count) + MARK) for count in range(len(TOKENS))]
 WRONG = [
-    fault(f"a wrong word behind {count} tokens", "Syntax", f"{begun(count)}{MARK}interface")
+    fault(f"a wrong word after {count} tokens", "Syntax", f"{begun(count)}{MARK}interface")
     for count in range(len(TOKENS) + 1) if TOKENS[count:count + 1] != ["interface"]
 ]
-BANNED = [fault(f"a banned word behind {count} tokens", "Banned float", f"{begun(count)}{MARK}float") for count in range(len(TOKENS) + 1)]
+BANNED = [fault(f"a banned word after {count} tokens", "Banned float", f"{begun(count)}{MARK}float") for count in range(len(TOKENS) + 1)]
 
 # ----------------------------------------------------------------------------------------------------------------------
 # At most 64 brackets are open, of all kinds together. The interface's own is one of them
 
 
-def most(name, front, opening, count, middle, closing, behind):
+def most(name, front, opening, count, middle, closing, after):
     """A declaration with as many brackets of a kind as may be open there, and the same with one more."""
     word = opening.rstrip("({ ")
     one_more = word + opening[len(word):].replace("(", MARK + "(").replace("{", MARK + "{")
     return [
-        taken(f"{name}, as many as there may be", front + opening * count + middle + closing * count + behind),
-        export(f"{name}, one too many", "Deep", front + opening * count + one_more + middle + closing * (count + 1) + behind),
+        taken(f"{name}, as many as there may be", front + opening * count + middle + closing * count + after),
+        export(f"{name}, one too many", "Deep", front + opening * count + one_more + middle + closing * (count + 1) + after),
     ]
 
 
-def round_brackets(front, count, behind):
+def round_brackets(front, count, after):
     """An expression in as many round brackets as may be open there, and in one more."""
-    return most(f"round brackets in {front}", front, "(", count, "1", ")", behind)
+    return most(f"round brackets in {front}", front, "(", count, "1", ")", after)
 
 
 def in_structs(count, member):
@@ -108,7 +108,7 @@ def in_structs(count, member):
 
 
 def in_brackets(wrong):
-    """A value behind so many round brackets that 64 are open."""
+    """A value after so many round brackets that 64 are open."""
     return "const long A = " + "(" * 63 + wrong
 
 
@@ -142,16 +142,16 @@ BRACKETS = [
     taken("65 pairs of round brackets", "const long A = (1)" + " + (1)" * 64 + ";"),
     taken("100 pairs of square brackets", "typedef long a" + "[(1)]" * 100 + ";"),
     # A bracket that could not be there at all is a fault of syntax, as any other token is.
-    *(export(f"{wrong} behind 64 open brackets", "Syntax", in_brackets(MARK + wrong)) for wrong in ("{", "[", ")", "*", "struct")),
-    export("a bracket behind a number behind 64 open brackets", "Syntax", in_brackets("1 §(1)")),
-    *(export(f"{wrong} where a member is due, behind 64 open brackets", "Syntax", in_structs(63, MARK + wrong)) for wrong in ("(", "{", "}", ";")),
+    *(export(f"{wrong} after 64 open brackets", "Syntax", in_brackets(MARK + wrong)) for wrong in ("{", "[", ")", "*", "struct")),
+    export("a bracket after a number after 64 open brackets", "Syntax", in_brackets("1 §(1)")),
+    *(export(f"{wrong} where a member is due, after 64 open brackets", "Syntax", in_structs(63, MARK + wrong)) for wrong in ("(", "{", "}", ";")),
     # Of several faults the first is reported.
-    export("a banned word behind 64 open brackets", "Banned float", in_brackets("§float")),
-    export("a banned attribute behind 64 open brackets", "Banned handle", in_structs(62, "[§handle(a)] long b;")),
+    export("a banned word after 64 open brackets", "Banned float", in_brackets("§float")),
+    export("a banned attribute after 64 open brackets", "Banned handle", in_structs(62, "[§handle(a)] long b;")),
     export("one bracket too many before a wrong token", "Deep", in_brackets("§(;")),
     export("one bracket too many before a banned word", "Deep", in_brackets("§( float")),
     export("one bracket too many before a banned attribute", "Deep", in_structs(63, "§[handle] long b;")),
-    export("brackets behind a wrong token", "Syntax", "const long A = 1 §2 + " + "(" * 65),
+    export("brackets after a wrong token", "Syntax", "const long A = 1 §2 + " + "(" * 65),
 ]
 
 # ----------------------------------------------------------------------------------------------------------------------
@@ -172,13 +172,13 @@ def refused(name, what, expression):
     return export(name, what, f"const long A = {expression};")
 
 
-def in_each(front, between, behind):
+def in_each(front, between, after):
     """Expressions of 64 operators each, and the same with one more in the last."""
-    text, name = front + SUM + between + SUM, f"{front}A{between}B{behind}"
-    return [taken(f"64 operators each in {name}", text + behind), export(f"65 operators in B in {name}", "Deep", text + " §- 1" + behind)]
+    text, name = front + SUM + between + SUM, f"{front}A{between}B{after}"
+    return [taken(f"64 operators each in {name}", text + after), export(f"65 operators in B in {name}", "Deep", text + " §- 1" + after)]
 
 
-# Seven operators each but the first, which has six: with two behind them they are 64.
+# Seven operators each but the first, which has six: with two after them they are 64.
 ALL_KINDS = " || ".join(["(-1 + ~2 * !3 ? 4 : 5)"] * 9) + " && -7"
 TWO_SIDES = "(1" + " + 1" * 32 + ") * (1" + " - 1" * 31 + ")"
 
@@ -196,7 +196,7 @@ OPERATORS = [
     refused("65 operators of all kinds, the last ?:", "Deep", ALL_KINDS + " §? 8 : 9"),
     value("64 operators on two sides in brackets", TWO_SIDES),
     refused("65 operators on two sides in brackets", "Deep", TWO_SIDES + " §/ 2"),
-    refused("a unary operator behind 64 others", "Deep", "1" + " + 1" * 63 + " + §-1"),
+    refused("a unary operator after 64 others", "Deep", "1" + " + 1" * 63 + " + §-1"),
     value("64 operators and 64 brackets", "-(" * 63 + "-1" + ")" * 63),
     value("64 operators in 64 brackets", "(" * 63 + SUM + ")" * 63),
     refused("65 operators in 64 brackets", "Deep", "(" * 63 + SUM + " §+ 1" + ")" * 63),
@@ -213,16 +213,16 @@ OPERATORS = [
     *in_each("typedef [case(", ", ", ")] long a;"),
     *in_each("union u { [case(", ")] long a; [case(", ")] long b; };"),
     # An operator that could not be there at all is a fault of syntax, as any other token is.
-    *(refused(f"{wrong} behind 64 operators", "Syntax", f"{SUM} {MARK}{wrong} 1") for wrong in ("!", "~", "(", "1", ":", "=", ")")),
-    *(refused(f"{wrong} in place of an operand behind 64 operators", "Syntax", f"{SUM[:-1]}{MARK}{wrong} 1") for wrong in ("*", "==", "?", ")")),
+    *(refused(f"{wrong} after 64 operators", "Syntax", f"{SUM} {MARK}{wrong} 1") for wrong in ("!", "~", "(", "1", ":", "=", ")")),
+    *(refused(f"{wrong} in place of an operand after 64 operators", "Syntax", f"{SUM[:-1]}{MARK}{wrong} 1") for wrong in ("*", "==", "?", ")")),
     # Of several faults the first is reported.
-    refused("a banned word behind 64 operators", "Banned double", f"{SUM} §double"),
-    refused("a banned word as an operand behind 64 operators", "Banned double", f"{SUM[:-1]}§double"),
+    refused("a banned word after 64 operators", "Banned double", f"{SUM} §double"),
+    refused("a banned word as an operand after 64 operators", "Banned double", f"{SUM[:-1]}§double"),
     refused("one operator too many before a wrong token", "Deep", f"{SUM} §+ *"),
     refused("one operator too many before a banned word", "Deep", f"{SUM} §+ float"),
     refused("one operator too many before one bracket too many", "Deep", "(" * 63 + f"{SUM} §+ (1"),
     refused("one bracket too many before one operator too many", "Deep", "(" * 63 + f"§({SUM} + 1"),
-    refused("one operator too many behind a wrong token", "Syntax", f"1 §2 + {SUM}"),
+    refused("one operator too many after a wrong token", "Syntax", f"1 §2 + {SUM}"),
 ]
 
 CASES = WHOLE + CUT + WRONG + BANNED + BRACKETS + OPERATORS

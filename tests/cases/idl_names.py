@@ -107,7 +107,7 @@ IMPORTS = [
          notes=lines("absent: u.idl"), status=7),
     Case("import, a folder", ["decode", "t.idl", "-", "f", "in", "little"], {"t.idl": with_import().encode(), "u.idl": Folder()}, octets("01"),
          notes=lines("file fault: u.idl"), status=9),
-    Case("import, absent behind an unknown name", ["decode", "t.idl", "-", "f", "in", "little"],
+    Case("import, absent after an unknown name", ["decode", "t.idl", "-", "f", "in", "little"],
          {"t.idl": with_import("typedef no_t n;").encode()}, octets("01"), notes=lines("absent: u.idl"), status=7),
 ]
 
@@ -142,9 +142,9 @@ COUNTS = [
     Case("import, 64 files", ["decode", "t.idl", "-", "f", "in", "little"], chain(MANY), octets("01"), lines("values 2", "op f in", "x = 1")),
     Case("import, 65 files", ["decode", "t.idl", "-", "f", "in", "little"], {**chain(MANY), "u63.idl": LAST}, octets("01"),
          notes=lines(f"idl u63.idl:{PLACE}: TooMany"), status=6),
-    Case("import, 63 files beside the main file", ["decode", "t.idl", "-", "f", "in", "little"], {**side_by_side(63), "t.idl": main_with(63).encode()},
+    Case("import, 63 files with the main file", ["decode", "t.idl", "-", "f", "in", "little"], {**side_by_side(63), "t.idl": main_with(63).encode()},
          octets("01"), lines("values 2", "op f in", "x = 1")),
-    Case("import, 64 files beside the main file", ["decode", "t.idl", "-", "f", "in", "little"], {**side_by_side(64), "t.idl": WIDE}, octets("01"),
+    Case("import, 64 files with the main file", ["decode", "t.idl", "-", "f", "in", "little"], {**side_by_side(64), "t.idl": WIDE}, octets("01"),
          notes=lines(f"idl t.idl:{WIDE_PLACE}: TooMany"), status=6),
 ]
 

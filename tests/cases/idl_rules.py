@@ -55,7 +55,7 @@ COUNTS = [
 
 # The least rule is reported, at its first place, and every fault of a name or a constant comes before it.
 ORDER = [
-    fault("Rule 5", "[local] interface t { void f(long a); §long; }", "a lesser rule behind a greater"),
+    fault("Rule 5", "[local] interface t { void f(long a); §long; }", "a lesser rule after a greater"),
     fault("Rule 30", "[local] interface t { void f(§long a); void g(long a); }", "one rule twice"),
     fault("Unknown no_t", "[local] interface t { long; void f([in]§no_t a); }", "a rule before a name"),
     fault("ZeroDivisor", "[local] interface t { long; const long A=5§%0; }", "a rule before a constant"),

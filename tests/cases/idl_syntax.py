@@ -120,7 +120,7 @@ PARAMETERS = parameters(
     "[in] small §(*y)", "[in] small §&y", "[in] smally§", "[in] unsigned §y", "[in] §int y", "[in] long §long y",
     "[in] long §short y", "[in] struct§", "[in] §const long y", "[in] §typedef y", "[in] §pipe long y", "[in] §[4] y",
     "void§, [in] small y", "void §void", "void§[1]", "[in] small y, void§", "§...", "[in] small y, §...",
-    # Behind a name a bracket is a bound, in which `in` is a name.
+    # After a name a bracket is a bound, in which `in` is a name.
     "[in] small y [in] §small z", "[in] small y [in§, out] small z", "[in] small y[§", "[in] small y[1§", "[in] small y[1 §1]",
 )
 
@@ -184,7 +184,7 @@ CONSTANTS = [
 
 NAMES = [
     *(case for word in RESERVED for case in named("Syntax", word)),
-    # Behind a size these two words are of the type, so that the name is missing.
+    # After a size these two words are of the type, so that the name is missing.
     fault("Syntax", interface("void f([in] small x);", name="§int"), "an interface named int"),
     fault("Syntax", interface("void f([in] small x);", name="§unsigned"), "an interface named unsigned"),
     *export("Syntax", "void §int();", "void §unsigned();", "void g([in] small int§);", "void g([in] small unsigned§);"),
@@ -266,8 +266,8 @@ NUMBERED = [
 # Only a line feed ends a line, and each octet is a column.
 LINES = [
     fault("Syntax", f"{HEADER}\ninterface t {{\n§;\n}}\n", "on line 3"),
-    fault("Syntax", f"{HEADER} /* one\ntwo\nthree */ §;", "on line 3, behind a comment of three lines"),
-    fault("Syntax", f"\n\n\n{HEADER}\n\n§;", "behind empty lines"),
+    fault("Syntax", f"{HEADER} /* one\ntwo\nthree */ §;", "on line 3, after a comment of three lines"),
+    fault("Syntax", f"\n\n\n{HEADER}\n\n§;", "after empty lines"),
     fault("Syntax", f"{HEADER}\n\t§;", "a tab is one column"),
     fault("Syntax", f"{HEADER}\n\t \t§;", "tabs and a space are three columns"),
     fault("Syntax", f"{HEADER}\n/* größe */ §;", "a letter of two octets is two columns"),
@@ -292,8 +292,8 @@ ORDER = [
     *whole("Syntax", f"[uuid({UUID}), version(1.0)] interface §interface t {{ }}",
            f"{HEADER} interface t {{ void f([in] long y, [in] long y§"),
     *export("Syntax", "void f(); §;", "[idempotent] void g(); §;", "typedef long n; const long A§;"),
-    fault("Syntax", interface(*(f"void g{number}();" for number in range(1025)), "§;"), "behind 1,025 operations"),
-    fault("Syntax", interface("void g(" + "[in] small y, " * 257 + "§);"), "behind 257 parameters of one name"),
+    fault("Syntax", interface(*(f"void g{number}();" for number in range(1025)), "§;"), "after 1,025 operations"),
+    fault("Syntax", interface("void g(" + "[in] small y, " * 257 + "§);"), "after 257 parameters of one name"),
     fault("Syntax", f"{HEADER} §;", "before an unknown operation", operation="g"),
     fault("Syntax", f"{HEADER} §;", "the file's name as it was given", file="./a folder/größe.idl"),
 ]

@@ -87,7 +87,7 @@ COMMENTS = [
             "/* ö */1", "/*\n\n*/1"),
     *value("OpenComment", "§/*", "§/*/", "§/* *", "§/** /", "1 + §/* \"*\\/\"", "/**/§/*", "1/* */ §/*", "§/* '"),
     fault("OpenComment", HERE + b"/* " + PLAIN, "a whole file in an open comment"),
-    *(fault("OpenComment", PLAIN + HERE + text, f"{text} behind the file") for text in (b"/*", b"/*/", b"/* *", b"/*\n\n")),
+    *(fault("OpenComment", PLAIN + HERE + text, f"{text} after the file") for text in (b"/*", b"/*/", b"/* *", b"/*\n\n")),
     # A comment ends at its first */, whatever is in it.
     *value("Syntax", "/* /* */§*/", "1 /* /* */ *§/", "1 *§/", "1 / §*", "1 /§/ 2", "/**/§/ 1"),
     *value("BadOctet", "/* */§#", "/* /* */ 1 §# */", "1 /* \" */ + §#"),
@@ -100,7 +100,7 @@ OCTETS = [
     fault("BadOctet", HERE + b"\xef\xbb\xbf" + PLAIN, "a byte order mark"),
     fault("BadOctet", PLAIN.replace(b"void f", "void§\u00a0f".encode()), "a no-break space"),
     fault("BadOctet", PLAIN.replace(b"void f", "void§\vf".encode()), "a vertical tab between words"),
-    fault("BadOctet", PLAIN.replace(b"x", b"x" + HERE + b"\0"), "a zero octet behind a name"),
+    fault("BadOctet", PLAIN.replace(b"x", b"x" + HERE + b"\0"), "a zero octet after a name"),
     fault("BadOctet", HERE + b"#define x y\n" + PLAIN, "a line of the preprocessor"),
     fault("BadOctet", PLAIN.replace(b"void f", "void f§#".encode()).replace(b"small", b"#small"), "the first of two octets"),
     fault("BadOctet", HERE + bytes(LIMIT), "1,048,576 zero octets"),
@@ -130,7 +130,7 @@ ORDER = [
     *whole("OpenComment", "§/* #", "§/* '", "interface §/* t"),
     *whole("LongName", f"§{'n' * 32} #", f"interface t §{'n' * 32}"),
     fault("BadOctet", interface("void f([in] small x);", "void f();", "§#"),
-          "an octet of no token behind a name that is repeated"),
+          "an octet of no token after a name that is repeated"),
 ]
 
 CASES = NUMBERS + WORDS + IDENTIFIERS + MARKS + CHARACTERS + STRINGS + COMMENTS + OCTETS + LENGTHS + ORDER

@@ -29,7 +29,7 @@ def octets_of(content: Content) -> bytes:
 
 
 def accepted(name: str, text: Content, acf: str = "-", **files: Content) -> Case:
-    """A file that is listed, with others beside it."""
+    """A file that is listed, with other files."""
     given = {"t.idl": octets_of(text), **{file.replace("_", "."): octets_of(content) for file, content in files.items()}}
     return Case(f"limits: {name}", ["compile", "t.idl", acf], given, out=Begins(b"interface t version "))
 
@@ -210,9 +210,9 @@ INTEGERS = [
 LETTERS = [("char", 0, 255), ("boolean", 0, 1)]
 NUMBERS = [
     accepted("enumerators of 0 and 32,767", local(f"enum {{ A = 0, B = {ENUMERATOR} }};")),
-    accepted("an enumerator of 32,767 behind 32,766", local(f"enum {{ A = {ENUMERATOR - 1}, B }};")),
+    accepted("an enumerator of 32,767 after 32,766", local(f"enum {{ A = {ENUMERATOR - 1}, B }};")),
     refused("an enumerator of 32,768", "Rule 13", local(f"enum {{ {MARK}A = {ENUMERATOR + 1} }};")),
-    refused("an enumerator of 32,768 behind 32,767", "Rule 13", local(f"enum {{ A = {ENUMERATOR}, {MARK}B }};")),
+    refused("an enumerator of 32,768 after 32,767", "Rule 13", local(f"enum {{ A = {ENUMERATOR}, {MARK}B }};")),
     refused("an enumerator of -1", "Rule 13", local(f"enum {{ {MARK}A = -1 }};")),
     accepted("version 65535.65535", f"[local, version({VERSION}.{VERSION})] interface t {{ }}"),
     refused("version 65536", "Rule 4", f"[local, {MARK}version({VERSION + 1})] interface t {{ }}"),

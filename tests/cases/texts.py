@@ -463,7 +463,7 @@ WORKED = [
     *same("a null context handle", "typedef [context_handle] void *ctx; void use([in] ctx c);", "use", "op use in", "c = ctx(0, 00000000-0000-0000-0000-000000000000)"),
     *same("a struct with an array of two dimensions", "typedef struct { byte t; short m[2][2]; } q; void fx([in] q *p);", "fx", "op fx in", "p = @1",
           "@1 = {t = 1, m = [[1, 2], [3, 4]]}"),
-    *same("a union with its tag beside it", "typedef [switch_type(short)] union { [case(1)] long a; [default] ; } nu; void nn([in] short k, [in, switch_is(k)] nu u);", "nn",
+    *same("a union with its tag in front", "typedef [switch_type(short)] union { [case(1)] long a; [default] ; } nu; void nn([in] short k, [in, switch_is(k)] nu u);", "nn",
           "op nn in", "k = 1", "u = 1:5"),
     *same("a struct with a varying array", "typedef struct { long n; [length_is(n)] short a[4]; } vs; void va([in] vs *p);", "va", "op va in", "p = @1", "@1 = {n = 2, a = 0:[5, 6]}"),
     put("version 1", PUT_ONE, out=PUT_TWO),

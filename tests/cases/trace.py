@@ -16,7 +16,7 @@ LINKS = interface("typedef struct node { long v; [ptr] struct node *next; } node
 SIZED = interface("typedef byte bytes[*]; typedef struct { [size_is(n), unique] bytes *b; short n; } s;", "void put([in] s *p);")
 POINTED = interface("typedef byte bytes[*];", "void put([in] unsigned long n, [in, size_is(n)] bytes *p);",
                     "void send([in] unsigned long n, [in, unique, size_is(n)] bytes *p);")
-BESIDE = interface("void r([in] unsigned long n, [out, size_is(n)] byte a[*]);")
+ANSWERED = interface("void r([in] unsigned long n, [out, size_is(n)] byte a[*]);")
 STAR = interface("void f([in] long *n, [in, size_is(*n)] byte a[*]);")
 REQUEST = lines("values 2", "op r in", "n = 3")
 
@@ -70,7 +70,7 @@ CASES = [
            "4 4 max @1 2", "8 1 num @1[0] 7", "9 1 num @1[1] 8", "4 fault Disagrees wanted 3 found 2 @1 n"),
     traced("the count of what a unique parameter names", POINTED, "send", "03000000 09000000 02000000 0708", "8: Disagrees wanted 3 found 2", "0 4 num n 3",
            "4 4 number p 9", "8 4 max @1 2", "12 1 num @1[0] 7", "13 1 num @1[1] 8", "8 fault Disagrees wanted 3 found 2 @1 n"),
-    traced("a count beside a request", BESIDE, "r", "02000000 0708", "0: Disagrees wanted 3 found 2", "0 4 max a 2", "4 1 num a[0] 7", "5 1 num a[1] 8",
+    traced("a count with a request", ANSWERED, "r", "02000000 0708", "0: Disagrees wanted 3 found 2", "0 4 max a 2", "4 1 num a[0] 7", "5 1 num a[1] 8",
            "0 fault Disagrees wanted 3 found 2 a n", side="out", more=("given", "request.txt"), files={"request.txt": REQUEST}),
     traced("a count that a pointer has", STAR, "f", "03000000 01000000 07", "4: Disagrees wanted 3 found 1", "0 4 num @1 3", "4 4 max a 1", "8 1 num a[0] 7",
            "4 fault Disagrees wanted 3 found 1 a n"),

@@ -97,7 +97,7 @@ def of_pages():
 
 
 def of_readme():
-    """The table of README: each line is that of an entry, which the page names beside it."""
+    """The table of README: each line is that of an entry, which the page names in its row."""
     for status, line, name, meaning in table(section(page("README.md"), "Refusals"), "Status", "Line on standard error", "`why`", "Meaning"):
         form = line.strip("`").split("`")[0]
         yield from differs(f"README.md, {line}", meaning, name.strip("`"), form)
