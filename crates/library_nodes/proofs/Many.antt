@@ -9,7 +9,7 @@ use Rattle.nd_types.specs.Number.{value_of_octets}
 use Rattle.nd_types.specs.Table.{width}
 use Rattle.nd_value.specs.Tree as tree
 use Rattle.nd_value.specs.Tree.{Flat}
-use Rattle.nd_flat.specs.FlatForm.{num_flat, num_flats, row_values}
+use Rattle.nd_flat.specs.FlatForm.{num_flats, row_values}
 use Rattle.nd_flat.proofs.RowLaws.{length_row_values}
 use Rattle.library_nodes.specs.declared.node.Elements.{Elements}
 use Rattle.library_nodes.specs.declared.node.Node.{Node}

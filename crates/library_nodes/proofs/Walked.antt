@@ -5,7 +5,7 @@ use Rattle.std.proofs.lemmas.List.{append-nil}
 use Rattle.nd_value.specs.Tree.{Flat, Trees, flat, none}
 use Rattle.library_nodes.specs.declared.node.Node.{Node}
 use Rattle.library_nodes.specs.declared.nodes.NodeList.{NodeList}
-use Rattle.library_nodes.specs.Laying.{Adds, AddsOpen}
+use Rattle.library_nodes.specs.Laying.{AddsOpen}
 
 -- the first nodes of a walk are added, and the others are left
 pub record Walks (old : List Flat) (a : NodeList) (now : List Flat) (b : NodeList) (o : Option Node) : Type 0 where

@@ -1,6 +1,6 @@
 -- What is added to a list of nodes.
 -- `a` is a list before, `b` after it, `fs` are the nodes of values, `ss` numbers of nodes, `ts` trees, `xs` numbers of elements.
-use Rattle.std.specs.Prelude.{◌≡◌, ℕ, ◌+◌, ◌-◌, List, [], ◌++◌, length, map, Option, Some, None, option_map, option_to_list, if◌then◌else◌, nat_lt}
+use Rattle.std.specs.Prelude.{◌≡◌, ℕ, ◌+◌, ◌-◌, List, [], ◌++◌, length, Option, Some, None, option_map, option_to_list, if◌then◌else◌, nat_lt}
 use Rattle.nd_value.specs.Tree.{Tree, Flat, flat, trees}
 use Rattle.library_nodes.specs.declared.node.Elements.{Elements}
 use Rattle.library_nodes.specs.declared.node.Node.{Node}
