@@ -3,11 +3,9 @@ ghost use Rattle.std.specs.Prelude.{◌≡◌, ◌≤◌, ◌<◌, [], length, t
 ghost use Rattle.command_refusals.specs.Lines.{line_of};
 ghost use Rattle.library_calls.specs.Causes.{IsCauseOf};
 ghost use Rattle.library_calls.specs.Names.{file_of, name_of};
-ghost use Rattle.dceidl_c.specs.Answers.{refusal_in};
+ghost use Rattle.library_answers.specs.Answers.{refusal_in};
 
-use crate::answers::{ARGUMENT, EMPTY, MEMORY, OK, SHORT, lay_out};
-use crate::interfaces::free;
-use command_refusals::{Refusal, line};
+use library_answers::{ARGUMENT, EMPTY, MEMORY, OK, SHORT, free, lay_out, write_line};
 use library_calls::{Cause, cause_of, file, name};
 use library_handles::{Handle, Held};
 use std::alloc::Global;
@@ -127,24 +125,6 @@ pub extern "C" fn dceidl_fault_line(
     };
     fault.put(alloc, held);
     status
-}
-
-// Writes the line that reports a refusal.
-fn write_line(alloc: Global, refusal: &Refusal, out: &mut [u8], len: &mut usize) -> u32
-    ensures known { result ≤ SHORT }
-    ensures not_empty { result ≡ EMPTY → ⊥ }
-    ensures not_argument { result ≡ ARGUMENT → ⊥ }
-    ensures written { result ≡ OK → take len.new out.new ≡ line_of [] [] refusal.now }
-    ensures rest { result ≡ OK → drop len.new out.new ≡ drop len.new out.old }
-    ensures room { result ≡ OK → len.new ≤ length out.old }
-    ensures short { result ≡ SHORT → (len.new ≡ length (line_of [] [] refusal.now)) × (length out.old < len.new) }
-    ensures kept { (result ≡ OK → ⊥) → out.new ≡ out.old }
-    ensures len_kept { (result ≡ OK → ⊥) → (result ≡ SHORT → ⊥) → len.new ≡ len.old }
-{
-    match line(alloc, "", "", refusal) {
-        Ok(text) => lay_out(text.as_slice(), out, len),
-        Err(_) => MEMORY,
-    }
 }
 
 /// Lets go of a fault.

@@ -1,18 +1,18 @@
 // Interfaces.
-ghost use Rattle.std.specs.Prelude.{◌≡◌, ◌≤◌, ◌<◌, length, take, drop, Some, None, true, is_some, option_map, IfSome, IsSomeAnd, IsUtf8};
-ghost use Rattle.std.specs.Arc.{arc_value};
+ghost use Rattle.std.specs.Prelude.{◌≡◌, ◌≤◌, ◌<◌, length, take, drop, Some, None, true, is_some, IsSomeAnd, IsUtf8};
 ghost use Rattle.std.specs.List.{slice_get};
 ghost use Rattle.nd_types.specs.Operations.{operation_named};
 ghost use Rattle.library_interface.specs.Named.{HasBadName};
-ghost use Rattle.dceidl_c.specs.Answers.{interface_in, refusal_in};
-ghost use Rattle.dceidl_c.specs.Compiling.{IsCompile, IsCompileRefusal, IsFilesCompile, IsFilesRefusal, name_of_file};
+ghost use Rattle.library_answers.specs.Answers.{interface_in, refusal_in};
+ghost use Rattle.library_answers.specs.Compiling.{IsFilesCompile, IsFilesRefusal};
 
-use crate::answers::{ABSENT, ARGUMENT, EMPTY, MEMORY, OK, REFUSED, SHORT, fill, lay_out, refuse};
+use library_answers::{
+    ABSENT, ARGUMENT, EMPTY, MEMORY, OK, REFUSED, SHORT, compile, find_operation, free, share,
+    write_name,
+};
 use library_handles::{Handle, Held};
-use library_interface::{CompileFault, Compiled, File, compile_files};
+use library_interface::File;
 use std::alloc::Global;
-use std::str::from_utf8;
-use std::sync::Arc;
 
 /// The version of the library, 0.1.0: an octet each for the major, minor and patch number.
 #[unsafe(no_mangle)]
@@ -24,7 +24,6 @@ pub extern "C" fn dceidl_version() -> u32
 
 /// Compiles the first file with what it imports, beside the attribute configuration file of the number `acf`, if that is not 0.
 #[unsafe(no_mangle)]
-#[tactic(auto, using(crate::proofs::Files::compiled_alone, crate::proofs::Files::compiled_beside, crate::proofs::Files::refused_alone, crate::proofs::Files::refused_beside))]
 pub extern "C" fn dceidl_compile(
     alloc: Global,
     files: &[File<'_>],
@@ -43,86 +42,7 @@ pub extern "C" fn dceidl_compile(
     ensures interface_kept { (result ≡ OK → ⊥) → interface.new.value ≡ interface.old.value }
     ensures fault_kept { (result ≡ REFUSED → ⊥) → fault.new.value ≡ fault.old.value }
 {
-    let Some(idl) = name_of(files, 0) else {
-        return ARGUMENT;
-    };
-    if acf == 0 {
-        return compile(alloc, files, idl, None, interface, fault);
-    }
-    let Some(name) = name_of(files, acf) else {
-        return ARGUMENT;
-    };
-    compile(alloc, files, idl, Some(name), interface, fault)
-}
-
-// The name of a file, if there is one of that number and its name is UTF-8.
-#[tactic(auto, using(crate::proofs::Files::bad_name))]
-fn name_of<'a>(files: &[File<'a>], number: usize) -> Option<&'a str>
-    ensures named { IfSome result (λ name. name_of_file files.now number ≡ Some name.now) }
-    ensures there { IfSome result (λ _. number < length files.now) }
-    ensures bad { result ≡ None → number < length files.now → HasBadName files.now }
-{
-    if number >= files.len() {
-        return None;
-    }
-    let name = octets_of_name(files, number);
-    match from_utf8(name) {
-        Ok(text) => Some(text),
-        Err(_) => None,
-    }
-}
-
-// The name of a file.
-fn octets_of_name<'a>(files: &[File<'a>], number: usize) -> &'a [u8]
-    requires { number < length files.now }
-    ensures { name_of_file files.now number ≡ Some result.now }
-{
-    files[number].name
-}
-
-// Compiles the file `idl`, beside an attribute configuration file if one is named.
-#[tactic(auto, using(crate::proofs::Files::compiled_is, crate::proofs::Files::compile_refused))]
-fn compile(
-    alloc: Global,
-    files: &[File<'_>],
-    idl: &str,
-    acf: Option<&str>,
-    interface: &mut Handle,
-    fault: &mut Handle,
-) -> u32
-    ensures known { result ≤ REFUSED }
-    ensures not_empty { result ≡ EMPTY → ⊥ }
-    ensures not_short { result ≡ SHORT → ⊥ }
-    ensures compiled { result ≡ OK → IsSomeAnd (interface_in interface.new.value)
-        (λ i. IsCompile files.now idl.now (option_map (λ a. a.now) acf.entry) i) }
-    ensures refused { result ≡ REFUSED → IsSomeAnd (refusal_in fault.new.value)
-        (λ e. IsCompileRefusal files.now idl.now (option_map (λ a. a.now) acf.entry) e) }
-    ensures argument { result ≡ ARGUMENT → HasBadName files.now }
-    ensures named { result ≡ OK → HasBadName files.now → ⊥ }
-    ensures interface_kept { (result ≡ OK → ⊥) → interface.new.value ≡ interface.old.value }
-    ensures fault_kept { (result ≡ REFUSED → ⊥) → fault.new.value ≡ fault.old.value }
-{
-    match compile_files(alloc, files, idl, acf) {
-        Ok(compiled) => fill_compiled(alloc, compiled, interface),
-        Err(CompileFault::BadName) => ARGUMENT,
-        Err(CompileFault::Refused(refusal)) => refuse(alloc, fault, refusal),
-    }
-}
-
-// Fills a handle with an interface.
-fn fill_compiled(alloc: Global, compiled: Compiled, interface: &mut Handle) -> u32
-    ensures known { result ≤ MEMORY }
-    ensures not_empty { result ≡ EMPTY → ⊥ }
-    ensures not_argument { result ≡ ARGUMENT → ⊥ }
-    ensures not_short { result ≡ SHORT → ⊥ }
-    ensures not_refused { result ≡ REFUSED → ⊥ }
-    ensures filled { result ≡ OK → interface_in interface.new.value ≡ Some compiled }
-    ensures kept { (result ≡ OK → ⊥) → interface.new.value ≡ interface.old.value }
-{
-    match Arc::new(alloc, compiled) {
-        Ok(shared) => fill(alloc, interface, Held::Interface(shared)),
-        Err(_) => MEMORY,
-    }
+    compile(alloc, files, acf, interface, fault)
 }
 
 /// Fills another handle with the same interface.
@@ -151,35 +71,12 @@ pub extern "C" fn dceidl_interface_again(
     status
 }
 
-// Fills a handle with an interface that others have too.
-fn share(alloc: Global, compiled: &Arc<Compiled>, again: &mut Handle) -> u32
-    ensures known { result ≤ MEMORY }
-    ensures not_empty { result ≡ EMPTY → ⊥ }
-    ensures not_argument { result ≡ ARGUMENT → ⊥ }
-    ensures filled { result ≡ OK → interface_in again.new.value ≡ Some (arc_value compiled.now) }
-    ensures kept { (result ≡ OK → ⊥) → again.new.value ≡ again.old.value }
-{
-    match Arc::try_clone(compiled) {
-        Ok(shared) => fill(alloc, again, Held::Interface(shared)),
-        Err(_) => MEMORY,
-    }
-}
-
 /// Lets go of an interface.
 #[unsafe(no_mangle)]
 pub extern "C" fn dceidl_interface_free(alloc: Global, interface: &mut Handle)
     ensures { interface.new.value ≡ None }
 {
     free(alloc, interface);
-}
-
-// Lets go of what a handle holds.
-pub(crate) fn free(alloc: Global, handle: &mut Handle)
-    ensures { handle.new.value ≡ None }
-{
-    if let Some(held) = handle.take(alloc) {
-        drop(held);
-    }
 }
 
 /// The number of operations.
@@ -233,37 +130,11 @@ pub extern "C" fn dceidl_operation_number(
         return EMPTY;
     };
     let status = match &*held {
-        Held::Interface(compiled) => number(compiled, name, operation),
+        Held::Interface(compiled) => find_operation(compiled, name, operation),
         _ => EMPTY,
     };
     interface.put(alloc, held);
     status
-}
-
-// The number of the operation of a name.
-fn number(compiled: &Compiled, name: &[u8], operation: &mut u32) -> u32
-    ensures known { result ≤ ABSENT }
-    ensures not_empty { result ≡ EMPTY → ⊥ }
-    ensures not_memory { result ≡ MEMORY → ⊥ }
-    ensures not_short { result ≡ SHORT → ⊥ }
-    ensures not_refused { result ≡ REFUSED → ⊥ }
-    ensures found { result ≡ OK → operation_named compiled.now.operations name.now ≡ Some operation.new }
-    ensures absent { result ≡ ABSENT → operation_named compiled.now.operations name.now ≡ None }
-    ensures argument { result ≡ ARGUMENT → IsUtf8 name.now → ⊥ }
-    ensures utf8 { (result ≡ ARGUMENT → ⊥) → IsUtf8 name.now }
-    ensures operation_kept { (result ≡ OK → ⊥) → operation.new ≡ operation.old }
-{
-    let name = match from_utf8(name) {
-        Ok(name) => name,
-        Err(_) => return ARGUMENT,
-    };
-    match compiled.interface().operation(name) {
-        Some(number) => {
-            *operation = number;
-            OK
-        }
-        None => ABSENT,
-    }
 }
 
 /// Writes the name of an operation.
@@ -293,29 +164,9 @@ pub extern "C" fn dceidl_operation_name(
         return EMPTY;
     };
     let status = match &*held {
-        Held::Interface(compiled) => name(compiled, operation, out, len),
+        Held::Interface(compiled) => write_name(compiled, operation, out, len),
         _ => EMPTY,
     };
     interface.put(alloc, held);
     status
-}
-
-// Writes the name of an operation.
-fn name(compiled: &Compiled, operation: u32, out: &mut [u8], len: &mut usize) -> u32
-    ensures known { result ≤ SHORT }
-    ensures not_empty { result ≡ EMPTY → ⊥ }
-    ensures not_memory { result ≡ MEMORY → ⊥ }
-    ensures written { result ≡ OK → IsSomeAnd (slice_get compiled.now.operations operation) (λ o. take len.new out.new ≡ o.name) }
-    ensures rest { result ≡ OK → drop len.new out.new ≡ drop len.new out.old }
-    ensures room { result ≡ OK → len.new ≤ length out.old }
-    ensures argument { result ≡ ARGUMENT → slice_get compiled.now.operations operation ≡ None }
-    ensures short { result ≡ SHORT → IsSomeAnd (slice_get compiled.now.operations operation)
-        (λ o. (len.new ≡ length o.name) × (length out.old < len.new)) }
-    ensures kept { (result ≡ OK → ⊥) → out.new ≡ out.old }
-    ensures len_kept { (result ≡ OK → ⊥) → (result ≡ SHORT → ⊥) → len.new ≡ len.old }
-{
-    match compiled.interface().operations.get(operation as usize) {
-        Some(found) => lay_out(found.name.as_slice(), out, len),
-        None => ARGUMENT,
-    }
 }

@@ -2,11 +2,10 @@
 ghost use Rattle.std.specs.Prelude.{◌≡◌, ◌≤◌, Some, None, true, is_some, IsSomeAnd};
 ghost use Rattle.nd_types.specs.declared.interface.Interface.{Interface};
 ghost use Rattle.library_calls.specs.Versions.{AreCompatible};
-ghost use Rattle.dceidl_c.specs.Answers.{interface_in, refusal_in};
-ghost use Rattle.dceidl_c.specs.Versions.{IsCompareRefusal};
+ghost use Rattle.library_answers.specs.Answers.{interface_in, refusal_in};
+ghost use Rattle.library_answers.specs.Versions.{IsCompareRefusal};
 
-use crate::answers::{ARGUMENT, EMPTY, MEMORY, OK, REFUSED, SHORT, refuse};
-use library_calls::compare_versions;
+use library_answers::{ARGUMENT, EMPTY, MEMORY, OK, REFUSED, SHORT, compare};
 use library_handles::{Handle, Held};
 use library_interface::Compiled;
 use std::alloc::Global;
@@ -65,21 +64,4 @@ fn compare_with(alloc: Global, older: &Compiled, newer: &mut Handle, fault: &mut
     };
     newer.put(alloc, held);
     status
-}
-
-// The same, of two interfaces.
-#[tactic(auto, using(crate::proofs::Calls::compare_refused))]
-fn compare(alloc: Global, older: &Compiled, newer: &Compiled, fault: &mut Handle) -> u32
-    ensures known { result ≤ REFUSED }
-    ensures not_empty { result ≡ EMPTY → ⊥ }
-    ensures not_argument { result ≡ ARGUMENT → ⊥ }
-    ensures not_short { result ≡ SHORT → ⊥ }
-    ensures compatible { result ≡ OK → AreCompatible older.now newer.now }
-    ensures refused { result ≡ REFUSED → IsSomeAnd (refusal_in fault.new.value) (λ e. IsCompareRefusal older.now newer.now e) }
-    ensures fault_kept { (result ≡ REFUSED → ⊥) → fault.new.value ≡ fault.old.value }
-{
-    match compare_versions(alloc, older.interface(), newer.interface()) {
-        Ok(()) => OK,
-        Err(refusal) => refuse(alloc, fault, refusal),
-    }
 }

@@ -1,7 +1,7 @@
 use Rattle.std.proofs.Common.{◌≡◌, ◌∙◌, Some, None, sym, ap}
 use Rattle.library_handles.specs.declared.held.Held.{Held}
 use Rattle.library_handles.specs.declared.held.Held.TheVariants as kept
-use Rattle.dceidl_c.specs.Answers.{interface_in}
+use Rattle.library_answers.specs.Answers.{interface_in}
 use Rattle.dceidl_c.proofs.versions.dceidl_compare.Goals as goal
 use Rattle.dceidl_c.proofs.versions.dceidl_compare.Goals.{in-Interface, in_default-deref}
 

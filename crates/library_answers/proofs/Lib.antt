@@ -1,0 +1,10 @@
+pub mod Numbered
+pub mod Octets
+pub mod Texts
+pub mod Files
+pub mod Calls
+pub mod Logs
+pub mod Buffers
+pub mod Copies
+pub mod Named
+pub mod Listings
