@@ -19,9 +19,8 @@ use Rattle.idl_grammar.proofs.ExportsExact.{at_exact}
 use Rattle.idl_grammar.proofs.ParametersExact.{closing, unless_is}
 use Rattle.acf_reader.specs.Symbols as word
 use Rattle.acf_reader.specs.Symbols.{names}
-use Rattle.acf_reader.specs.Tree as tree
-use Rattle.acf_reader.specs.Tree.{Attributes, Parameter, BodyElement}
-use Rattle.acf_reader.specs.Grammar.{ident, attributes, parameter, parameters, body_element}
+use Rattle.acf_reader.specs.Grammar as tree
+use Rattle.acf_reader.specs.Grammar.{Attributes, Parameter, BodyElement, ident, attributes, parameter, parameters, body_element}
 use Rattle.acf_reader.specs.Reading.{ident_read, attributes_read, maybe_attributes_read, parameter_of, parameter_read, parameters_read, signature_read, types_read, include_read, operation_read}
 use Rattle.acf_reader.specs.Reading.{element_read, element_firsts, body_read}
 use Rattle.acf_reader.proofs.NamesExact.{ident_exact, ident_has, ident_begins}

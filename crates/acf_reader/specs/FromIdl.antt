@@ -1,8 +1,7 @@
 -- The tokens of an attribute configuration file, from those that a file of IDL with the same text has.
 use Rattle.std.specs.Prelude.{ℕ, cond, List, [], ◌∷◌}
-use Rattle.idl_grammar.specs.Text.{Lexeme, is_in}
+use Rattle.idl_grammar.specs.Text.{Lexeme, is_in, symbol_among}
 use Rattle.idl_grammar.specs.Symbols as symbol
-use Rattle.idl_grammar.specs.Lexemes.{symbol_among}
 use Rattle.acf_reader.specs.Symbols.{own_words}
 
 -- names of IDL, and words with which its attributes begin

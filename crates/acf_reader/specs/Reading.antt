@@ -6,8 +6,7 @@ use Rattle.idl_grammar.specs.ReadPhrases.{Read, then, turned, token_read, ruled_
 use Rattle.idl_grammar.specs.ReadPhrases.{behind_read}
 use Rattle.idl_grammar.specs.declared.words.Spelling.{Spelling}
 use Rattle.idl_grammar.specs.Symbols as symbol
-use Rattle.idl_grammar.specs.Limits.{Meant, meant}
-use Rattle.idl_grammar.specs.Expressions.{spelling}
+use Rattle.idl_grammar.specs.Expressions.{Meant, meant, spelling}
 use Rattle.idl_grammar.specs.ReadExpressions.{spelled_read}
 use Rattle.idl_grammar.specs.Grammar.{is_banned_attribute}
 use Rattle.idl_grammar.specs.Reading.{branch_read, bind_read, one_of_read, in_round_read, in_square_read, in_curly_read, commas_read, line_read}
@@ -18,8 +17,8 @@ use Rattle.acf_reader.specs.declared.tree.AttributeKind.TheVariants as kind
 use Rattle.acf_reader.specs.declared.tree.Attribute.{Attribute}
 use Rattle.acf_reader.specs.Symbols as word
 use Rattle.acf_reader.specs.Symbols.{names}
-use Rattle.acf_reader.specs.Tree as tree
-use Rattle.acf_reader.specs.Tree.{Attributes, Parameter, BodyElement, Acf}
+use Rattle.acf_reader.specs.Grammar as tree
+use Rattle.acf_reader.specs.Grammar.{Attributes, Parameter, BodyElement, Acf}
 
 abbrev pub ident_read : Bool → Text → ℕ → Read Spelling
 ident_read inside t i = token_read (λ a. is_in (names inside) a.symbol) spelling t i

@@ -15,8 +15,8 @@ use Rattle.nd_value.specs.Fitting.{setting_of}
 use Rattle.rpc_pdu.specs.declared.pdu.Wanted.{Wanted}
 use Rattle.rpc_pdu.specs.declared.pdu.Wanted.TheVariants.{Request, Response}
 use Rattle.rpc_pdu.specs.Fragments.{Fragments}
-use Rattle.rpc_pdu.specs.Joined as pdu
-use Rattle.command_decode.specs.Printed.{IsDecoding, IsWhole, IsInputCause}
+use Rattle.rpc_pdu.specs.Fragments as pdu
+use Rattle.command_decode.specs.Decoded.{IsDecoding, IsWhole, IsInputCause}
 use Rattle.command_refusals.specs.declared.refusal.Refusal.{Refusal}
 use Rattle.command_refusals.specs.declared.refusal.Refusal.TheVariants.{Memory, ReadFault, BadOctets, BadPdu}
 use Rattle.command_refusals.specs.declared.refusal.OctetsFault.{OctetsFault}

@@ -19,8 +19,7 @@ use Rattle.idl_compat_place.specs.declared.places.Difference.{Difference}
 use Rattle.idl_compat_place.specs.Differences.{IsFirstDifference}
 use Rattle.idl_compat_place.specs.Lines.{difference_lines}
 use Rattle.command_compile.specs.declared.places.Incompatible.{Incompatible}
-use Rattle.command_compile.specs.Asked.{AsksFiles, FileNames}
-use Rattle.command_compile.specs.Compiled.{IsCompiled, IsIdlCause}
+use Rattle.command_compile.specs.Compiled.{AsksFiles, FileNames, IsCompiled, IsIdlCause}
 
 -- ## Two files, one after the other
 

@@ -1,7 +1,6 @@
 -- Why a file was not loaded.
 use Rattle.std.specs.Prelude.{◌≡◌, ℕ, List, ⊤}
-use Rattle.nd_base.specs.Outside.{IsMissing}
-use Rattle.nd_base.specs.Over.{FilesSeen, HasRisen}
+use Rattle.nd_base.specs.Over.{IsMissing, FilesSeen, HasRisen}
 use Rattle.command_refusals.specs.declared.refusal.Refusal.{Refusal}
 use Rattle.command_refusals.specs.declared.refusal.Refusal.TheVariants.{Memory, Absent, FileFailed}
 

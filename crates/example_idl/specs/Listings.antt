@@ -1,7 +1,7 @@
 -- Texts, and how the interfaces are listed that they mean.
 use Rattle.std.specs.Prelude.{ℕ, List, [], ◌∷◌, ◌++◌, map, codes, Result, Ok, Err}
 use Rattle.idl_grammar.specs.ReadPhrases.{Fault}
-use Rattle.idl_grammar.specs.Lexemes.{lexemes}
+use Rattle.idl_grammar.specs.Text.{lexemes}
 use Rattle.idl_grammar.specs.Tree.{Tree}
 use Rattle.idl_grammar.specs.Answers.{file_answer}
 use Rattle.idl_rule_definitions.specs.Alone.{with_import}

@@ -6,7 +6,7 @@ use Rattle.idl_compat.specs.declared.pairs.TypePair.{TypePair}
 use Rattle.idl_compat.specs.declared.placing.Pairing.{Pairing}
 use Rattle.idl_compat.specs.declared.placing.Placing.{Placing}
 use Rattle.idl_compat.specs.declared.placing.Placing.TheVariants as placing
-use Rattle.idl_compat.specs.Alike.{IsPair, IsOneToOne}
+use Rattle.idl_compat.specs.Comparison.{IsPair, IsOneToOne}
 use Rattle.idl_compat.specs.Asking.{Includes}
 
 -- how many types have no partner

@@ -1,6 +1,6 @@
 -- The names of types as the program keeps them: each with the number of its type.
 use Rattle.std.specs.Prelude.{◌≡◌, ℕ, Bool, true, false, ltb, List, [], ◌∷◌, ◌++◌, map, is_some}
-use Rattle.idl_scope.specs.Tables.{found}
+use Rattle.idl_scope.specs.Known.{found}
 use Rattle.std.specs.List.{list_all}
 use Rattle.idl_declared_types.specs.declared.kinds.Kind.{Kind}
 use Rattle.idl_constructs.specs.declared.nodes.Node.{Node}

@@ -9,8 +9,7 @@ use Rattle.idl_grammar.proofs.Exact.{Stops, Exact, HasPhrase, Meets, Part, turne
 use Rattle.idl_grammar.proofs.Parts.{token_exact, token_has, of_symbol, mark_exact, marked, optional_exact, optional_has, turned_has}
 use Rattle.idl_grammar.proofs.Sequences.{stops, Begins, BeginsOr, disjoint, subset, apart, in_more, choice_exact, choice_begins}
 use Rattle.idl_grammar.specs.Symbols as symbol
-use Rattle.idl_grammar.specs.Limits.{Meant, symbols_of, value_of, names}
-use Rattle.idl_grammar.specs.Expressions.{spelling, spelled, placed, ident}
+use Rattle.idl_grammar.specs.Expressions.{Meant, symbols_of, value_of, names, spelling, spelled, placed, ident}
 use Rattle.idl_grammar.specs.ReadExpressions.{spelled_read, placed_read, ident_read}
 use Rattle.idl_grammar.specs.Grammar.{flag, one_of}
 use Rattle.idl_grammar.specs.Reading.{branch_read, bind_read, unless_read, flag_read, one_of_read}

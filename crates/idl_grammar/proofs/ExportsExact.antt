@@ -9,10 +9,9 @@ use Rattle.idl_grammar.proofs.Sequences.{located_exact, bracketed_exact, bracket
 use Rattle.idl_grammar.specs.declared.words.Spelling.{Spelling}
 use Rattle.idl_grammar.specs.declared.types.SimpleType.{SimpleType}
 use Rattle.idl_grammar.specs.Symbols as symbol
-use Rattle.idl_grammar.specs.Limits.{names}
+use Rattle.idl_grammar.specs.Expressions.{names, spelled, placed, ident, outer}
 use Rattle.idl_grammar.specs.Tree as tree
 use Rattle.idl_grammar.specs.Tree.{Expr, Attributes, Declarator, Init, TypeSpec, Parameters, Export}
-use Rattle.idl_grammar.specs.Expressions.{spelled, placed, ident, outer}
 use Rattle.idl_grammar.specs.ReadExpressions.{spelled_read, placed_read, ident_read, outer_read}
 use Rattle.idl_grammar.specs.Grammar.{flag, in_round, simple, attributes, declarators, type_spec, parameters, init}
 use Rattle.idl_grammar.specs.Reading.{flag_read, line_read, simple_read, maybe_attributes_read, declarators_read, type_firsts, member_firsts, type_read, parameters_read, init_read, typedef_read}

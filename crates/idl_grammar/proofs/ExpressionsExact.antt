@@ -12,9 +12,9 @@ use Rattle.idl_grammar.specs.declared.expressions.UnaryOperator.{UnaryOperator}
 use Rattle.idl_grammar.specs.declared.expressions.Operand.{Operand}
 use Rattle.idl_grammar.specs.declared.expressions.Operand.TheVariants as operand
 use Rattle.idl_grammar.specs.Symbols as symbol
-use Rattle.idl_grammar.specs.Limits.{level, symbol_level, is_unary, is_operator, operators, many_operators, binary_of, unary_of, binary_operators}
+use Rattle.idl_grammar.specs.Expressions.{level, symbol_level, is_unary, is_operator, operators, many_operators, binary_of, unary_of, binary_operators, spelled, placed, leaf, opening, counted}
+use Rattle.idl_grammar.specs.Expressions.{unary_sign, expr}
 use Rattle.idl_grammar.specs.Tree.{Expr, Leaf, Round, Unary, Binary, Conditional}
-use Rattle.idl_grammar.specs.Expressions.{spelled, placed, leaf, opening, counted, unary_sign, expr}
 use Rattle.idl_grammar.specs.ReadExpressions.{leaf_read, opening_read, unary_sign_read, binary_sign_read, question_read, fold, operation_read, level_read, conditional_of, choice_of_two_read}
 use Rattle.idl_grammar.specs.ReadExpressions.{conditional_read, round_read, unary_read, expr_read}
 use Rattle.idl_grammar.proofs.Levels.{Sign, level_of_sign, at_level, item, split, whole}

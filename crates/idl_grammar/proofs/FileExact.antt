@@ -8,10 +8,9 @@ use Rattle.idl_grammar.proofs.Sequences.{stops, Begins, subset, disjoint, meets_
 use Rattle.idl_grammar.proofs.Sequences.{made_begins, list_exact, list_begins, separated_exact, separated_has, ends_at}
 use Rattle.idl_grammar.specs.declared.words.Spelling.{Spelling}
 use Rattle.idl_grammar.specs.Symbols as symbol
-use Rattle.idl_grammar.specs.Limits.{names}
+use Rattle.idl_grammar.specs.Expressions.{names, spelled, ident}
 use Rattle.idl_grammar.specs.Tree as tree
 use Rattle.idl_grammar.specs.Tree.{Attributes, TypeSpec, Parameters, Export, Import}
-use Rattle.idl_grammar.specs.Expressions.{spelled, ident}
 use Rattle.idl_grammar.specs.ReadExpressions.{spelled_read, ident_read}
 use Rattle.idl_grammar.specs.Grammar.{attributes, export, commas, import, file}
 use Rattle.idl_grammar.specs.Reading.{type_firsts, member_firsts, export_read, export_firsts, commas_read, attributes_read, import_of, import_read, imports_read, exports_read, tree_of, file_read}

@@ -1,8 +1,7 @@
 -- A loop that gathers the items of a list.
 use Rattle.std.proofs.Common.{◌≡◌, ℕ, zero, suc, ◌+◌, ◌<◌, ◌≤◌, Bool, true, false, List, [], ◌∷◌, ◌++◌, length, refl, sym, ap, arith, ◌∙◌, cond, Ok, Err, append_assoc, append-nil}
-use Rattle.idl_grammar.specs.Text.{Lexeme}
+use Rattle.idl_grammar.specs.Text.{Lexeme, Text, lexeme_at}
 use Rattle.idl_grammar.specs.declared.refusal.Refusal.{Refusal}
-use Rattle.idl_grammar.specs.Text.{Text, lexeme_at}
 use Rattle.idl_grammar.specs.ReadPhrases.{Read, then, join, turned, many_read}
 use Rattle.idl_grammar.specs.Gives.{Fails}
 use Rattle.idl_grammar.proofs.Fails.{fails_equal, fails_is}

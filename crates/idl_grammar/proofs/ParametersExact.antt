@@ -9,10 +9,9 @@ use Rattle.idl_grammar.proofs.Parts.{turned_has, optional_has, many_has}
 use Rattle.idl_grammar.proofs.Sequences.{stops, Begins, meets_or, pair_begins, list_begins, separated_begins, skip_begins}
 use Rattle.idl_grammar.specs.declared.types.SimpleType.TheVariants as types
 use Rattle.idl_grammar.specs.Symbols as symbol
-use Rattle.idl_grammar.specs.Limits.{names}
+use Rattle.idl_grammar.specs.Expressions.{names, placed}
 use Rattle.idl_grammar.specs.Tree as tree
 use Rattle.idl_grammar.specs.Tree.{Attributes, Declarator, TypeSpec, Parameter, Parameters}
-use Rattle.idl_grammar.specs.Expressions.{placed}
 use Rattle.idl_grammar.specs.ReadExpressions.{placed_read}
 use Rattle.idl_grammar.specs.Grammar.{commas, simple, declarator, parameter, parameters}
 use Rattle.idl_grammar.specs.Reading.{branch_read, bind_read, commas_read, declarator_read, type_firsts, member_firsts, parameter_of, parameter_read, more_parameters_read, void_parameters_read}

@@ -6,8 +6,7 @@ use Rattle.std.proofs.Math.Decide.{dec_lt}
 use Rattle.std.proofs.Math.ListN.{get_or-append}
 use Rattle.std.proofs.lemmas.List.{drop_at, get_or_past, get_or-drop, get_or-take, drop-drop}
 use Rattle.nd_lemmas.proofs.Booleans.{clash}
-use Rattle.idl_grammar.specs.Text.{Rel, Lexeme}
-use Rattle.idl_grammar.specs.Text.{Text, the_end, lexeme_at, symbol_at, Lifted, mark, many, token, optional, unless, is, Rule}
+use Rattle.idl_grammar.specs.Text.{Rel, Lexeme, Text, the_end, lexeme_at, symbol_at, Lifted, mark, many, token, optional, unless, is, Rule}
 use Rattle.idl_grammar.specs.ReadPhrases.{Syntax, Passes, Read, then, turned, token_read, ruled_read, mark_read, optional_read, many_read, to_unit}
 use Rattle.idl_grammar.proofs.Exact.{Agrees, IsDeepFrom, Stops, Found, Rest, Failed, Exact, HasPhrase, pair, Meets, pair_exact, Part, turned_exact, deep_later}
 

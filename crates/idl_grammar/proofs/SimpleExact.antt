@@ -14,8 +14,7 @@ use Rattle.idl_grammar.specs.declared.types.SimpleType.TheVariants as types
 use Rattle.idl_grammar.specs.declared.types.SwitchType.{SwitchType}
 use Rattle.idl_grammar.specs.declared.types.SwitchType.TheVariants as switches
 use Rattle.idl_grammar.specs.Symbols as symbol
-use Rattle.idl_grammar.specs.Limits.{names, symbols_of}
-use Rattle.idl_grammar.specs.Expressions.{ident}
+use Rattle.idl_grammar.specs.Expressions.{names, symbols_of, ident}
 use Rattle.idl_grammar.specs.Grammar.{flag, one_of, width_words, width, integer, simple, switch_type}
 use Rattle.idl_grammar.specs.ReadExpressions.{ident_read}
 use Rattle.idl_grammar.specs.Reading.{flag_read, width_symbols, simple_words, simple_firsts, width_read, unsigned_read, integer_read, simple_read, switch_type_read}

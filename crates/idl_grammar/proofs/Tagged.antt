@@ -6,9 +6,8 @@ use Rattle.idl_grammar.proofs.Exact.{Exact, HasPhrase, pair_exact}
 use Rattle.idl_grammar.proofs.Parts.{pair_has, optional_has}
 use Rattle.idl_grammar.proofs.Sequences.{stops, Begins, disjoint, subset, pair_begins, option_exact, choice_exact, choice_has, fewer_stops}
 use Rattle.idl_grammar.specs.declared.words.Spelling.{Spelling}
-use Rattle.idl_grammar.specs.Limits.{names}
+use Rattle.idl_grammar.specs.Expressions.{names, placed, ident}
 use Rattle.idl_grammar.specs.Tree.{TypeSpec}
-use Rattle.idl_grammar.specs.Expressions.{placed, ident}
 use Rattle.idl_grammar.specs.ReadExpressions.{placed_read, ident_read}
 use Rattle.idl_grammar.specs.Reading.{branch_read, bind_read, tagged_read}
 use Rattle.idl_grammar.proofs.Combine.{branch_is, bind_is, bind_alike, turned_twice, placed_exact, placed_begins, ident_exact, ident_has, ident_begins}

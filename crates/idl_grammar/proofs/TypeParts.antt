@@ -9,7 +9,7 @@ use Rattle.idl_grammar.proofs.Sequences.{located_begins, some_exact, some_has, b
 use Rattle.idl_grammar.specs.declared.words.Spelling.{Spelling}
 use Rattle.idl_grammar.specs.declared.types.Discriminant.{Discriminant}
 use Rattle.idl_grammar.specs.Symbols as symbol
-use Rattle.idl_grammar.specs.Limits.{names}
+use Rattle.idl_grammar.specs.Expressions.{names}
 use Rattle.idl_grammar.specs.Tree as tree
 use Rattle.idl_grammar.specs.Tree.{Attributes, Declarator, Label, TypeSpec, Arm}
 use Rattle.idl_grammar.specs.Grammar.{attributes, declarator, declarators, labels, union_switch}

@@ -9,10 +9,9 @@ use Rattle.idl_grammar.specs.declared.types.TagKind.{TagKind}
 use Rattle.idl_grammar.specs.declared.types.Discriminant.{Discriminant}
 use Rattle.idl_grammar.specs.declared.types.TagKind.TheVariants as tags
 use Rattle.idl_grammar.specs.Symbols as symbol
-use Rattle.idl_grammar.specs.Limits.{names}
+use Rattle.idl_grammar.specs.Expressions.{names, ident}
 use Rattle.idl_grammar.specs.Tree as tree
 use Rattle.idl_grammar.specs.Tree.{Enumerator, Label, TypeSpec, Members, Cases, Arms, Arm}
-use Rattle.idl_grammar.specs.Expressions.{ident}
 use Rattle.idl_grammar.specs.ReadExpressions.{ident_read}
 use Rattle.idl_grammar.specs.Grammar.{simple, enumerators, type_spec}
 use Rattle.idl_grammar.specs.Reading.{branch_read, bind_read, simple_firsts, simple_read, enumerators_read, struct_body_read, struct_read, union_body_read, union_read, enum_read, tagged_read}

@@ -9,9 +9,8 @@ use Rattle.idl_grammar.specs.declared.expressions.UnaryOperator.{UnaryOperator}
 use Rattle.idl_grammar.specs.declared.expressions.Operand.{Operand}
 use Rattle.idl_grammar.specs.declared.expressions.Operand.TheVariants as operand
 use Rattle.idl_grammar.specs.Symbols as symbol
-use Rattle.idl_grammar.specs.Limits.{names, symbol_level, is_unary, binary_of, unary_of, many_operators}
+use Rattle.idl_grammar.specs.Expressions.{names, symbol_level, is_unary, binary_of, unary_of, many_operators, spelling}
 use Rattle.idl_grammar.specs.Tree.{Expr, Leaf, Round, Unary, Binary, Conditional}
-use Rattle.idl_grammar.specs.Expressions.{spelling}
 
 -- ## Tokens
 

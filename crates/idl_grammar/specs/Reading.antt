@@ -20,7 +20,7 @@ use Rattle.idl_grammar.specs.declared.types.SwitchType.TheVariants as switches
 use Rattle.idl_grammar.specs.declared.types.TagKind.TheVariants as tags
 use Rattle.idl_grammar.specs.declared.types.Discriminant.{Discriminant}
 use Rattle.idl_grammar.specs.Symbols as symbol
-use Rattle.idl_grammar.specs.Limits.{Meant, meant, symbols_of, value_of, names}
+use Rattle.idl_grammar.specs.Expressions.{Meant, meant, symbols_of, value_of, names}
 use Rattle.idl_grammar.specs.Tree as tree
 use Rattle.idl_grammar.specs.Tree.{Expr, AttributeKind, Attribute, Attributes, Bound, Declarator, Init, Enumerator, Label, TypeSpec, Members, Cases}
 use Rattle.idl_grammar.specs.Tree.{Arms, Arm, Import, Parameter, Parameters, Export, Tree}

@@ -1,7 +1,19 @@
--- Texts of tokens, and phrases in them.
-use Rattle.std.specs.Prelude.{◌≡◌, ℕ, ◌+◌, Bool, true, false, ◌⊎◌, List, [], ◌∷◌, eqb, leb, slice_index_or, Option, Some, None}
+-- Texts of tokens, and phrases in them; and the tokens of a text as the grammar sees them.
+use Rattle.std.specs.Prelude.{◌≡◌, ◌⊎◌, ℕ, ◌+◌, Bool, true, false, cond, eqb, leb, List, [], ◌∷◌, slice_index_or, ◌++◌, map, Option, slice_range}
+use Rattle.std.specs.Prelude.{Some, None}
 use Rattle.std.specs.List.{list_any}
 use Rattle.std.proofs.Common.{inl, inr}
+use Rattle.std.specs.Str.{bytes_eq}
+use Rattle.nd_base.specs.Text.{is_identifier}
+use Rattle.idl_lexer.specs.declared.tokens.TokenKind.{TokenKind}
+use Rattle.idl_lexer.specs.declared.tokens.TokenKind.TheVariants as kind
+use Rattle.idl_lexer.specs.declared.tokens.Token.{Token}
+use Rattle.idl_lexer.specs.Verdict.{Lexed}
+use Rattle.idl_lexer.specs.Pieces.{IsUuid}
+use Rattle.idl_grammar.specs.Symbols.{Spelled, reserved_words, attribute_words, banned_words, banned_attributes, marks}
+use Rattle.idl_grammar.specs.Symbols as symbol
+
+-- ## Texts and phrases
 
 -- A token as a grammar sees it: the number that the grammar gives its symbol, the octet where it begins, and its
 -- octets.
@@ -79,7 +91,7 @@ only_if b p lifted x i j = (b ≡ true) × p lifted x i j
 abbrev pub unless : Rule → (Text → ℕ → Bool) → Phrase → Phrase
 unless rule refused p lifted x i j = ((lifted rule i ≡ true) ⊎ (refused x i ≡ false)) × p lifted x i j
 
--- ## Phrases of trees
+-- ### Phrases of trees
 
 -- a phrase for each tree of a type
 abbrev pub Rel : Type 0 → Type 1
@@ -135,3 +147,43 @@ is_in symbols s = list_any (λ d. eqb s d) symbols
 -- what is made of a phrase
 abbrev pub made : {A C : Type 0} → (A → C) → Rel A → Rel C
 made {A} make P c lifted x i j = (a : A) × (c ≡ make a) × P a lifted x i j
+
+-- ## The tokens of a text as the grammar sees them
+
+-- the symbol that is spelled so, or another where none is
+abbrev pub symbol_among : List Spelled → ℕ → List ℕ → ℕ
+symbol_among [] otherwise octets = otherwise
+symbol_among (s ∷ others) otherwise octets = cond (bytes_eq octets s.octets) s.symbol (symbol_among others otherwise octets)
+
+-- all words that are no mere names
+unfoldable pub words : List Spelled
+words = reserved_words ++ attribute_words ++ banned_words ++ banned_attributes
+
+-- the symbol of a token
+unfoldable pub symbol_of : TokenKind → List ℕ → ℕ
+symbol_of kind.Word octets = symbol_among words symbol.Name octets
+symbol_of kind.Uuid octets = symbol.UuidValue
+symbol_of kind.Number octets = symbol.Number
+symbol_of kind.Char octets = symbol.Character
+symbol_of kind.Str octets = symbol.Quoted
+symbol_of kind.Mark octets = symbol_among marks symbol.Unknown octets
+
+abbrev pub lexeme_of : List ℕ → Token → Lexeme
+lexeme_of text t =
+    let octets = slice_range text t.from t.to in
+    record { symbol = symbol_of t.kind octets; at = t.from; octets = octets }
+
+-- the tokens of a text that was lexed
+abbrev pub lexemes : Lexed → Text
+lexemes lexed = map (lexeme_of lexed.text) lexed.tokens
+
+-- ### What words and UUIDs are
+
+-- the symbols of all that is no word
+unfoldable pub no_words : List ℕ
+no_words = symbol.End ∷ symbol.UuidValue ∷ symbol.Number ∷ symbol.Character ∷ symbol.Quoted ∷ symbol.Unknown ∷ map (λ s. s.symbol) marks
+
+-- a text whose words are identifiers, and whose UUIDs have their form
+pub record IsFormed (x : Text) : Type 0 where
+  pub word : (i : ℕ) → is_in no_words (symbol_at x i) ≡ false → is_identifier (lexeme_at x i).octets ≡ true
+  pub uuid : (i : ℕ) → symbol_at x i ≡ symbol.UuidValue → IsUuid (lexeme_at x i).octets

@@ -19,19 +19,17 @@ use Rattle.idl_grammar.specs.declared.attributes.Variable.{Variable}
 use Rattle.idl_grammar.specs.Tree.{Attribute, Label, TypeSpec}
 use Rattle.idl_grammar.specs.Tree as tree
 use Rattle.idl_grammar.specs.Seen.{seen_type}
-use Rattle.idl_scope.specs.Known.{Known}
-use Rattle.idl_scope.specs.Tables.{found}
+use Rattle.idl_scope.specs.Known.{Known, found}
 use Rattle.idl_interface.specs.declared.arms.ValuedArm as program
 use Rattle.idl_declared_types.specs.declared.kinds.Kind.{Kind}
 use Rattle.idl_declared_types.specs.declared.numbering.Numbers.{Numbers}
 use Rattle.idl_interface.specs.declared.definitions.FoundBody.{FoundBody}
 use Rattle.idl_interface.specs.declared.definitions.Program.{Program}
-use Rattle.idl_rule_definitions.specs.World.{value_in}
+use Rattle.idl_rule_definitions.specs.Nodes.{value_in, Declared, LabelledArm, result_of}
 use Rattle.idl_rule_definitions.specs.Checked.{world_of}
-use Rattle.idl_rule_definitions.specs.Nodes.{Declared, LabelledArm, result_of}
 use Rattle.idl_rule_definitions.specs.Types.{type_of}
 use Rattle.idl_rule_definitions.specs.Scene.{Scene, scene_of, Body, body_of, parts_of, tag_type}
-use Rattle.idl_rule_definitions.specs.ValueRules.{label_value}
+use Rattle.idl_rule_definitions.specs.DeclarationRules.{label_value}
 use Rattle.idl_rule_definitions.specs.VariableRules.{listed_from, variables}
 use Rattle.idl_declared_types.specs.Kinds.{type_at}
 use Rattle.idl_constructs.specs.declared.nodes.Declared as declared

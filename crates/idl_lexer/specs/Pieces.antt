@@ -1,10 +1,46 @@
--- What a piece of each kind is, on its octets alone.
-use Rattle.std.specs.Prelude.{◌≡◌, ℕ, ◌+◌, ◌-◌, ◌<◌, ◌≤◌, Bool, true, false, ◌||◌, ◌&&◌, cond, eqb, List, [], ◌∷◌, length, slice_index}
+-- What a piece of each kind is, on its octets alone, and the values of numbers and characters.
+use Rattle.std.specs.Prelude.{◌≡◌, ℕ, ◌+◌, ◌-◌, ◌<◌, ◌≤◌, ◌*◌, ◌^◌, Bool, true, false, not, ◌&&◌, ◌||◌, cond, eqb, leb, ltb, List, [], ◌∷◌, length}
+use Rattle.std.specs.Prelude.{Option, Some, None, codes, slice_index}
+use Rattle.std.specs.List.{list_any, list_all}
 use Rattle.nd_base.specs.Text.{is_letter, is_digit, is_hex_digit, is_word_octet}
-use Rattle.idl_lexer.specs.Classes.{is_space, is_plain, is_escape, is_mark_octet, are_mark}
 use Rattle.idl_lexer.specs.declared.tokens.TokenKind.TheVariants as token
 use Rattle.idl_lexer.specs.declared.cut.PieceKind.{PieceKind}
 use Rattle.idl_lexer.specs.declared.cut.PieceKind.TheVariants as piece
+
+-- ## The classes of octets that the tokens of IDL are made of
+
+-- space, tab, line feed, form feed or carriage return
+abbrev pub is_space : ℕ → Bool
+is_space c = (eqb c 32 || eqb c 9) || (eqb c 10 || (eqb c 12 || eqb c 13))
+
+-- one of the octets of a text
+abbrev pub is_one_of : List ℕ → ℕ → Bool
+is_one_of octets c = list_any (λ d. eqb c d) octets
+
+-- what is in a literal for itself: 0x20 to 0x7E, but for its quote and the backslash
+abbrev pub is_plain : ℕ → ℕ → Bool
+is_plain quote c = (leb 32 c && leb c 126) && (not (eqb c quote) && not (eqb c 92))
+
+-- what may follow a backslash: one of  a b f n r t v \ ? ' "
+abbrev pub is_escape : ℕ → Bool
+is_escape c = is_one_of (codes "abfnrtv?") c || (eqb c 92 || (eqb c 39 || eqb c 34))
+
+-- the marks of one octet
+abbrev pub is_mark_octet : ℕ → Bool
+is_mark_octet c = is_one_of (codes "[](){},;:=*.+-/%~!&|^<>?") c
+
+-- two octets, as a text has them
+abbrev pub are : ℕ → ℕ → List ℕ → Bool
+are c d text = eqb c (slice_index text 0) && eqb d (slice_index text 1)
+
+-- the marks of two octets
+abbrev pub are_mark : ℕ → ℕ → Bool
+are_mark c d =
+    (are c d (codes "..") || (are c d (codes "<<") || are c d (codes ">>")))
+    || ((are c d (codes "<=") || (are c d (codes ">=") || (are c d (codes "==") || are c d (codes "!="))))
+    || (are c d (codes "&&") || are c d (codes "||")))
+
+-- ## Pieces
 
 -- Letters, digits and `_`, the first of them of a class. A word begins with a letter or `_`, a number with a
 -- digit: whether such a run is a number in form and value is asked of the whole run.
@@ -33,7 +69,7 @@ pub record IsComment (octets : List ℕ) : Type 0 where
   pub closes : (slice_index octets (length octets - 2) ≡ 42) × (slice_index octets (length octets - 1) ≡ 47)
   pub first : (k : ℕ) → 2 ≤ k → k + 2 < length octets → slice_index octets k ≡ 42 → slice_index octets (k + 1) ≡ 47 → ⊥
 
--- ## Literals: what may follow so far, and nothing after it
+-- ### Literals: what may follow so far, and nothing after it
 
 -- the closing quote
 abbrev pub closes : ℕ → List ℕ → Bool
@@ -88,3 +124,39 @@ IsOf (piece.Token token.Uuid) octets = IsUuid octets
 IsOf (piece.Token token.Char) octets = is_char octets ≡ true
 IsOf (piece.Token token.Str) octets = is_string octets ≡ true
 IsOf (piece.Token token.Mark) octets = is_mark octets ≡ true
+
+-- ## The values of numbers and characters
+
+-- the value of a digit, decimal or hexadecimal, in either case
+abbrev pub digit_value : ℕ → ℕ
+digit_value c = cond (leb c 57) (c - 48) (cond (leb c 70) (c - 55) (c - 87))
+
+-- the value of digits to a base, after others that have a value so far
+abbrev pub value_from : ℕ → ℕ → List ℕ → ℕ
+value_from base so_far [] = so_far
+value_from base so_far (c ∷ cs) = value_from base (so_far * base + digit_value c) cs
+
+-- a value, where it is one of 64 bits
+abbrev pub in_64_bits : ℕ → Option ℕ
+in_64_bits n = cond (ltb n (2 ^ 64)) (Some n) None
+
+-- Digits, and nothing but digits. A decimal number of more than one digit does not begin with 0.
+abbrev pub decimal_of : List ℕ → Option ℕ
+decimal_of [] = None
+decimal_of (c ∷ []) = cond (is_digit c) (Some (digit_value c)) None
+decimal_of (c ∷ d ∷ ds) = cond (list_all is_digit (c ∷ d ∷ ds) && not (eqb c 48)) (in_64_bits (value_from 10 0 (c ∷ d ∷ ds))) None
+
+-- what follows `0x`: hexadecimal digits, at least one
+abbrev pub hexadecimal_of : List ℕ → Option ℕ
+hexadecimal_of [] = None
+hexadecimal_of (d ∷ ds) = cond (list_all is_hex_digit (d ∷ ds)) (in_64_bits (value_from 16 0 (d ∷ ds))) None
+
+-- `0x` or `0X`
+abbrev pub begins_hexadecimal : ℕ → ℕ → Bool
+begins_hexadecimal c x = eqb c 48 && (eqb x 120 || eqb x 88)
+
+-- The value of a number: decimal without a leading zero, or `0x` or `0X` and hexadecimal digits, at most 2^64 - 1.
+abbrev pub number_of : List ℕ → Option ℕ
+number_of [] = None
+number_of (c ∷ []) = decimal_of (c ∷ [])
+number_of (c ∷ x ∷ xs) = cond (begins_hexadecimal c x) (hexadecimal_of xs) (decimal_of (c ∷ x ∷ xs))

@@ -16,16 +16,15 @@ use Rattle.idl_scope.specs.declared.fault.ExpressionFault.TheVariants as express
 use Rattle.idl_scope.specs.declared.name_fault.NameFault.{NameFault}
 use Rattle.idl_scope.specs.declared.name_fault.NameFault.TheVariants as fault
 use Rattle.idl_names.specs.Causes.{IsAbsent, IsFailed}
-use Rattle.idl_scope.specs.Ended.{Ended, ended, has_ended}
+use Rattle.idl_scope.specs.Known.{Ended, ended, has_ended, Known, nothing, passed, then, walked, where_known, where_free, where_valued, in_file, expression_fault_in, tag_used}
 use Rattle.idl_names.specs.Going.{Point, Asked, Leads, Went}
 use Rattle.idl_names.specs.Loads.{IsLoaded}
-use Rattle.idl_names.specs.Sources.{Source, file_number, and_source}
+use Rattle.idl_names.specs.Walk.{Source, file_number, and_source, State, Due, Pass, Load, End, Ending, Done, Stopped, Walk, load_of, all_of, with_known, with_ended, start, names_of, AsksAlong}
+use Rattle.idl_names.specs.Walk.{most_files}
 use Rattle.idl_scope.specs.Steps as step
 use Rattle.idl_scope.specs.Steps.{Step, attribute_steps, imports_of, declaration_steps}
-use Rattle.idl_scope.specs.Known.{Known, nothing, passed, then, walked, where_known, where_free, where_valued, in_file, expression_fault_in, tag_used}
 use Rattle.idl_scope.specs.Kept.{is_memory, IsRight}
 use Rattle.idl_names.specs.Walk as walk
-use Rattle.idl_names.specs.Walk.{State, Due, Pass, Load, End, Ending, Done, Stopped, Walk, load_of, all_of, with_known, with_ended, start, names_of, AsksAlong, most_files}
 use Rattle.nd_base.proofs.Rising.{rose_later as rose_before}
 
 -- ## Counts

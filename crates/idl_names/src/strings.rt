@@ -1,6 +1,6 @@
 // The names of files that strings spell.
 ghost use Rattle.std.specs.Prelude.{◌≡◌, ◌∷◌, ◌++◌, ℕ, cond, eqb, string_bytes, IfOk};
-ghost use Rattle.idl_names.specs.Sources as sources;
+ghost use Rattle.idl_names.specs.Walk as sources;
 ghost use Rattle.idl_scope.specs.Value as values;
 
 use idl_scope::escaped;

@@ -6,7 +6,7 @@ use Rattle.idl_grammar.specs.ReadPhrases.{Read, join, then, skip, ended, end_wit
 use Rattle.idl_grammar.specs.Gives.{Fails}
 use Rattle.idl_grammar.proofs.Fails.{fails_equal, fails_is}
 use Rattle.idl_grammar.specs.declared.words.Spelling.{Spelling}
-use Rattle.idl_grammar.specs.Limits.{names}
+use Rattle.idl_grammar.specs.Expressions.{names}
 use Rattle.idl_grammar.specs.Tree.{TypeSpec}
 use Rattle.idl_grammar.specs.ReadExpressions.{ident_read}
 use Rattle.idl_grammar.specs.Reading.{branch_read, bind_read, tagged_read}

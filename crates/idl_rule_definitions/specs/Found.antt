@@ -1,6 +1,6 @@
 -- For the code: a breach as the rules have it, and where a file stands.
 use Rattle.std.specs.Prelude.{ℕ, Bool, false, eqb, List, Option, Some, None, slice_get}
-use Rattle.idl_scope.specs.Ended.{Ended}
+use Rattle.idl_scope.specs.Known.{Ended}
 use Rattle.idl_rule_definitions.specs.declared.finder.Breach as program
 use Rattle.idl_rule_definitions.specs.Rules.{Breach}
 

@@ -19,20 +19,19 @@ use Rattle.nd_types.specs.declared.types.Operation.{Operation}
 use Rattle.nd_types.specs.Table.{Table}
 use Rattle.nd_types.specs.Kinds.{basic_types}
 use Rattle.nd_types.specs.Legal.{has_named_parts, has_names}
-use Rattle.idl_lexer.specs.Numbers.{digit_value, number_of}
+use Rattle.idl_lexer.specs.Pieces.{digit_value, number_of}
 use Rattle.idl_grammar.specs.declared.attributes.PointerClass.{PointerClass}
 use Rattle.idl_grammar.specs.declared.attributes.PointerClass.TheVariants as class
 use Rattle.idl_grammar.specs.declared.attributes.Variable.{Variable}
 use Rattle.idl_grammar.specs.Tree.{Attribute, AttributeKind, TypeSpec, Arm, Tree}
 use Rattle.idl_grammar.specs.Tree as tree
-use Rattle.idl_scope.specs.Ended.{Ended}
-use Rattle.idl_rule_definitions.specs.World.{World}
-use Rattle.idl_rule_definitions.specs.World as world
+use Rattle.idl_scope.specs.Known.{Ended}
+use Rattle.idl_rule_definitions.specs.Nodes.{World, Declared, LabelledArm, arms_of, Node, OperationNode, result_of}
+use Rattle.idl_rule_definitions.specs.Nodes as world
 use Rattle.idl_rule_definitions.specs.Attributes.{has, first_said, in_word, out_word}
-use Rattle.idl_rule_definitions.specs.Nodes.{Declared, LabelledArm, arms_of, Node, OperationNode, result_of}
 use Rattle.idl_rule_definitions.specs.Types.{IdlType, Void, Handle, Basic, Struct, Union, Enum, Array, Text, Pointer, Pipe, Names, type_of}
 use Rattle.idl_rule_definitions.specs.Scene.{Scene, scene_of, Body, body_of, parts_declared, arm_declared, tag_type}
-use Rattle.idl_rule_definitions.specs.ValueRules.{label_value}
+use Rattle.idl_rule_definitions.specs.DeclarationRules.{label_value}
 use Rattle.idl_rule_definitions.specs.VariableRules.{Listed, listed_from, variables}
 use Rattle.idl_rule_definitions.specs.Numbering.{own_types, number_of_type}
 use Rattle.nd_types.specs.Meant.{Meant}

@@ -1,9 +1,8 @@
 -- For the code: the first breach so far, as breaches are noted one by one, and the breaches in two parts.
 use Rattle.std.specs.Prelude.{ℕ, Bool, true, false, ltb, List, [], ◌∷◌, Option, Some, None}
 use Rattle.nd_base.specs.declared.octets.Place.{Place}
-use Rattle.idl_rule_definitions.specs.World.{World}
-use Rattle.idl_rule_definitions.specs.Rules.{Breach, breach}
-use Rattle.idl_rule_definitions.specs.FirstBroken.{comes_before}
+use Rattle.idl_rule_definitions.specs.Nodes.{World}
+use Rattle.idl_rule_definitions.specs.Rules.{Breach, breach, comes_before}
 use Rattle.idl_rule_definitions.specs.declared.rule.TheConstants as Rule
 
 -- the first, with one more after those before

@@ -7,10 +7,9 @@ use Rattle.idl_grammar.specs.declared.types.SwitchType.{SwitchType}
 use Rattle.idl_grammar.specs.Tree.{Attribute, TypeSpec, Arm, Enumerator}
 use Rattle.idl_grammar.specs.Tree as tree
 use Rattle.idl_scope.specs.Known.{Known}
-use Rattle.idl_rule_definitions.specs.World.{World}
+use Rattle.idl_rule_definitions.specs.Nodes.{World, Construct, Position, InTypedef, InTaggedType, Declared, declared, inside, declared_members}
+use Rattle.idl_rule_definitions.specs.Nodes.{arms_of, Node, BodyNode, DeclaratorNode, nodes}
 use Rattle.idl_rule_definitions.specs.Attributes.{switch_type_in}
-use Rattle.idl_rule_definitions.specs.Nodes.{Construct, Position, InTypedef, InTaggedType, Declared, declared, inside, declared_members, arms_of}
-use Rattle.idl_rule_definitions.specs.Nodes.{Node, BodyNode, DeclaratorNode, nodes}
 use Rattle.idl_rule_definitions.specs.Types.{IdlType, Struct, Union, Enum, Array, Text, Pointer, Pipe, Names, type_of, declared_type, switch_type}
 use Rattle.idl_rule_definitions.specs.Types.{place_of_body}
 

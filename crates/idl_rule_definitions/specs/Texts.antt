@@ -2,17 +2,15 @@
 use Rattle.std.specs.Prelude.{ℕ, zero, suc, ◌+◌, ◌-◌, Bool, true, false, eqb, List, [], ◌∷◌, Option, Some, None, Result, Ok, Err}
 use Rattle.idl_grammar.specs.ReadPhrases.{Fault}
 use Rattle.nd_base.specs.Text.{is_letter, is_digit, is_word_octet}
-use Rattle.idl_lexer.specs.Classes.{is_space}
-use Rattle.idl_lexer.specs.Pieces.{fits_uuid}
+use Rattle.idl_lexer.specs.Pieces.{is_space, fits_uuid}
 use Rattle.idl_lexer.specs.declared.tokens.TokenKind.{TokenKind}
 use Rattle.idl_lexer.specs.declared.tokens.TokenKind.TheVariants as token
 use Rattle.idl_lexer.specs.declared.tokens.Token.{Token}
-use Rattle.idl_lexer.specs.Lexed.{Lexed}
-use Rattle.idl_grammar.specs.Lexemes.{lexemes}
+use Rattle.idl_lexer.specs.Verdict.{Lexed}
+use Rattle.idl_grammar.specs.Text.{lexemes}
 use Rattle.idl_grammar.specs.Tree.{Tree}
 use Rattle.idl_grammar.specs.Answers.{file_answer}
-use Rattle.idl_rule_definitions.specs.Rules.{Breach, breach}
-use Rattle.idl_rule_definitions.specs.FirstBroken.{first_broken}
+use Rattle.idl_rule_definitions.specs.Rules.{Breach, breach, first_broken}
 use Rattle.idl_rule_definitions.specs.Alone.{alone}
 
 -- ## Tokens of a text that has words, numbers, UUIDs, strings without escapes, spaces, `..` and marks of one octet alone

@@ -4,7 +4,7 @@ ghost use Rattle.std.specs.List.{slice_get};
 ghost use Rattle.idl_grammar.specs.Seen.{seen_type};
 ghost use Rattle.idl_scope.specs.Seen.{seen_files, known_in};
 ghost use Rattle.idl_declared_types.specs.declared.kinds.Kind as kind;
-ghost use Rattle.idl_rule_definitions.specs.World.{World};
+ghost use Rattle.idl_rule_definitions.specs.Nodes.{World};
 ghost use Rattle.idl_rule_definitions.specs.Types.{Names};
 ghost use Rattle.idl_rule_definitions.specs.Scene.{Scene, Use, Body, use_of, type_of_body};
 ghost use Rattle.idl_rule_definitions.specs.Rules.{Breach, breaches_of_use};

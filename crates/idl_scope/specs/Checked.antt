@@ -1,7 +1,7 @@
 -- For the code: values as 128 bits hold them. No definition of the language stands here.
 use Rattle.std.specs.Prelude.{ℕ, ℤ, pos, negsuc, cond, leb, Option, Some, None}
 use Rattle.idl_scope.specs.declared.fault.ConstFault.TheVariants.{OutOfRange}
-use Rattle.idl_scope.specs.Operators.{Outcome, fails, in_range}
+use Rattle.idl_scope.specs.Value.{Outcome, fails, in_range}
 
 -- an operator's value, where 128 bits hold it
 abbrev pub checked : ℕ → Option ℤ → Outcome

@@ -9,7 +9,7 @@ use Rattle.idl_grammar.proofs.Fails.{fails_equal, fails_is}
 use Rattle.idl_grammar.specs.declared.expressions.BinaryOperator.{BinaryOperator}
 use Rattle.idl_grammar.specs.declared.expressions.Operand.{Operand}
 use Rattle.idl_grammar.specs.Symbols as symbol
-use Rattle.idl_grammar.specs.Limits.{symbol_level, is_unary}
+use Rattle.idl_grammar.specs.Expressions.{symbol_level, is_unary}
 use Rattle.idl_grammar.specs.Tree.{Expr, Binary, Leaf}
 use Rattle.idl_grammar.specs.ReadExpressions.{leaf_read, fold, operation_read, level_read, conditional_read, unary_read, expr_read}
 

@@ -1,6 +1,6 @@
 -- What a symbol stands for, where it is one of a list.
 use Rattle.std.specs.Prelude.{ℕ, eqb, cond, List, [], ◌∷◌, Option, Some, None}
-use Rattle.idl_grammar.specs.Limits.{Meant}
+use Rattle.idl_grammar.specs.Expressions.{Meant}
 
 abbrev pub found : {A : Type 0} → List (Meant A) → ℕ → Option A
 found [] s = None

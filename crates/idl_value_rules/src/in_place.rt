@@ -3,7 +3,7 @@ ghost use Rattle.std.specs.Prelude.{◌≡◌, ℕ, suc, true, false, ltb, List,
 ghost use Rattle.std.specs.List.{list_all};
 ghost use Rattle.nd_base.specs.declared.octets.Place.{Place};
 ghost use Rattle.idl_rule_definitions.specs.Scene.{Scene, in_place, nests, hoists_within};
-ghost use Rattle.idl_rule_definitions.specs.ArrayRules.{is_barred_within};
+ghost use Rattle.idl_rule_definitions.specs.TypeRules.{is_barred_within};
 ghost use Rattle.idl_declared_types.specs.Kinds.{type_by, type_at, seen_types};
 ghost use Rattle.idl_rule_definitions.specs.Types.{IdlType};
 ghost use Rattle.idl_declared_types.specs.SeenTypes.{IsTypes};

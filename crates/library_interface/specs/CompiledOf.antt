@@ -1,7 +1,7 @@
 -- What files in memory mean, and why they mean no interface.
 -- `held` is what is held under each name, `idl` the name of the main file, `acf` that of the attribute configuration file, if one is named.
 use Rattle.std.specs.Prelude.{ℕ, List, Option, Some, ⊤}
-use Rattle.nd_base.specs.Outside.{IsContent, IsMissing}
+use Rattle.nd_base.specs.Over.{IsContent, IsMissing}
 use Rattle.nd_types.specs.declared.interface.Interface.{Interface}
 use Rattle.library_interface.specs.declared.file.File.{File}
 use Rattle.library_interface.specs.Named.{HasBadName}

@@ -2,13 +2,13 @@
 -- `w` is a setting, `l` a listing, `g` a graph.
 use Rattle.std.specs.Prelude.{◌≡◌, ℕ, ◌-◌, Bool, true, ◌||◌, nat_lt, List, ◌++◌, length, map, Result, MatchResult, ⊤}
 use Rattle.nd_types.specs.Table.{Table}
-use Rattle.nd_types.specs.Walk.{named_roots}
+use Rattle.nd_types.specs.Roots.{named_roots}
 use Rattle.nd_value.specs.declared.value.Graph.{Graph}
 use Rattle.nd_value.specs.Setting.{Setting}
 use Rattle.nd_value.specs.Tree.{flat, trees}
 use Rattle.command_refusals.specs.declared.refusal.Refusal.{Refusal}
 use Rattle.command_refusals.specs.declared.refusal.Refusal.TheVariants.{Memory, BadValue}
-use Rattle.command_encode.specs.Fitted.{IsValueCause}
+use Rattle.command_encode.specs.Encoded.{IsValueCause}
 use Rattle.library_nodes.specs.declared.TheConstants.{LISTING_LIMIT}
 use Rattle.library_nodes.specs.declared.fault.BuildFault.{BuildFault}
 use Rattle.library_nodes.specs.declared.fault.BuildFault.TheVariants.{TooMany, WrongNode, Refused}

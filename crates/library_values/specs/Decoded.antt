@@ -7,7 +7,7 @@ use Rattle.nd_types.specs.declared.types.Side.{Side}
 use Rattle.nd_value.specs.declared.value.Graph.{Graph}
 use Rattle.nd_value.specs.Fitting.{Fitting}
 use Rattle.nd_value.specs.Setting.{Setting}
-use Rattle.nd_grammar.specs.Bad.{Bad}
+use Rattle.nd_grammar.specs.Refusal.{Bad}
 use Rattle.nd_grammar.specs.decoded.Verdict.{RepresentsAlone}
 use Rattle.command_refusals.specs.declared.refusal.Refusal.{Refusal}
 use Rattle.command_refusals.specs.declared.refusal.Refusal.TheVariants.{Memory, BadOctets}

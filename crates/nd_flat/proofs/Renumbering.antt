@@ -8,7 +8,7 @@ use Rattle.nd_value.specs.declared.value.Graph.{Graph}
 use Rattle.nd_value.specs.Tree as tree
 use Rattle.nd_value.specs.Tree.{Tree, Trees, Label, Flat, Referent, node, none, more, count, flat, unflat, take_trees, drop_trees}
 use Rattle.nd_value.specs.Names.{AreThere}
-use Rattle.nd_value.specs.Same.{renumbered, renumbered_label}
+use Rattle.nd_value.specs.Canon.{renumbered, renumbered_label}
 use Rattle.nd_value.specs.Setting.{cell_tree, cell_of_number}
 use Rattle.nd_base.specs.declared.octets.Order.{Order}
 use Rattle.nd_types.specs.declared.types.Primitive.{Primitive}

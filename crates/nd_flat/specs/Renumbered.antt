@@ -5,7 +5,7 @@ use Rattle.std.specs.Prelude.{ℕ, List, map, get_or}
 use Rattle.nd_value.specs.declared.value.Graph.{Graph}
 use Rattle.nd_value.specs.Tree.{Tree, node, Referent}
 use Rattle.nd_value.specs.Setting.{cell_at, cell_of_number}
-use Rattle.nd_value.specs.Same.{renumbered, renumbered_label}
+use Rattle.nd_value.specs.Canon.{renumbered, renumbered_label}
 use Rattle.nd_value.specs.Fitting.{Fitting}
 use Rattle.nd_flat.specs.Building.{referent_type}
 

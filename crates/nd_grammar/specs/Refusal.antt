@@ -1,11 +1,8 @@
--- Where octets refuse an entry of a stream, and why. How and where a stream is refused is this project's choice, and so are
--- the rules that a string's offset is 0 and that its terminator is its only zero.
--- `x` is an entry at its place, `m` an entry, `at` its place, `os` are its octets, `h` is a home, `n` a node's number, `a` an
--- attribute or an arm, `v` what octets hold, `p` a primitive, `z` a value, `b` and `c` are octets, `o` is a later refusal, `r`
--- a refusal.
+-- Where octets refuse an entry of a stream, and why; and the first place at which octets are refused.
 use Rattle.std.specs.Prelude.{◌≡◌, ℕ, ◌+◌, ℤ, Bool, true, false, not, ◌&&◌, ◌||◌, cond, eqb, ltb, List, [], ◌∷◌, ◌++◌, length, Option, Some, None}
 use Rattle.std.specs.Prelude.{option_map}
 use Rattle.std.specs.Ordering.{int_eq}
+use Rattle.std.specs.List.{AllByRecursion}
 use Rattle.nd_base.specs.declared.octets.Order.{Order}
 use Rattle.nd_base.specs.declared.TheConstants.{STREAM_LIMIT}
 use Rattle.nd_types.specs.declared.types.Arm.{Arm}
@@ -14,13 +11,24 @@ use Rattle.nd_types.specs.declared.types.Attr.TheVariants as attr
 use Rattle.nd_types.specs.declared.types.Class.TheVariants.{Full}
 use Rattle.nd_types.specs.declared.types.TypeDef.TheVariants as def
 use Rattle.nd_types.specs.Table.{is_value, selected}
+use Rattle.nd_types.specs.Number.{unsigned, value_of_octets}
 use Rattle.nd_value.specs.declared.item.Home.{Home}
 use Rattle.nd_value.specs.declared.item.Home.TheVariants as home
+use Rattle.nd_value.specs.declared.value.Graph.{Graph}
+use Rattle.nd_value.specs.Setting.{Setting}
+use Rattle.nd_value.specs.Conforms.{IsPartial}
 use Rattle.nd_grammar.specs.declared.reason.Reason.{Reason}
 use Rattle.nd_grammar.specs.declared.reason.Reason.TheVariants as reason
-use Rattle.nd_types.specs.Number.{unsigned, value_of_octets}
-use Rattle.nd_grammar.specs.Entry.{Kind, Entry, Align, Max, Offset, Actual, Number, Num, Tag, Text, Test, Unread, size_at, EntryAt}
-use Rattle.nd_grammar.specs.Represents.{piece}
+use Rattle.nd_grammar.specs.Entry.{Kind, Entry, Align, Max, Offset, Actual, Number, Num, Tag, Text, Test, Unread, size_at, EntryAt, end_to_end}
+use Rattle.nd_grammar.specs.Entry.{full_cells}
+use Rattle.nd_grammar.specs.Stream.{piece, Stream, IsRendered, IsNumbering}
+
+-- ## Where octets refuse an entry
+
+-- How and where a stream is refused is this project's choice, and so are the rules that a string's offset is 0 and that its terminator is
+-- its only zero. `x` is an entry at its place, `m` an entry, `at` its place, `os` are its octets, `h` is a home, `n` a node's number, `a`
+-- an attribute or an arm, `v` what octets hold, `p` a primitive, `z` a value, `b` and `c` are octets, `o` is a later refusal, `r` a
+-- refusal.
 
 -- an entry would end past the limit of a stream; a gap never does, since the limit is a multiple of every alignment
 abbrev pub is_long : ℕ → Kind → Bool
@@ -125,3 +133,24 @@ refusal order octets earlier x =
 abbrev pub Accepts : Order → List ℕ → List EntryAt → List EntryAt → Type 0
 Accepts order octets earlier [] = Unit {0}
 Accepts order octets earlier (x ∷ xs) = (refusal order octets earlier x ≡ None) × Accepts order octets (earlier ++ x ∷ []) xs
+
+-- ## The first faulty place
+
+-- `w` is a setting.
+
+-- The octets are refused at a place: the stream of some partial graph has an entry that they refuse there for this reason, and
+-- every entry before it they spell and do not refuse. (After an unread value nothing is reached: none is ever spelled.)
+pub record Bad (w : Setting) (order : Order) (octets : List ℕ) (place : ℕ) (why : Reason) : Type 0 where
+  pub partial : Graph
+  pub is_partial : IsPartial w partial
+  pub entries : List Entry
+  pub stream : Stream w partial entries
+  pub earlier : List EntryAt
+  pub here : EntryAt
+  pub later : List EntryAt
+  pub split : end_to_end 0 entries ≡ earlier ++ here ∷ later
+  pub numbering : ℕ → ℕ
+  pub is_numbering : IsNumbering numbering (full_cells entries)
+  pub rendered : AllByRecursion (IsRendered order numbering octets) earlier
+  pub accepted : Accepts order octets [] earlier
+  pub refused : refusal order octets earlier here ≡ Some (place, why)

@@ -15,8 +15,7 @@ use Rattle.nd_value.specs.Tree as tree
 use Rattle.nd_value.specs.Tree.{Tree, Trees, node, none, more, Referent, node_count, joined}
 use Rattle.nd_value.specs.Setting.{Setting, root_list, unread, cell_at, cell_home, set_cell}
 use Rattle.nd_value.specs.Deferral.{Pending, Due, due_root, due_referent, due_roots, before_pipes, Placed_cells, due_of, root_type}
-use Rattle.nd_grammar.specs.Entry.{Kind, Entry, Align, Chunk}
-use Rattle.nd_grammar.specs.InPlace.{tests}
+use Rattle.nd_grammar.specs.Entry.{Kind, Entry, Align, Chunk, tests}
 use Rattle.nd_grammar.specs.Stream.{root_tests}
 use Rattle.nd_grammar.specs.Reader.{Progress, Names, Read, ReadAll, is_stopped, pass, pass_all, taken, number_in, fresh, with_cell, read_list}
 use Rattle.nd_grammar.specs.Reader.{read_in_place, read_whole}

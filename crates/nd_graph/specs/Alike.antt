@@ -5,7 +5,7 @@ use Rattle.std.specs.Prelude.{◌≡◌, ℕ, ◌<◌, List, length, get_or, map
 use Rattle.nd_value.specs.declared.value.Graph.{Graph}
 use Rattle.nd_value.specs.Tree.{Flat}
 use Rattle.nd_value.specs.Setting.{root_at, cell_at, cell_of_number}
-use Rattle.nd_value.specs.Same.{renumbered_label}
+use Rattle.nd_value.specs.Canon.{renumbered_label}
 use Rattle.nd_flat.specs.Building.{referent_type}
 use Rattle.nd_flat.specs.Renumbered.{renumbered_tree}
 

@@ -14,11 +14,10 @@ use Rattle.nd_value.specs.declared.misfit.MisfitReason.TheVariants as misfit
 use Rattle.nd_value.specs.declared.misfit.NodeMisfit.{NodeMisfit}
 use Rattle.nd_value.specs.Tree as tree
 use Rattle.nd_value.specs.Tree.{Tree, Trees, Label, node, none, more, trees, node_count}
-use Rattle.nd_value.specs.Agreement.{Agreement, number_in}
+use Rattle.nd_value.specs.Agreement.{Agreement, number_in, root_agreements}
 use Rattle.nd_value.specs.Setting.{Setting, cell_at}
 use Rattle.nd_value.specs.Nodes.{child_types, child_agreements, first_agreements, rest_agreements}
-use Rattle.nd_value.specs.Variables.{root_agreements}
-use Rattle.nd_value.specs.FirstMisfit.{MisfitAt, or_later, disagreement_of}
+use Rattle.nd_value.specs.Conforms.{MisfitAt, or_later, disagreement_of}
 use Rattle.nd_value.specs.Passes.{or_next, at_number, at_home}
 use Rattle.nd_misfits.specs.HomeList.{HomeTree}
 

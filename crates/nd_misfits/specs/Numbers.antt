@@ -7,12 +7,11 @@ use Rattle.nd_types.specs.declared.types.AttrVar.{AttrVar}
 use Rattle.nd_types.specs.declared.types.Operation.{Operation}
 use Rattle.nd_types.specs.declared.types.Side.TheVariants as side
 use Rattle.nd_types.specs.Table.{Table}
-use Rattle.nd_types.specs.Walk.{NamedRoot, named_roots}
+use Rattle.nd_types.specs.Roots.{NamedRoot, named_roots}
 use Rattle.nd_value.specs.declared.value.Graph.{Graph}
 use Rattle.nd_value.specs.Tree.{Tree}
-use Rattle.nd_value.specs.Agreement.{Agreement, agreement}
+use Rattle.nd_value.specs.Agreement.{Agreement, agreement, starred, variable}
 use Rattle.nd_value.specs.Setting.{Setting}
-use Rattle.nd_value.specs.Variables.{starred, variable}
 use Rattle.nd_misfits.specs.declared.numbers.ParamNumber.{ParamNumber}
 use Rattle.nd_misfits.specs.declared.numbers.RootNumber.{RootNumber}
 use Rattle.nd_misfits.specs.HomeList.{HomeTree}

@@ -1,11 +1,11 @@
 //! Laws of the passes, each the contract of a function that does nothing.
 ghost use Rattle.std.specs.Prelude.{◌≡◌, ℕ, ◌<◌, List, length, map, get_or};
 ghost use Rattle.nd_types.specs.declared.types.AttrVar.{AttrVar};
-ghost use Rattle.nd_types.specs.Walk.{named_root};
+ghost use Rattle.nd_types.specs.Roots.{named_root};
 ghost use Rattle.nd_value.specs.declared.value.Graph.{Graph};
 ghost use Rattle.nd_value.specs.Setting.{Setting, root_list};
-ghost use Rattle.nd_value.specs.Variables.{root_agreements};
-ghost use Rattle.nd_value.specs.FirstMisfit.{first_disagreeing};
+ghost use Rattle.nd_value.specs.Agreement.{root_agreements};
+ghost use Rattle.nd_value.specs.Conforms.{first_disagreeing};
 ghost use Rattle.nd_misfits.specs.declared.numbers.ParamNumber.{ParamNumber};
 ghost use Rattle.nd_misfits.specs.HomeList.{homes_of};
 ghost use Rattle.nd_misfits.specs.Disagreeing.{disagreeing_homes};

@@ -3,8 +3,7 @@ ghost use Rattle.std.specs.Prelude.{◌≡◌, ℕ, ◌<◌, true, false, length
 ghost use Rattle.nd_value.specs.Tree as tree;
 ghost use Rattle.nd_value.specs.Seen.{tree_of, cell_of};
 ghost use Rattle.nd_value.specs.Setting.{cell_of_number};
-ghost use Rattle.nd_value.specs.Agreement.{number_of};
-ghost use Rattle.nd_value.specs.Variables.{starred};
+ghost use Rattle.nd_value.specs.Agreement.{number_of, starred};
 ghost use Rattle.nd_misfits.specs.HomeList.{home_tree};
 ghost use Rattle.nd_misfits.specs.Numbers.{number_at, no_number, is_param, number_among, home_number, replaced};
 

@@ -1,7 +1,7 @@
 // Unions.
 ghost use Rattle.std.specs.Prelude.{◌≡◌, ◌<◌, ◌+◌, ◌^◌, eqb, length, OnOk};
 ghost use Rattle.nd_types.specs.Table.{width};
-ghost use Rattle.ndr_code.specs.Lines.{enumerators};
+ghost use Rattle.ndr_code.specs.Code.{enumerators};
 ghost use Rattle.ndr_decoder_laws.specs.steps.Steps.{goes, arm_taken, tag_step, form_by};
 ghost use Rattle.ndr_decoder_state.specs.Seen.{state_of, Does, outside};
 ghost use Rattle.ndr_decoder_laws.specs.steps.StepItems.{tag_items};

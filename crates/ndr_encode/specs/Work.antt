@@ -11,8 +11,7 @@ use Rattle.nd_value.specs.Deferral.{Step, Deferral, due_roots, before_pipes}
 use Rattle.nd_value.specs.Fitting.{Fitting, setting_beside}
 use Rattle.nd_value.specs.Setting.{Setting, root_list}
 use Rattle.nd_grammar.specs.Entry.{end_of}
-use Rattle.nd_grammar.specs.Stream.{representation}
-use Rattle.nd_grammar.specs.Chosen.{pipe_cuts, Chosen}
+use Rattle.nd_grammar.specs.Stream.{representation, pipe_cuts, Chosen}
 use Rattle.ndr_encoder_laws.specs.chosen.Written.{all_turns}
 use Rattle.ndr_encoder_value.specs.declared.turn.Turn.{Turn}
 use Rattle.ndr_encoder_value.specs.contracts.turn.Turn as turns

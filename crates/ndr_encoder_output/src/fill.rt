@@ -4,7 +4,7 @@ ghost use Rattle.nd_types.specs.Number.{from_signed, spelling, written};
 ghost use Rattle.nd_types.specs.Table.{width, in_range};
 ghost use Rattle.nd_value.specs.Seen.{cell_number};
 ghost use Rattle.nd_grammar.specs.Entry.{gap};
-ghost use Rattle.nd_grammar.specs.Chosen.{number_of_cell};
+ghost use Rattle.nd_grammar.specs.Stream.{number_of_cell};
 ghost use Rattle.ndr_prim.specs.Context.{context_octets};
 
 use crate::output::Output;

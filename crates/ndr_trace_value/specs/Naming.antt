@@ -12,7 +12,7 @@ use Rattle.nd_value.specs.Deferral.{IsPlaced, Placed_cells}
 use Rattle.nd_value.specs.Setting.{Among, cell_of_number}
 use Rattle.nd_value.specs.Tree.{Referent}
 use Rattle.nd_grammar.specs.Entry.{Entry, Kind, Number}
-use Rattle.nd_grammar.specs.Represents.{IsNumber, IsNumbering}
+use Rattle.nd_grammar.specs.Stream.{IsNumber, IsNumbering}
 use Rattle.ndr_refs.specs.declared.referents.Known.{Known as KnownNumber}
 use Rattle.ndr_refs.specs.Known.{known}
 use Rattle.ndr_trace_value.specs.declared.cells.Cells.{Cells}

@@ -16,7 +16,7 @@ use Rattle.nd_value.specs.Tree.{Label, Trees, more, node, node_count, none}
 use Rattle.text_grammar.specs.Paths.{home_types, home_value}
 use Rattle.ndr_explain.specs.Cursors.{Place, child_places}
 use Rattle.ndr_trace_value.specs.Attributes.{first_of}
-use Rattle.ndr_trace_value.specs.Variable.{field_name, numbered_path}
+use Rattle.ndr_trace_value.specs.Traces.{field_name, numbered_path}
 
 -- ## Members
 

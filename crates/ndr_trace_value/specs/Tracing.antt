@@ -17,10 +17,10 @@ use Rattle.nd_value.specs.Setting.{Setting, cell_home}
 use Rattle.nd_value.specs.Tree as tree
 use Rattle.nd_value.specs.Tree.{Label}
 use Rattle.nd_grammar.specs.Entry.{Actual, Align, Chunk, Context, Entry, EntryAt, Kind, Max, Num, Number, Offset, Tag, Test, Text, Unread, end_to_end}
-use Rattle.nd_grammar.specs.Represents.{IsNumber, IsNumbering}
+use Rattle.nd_grammar.specs.Stream.{IsNumber, IsNumbering}
 use Rattle.ndr_prim.specs.Context.{attributes_of, identifier_of}
 use Rattle.text_grammar.specs.Paths.{home_types}
-use Rattle.text_grammar.specs.Printed.{quoted_text}
+use Rattle.text_grammar.specs.Written.{quoted_text}
 use Rattle.text_printer.specs.Texts.{context_text}
 use Rattle.ndr_explain.specs.Cursors.{Place, level_place, name_text, path_to}
 use Rattle.ndr_explain.specs.Explained.{context_shown, explanation, home_flats, home_paths, label_in, path_in, string_shown}
@@ -33,8 +33,7 @@ use Rattle.ndr_trace_value.specs.declared.progress.Spot.{Spot}
 use Rattle.ndr_trace_value.specs.declared.search.Sought.{Sought}
 use Rattle.ndr_trace_value.specs.LastMembers.{counted_path, counted_variable, whole_types}
 use Rattle.ndr_trace_value.specs.Places.{home_place, member_variable}
-use Rattle.ndr_trace_value.specs.Traces.{entry_path}
-use Rattle.ndr_trace_value.specs.Variable.{NamesAlone}
+use Rattle.ndr_trace_value.specs.Traces.{entry_path, NamesAlone}
 
 -- Octets that are refused at an entry of the stream of a partial graph, and the log of the items before it.
 pub record Known : Type 0 where

@@ -8,13 +8,12 @@ use Rattle.nd_types.specs.declared.types.TypeDef.TheVariants as def
 use Rattle.nd_types.specs.declared.types.Field.{Field}
 use Rattle.nd_types.specs.declared.types.Side.{Side}
 use Rattle.nd_types.specs.Table.{Table, type_at}
-use Rattle.nd_types.specs.Walk.{NamedRoot}
+use Rattle.nd_types.specs.Roots.{NamedRoot}
 use Rattle.nd_value.specs.Tree as tree
 use Rattle.nd_value.specs.Tree.{Tree, Trees, node, none, more, Label, Referent}
 use Rattle.nd_value.specs.Nodes.{child_types}
 use Rattle.text_grammar.specs.declared.version.Version.TheVariants as version
-use Rattle.text_grammar.specs.Written.{writes_octets, side_word}
-use Rattle.text_grammar.specs.Printed.{hex_octet, quoted_text, uuid_text}
+use Rattle.text_grammar.specs.Written.{writes_octets, side_word, hex_octet, quoted_text, uuid_text}
 
 -- ## Lists
 

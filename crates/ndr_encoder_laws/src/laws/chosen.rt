@@ -9,8 +9,7 @@ ghost use Rattle.nd_value.specs.Deferral.{Step, Deferral, due_roots, before_pipe
 ghost use Rattle.nd_value.specs.Setting.{Setting, root_list};
 ghost use Rattle.nd_grammar.specs.Entry.{end_of};
 ghost use Rattle.nd_grammar.specs.LegalSide.{IsLegalSide};
-ghost use Rattle.nd_grammar.specs.Stream.{representation};
-ghost use Rattle.nd_grammar.specs.Chosen.{Chosen, pipe_cuts};
+ghost use Rattle.nd_grammar.specs.Stream.{representation, Chosen, pipe_cuts};
 ghost use Rattle.ndr_code.specs.Code.{code_of};
 ghost use Rattle.ndr_encoder_laws.specs.pieces.Pieces.{pieces_octets, pieces_end};
 ghost use Rattle.ndr_encoder_laws.specs.pieces.Heads.{stream_pieces};

@@ -13,7 +13,7 @@ use Rattle.idl_grammar.specs.Seen.{seen_arm, seen_label, seen_type, seen_member,
 use Rattle.idl_grammar.specs.declared.words.Spelling.{Spelling}
 use Rattle.idl_grammar.specs.declared.types.Discriminant.{Discriminant}
 use Rattle.idl_grammar.specs.declared.types.TagKind.TheVariants as tags
-use Rattle.idl_grammar.specs.Limits.{names}
+use Rattle.idl_grammar.specs.Expressions.{names}
 use Rattle.idl_grammar.specs.Tree as tree
 use Rattle.idl_parser.proofs.Bodies.{then_reads, then_fails, bracketed_reads, branch_first, branch_second, tagged_body}
 use Rattle.idl_tokens.proofs.Lists.{alone, some_begins}

@@ -1,7 +1,6 @@
 use Rattle.std.proofs.Common.{◌≡◌, ◌∙◌, sym, ap, option_map, Some, None, Ok, Err}
 use Rattle.idl_scope.specs.declared.name_fault.NameFault.TheVariants as fault
-use Rattle.idl_scope.specs.Tables.{found, put}
-use Rattle.idl_scope.specs.Known.{then, where_free, place_in, place_in_list}
+use Rattle.idl_scope.specs.Known.{found, put, then, where_free, place_in, place_in_list}
 use Rattle.idl_scope.specs.Kept.{listed}
 use Rattle.idl_scope.proofs.Lists.{at_octet, place_is, listed_new}
 use Rattle.idl_scope.proofs.known.enlist.Goals as goal
