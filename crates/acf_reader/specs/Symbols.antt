@@ -1,5 +1,5 @@
 -- The symbols of attribute configuration files, and the tokens of a text as their grammar sees them.
-use Rattle.std.specs.Prelude.{ℕ, Bool, cond, List, [], ◌∷◌, ◌++◌, map, codes, slice_range}
+use Rattle.std.specs.Prelude.{ℕ, Bool, if◌then◌else◌, List, [], ◌∷◌, ◌++◌, map, codes, slice_range}
 use Rattle.idl_lexer.specs.declared.tokens.TokenKind.{TokenKind}
 use Rattle.idl_lexer.specs.declared.tokens.TokenKind.TheVariants as token
 use Rattle.idl_lexer.specs.declared.tokens.Token.{Token}
@@ -86,7 +86,7 @@ names_outside = symbol.Name ∷ symbol.BannedAttribute ∷ Include ∷ attribute
 
 -- what is a name: no reserved word, and inside attribute brackets no word with which an attribute begins
 unfoldable pub names : Bool → List ℕ
-names inside = cond inside names_inside names_outside
+names inside = if inside then names_inside else names_outside
 
 -- ## The tokens of a text
 

@@ -1,5 +1,6 @@
 -- What the files of a compilation mean, and for which causes they are refused.
-use Rattle.std.specs.Prelude.{◌≡◌, ◌⊎◌, ℕ, true, false, eqb, List, [], ◌∷◌, length, drop, take_while, Option, Some, None, Result, Ok, Err, option_map}
+use Rattle.std.specs.Prelude.{◌≡◌, ◌⊎◌, ℕ, true, false, ◌==◌, List, [], ◌∷◌, length, drop, take_while, Option, Some, None, Result, Ok, Err}
+use Rattle.std.specs.Prelude.{option_map}
 use Rattle.std.specs.Prelude.{⊤}
 use Rattle.nd_base.specs.declared.octets.Place.{Place}
 use Rattle.nd_base.specs.Over.{IsContent}
@@ -187,7 +188,7 @@ reported_rule s rule place = reported_at s place (reason.Rule rule)
 -- one of that file.
 abbrev pub reported_beside : List Source → Option AcfFile → ℕ → Place → Refusal
 reported_beside s None rule place = reported_rule s rule place
-reported_beside s (Some f) rule place = elim (eqb place.file acf_file) [
+reported_beside s (Some f) rule place = elim (place.file == acf_file) [
   | true ↦ reported_by f.name (position_of f.text place.at) (reason.Rule rule)
   | false ↦ reported_rule s rule place
 ]

@@ -1,5 +1,6 @@
 -- What is answered on a whole text: its tree, or the first fault.
-use Rattle.std.specs.Prelude.{◌≡◌, ◌⊎◌, ℕ, ◌+◌, Bool, true, false, not, ◌&&◌, cond, eqb, leb, [], ◌∷◌, ◌++◌, length, take, Result, Ok, Err}
+use Rattle.std.specs.Prelude.{◌≡◌, ◌⊎◌, ℕ, ◌+◌, Bool, true, false, not, ◌&&◌, if◌then◌else◌, ◌==◌, nat_le, [], ◌∷◌, ◌++◌, length, take, Result, Ok}
+use Rattle.std.specs.Prelude.{Err}
 use Rattle.idl_grammar.specs.Text.{Text, the_end, Rule, Depth, Ban, Lifted, Phrase, symbol_at, is}
 use Rattle.idl_grammar.specs.ReadPhrases.{Fault, Syntax, Passes, Read}
 use Rattle.idl_grammar.specs.Symbols as symbol
@@ -32,18 +33,18 @@ lax rule i = true
 
 -- the limits stand before token k alone, and the bans stand
 abbrev pub limits_before : ℕ → Lifted
-limits_before k Depth i = leb k i
+limits_before k Depth i = nat_le k i
 limits_before k Ban i = false
 
 -- the same, but that a rule does not stand at k
 abbrev pub limits_before_but : Rule → ℕ → Lifted
 limits_before_but Depth k rule i = limits_before k rule i
-limits_before_but Ban k Depth i = leb k i
-limits_before_but Ban k Ban i = eqb i k
+limits_before_but Ban k Depth i = nat_le k i
+limits_before_but Ban k Ban i = i == k
 
 -- one rule is at one token alone
 abbrev pub all_but : Rule → ℕ → Lifted
-all_but rule k other i = not (is_rule other rule && eqb i k)
+all_but rule k other i = not (is_rule other rule && i == k)
 
 -- Some text of the language begins with the first k tokens, and none with the next one too.
 pub record IsSyntax {A : Type 0} (p : A → Phrase) (t : Text) (k : ℕ) : Type 0 where
@@ -68,7 +69,7 @@ Judges p t (Err (Passes rule k)) = IsRefused p t rule k
 -- a phrase that ends where the text does
 abbrev pub whole_read : {A : Type 0} → Read A → Text → Result A Fault
 whole_read (Err f) t = Err f
-whole_read (Ok x) t = cond (eqb x.1 (length t)) (Ok x.0) (Err (Syntax x.1))
+whole_read (Ok x) t = if x.1 == length t then Ok x.0 else Err (Syntax x.1)
 
 -- ## The answer on the tokens of a file: its tree, or the first fault
 
@@ -92,7 +93,7 @@ Answers p t (Err (Passes Ban k)) = IsBanned p t k
 
 -- a fault of syntax as it is named
 abbrev pub named_fault : Text → Fault → Fault
-named_fault t (Syntax k) = cond (is_banned t k) (Passes Ban k) (Syntax k)
+named_fault t (Syntax k) = if is_banned t k then Passes Ban k else Syntax k
 named_fault t (Passes rule k) = Passes rule k
 
 abbrev pub named : {A : Type 0} → Text → Result A Fault → Result A Fault

@@ -1,5 +1,5 @@
 -- The grammar of expressions (C706, section 4.2.7), with the lists of symbols that it and the other phrases go by.
-use Rattle.std.specs.Prelude.{ℕ, ◌+◌, zero, suc, Bool, ◌&&◌, ◌||◌, cond, eqb, leb, List, [], ◌∷◌}
+use Rattle.std.specs.Prelude.{ℕ, ◌+◌, zero, suc, Bool, ◌&&◌, ◌||◌, if◌then◌else◌, ◌==◌, nat_le, List, [], ◌∷◌}
 use Rattle.idl_grammar.specs.declared.expressions.BinaryOperator.{BinaryOperator}
 use Rattle.idl_grammar.specs.declared.expressions.BinaryOperator.TheVariants as binary
 use Rattle.idl_grammar.specs.declared.expressions.UnaryOperator.{UnaryOperator}
@@ -30,7 +30,7 @@ names_outside = symbol.Name ∷ symbol.BannedAttribute ∷ attribute_symbols
 
 -- what is a name: inside attribute brackets no word with which an attribute begins
 unfoldable pub names : Bool → List ℕ
-names inside = cond inside names_inside names_outside
+names inside = if inside then names_inside else names_outside
 
 -- ### Words that stand for a value
 
@@ -49,7 +49,7 @@ symbols_of (m ∷ others) = m.symbol ∷ symbols_of others
 -- what a symbol stands for, or the other value where it is none of these
 abbrev pub value_of : {A : Type 0} → A → List (Meant A) → ℕ → A
 value_of otherwise [] s = otherwise
-value_of otherwise (m ∷ others) s = cond (eqb s m.symbol) m.value (value_of otherwise others s)
+value_of otherwise (m ∷ others) s = if s == m.symbol then m.value else value_of otherwise others s
 
 -- ### Operators (C706, section 4.2.7)
 
@@ -95,23 +95,23 @@ unary_of s = value_of unary.Plus unary_operators s
 
 -- the level of a symbol, and 0 of what is no binary operator
 unfoldable pub symbol_level : ℕ → ℕ
-symbol_level s = cond (is_in (symbols_of binary_operators) s) (level (binary_of s)) 0
+symbol_level s = if is_in (symbols_of binary_operators) s then level (binary_of s) else 0
 
 unfoldable pub is_unary : ℕ → Bool
 is_unary s = is_in (symbols_of unary_operators) s
 
 -- an operator, where an expression has it
 unfoldable pub is_operator : ℕ → Bool
-is_operator s = leb 1 (symbol_level s) || (is_unary s || eqb s symbol.Question)
+is_operator s = nat_le 1 (symbol_level s) || (is_unary s || s == symbol.Question)
 
 -- The operators from a place up to another.
 abbrev pub operators : Text → ℕ → ℕ → ℕ
 operators x start zero = 0
-operators x start (suc i) = operators x start i + cond (leb start i && is_operator (symbol_at x i)) 1 0
+operators x start (suc i) = operators x start i + (if nat_le start i && is_operator (symbol_at x i) then 1 else 0)
 
 -- an operator here would be the 65th of the expression that begins at start
 unfoldable pub many_operators : ℕ → Text → ℕ → Bool
-many_operators start x i = leb 64 (operators x start i)
+many_operators start x i = nat_le 64 (operators x start i)
 
 -- ## Expressions
 
@@ -152,7 +152,7 @@ abbrev pub unary_sign : Rel (ℕ × UnaryOperator)
 unary_sign = token (λ a. is_unary a.symbol) (λ a. (a.at, unary_of a.symbol))
 
 abbrev pub binary_sign : Rel (ℕ × BinaryOperator)
-binary_sign = token (λ a. leb 1 (symbol_level a.symbol)) (λ a. (a.at, binary_of a.symbol))
+binary_sign = token (λ a. nat_le 1 (symbol_level a.symbol)) (λ a. (a.at, binary_of a.symbol))
 
 -- Expressions of a level or a tighter one: 0 has ?:, 1 to 10 the binary operators, 11 the unary ones. The outermost
 -- expression begins at start, and so many brackets are open as depth says. Binary operators group to the left: what
@@ -163,9 +163,9 @@ expr inside depth start n (Leaf a) = leaf inside a
 expr inside depth start n (Round at e) = opening depth symbol.OpenRound at ▹ expr inside (depth + 1) start 0 e ▹ mark symbol.CloseRound
 expr inside depth start n (Unary at s e) = counted start (unary_sign (at, s)) ▹ expr inside depth start 11 e
 expr inside depth start n (Binary l at s r) =
-    only_if (leb n (level s)) (expr inside depth start (level s) l ▹ counted start (binary_sign (at, s)) ▹ expr inside depth start (level s + 1) r)
+    only_if (nat_le n (level s)) (expr inside depth start (level s) l ▹ counted start (binary_sign (at, s)) ▹ expr inside depth start (level s + 1) r)
 expr inside depth start n (Conditional c at a b) =
-    only_if (eqb n 0)
+    only_if (n == 0)
     (expr inside depth start 1 c ▹ counted start
     (placed symbol.Question at) ▹ expr inside depth start 0 a ▹ mark symbol.Colon ▹ expr inside depth start 0 b)
 

@@ -1,5 +1,6 @@
 -- Texts of tokens, and phrases in them; and the tokens of a text as the grammar sees them.
-use Rattle.std.specs.Prelude.{◌≡◌, ◌⊎◌, ℕ, ◌+◌, Bool, true, false, cond, eqb, leb, List, [], ◌∷◌, slice_index_or, ◌++◌, map, Option, slice_range}
+use Rattle.std.specs.Prelude.{◌≡◌, ◌⊎◌, ℕ, ◌+◌, Bool, true, false, if◌then◌else◌, ◌==◌, nat_le, List, [], ◌∷◌, slice_index_or, ◌++◌, map, Option}
+use Rattle.std.specs.Prelude.{slice_range}
 use Rattle.std.specs.Prelude.{Some, None}
 use Rattle.std.specs.List.{list_any}
 use Rattle.std.proofs.Common.{inl, inr}
@@ -37,7 +38,7 @@ symbol_at x i = (lexeme_at x i).symbol
 
 -- whether two symbols are one
 abbrev pub is : ℕ → ℕ → Bool
-is a b = eqb a b
+is a b = a == b
 
 -- What may refuse a token that the grammar else takes: a limit of depth, or a ban of a word.
 pub data Rule : Type 0 where
@@ -134,7 +135,7 @@ separated s P (a ∷ others) = P a ▹ many (s ⊳ P) others
 
 -- a bracket here would be the 65th that is open
 abbrev pub many_brackets : ℕ → Text → ℕ → Bool
-many_brackets depth x i = leb 64 depth
+many_brackets depth x i = nat_le 64 depth
 
 -- a phrase between brackets, of which so many others are open
 abbrev pub bracketed : {A : Type 0} → ℕ → ℕ → ℕ → Rel A → Rel A
@@ -142,7 +143,7 @@ bracketed depth open_mark close_mark P a = unless Depth (many_brackets depth) (m
 
 -- whether a symbol is one of a list
 abbrev pub is_in : List ℕ → ℕ → Bool
-is_in symbols s = list_any (λ d. eqb s d) symbols
+is_in symbols s = list_any (λ d. s == d) symbols
 
 -- what is made of a phrase
 abbrev pub made : {A C : Type 0} → (A → C) → Rel A → Rel C
@@ -153,7 +154,7 @@ made {A} make P c lifted x i j = (a : A) × (c ≡ make a) × P a lifted x i j
 -- the symbol that is spelled so, or another where none is
 abbrev pub symbol_among : List Spelled → ℕ → List ℕ → ℕ
 symbol_among [] otherwise octets = otherwise
-symbol_among (s ∷ others) otherwise octets = cond (bytes_eq octets s.octets) s.symbol (symbol_among others otherwise octets)
+symbol_among (s ∷ others) otherwise octets = if bytes_eq octets s.octets then s.symbol else symbol_among others otherwise octets
 
 -- all words that are no mere names
 unfoldable pub words : List Spelled

@@ -1,5 +1,5 @@
 -- Members, parameters and arms over the numbers of their types, as the program makes them.
-use Rattle.std.specs.Prelude.{◌≡◌, ◌≤◌, ℕ, ◌^◌, Bool, true, false, ltb, nat_le, List, [], ◌∷◌, ◌++◌, map, length, Vec, Option, Some, None, is_none}
+use Rattle.std.specs.Prelude.{◌≡◌, ◌≤◌, ℕ, ◌^◌, Bool, true, false, nat_lt, nat_le, List, [], ◌∷◌, ◌++◌, map, length, Vec, Option, Some, None, is_none}
 use Rattle.std.specs.Prelude.{option_map, ℤ, pos, codes}
 use Rattle.std.specs.List.{flat_map, list_any}
 use Rattle.nd_types.specs.declared.types.TypeId.{TypeId}
@@ -59,7 +59,7 @@ tag_id ks t (Some k) = id (number_at ks t k)
 -- a bound of 32 bits
 abbrev pub is_narrow : Option ℕ → Bool
 is_narrow None = true
-is_narrow (Some n) = ltb n (2 ^ 32)
+is_narrow (Some n) = nat_lt n (2 ^ 32)
 
 -- no more members or arms than an interface may have
 abbrev pub has_few_parts : TypeDef → Bool

@@ -1,5 +1,6 @@
 -- How an interface is listed for people: a line for its header, then the lines of each type that it declares, then those of each operation.
-use Rattle.std.specs.Prelude.{ℕ, ◌+◌, ◌^◌, ◌/◌, ◌%◌, zero, suc, Bool, true, false, cond, leb, List, [], ◌∷◌, ◌++◌, length, map, drop, Option, Some}
+use Rattle.std.specs.Prelude.{ℕ, ◌+◌, ◌^◌, ◌/◌, ◌%◌, zero, suc, Bool, true, false, if◌then◌else◌, nat_le, List, [], ◌∷◌, ◌++◌, length, map, drop}
+use Rattle.std.specs.Prelude.{Option, Some}
 use Rattle.std.specs.Prelude.{None, slice_get, codes, decimal}
 use Rattle.std.specs.List.{flat_map, enumerate_from}
 use Rattle.std.specs.Fmt.{signed_decimal}
@@ -66,7 +67,7 @@ side_word side.Out = codes "out"
 
 -- a digit of base 16, in lower case
 abbrev pub hex_digit : ℕ → ℕ
-hex_digit n = cond (leb n 9) (48 + n) (87 + n)
+hex_digit n = if nat_le n 9 then 48 + n else 87 + n
 
 -- the last k digits of a number in base 16
 abbrev pub hex_digits : ℕ → ℕ → List ℕ

@@ -1,5 +1,5 @@
 -- The walk through the files: each file by its attributes, then its imports, then its declarations. An import is walked in its place.
-use Rattle.std.specs.Prelude.{◌≡◌, ◌⊎◌, ℕ, ◌<◌, ◌≤◌, Bool, true, false, eqb, List, [], ◌∷◌, ◌++◌, length, map, drop, Option, Some, None, slice_get}
+use Rattle.std.specs.Prelude.{◌≡◌, ◌⊎◌, ℕ, ◌<◌, ◌≤◌, Bool, true, false, ◌==◌, List, [], ◌∷◌, ◌++◌, length, map, drop, Option, Some, None, slice_get}
 use Rattle.std.specs.Prelude.{Result, Ok, Err, position, option_map}
 use Rattle.std.specs.Str.{bytes_eq}
 use Rattle.std.specs.Str.Lossy.{utf8_lossy}
@@ -77,7 +77,7 @@ backslash = 92
 abbrev pub before_quote : List ℕ → List ℕ
 before_quote [] = []
 before_quote (c ∷ []) = []
-before_quote (c ∷ d ∷ rest) = elim (eqb c backslash) [ true ↦ escaped d ∷ before_quote rest | false ↦ c ∷ before_quote (d ∷ rest) ]
+before_quote (c ∷ d ∷ rest) = elim (c == backslash) [ true ↦ escaped d ∷ before_quote rest | false ↦ c ∷ before_quote (d ∷ rest) ]
 
 -- what a string spells between its quotes
 abbrev pub string_value : List ℕ → List ℕ
@@ -126,7 +126,7 @@ load_of file string = Load (place_in file string) (file_named string.octets)
 -- all of a file
 abbrev pub all_of : ℕ → Tree → List Due
 all_of file t =
-    map (Pass file) (attribute_steps t.attributes) ++ map (load_of file) (imports_of t) ++ map (Pass file) (declaration_steps (eqb file 0) t)
+    map (Pass file) (attribute_steps t.attributes) ++ map (load_of file) (imports_of t) ++ map (Pass file) (declaration_steps (file == 0) t)
     ++ End file t ∷ []
 
 -- A file is to be loaded: it is not there yet, and not one too many.

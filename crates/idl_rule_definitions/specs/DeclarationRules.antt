@@ -1,5 +1,5 @@
 -- The rules of declarations: of attributes in lists, of declarations, parameters and unions as they are written, of values and counts.
-use Rattle.std.specs.Prelude.{ℕ, ◌-◌, ℤ, pos, Bool, true, false, not, ◌&&◌, ◌||◌, eqb, ltb, List, [], ◌∷◌, ◌++◌, length, map, take, drop, Option}
+use Rattle.std.specs.Prelude.{ℕ, ◌-◌, ℤ, pos, Bool, true, false, not, ◌&&◌, ◌||◌, ◌==◌, nat_lt, List, [], ◌∷◌, ◌++◌, length, map, take, drop, Option}
 use Rattle.std.specs.Prelude.{Some, None, is_none, codes, int_le}
 use Rattle.std.specs.List.{list_any, flat_map}
 use Rattle.std.specs.Ordering.{int_eq}
@@ -48,13 +48,13 @@ is_repeated before a = has (word_of a.kind) before
 -- Rule 3: the header of the main file has uuid or local.
 
 abbrev pub lacks_uuid_and_local : Construct → Bool
-lacks_uuid_and_local c = eqb c.file 0 && not (has (codes "uuid") c.attributes) && not (has (codes "local") c.attributes)
+lacks_uuid_and_local c = c.file == 0 && not (has (codes "uuid") c.attributes) && not (has (codes "local") c.attributes)
 
 -- Rule 4: the numbers of a version are at most 65,535.
 
 abbrev pub is_past_65535 : Option ℕ → Bool
 is_past_65535 None = true
-is_past_65535 (Some n) = ltb 65535 n
+is_past_65535 (Some n) = nat_lt 65535 n
 
 abbrev pub is_large_minor : Option Spelling → Bool
 is_large_minor None = false

@@ -1,5 +1,5 @@
 -- What a file means that keeps the rules: its interface, with the table of types and the operations.
-use Rattle.std.specs.Prelude.{◌≡◌, ℕ, ◌+◌, ◌*◌, Bool, true, false, eqb, List, [], ◌∷◌, ◌++◌, map, Option, Some, None, option_map, ℤ, pos, negsuc}
+use Rattle.std.specs.Prelude.{◌≡◌, ℕ, ◌+◌, ◌*◌, Bool, true, false, ◌==◌, List, [], ◌∷◌, ◌++◌, map, Option, Some, None, option_map, ℤ, pos, negsuc}
 use Rattle.std.specs.Prelude.{codes}
 use Rattle.std.specs.List.{flat_map, list_all}
 use Rattle.nd_types.specs.declared.types.TypeId.{TypeId}
@@ -217,7 +217,7 @@ pub record HasIdentifiers (types : Table) (operations : List Operation) : Type 0
 -- the number of a UUID's digits, after those of n
 abbrev pub uuid_from : ℕ → List ℕ → ℕ
 uuid_from n [] = n
-uuid_from n (c ∷ cs) = elim (eqb c 45) [ true ↦ uuid_from n cs | false ↦ uuid_from (16 * n + digit_value c) cs ]
+uuid_from n (c ∷ cs) = elim (c == 45) [ true ↦ uuid_from n cs | false ↦ uuid_from (16 * n + digit_value c) cs ]
 
 abbrev pub uuid_said : AttributeKind → Option ℕ
 uuid_said (tree.Uuid u) = Some (uuid_from 0 u.octets)
@@ -249,7 +249,7 @@ header_meant s t = record {
 -- the main file is number 0
 abbrev pub main_among : List Ended → List Tree
 main_among [] = []
-main_among (f ∷ fs) = elim (eqb f.file 0) [ true ↦ f.tree ∷ [] | false ↦ main_among fs ]
+main_among (f ∷ fs) = elim (f.file == 0) [ true ↦ f.tree ∷ [] | false ↦ main_among fs ]
 
 -- The interface that the main file declares, beside the files that it imports.
 unfoldable pub meaning : World → List Meant

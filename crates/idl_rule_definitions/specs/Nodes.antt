@@ -1,5 +1,5 @@
 -- What the rules speak of: the files of a compilation, and all that is in them, as one list in the order of the text.
-use Rattle.std.specs.Prelude.{ℕ, ◌+◌, ℤ, pos, Bool, true, false, eqb, List, [], ◌∷◌, ◌++◌, length, map, Option, Some, None, Result, Ok, Err}
+use Rattle.std.specs.Prelude.{ℕ, ◌+◌, ℤ, pos, Bool, true, false, ◌==◌, List, [], ◌∷◌, ◌++◌, length, map, Option, Some, None, Result, Ok, Err}
 use Rattle.std.specs.List.{flat_map}
 use Rattle.nd_base.specs.declared.octets.Place.{Place}
 use Rattle.idl_grammar.specs.declared.words.Spelling.{Spelling}
@@ -285,7 +285,7 @@ header_of f = record {
 abbrev pub file_nodes : Ended → List Node
 file_nodes f =
     HeaderNode (header_of f) f.tree.attributes.at ∷ attribute_nodes (header_of f)
-    ++ flat_map (export_nodes (eqb f.file 0) (header_of f)) f.tree.exports
+    ++ flat_map (export_nodes (f.file == 0) (header_of f)) f.tree.exports
 
 -- The files stand in the order in which their resolving ended.
 unfoldable pub nodes : World → List Node

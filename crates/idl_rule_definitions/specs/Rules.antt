@@ -1,5 +1,5 @@
 -- Which rules of the language are broken, and where; and which of these is reported.
-use Rattle.std.specs.Prelude.{◌≡◌, ℕ, ◌+◌, Bool, true, false, ◌&&◌, ◌||◌, eqb, ltb, List, [], ◌∷◌, ◌++◌, map, Option, Some, None}
+use Rattle.std.specs.Prelude.{◌≡◌, ℕ, ◌+◌, Bool, true, false, ◌&&◌, ◌||◌, ◌==◌, nat_lt, List, [], ◌∷◌, ◌++◌, map, Option, Some, None}
 use Rattle.std.specs.List.{flat_map, list_any}
 use Rattle.nd_base.specs.declared.octets.Place.{Place}
 use Rattle.idl_scope.specs.Known.{Ended}
@@ -123,17 +123,17 @@ breaches w = breaches_in (scene_of w)
 -- how many files ended before this one
 abbrev pub rank_in : List Ended → ℕ → ℕ
 rank_in [] file = 0
-rank_in (f ∷ fs) file = elim (eqb f.file file) [ true ↦ 0 | false ↦ rank_in fs file + 1 ]
+rank_in (f ∷ fs) file = elim (f.file == file) [ true ↦ 0 | false ↦ rank_in fs file + 1 ]
 
 abbrev pub rank : World → ℕ → ℕ
 rank w file = rank_in w.files file
 
 abbrev pub place_before : World → Place → Place → Bool
-place_before w p q = ltb (rank w p.file) (rank w q.file) || eqb (rank w p.file) (rank w q.file) && ltb p.at q.at
+place_before w p q = nat_lt (rank w p.file) (rank w q.file) || rank w p.file == rank w q.file && nat_lt p.at q.at
 
 -- a lesser rule, or the same at an earlier place
 abbrev pub comes_before : World → Breach → Breach → Bool
-comes_before w a b = ltb a.rule b.rule || eqb a.rule b.rule && place_before w a.place b.place
+comes_before w a b = nat_lt a.rule b.rule || a.rule == b.rule && place_before w a.place b.place
 
 -- ### The first one
 
@@ -153,7 +153,7 @@ first_broken w = first_of w (breaches w)
 -- ### What that means
 
 abbrev pub same_breach : Breach → Breach → Bool
-same_breach a b = eqb a.rule b.rule && same_place a.place b.place
+same_breach a b = a.rule == b.rule && same_place a.place b.place
 
 -- one is in a list, and none in it comes before it
 pub record IsFirstOf (w : World) (bs : List Breach) (b : Breach) : Type 0 where

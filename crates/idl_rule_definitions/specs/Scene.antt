@@ -1,6 +1,6 @@
 -- The nodes of all files, each with the names of types that are declared before it.
 -- `t` is a type, `u` a declarator with its type, `b` a body, `place` the one by which a struct, union or enum is reported.
-use Rattle.std.specs.Prelude.{ℕ, suc, zero, Bool, true, false, eqb, ◌&&◌, List, [], ◌∷◌, ◌++◌, map, Option, Some, None, is_none, option_map}
+use Rattle.std.specs.Prelude.{ℕ, suc, zero, Bool, true, false, ◌==◌, ◌&&◌, List, [], ◌∷◌, ◌++◌, map, Option, Some, None, is_none, option_map}
 use Rattle.std.specs.List.{list_all, flat_map}
 use Rattle.nd_base.specs.declared.octets.Place.{Place}
 use Rattle.idl_grammar.specs.declared.types.SwitchType.{SwitchType}
@@ -56,7 +56,7 @@ place_of_type file (tree.Enum at tag es) = place_of_body file at tag
 place_of_type file _ = record { file = file; at = 0 }
 
 abbrev pub same_place : Place → Place → Bool
-same_place p q = eqb p.file q.file && eqb p.at q.at
+same_place p q = p.file == q.file && p.at == q.at
 
 abbrev pub body_by : Names → Node → List Body
 body_by names (BodyNode c body) = record { construct = c; names = names; body = body } ∷ []

@@ -1,5 +1,6 @@
 -- The rules of types: where each kind of type may stand; of arrays, texts and pipes; of pointers, and of the types of parameters.
-use Rattle.std.specs.Prelude.{ℕ, ◌+◌, zero, suc, ℤ, pos, Bool, true, false, not, ◌&&◌, ◌||◌, ltb, List, [], ◌∷◌, length, Option, Some, None, is_none}
+use Rattle.std.specs.Prelude.{ℕ, ◌+◌, zero, suc, ℤ, pos, Bool, true, false, not, ◌&&◌, ◌||◌, nat_lt, List, [], ◌∷◌, length, Option, Some, None}
+use Rattle.std.specs.Prelude.{is_none}
 use Rattle.std.specs.Prelude.{◌*ℤ◌, int_le}
 use Rattle.std.specs.List.{list_any, flat_map}
 use Rattle.nd_base.specs.declared.octets.Place.{Place}
@@ -201,7 +202,7 @@ is_member InMember = true
 is_member _ = false
 
 abbrev pub hoists_before_last : Scene → Use → Bool
-hoists_before_last s u = is_member u.construct.position && ltb (u.index + 1) (length u.list) && hoists s u.type
+hoists_before_last s u = is_member u.construct.position && nat_lt (u.index + 1) (length u.list) && hoists s u.type
 
 -- Rule 19: a union's arm does not hoist.
 

@@ -1,5 +1,5 @@
 -- For the code: what the rules ask of a declarator where it stands, over the numbers of its types.
-use Rattle.std.specs.Prelude.{◌≡◌, ◌+◌, Bool, ltb, not, ◌&&◌, eqb, List, [], ◌∷◌, ◌++◌, length}
+use Rattle.std.specs.Prelude.{◌≡◌, ◌+◌, Bool, nat_lt, not, ◌&&◌, List, [], ◌∷◌, ◌++◌, length}
 use Rattle.std.specs.List.{flat_map}
 use Rattle.idl_rules.specs.declared.asked.Asked.{Asked}
 use Rattle.idl_declared_types.specs.declared.kinds.Kind.{Kind}
@@ -31,7 +31,7 @@ use Rattle.idl_rule_definitions.specs.declared.rule.TheConstants as Rule
 
 -- others stand after it in its list
 abbrev pub is_followed : Use → Bool
-is_followed u = ltb (u.index + 1) (length u.list)
+is_followed u = nat_lt (u.index + 1) (length u.list)
 
 -- a declarator in the program's terms; what is not said there is that of another
 abbrev pub asked_use : List Kind → Asked → Use → Use

@@ -1,5 +1,6 @@
 -- What is known of names, and what each step of a file does to it (C706, section 4.2).
-use Rattle.std.specs.Prelude.{ℕ, ℤ, pos, Bool, true, false, cond, eqb, List, [], ◌∷◌, ◌++◌, map, Option, Some, None, Result, Ok, option_map, Vec}
+use Rattle.std.specs.Prelude.{ℕ, ℤ, pos, Bool, true, false, if◌then◌else◌, ◌==◌, List, [], ◌∷◌, ◌++◌, map, Option, Some, None, Result, Ok, option_map}
+use Rattle.std.specs.Prelude.{Vec}
 use Rattle.std.specs.Prelude.{◌+ℤ◌, Err}
 use Rattle.std.specs.List.{list_any}
 use Rattle.std.specs.Str.{bytes_eq}
@@ -30,7 +31,7 @@ abbrev pub ended : ℕ → Tree → Ended
 ended file tree = record { file = file; tree = tree }
 
 abbrev pub has_ended : List Ended → ℕ → Bool
-has_ended files file = list_any (λ e. eqb e.file file) files
+has_ended files file = list_any (λ e. e.file == file) files
 
 -- ## Tables by names: lists of names with what is there
 
@@ -150,7 +151,7 @@ tag_used file k kind tag false = Err (fault.Unknown (place_in file tag))
 -- where a name is in a list of members or parameters
 abbrev pub place_in_list : ℕ → List Spelling → List ℕ → Option Place
 place_in_list file [] name = None
-place_in_list file (s ∷ before) name = cond (bytes_eq name s.octets) (Some (place_in file s)) (place_in_list file before name)
+place_in_list file (s ∷ before) name = if bytes_eq name s.octets then Some (place_in file s) else place_in_list file before name
 
 abbrev pub tag_place : Known → List ℕ → Option Place
 tag_place k tag = option_map (λ d. d.place) (found tag k.tags)
@@ -176,14 +177,14 @@ passed file k (Evaluate e) = where_valued (value_in file k e) (λ z. k)
 passed file k (Enlist before name) = where_free (place_in_list file before name.octets) (place_in file name) k
 
 -- goes on from what is known
-abbrev pub then : Result Known NameFault → (Known → Result Known NameFault) → Result Known NameFault
-then (Ok k) next = next k
-then (Err f) next = Err f
+abbrev pub and_then : Result Known NameFault → (Known → Result Known NameFault) → Result Known NameFault
+and_then (Ok k) next = next k
+and_then (Err f) next = Err f
 
 -- what is known after steps in a file, or the first fault
 abbrev pub walked : ℕ → Known → List Step → Result Known NameFault
 walked file k [] = Ok k
-walked file k (s ∷ steps) = then (passed file k s) (λ next. walked file next steps)
+walked file k (s ∷ steps) = and_then (passed file k s) (λ next. walked file next steps)
 
 -- ### After all files
 

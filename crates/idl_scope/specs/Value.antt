@@ -1,5 +1,6 @@
 -- The value of a constant expression (C706, section 4.2.7).
-use Rattle.std.specs.Prelude.{ℕ, ◌-◌, ◌^◌, ℤ, pos, Bool, true, false, not, ◌&&◌, ◌||◌, cond, eqb, ltb, negsuc, bit_and, bit_or, bit_xor, leb, ◌+ℤ◌}
+use Rattle.std.specs.Prelude.{ℕ, ◌-◌, ◌^◌, ℤ, pos, Bool, true, false, not, ◌&&◌, ◌||◌, if◌then◌else◌, ◌==◌, nat_lt, negsuc, bit_and, bit_or, bit_xor}
+use Rattle.std.specs.Prelude.{nat_le, ◌+ℤ◌}
 use Rattle.std.specs.Prelude.{◌-ℤ◌, ◌*ℤ◌, neg_ℤ, int_lt, int_le, int_div, int_rem, List, ◌∷◌, Option, Some, None, Result, Ok, is_some, Err}
 use Rattle.std.specs.Int.{bit_at, int_shr}
 use Rattle.idl_lexer.specs.Pieces.{number_of}
@@ -24,11 +25,11 @@ use Rattle.idl_scope.specs.declared.meaning.Meaning.TheVariants as meaning
 
 -- what an operator may give: from -2^63 to 2^64 - 1
 abbrev pub is_in_range : ℤ → Bool
-is_in_range (pos n) = ltb n (2 ^ 64)
-is_in_range (negsuc n) = ltb n (2 ^ 63)
+is_in_range (pos n) = nat_lt n (2 ^ 64)
+is_in_range (negsuc n) = nat_lt n (2 ^ 63)
 
 abbrev pub is_zero : ℤ → Bool
-is_zero (pos n) = eqb n 0
+is_zero (pos n) = n == 0
 is_zero (negsuc n) = false
 
 -- 1 for what holds, 0 for what does not
@@ -37,10 +38,10 @@ truth true = pos 1
 truth false = pos 0
 
 abbrev pub are_equal : ℤ → ℤ → Bool
-are_equal (pos a) (pos b) = eqb a b
+are_equal (pos a) (pos b) = a == b
 are_equal (pos a) (negsuc b) = false
 are_equal (negsuc a) (pos b) = false
-are_equal (negsuc a) (negsuc b) = eqb a b
+are_equal (negsuc a) (negsuc b) = a == b
 
 -- ### Two's complement of unlimited width
 
@@ -102,7 +103,7 @@ in_range at z = elim (is_in_range z) [ true ↦ Ok z | false ↦ fails OutOfRang
 
 -- the value of a shift, by 0 to 63 places
 abbrev pub shifted : ℕ → (ℕ → ℤ) → ℤ → Outcome
-shifted at by (pos k) = elim (leb k 63) [ true ↦ in_range at (by k) | false ↦ fails OutOfRange at ]
+shifted at by (pos k) = elim (nat_le k 63) [ true ↦ in_range at (by k) | false ↦ fails OutOfRange at ]
 shifted at by (negsuc k) = fails OutOfRange at
 
 -- what a division gives, by a divisor that is not 0
@@ -147,12 +148,12 @@ is_decided _ a = false
 -- what C's escapes \a \b \f \n \r \t \v stand for; any other character after a backslash stands for itself
 abbrev pub escaped : ℕ → ℕ
 escaped c =
-    cond (eqb c 97) 7
-    (cond (eqb c 98) 8 (cond (eqb c 102) 12 (cond (eqb c 110) 10 (cond (eqb c 114) 13 (cond (eqb c 116) 9 (cond (eqb c 118) 11 c))))))
+    if c == 97 then 7 else (if c == 98 then 8 else (if c == 102 then 12 else (if c == 110 then 10
+    else (if c == 114 then 13 else (if c == 116 then 9 else (if c == 118 then 11 else c))))))
 
 -- the value of a character between its quotes: that of its octet, or of its escape
 abbrev pub character_value : List ℕ → ℕ
-character_value (quote ∷ c ∷ d ∷ rest) = cond (eqb c 92) (escaped d) c
+character_value (quote ∷ c ∷ d ∷ rest) = if c == 92 then escaped d else c
 character_value _ = 0
 
 abbrev pub number_or_fault : ℕ → Option ℕ → Outcome
@@ -201,7 +202,7 @@ or_else (Some at) other = Some at
 or_else None other = other
 
 abbrev pub unknown_operand : (List ℕ → Option Meaning) → Operand → Option ℕ
-unknown_operand meanings (operand.Name s) = cond (is_some (meanings s.octets)) None (Some s.at)
+unknown_operand meanings (operand.Name s) = if is_some (meanings s.octets) then None else Some s.at
 unknown_operand meanings _ = None
 
 -- where the first name of an expression stands that is not known, evaluated or not
@@ -217,7 +218,7 @@ abbrev pub first_fault : Option ℕ → Outcome → Result ℤ ExpressionFault
 first_fault None (Ok z) = Ok z
 first_fault None (Err f) = Err (fault.Const f)
 first_fault (Some at) (Ok z) = Err (fault.Unknown at)
-first_fault (Some at) (Err f) = Err (cond (leb at f.at) (fault.Unknown at) (fault.Const f))
+first_fault (Some at) (Err f) = Err (if nat_le at f.at then fault.Unknown at else fault.Const f)
 
 -- what an expression comes to in its place, where all its names have to be known
 abbrev pub evaluated : (List ℕ → Option Meaning) → Expr → Result ℤ ExpressionFault

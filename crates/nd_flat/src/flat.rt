@@ -1,5 +1,5 @@
 // Graphs kept flat: all nodes in one list, of which each root and each cell has a span.
-ghost use Rattle.std.specs.Prelude.{◌≡◌, ◌<◌, suc, length, slice_get, get_or, IfOk};
+ghost use Rattle.std.specs.Prelude.{◌≡◌, ◌<◌, suc, length, slice_get, slice_index_or, IfOk};
 ghost use Rattle.nd_value.specs.Tree.{more, none};
 
 use crate::node::Node;
@@ -147,7 +147,7 @@ ghost use Rattle.nd_flat.specs.Store.{HasSpan, chosen_span, no_span, no_cell};
 // The span of a root by its place.
 fn root_span(roots: &[Span], at: usize) -> Span
     requires { at < length roots.now }
-    ensures { result ≡ get_or roots.now at no_span }
+    ensures { result ≡ slice_index_or roots.now at no_span }
 {
     roots[at]
 }
@@ -155,7 +155,7 @@ fn root_span(roots: &[Span], at: usize) -> Span
 // The span of a cell by its place.
 fn cell_span(cells: &[CellSpan], at: usize) -> Span
     requires { at < length cells.now }
-    ensures { result ≡ (get_or cells.now at no_cell).span }
+    ensures { result ≡ (slice_index_or cells.now at no_cell).span }
 {
     cells[at].span
 }
@@ -163,7 +163,7 @@ fn cell_span(cells: &[CellSpan], at: usize) -> Span
 // The type of a cell by its place.
 fn type_in(cells: &[CellSpan], at: usize) -> TypeId
     requires { at < length cells.now }
-    ensures { result ≡ (get_or cells.now at no_cell).of }
+    ensures { result ≡ (slice_index_or cells.now at no_cell).of }
 {
     cells[at].of
 }

@@ -1,5 +1,6 @@
 -- Where octets refuse an entry of a stream, and why; and the first place at which octets are refused.
-use Rattle.std.specs.Prelude.{◌≡◌, ℕ, ◌+◌, ℤ, Bool, true, false, not, ◌&&◌, ◌||◌, cond, eqb, ltb, List, [], ◌∷◌, ◌++◌, length, Option, Some, None}
+use Rattle.std.specs.Prelude.{◌≡◌, ℕ, ◌+◌, ℤ, Bool, true, false, not, ◌&&◌, ◌||◌, if◌then◌else◌, ◌==◌, nat_lt, List, [], ◌∷◌, ◌++◌, length, Option}
+use Rattle.std.specs.Prelude.{Some, None}
 use Rattle.std.specs.Prelude.{option_map}
 use Rattle.std.specs.Ordering.{int_eq}
 use Rattle.std.specs.List.{AllByRecursion}
@@ -35,7 +36,7 @@ abbrev pub is_long : ℕ → Kind → Bool
 is_long at (Align n) = false
 is_long at (Test attr wanted found) = false
 is_long at Unread = false
-is_long at x = ltb STREAM_LIMIT (at + size_at at x)
+is_long at x = nat_lt STREAM_LIMIT (at + size_at at x)
 
 -- what octets hold for an enumerated type is a value of it, one of its enumerators; others have no enumerators
 abbrev pub is_enumerator : Option (List ℤ) → ℤ → Bool
@@ -50,8 +51,8 @@ is_selected (Some a) = true
 -- a text's octets with its terminator: the first zero before the last, else a last octet that is not zero
 abbrev pub text_refusal : ℕ → List ℕ → Option (ℕ × Reason)
 text_refusal at [] = None
-text_refusal at (b ∷ []) = cond (eqb b 0) None (Some (at, reason.TextUnended))
-text_refusal at (b ∷ c ∷ bs) = cond (eqb b 0) (Some (at, reason.TextZero)) (text_refusal (at + 1) (c ∷ bs))
+text_refusal at (b ∷ []) = if b == 0 then None else Some (at, reason.TextUnended)
+text_refusal at (b ∷ c ∷ bs) = if b == 0 then Some (at, reason.TextZero) else text_refusal (at + 1) (c ∷ bs)
 
 -- the entry that an attribute speaks of: the maximum count, the offset, the actual count (for the last index too), the tag
 abbrev pub kind_agrees : Attr → Kind → Bool
@@ -70,8 +71,8 @@ is_max _ = false
 
 -- two homes are one
 abbrev pub same_home : Home → Home → Bool
-same_home (home.Root i) (home.Root j) = eqb i j
-same_home (home.Cell c) (home.Cell d) = eqb c.0 d.0
+same_home (home.Root i) (home.Root j) = i == j
+same_home (home.Cell c) (home.Cell d) = c.0 == d.0
 same_home _ _ = false
 
 -- The place of the count or tag that an attribute speaks of, among earlier entries. A home has at most one maximum count before
@@ -79,19 +80,19 @@ same_home _ _ = false
 abbrev pub tested_at : List EntryAt → Attr → Home → ℕ → Option ℕ
 tested_at [] a h n = None
 tested_at (x ∷ xs) a h n =
-    cond (kind_agrees a x.entry.kind && same_home x.entry.home h && (is_max x.entry.kind || eqb x.entry.node n))
-    (Some x.at) (tested_at xs a h n)
+    if kind_agrees a x.entry.kind && same_home x.entry.home h && (is_max x.entry.kind || x.entry.node == n)
+    then Some x.at else tested_at xs a h n
 
 -- a full pointer to another type of referent: types are compared by their numbers
 abbrev pub other_pointee : Kind → ℕ → Bool
-other_pointee (Number Full to cell) to' = not (eqb to to')
+other_pointee (Number Full to cell) to' = not (to == to')
 other_pointee _ to' = false
 
 -- an earlier full pointer has this number and another type of referent
 abbrev pub is_other : Order → List ℕ → List EntryAt → ℕ → ℕ → Bool
 is_other order octets [] v to = false
 is_other order octets (x ∷ xs) v to =
-    other_pointee x.entry.kind to && eqb (unsigned order (piece octets x.at x.entry.kind)) v || is_other order octets xs v to
+    other_pointee x.entry.kind to && unsigned order (piece octets x.at x.entry.kind) == v || is_other order octets xs v to
 
 -- a refusal where a test holds, else what comes later
 abbrev pub refused_if : Bool → ℕ × Reason → Option (ℕ × Reason) → Option (ℕ × Reason)
@@ -110,15 +111,15 @@ kind_refusal order octets earlier at m (Tag p values arms default z) os =
     refused_if (not (is_enumerator values (value_of_octets order p os))) (at, reason.EnumValue)
     (refused_if (not (is_selected (selected arms default (value_of_octets order p os)))) (at, reason.NoArm) None)
 kind_refusal order octets earlier at m (Offset true v) os =
-    refused_if (not (eqb (unsigned order os) 0)) (at, reason.TextOffset) None
+    refused_if (not (unsigned order os == 0)) (at, reason.TextOffset) None
 kind_refusal order octets earlier at m (Actual of_text offset limit v) os =
-    refused_if (of_text && eqb (unsigned order os) 0) (at, reason.TextEmpty)
-    (refused_if (ltb limit (offset + unsigned order os)) (at, reason.PastBound) None)
+    refused_if (of_text && unsigned order os == 0) (at, reason.TextEmpty)
+    (refused_if (nat_lt limit (offset + unsigned order os)) (at, reason.PastBound) None)
 kind_refusal order octets earlier at m (Text text) os = text_refusal at os
 kind_refusal order octets earlier at m (Number Full to cell) os =
-    refused_if (not (eqb (unsigned order os) 0) && is_other order octets earlier (unsigned order os) to) (at, reason.OtherType) None
+    refused_if (not (unsigned order os == 0) && is_other order octets earlier (unsigned order os) to) (at, reason.OtherType) None
 kind_refusal order octets earlier at m (Test a wanted found) os =
-    cond (int_eq wanted found) None (option_map (λ place. (place, reason.Disagrees wanted found)) (tested_at earlier a m.home m.node))
+    if int_eq wanted found then None else option_map (λ place. (place, reason.Disagrees wanted found)) (tested_at earlier a m.home m.node)
 kind_refusal order octets earlier at m _ os = None
 
 -- The place and the reason for which octets refuse an entry that stands after earlier ones, or none. First TooLong, at the limit;
@@ -126,7 +127,7 @@ kind_refusal order octets earlier at m _ os = None
 abbrev pub refusal : Order → List ℕ → List EntryAt → EntryAt → Option (ℕ × Reason)
 refusal order octets earlier x =
     refused_if (is_long x.at x.entry.kind) (STREAM_LIMIT, reason.TooLong)
-    (refused_if (ltb (length octets) (x.at + size_at x.at x.entry.kind)) (length octets, reason.Truncated)
+    (refused_if (nat_lt (length octets) (x.at + size_at x.at x.entry.kind)) (length octets, reason.Truncated)
     (kind_refusal order octets earlier x.at x.entry x.entry.kind (piece octets x.at x.entry.kind)))
 
 -- none of these entries is refused, each after the earlier ones

@@ -1,5 +1,5 @@
 -- The streams of a graph, when octets are a stream of it (C706 14: the representation of a value), and the one stream that is written.
-use Rattle.std.specs.Prelude.{◌≡◌, ℕ, ◌+◌, ◌-◌, ◌<◌, ◌≤◌, ◌^◌, zero, suc, true, false, ltb, List, [], ◌∷◌, ◌++◌, length, take, drop, flat_map}
+use Rattle.std.specs.Prelude.{◌≡◌, ℕ, ◌+◌, ◌-◌, ◌<◌, ◌≤◌, ◌^◌, zero, suc, true, false, nat_lt, List, [], ◌∷◌, ◌++◌, length, take, drop, flat_map}
 use Rattle.std.specs.Prelude.{replicate, sum, reverse, Option, Some, None}
 use Rattle.std.specs.List.{AllByRecursion}
 use Rattle.nd_base.specs.declared.octets.Order.{Order}
@@ -216,7 +216,7 @@ abbrev pub cut_within : ℕ → ℕ → ℕ → List ℕ
 cut_within zero k n = []
 cut_within (suc fuel) k zero = []
 cut_within (suc fuel) k (suc n) =
-    elim (ltb (suc n) k) [ true ↦ suc n ∷ [] | false ↦ k ∷ cut_within fuel k (suc n - k) ]
+    elim (nat_lt (suc n) k) [ true ↦ suc n ∷ [] | false ↦ k ∷ cut_within fuel k (suc n - k) ]
 
 -- the same, of as many chunks as it takes
 abbrev pub cut_of : ℕ → ℕ → List ℕ

@@ -1,5 +1,5 @@
 -- Reading a whole stream: the roots and the referents that they make due, the agreements of the parameters, the pipes.
-use Rattle.std.specs.Prelude.{ℕ, ◌+◌, suc, zero, Bool, true, false, eqb, ◌||◌, List, [], ◌∷◌, ◌++◌, length, drop, replicate, Option, Some, None}
+use Rattle.std.specs.Prelude.{ℕ, ◌+◌, suc, zero, Bool, true, false, ◌==◌, ◌||◌, List, [], ◌∷◌, ◌++◌, length, drop, replicate, Option, Some, None}
 use Rattle.std.specs.List.{slice_get}
 use Rattle.nd_base.specs.declared.octets.Order.{Order}
 use Rattle.nd_types.specs.declared.types.TypeDef.{TypeDef}
@@ -38,7 +38,7 @@ graph_of roots s = record { roots = roots; cells = s.cells }
 
 abbrev pub stands_among : Placed_cells → ℕ → Bool
 stands_among [] c = false
-stands_among (d ∷ ds) c = eqb c d.1 || stands_among ds c
+stands_among (d ∷ ds) c = c == d.1 || stands_among ds c
 
 -- the referent of a full pointer stands once
 abbrev pub stood : Class → Placed_cells → ℕ → Bool
@@ -144,7 +144,7 @@ module _ (w : Setting) (order : Order) (octets : List ℕ) where
       let q : Progress = pass order octets (entry (Chunk k)) gap in
       let kids : ReadAll = read_list w.table (read_in_place order octets w.table h 32 0) (replicate k elem) n q s in
       let others : ReadPipe = read_chunks more_chunks h elem (n + node_count kids.trees) kids.progress kids.names in
-      elim (eqb k 0) [
+      elim (k == 0) [
         | true ↦ record { trees = none; cut = []; progress = q; names = s }
         | false ↦ record { trees = joined kids.trees others.trees; cut = k ∷ others.cut; progress = others.progress; names = others.names }
       ]

@@ -1,5 +1,6 @@
 -- When two graphs are the same, and the order of a graph's cells.
-use Rattle.std.specs.Prelude.{◌≡◌, ◌⊎◌, ℕ, ◌+◌, ◌<◌, ◌≤◌, zero, suc, Bool, true, false, cond, eqb, List, [], ◌∷◌, ◌++◌, length, map, flat_map, Option}
+use Rattle.std.specs.Prelude.{◌≡◌, ◌⊎◌, ℕ, ◌+◌, ◌<◌, ◌≤◌, zero, suc, Bool, true, false, if◌then◌else◌, ◌==◌, List, [], ◌∷◌, ◌++◌, length, map}
+use Rattle.std.specs.Prelude.{flat_map, Option}
 use Rattle.std.specs.Prelude.{Some, None}
 use Rattle.std.specs.List.{slice_get}
 use Rattle.nd_types.specs.Table.{Table}
@@ -70,16 +71,16 @@ named_cells w g steps = flat_map (step_names w g) steps
 -- a cell is among them
 abbrev pub has : List ℕ → ℕ → Bool
 has [] c = false
-has (d ∷ ds) c = cond (eqb c d) true (has ds c)
+has (d ∷ ds) c = if c == d then true else has ds c
 
 -- The number of a cell, counting the named cells from n on, each once; those of `seen` were counted before. (By `elim`, since
--- `cond` computes both of its branches.)
+-- `if` computes both of its branches.)
 abbrev pub number_from : ℕ → List ℕ → List ℕ → ℕ → ℕ
 number_from n seen [] c = 0
 number_from n seen (d ∷ ds) c =
     elim (has seen d) [
       | true ↦ number_from n seen ds c
-      | false ↦ elim (eqb c d) [ true ↦ n | false ↦ number_from (n + 1) (d ∷ seen) ds c ]
+      | false ↦ elim (c == d) [ true ↦ n | false ↦ number_from (n + 1) (d ∷ seen) ds c ]
     ]
 
 -- the number of a cell by the order in which cells are named; 0 for one that is not named

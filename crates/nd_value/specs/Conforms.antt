@@ -1,5 +1,6 @@
 -- When a graph conforms to a side of an operation, what a partial graph is, and the first place at which a graph does not conform.
-use Rattle.std.specs.Prelude.{◌≡◌, ℕ, ◌+◌, ◌<◌, ◌≤◌, ◌^◌, Bool, true, false, not, ◌&&◌, cond, eqb, ltb, List, [], ◌∷◌, ◌++◌, length, map, Option}
+use Rattle.std.specs.Prelude.{◌≡◌, ℕ, ◌+◌, ◌<◌, ◌≤◌, ◌^◌, Bool, true, false, not, ◌&&◌, if◌then◌else◌, ◌==◌, nat_lt, List, [], ◌∷◌, ◌++◌, length, map}
+use Rattle.std.specs.Prelude.{Option}
 use Rattle.std.specs.Prelude.{Some, None}
 use Rattle.std.specs.List.{list_all, AllByRecursion, list_any}
 use Rattle.std.specs.Ordering.{int_eq}
@@ -172,7 +173,7 @@ first_node test (x ∷ xs) = or_later (at_node x (test x.typed)) (first_node tes
 -- another number of roots than the side has: at the first that is missing or too many
 abbrev pub root_count : ℕ → ℕ → Option MisfitAt
 root_count has due =
-    cond (eqb has due) None (Some (record { home = home.Root (cond (ltb has due) has due); node = 0; reason = misfit.Shape }))
+    if has == due then None else Some (record { home = home.Root (if nat_lt has due then has else due); node = 0; reason = misfit.Shape })
 
 -- the first pass: a node that has a misfit by itself. A wrong number of roots comes after the roots that are there.
 abbrev pub first_local : Setting → Graph → Option MisfitAt
@@ -187,7 +188,7 @@ is_full _ = false
 
 -- two pointers name one cell
 abbrev pub same_cell : Option ℕ → Option ℕ → Bool
-same_cell (Some c) (Some d) = eqb c d
+same_cell (Some c) (Some d) = c == d
 same_cell _ _ = false
 
 -- two pointers name one cell and are not both full
@@ -198,7 +199,7 @@ clashes p q = same_cell p.cell q.cell && not (is_full p.class && is_full q.class
 abbrev pub first_shared : List Pending → List Pending → Option MisfitAt
 first_shared earlier [] = None
 first_shared earlier (p ∷ ps) =
-    cond (list_any (clashes p) earlier) (Some (record { home = p.home; node = p.node; reason = misfit.Shared })) (first_shared (p ∷ earlier) ps)
+    if list_any (clashes p) earlier then Some (record { home = p.home; node = p.node; reason = misfit.Shared }) else first_shared (p ∷ earlier) ps
 
 -- the third pass: the first cell that is not reached
 pub record IsFirstUnreached (w : Setting) (g : Graph) (c : ℕ) : Type 0 where
@@ -210,7 +211,7 @@ pub record IsFirstUnreached (w : Setting) (g : Graph) (c : ℕ) : Type 0 where
 abbrev pub disagreement : Tree → List Agreement → Option MisfitReason
 disagreement t [] = None
 disagreement t (a ∷ rest) =
-    cond (int_eq a.wanted (found_in a.attr t)) (disagreement t rest) (Some (misfit.Disagrees a.wanted (found_in a.attr t)))
+    if int_eq a.wanted (found_in a.attr t) then disagreement t rest else Some (misfit.Disagrees a.wanted (found_in a.attr t))
 
 -- the same of the subject, where there is one
 abbrev pub disagreement_of : List Tree → List Agreement → Option MisfitReason

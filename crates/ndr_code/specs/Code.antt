@@ -1,5 +1,5 @@
 -- The code of a plan: one list of instructions for a table of types and its operations, the address of each run in it, and the lines beside it.
-use Rattle.std.specs.Prelude.{ℕ, ◌+◌, ◌*◌, suc, ℤ, Bool, true, false, ◌==◌, not, eqb, if◌then◌else◌, List, [], ◌∷◌, ◌++◌, length, map, flat_map}
+use Rattle.std.specs.Prelude.{ℕ, ◌+◌, ◌*◌, suc, ℤ, Bool, true, false, ◌==◌, not, if◌then◌else◌, List, [], ◌∷◌, ◌++◌, length, map, flat_map}
 use Rattle.std.specs.Prelude.{filter, take, Option, Some, None}
 use Rattle.std.specs.List.{enumerate_from}
 use Rattle.nd_types.specs.declared.types.TypeId.{TypeId}
@@ -33,7 +33,7 @@ id t = record { 0 = t }
 
 -- a gap, left out for 1
 abbrev pub gap_run : ℕ → List Instr
-gap_run n = elim (eqb n 1) [ true ↦ [] | false ↦ op.Align n ∷ [] ]
+gap_run n = elim (n == 1) [ true ↦ [] | false ↦ op.Align n ∷ [] ]
 
 -- the run of an arm; address 0 where the arm is empty
 abbrev pub arm_run : (ℕ → ℕ) → Option TypeId → ℕ

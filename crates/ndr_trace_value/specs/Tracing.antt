@@ -3,7 +3,7 @@
 -- are the entries that are due, agreements apart.
 use Rattle.std.specs.Prelude.{◌≡◌, ◌⊎◌, ◌<◌, ◌≤◌, ◌+◌, ◌-◌, ◌^◌, ℕ, ℤ, pos, Bool, true, false, List, [], ◌∷◌, ◌++◌, drop, length, reverse, take}
 use Rattle.std.specs.Prelude.{IsSome, Option, None, Some}
-use Rattle.std.specs.Prelude.{eqb, ltb, option_map}
+use Rattle.std.specs.Prelude.{◌==◌, nat_lt, option_map}
 use Rattle.std.specs.List.{slice_get}
 use Rattle.nd_base.specs.declared.octets.Order.{Order}
 use Rattle.nd_types.specs.Number.{AreOctets}
@@ -86,7 +86,7 @@ sought_variable k (Some i) =
 -- what is kept of the item that is sought, once it is among the first items of the log
 abbrev pub kept_by : (Option Item → List ℕ) → List Item → Option ℕ → ℕ → List ℕ
 kept_by its log None n = []
-kept_by its log (Some j) n = elim (ltb j n) [ true ↦ its (slice_get log j) | false ↦ [] ]
+kept_by its log (Some j) n = elim (nat_lt j n) [ true ↦ its (slice_get log j) | false ↦ [] ]
 
 abbrev pub kept : Known → ℕ → List ℕ
 kept k n = kept_by (sought_path k) k.log k.sought n
@@ -122,7 +122,7 @@ IsAt log n place = (i : Item) × (slice_get log n ≡ Some i) × (i.at ≡ place
 -- the next item is the one that is sought
 abbrev pub is_sought : Option Sought → ℕ → Bool
 is_sought None n = false
-is_sought (Some s) n = eqb s.item n
+is_sought (Some s) n = s.item == n
 
 abbrev pub either_path : Bool → List ℕ → List ℕ → List ℕ
 either_path true p q = p

@@ -1,5 +1,5 @@
 -- The fields of a PDU of a request or a response (C706 12.6), and the checks of a fragment.
-use Rattle.std.specs.Prelude.{ℕ, ◌+◌, ◌-◌, zero, suc, Bool, true, false, not, ◌&&◌, cond, eqb, ltb, List, [], ◌∷◌, ◌++◌, length, take, drop, Option}
+use Rattle.std.specs.Prelude.{ℕ, ◌+◌, ◌-◌, zero, suc, Bool, true, false, not, ◌&&◌, ◌==◌, nat_lt, List, [], ◌∷◌, ◌++◌, length, take, drop, Option}
 use Rattle.std.specs.Prelude.{Some, None, slice_index, bit_and, Result, Ok, Err}
 use Rattle.nd_base.specs.declared.octets.Order.{Order}
 use Rattle.nd_base.specs.declared.octets.Order.TheVariants.{Big, Little}
@@ -37,7 +37,7 @@ flags os = slice_index os 3
 
 -- whether these flags have a flag
 abbrev pub has : ℕ → ℕ → Bool
-has flag fs = not (eqb (bit_and fs flag) 0)
+has flag fs = not (bit_and fs flag == 0)
 
 -- the flags of the first fragment, of the last, and of a request that has an object UUID
 abbrev pub is_first : List ℕ → Bool
@@ -170,10 +170,10 @@ other_order (Some o) order = not (same_order o.order order)
 
 abbrev pub other_call : Option Opening → ℕ → Bool
 other_call None call = false
-other_call (Some o) call = not (eqb o.call call)
+other_call (Some o) call = not (o.call == call)
 
 abbrev pub differ : Option ℕ → Option ℕ → Bool
-differ (Some n) (Some m) = not (eqb n m)
+differ (Some n) (Some m) = not (n == m)
 differ _ _ = false
 
 abbrev pub other_operation : Option Opening → Option ℕ → Bool
@@ -182,18 +182,18 @@ other_operation (Some o) operation = differ o.opnum operation
 
 -- all octets that a header or fragment of this length has are there
 abbrev pub is_short : Before → ℕ → List ℕ → Check
-is_short s wide os = check (ltb (length os) wide) (s.at + length os) why.Short
+is_short s wide os = check (nat_lt (length os) wide) (s.at + length os) why.Short
 
 -- the checks of the header that all PDUs have
 abbrev pub common_checks : Wanted → Before → List ℕ → List Check
 common_checks want s os =
-    check (not (eqb (version os) 5)) s.at why.Version
-    ∷ check (not (eqb (pdu_type os) (type_of want))) (s.at + 2) why.Kind
+    check (not (version os == 5)) s.at why.Version
+    ∷ check (not (pdu_type os == type_of want)) (s.at + 2) why.Kind
     ∷ check (wrong_first s.opening (is_first os)) (s.at + 3) why.Flags
     ∷ check (is_refused (order_of_label (label os))) (s.at + 4) why.Label
     ∷ check (other_order s.opening (order_of os)) (s.at + 4) why.OtherOrder
-    ∷ check (ltb (fragment_length os) (header_length want os)) (s.at + 8) why.Length
-    ∷ check (not (eqb (authentication_length os) 0)) (s.at + 10) why.Auth
+    ∷ check (nat_lt (fragment_length os) (header_length want os)) (s.at + 8) why.Length
+    ∷ check (not (authentication_length os == 0)) (s.at + 10) why.Auth
     ∷ check (other_call s.opening (call_id os)) (s.at + 12) why.OtherCall
     ∷ []
 
@@ -203,8 +203,8 @@ common_checks want s os =
 abbrev pub whole_by : Option Opening → ℕ → ℕ → Option ℕ → ℕ → Bool → List Check
 whole_by opening at so_far operation part last =
     check (other_operation opening operation) (at + 22) why.OtherOperation
-    ∷ check (eqb part 0 && not last) (at + 8) why.EmptyPiece
-    ∷ check (ltb STREAM_LIMIT (so_far + part)) (at + 8) why.StubLong
+    ∷ check (part == 0 && not last) (at + 8) why.EmptyPiece
+    ∷ check (nat_lt STREAM_LIMIT (so_far + part)) (at + 8) why.StubLong
     ∷ []
 
 abbrev pub whole_checks : Wanted → Before → List ℕ → List Check

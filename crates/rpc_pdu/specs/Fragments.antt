@@ -1,5 +1,6 @@
 -- When octets are the fragments of a call, and where they are refused; what is joined of a source; and the fragments that stub data are split into.
-use Rattle.std.specs.Prelude.{◌≡◌, ◌⊎◌, ℕ, ◌+◌, ◌-◌, ◌<◌, ◌^◌, zero, suc, Bool, true, false, cond, leb, List, [], ◌∷◌, ◌++◌, length, take, drop}
+use Rattle.std.specs.Prelude.{◌≡◌, ◌⊎◌, ℕ, ◌+◌, ◌-◌, ◌<◌, ◌^◌, zero, suc, Bool, true, false, if◌then◌else◌, nat_le, List, [], ◌∷◌, ◌++◌, length, take}
+use Rattle.std.specs.Prelude.{drop}
 use Rattle.std.specs.Prelude.{Option, Some, None, ⊤}
 use Rattle.std.specs.Io.KnownBytes.{Consumes, IsAtEnd}
 use Rattle.nd_base.specs.declared.octets.Order.{Order}
@@ -200,7 +201,7 @@ label_octets Little = 16 ∷ 0 ∷ 0 ∷ 0 ∷ []
 
 -- the flags: first is 1, last is 2
 abbrev pub flags_for : Bool → Bool → ℕ
-flags_for first last = cond first 1 0 + cond last 2 0
+flags_for first last = (if first then 1 else 0) + (if last then 2 else 0)
 
 -- the operation number of a request; the cancel count and the reserved octet of a response
 abbrev pub head_octets : Order → Head → List ℕ
@@ -224,7 +225,7 @@ fragment order head call hint first last part = header order head call (flags_fo
 abbrev pub pieces_from : ℕ → Order → Head → ℕ → ℕ → ℕ → Bool → List ℕ → List ℕ
 pieces_from zero order head call hint size first stub = []
 pieces_from (suc fuel) order head call hint size first stub =
-    elim (leb (length stub) size) [
+    elim (nat_le (length stub) size) [
       | true ↦ fragment order head call hint first true stub
       | false ↦ fragment order head call hint first false (take size stub) ++ pieces_from fuel order head call hint size false (drop size stub)
     ]
