@@ -5,18 +5,21 @@
 
    Handles. A program keeps its handles itself. Each begins as DCEIDL_NONE, which holds nothing, and is used by its address. A call that fills a handle
    frees what it held before. To free a handle leaves it holding nothing, so it may be freed twice and used again. Values keep what they need of their
-   interface: either may be freed first.
+   interface: either may be freed first. DCEIDL_NONE is an initialiser; in memory that is allocated, write `*values = (dceidl_values)DCEIDL_NONE`, or
+   set it all to zero octets, which is the same.
 
    Answers. Each call but the frees answers a status. A handle that holds nothing, or not what the call needs, is answered by DCEIDL_EMPTY before anything
    else is looked at. Unless the answer is DCEIDL_OK, what a call would fill, set or write is as before, except that DCEIDL_SHORT sets the length or count
-   that is needed. The fault is filled at DCEIDL_REFUSED alone, and the number of a wrong node is set at DCEIDL_WRONG_NODE alone.
+   that is needed. The number of a wrong node is set at DCEIDL_WRONG_NODE alone, and the fault is filled at DCEIDL_REFUSED alone: after any other answer
+   it still is that of an earlier call.
 
    Buffers. At DCEIDL_OK a call has written as many octets or numbers to the front of a buffer as the length or count says, and the rest of it is as before.
    To learn how long a buffer must be, call with room 0 and the address of any octet: the length is set, and the answer is DCEIDL_SHORT, or
    DCEIDL_OK where the length is 0.
 
    What a program must do; otherwise the behaviour is undefined:
-   - A pointer is never null and is valid for its length, for a length of 0 too: dceidl_some makes such a pointer of a null one.
+   - A pointer is never null and is valid for its length, for a length of 0 too: dceidl_some makes such a pointer to octets of a null one. Where there
+     are no nodes, numbers or cells, any object of their type will do.
    - No two arguments of a call overlap, unless both are const.
    - A handle is DCEIDL_NONE before its first use, is not copied, and its parts are neither read nor written.
    - One call at a time uses a handle, and all calls with handles of one interface, and of its values, their nodes and items, are made by one thread.
@@ -37,11 +40,12 @@ extern "C" {
 enum dceidl_status {
     DCEIDL_OK = 0,
     DCEIDL_EMPTY = 1,    /* a handle holds nothing, or not what the call needs */
-    DCEIDL_ARGUMENT = 2, /* a number is out of range: an operation, a side, an order, a chunk, a file, a node; or a name is not UTF-8 */
+    DCEIDL_ARGUMENT = 2, /* a number is out of range, as an operation, a side, an order, a chunk, a file, a node; or a type, a node or values are of a kind
+                            that the call does not take; or the name of a file or of an operation is not UTF-8 */
     DCEIDL_MEMORY = 3,   /* out of memory */
     DCEIDL_SHORT = 4,    /* the buffer has too little room; the length that is needed is set */
     DCEIDL_REFUSED = 5,  /* the files, octets, text or values are refused; the fault says why */
-    DCEIDL_ABSENT = 6,   /* no operation, root or member has that name */
+    DCEIDL_ABSENT = 6,   /* no operation, root or member has that name; no root or member has one that is not UTF-8 */
     DCEIDL_WRONG_NODE = 7 /* a node of a listing is wrong; its number is set */
 };
 
@@ -57,7 +61,8 @@ enum dceidl_kind {
     DCEIDL_NEWER = 9      /* a newer version of an interface */
 };
 
-/* Why: the hundreds are the kind. Where the kind says all, the reason is 0. */
+/* Why: the hundreds are the kind. Where the kind says all, the reason is 0. The line that dceidl_fault_line writes has the reason as a word, as
+   `BadOctet`, or the one in backquotes here; `dceidl why WORD`, a command of the program, explains it with an example. */
 enum dceidl_reason {
     /* a file (docs/IDL.md) */
     DCEIDL_FILE_BAD_OCTET = 201,       /* an octet that cannot be there */
@@ -68,17 +73,17 @@ enum dceidl_reason {
     DCEIDL_FILE_TOO_LONG = 206,        /* more than 1,048,576 octets */
     DCEIDL_FILE_SYNTAX = 207,          /* no file of the language goes on so */
     DCEIDL_FILE_DEEP = 208,            /* brackets or operators nested more than 64 deep */
-    DCEIDL_FILE_LEFT_OUT = 209,        /* a word of the language that the compiler leaves out; it is the name */
+    DCEIDL_FILE_LEFT_OUT = 209,        /* `Banned`: a word of C706 that the compiler leaves out, as float; it is the name */
     DCEIDL_FILE_UNKNOWN = 210,         /* an unknown name */
     DCEIDL_FILE_TWICE = 211,           /* a name that is declared twice */
     DCEIDL_FILE_IMPORT_CYCLE = 212,    /* files that import each other */
     DCEIDL_FILE_TOO_MANY = 213,        /* the 65th file */
     DCEIDL_FILE_OUT_OF_RANGE = 214,    /* a value of an expression out of range */
     DCEIDL_FILE_ZERO_DIVISOR = 215,    /* a division by zero */
-    DCEIDL_FILE_NOT_CONSTANT = 216,    /* a name that is no integer constant */
-    DCEIDL_FILE_RULE = 217,            /* a rule that is broken; its number is set */
+    DCEIDL_FILE_NOT_CONSTANT = 216,    /* `NotConst`: a name that is no integer constant */
+    DCEIDL_FILE_RULE = 217,            /* `Rule N`: a rule that is broken; its number is set */
     /* octets (docs/NDR.md) */
-    DCEIDL_OCTETS_TRUNCATED = 301,     /* they end too early */
+    DCEIDL_OCTETS_TRUNCATED = 301,     /* they end too early; the place is how many there are */
     DCEIDL_OCTETS_TOO_LONG = 302,      /* the values would end after octet 67,108,864 */
     DCEIDL_OCTETS_ENUM_VALUE = 303,    /* no enumerator */
     DCEIDL_OCTETS_PAST_BOUND = 304,    /* offset and actual count end past the maximum count */
@@ -109,7 +114,7 @@ enum dceidl_reason {
     DCEIDL_VALUE_UNREACHED = 510,      /* nothing that is reached names the cell */
     DCEIDL_VALUE_DISAGREES = 511,      /* an attribute states another number: wanted and found are set */
     /* fragments (C706, section 12.6) */
-    DCEIDL_FRAGMENTS_SHORT = 701,      /* the octets end before the next fragment is whole */
+    DCEIDL_FRAGMENTS_SHORT = 701,      /* the octets end before the next fragment is whole; the place is how many there are */
     DCEIDL_FRAGMENTS_VERSION = 702,    /* the major version is not 5 */
     DCEIDL_FRAGMENTS_KIND = 703,       /* another type of PDU */
     DCEIDL_FRAGMENTS_FLAGS = 704,      /* the flag of a first fragment is not on the first alone */
@@ -119,7 +124,7 @@ enum dceidl_reason {
     DCEIDL_FRAGMENTS_AUTH = 708,       /* authentication data */
     DCEIDL_FRAGMENTS_OTHER_CALL = 709, /* another call id than that of the first */
     DCEIDL_FRAGMENTS_OTHER_OPERATION = 710, /* another operation than that of the first */
-    DCEIDL_FRAGMENTS_EMPTY = 711,      /* no stub data, and it is not the last */
+    DCEIDL_FRAGMENTS_EMPTY = 711,      /* `EmptyPiece`: no stub data, and it is not the last */
     DCEIDL_FRAGMENTS_STUB_LONG = 712,  /* more than 67,108,864 octets of stub data */
     /* a format label (C706, section 14.1) */
     DCEIDL_LABEL_BAD_ORDER = 801,      /* no known order of octets */
@@ -176,7 +181,7 @@ typedef struct {
     uint32_t kind;   /* of enum dceidl_kind */
     uint32_t reason; /* of enum dceidl_reason */
     uint32_t rule;   /* the number of the rule of docs/IDL.md that a file breaks */
-    uint32_t place;  /* OCTETS, FRAGMENTS: the number of the octet that is refused, from 0 */
+    uint32_t place;  /* OCTETS, FRAGMENTS: the number of the octet that is refused, from 0; where octets are missing, how many there are */
     uint64_t line;   /* FILE, TEXT: the line and column, from 1, in octets */
     uint64_t column;
     dceidl_number wanted; /* DISAGREES: the number that an attribute states, and the one that was found, both signed */
@@ -211,7 +216,8 @@ uint32_t dceidl_version(void);
 /* ---- Interfaces ---- */
 
 /* Compiles files[0] with what it imports, all among the files. `acf` is the number of the attribute configuration file among them, or 0 for none. Of two
-   files of one name the later counts. The texts are read during the call only.
+   files of one name the later counts. The texts are read during the call only. The language is that of docs/IDL.md; some of C706 is left out, such as
+   float and double, and refused as DCEIDL_FILE_LEFT_OUT.
    REFUSED: the fault is the first of the files, or names the first that was due and is not among them. ARGUMENT: count is 0, acf is not less than count,
    or the name of a file is not UTF-8. MEMORY. */
 uint32_t dceidl_compile(const dceidl_file *files, size_t count, size_t acf, dceidl_interface *interface, dceidl_fault *fault);
@@ -247,7 +253,7 @@ uint32_t dceidl_decode_response(dceidl_values *request, uint32_t order, const ui
                                 dceidl_fault *fault);
 
 /* The values of a side of an operation that a text is read as (docs/TEXT.md): the form is that which dceidl_text writes, so the text of similar values
-   shows it; blanks and line feeds may be anywhere between tokens.
+   shows it; blanks and line feeds may be anywhere between tokens. It begins with `values` and the version of the form, 1 or 2.
    REFUSED: the fault has the line and column of the first place at which the text is refused, or the path of the first value that does not conform.
    EMPTY; ARGUMENT: operation or side; MEMORY. */
 uint32_t dceidl_read(dceidl_interface *interface, uint32_t operation, uint32_t side, const uint8_t *text, size_t length, dceidl_values *values,
@@ -261,8 +267,8 @@ void dceidl_values_free(dceidl_values *values);
 /* The operation and the side that values are of. EMPTY. */
 uint32_t dceidl_values_of(dceidl_values *values, uint32_t *operation, uint32_t *side);
 
-/* Writes the text of values (docs/TEXT.md), without an end mark, and sets its length. Two values of one side have one text exactly if they are the same
-   up to the numbers of their cells. EMPTY, SHORT, MEMORY. */
+/* Writes the text of values (docs/TEXT.md), in version 2, without an end mark, and sets its length. Two values of one side have one text exactly if they
+   are the same up to the numbers of their cells. EMPTY, SHORT, MEMORY. */
 uint32_t dceidl_text(dceidl_values *values, uint8_t *out, size_t room, size_t *length);
 
 /* Writes the octets of values, and sets their length. Each chunk of a pipe has `chunk` elements, except the last, which may have fewer.
@@ -292,12 +298,12 @@ uint32_t dceidl_label_order(const uint8_t *octets, size_t length, uint32_t *orde
 /* Roots and members by their names. Types have numbers, the same for as long as the interface is held: a program asks once, and reads many values. */
 
 /* Sets the number of the first root of a side of an operation that has a name, that of a parameter or `return`, and its type. EMPTY; ARGUMENT:
-   operation or side; ABSENT. */
+   operation or side; ABSENT, also where the name is not UTF-8. */
 uint32_t dceidl_root_named(dceidl_interface *interface, uint32_t operation, uint32_t side, const uint8_t *name, size_t length, size_t *root,
                            uint32_t *type);
 
 /* Sets the index of the first member of a struct that has a name, as dceidl_node_part takes it, and its type. EMPTY; ARGUMENT: the type is not a struct;
-   ABSENT. */
+   ABSENT, also where the name is not UTF-8. */
 uint32_t dceidl_member_named(dceidl_interface *interface, uint32_t type, const uint8_t *name, size_t length, size_t *member, uint32_t *member_type);
 
 /* Sets the type of the elements of an array or a pipe, or of what a pointer points to. EMPTY; ARGUMENT: the type is another one. */
@@ -308,12 +314,12 @@ uint32_t dceidl_element_type(dceidl_interface *interface, uint32_t type, uint32_
 /* Values are read without their text as nodes, which have numbers from 0. Those of the roots come first, in the order of the text (docs/TEXT.md), and then
    those of the cells, the values that pointers point to. The parts of a node follow it, each with its own parts before the next one. */
 enum dceidl_node_kind {
-    DCEIDL_NUMBER = 1,  /* a number */
+    DCEIDL_NUMBER = 1,  /* a number; a char or byte is 0 to 255, a boolean 0 or 1 */
     DCEIDL_STRUCT = 2,  /* its parts are its members */
     DCEIDL_ARRAY = 3,   /* elements that are numbers are no nodes, but copied by dceidl_node_numbers or dceidl_node_bytes; others are its parts */
     DCEIDL_STRING = 4,  /* dceidl_node_octets copies it */
     DCEIDL_UNION = 5,   /* its part is the value of the arm that the tag selects, if the arm has one */
-    DCEIDL_POINTER = 6, /* dceidl_cell_node gives the node that it points to */
+    DCEIDL_POINTER = 6, /* dceidl_cell_node gives the node that it points to; a reference pointer is one too, also as a parameter, with its own cell */
     DCEIDL_CONTEXT = 7, /* a context handle; dceidl_node_octets copies its identifier */
     DCEIDL_PIPE = 8     /* all its elements, as those of an array */
 };
@@ -324,11 +330,11 @@ typedef struct {
     uint32_t parts;   /* how many parts are nodes */
     uint32_t count;   /* ARRAY, PIPE: how many elements there are */
     uint32_t numbers; /* ARRAY, PIPE: how many of these are numbers: all or none of them */
-    uint32_t max;     /* ARRAY, STRING: the maximum count; of an array of a fixed bound, that bound */
+    uint32_t max;     /* ARRAY, STRING: the maximum count, of a string with its end mark; if the bound is fixed, that bound */
     uint32_t offset;  /* ARRAY: the offset */
     uint64_t number;  /* NUMBER; UNION: the tag; POINTER: the cell, from 1, or 0 if it is null; CONTEXT: the attributes. It is in two's complement: of a
                          signed type the number is (int64_t)number */
-    size_t length;    /* STRING, CONTEXT: how many octets dceidl_node_octets copies */
+    size_t length;    /* STRING, CONTEXT: how many octets dceidl_node_octets copies, of a string without its end mark */
 } dceidl_node;
 
 /* Fills a handle with the nodes of values, which stay when the values are freed. The time and memory are in proportion to the values. EMPTY, MEMORY. */
@@ -344,7 +350,7 @@ uint32_t dceidl_home_counts(dceidl_nodes *nodes, size_t *roots, size_t *cells);
 uint32_t dceidl_root_node(dceidl_nodes *nodes, size_t root, size_t *number);
 uint32_t dceidl_cell_node(dceidl_nodes *nodes, uint32_t cell, size_t *number);
 
-/* Sets what a node says of itself; in constant time. EMPTY; ARGUMENT: no such node. */
+/* Sets what a node says of itself; in constant time. EMPTY; ARGUMENT: no such node: the first such number is the number of nodes. */
 uint32_t dceidl_node_at(dceidl_nodes *nodes, size_t number, dceidl_node *node);
 
 /* Sets the number of the node after one and all its parts: after a part, that is the next part. After the last of all it is the number of nodes. The time
@@ -372,10 +378,11 @@ uint32_t dceidl_cell_type(dceidl_values *values, uint32_t cell, uint32_t *type);
 /* ---- Listings ---- */
 
 /* Values that a program makes or changes are given as nodes, in the order in which values are read as nodes. What the calls above copy of values, node by
-   node, is their listing. Of each node the kind and the parts are looked at, and what applies to its kind. Cells are numbered from 1, in the order of `cells`. */
+   node, is their listing. Of each node the kind and the parts are looked at, and what applies to its kind. Cells are numbered from 1, in the order of `cells`.
+   No pointer is null, also where its count is 0: dceidl_some(NULL) serves for octets, and any object of the type for the others. */
 typedef struct {
     const dceidl_node *nodes; /* all nodes of the roots and then of the cells */
-    size_t node_count;
+    size_t node_count;        /* of nodes that were read: what dceidl_node_after sets of the last cell's node, or of the last root's without cells */
     const uint64_t *numbers;  /* all elements of arrays and pipes that are numbers */
     size_t number_count;
     const uint8_t *octets;    /* the octets of all strings, without end marks, and of all identifiers of context handles */
@@ -385,9 +392,10 @@ typedef struct {
 } dceidl_listing;
 
 /* The values of a side of an operation that a listing says; it is read during the call only. A response is not checked against its request.
-   WRONG_NODE: `node` is the number of the first node that is wrong: with those before it, no listing of that side begins so. It is node_count where nodes are
-   missing, or numbers or octets are left. REFUSED: the fault has the path of the first value that does not conform. EMPTY; ARGUMENT: operation or side, or
-   more than 1,073,741,824 nodes, numbers or cells; MEMORY. */
+   WRONG_NODE: `node` is the number of the first node that is wrong: with those before it, no listing of that side begins so. It is node_count where nodes
+   are missing, or numbers or octets are left. Where the type of a cell is wrong, it is the first node of the cell that does not fit that type; if all fit,
+   the values are refused. REFUSED: the fault has the path of the first value that does not conform. EMPTY; ARGUMENT: operation or side, or more than
+   1,073,741,824 nodes, numbers or cells; MEMORY. */
 uint32_t dceidl_build(dceidl_interface *interface, uint32_t operation, uint32_t side, const dceidl_listing *listing, dceidl_values *values, size_t *node,
                       dceidl_fault *fault);
 
@@ -406,7 +414,7 @@ enum dceidl_item_kind {
     DCEIDL_ITEM_REFERENT = 5,  /* the number of a pointer */
     DCEIDL_ITEM_TAG = 6,       /* the tag of a union */
     DCEIDL_ITEM_NUMBER = 7,    /* a number */
-    DCEIDL_ITEM_STRING = 8,    /* the elements of a string, with its end mark; number: its actual count */
+    DCEIDL_ITEM_STRING = 8,    /* the elements of a string, with its end mark; number: its actual count, with the mark */
     DCEIDL_ITEM_CONTEXT = 9,   /* a context handle */
     DCEIDL_ITEM_CHUNK = 10     /* the count of a chunk */
 };
