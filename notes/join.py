@@ -373,7 +373,8 @@ class Work:
 
     def rename_in(self, file, others, renames):
         for old, new in {**others, **renames}.items():
-            file.body = [rename_word(line, old, new) for line in file.body]
+            if not any(it.short == old for it in file.imports):
+                file.body = [rename_word(line, old, new) for line in file.body]
         for it in file.imports:
             it.names = [(name, others.get(short, short)) for name, short in it.names]
             if it.short in others:
@@ -779,7 +780,9 @@ def rename_head(line, old, new):
 
 
 def rename_word(line, old, new):
-    return re.sub(r"(?<![^\s(){}\[\],;¬λ])" + re.escape(old) + r"(?![^\s(){}\[\],;.])", new, line)
+    at = re.search(r"(?:^|\s)--(?:\s|$)", line)
+    at = at.start() if at else len(line)
+    return re.sub(r"(?<![^\s(){}\[\],;¬λ])" + re.escape(old) + r"(?![^\s(){}\[\],;.])", new, line[:at]) + line[at:]
 
 
 def main():
