@@ -122,6 +122,34 @@ impl FlatGraph {
         )
     }
 
+    /// The walk over a root, as one that gives nodes that are kept one by one. Takes no memory.
+    #[inline(always)]
+    pub fn root_plain_walk(&self, at: usize) -> PlainWalk<'_>
+        requires { at < length self.now.roots }
+        ensures { result ≡ more (root_at self.now at) none }
+    {
+        let span = root_span(self.roots.as_slice(), at);
+        let nodes = self.nodes.as_slice();
+        PlainWalk::over(
+            &nodes[span.from..span.from + span.len],
+            self.octets.as_slice(),
+        )
+    }
+
+    /// The same of a cell by its place, from 0. Takes no memory.
+    #[inline(always)]
+    pub fn cell_plain_walk(&self, at: usize) -> PlainWalk<'_>
+        requires { at < length self.now.cells }
+        ensures { result ≡ more (cell_at self.now (suc at)) none }
+    {
+        let span = cell_span(self.cells.as_slice(), at);
+        let nodes = self.nodes.as_slice();
+        PlainWalk::over(
+            &nodes[span.from..span.from + span.len],
+            self.octets.as_slice(),
+        )
+    }
+
     /// The type of a cell by its place, from 0. Takes no memory.
     pub fn cell_type(&self, at: usize) -> TypeId
         requires { at < length self.now.cells }
