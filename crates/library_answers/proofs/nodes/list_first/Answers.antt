@@ -1,7 +1,7 @@
 use Rattle.std.proofs.Common.{◌∙◌, ap}
 use Rattle.nd_value.specs.Fitting.{Fitting}
 use Rattle.library_answers.proofs.Copies.{nodes_are}
-use Rattle.library_answers.proofs.nodes.list_nodes.Goals as goal
+use Rattle.library_answers.proofs.nodes.list_first.Goals as goal
 
 pub returns-in-Ok-clause-listed : goal.returns-in-Ok-clause-listed
 returns-in-Ok-clause-listed c ok =

@@ -1,0 +1,60 @@
+// Nodes that are listed again and again.
+ghost use Rattle.std.specs.Prelude.{◌≡◌, OnOk, OnErr, IfOk};
+ghost use Rattle.library_nodes.specs.Listed.{IsListOf};
+
+use crate::nodes::Nodes;
+use nd_base::Memory;
+use nd_flat::FlatGraph;
+use std::alloc::Global;
+use std::marker::Model;
+use std::mem;
+
+/// The nodes of a graph, and the room of a list before them, in which the nodes of the next graph are listed: so graphs of the same size take no
+/// memory after the second. Contracts see the nodes.
+#[derive(Drop)]
+pub struct KeptNodes {
+    nodes: Nodes,
+    spare: Nodes,
+}
+
+impl Model for KeptNodes {
+    ghost use Rattle.library_nodes.specs.contracts.nodes.Nodes.{the_row as nodes_row};
+    ghost use Rattle.library_nodes.specs.declared.nodes.Nodes.{Nodes as NodesSeen};
+
+    ghost Value = { NodesSeen };
+
+    ghost coded = { nodes_row.coded };
+
+    ghost view = { λ k. k.nodes };
+}
+
+impl KeptNodes {
+    /// The nodes of a graph. It takes memory as `Nodes::of` does, and running out of it is the only refusal.
+    pub fn of(alloc: Global, graph: &FlatGraph) -> Result<KeptNodes, Memory>
+        ensures { IfOk result (λ k. IsListOf graph.now k) }
+    {
+        Ok(KeptNodes {
+            nodes: Nodes::of(alloc, graph)?,
+            spare: Nodes::none(alloc),
+        })
+    }
+
+    /// Lists the nodes of another graph in place of these. It takes memory for what has no room in the list before these; running out of it is the
+    /// only refusal, and then these stay. The time is in proportion to the nodes and octets of the graph.
+    pub fn list(&mut self, graph: &FlatGraph) -> Result<(), Memory>
+        ensures ok { OnOk result (IsListOf graph.now self.new) }
+        ensures err { OnErr result (self.new ≡ self.old) }
+    {
+        self.spare.fill(graph)?;
+        mem::swap(&mut self.nodes, &mut self.spare);
+        Ok(())
+    }
+
+    /// The nodes. Takes no memory.
+    #[inline(always)]
+    pub fn nodes(&self) -> &Nodes
+        ensures { result.now ≡ self.now }
+    {
+        &self.nodes
+    }
+}
