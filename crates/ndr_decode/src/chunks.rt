@@ -84,6 +84,7 @@ pub fn elements_run(plan: &Plan, op: u32, side: Side, line: usize) -> Option<u32
 }
 
 // Reads the next pipe, whose elements have the run at an address.
+#[inline(never)]
 fn read_pipe<S: Source, L: Ledger>(
     plan: &Plan,
     order: Order,

@@ -123,6 +123,7 @@ fn read_root<S: Source, L: Ledger>(
     }
 }
 
+#[inline(never)]
 fn read_direct<S: Source, L: Ledger>(
     plan: &Plan,
     order: Order,
