@@ -8,6 +8,7 @@ use crate::{PlainWalk, Walk};
 use nd_base::{Memory, Octets};
 use nd_types::TypeId;
 use nd_value::{Graph, Home};
+use smallvec::SmallVec;
 use std::alloc::Global;
 use std::marker::Model;
 
@@ -18,6 +19,12 @@ pub struct Span {
     pub len: usize,
 }
 
+impl Default for Span {
+    fn default() -> Span {
+        Span { from: 0, len: 0 }
+    }
+}
+
 // The same of a cell, with the type of its value.
 #[derive(Clone, Copy, Drop)]
 pub struct CellSpan {
@@ -26,12 +33,13 @@ pub struct CellSpan {
 }
 
 /// A graph whose values are kept as lists of nodes, and its texts, rows of numbers and structs of numbers as octets. Contracts see it as roots and
-/// cells. A node takes 24 octets, and a row of numbers, or structs of numbers side by side, one node and their octets.
+/// cells. A node takes 24 octets, and a row of numbers, or structs of numbers side by side, one node and their octets. Of the first four roots it takes
+/// no memory but for their nodes.
 #[derive(Drop)]
 pub struct FlatGraph {
     pub(crate) nodes: Vec<Node>,
     pub(crate) octets: Octets,
-    pub(crate) roots: Vec<Span>,
+    pub(crate) roots: SmallVec<Span, 4>,
     pub(crate) cells: Vec<CellSpan>,
 }
 

@@ -9,6 +9,7 @@ use crate::flat::{CellSpan, Span};
 use crate::node::Node;
 use nd_base::{Memory, Octets};
 use nd_value::CellId;
+use smallvec::SmallVec;
 use std::alloc::Global;
 
 impl FlatGraph {
@@ -26,7 +27,7 @@ impl FlatGraph {
     {
         let nodes = renumbered_nodes(alloc, self.nodes.as_slice(), numbers)?;
         let octets = Octets::copy(alloc, self.octets.as_slice())?;
-        let roots = Vec::from_slice(alloc, self.roots.as_slice())?;
+        let roots = SmallVec::from_slice(alloc, self.roots.as_slice())?;
         let cells = spans(alloc, self.cells.as_slice(), cells)?;
         Ok(FlatGraph {
             nodes,
