@@ -162,7 +162,7 @@ fn pointer_in(node: &Node) -> Option<Option<CellId>>
 
 // The maximum count and the octets of a node that is a string.
 #[inline(always)]
-fn text_in<'a>(node: &Node, octets: &'a [u8]) -> Option<(u32, &'a [u8])>
+fn text_in<'a>(node: &'a Node, octets: &'a [u8]) -> Option<(u32, &'a [u8])>
     requires within { HasOctets octets.now node.now }
     ensures { IfSome result (λ t. seen_nodes octets.now node.now ≡ (tree.Text t.0 t.1.now, 0) ∷ []) }
 {
@@ -171,6 +171,11 @@ fn text_in<'a>(node: &Node, octets: &'a [u8]) -> Option<(u32, &'a [u8])>
             let to = *from + *len as usize;
             Some((*max, &octets[*from..to]))
         }
+        Node::ShortText {
+            max,
+            len,
+            octets: short,
+        } => Some((*max, &short[..*len as usize])),
         _ => None,
     }
 }
