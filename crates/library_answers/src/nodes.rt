@@ -31,6 +31,7 @@ pub fn list_nodes(alloc: Global, values: &Values, nodes: &mut Handle) -> u32
 }
 
 // Fills a handle that holds nothing with the nodes of values.
+#[inline(never)]
 fn list_first(alloc: Global, values: &Values, nodes: &mut Handle) -> u32
     ensures known { result ≤ MEMORY }
     ensures not_empty { result ≡ EMPTY → ⊥ }

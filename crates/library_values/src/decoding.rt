@@ -121,6 +121,7 @@ fn decode_beside(
 }
 
 // What was decoded, with its interface.
+#[inline(always)]
 fn held(compiled: &Arc<Compiled>, decoded: Decoded) -> Result<(Values, u32), Refusal>
     requires { decoded.fit.interface ≡ arc_value compiled.now }
     ensures ok { IfOk result (λ d. (d.0 ≡ decoded.fit) × (d.1 ≡ decoded.taken)) }
@@ -133,6 +134,7 @@ fn held(compiled: &Arc<Compiled>, decoded: Decoded) -> Result<(Values, u32), Ref
 }
 
 // What octets begin with, by the plan of an interface.
+#[inline(always)]
 fn decode_lent(
     alloc: Global,
     plan: &Plan,

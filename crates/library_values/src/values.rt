@@ -43,6 +43,7 @@ impl Model for Values {
 
 impl Values {
     /// A fit with its interface. Memory is the only refusal: the interface has as many values as can be counted.
+    #[inline(always)]
     pub fn of(compiled: &Arc<Compiled>, fit: Fit) -> Result<Values, Refusal>
         requires { fit.interface ≡ arc_value compiled.now }
         ensures ok { IfOk result (λ v. v ≡ fit) }
