@@ -1,5 +1,6 @@
 // Graphs as they are built.
-ghost use Rattle.std.specs.Prelude.{◌≡◌, ℕ, ◌+◌, ◌-◌, ◌<◌, ◌≤◌, ◌^◌, ◌++◌, [], ◌∷◌, length, drop, slice_set, OnOk, OnErr, IfOk, IfErr, IsTrue, None, option_map};
+ghost use Rattle.std.specs.Prelude.{◌≡◌, ℕ, ◌+◌, ◌-◌, ◌<◌, ◌≤◌, ◌^◌, ◌++◌, [], ◌∷◌, length, drop, slice_set};
+ghost use Rattle.std.specs.Prelude.{OnOk, OnErr, IfOk, IfErr, IsTrue, None, option_map};
 ghost use Rattle.nd_value.specs.Setting.{unread, cell_home};
 ghost use Rattle.nd_value.specs.Tree.{Tree, Referent};
 ghost use Rattle.nd_value.specs.declared.item.Home.TheVariants as home;

@@ -32,9 +32,9 @@ pub struct CellSpan {
     pub span: Span,
 }
 
-/// A graph whose values are kept as lists of nodes, and its longer texts, rows of numbers and structs of numbers as octets. Contracts see it as roots and
-/// cells. A node takes 24 octets, and a row of numbers, or structs of numbers side by side, one node and their octets. Of the first four roots it takes
-/// no memory but for their nodes.
+/// A graph whose values are kept as lists of nodes, and its longer texts, rows of numbers and structs of numbers as octets. Contracts see it as
+/// roots and cells. A node takes 24 octets, and a row of numbers, or structs of numbers side by side, one node and their octets. Of the first four
+/// roots it takes no memory but for their nodes.
 #[derive(Drop)]
 pub struct FlatGraph {
     pub(crate) nodes: Vec<Node>,

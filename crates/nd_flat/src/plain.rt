@@ -13,9 +13,9 @@ use crate::node::Node;
 use nd_value::CellId;
 use std::marker::Model;
 
-/// A walk over the nodes of values, depth first, that gives structs, numbers, pointers and strings as they are kept one by one. Where anything else comes it
-/// does not move, and `walk` goes on. It has no state but the nodes that are left, so that short values are walked over fast. Contracts see the
-/// values that are left, as those of a walk do. It takes no memory.
+/// A walk over the nodes of values, depth first, that gives structs, numbers, pointers and strings as they are kept one by one. Where anything else
+/// comes it does not move, and `walk` goes on. It has no state but the nodes that are left, so that short values are walked over fast. Contracts see
+/// the values that are left, as those of a walk do. It takes no memory.
 #[derive(Drop)]
 pub struct PlainWalk<'a> {
     nodes: &'a [Node],
