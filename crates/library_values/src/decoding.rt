@@ -94,6 +94,7 @@ fn decode_given(
 }
 
 // The values that octets begin with, with a request or without one.
+#[inline(always)]
 fn decode_beside(
     alloc: Global,
     compiled: &Arc<Compiled>,
