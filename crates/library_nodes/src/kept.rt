@@ -63,7 +63,8 @@ impl KeptNodes {
     pub fn nodes(&self) -> &Nodes
         ensures { result.now ≡ self.now }
     {
-        &self.lists.nodes
+        let lists = &*self.lists;
+        &lists.nodes
     }
 }
 
