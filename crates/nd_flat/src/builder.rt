@@ -85,6 +85,7 @@ impl Builder {
     }
 
     /// Opens the next root, which takes memory after the fourth. The home that was open must be whole. Out of memory is the only refusal.
+    #[inline(always)]
     pub fn root(&mut self) -> Result<(), Memory>
         requires { CanClose self.old }
         ensures ok { OnOk result (self.new ≡ opened (home.Root (length self.old.graph.roots)) (with_root (closed self.old)) self.old) }
