@@ -39,7 +39,7 @@ pub struct Builder {
     nodes: Vec<Node>,
     octets: Octets,
     roots: SmallVec<Span, 4>,
-    cells: Vec<CellSpan>,
+    cells: SmallVec<CellSpan, 1>,
     home: OpenHome,
     // where the nodes of the open home begin
     from: usize,
@@ -74,7 +74,7 @@ impl Builder {
             nodes: Vec::new(alloc),
             octets: Octets::new(alloc),
             roots: SmallVec::new(alloc),
-            cells: Vec::new(alloc),
+            cells: SmallVec::new(alloc),
             home: OpenHome::NoHome,
             from: 0,
             op,
@@ -107,7 +107,7 @@ impl Builder {
     }
 
     /// Gives the next cell its number, from 1, and counts one step. The cell is of this type, and is not built yet. The home that is
-    /// open stays open. It takes memory; out of memory is the only refusal, and counts nothing.
+    /// open stays open. After the first cell it takes memory; out of memory is the only refusal, and counts nothing.
     #[inline(always)]
     pub fn reserve<L: Ledger>(&mut self, of: TypeId, steps: &mut Steps<L>) -> Result<CellId, Memory>
         requires few { length self.old.graph.cells < 2 ^ 32 - 1 }
@@ -118,7 +118,7 @@ impl Builder {
         ensures idle { OnErr result (steps.new ≡ steps.old) }
     {
         let cell = CellId(self.cells.len() as u32 + 1);
-        let Ok(()) = push(&mut self.cells, CellSpan { of, span: EMPTY }) else {
+        let Ok(()) = self.cells.push(CellSpan { of, span: EMPTY }) else {
             return Err(Memory);
         };
         steps.tick();
@@ -281,11 +281,16 @@ impl Builder {
 
 const EMPTY: Span = Span { from: 0, len: 0 };
 
-ghost use Rattle.nd_flat.specs.Store.{IsPlace, closed_roots, closed_cells, IsPipeAt, raised_at};
+ghost use Rattle.nd_flat.specs.Store.{IsPlace, closed_roots, closed_cells, set_span, IsPipeAt, raised_at};
 
 // Notes the span of the home that was open.
 #[inline(always)]
-fn close(home: OpenHome, span: Span, roots: &mut SmallVec<Span, 4>, cells: &mut Vec<CellSpan>)
+fn close(
+    home: OpenHome,
+    span: Span,
+    roots: &mut SmallVec<Span, 4>,
+    cells: &mut SmallVec<CellSpan, 1>,
+)
     requires { IsPlace roots.old.items cells.old.items home }
     ensures roots { roots.new.items ≡ closed_roots home span roots.old.items }
     ensures cells { cells.new.items ≡ closed_cells home span cells.old.items }
@@ -293,10 +298,7 @@ fn close(home: OpenHome, span: Span, roots: &mut SmallVec<Span, 4>, cells: &mut 
     match home {
         OpenHome::NoHome => {}
         OpenHome::Root(at) => put_root(roots, at, span),
-        OpenHome::Cell(at) => {
-            let of = cells[at].of;
-            cells[at] = CellSpan { of, span };
-        }
+        OpenHome::Cell(at) => put_cell(cells, at, span),
     }
 }
 
@@ -308,6 +310,17 @@ fn put_root(roots: &mut SmallVec<Span, 4>, at: usize, span: Span)
 {
     if let Some(place) = roots.get_mut(at) {
         *place = span;
+    }
+}
+
+// Makes the span of a cell this one.
+#[inline(always)]
+fn put_cell(cells: &mut SmallVec<CellSpan, 1>, at: usize, span: Span)
+    requires { at < length cells.old.items }
+    ensures { cells.new.items ≡ set_span at span cells.old.items }
+{
+    if let Some(place) = cells.get_mut(at) {
+        place.span = span;
     }
 }
 

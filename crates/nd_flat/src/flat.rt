@@ -32,15 +32,24 @@ pub struct CellSpan {
     pub span: Span,
 }
 
+impl Default for CellSpan {
+    fn default() -> CellSpan {
+        CellSpan {
+            of: TypeId(0),
+            span: Span { from: 0, len: 0 },
+        }
+    }
+}
+
 /// A graph whose values are kept as lists of nodes, and its longer texts, rows of numbers and structs of numbers as octets. Contracts see it as
 /// roots and cells. A node takes 24 octets, and a row of numbers, or structs of numbers side by side, one node and their octets. Of the first four
-/// roots it takes no memory but for their nodes.
+/// roots, and of the first cell, it takes no memory but for their nodes.
 #[derive(Drop)]
 pub struct FlatGraph {
     pub(crate) nodes: Vec<Node>,
     pub(crate) octets: Octets,
     pub(crate) roots: SmallVec<Span, 4>,
-    pub(crate) cells: Vec<CellSpan>,
+    pub(crate) cells: SmallVec<CellSpan, 1>,
 }
 
 impl Model for FlatGraph {

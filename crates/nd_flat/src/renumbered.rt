@@ -70,11 +70,15 @@ fn number_of(cell: CellId, numbers: &[u32]) -> u32
 }
 
 // The spans of the cells with these numbers.
-fn spans(alloc: Global, spans: &[CellSpan], cells: &[u32]) -> Result<Vec<CellSpan>, Memory>
+fn spans(
+    alloc: Global,
+    spans: &[CellSpan],
+    cells: &[u32],
+) -> Result<SmallVec<CellSpan, 1>, Memory>
     requires { AreThere (length spans.now) cells.now }
     ensures { IfOk result (λ found. found.items ≡ map (cell_span spans.now) cells.now) }
 {
-    let mut found = Vec::new(alloc);
+    let mut found = SmallVec::new(alloc);
     for cell in cells {
         let Ok(()) = found.push(spans[*cell as usize - 1]) else {
             return Err(Memory);

@@ -13,6 +13,6 @@ returns c =
     let s = c.self.inside in
     let l = subst (λ n. c.args.at < n) (length-map s.cells.items (span_cell s.octets s.nodes.items)) (subst (λ (g : Graph). c.args.at < length g.cells) (sym c.self.view_is) c.requires) in
     ap (λ of. of.0) c.type_in.ensures
-    ∙ ap (λ (cs : List CellSpan). (get_or cs c.args.at no_cell).of.0) c.as_slice.ensures.value
+    ∙ ap (λ (cs : List CellSpan). (get_or cs c.args.at no_cell).of.0) c.as_slice.ensures
     ∙ place_type s.octets s.nodes.items s.cells.items c.args.at l
     ∙ ap (λ (g : Graph). referent_type (slice_get g.cells c.args.at)) c.self.view_is

@@ -17,7 +17,7 @@ over-requires c =
     has_span s.octets s.nodes.items s.roots.items s.cells.items h
     (cell_there c.args.at (seen_graph s.octets s.nodes.items s.roots.items s.cells.items) (subst (λ (g : Graph). c.args.at < length g.cells) (sym c.self.view_is) c.requires)) in
     let e = part_is s.nodes.items s.roots.items s.cells.items h c.as_slice-nodes.result.now s.roots.items c.as_slice.result.now c.cell_span-span.result
-    c.as_slice-nodes.ensures.value refl c.as_slice.ensures.value (c.cell_span-span.ensures ∙ place_span s.roots.items c.as_slice.result.now c.args.at) in
+    c.as_slice-nodes.ensures.value refl c.as_slice.ensures (c.cell_span-span.ensures ∙ place_span s.roots.items c.as_slice.result.now c.args.at) in
     subst (λ (os : List ℕ). WalkParts os no_row no_records
     (take (c.cell_span-span.result.from + c.cell_span-span.result.len - c.cell_span-span.result.from) (drop c.cell_span-span.result.from c.as_slice-nodes.result.now))) (sym c.as_slice-2.ensures)
     (subst (λ (ns : List Node). WalkParts s.octets no_row no_records ns) (sym e) (walk_parts s.octets s.nodes.items s.roots.items s.cells.items h c.self.invariant there))
@@ -30,7 +30,7 @@ returns c =
     has_span s.octets s.nodes.items s.roots.items s.cells.items h
     (cell_there c.args.at (seen_graph s.octets s.nodes.items s.roots.items s.cells.items) (subst (λ (g : Graph). c.args.at < length g.cells) (sym c.self.view_is) c.requires)) in
     let e = part_is s.nodes.items s.roots.items s.cells.items h c.as_slice-nodes.result.now s.roots.items c.as_slice.result.now c.cell_span-span.result
-    c.as_slice-nodes.ensures.value refl c.as_slice.ensures.value (c.cell_span-span.ensures ∙ place_span s.roots.items c.as_slice.result.now c.args.at) in
+    c.as_slice-nodes.ensures.value refl c.as_slice.ensures (c.cell_span-span.ensures ∙ place_span s.roots.items c.as_slice.result.now c.args.at) in
     c.over.ensures
     ∙ ap₂ (λ (os : List ℕ) (ns : List Node). unflat (flats os ns)) c.as_slice-2.ensures e
     ∙ walk_seen s.octets s.nodes.items s.roots.items s.cells.items h c.self.invariant there
