@@ -7,7 +7,7 @@ ghost use Rattle.ndr_code.specs.Lengths.{form_width};
 ghost use Rattle.ndr_decoder_fast.specs.Structs.{form_read, is_null, owed_with, pointer_read, with_part};
 ghost use Rattle.nd_value.specs.Tree as tree;
 
-use nd_base::{Ledger, Memory, Order, Steps, push};
+use nd_base::{Ledger, Memory, Order, Steps};
 use nd_flat::Seen;
 use nd_types::{Class, TypeId};
 use nd_value::CellId;
@@ -145,7 +145,7 @@ fn owe(
         from: 0,
         len: 0,
     };
-    let Ok(()) = push(&mut machine.fresh, owed) else {
+    let Ok(()) = machine.fresh.push(owed) else {
         return Err(Memory);
     };
     Ok(())

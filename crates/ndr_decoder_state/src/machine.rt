@@ -9,6 +9,7 @@ use nd_types::{Attr, Class, Prim, TypeId};
 use nd_value::{CellId, Home};
 use ndr_decoder_laws::{First, Frame, Member};
 use ndr_refs::Referents;
+use smallvec::SmallVec;
 
 /// Which item of an instruction comes next.
 #[derive(Clone, Copy, Debug, PartialEq, Eq)]
@@ -33,6 +34,19 @@ pub struct Owed {
     pub cell: Option<CellId>,
     pub from: usize,
     pub len: usize,
+}
+
+impl Default for Owed {
+    fn default() -> Owed {
+        Owed {
+            class: Class::Unique,
+            to: TypeId(0),
+            run: 0,
+            cell: None,
+            from: 0,
+            len: 0,
+        }
+    }
 }
 
 /// An attribute with the number that it states.
@@ -69,8 +83,8 @@ pub struct Machine {
     pub members: Vec<Member>,
     pub firsts: Vec<First>,
     pub ghost small: { AllByRecursion IsSmall firsts.items } by { AreSmall-prop firsts.items },
-    /// The referents that are pending since the home's beginning, and the agreements of all pointers.
-    pub fresh: Vec<Owed>,
+    /// The referents that are pending since the home's beginning, of which the first takes no memory, and the agreements of all pointers.
+    pub fresh: SmallVec<Owed, 1>,
     pub wanted: Vec<Wanted>,
     pub ghost spans: { AllByRecursion (λ o. o.from + o.len ≤ length wanted.items) fresh.items } by { AreWithin-prop
         (length wanted.items) fresh.items },

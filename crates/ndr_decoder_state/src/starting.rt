@@ -9,6 +9,7 @@ use nd_types::Prim;
 use nd_value::Home;
 use ndr_decoder_laws::Frame;
 use ndr_refs::Referents;
+use smallvec::SmallVec;
 use std::alloc::Global;
 
 impl Machine {
@@ -36,7 +37,7 @@ impl Machine {
             own: None,
             members: Vec::new(alloc),
             firsts: Vec::new(alloc),
-            fresh: Vec::new(alloc),
+            fresh: SmallVec::new(alloc),
             wanted: Vec::new(alloc),
             builder,
             cells: 0,

@@ -32,7 +32,7 @@ impl Stream {
         Stream {
             machine,
             wanted: Vec::new(alloc),
-            todo: Vec::new(alloc),
+            todo: SmallVec::new(alloc),
             roots: SmallVec::new(alloc),
             cells: KeptCells::new(alloc),
         }

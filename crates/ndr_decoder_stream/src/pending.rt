@@ -7,9 +7,10 @@ ghost use Rattle.ndr_decoder_state.specs.declared.machine.Wanted.{Wanted};
 
 use crate::Stream;
 use crate::room::make_room;
-use nd_base::{Memory, push};
+use nd_base::Memory;
 use nd_value::CellId;
 use ndr_decoder_state::{Machine, Owed, Wanted};
+use smallvec::SmallVec;
 use std::mem;
 
 impl Stream {
@@ -80,8 +81,7 @@ impl Stream {
         given
     }
 
-    // The pointer of a home that has one at most, and no agreements, becomes the next of the pending referents. Where no other is pending, the list
-    // that has it is handed over, so that none is made.
+    // The pointer of a home that has one at most, and no agreements, becomes the next of the pending referents.
     #[inline(always)]
     fn settle_one(&mut self) -> Result<(), Memory>
         requires few { length self.old.machine.fresh.items < 2 }
@@ -92,14 +92,12 @@ impl Stream {
         ensures cleared { OnOk result (IsCleared self.old.machine self.new.machine) }
         ensures homes { KeepsHomes self.old self.new }
     {
-        if self.machine.fresh.as_slice().len() == 1 && self.todo.as_slice().len() == 0 {
-            self.hand_over();
-            return Ok(());
-        }
         let Some(owed) = self.machine.fresh.pop() else {
             return Ok(());
         };
-        push(&mut self.todo, owed)?;
+        let Ok(()) = self.todo.push(owed) else {
+            return Err(Memory);
+        };
         Ok(())
     }
 
@@ -184,9 +182,9 @@ fn forget(machine: &mut Machine)
 #[inline(always)]
 fn take_over(
     wanted: &mut Vec<Wanted>,
-    todo: &mut Vec<Owed>,
+    todo: &mut SmallVec<Owed, 1>,
     from: &mut Vec<Wanted>,
-    fresh: &mut Vec<Owed>,
+    fresh: &mut SmallVec<Owed, 1>,
 )
     ensures wanted { wanted.new.items ≡ from.old.items }
     ensures todo { todo.new.items ≡ reverse fresh.old.items }
@@ -194,13 +192,13 @@ fn take_over(
 {
     mem::swap(wanted, from);
     mem::swap(todo, fresh);
-    todo.reverse();
+    todo.as_mut_slice().reverse();
 }
 
 // The pointers of a home become pending, the last first.
 fn defer_all(
     wanted: &mut Vec<Wanted>,
-    todo: &mut Vec<Owed>,
+    todo: &mut SmallVec<Owed, 1>,
     machine: &Machine,
 ) -> Result<(), Memory>
     requires spans { AreSpans wanted.old.items todo.old.items }
@@ -210,7 +208,7 @@ fn defer_all(
 {
     let count = machine.fresh.as_slice().len();
     for at in 0..count {
-        let owed = machine.fresh[count - 1 - at];
+        let owed = machine.fresh.as_slice()[count - 1 - at];
         defer(wanted, todo, machine.wanted.as_slice(), owed)?;
     }
     Ok(())
@@ -219,7 +217,7 @@ fn defer_all(
 // One of the pointers, whose agreements are among these, becomes the next of the pending referents.
 fn defer(
     wanted: &mut Vec<Wanted>,
-    todo: &mut Vec<Owed>,
+    todo: &mut SmallVec<Owed, 1>,
     from: &[Wanted],
     owed: Owed,
 ) -> Result<(), Memory>

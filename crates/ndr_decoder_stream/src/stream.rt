@@ -15,8 +15,8 @@ pub struct Stream {
     pub machine: Machine,
     /// The agreements of the pointers whose referents are pending.
     pub wanted: Vec<Wanted>,
-    /// The pending referents, of which the last is the next.
-    pub todo: Vec<Owed>,
+    /// The pending referents, of which the last is the next. One takes no memory.
+    pub todo: SmallVec<Owed, 1>,
     pub ghost spans: { AllByRecursion (λ o. o.from + o.len ≤ length wanted.items) todo.items } by { AreWithin-prop (length wanted.items) todo.items },
     /// What is kept of the roots that were read; of the first four it takes no memory.
     pub roots: SmallVec<KeptRoot, 4>,

@@ -146,9 +146,11 @@ fn join(machine: &mut Machine, pending: usize, wanted: Wanted) -> Result<(), Dec
         machine.skip();
         return Ok(());
     }
-    let owed = machine.fresh[pending];
+    let owed = machine.fresh.as_slice()[pending];
     let joined = with_one(&mut machine.wanted, owed, wanted)?;
-    machine.fresh[pending] = joined;
+    if let Some(place) = machine.fresh.get_mut(pending) {
+        *place = joined;
+    }
     machine.skip();
     Ok(())
 }

@@ -7,7 +7,7 @@ ghost use Rattle.ndr_decoder_state.specs.Seen.{state_of, Does, outside};
 ghost use Rattle.ndr_decoder_state.specs.Notes.{Noted, notes_seen};
 ghost use Rattle.ndr_decoder_value.specs.Notes.{pointer_items};
 
-use nd_base::{Ledger, Order, Steps, push};
+use nd_base::{Ledger, Order, Steps};
 use nd_flat::Seen;
 use nd_grammar::Reason;
 use nd_types::{Class, TypeId};
@@ -185,7 +185,7 @@ fn owe(machine: &mut Machine, to: To, cell: Option<CellId>) -> Result<(), Decode
         from: 0,
         len: 0,
     };
-    let Ok(()) = push(&mut machine.fresh, owed) else {
+    let Ok(()) = machine.fresh.push(owed) else {
         return Err(DecodeFault::Memory);
     };
     Ok(())
