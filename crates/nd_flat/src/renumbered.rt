@@ -70,11 +70,7 @@ fn number_of(cell: CellId, numbers: &[u32]) -> u32
 }
 
 // The spans of the cells with these numbers.
-fn spans(
-    alloc: Global,
-    spans: &[CellSpan],
-    cells: &[u32],
-) -> Result<SmallVec<CellSpan, 1>, Memory>
+fn spans(alloc: Global, spans: &[CellSpan], cells: &[u32]) -> Result<SmallVec<CellSpan, 1>, Memory>
     requires { AreThere (length spans.now) cells.now }
     ensures { IfOk result (λ found. found.items ≡ map (cell_span spans.now) cells.now) }
 {
