@@ -1,8 +1,8 @@
 /* Measures the library: bench-library IDL OPERATION ROUNDS < OCTETS
 
-   The octets, of the inputs of an operation in little order, are decoded so many times, and their values are encoded as often, into a buffer that the octets
-   are then copied to. It prints how many nanoseconds of the processor the fastest of each took, how many a round took on average with the values let go, and
-   with all their nodes read before that, and the fastest writing of their text. */
+   The octets, of the inputs of an operation in little order, are decoded so many times, and then their values are encoded as often, into a buffer that the
+   octets are then copied to, as crates/bench_ndr does. It prints how many nanoseconds of the processor the fastest of each took, how many a round took on
+   average with the values let go, and with all their nodes read before that, the fastest writing of their text, and how many an encoding took on average. */
 #include "dceidl.h"
 
 #include <stdio.h>
@@ -67,7 +67,7 @@ int main(int argc, char **argv) {
     dceidl_values values = DCEIDL_NONE;
     dceidl_nodes nodes = DCEIDL_NONE;
     dceidl_fault fault = DCEIDL_NONE;
-    double copy = 1e18, decode = 1e18, encode = 1e18, began, all, read, text;
+    double copy = 1e18, decode = 1e18, encode = 1e18, began, all, read, text, encoded;
     dceidl_file file = {dceidl_some("bench.idl"), 9, NULL, 0};
     size_t length, taken, written;
     uint8_t *octets, *out;
@@ -85,6 +85,10 @@ int main(int argc, char **argv) {
         began = now();
         need(dceidl_decode(&interface, operation, DCEIDL_IN, DCEIDL_LITTLE, octets, length, &values, &taken, &fault) == DCEIDL_OK, "decode");
         decode = lesser(decode, now() - began);
+        dceidl_values_free(&values);
+    }
+    need(dceidl_decode(&interface, operation, DCEIDL_IN, DCEIDL_LITTLE, octets, length, &values, &taken, &fault) == DCEIDL_OK, "decode");
+    for (i = 0; i < rounds; i++) {
         began = now();
         need(dceidl_encode(&values, DCEIDL_LITTLE, 1, out, length, &written, &fault) == DCEIDL_OK && written == length, "encode");
         encode = lesser(encode, now() - began);
@@ -92,8 +96,12 @@ int main(int argc, char **argv) {
         memcpy(out, octets, length);
         __asm__ volatile("" ::: "memory");
         copy = lesser(copy, now() - began);
-        dceidl_values_free(&values);
     }
+    began = now();
+    for (i = 0; i < rounds; i++)
+        need(dceidl_encode(&values, DCEIDL_LITTLE, 1, out, length, &written, &fault) == DCEIDL_OK, "encode");
+    encoded = (now() - began) / (double)rounds;
+    dceidl_values_free(&values);
     began = now();
     for (i = 0; i < rounds; i++) {
         need(dceidl_decode(&interface, operation, DCEIDL_IN, DCEIDL_LITTLE, octets, length, &values, &taken, &fault) == DCEIDL_OK, "decode");
@@ -112,7 +120,7 @@ int main(int argc, char **argv) {
     dceidl_values_free(&values);
     dceidl_nodes_free(&nodes);
     dceidl_interface_free(&interface);
-    printf("copy %.0f ns, decode %.0f ns, encode %.0f ns, decoded and let go %.0f ns, with its nodes read %.0f ns, text %.0f ns\n", copy, decode, encode, all,
-           read, text);
+    printf("copy %.0f ns, decode %.0f ns, encode %.0f ns, decoded and let go %.0f ns, with its nodes read %.0f ns, text %.0f ns, encoded %.0f ns\n", copy, decode,
+           encode, all, read, text, encoded);
     return 0;
 }

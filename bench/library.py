@@ -1,6 +1,8 @@
 #!/usr/bin/env python3
 """Measures the calls of the library in C next to those below them: how many times as long `dceidl_decode` takes as `decode`, and `dceidl_encode` as `Work::for_graph` with
-`encode_with`, on the five works of bench/ndr.py, in turns; and how long a message of 40 octets takes to be decoded, read by its nodes and let go.
+`encode_with`, on the five works of bench/ndr.py, in turns; and how long a message of 40 octets takes to be decoded, read by its nodes and let go, and to be
+encoded.
+The C library keeps for both what they free, as in a program that has run for long: else the two are given fresh memory by the system at different calls.
 
     bench/library.py                 builds the library and the program crates/bench_ndr if they are not there
     bench/library.py --prefix DIR    takes the library from this folder, as bin/dceidl-lib fills it
@@ -21,6 +23,7 @@ import sys
 import tempfile
 
 import ndr
+from fragments import KEPT
 
 HERE = os.path.dirname(os.path.abspath(__file__))
 MOST = 1.1
@@ -41,7 +44,8 @@ def made(prefix, folder):
 
 def run(program, idl, op, rounds, octets):
     """The nanoseconds of a line that a program prints."""
-    shown = subprocess.run([program, idl, str(op), str(rounds)], input=octets, check=True, stdout=subprocess.PIPE).stdout.decode()
+    words, kept = [program, idl, str(op), str(rounds)], {**os.environ, **KEPT}
+    shown = subprocess.run(words, input=octets, check=True, stdout=subprocess.PIPE, env=kept).stdout.decode()
     return [float(ns) for ns in re.findall(r"(\d+) ns", shown)]
 
 
@@ -92,9 +96,9 @@ def main():
                 print(f"{name}: from a file {whole / items:.2f} ns an item, {whole / (ours[1] + ours[5]):.2f} times decoding and text in memory", flush=True)
         least = []
         for _ in range(words.turns):
-            least = ndr.lesser(run(program, small, 0, 200_000, SMALL)[3:5], least)
-        decoded_ns, small_ns = least
-        print(f"a message of {len(SMALL)} octets: {decoded_ns:.0f} ns to be decoded and let go, {small_ns:.0f} ns with its nodes read")
+            least = ndr.lesser(run(program, small, 0, 200_000, SMALL)[3:], least)
+        decoded_ns, small_ns, _, encoded_ns = least
+        print(f"a message of {len(SMALL)} octets: {decoded_ns:.0f} ns to be decoded and let go, {small_ns:.0f} ns with its nodes read; {encoded_ns:.0f} ns to be encoded")
         wrong += [f"a small message takes {small_ns:.0f} ns"] if small_ns >= MOST_SMALL else []
     print("\n".join(wrong) or "within the limits")
     return 1 if wrong else 0

@@ -337,7 +337,8 @@ typedef struct {
     size_t length;    /* STRING, CONTEXT: how many octets dceidl_node_octets copies, of a string without its end mark */
 } dceidl_node;
 
-/* Fills a handle with the nodes of values, which stay when the values are freed. The time and memory are in proportion to the values. EMPTY, MEMORY. */
+/* Fills a handle with the nodes of values, which stay when the values are freed. The time and memory are in proportion to the values. A handle that is
+   filled again keeps the room of its last two lists of nodes for the next ones: a list that fits takes no memory. EMPTY, MEMORY. */
 uint32_t dceidl_nodes_of(dceidl_values *values, dceidl_nodes *nodes);
 
 void dceidl_nodes_free(dceidl_nodes *nodes);

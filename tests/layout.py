@@ -23,8 +23,7 @@ sys.dont_write_bytecode = True
 
 ROOT = Path(__file__).resolve().parent.parent
 LONGEST = {"src": 150, "specs": 150, "proofs": 200}
-LONG_LINES = {"nd_base": 1, "ndr_prim": 1, "idl_declarations": 2, "idl_tokens": 4, "idl_grammar": 1, "idl_parser": 1, "idl_scope": 1, "acf_reader": 1,
-              "command_compile": 3, "ctx_store": 3, "example_idl": 3, "library_answers": 8}
+LONG_LINES = {"idl_declarations": 2, "idl_tokens": 4, "idl_grammar": 1, "idl_parser": 1, "idl_scope": 1, "command_compile": 3}
 FLOOR = re.compile(r"# (\d+)\. \S.*")
 CRATE = re.compile(r"(?P<name>\w+)[^:#]*:(?P<uses>[^#]*)")
 

@@ -14,6 +14,7 @@ toolchain's library is not counted.
 from __future__ import annotations
 
 import re
+import signal
 import sys
 from dataclasses import dataclass, field
 from pathlib import Path
@@ -208,7 +209,7 @@ def calls(name: str) -> List[Call]:
         for match in FUNCTION.finditer(text):
             if match["name"] == function:
                 clauses = list(clauses_of(text, match.end()))
-                line = text.count("\n", 0, match.start()) + 2
+                line = text.count("\n", 0, match.start("name")) + 1
                 found.append(Call(path.relative_to(ROOT / "crates").parts[0], path, line, clauses))
     return found
 
@@ -286,4 +287,5 @@ def report(reached: Dict[Path, Set[str]]) -> None:
 
 
 if __name__ == "__main__":
+    signal.signal(signal.SIGPIPE, signal.SIG_DFL)  # a reader such as `head` may stop early
     sys.exit(main(sys.argv[1:]))

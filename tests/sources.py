@@ -26,7 +26,7 @@ ROOT = Path(__file__).resolve().parent.parent
 USE = re.compile(
     r"^\s*(?P<how>(?:pub )?(?:ghost )?use|open) (?P<path>[^\s{;]+?)(?:\.\{(?P<names>[^}]*)\})?(?: as (?P<as>[^\s;]+))?;?\s*$"
 )
-DEFINITION = re.compile(r"^(?P<words>(?:(?:pub|abbrev|unfoldable) )*)(?P<kind>data |record )?(?P<name>[^\s(){}\[\],;:]+)")
+DEFINITION = re.compile(r"^(?P<words>(?:(?:pub|abbrev|unfoldable) )*)(?P<kind>data |record |ruleset )?(?P<name>[^\s(){}\[\],;:]+)")
 MEMBER = re.compile(r"^\s+(?:pub )?(?P<name>[^\s(){}\[\],;:.]+) :")
 LISTED = re.compile(r"^\s*(?P<pub>pub )?mod (?P<name>\S+)\s*$")
 BREAKS = re.compile(r"[\s(){}\[\],;.]+")

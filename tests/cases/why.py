@@ -53,7 +53,7 @@ def section(text, heading):
 
 def plain(text):
     """The words of a text: without marks of the page, and without references in brackets."""
-    text = re.sub(r" \((section \d+|docs/[A-Z.a-z]+|`docs/[A-Z.a-z]+`|\*\*ours\*\*|`PointerRules`[^)]*)\)", "", text)
+    text = re.sub(r" \((section \d+|docs/[A-Z.a-z]+|`docs/[A-Z.a-z]+`|\*\*ours\*\*|`TypeRules`[^)]*)\)", "", text)
     return re.findall(r"[\w']+|[-+@^/\\]", text.replace("`", "").replace("*", "").replace("(ours: ", "(").lower())
 
 

@@ -6,8 +6,7 @@ use Rattle.idl_grammar.proofs.Parts.{pair_has, many_has}
 use Rattle.idl_grammar.proofs.Sequences.{stops, Begins, meets_first, ends_at, skip_exact, skip_has, skip_begins, or_pair_begins, located_exact, bracketed_exact, bracketed_has}
 use Rattle.idl_grammar.specs.declared.words.Spelling.{Spelling}
 use Rattle.idl_grammar.specs.Symbols as symbol
-use Rattle.acf_reader.specs.Tree.{Attributes, BodyElement}
-use Rattle.acf_reader.specs.Grammar.{ident, attributes, body_element, acf}
+use Rattle.acf_reader.specs.Grammar.{Attributes, BodyElement, ident, attributes, body_element, acf}
 use Rattle.acf_reader.specs.Reading.{ident_read, maybe_attributes_read, element_firsts, body_read, acf_of, acf_read}
 use Rattle.acf_reader.proofs.NamesExact.{ident_exact, ident_has}
 use Rattle.acf_reader.proofs.AttributesExact.{maybe_attributes_exact, maybe_attributes_begin}

@@ -2,11 +2,10 @@
 use Rattle.std.proofs.Common.{◌≡◌, refl, subst, Result, Ok, Err}
 use Rattle.idl_grammar.specs.Text.{Ban}
 use Rattle.idl_grammar.specs.ReadPhrases.{Fault, Syntax, Passes}
-use Rattle.idl_lexer.specs.Lexed.{Lexed}
+use Rattle.idl_lexer.specs.Verdict.{Lexed}
 use Rattle.idl_grammar.specs.Answers.{is_banned}
-use Rattle.acf_reader.specs.Symbols.{names}
-use Rattle.acf_reader.specs.Lexemes.{words, symbol_of, lexemes}
-use Rattle.acf_reader.specs.Tree.{Acf}
+use Rattle.acf_reader.specs.Symbols.{names, words, symbol_of, lexemes}
+use Rattle.acf_reader.specs.Grammar.{Acf}
 use Rattle.acf_reader.specs.Reading.{handle_type_read, variable_read, implicit_handle_read, attribute_kind_read, attribute_read, attributes_read, maybe_attributes_read, parameter_read}
 use Rattle.acf_reader.specs.Reading.{parameters_read, signature_read, types_read, include_read, operation_read, element_read, element_firsts, body_read, acf_read}
 use Rattle.acf_reader.specs.Answers.{IsAnswer, acf_answer}

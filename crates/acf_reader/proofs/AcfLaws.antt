@@ -2,22 +2,20 @@
 use Rattle.std.proofs.Common.{◌≡◌, ℕ, false, eqb, List, [], refl, arith, Result}
 use Rattle.idl_grammar.specs.Text.{Text}
 use Rattle.idl_grammar.specs.ReadPhrases.{Fault}
-use Rattle.idl_grammar.specs.Verdict.{Judges, whole_read}
+use Rattle.idl_grammar.specs.Answers.{Judges, whole_read, Answers}
 use Rattle.idl_grammar.specs.Gives.{IsText}
 use Rattle.idl_grammar.proofs.Exact.{Exact}
 use Rattle.idl_grammar.proofs.Judged.{whole_judged, one_verdict}
 use Rattle.idl_grammar.proofs.Sequences.{stops}
 use Rattle.idl_lexer.specs.declared.tokens.TokenKind.{TokenKind}
 use Rattle.idl_lexer.specs.declared.tokens.TokenKind.TheVariants as token
-use Rattle.idl_lexer.specs.Lexed.{Lexed}
-use Rattle.idl_grammar.specs.Answers.{Answers}
+use Rattle.idl_lexer.specs.Verdict.{Lexed}
 use Rattle.idl_grammar.specs.Symbols.{marks}
 use Rattle.idl_grammar.specs.Symbols as symbol
 use Rattle.idl_grammar.proofs.RealTokens.{among_real, all_real}
-use Rattle.acf_reader.specs.Lexemes.{words, symbol_of, lexeme_of, lexemes}
+use Rattle.acf_reader.specs.Symbols.{words, symbol_of, lexeme_of, lexemes}
 use Rattle.idl_grammar.proofs.FileLaws.{answered, answered_alone}
-use Rattle.acf_reader.specs.Tree.{Acf}
-use Rattle.acf_reader.specs.Grammar.{acf}
+use Rattle.acf_reader.specs.Grammar.{Acf, acf}
 use Rattle.acf_reader.specs.Reading.{acf_read}
 use Rattle.acf_reader.specs.Answers.{acf_answer}
 use Rattle.acf_reader.proofs.AcfExact.{acf_exact}

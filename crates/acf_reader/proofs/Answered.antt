@@ -5,15 +5,14 @@ use Rattle.idl_grammar.specs.declared.refusal.Refusal.TheVariants as refusal
 use Rattle.idl_grammar.specs.Text.{Text, Ban}
 use Rattle.idl_grammar.specs.ReadPhrases.{Fault, Syntax, Passes, Read}
 use Rattle.idl_grammar.specs.Gives.{Fails}
-use Rattle.idl_grammar.specs.Verdict.{whole_read}
+use Rattle.idl_grammar.specs.Answers.{whole_read, is_banned, named}
 use Rattle.idl_grammar.proofs.Exact.{Exact, front}
 use Rattle.idl_grammar.proofs.Sequences.{stops}
-use Rattle.idl_grammar.specs.Answers.{is_banned, named}
 use Rattle.idl_grammar.specs.declared.fault.SyntaxFault.{SyntaxFault}
 use Rattle.idl_grammar.specs.declared.fault.SyntaxFault.TheVariants as errors
 use Rattle.idl_tokens.specs.Refused.{IsWithin, IsNamed}
 use Rattle.acf_reader.specs.declared.tree.Acf.{Acf}
-use Rattle.acf_reader.specs.Tree as tree
+use Rattle.acf_reader.specs.Grammar as tree
 use Rattle.acf_reader.specs.Grammar.{acf}
 use Rattle.acf_reader.specs.Reading.{acf_read}
 use Rattle.acf_reader.specs.Seen.{seen_acf}

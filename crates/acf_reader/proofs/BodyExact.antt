@@ -3,7 +3,7 @@ use Rattle.std.proofs.Common.{◌≡◌, ℕ, ◌+◌, ◌≤◌, Bool, true, fa
 use Rattle.std.proofs.lemmas.Bool.{eqb-true}
 use Rattle.nd_lemmas.proofs.Booleans.{clash}
 use Rattle.idl_grammar.specs.Text.{Lexeme, Text, lexeme_at, symbol_at, is, is_in, Lifted, Rel, many, optional, located, made, ◌⊗◌, ◌⊳◌, ◌⊲◌, ◌∣◌}
-use Rattle.idl_grammar.specs.ReadPhrases.{Read, then, turned}
+use Rattle.idl_grammar.specs.ReadPhrases.{Read, and_then, turned}
 use Rattle.idl_grammar.proofs.Exact.{Exact, HasPhrase, Part, pair_exact, turned_exact}
 use Rattle.idl_grammar.proofs.Parts.{pair_has, turned_has, optional_has}
 use Rattle.idl_grammar.proofs.Sequences.{stops, Begins, subset, disjoint, meets_first, skip_exact, skip_begins, end_exact, end_has, end_begins, pair_begins, or_pair_begins, located_exact}
@@ -19,9 +19,8 @@ use Rattle.idl_grammar.proofs.ExportsExact.{at_exact}
 use Rattle.idl_grammar.proofs.ParametersExact.{closing, unless_is}
 use Rattle.acf_reader.specs.Symbols as word
 use Rattle.acf_reader.specs.Symbols.{names}
-use Rattle.acf_reader.specs.Tree as tree
-use Rattle.acf_reader.specs.Tree.{Attributes, Parameter, BodyElement}
-use Rattle.acf_reader.specs.Grammar.{ident, attributes, parameter, parameters, body_element}
+use Rattle.acf_reader.specs.Grammar as tree
+use Rattle.acf_reader.specs.Grammar.{Attributes, Parameter, BodyElement, ident, attributes, parameter, parameters, body_element}
 use Rattle.acf_reader.specs.Reading.{ident_read, attributes_read, maybe_attributes_read, parameter_of, parameter_read, parameters_read, signature_read, types_read, include_read, operation_read}
 use Rattle.acf_reader.specs.Reading.{element_read, element_firsts, body_read}
 use Rattle.acf_reader.proofs.NamesExact.{ident_exact, ident_has, ident_begins}
@@ -270,7 +269,7 @@ module _ (depth : ℕ) where
 
   include_line_exact : (t : Text) (i : ℕ) → i ≤ length t
       → Exact include_line (stops []) t i
-      (then (spelled_read word.Include t i)
+      (and_then (spelled_read word.Include t i)
       (λ name m. Rattle.idl_grammar.specs.ReadPhrases.choice_read (symbol.Quoted ∷ []) t m (line_read t (commas_read t (spelled_read symbol.Quoted t) m)) (signature_read t depth m)))
   include_line_exact t i in_text =
       pair_exact (spelled word.Include) behind (stops []) (stops []) (λ lifted x m j b ph stop. refl) behind_has t i (spelled_read word.Include t i) _
@@ -281,7 +280,7 @@ module _ (depth : ℕ) where
 
   include_is : (t : Text) (at i : ℕ)
       → turned (λ p. behind_made at p.0 p.1)
-      (then (spelled_read word.Include t i)
+      (and_then (spelled_read word.Include t i)
       (λ name m. Rattle.idl_grammar.specs.ReadPhrases.choice_read (symbol.Quoted ∷ []) t m (line_read t (commas_read t (spelled_read symbol.Quoted t) m)) (signature_read t depth m)))
       ≡ include_read t depth at i
   unfolding include_read

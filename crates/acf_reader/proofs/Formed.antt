@@ -2,11 +2,10 @@
 use Rattle.std.proofs.Common.{◌≡◌, ℕ, zero, suc, Bool, true, false, eqb, not, List, [], ◌∷◌, map, refl, sym, ap, subst, ◌∙◌}
 use Rattle.std.specs.List.{list_all}
 use Rattle.nd_base.specs.Text.{is_identifier}
-use Rattle.idl_grammar.specs.Text.{Lexeme, Text, lexeme_at, symbol_at, is_in}
+use Rattle.idl_grammar.specs.Text.{Lexeme, Text, lexeme_at, symbol_at, is_in, symbol_among, no_words, IsFormed}
 use Rattle.idl_grammar.proofs.Sequences.{disjoint, apart}
 use Rattle.idl_lexer.specs.Pieces.{IsUuid}
 use Rattle.idl_grammar.specs.Symbols as symbol
-use Rattle.idl_grammar.specs.Lexemes.{symbol_among, no_words, IsFormed}
 use Rattle.idl_grammar.proofs.Formed.{among_passes, is_no_uuid, no_uuid}
 use Rattle.acf_reader.specs.Symbols.{own_words}
 use Rattle.acf_reader.specs.FromIdl.{names_of_idl, symbol_from, lexeme_from}

@@ -4,21 +4,19 @@ use Rattle.std.specs.List.{list_all}
 use Rattle.std.specs.Str.{bytes_eq}
 use Rattle.std.proofs.lemmas.Slice.Eq.{bytes_eq-Decides}
 use Rattle.std.proofs.Math.ListN.{drop_of_length-le}
-use Rattle.idl_grammar.specs.Text.{Lexeme, Text, is_in}
+use Rattle.idl_grammar.specs.Text.{Lexeme, Text, is_in, symbol_among}
 use Rattle.std.proofs.lemmas.Bool.{and_parts as both}
 use Rattle.nd_lemmas.proofs.Booleans.{clash}
 use Rattle.idl_lexer.specs.declared.tokens.TokenKind.{TokenKind}
 use Rattle.idl_lexer.specs.declared.tokens.TokenKind.TheVariants as token
 use Rattle.idl_lexer.specs.declared.tokens.Token.{Token}
-use Rattle.idl_lexer.specs.Lexed.{Lexed}
+use Rattle.idl_lexer.specs.Verdict.{Lexed}
 use Rattle.idl_grammar.specs.Symbols.{Spelled, reserved_words, attribute_words, banned_words, banned_attributes, marks}
 use Rattle.idl_grammar.specs.Symbols as symbol
-use Rattle.idl_grammar.specs.Lexemes.{symbol_among}
-use Rattle.idl_grammar.specs.Lexemes as idl
+use Rattle.idl_grammar.specs.Text as idl
 use Rattle.idl_tokens.specs.declared.lexemes.Lexeme as program
 use Rattle.idl_tokens.specs.Lexemes.{text_of, seen_lexeme}
-use Rattle.acf_reader.specs.Symbols.{own_words}
-use Rattle.acf_reader.specs.Lexemes.{words, symbol_of, lexeme_of, lexemes}
+use Rattle.acf_reader.specs.Symbols.{own_words, words, symbol_of, lexeme_of, lexemes}
 use Rattle.acf_reader.specs.FromIdl.{names_of_idl, symbol_from, lexeme_from}
 use Rattle.idl_tokens.proofs.Tables.{drop_here}
 

@@ -5,12 +5,11 @@ use Rattle.nd_lemmas.proofs.Booleans.{clash}
 use Rattle.idl_grammar.specs.Text.{Lexeme, Text, Phrase, Rel, Lifted, Depth, Ban, symbol_at, is, is_in, nothing, never, mark, token, unless, optional, many, located, bracketed, many_brackets, ◌▹◌}
 use Rattle.idl_grammar.specs.Text.{◌⊗◌}
 use Rattle.idl_grammar.specs.ReadPhrases.{Passes, to_unit}
-use Rattle.idl_grammar.specs.Verdict.{derives, limits_before_but, all_but}
+use Rattle.idl_grammar.specs.Answers.{derives, limits_before_but, all_but, is_banned}
 use Rattle.idl_grammar.specs.declared.words.Spelling.{Spelling}
 use Rattle.idl_grammar.specs.Symbols as symbol
 use Rattle.idl_grammar.specs.Expressions.{spelling, spelled}
 use Rattle.idl_grammar.specs.Grammar.{begins_at, in_round, commas, is_banned_attribute}
-use Rattle.idl_grammar.specs.Answers.{is_banned}
 use Rattle.acf_reader.specs.declared.tree.HandleType.{HandleType}
 use Rattle.acf_reader.specs.declared.tree.HandleType.TheVariants as handle
 use Rattle.acf_reader.specs.declared.tree.AttributeKind.{AttributeKind}
@@ -18,9 +17,8 @@ use Rattle.acf_reader.specs.declared.tree.AttributeKind.TheVariants as kind
 use Rattle.acf_reader.specs.declared.tree.Attribute.{Attribute}
 use Rattle.acf_reader.specs.Symbols as word
 use Rattle.acf_reader.specs.Symbols.{names}
-use Rattle.acf_reader.specs.Tree as tree
-use Rattle.acf_reader.specs.Tree.{Attributes, Parameter, BodyElement, Acf}
-use Rattle.acf_reader.specs.Grammar.{ident, handle_type, attribute_kind, attribute, attributes, parameter, parameters, body_element, acf}
+use Rattle.acf_reader.specs.Grammar as tree
+use Rattle.acf_reader.specs.Grammar.{Attributes, Parameter, BodyElement, Acf, ident, handle_type, attribute_kind, attribute, attributes, parameter, parameters, body_element, acf}
 use Rattle.acf_reader.specs.Answers.{IsAnswer}
 use Rattle.idl_grammar.proofs.Clean.{one_place, unbanned}
 

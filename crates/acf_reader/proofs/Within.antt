@@ -1,12 +1,11 @@
 -- A name is in the text; `code`, or a banned word in its place.
 use Rattle.std.proofs.Common.{◌≡◌, ℕ, ◌+◌, ◌<◌, Bool, true, false, ◌||◌, cond, length, refl, ap, ◌∙◌, Ok, Err}
-use Rattle.idl_grammar.specs.Text.{Text, symbol_at, is, is_in, Ban}
+use Rattle.idl_grammar.specs.Text.{Text, symbol_at, is, is_in, Ban, no_words}
 use Rattle.idl_grammar.specs.ReadPhrases.{Read, Syntax, Passes, mark_read}
 use Rattle.std.proofs.lemmas.Bool.{eqb-true}
 use Rattle.std.proofs.Math.Bool.{or-false}
 use Rattle.idl_grammar.proofs.Within.{test_within}
 use Rattle.idl_grammar.proofs.Sequences.{disjoint, apart}
-use Rattle.idl_grammar.specs.Lexemes.{no_words}
 use Rattle.idl_grammar.specs.Symbols as symbol
 use Rattle.acf_reader.specs.Symbols as word
 use Rattle.acf_reader.specs.Symbols.{names}

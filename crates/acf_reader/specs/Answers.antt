@@ -2,10 +2,8 @@
 use Rattle.std.specs.Prelude.{Result}
 use Rattle.idl_grammar.specs.Text.{Text}
 use Rattle.idl_grammar.specs.ReadPhrases.{Fault}
-use Rattle.idl_grammar.specs.Verdict.{whole_read}
-use Rattle.idl_grammar.specs.Answers.{Answers, named}
-use Rattle.acf_reader.specs.Tree.{Acf}
-use Rattle.acf_reader.specs.Grammar.{acf}
+use Rattle.idl_grammar.specs.Answers.{whole_read, Answers, named}
+use Rattle.acf_reader.specs.Grammar.{Acf, acf}
 use Rattle.acf_reader.specs.Reading.{acf_read}
 
 -- The tree of the text, or the first token with which no file of the grammar goes on. A word that is banned anywhere is named as

@@ -1,14 +1,14 @@
 -- Texts and what is answered on their tokens.
-use Rattle.std.specs.Prelude.{ℕ, List, [], ◌∷◌, Some, None, codes}
+use Rattle.std.specs.Prelude.{ℕ, List, [], ◌∷◌, ◌++◌, Some, None, codes}
 use Rattle.idl_lexer.specs.declared.tokens.TokenKind.{TokenKind}
 use Rattle.idl_lexer.specs.declared.tokens.TokenKind.TheVariants as token
 use Rattle.idl_lexer.specs.declared.tokens.Token.{Token}
-use Rattle.idl_lexer.specs.Lexed.{Lexed}
+use Rattle.idl_lexer.specs.Verdict.{Lexed}
 use Rattle.idl_grammar.specs.declared.words.Spelling.{Spelling}
 use Rattle.acf_reader.specs.declared.tree.HandleType.TheVariants as handle
 use Rattle.acf_reader.specs.declared.tree.AttributeKind.TheVariants as kind
-use Rattle.acf_reader.specs.Tree as tree
-use Rattle.acf_reader.specs.Tree.{Acf}
+use Rattle.acf_reader.specs.Grammar as tree
+use Rattle.acf_reader.specs.Grammar.{Acf}
 
 abbrev piece : TokenKind → ℕ → ℕ → Token
 piece kind from to = record { kind = kind; from = from; to = to }
@@ -19,7 +19,9 @@ spelled_at at octets = record { at = at; octets = octets }
 -- a file with an element or two of each form
 abbrev pub small_file : Lexed
 small_file = record {
-  text = codes "[explicit_handle, implicit_handle(handle_t h)] interface a { include \"b.h\"; typedef [heap] t, u; [code] f(x, [in_line] in); include(); }";
+  text =
+      codes "[explicit_handle, implicit_handle(handle_t h)] interface a { include \"b.h\"; "
+      ++ codes "typedef [heap] t, u; [code] f(x, [in_line] in); include(); }";
   tokens =
       piece token.Mark 0 1 ∷ piece token.Word 1 16 ∷ piece token.Mark 16 17 ∷ piece token.Word 18 33 ∷ piece token.Mark 33 34 ∷
       piece token.Word 34 42 ∷ piece token.Word 43 44 ∷ piece token.Mark 44 45 ∷ piece token.Mark 45 46 ∷ piece token.Word 47 56 ∷

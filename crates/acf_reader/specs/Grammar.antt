@@ -1,22 +1,47 @@
--- The grammar of attribute configuration files (C706, section 4.3), from small to large. A phrase is a relation of a text, the
--- place where it begins and the place past it; each line is one alternative. depth is the number of brackets that are open
--- where a phrase begins; it is 4 at most, so the limit of 64 refuses nothing.
-use Rattle.std.specs.Prelude.{ℕ, ◌+◌, Bool, true, false, List, [], ◌∷◌}
+-- The grammar of attribute configuration files (C706, section 4.3), from small to large, and the tree that it relates to texts.
+use Rattle.std.specs.Prelude.{ℕ, ◌+◌, Bool, true, false, List, [], ◌∷◌, Option}
+use Rattle.idl_grammar.specs.declared.words.Spelling.{Spelling}
 use Rattle.idl_grammar.specs.Text.{Rel, Ban, nothing, mark, token, optional, unless, many, bracketed, located, is_in, ◌▹◌, ◌⊗◌, ◌⊳◌}
 use Rattle.idl_grammar.specs.ReadPhrases.{to_unit}
-use Rattle.idl_grammar.specs.declared.words.Spelling.{Spelling}
 use Rattle.idl_grammar.specs.Symbols as symbol
 use Rattle.idl_grammar.specs.Expressions.{spelling, spelled}
 use Rattle.idl_grammar.specs.Grammar.{in_round, commas, begins_at, is_banned_attribute}
+use Rattle.acf_reader.specs.declared.tree.Attribute.{Attribute}
 use Rattle.acf_reader.specs.declared.tree.HandleType.{HandleType}
 use Rattle.acf_reader.specs.declared.tree.HandleType.TheVariants as handle
 use Rattle.acf_reader.specs.declared.tree.AttributeKind.{AttributeKind}
 use Rattle.acf_reader.specs.declared.tree.AttributeKind.TheVariants as kind
-use Rattle.acf_reader.specs.declared.tree.Attribute.{Attribute}
 use Rattle.acf_reader.specs.Symbols as word
 use Rattle.acf_reader.specs.Symbols.{names}
-use Rattle.acf_reader.specs.Tree as tree
-use Rattle.acf_reader.specs.Tree.{Attributes, Parameter, BodyElement, Acf}
+
+-- ## The tree without where it lies in memory
+
+-- Each part has the name that it has in the program.
+
+pub record Attributes : Type 0 where
+  pub at : ℕ
+  pub list : List Attribute
+
+pub record Parameter : Type 0 where
+  pub at : ℕ
+  pub attributes : Option Attributes
+  pub name : Spelling
+
+pub data BodyElement : Type 0 where
+  Include : (at : ℕ) (files : List Spelling) → BodyElement
+  Types : (at : ℕ) (attributes : Attributes) (names : List Spelling) → BodyElement
+  Operation : (at : ℕ) (attributes : Option Attributes) (name : Spelling) (parameters : List Parameter) → BodyElement
+
+pub record Acf : Type 0 where
+  pub at : ℕ
+  pub attributes : Option Attributes
+  pub name : Spelling
+  pub body : List BodyElement
+
+-- ## The grammar
+
+-- A phrase is a relation of a text, the place where it begins and the place past it; each line is one alternative. depth is the number of
+-- brackets that are open where a phrase begins; it is 4 at most, so the limit of 64 refuses nothing.
 
 -- a name, inside attribute brackets or outside
 abbrev pub ident : Bool → Rel Spelling
@@ -65,10 +90,10 @@ parameters depth (p ∷ others) = commas (parameter depth) (p ∷ others)
 --       | "typedef" aattrs Ident { "," Ident } ";"
 --       | [ aattrs ] Ident "(" [ aparam { "," aparam } ] ")" ";"
 unfoldable pub body_element : ℕ → Rel BodyElement
-body_element depth (tree.Include at files) = begins_at at (mark word.Include ▹ commas (spelled symbol.Quoted) files ▹ mark symbol.Semicolon)
-body_element depth (tree.Types at a names) =
+body_element depth (Include at files) = begins_at at (mark word.Include ▹ commas (spelled symbol.Quoted) files ▹ mark symbol.Semicolon)
+body_element depth (Types at a names) =
     begins_at at (mark symbol.Typedef ▹ attributes depth a ▹ commas (ident false) names ▹ mark symbol.Semicolon)
-body_element depth (tree.Operation at a name ps) =
+body_element depth (Operation at a name ps) =
     begins_at at (optional (attributes depth) a ▹ ident false name ▹ in_round depth (parameters (depth + 1)) ps ▹ mark symbol.Semicolon)
 
 -- acf = [ aattrs ] "interface" Ident "{" { abody } "}"

@@ -1,7 +1,5 @@
 pub mod Symbols
-pub mod Lexemes
 pub mod FromIdl
-pub mod Tree
 pub mod Grammar
 pub mod Seen
 pub mod Reading

@@ -2,12 +2,11 @@
 -- brackets that are open at the place.
 use Rattle.std.specs.Prelude.{ℕ, ◌+◌, Bool, true, false, List, [], ◌∷◌, Option, None, Ok}
 use Rattle.idl_grammar.specs.Text.{Text, lexeme_at, is_in, Ban}
-use Rattle.idl_grammar.specs.ReadPhrases.{Read, then, turned, token_read, ruled_read, mark_read, to_unit, located_read, option_read, list_read}
+use Rattle.idl_grammar.specs.ReadPhrases.{Read, and_then, turned, token_read, ruled_read, mark_read, to_unit, located_read, option_read, list_read}
 use Rattle.idl_grammar.specs.ReadPhrases.{behind_read}
 use Rattle.idl_grammar.specs.declared.words.Spelling.{Spelling}
 use Rattle.idl_grammar.specs.Symbols as symbol
-use Rattle.idl_grammar.specs.Limits.{Meant, meant}
-use Rattle.idl_grammar.specs.Expressions.{spelling}
+use Rattle.idl_grammar.specs.Expressions.{Meant, meant, spelling}
 use Rattle.idl_grammar.specs.ReadExpressions.{spelled_read}
 use Rattle.idl_grammar.specs.Grammar.{is_banned_attribute}
 use Rattle.idl_grammar.specs.Reading.{branch_read, bind_read, one_of_read, in_round_read, in_square_read, in_curly_read, commas_read, line_read}
@@ -18,8 +17,8 @@ use Rattle.acf_reader.specs.declared.tree.AttributeKind.TheVariants as kind
 use Rattle.acf_reader.specs.declared.tree.Attribute.{Attribute}
 use Rattle.acf_reader.specs.Symbols as word
 use Rattle.acf_reader.specs.Symbols.{names}
-use Rattle.acf_reader.specs.Tree as tree
-use Rattle.acf_reader.specs.Tree.{Attributes, Parameter, BodyElement, Acf}
+use Rattle.acf_reader.specs.Grammar as tree
+use Rattle.acf_reader.specs.Grammar.{Attributes, Parameter, BodyElement, Acf}
 
 abbrev pub ident_read : Bool → Text → ℕ → Read Spelling
 ident_read inside t i = token_read (λ a. is_in (names inside) a.symbol) spelling t i
@@ -32,7 +31,7 @@ handle_type_read t i =
 
 -- the type and the name of a variable
 unfoldable pub variable_read : Text → ℕ → Read (HandleType × Spelling)
-variable_read t i = then (handle_type_read t i) (λ c m. ident_read true t m)
+variable_read t i = and_then (handle_type_read t i) (λ c m. ident_read true t m)
 
 unfoldable pub implicit_handle_read : Text → ℕ → ℕ → Read (HandleType × Spelling)
 implicit_handle_read t depth i = behind_read word.ImplicitHandle t (in_round_read depth t (variable_read t)) i
@@ -86,7 +85,7 @@ abbrev pub parameter_of : ℕ × (Option Attributes × Spelling) → Parameter
 parameter_of p = record { at = p.0; attributes = p.1.0; name = p.1.1 }
 
 unfoldable pub parameter_read : Text → ℕ → ℕ → Read Parameter
-parameter_read t depth i = turned parameter_of (located_read t i (then (maybe_attributes_read t depth i) (λ a m. ident_read false t m)))
+parameter_read t depth i = turned parameter_of (located_read t i (and_then (maybe_attributes_read t depth i) (λ a m. ident_read false t m)))
 
 unfoldable pub parameters_read : Text → ℕ → ℕ → Read (List Parameter)
 parameters_read t depth i = branch_read (symbol.CloseRound ∷ []) t i (Ok ([], i)) (commas_read t (parameter_read t depth) i)
@@ -99,7 +98,7 @@ signature_read t depth i = line_read t (in_round_read depth t (parameters_read t
 unfoldable pub types_read : Text → ℕ → ℕ → ℕ → Read BodyElement
 types_read t depth at i =
     turned (λ p. tree.Types at p.0 p.1)
-    (behind_read symbol.Typedef t (λ m. then (attributes_read t depth m) (λ a o. line_read t (commas_read t (ident_read false t) o))) i)
+    (behind_read symbol.Typedef t (λ m. and_then (attributes_read t depth m) (λ a o. line_read t (commas_read t (ident_read false t) o))) i)
 
 -- What begins with `include` at an octet: strings where one follows, else an operation of that name.
 unfoldable pub include_read : Text → ℕ → ℕ → ℕ → Read BodyElement
@@ -113,7 +112,7 @@ include_read t depth at i =
 unfoldable pub operation_read : Text → ℕ → ℕ → ℕ → Read BodyElement
 operation_read t depth at i =
     turned (λ p. tree.Operation at p.0 p.1.0 p.1.1)
-    (then (maybe_attributes_read t depth i) (λ a m. then (ident_read false t m) (λ name o. signature_read t depth o)))
+    (and_then (maybe_attributes_read t depth i) (λ a m. and_then (ident_read false t m) (λ name o. signature_read t depth o)))
 
 unfoldable pub element_read : Text → ℕ → ℕ → Read BodyElement
 element_read t depth i =
@@ -137,5 +136,5 @@ unfoldable pub acf_read : Text → ℕ → Read Acf
 acf_read t i =
     turned acf_of
     (located_read t i
-    (then (maybe_attributes_read t 0 i)
-    (λ a m. behind_read symbol.Interface t (λ o. then (ident_read false t o) (λ name q. in_curly_read 0 t (body_read t 1) q)) m)))
+    (and_then (maybe_attributes_read t 0 i)
+    (λ a m. behind_read symbol.Interface t (λ o. and_then (ident_read false t o) (λ name q. in_curly_read 0 t (body_read t 1) q)) m)))

@@ -5,7 +5,7 @@ use Rattle.acf_reader.specs.declared.tree.Parameter as parameter
 use Rattle.acf_reader.specs.declared.tree.BodyElement as elements
 use Rattle.acf_reader.specs.declared.tree.BodyElement.TheVariants as element
 use Rattle.acf_reader.specs.declared.tree.Acf as acf
-use Rattle.acf_reader.specs.Tree as tree
+use Rattle.acf_reader.specs.Grammar as tree
 
 abbrev pub seen_attributes : attributes.Attributes → tree.Attributes
 seen_attributes a = record { at = a.at; list = a.list.items }

@@ -5,7 +5,7 @@ use Rattle.idl_grammar.specs.ReadPhrases.{Fault, Syntax, Passes}
 use Rattle.idl_grammar.specs.declared.fault.SyntaxFault.{SyntaxFault}
 use Rattle.idl_grammar.specs.declared.fault.SyntaxFault.TheVariants as errors
 use Rattle.acf_reader.specs.declared.tree.Acf.{Acf}
-use Rattle.acf_reader.specs.Tree as tree
+use Rattle.acf_reader.specs.Grammar as tree
 use Rattle.acf_reader.specs.Seen.{seen_acf}
 
 -- a fact of the answer, unless memory was wanting

@@ -4,15 +4,13 @@ ghost use Rattle.std.specs.Prelude.{◌≡◌, ◌<◌, ℕ, length, false, Resu
 ghost use Rattle.idl_grammar.specs.Text.{Text, Depth, Ban, Lifted};
 ghost use Rattle.idl_grammar.specs.ReadPhrases.{Fault, Syntax, Passes};
 ghost use Rattle.idl_grammar.specs.Gives.{IsText};
-ghost use Rattle.idl_grammar.specs.Verdict.{derives};
-ghost use Rattle.idl_lexer.specs.Lexed.{Lexed};
-ghost use Rattle.idl_grammar.specs.Answers.{is_banned};
+ghost use Rattle.idl_grammar.specs.Answers.{derives, is_banned};
+ghost use Rattle.idl_lexer.specs.Verdict.{Lexed};
 ghost use Rattle.acf_reader.specs.Answers.{IsAnswer, acf_answer};
 ghost use Rattle.acf_reader.specs.Examples.{small_file, small_tree, unended, include_behind_attributes, attribute_name, banned_attribute};
 ghost use Rattle.acf_reader.specs.Examples.{banned_word};
-ghost use Rattle.acf_reader.specs.Grammar.{acf};
-ghost use Rattle.acf_reader.specs.Lexemes.{lexemes};
-ghost use Rattle.acf_reader.specs.Tree.{Acf};
+ghost use Rattle.acf_reader.specs.Grammar.{acf, Acf};
+ghost use Rattle.acf_reader.specs.Symbols.{lexemes};
 
 /// What is answered on the tokens of a file is right, also where it names a word that is banned anywhere, and no other answer is.
 pub fn acf_is_answered()

@@ -1,10 +1,9 @@
 // Tokens as the grammar sees them.
 ghost use Rattle.std.specs.Prelude.{◌≡◌, map, IfOk};
-ghost use Rattle.idl_grammar.specs.Text.{is_in};
-ghost use Rattle.idl_grammar.specs.Lexemes.{symbol_among, IsFormed};
+ghost use Rattle.idl_grammar.specs.Text.{is_in, symbol_among, IsFormed};
 ghost use Rattle.idl_tokens.specs.Lexemes.{text_of};
 ghost use Rattle.acf_reader.specs.FromIdl.{names_of_idl, symbol_from};
-ghost use Rattle.acf_reader.specs.Lexemes.{lexemes as grammar_lexemes};
+ghost use Rattle.acf_reader.specs.Symbols.{lexemes as grammar_lexemes};
 
 use crate::words::OWN_WORDS;
 use idl_lexer::Tokens;

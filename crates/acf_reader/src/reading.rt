@@ -2,13 +2,13 @@
 ghost use Rattle.std.specs.Prelude.{◌≡◌, ◌≤◌, ◌<◌, length, Result};
 ghost use Rattle.idl_grammar.specs.ReadPhrases.{Fault};
 ghost use Rattle.idl_grammar.specs.Gives.{GivesWhole};
-ghost use Rattle.idl_grammar.specs.Verdict.{whole_read};
+ghost use Rattle.idl_grammar.specs.Answers.{whole_read};
 ghost use Rattle.acf_reader.specs.Answers.{IsAnswer, acf_answer};
-ghost use Rattle.acf_reader.specs.Lexemes.{lexemes as grammar_lexemes};
+ghost use Rattle.acf_reader.specs.Symbols.{lexemes as grammar_lexemes};
 ghost use Rattle.acf_reader.specs.Reading.{acf_read};
 ghost use Rattle.acf_reader.specs.Seen.{seen_acf};
 ghost use Rattle.acf_reader.specs.Told.{Told};
-ghost use Rattle.acf_reader.specs.Tree as tree;
+ghost use Rattle.acf_reader.specs.Grammar as tree;
 
 use crate::body::acf;
 use crate::lexemes::lexemes;

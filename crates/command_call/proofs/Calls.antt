@@ -7,8 +7,7 @@ use Rattle.std.specs.List.{slice_get}
 use Rattle.std.specs.Io.KnownBytes.{Consumes, IsAtEnd}
 use Rattle.nd_base.proofs.Rising.{rose_later}
 use Rattle.nd_base.specs.declared.octets.Order.{Order}
-use Rattle.nd_base.specs.Counts.{Rose}
-use Rattle.nd_base.specs.Over.{SourceSeen, HasRisen}
+use Rattle.nd_base.specs.Over.{Rose, SourceSeen, HasRisen}
 use Rattle.nd_types.specs.declared.interface.Interface.{Interface}
 use Rattle.nd_types.specs.declared.types.Operation.{Operation}
 use Rattle.nd_value.specs.Setting.{Setting}
@@ -16,8 +15,8 @@ use Rattle.nd_value.specs.Fitting.{setting_of}
 use Rattle.rpc_pdu.specs.declared.pdu.Wanted.{Wanted}
 use Rattle.rpc_pdu.specs.declared.pdu.Joined.{Joined}
 use Rattle.rpc_pdu.specs.Fragments.{Fragments}
-use Rattle.rpc_pdu.specs.Joined as pdu
-use Rattle.command_decode.specs.Printed.{IsDecoding, IsWhole, IsPrinted, IsInputCause}
+use Rattle.rpc_pdu.specs.Fragments as pdu
+use Rattle.command_decode.specs.Decoded.{IsDecoding, IsWhole, IsPrinted, IsInputCause}
 use Rattle.command_refusals.specs.declared.refusal.Refusal.{Refusal}
 use Rattle.command_refusals.specs.declared.refusal.Refusal.TheVariants.{Memory, Absent, FileFailed, BadIdl, NoOperation, ReadFault, BadOctets, BadText, BadValue, TooLong, BadRequest, BadLabel}
 use Rattle.command_refusals.specs.declared.refusal.Refusal.TheVariants.{ShortLabel, TooFewEnds, EndFailed, BadPdu, NotCompatible, BadScript, LongScript}

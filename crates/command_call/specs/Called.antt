@@ -15,8 +15,8 @@ use Rattle.nd_value.specs.Fitting.{setting_of}
 use Rattle.rpc_pdu.specs.declared.pdu.Wanted.{Wanted}
 use Rattle.rpc_pdu.specs.declared.pdu.Wanted.TheVariants.{Request, Response}
 use Rattle.rpc_pdu.specs.Fragments.{Fragments}
-use Rattle.rpc_pdu.specs.Joined as pdu
-use Rattle.command_decode.specs.Printed.{IsDecoding, IsWhole, IsInputCause}
+use Rattle.rpc_pdu.specs.Fragments as pdu
+use Rattle.command_decode.specs.Decoded.{IsDecoding, IsWhole, IsInputCause}
 use Rattle.command_refusals.specs.declared.refusal.Refusal.{Refusal}
 use Rattle.command_refusals.specs.declared.refusal.Refusal.TheVariants.{Memory, ReadFault, BadOctets, BadPdu}
 use Rattle.command_refusals.specs.declared.refusal.OctetsFault.{OctetsFault}
@@ -91,7 +91,7 @@ pub record IsStubSource (p : SourceSeen) (stub : List ℕ) : Type 0 where
   pub left : p.left ≡ Some stub
   pub reads : HasRisen p.faults → ⊥
 
--- why stub data are refused; of memory no more is said
+-- why stub data are refused; running out of memory needs no cause
 abbrev pub IsStubCause : List ℕ → Setting → Order → Refusal → Type 0
 IsStubCause stub w order Memory = ⊤
 IsStubCause stub w order (BadOctets place why) = (p : SourceSeen) × IsStubSource p stub × IsInputCause p w order (BadOctets place why)
@@ -108,7 +108,7 @@ pub record HasBadStub (s : SourceSeen) (i : Interface) (op : Option ℕ) (place 
   pub is_call : IsCall i op octets order call operation stub
   pub cause : IsStubCause stub (setting_of i operation (side op)) order (BadOctets place why)
 
--- why the fragments of a source are not printed; of memory no more is said
+-- why the fragments of a source are not printed; running out of memory needs no cause
 abbrev pub IsCallCause : SourceSeen → Interface → Option ℕ → Refusal → Type 0
 IsCallCause s i op Memory = ⊤
 IsCallCause s i op ReadFault = HasRisen s.faults

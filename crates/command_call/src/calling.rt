@@ -6,9 +6,8 @@ ghost use Rattle.nd_base.specs.Text.{joined as joined_text};
 ghost use Rattle.nd_types.specs.declared.types.Operation.{Operation};
 ghost use Rattle.nd_value.specs.Fitting.{setting_of};
 ghost use Rattle.rpc_pdu.specs.declared.pdu.Wanted.TheVariants.{Request};
-ghost use Rattle.rpc_pdu.specs.Fragments.{HasNumber};
-ghost use Rattle.rpc_pdu.specs.Joined.{IsJoined};
-ghost use Rattle.command_decode.specs.Printed.{IsDecoding};
+ghost use Rattle.rpc_pdu.specs.Fragments.{HasNumber, IsJoined};
+ghost use Rattle.command_decode.specs.Decoded.{IsDecoding};
 ghost use Rattle.command_call.specs.Called.{IsCalled, IsCallCause, IsUnjoined, IsEnd, IsNoEnd, IsNoNumber, IsStubCause};
 ghost use Rattle.command_call.specs.Called.{wanted as wanted_by, side as side_by, number as number_by, call_line};
 

@@ -3,20 +3,18 @@ use Rattle.std.proofs.Common.{◌≡◌, ℕ, List, Result, Ok, Err, refl}
 use Rattle.idl_grammar.specs.Text.{Depth, Ban}
 use Rattle.idl_grammar.specs.ReadPhrases.{Fault, Syntax, Passes}
 use Rattle.idl_lexer.specs.declared.tokens.Token.{Token}
-use Rattle.idl_lexer.specs.Lexed.{Lexed, place_of}
-use Rattle.idl_lexer.specs.Verdict.{AreTokens, Verdict, IsVerdict, Cut, Refused}
+use Rattle.idl_lexer.specs.Verdict.{Lexed, place_of, AreTokens, Verdict, IsVerdict, Cut, Refused}
 use Rattle.idl_lexer.proofs.Answered.{each_text}
 use Rattle.idl_grammar.specs.declared.fault.SyntaxFault.{SyntaxFault}
 use Rattle.idl_grammar.specs.declared.fault.SyntaxFault.TheVariants as syntax
-use Rattle.idl_names.specs.Files.{IsSyntaxFault}
-use Rattle.acf_reader.specs.Tree.{Acf}
-use Rattle.acf_reader.specs.Lexemes.{lexemes}
+use Rattle.idl_names.specs.Walk.{IsSyntaxFault}
+use Rattle.acf_reader.specs.Grammar.{Acf}
+use Rattle.acf_reader.specs.Symbols.{lexemes}
 use Rattle.acf_reader.specs.Answers.{IsAnswer, acf_answer}
 use Rattle.acf_reader.proofs.AcfLaws.{acf_answered, lexemes_real}
 use Rattle.command_refusals.specs.declared.refusal.IdlReason.{IdlReason}
 use Rattle.command_refusals.specs.declared.refusal.IdlReason.TheVariants as reason
-use Rattle.command_compile.specs.AcfFile.{IsAcf, IsNoAcf}
-use Rattle.command_compile.specs.Idl.{word_at, IsAcfFault}
+use Rattle.command_compile.specs.Idl.{IsAcf, IsNoAcf, word_at, IsAcfFault}
 
 pub data IsAcfReadAs (text : List ℕ) : Type 0 where
   as_acf : (t : Acf) → IsAcf text t → IsAcfReadAs text

@@ -3,17 +3,15 @@ use Rattle.std.proofs.Common.{◌≡◌, ℕ, ◌+◌, ◌<◌, ◌≤◌, true,
 use Rattle.std.proofs.lemmas.List.{length-map}
 use Rattle.idl_grammar.specs.Text.{Depth, Ban}
 use Rattle.idl_grammar.specs.ReadPhrases.{Fault, Syntax, Passes}
-use Rattle.idl_grammar.specs.Verdict.{whole_read}
+use Rattle.idl_grammar.specs.Answers.{whole_read, is_banned, named_fault, named}
 use Rattle.idl_grammar.proofs.Exact.{front}
 use Rattle.idl_grammar.proofs.Within.{mark_within}
-use Rattle.idl_lexer.specs.Lexed.{Lexed}
+use Rattle.idl_lexer.specs.Verdict.{Lexed}
 use Rattle.idl_grammar.specs.Symbols as symbol
-use Rattle.idl_grammar.specs.Answers.{is_banned, named_fault, named}
 use Rattle.idl_grammar.specs.declared.fault.SyntaxFault.{SyntaxFault}
 use Rattle.idl_grammar.specs.declared.fault.SyntaxFault.TheVariants as syntax
-use Rattle.acf_reader.specs.Tree.{Acf}
-use Rattle.acf_reader.specs.Grammar.{acf}
-use Rattle.acf_reader.specs.Lexemes.{lexemes}
+use Rattle.acf_reader.specs.Grammar.{Acf, acf}
+use Rattle.acf_reader.specs.Symbols.{lexemes}
 use Rattle.acf_reader.specs.Reading.{acf_read}
 use Rattle.acf_reader.specs.Answers.{IsAnswer, acf_answer}
 use Rattle.acf_reader.specs.Told.{Told}

@@ -6,14 +6,12 @@ use Rattle.std.specs.List.{slice_get}
 use Rattle.std.proofs.lemmas.Bool.{leb-true, leb-false}
 use Rattle.std.proofs.lemmas.Option.{same_Some}
 use Rattle.nd_base.specs.declared.octets.Place.{Place}
-use Rattle.nd_base.specs.Outside.{IsContent}
+use Rattle.nd_base.specs.Over.{IsContent}
 use Rattle.idl_grammar.specs.Tree.{Tree}
 use Rattle.idl_scope.specs.declared.name_fault.NameFault.TheVariants as names
-use Rattle.idl_names.specs.Files.{IsFile}
-use Rattle.idl_names.specs.Sources.{Source, and_source, source}
-use Rattle.idl_names.specs.Walk.{State, Due, Load, IsDue, Done, Stopped, Walk, names_of, start, all_of, with_source, all_done, goes_on, faults, ends, again, failed, enters, short, short_in_load}
-use Rattle.idl_names.specs.Walk.{short_after_load}
-use Rattle.command_compile.specs.Asked.{IsNext, AreAsked, all_due}
+use Rattle.idl_names.specs.Walk.{IsFile, Source, and_source, source, State, Due, Load, IsDue, Done, Stopped, Walk, names_of, start, all_of, with_source, all_done, goes_on, faults, ends, again, failed}
+use Rattle.idl_names.specs.Walk.{enters, short, short_in_load, short_after_load}
+use Rattle.command_compile.specs.Compiled.{IsNext, AreAsked, all_due}
 use Rattle.command_compile.specs.Idl.{main_file, AreResolved}
 use Rattle.command_compile.proofs.Walks.{passed_fault, at_load}
 use Rattle.nd_lemmas.proofs.Lists.{get_in_front as get_front}

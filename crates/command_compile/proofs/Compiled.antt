@@ -1,10 +1,8 @@
 -- What compiling answers, from what its steps answer.
 use Rattle.std.proofs.Common.{◌≡◌, ◌∙◌, ◌≤◌, ℕ, arith, List, [], ◌∷◌, ◌++◌, append_assoc, length, Option, Some, Err, refl, sym, ap, subst, inl, inr}
-use Rattle.idl_grammar.specs.Text.{Depth, Ban}
+use Rattle.idl_grammar.specs.Text.{Depth, Ban, lexemes}
 use Rattle.idl_grammar.specs.ReadPhrases.{Syntax, Passes}
-use Rattle.idl_lexer.specs.Lexed.{Lexed}
-use Rattle.idl_lexer.specs.Verdict.{AreTokens}
-use Rattle.idl_grammar.specs.Lexemes.{lexemes}
+use Rattle.idl_lexer.specs.Verdict.{Lexed, AreTokens}
 use Rattle.idl_grammar.specs.Grammar as grammar
 use Rattle.idl_grammar.specs.Answers.{Answers}
 use Rattle.idl_grammar.specs.declared.fault.SyntaxFault.{SyntaxFault}
@@ -12,29 +10,21 @@ use Rattle.idl_grammar.specs.declared.fault.SyntaxFault.TheVariants as parser
 use Rattle.idl_parser.specs.Answered.{Told}
 use Rattle.idl_scope.specs.declared.name_fault.NameFault.{NameFault}
 use Rattle.idl_scope.specs.declared.name_fault.NameFault.TheVariants as names
-use Rattle.idl_names.specs.Sources.{Source, source, and_source}
+use Rattle.idl_names.specs.Walk.{Source, source, and_source, Walk, start, all_of, Stopped, IsFile, State, names_of, AsksAlong}
 use Rattle.idl_names.specs.Causes.{IsAbsent, IsFailed}
-use Rattle.idl_names.specs.Walk.{Walk, start, all_of, Stopped}
 use Rattle.command_refusals.specs.declared.refusal.Refusal.{Refusal}
 use Rattle.command_refusals.specs.declared.refusal.Refusal.TheVariants.{Memory}
-use Rattle.command_compile.specs.Idl.{main_file, IsMainFault, IsNameFault, IsDueImport, by_names, reported_fault, name_in, IsDueAfter, IsIdlFault}
+use Rattle.command_compile.specs.Idl.{main_file, IsMainFault, IsNameFault, IsDueImport, by_names, reported_fault, name_in, IsDueAfter, IsIdlFault, Means, AreResolved}
 use Rattle.idl_lexer.specs.declared.tokens.LexFault.TheVariants as lexical
-use Rattle.nd_base.specs.Outside.{IsContent, IsMissing}
+use Rattle.nd_base.specs.Over.{IsContent, IsMissing, Rose, FilesSeen, HasRisen}
 use Rattle.command_refusals.specs.declared.refusal.Refusal.TheVariants.{Absent, FileFailed, BadIdl, NoOperation, ReadFault, BadOctets, BadText, BadValue, TooLong, BadRequest, BadLabel, ShortLabel, TooFewEnds, EndFailed}
 use Rattle.command_refusals.specs.declared.refusal.Refusal.TheVariants.{BadPdu, NotCompatible, BadScript, LongScript}
 use Rattle.nd_base.proofs.Rising.{rose_later}
-use Rattle.nd_base.specs.Counts.{Rose}
-use Rattle.nd_base.specs.Over.{FilesSeen, HasRisen}
-use Rattle.command_compile.specs.Compiled.{IsTextCause, IsIdlCause}
+use Rattle.command_compile.specs.Compiled.{IsTextCause, IsIdlCause, AreAsked, AsksFiles, all_due, IsCompiled}
 use Rattle.command_compile.proofs.Walks.{walk_absent, walk_failed, last_source}
 use Rattle.std.specs.Prelude.{drop, option_to_list, IfOk, Result, Ok}
-use Rattle.idl_names.specs.Files.{IsFile}
-use Rattle.idl_names.specs.Walk.{State, names_of, AsksAlong}
 use Rattle.idl_grammar.specs.Tree.{Tree}
 use Rattle.nd_types.specs.declared.interface.Interface.{Interface}
-use Rattle.command_compile.specs.Asked.{AreAsked, AsksFiles, all_due}
-use Rattle.command_compile.specs.Idl.{Means, AreResolved}
-use Rattle.command_compile.specs.Compiled.{IsCompiled}
 use Rattle.command_compile.proofs.AskedFiles.{reached_names, along, all_names, all_asked}
 use Rattle.command_refusals.specs.Loads.{IsLoadCause}
 use Rattle.command_compile.specs.Reading.{IsReportedUnparsed, IsOrMemory, IsJudged, MeansAfter, AsksAfter, AsksOfImports}

@@ -6,12 +6,10 @@ use Rattle.std.proofs.lemmas.Bool.{and_parts as both}
 use Rattle.nd_lemmas.proofs.Lists.{join_all}
 use Rattle.idl_grammar.specs.declared.words.Spelling.{Spelling}
 use Rattle.idl_grammar.specs.Tree.{Tree}
-use Rattle.idl_scope.specs.Ended.{Ended, ended}
-use Rattle.idl_names.specs.Files.{IsFile}
-use Rattle.idl_names.specs.Sources.{Source}
+use Rattle.idl_scope.specs.Known.{Ended, ended}
+use Rattle.idl_names.specs.Walk.{IsFile, Source, State, Due, Pass, Load, End, Done, Walk, IsResolved, all_of, load_of}
 use Rattle.idl_scope.specs.Steps.{Step, attribute_steps, imports_of, declaration_steps}
 use Rattle.idl_names.specs.Walk as walk
-use Rattle.idl_names.specs.Walk.{State, Due, Pass, Load, End, Done, Walk, IsResolved, all_of, load_of}
 use Rattle.command_compile.proofs.TreeNames.{tree_named, file_named}
 
 abbrev pub ended_named : Ended → Bool

@@ -4,17 +4,16 @@ use Rattle.std.proofs.Common.{Ok, Err}
 use Rattle.std.proofs.Math.Decide.{dec_lt}
 use Rattle.std.proofs.lemmas.List.{length-append}
 use Rattle.nd_base.specs.declared.octets.Place.{Place}
-use Rattle.nd_base.specs.Outside.{loaded, IsContent, IsMissing}
+use Rattle.nd_base.specs.Over.{loaded, IsContent, IsMissing}
 use Rattle.idl_grammar.specs.Tree.{Tree}
 use Rattle.idl_scope.specs.declared.name_fault.NameFault.{NameFault}
 use Rattle.idl_scope.specs.declared.name_fault.NameFault.TheVariants as fault
 use Rattle.idl_names.specs.Decided.{is_decided, HasEnding, has_memory, FailsAs, HasToldEnding}
-use Rattle.idl_scope.specs.Known.{Known, passed, first_undefined}
-use Rattle.idl_names.specs.Sources.{Source, source, file_number}
+use Rattle.idl_scope.specs.Known.{Known, passed, first_undefined, has_ended}
+use Rattle.idl_names.specs.Walk.{Source, source, file_number, State, Due, Pass, Load, End, Ending, Done, Stopped, Walk, IsDue, IsResolved, IsRefused, start, all_of, most_files, with_known, with_ended}
+use Rattle.idl_names.specs.Walk.{with_source}
 use Rattle.idl_scope.specs.Steps.{Step}
 use Rattle.idl_names.specs.Walk as walk
-use Rattle.idl_scope.specs.Ended.{has_ended}
-use Rattle.idl_names.specs.Walk.{State, Due, Pass, Load, End, Ending, Done, Stopped, Walk, IsDue, IsResolved, IsRefused, start, all_of, most_files, with_known, with_ended, with_source}
 use Rattle.idl_names.proofs.Going.{IsOfNames, OfNames, passed_of_names}
 use Rattle.command_compile.specs.Read.{IsReadAs, AsFile, AsNoFile, AsUncut}
 use Rattle.command_compile.specs.Named.{Comes, ToNames, ToFault}

@@ -13,7 +13,7 @@ use Rattle.command_refusals.specs.declared.refusal.Refusal.{Refusal}
 use Rattle.command_refusals.specs.declared.refusal.Refusal.TheVariants.{Memory, Absent, FileFailed, BadIdl, NoOperation, ReadFault, BadOctets, BadText, BadValue, TooLong, BadRequest, BadLabel}
 use Rattle.command_refusals.specs.declared.refusal.Refusal.TheVariants.{ShortLabel, TooFewEnds, EndFailed}
 use Rattle.command_refusals.specs.declared.refusal.Refusal.TheVariants.{BadPdu, NotCompatible, BadScript, LongScript}
-use Rattle.command_compile.specs.Asked.{FileNames}
+use Rattle.command_compile.specs.Compiled.{FileNames}
 use Rattle.command_compile.specs.declared.places.Incompatible.{Incompatible}
 use Rattle.command_compile.specs.Compat.{AreCompiled, IsRefusal, IsCompatCause, IsBeside, IsIncompatible, IsPlaceText, IsExplained, IsOfOperation, fault_of}
 use Rattle.command_compile.proofs.Parts.{compared_cause}

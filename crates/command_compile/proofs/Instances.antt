@@ -3,9 +3,8 @@ use Rattle.std.proofs.Common.{◌≡◌, ℕ, true, arith, refl, codes, List, []
 use Rattle.nd_base.specs.declared.octets.Place.{Place}
 use Rattle.idl_scope.specs.declared.name_fault.NameFault.TheVariants as fault
 use Rattle.idl_names.specs.Decided.{is_decided, has_memory, FailsAs}
-use Rattle.idl_names.specs.Sources.{source}
+use Rattle.idl_names.specs.Walk.{source, Load, Ending, Stopped, Walk, start}
 use Rattle.idl_names.specs.Walk as walk
-use Rattle.idl_names.specs.Walk.{Load, Ending, Stopped, Walk, start}
 use Rattle.idl_names.proofs.Once.{one_ending, one_told_ending}
 
 -- Where no file is held, an import ends each walk as absent.

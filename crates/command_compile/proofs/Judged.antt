@@ -3,31 +3,26 @@ use Rattle.std.proofs.Common.{◌≡◌, ◌∙◌, ℕ, Bool, true, false, eqb,
 use Rattle.idl_grammar.specs.Text.{Depth, Ban}
 use Rattle.idl_grammar.specs.ReadPhrases.{Syntax, Passes}
 use Rattle.nd_base.specs.declared.octets.Place.{Place}
-use Rattle.nd_base.specs.Outside.{IsContent, IsMissing}
+use Rattle.nd_base.specs.Over.{IsContent, IsMissing, FilesSeen}
 use Rattle.nd_types.specs.declared.interface.Interface.{Interface}
-use Rattle.idl_lexer.specs.Lexed.{Lexed, place_of}
-use Rattle.idl_lexer.specs.Verdict.{AreTokens, IsVerdict, Refused}
+use Rattle.idl_lexer.specs.Verdict.{Lexed, place_of, AreTokens, IsVerdict, Refused}
 use Rattle.idl_lexer.specs.declared.tokens.LexKind.{LexKind}
 use Rattle.idl_grammar.specs.declared.fault.SyntaxFault.{SyntaxFault}
 use Rattle.idl_grammar.specs.declared.fault.SyntaxFault.TheVariants as parser
-use Rattle.idl_names.specs.Sources.{Source}
-use Rattle.idl_names.specs.Walk.{State}
+use Rattle.idl_names.specs.Walk.{Source, State}
 use Rattle.idl_rule_definitions.specs.Rules.{breach}
-use Rattle.acf_reader.specs.Tree.{Acf}
-use Rattle.acf_reader.specs.Lexemes.{lexemes}
+use Rattle.acf_reader.specs.Grammar.{Acf}
+use Rattle.acf_reader.specs.Symbols.{lexemes}
 use Rattle.acf_reader.specs.Answers.{IsAnswer}
 use Rattle.acf_reader.specs.Told.{Told}
-use Rattle.idl_check.specs.AcfRules.{acf_file, first_of_all}
-use Rattle.idl_check.specs.SeenAcf.{IsMeaningBeside}
+use Rattle.idl_check.specs.AcfRules.{acf_file, first_of_all, IsMeaningBeside}
 use Rattle.nd_base.specs.Text.{position_of}
 use Rattle.command_refusals.specs.declared.refusal.IdlReason.{IdlReason}
 use Rattle.command_refusals.specs.declared.refusal.IdlReason.TheVariants as reason
 use Rattle.command_refusals.specs.declared.refusal.Refusal.{Refusal}
 use Rattle.command_refusals.specs.declared.refusal.Refusal.TheVariants.{Memory, Absent, FileFailed, BadIdl, NoOperation, ReadFault, BadOctets, BadText, BadValue, TooLong, BadRequest, BadLabel, ShortLabel, TooFewEnds, EndFailed}
 use Rattle.command_refusals.specs.declared.refusal.Refusal.TheVariants.{BadPdu, NotCompatible, BadScript, LongScript}
-use Rattle.command_compile.specs.AcfFile.{AcfFile, IsBeside, tree_beside}
-use Rattle.nd_base.specs.Over.{FilesSeen}
-use Rattle.command_compile.specs.Idl.{AreResolved, Means, resolved_world, IsBroken, by_acf, by_rules, reported_by, reported_rule, reported_beside, word_at, IsAcfFault}
+use Rattle.command_compile.specs.Idl.{AcfFile, IsBeside, tree_beside, AreResolved, Means, resolved_world, IsBroken, by_acf, by_rules, reported_by, reported_rule, reported_beside, word_at, IsAcfFault}
 use Rattle.command_compile.specs.Compiled.{IsTextCause}
 use Rattle.command_refusals.specs.Loads.{IsLoadCause}
 use Rattle.command_compile.specs.Reading.{IsOrMemory, IsReportedAcf, IsReportedUnread, IsAcfCause, IsBesideCause, IsJudged}

@@ -4,16 +4,13 @@ use Rattle.std.specs.List.{list_any}
 use Rattle.std.proofs.lemmas.List.Folds.{list_any-append}
 use Rattle.nd_lemmas.proofs.Booleans.{clash}
 use Rattle.idl_grammar.specs.Tree.{Tree}
-use Rattle.idl_scope.specs.Ended.{Ended, ended}
+use Rattle.idl_scope.specs.Known.{Ended, ended}
 use Rattle.idl_scope.specs.Steps.{attribute_steps, imports_of, declaration_steps}
-use Rattle.idl_names.specs.Files.{IsFile}
-use Rattle.idl_names.specs.Sources.{Source}
+use Rattle.idl_names.specs.Walk.{IsFile, Source, State, Due, Pass, Load, End, Done, Walk, IsResolved, all_of, load_of, start, with_ended}
 use Rattle.idl_names.specs.Walk as walk
-use Rattle.idl_names.specs.Walk.{State, Due, Pass, Load, End, Done, Walk, IsResolved, all_of, load_of, start, with_ended}
-use Rattle.idl_rule_definitions.specs.World.{World}
-use Rattle.idl_rule_definitions.specs.Rules.{Breach, breaches}
+use Rattle.idl_rule_definitions.specs.Nodes.{World}
+use Rattle.idl_rule_definitions.specs.Rules.{Breach, breaches, first_broken, first_of}
 use Rattle.idl_rule_definitions.specs.Scene.{scene_of}
-use Rattle.idl_rule_definitions.specs.FirstBroken.{first_broken, first_of}
 use Rattle.nd_types.specs.Meant.{Meant}
 use Rattle.idl_rule_definitions.specs.Meaning.{meaning, main_among, header_meant, types_of, operations_of, HasIdentifiers}
 use Rattle.command_compile.specs.Read.{IsReadAs, AsFile, AsNoFile, AsUncut}

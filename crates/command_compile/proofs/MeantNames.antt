@@ -12,14 +12,12 @@ use Rattle.nd_types.specs.declared.types.Field.{Field}
 use Rattle.nd_types.specs.Legal.{is_named, is_named_default, has_named_parts, has_names}
 use Rattle.idl_grammar.specs.Tree.{Declarator, TypeSpec, Members, Cases, Arms, Arm, Tree}
 use Rattle.idl_grammar.specs.Tree as tree
-use Rattle.idl_names.specs.Files.{IsFile}
-use Rattle.idl_names.specs.Sources.{Source}
-use Rattle.idl_names.specs.Walk.{State, IsResolved}
+use Rattle.idl_names.specs.Walk.{IsFile, Source, State, IsResolved}
 use Rattle.idl_rule_definitions.specs.Nodes.{Construct, InMember, inside, Declared, declared, declared_members, LabelledArm, arms_of_cases, arms_of_arms, arms_of, Node, HeaderNode, AttributeNode}
 use Rattle.idl_rule_definitions.specs.Nodes.{SwitchNode, TagNode, BodyNode, EnumeratorNode, LabelNode, EmptyArmNode, DeclaratorNode, ConstantNode, TypeNode, OperationNode}
 use Rattle.idl_rule_definitions.specs.Types.{IdlType, Void, Handle, ContextHandle, Basic, Struct, Union, Enum, Array, Text, Pointer, Pipe, Names}
 use Rattle.idl_rule_definitions.specs.Scene.{Scoped, Scene, scene_of, Body}
-use Rattle.idl_rule_definitions.specs.ValueRules.{label_value}
+use Rattle.idl_rule_definitions.specs.DeclarationRules.{label_value}
 use Rattle.idl_rule_definitions.specs.Meaning.{field, parameter, name_of_arm, arm_by, labelled_arms, default_by, first_arm, default_arm, struct_of, defined_by, definition, types_of, operation_in}
 use Rattle.idl_rule_definitions.specs.Meaning.{operations_of, HasIdentifiers}
 use Rattle.idl_legal_laws.proofs.Among.{Each, each_at}

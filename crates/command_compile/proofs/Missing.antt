@@ -1,11 +1,10 @@
 -- One file alone is due and missing.
 use Rattle.std.proofs.Common.{◌≡◌, ◌∙◌, ℕ, List, [], ◌∷◌, length, Option, Some, refl, sym, ap, subst, inl, inr}
 use Rattle.std.proofs.lemmas.Option.{same_Some}
-use Rattle.nd_base.specs.Outside.{IsMissing}
+use Rattle.nd_base.specs.Over.{IsMissing}
 use Rattle.idl_grammar.specs.Tree.{Tree}
 use Rattle.idl_scope.specs.declared.name_fault.NameFault.TheVariants as names
-use Rattle.idl_names.specs.Sources.{Source, and_source}
-use Rattle.idl_names.specs.Walk.{State, Due, Ending, Done, Stopped, Walk, start, all_of, goes_on, faults, ends, again, absent, failed, enters}
+use Rattle.idl_names.specs.Walk.{Source, and_source, State, Due, Ending, Done, Stopped, Walk, start, all_of, goes_on, faults, ends, again, absent, failed, enters}
 use Rattle.idl_names.proofs.Once.{one_ending}
 use Rattle.command_compile.specs.Idl.{main_file, name_in, AreResolved, IsDueImport, IsDueAfter}
 use Rattle.command_compile.proofs.Compiled.{last_name}

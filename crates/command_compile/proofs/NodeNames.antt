@@ -9,17 +9,15 @@ use Rattle.nd_base.specs.Text.{is_identifier}
 use Rattle.idl_grammar.specs.declared.types.SwitchType.{SwitchType}
 use Rattle.idl_grammar.specs.Tree.{Attribute, Declarator, Enumerator, TypeSpec, Members, Cases, Arms, Arm, Parameter, Export}
 use Rattle.idl_grammar.specs.Tree as tree
-use Rattle.idl_scope.specs.Ended.{Ended}
+use Rattle.idl_scope.specs.Known.{Ended, Known}
 use Rattle.idl_scope.specs.Steps.{parameters_of}
-use Rattle.idl_rule_definitions.specs.World.{World}
+use Rattle.idl_rule_definitions.specs.Nodes.{World, Construct, Position, InTypedef, InTaggedType, InMember, InArm, InCasedArm, InOperation, inside, Declared, declared, ArmLabel, Node, HeaderNode}
+use Rattle.idl_rule_definitions.specs.Nodes.{SwitchNode, BodyNode, EnumeratorNode, EmptyArmNode, DeclaratorNode, TypeNode, OperationNode, attribute_nodes_from, attribute_nodes, switch_node}
+use Rattle.idl_rule_definitions.specs.Nodes.{switch_nodes, declared_members, parameter_construct, declared_parameters, declarator_nodes, labels_of, label_nodes, type_nodes, member_nodes, case_nodes}
+use Rattle.idl_rule_definitions.specs.Nodes.{arms_nodes, arm_nodes, parameter_nodes, typedef_node, result_of, operation_nodes, export_nodes, header_of, file_nodes, nodes}
 use Rattle.idl_rule_definitions.specs.Attributes.{switch_type_in}
-use Rattle.idl_rule_definitions.specs.Nodes.{Construct, Position, InTypedef, InTaggedType, InMember, InArm, InCasedArm, InOperation, inside, Declared, declared, ArmLabel, Node, HeaderNode, SwitchNode}
-use Rattle.idl_rule_definitions.specs.Nodes.{BodyNode, EnumeratorNode, EmptyArmNode, DeclaratorNode, TypeNode, OperationNode, attribute_nodes_from, attribute_nodes, switch_node, switch_nodes}
-use Rattle.idl_rule_definitions.specs.Nodes.{declared_members, parameter_construct, declared_parameters, declarator_nodes, labels_of, label_nodes, type_nodes, member_nodes, case_nodes, arms_nodes}
-use Rattle.idl_rule_definitions.specs.Nodes.{arm_nodes, parameter_nodes, typedef_node, result_of, operation_nodes, export_nodes, header_of, file_nodes, nodes}
 use Rattle.idl_rule_definitions.specs.Types.{Names}
 use Rattle.idl_rule_definitions.specs.Scene.{Scoped, scene_of, scoped_from, names_behind}
-use Rattle.idl_scope.specs.Known.{Known}
 use Rattle.idl_legal_laws.proofs.Among.{Each}
 use Rattle.command_compile.proofs.TreeNames.{is_named, are_named, type_named, members_named, cases_named, arms_named, arm_named, parameter_named, export_named}
 use Rattle.command_compile.proofs.EndedNames.{ended_named}

@@ -2,19 +2,17 @@
 use Rattle.std.proofs.Common.{◌≡◌, ◌∙◌, ℕ, List, Result, Ok, Err, refl, sym, ap, ap₂}
 use Rattle.idl_grammar.specs.ReadPhrases.{Fault}
 use Rattle.idl_lexer.specs.declared.tokens.LexKind.{LexKind}
-use Rattle.idl_lexer.specs.Lexed.{Lexed, place_of}
-use Rattle.idl_lexer.specs.Verdict.{IsVerdict, Cut, Refused}
+use Rattle.idl_lexer.specs.Verdict.{Lexed, place_of, IsVerdict, Cut, Refused}
 use Rattle.idl_lexer.proofs.OneVerdict.{one_verdict}
 use Rattle.idl_grammar.specs.declared.fault.SyntaxFault.{SyntaxFault}
 use Rattle.idl_grammar.specs.declared.fault.SyntaxFault.TheVariants as syntax
-use Rattle.acf_reader.specs.Lexemes.{lexemes}
-use Rattle.acf_reader.specs.Tree.{Acf}
+use Rattle.acf_reader.specs.Symbols.{lexemes}
+use Rattle.acf_reader.specs.Grammar.{Acf}
 use Rattle.acf_reader.specs.Answers.{acf_answer}
 use Rattle.acf_reader.proofs.AcfLaws.{acf_answered_alone, lexemes_real}
 use Rattle.command_refusals.specs.declared.refusal.IdlReason.{IdlReason}
 use Rattle.command_refusals.specs.declared.refusal.IdlReason.TheVariants as reason
-use Rattle.command_compile.specs.AcfFile.{IsAcfRead, IsAcf, IsNoAcf}
-use Rattle.command_compile.specs.Idl.{word_at, IsAcfFault}
+use Rattle.command_compile.specs.Idl.{IsAcfRead, IsAcf, IsNoAcf, word_at, IsAcfFault}
 use Rattle.command_compile.proofs.OneFile.{one_cut, fault_of, token_of, fault_is}
 use Rattle.idl_names.proofs.Once.{same_tokens}
 

@@ -1,19 +1,17 @@
 -- A text is a file of one tree, or is refused at one octet for one fault, and never both.
 use Rattle.std.proofs.Common.{◌≡◌, ◌∙◌, ℕ, List, Result, Ok, Err, sym, ap, ap₂, arith}
-use Rattle.idl_grammar.specs.Text.{Depth, Ban}
+use Rattle.idl_grammar.specs.Text.{Depth, Ban, lexemes}
 use Rattle.idl_grammar.specs.ReadPhrases.{Fault, Syntax, Passes}
 use Rattle.idl_lexer.specs.declared.tokens.LexKind.{LexKind}
-use Rattle.idl_lexer.specs.Lexed.{Lexed, place_of}
-use Rattle.idl_lexer.specs.Verdict.{IsVerdict, Cut, Refused}
+use Rattle.idl_lexer.specs.Verdict.{Lexed, place_of, IsVerdict, Cut, Refused}
 use Rattle.idl_lexer.proofs.OneVerdict.{one_verdict}
-use Rattle.idl_grammar.specs.Lexemes.{lexemes}
 use Rattle.idl_grammar.specs.Tree.{Tree}
 use Rattle.idl_grammar.specs.Answers.{file_answer}
 use Rattle.idl_grammar.proofs.FileLaws.{file_answered_alone}
 use Rattle.idl_grammar.proofs.RealTokens.{lexemes_real}
 use Rattle.idl_grammar.specs.declared.fault.SyntaxFault.{SyntaxFault}
 use Rattle.idl_grammar.specs.declared.fault.SyntaxFault.TheVariants as syntax
-use Rattle.idl_names.specs.Files.{IsRead, IsFile, IsNoFile, IsSyntaxFault}
+use Rattle.idl_names.specs.Walk.{IsRead, IsFile, IsNoFile, IsSyntaxFault}
 use Rattle.idl_names.proofs.Once.{one_answer, same_tokens}
 
 one_lexed : (text : List ℕ) (a b : Lexed) (u v : Result Tree Fault) → IsRead text a u → IsRead text b v → a ≡ b

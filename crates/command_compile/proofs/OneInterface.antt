@@ -8,14 +8,12 @@ use Rattle.nd_types.specs.Rounds.{layouts_of}
 use Rattle.nd_types.specs.declared.types.Operation.{Operation}
 use Rattle.nd_types.specs.Table.{Table}
 use Rattle.nd_types.specs.Legal.{IsLegal}
-use Rattle.idl_rule_definitions.specs.World.{World}
-use Rattle.idl_rule_definitions.specs.Rules.{Breach, breaches}
-use Rattle.idl_rule_definitions.specs.FirstBroken.{first_of}
+use Rattle.idl_rule_definitions.specs.Nodes.{World}
+use Rattle.idl_rule_definitions.specs.Rules.{Breach, breaches, first_of}
 use Rattle.nd_types.specs.Meant.{Meant, meant_by}
-use Rattle.acf_reader.specs.Tree.{Acf}
+use Rattle.acf_reader.specs.Grammar.{Acf}
 use Rattle.idl_check.specs.AcfRules.{acf_breaches, first_of_all}
-use Rattle.command_compile.specs.AcfFile.{AcfFile, IsLoadedAcf}
-use Rattle.command_compile.specs.Idl.{Means, resolved_world}
+use Rattle.command_compile.specs.Idl.{AcfFile, IsLoadedAcf, Means, resolved_world}
 use Rattle.command_compile.proofs.OneMeaning.{means_one}
 use Rattle.nd_types.proofs.EqualLaws.{layouts-prop as layouts_once, named-prop as named_once}
 

@@ -2,7 +2,7 @@
 use Rattle.std.proofs.Common.{◌≡◌, ◌∙◌, ℕ, List, [], ◌∷◌, length, Option, Some, None, refl, sym, ap, subst, inl, inr}
 use Rattle.std.proofs.lemmas.Option.{same_Some}
 use Rattle.nd_base.specs.declared.octets.Place.{Place}
-use Rattle.nd_base.specs.Outside.{IsContent, IsMissing}
+use Rattle.nd_base.specs.Over.{IsContent, IsMissing}
 use Rattle.nd_types.specs.declared.interface.Interface.{Interface}
 use Rattle.idl_lexer.specs.declared.tokens.LexKind.{LexKind}
 use Rattle.idl_lexer.specs.declared.tokens.LexFault.TheVariants as lexical
@@ -11,10 +11,8 @@ use Rattle.idl_grammar.specs.Tree.{Tree}
 use Rattle.idl_grammar.specs.declared.fault.SyntaxFault.{SyntaxFault}
 use Rattle.idl_scope.specs.declared.name_fault.NameFault.{NameFault}
 use Rattle.idl_scope.specs.declared.name_fault.NameFault.TheVariants as names
-use Rattle.idl_names.specs.Files.{IsFile, IsNoFile}
+use Rattle.idl_names.specs.Walk.{IsFile, IsNoFile, Source, and_source, State, Due, Ending, Done, Stopped, Walk, IsUndefinedFault, start, all_of, goes_on, faults, ends, again, absent, failed, enters}
 use Rattle.idl_scope.specs.Known.{first_undefined}
-use Rattle.idl_names.specs.Sources.{Source, and_source}
-use Rattle.idl_names.specs.Walk.{State, Due, Ending, Done, Stopped, Walk, IsUndefinedFault, start, all_of, goes_on, faults, ends, again, absent, failed, enters}
 use Rattle.idl_rule_definitions.specs.Rules.{Breach, breach}
 use Rattle.idl_rule_definitions.specs.Meaning.{meaning}
 use Rattle.nd_types.specs.Meant.{meant_by}
@@ -23,9 +21,8 @@ use Rattle.nd_base.specs.Text.{position_of}
 use Rattle.command_refusals.specs.declared.refusal.IdlReason.{IdlReason}
 use Rattle.command_refusals.specs.declared.refusal.Refusal.{Refusal}
 use Rattle.command_refusals.specs.declared.refusal.Refusal.TheVariants.{BadIdl}
-use Rattle.command_compile.specs.AcfFile.{AcfFile, IsAcf, IsLoadedAcf, IsBeside, tree_beside}
-use Rattle.command_compile.specs.Idl.{main_file, resolved_world, AreResolved, Means, IsMainFault, IsNameFault, IsAcfFault, IsBadAcf, IsIdlFault, by_names, by_acf, by_rules, reported_by}
-use Rattle.command_compile.specs.Idl.{reported_fault, reported_beside, IsDueImport, IsDueAcf, IsDueAfter}
+use Rattle.command_compile.specs.Idl.{AcfFile, IsAcf, IsLoadedAcf, IsBeside, tree_beside, main_file, resolved_world, AreResolved, Means, IsMainFault, IsNameFault, IsAcfFault, IsBadAcf, IsIdlFault}
+use Rattle.command_compile.specs.Idl.{by_names, by_acf, by_rules, reported_by, reported_fault, reported_beside, IsDueImport, IsDueAcf, IsDueAfter}
 use Rattle.command_compile.proofs.OneFile.{one_no_file, one_cut, never_cut, never_file, never_uncut}
 use Rattle.idl_names.proofs.Once.{one_tree}
 use Rattle.command_compile.proofs.OneAcf.{one_acf, one_acf_fault, never_acf}

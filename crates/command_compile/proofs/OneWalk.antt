@@ -3,7 +3,7 @@ use Rattle.std.proofs.Common.{◌≡◌, ◌∙◌, ℕ, true, false, List, ◌+
 use Rattle.std.proofs.lemmas.Option.{same_Some}
 use Rattle.std.specs.Prelude.{option_map}
 use Rattle.nd_base.specs.declared.octets.Place.{Place}
-use Rattle.nd_base.specs.Outside.{IsContent, IsMissing, loaded}
+use Rattle.nd_base.specs.Over.{IsContent, IsMissing, loaded}
 use Rattle.idl_lexer.specs.declared.tokens.LexKind.{LexKind}
 use Rattle.idl_lexer.specs.declared.tokens.LexFault.TheVariants as lexical
 use Rattle.idl_lexer.specs.Verdict.{IsVerdict, Refused}
@@ -11,12 +11,9 @@ use Rattle.idl_grammar.specs.Tree.{Tree}
 use Rattle.idl_scope.specs.declared.name_fault.NameFault.{NameFault}
 use Rattle.idl_scope.specs.declared.name_fault.NameFault.TheVariants as names
 use Rattle.idl_grammar.specs.declared.fault.SyntaxFault.{SyntaxFault}
-use Rattle.idl_names.specs.Files.{IsFile, IsNoFile}
-use Rattle.idl_scope.specs.Known.{Known}
-use Rattle.idl_names.specs.Sources.{Source, and_source}
-use Rattle.idl_scope.specs.Ended.{has_ended}
-use Rattle.idl_names.specs.Walk.{State, Due, Ending, Done, Stopped, Walk, with_source, all_of, all_done, goes_on, faults, ends, cycle, again, too_many, absent, failed, uncut, no_file, enters, short}
-use Rattle.idl_names.specs.Walk.{short_in_load, short_after_load}
+use Rattle.idl_names.specs.Walk.{IsFile, IsNoFile, Source, and_source, State, Due, Ending, Done, Stopped, Walk, with_source, all_of, all_done, goes_on, faults, ends, cycle, again, too_many, absent}
+use Rattle.idl_names.specs.Walk.{failed, uncut, no_file, enters, short, short_in_load, short_after_load}
+use Rattle.idl_scope.specs.Known.{Known, has_ended}
 use Rattle.command_compile.proofs.OneFile.{one_no_file, one_cut, never_cut, never_file, never_uncut}
 use Rattle.idl_names.proofs.Once.{one_tree}
 

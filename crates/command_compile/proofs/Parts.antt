@@ -1,9 +1,7 @@
 -- What compiling two files answers, from what compiling each of them answers over its part of the call.
 use Rattle.std.proofs.Common.{◌≡◌, ◌∙◌, ℕ, ◌≤◌, List, ◌++◌, Option, Some, Result, Ok, Err, IfOk, IfErr, refl, ap, subst, inl, inr}
 use Rattle.nd_base.proofs.Rising.{rose_later}
-use Rattle.nd_base.specs.Counts.{Rose}
-use Rattle.nd_base.specs.Outside.{IsContent, IsMissing}
-use Rattle.nd_base.specs.Over.{FilesSeen}
+use Rattle.nd_base.specs.Over.{Rose, IsContent, IsMissing, FilesSeen}
 use Rattle.nd_types.specs.declared.interface.Interface.{Interface}
 use Rattle.idl_compat.specs.declared.compared.Compared.{Compared}
 use Rattle.idl_compat.specs.declared.compared.Compared.TheVariants.{Differs}
@@ -14,8 +12,7 @@ use Rattle.command_refusals.specs.declared.refusal.Refusal.TheVariants.{Memory, 
 use Rattle.command_refusals.specs.declared.refusal.Refusal.TheVariants.{ShortLabel, TooFewEnds, EndFailed}
 use Rattle.command_refusals.specs.declared.refusal.Refusal.TheVariants.{BadPdu, NotCompatible, BadScript, LongScript}
 use Rattle.command_compile.specs.Idl.{IsIdlFault, IsDueFile}
-use Rattle.command_compile.specs.Asked.{AsksFiles, FileNames, AreAsked}
-use Rattle.command_compile.specs.Compiled.{IsCompiled, IsIdlCause}
+use Rattle.command_compile.specs.Compiled.{AsksFiles, FileNames, AreAsked, IsCompiled, IsIdlCause}
 use Rattle.command_compile.specs.Compat.{first_part, second_part, AreCompiled, AsksBoth, IsFilesCause, IsAnswer, IsRefusal, IsDifference, IsCompatible, IsCompatCause, fault_of}
 
 abbrev Contents : Type 0

@@ -1,20 +1,18 @@
 -- Each text is a file of IDL, or has a first fault.
 use Rattle.std.proofs.Common.{◌≤◌, ℕ, List, refl, arith, Result, Ok, Err}
-use Rattle.idl_grammar.specs.Text.{Text, Depth, Ban}
+use Rattle.idl_grammar.specs.Text.{Text, Depth, Ban, lexemes}
 use Rattle.idl_grammar.specs.ReadPhrases.{Fault, Syntax, Passes}
 use Rattle.idl_grammar.specs.Gives.{IsText}
 use Rattle.idl_lexer.specs.declared.tokens.Token.{Token}
-use Rattle.idl_lexer.specs.Lexed.{Lexed, place_of}
-use Rattle.idl_lexer.specs.Verdict.{AreTokens, HasVerdict, Verdict, IsVerdict, Cut, Refused}
+use Rattle.idl_lexer.specs.Verdict.{Lexed, place_of, AreTokens, HasVerdict, Verdict, IsVerdict, Cut, Refused}
 use Rattle.idl_lexer.proofs.Answered.{each_text}
 use Rattle.idl_grammar.specs.Grammar as grammar
-use Rattle.idl_grammar.specs.Lexemes.{lexemes}
 use Rattle.idl_grammar.specs.Tree.{Tree}
 use Rattle.idl_grammar.specs.Answers.{Answers, file_answer}
 use Rattle.idl_grammar.proofs.FileLaws.{file_answered}
 use Rattle.idl_grammar.proofs.RealTokens.{lexemes_real}
 use Rattle.idl_grammar.specs.declared.fault.SyntaxFault.TheVariants as syntax
-use Rattle.idl_names.specs.Files.{IsRead}
+use Rattle.idl_names.specs.Walk.{IsRead}
 use Rattle.command_compile.specs.Read.{HasAnswer, IsReadAs, AsFile, AsNoFile, AsUncut}
 
 pub each_file : (t : Text) → IsText t → HasAnswer grammar.file t

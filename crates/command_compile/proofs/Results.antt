@@ -6,7 +6,7 @@ use Rattle.std.specs.Cmp.Derive.{both_true}
 use Rattle.std.proofs.lemmas.Bool.{and_parts as both}
 use Rattle.nd_lemmas.proofs.Booleans.{clash}
 use Rattle.nd_base.specs.declared.octets.Place.{Place}
-use Rattle.nd_base.specs.Outside.{IsContent, IsMissing, loaded}
+use Rattle.nd_base.specs.Over.{IsContent, IsMissing, loaded}
 use Rattle.nd_base.specs.Text.{is_identifier, position_of}
 use Rattle.nd_types.specs.declared.interface.Interface.{Interface}
 use Rattle.nd_types.specs.Legal.{IsLegal}
@@ -18,25 +18,21 @@ use Rattle.idl_grammar.specs.declared.fault.SyntaxFault.{SyntaxFault}
 use Rattle.idl_grammar.specs.declared.fault.SyntaxFault.TheVariants as syntax
 use Rattle.idl_scope.specs.declared.name_fault.NameFault.{NameFault}
 use Rattle.idl_scope.specs.declared.name_fault.NameFault.TheVariants as names
-use Rattle.idl_scope.specs.Ended.{Ended}
+use Rattle.idl_scope.specs.Known.{Ended}
 use Rattle.idl_names.specs.Decided.{is_decided}
-use Rattle.idl_names.specs.Files.{IsFile, IsNoFile}
-use Rattle.idl_names.specs.Sources.{Source}
+use Rattle.idl_names.specs.Walk.{IsFile, IsNoFile, Source, State, Due, Ending, Done, Stopped, Walk, IsResolved, IsUndefinedFault, IsRefused}
 use Rattle.idl_names.specs.Walk as walk
-use Rattle.idl_names.specs.Walk.{State, Due, Ending, Done, Stopped, Walk, IsResolved, IsUndefinedFault, IsRefused}
-use Rattle.idl_rule_definitions.specs.World.{World}
-use Rattle.idl_rule_definitions.specs.Rules.{Breach, breaches}
+use Rattle.idl_rule_definitions.specs.Nodes.{World}
+use Rattle.idl_rule_definitions.specs.Rules.{Breach, breaches, first_broken, first_of}
 use Rattle.idl_rule_definitions.specs.Scene.{scene_of}
-use Rattle.idl_rule_definitions.specs.FirstBroken.{first_broken, first_of}
 use Rattle.idl_rule_definitions.specs.Meaning.{meaning, main_among, header_meant}
 use Rattle.idl_check.specs.AcfRules.{acf_file, acf_breaches, first_of_all, all_breaches}
 use Rattle.command_refusals.specs.declared.refusal.IdlReason.{IdlReason}
 use Rattle.command_refusals.specs.declared.refusal.IdlReason.TheVariants as reason
 use Rattle.command_refusals.specs.declared.refusal.Refusal.{Refusal}
 use Rattle.command_refusals.specs.declared.refusal.Refusal.TheVariants.{Absent, BadIdl}
-use Rattle.command_compile.specs.AcfFile.{AcfFile, IsBeside, tree_beside}
-use Rattle.command_compile.specs.Idl.{main_file, resolved_world, AreResolved, IsNameFault, by_names, by_acf, by_rules, name_in, text_in, word_in, place_of, reported_at, reported_by, reported_rule}
-use Rattle.command_compile.specs.Idl.{reported_fault, reported_beside}
+use Rattle.command_compile.specs.Idl.{AcfFile, IsBeside, tree_beside, main_file, resolved_world, AreResolved, IsNameFault, by_names, by_acf, by_rules, name_in, text_in, word_in, place_of, reported_at}
+use Rattle.command_compile.specs.Idl.{reported_by, reported_rule, reported_fault, reported_beside}
 use Rattle.command_compile.proofs.Compiled.{absent_due}
 use Rattle.command_compile.proofs.Walks.{passed_fault}
 use Rattle.command_compile.proofs.OneInterface.{one_interface}

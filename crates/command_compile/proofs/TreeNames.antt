@@ -3,14 +3,12 @@ use Rattle.std.proofs.Common.{◌≡◌, ℕ, ◌+◌, Bool, true, false, ◌&&�
 use Rattle.std.specs.List.{list_all}
 use Rattle.std.specs.Cmp.Derive.{both_true}
 use Rattle.nd_base.specs.Text.{is_identifier}
-use Rattle.idl_grammar.specs.Text.{Text, Lifted, many, ◌⊳◌}
-use Rattle.idl_grammar.specs.Verdict.{strict}
-use Rattle.idl_lexer.specs.Lexed.{AreFormed}
-use Rattle.idl_lexer.specs.Verdict.{AreTokens}
+use Rattle.idl_grammar.specs.Text.{Text, Lifted, many, ◌⊳◌, lexemes, IsFormed}
+use Rattle.idl_grammar.specs.Answers.{strict}
+use Rattle.idl_lexer.specs.Verdict.{AreFormed, AreTokens}
 use Rattle.idl_lexer.proofs.Words.{tokens_formed}
 use Rattle.idl_grammar.specs.declared.words.Spelling.{Spelling}
 use Rattle.idl_grammar.specs.Symbols as symbol
-use Rattle.idl_grammar.specs.Lexemes.{lexemes, IsFormed}
 use Rattle.idl_grammar.specs.Expressions.{ident}
 use Rattle.idl_grammar.specs.Tree.{Declarator, TypeSpec, Members, Cases, Arms, Arm, Parameter, Parameters, Export, Tree}
 use Rattle.idl_grammar.specs.Tree as tree
@@ -18,7 +16,7 @@ use Rattle.idl_grammar.specs.Grammar.{declarator, declarators, type_spec, some_m
 use Rattle.idl_grammar.proofs.Formed.{lexemes_formed}
 use Rattle.idl_tokens.proofs.Basics.{name_is_word}
 use Rattle.idl_scope.specs.Steps.{parameters_of}
-use Rattle.idl_names.specs.Files.{IsFile}
+use Rattle.idl_names.specs.Walk.{IsFile}
 
 -- ## The names of a tree
 

@@ -2,19 +2,17 @@
 use Rattle.std.proofs.Common.{◌≡◌, ℕ, zero, suc, Bool, true, false, ℤ, List, [], ◌∷◌, ◌++◌, length, Option, Some, None, Result, Ok, Err, refl, ap, subst}
 use Rattle.std.specs.List.{slice_get}
 use Rattle.nd_base.specs.declared.octets.Place.{Place}
-use Rattle.nd_base.specs.Outside.{IsMissing}
+use Rattle.nd_base.specs.Over.{IsMissing}
 use Rattle.idl_scope.specs.declared.fault.ExpressionFault.{ExpressionFault}
 use Rattle.idl_scope.specs.declared.fault.ExpressionFault.TheVariants as expression
 use Rattle.idl_scope.specs.declared.name_fault.NameFault.{NameFault}
 use Rattle.idl_scope.specs.declared.name_fault.NameFault.TheVariants as names
 use Rattle.idl_scope.specs.Known.{Known, passed, where_known, where_free, where_valued, in_file, value_in, tag_used, is_type, is_defined, meaning_in, place_in, tag_place, with_tag, with_place}
-use Rattle.idl_scope.specs.Known.{with_meaning, place_in_list}
-use Rattle.idl_scope.specs.Tables.{found}
+use Rattle.idl_scope.specs.Known.{with_meaning, place_in_list, found}
 use Rattle.idl_scope.specs.Value.{evaluated}
 use Rattle.idl_scope.specs.Steps.{Step, UseType, UseTag, DefineTag, Declare, Know, KnowValue, KnowNext, Evaluate, Enlist}
-use Rattle.idl_names.specs.Sources.{Source, and_source, source}
-use Rattle.idl_names.specs.Walk.{State, Due, Ending, Done, Stopped, Walk, all_done, goes_on, faults, ends, cycle, again, too_many, absent, failed, uncut, no_file, enters, short, short_in_load}
-use Rattle.idl_names.specs.Walk.{short_after_load}
+use Rattle.idl_names.specs.Walk.{Source, and_source, source, State, Due, Ending, Done, Stopped, Walk, all_done, goes_on, faults, ends, cycle, again, too_many, absent, failed, uncut, no_file, enters}
+use Rattle.idl_names.specs.Walk.{short, short_in_load, short_after_load}
 
 -- the faults of steps: a name or an expression
 abbrev IsStepFault : NameFault → Type 0

@@ -19,8 +19,7 @@ use Rattle.idl_compat_place.specs.declared.places.Difference.{Difference}
 use Rattle.idl_compat_place.specs.Differences.{IsFirstDifference}
 use Rattle.idl_compat_place.specs.Lines.{difference_lines}
 use Rattle.command_compile.specs.declared.places.Incompatible.{Incompatible}
-use Rattle.command_compile.specs.Asked.{AsksFiles, FileNames}
-use Rattle.command_compile.specs.Compiled.{IsCompiled, IsIdlCause}
+use Rattle.command_compile.specs.Compiled.{AsksFiles, FileNames, IsCompiled, IsIdlCause}
 
 -- ## Two files, one after the other
 
@@ -76,7 +75,7 @@ IsAnswer i j made = ((m : List TypePair) × IsCompared i j (compared.Yes m)) × 
 abbrev pub IsDifferent : Interface → Interface → CompatFault → Type 0
 IsDifferent i j why = (c : Compared) × IsCompared i j c × (fault_of i c ≡ Some why)
 
--- why there is no line; of memory no more is said
+-- why there is no line; running out of memory needs no cause
 abbrev pub IsRefusal : Interface → Interface → Refusal → Type 0
 IsRefusal i j Memory = ⊤
 IsRefusal i j (NotCompatible why) = IsDifferent i j why
@@ -104,7 +103,7 @@ pub record IsNotCompatible (f : FilesSeen) (old new : FileNames) (why : CompatFa
   pub compiled : AreCompiled f old new older newer
   pub different : IsDifferent older newer why
 
--- why the files are refused; of memory no more is said
+-- why the files are refused; running out of memory needs no cause
 abbrev pub IsCompatCause : FilesSeen → FileNames → FileNames → Refusal → Type 0
 IsCompatCause f old new Memory = ⊤
 IsCompatCause f old new (NotCompatible why) = IsNotCompatible f old new why

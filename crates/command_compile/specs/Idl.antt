@@ -1,32 +1,84 @@
--- What the files of a compilation mean, and for which causes they are refused. `held` tells the contents of files, `idl` is the name of the main file
--- and `text` its text, and `acf` is the name of the attribute configuration file, if one is named.
-use Rattle.std.specs.Prelude.{◌≡◌, ◌⊎◌, ℕ, true, false, eqb, List, [], ◌∷◌, length, drop, take_while, Option, None, Some, ⊤}
+-- What the files of a compilation mean, and for which causes they are refused.
+use Rattle.std.specs.Prelude.{◌≡◌, ◌⊎◌, ℕ, true, false, ◌==◌, List, [], ◌∷◌, length, drop, take_while, Option, Some, None, Result, Ok, Err}
+use Rattle.std.specs.Prelude.{option_map, ⊤}
 use Rattle.nd_base.specs.declared.octets.Place.{Place}
-use Rattle.nd_base.specs.Outside.{IsContent}
+use Rattle.nd_base.specs.Over.{IsContent}
+use Rattle.nd_base.specs.Text.{is_word_octet, position_of}
 use Rattle.nd_types.specs.declared.interface.Interface.{Interface}
-use Rattle.nd_base.specs.Text.{is_word_octet}
 use Rattle.idl_lexer.specs.declared.tokens.LexFault.TheVariants as lexical
-use Rattle.idl_lexer.specs.Verdict.{IsFault, IsVerdict, Refused}
-use Rattle.idl_grammar.specs.Tree.{Tree}
-use Rattle.idl_scope.specs.declared.name_fault.NameFault.{NameFault}
-use Rattle.idl_scope.specs.declared.name_fault.NameFault.TheVariants as names
+use Rattle.idl_lexer.specs.Verdict.{Lexed, place_of as octet_of, AreTokens, IsFault, IsVerdict, Refused}
 use Rattle.idl_grammar.specs.declared.fault.SyntaxFault.{SyntaxFault}
 use Rattle.idl_grammar.specs.declared.fault.SyntaxFault.TheVariants as syntax
-use Rattle.idl_names.specs.Files.{IsFile, IsNoFile}
-use Rattle.idl_names.specs.Sources.{Source, source, and_source, file_name, file_text}
-use Rattle.idl_names.specs.Walk.{State, Walk, start, all_of, Stopped, IsResolved, IsRefused}
-use Rattle.idl_rule_definitions.specs.World.{World}
+use Rattle.idl_grammar.specs.ReadPhrases.{Fault}
+use Rattle.idl_grammar.specs.Tree.{Tree}
+use Rattle.acf_reader.specs.Grammar.{Acf}
+use Rattle.acf_reader.specs.Symbols.{lexemes}
+use Rattle.acf_reader.specs.Answers.{IsAnswer}
+use Rattle.idl_scope.specs.declared.name_fault.NameFault.{NameFault}
+use Rattle.idl_scope.specs.declared.name_fault.NameFault.TheVariants as names
+use Rattle.idl_names.specs.Walk.{IsSyntaxFault, IsFile, IsNoFile, Source, source, and_source, file_name, file_text, State, Walk, start, all_of}
+use Rattle.idl_names.specs.Walk.{Stopped, IsResolved, IsRefused}
+use Rattle.idl_rule_definitions.specs.Nodes.{World}
 use Rattle.idl_rule_definitions.specs.Rules.{breach}
-use Rattle.idl_check.specs.AcfRules.{acf_file, first_of_all}
-use Rattle.idl_check.specs.SeenAcf.{IsMeaningBeside}
-use Rattle.nd_base.specs.Text.{position_of}
-use Rattle.command_compile.specs.AcfFile.{AcfFile, IsNoAcf, IsBeside, tree_beside}
+use Rattle.idl_check.specs.AcfRules.{acf_file, first_of_all, IsMeaningBeside}
 use Rattle.command_refusals.specs.declared.refusal.IdlReason.{IdlReason}
 use Rattle.command_refusals.specs.declared.refusal.IdlReason.TheVariants as reason
 use Rattle.command_refusals.specs.declared.refusal.Refusal.{Refusal}
 use Rattle.command_refusals.specs.declared.refusal.Refusal.TheVariants.{Memory, Absent, FileFailed, BadIdl}
 
--- ## What the files mean
+-- `held` tells the contents of files, `idl` is the name of the main file and `text` its text, and `acf` is the name of the attribute
+-- configuration file, if one is named.
+
+-- ## The attribute configuration file
+
+-- What the text of an attribute configuration file is read as (C706, section 4.3): its tree, or its first fault. And what is read of the file that
+-- is named beside a file of IDL.
+
+-- The text is cut into tokens, and this is answered on them by the grammar.
+pub record IsAcfRead (text : List ℕ) (lexed : Lexed) (answer : Result Acf Fault) : Type 0 where
+  pub text_is : lexed.text ≡ text
+  pub tokens : AreTokens text lexed.tokens
+  pub answered : IsAnswer (lexemes lexed) answer
+
+-- the text is an attribute configuration file of this tree
+pub record IsAcf (text : List ℕ) (tree : Acf) : Type 0 where
+  pub lexed : Lexed
+  pub read : IsAcfRead text lexed (Ok tree)
+
+-- The text is cut into tokens and is no such file, for a fault at a token that begins at this octet.
+pub record IsNoAcf (text : List ℕ) (at : ℕ) (fault : SyntaxFault) : Type 0 where
+  pub lexed : Lexed
+  pub told : Fault
+  pub token : ℕ
+  pub is_told : IsSyntaxFault fault token told
+  pub read : IsAcfRead text lexed (Err told)
+  pub octet : at ≡ octet_of lexed token
+
+-- a file with its name, its text and its tree
+pub record AcfFile : Type 0 where
+  pub name : List ℕ
+  pub text : List ℕ
+  pub tree : Acf
+
+-- The file of a name was loaded and read.
+pub record IsLoadedAcf (held : Option (List ℕ → Option (List ℕ))) (name : List ℕ) (f : AcfFile) : Type 0 where
+  pub named : f.name ≡ name
+  pub loaded : IsContent held name f.text
+  pub read : IsAcf f.text f.tree
+
+-- what is read beside a file of IDL: nothing where no attribute configuration file is named, else that file
+abbrev pub IsBeside : Option (List ℕ → Option (List ℕ)) → Option (List ℕ) → Option AcfFile → Type 0
+IsBeside held None None = ⊤
+IsBeside held None (Some f) = ⊥
+IsBeside held (Some name) None = ⊥
+IsBeside held (Some name) (Some f) = IsLoadedAcf held name f
+
+abbrev pub tree_beside : Option AcfFile → Option Acf
+tree_beside beside = option_map (λ f. f.tree) beside
+
+-- ## The files of a compilation
+
+-- ### What the files mean
 
 -- the main file alone
 abbrev pub main_file : List ℕ → List ℕ → List Source
@@ -50,16 +102,16 @@ pub record Means (held : Option (List ℕ → Option (List ℕ))) (idl text : Li
   pub read : IsBeside held acf beside
   pub meaning : IsMeaningBeside (resolved_world state) (tree_beside beside) i
 
--- ## Faults
+-- ### Faults
 
--- The main file cannot be cut into tokens, or is no file of the language. (Where memory was wanting no more is said.)
+-- The main file cannot be cut into tokens, or is no file of the language. (Running out of memory needs no cause.)
 abbrev pub IsMainFault : List ℕ → NameFault → Type 0
 IsMainFault text names.Memory = ⊤
 IsMainFault text (names.Lex file f) = (file ≡ 0) × IsFault text f
 IsMainFault text (names.Syntax file at f) = (file ≡ 0) × IsNoFile text at f
 IsMainFault text _ = ⊥
 
--- the main file has a fault, or the walk through the files
+-- the main file has a fault, or the walk through the files has one
 abbrev pub IsNameFault : Option (List ℕ → Option (List ℕ)) → List ℕ → List ℕ → List Source → NameFault → Type 0
 IsNameFault held idl text sources f =
     ((sources ≡ main_file idl text) × IsMainFault text f)
@@ -74,7 +126,7 @@ pub record IsBroken (held : Option (List ℕ → Option (List ℕ))) (idl text :
   pub read : IsBeside held acf beside
   pub first : first_of_all (resolved_world state) (tree_beside beside) ≡ Some (breach rule place)
 
--- ## How faults are reported
+-- ### How faults are reported
 
 abbrev or_empty : Option (List ℕ) → List ℕ
 or_empty None = []
@@ -136,12 +188,12 @@ reported_rule s rule place = reported_at s place (reason.Rule rule)
 -- one of that file.
 abbrev pub reported_beside : List Source → Option AcfFile → ℕ → Place → Refusal
 reported_beside s None rule place = reported_rule s rule place
-reported_beside s (Some f) rule place = elim (eqb place.file acf_file) [
+reported_beside s (Some f) rule place = elim (place.file == acf_file) [
   | true ↦ reported_by f.name (position_of f.text place.at) (reason.Rule rule)
   | false ↦ reported_rule s rule place
 ]
 
--- ## Faults of the attribute configuration file
+-- ### Faults of the attribute configuration file
 
 -- why the text of an attribute configuration file cannot be cut into tokens, or is none, at an octet
 abbrev pub IsAcfFault : List ℕ → ℕ → IdlReason → Type 0
@@ -160,7 +212,7 @@ pub record IsBadAcf (held : Option (List ℕ → Option (List ℕ))) (idl text :
   pub loaded : IsContent held name body
   pub fault : IsAcfFault body at why
 
--- ## How the files are refused
+-- ### How the files are refused
 
 -- The files are refused in this way: for the first fault of their names; after that for the first fault of the attribute configuration file, which is
 -- told by its name and by line and column of its text; and after that for the first rule that is broken.
@@ -173,7 +225,7 @@ pub data IsIdlFault (held : Option (List ℕ → Option (List ℕ))) (idl text :
   by_rules : (sources : List Source) (beside : Option AcfFile) (rule : ℕ) (place : Place) → IsBroken held idl text acf sources beside rule place
       → r ≡ reported_beside sources beside rule place → IsIdlFault held idl text acf r
 
--- ## Files that are due
+-- ### Files that are due
 
 -- The load of an import is due: the walk comes to it, so that it ends there if the load fails.
 pub record IsDueImport (held : Option (List ℕ → Option (List ℕ))) (idl text file : List ℕ) : Type 0 where

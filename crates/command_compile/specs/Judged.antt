@@ -6,13 +6,10 @@ use Rattle.idl_grammar.specs.Tree.{Tree}
 use Rattle.idl_grammar.specs.declared.fault.SyntaxFault.{SyntaxFault}
 use Rattle.idl_scope.specs.declared.name_fault.NameFault.{NameFault}
 use Rattle.idl_names.specs.Decided.{is_decided}
-use Rattle.idl_names.specs.Files.{IsFile, IsNoFile}
-use Rattle.idl_names.specs.Sources.{Source, source}
-use Rattle.idl_names.specs.Walk.{State, Stopped, IsResolved, IsRefused}
+use Rattle.idl_names.specs.Walk.{IsFile, IsNoFile, Source, source, State, Stopped, IsResolved, IsRefused}
 use Rattle.nd_types.specs.Legal.{IsLegal}
-use Rattle.idl_rule_definitions.specs.World.{World}
-use Rattle.idl_rule_definitions.specs.Rules.{Breach}
-use Rattle.idl_rule_definitions.specs.FirstBroken.{first_broken}
+use Rattle.idl_rule_definitions.specs.Nodes.{World}
+use Rattle.idl_rule_definitions.specs.Rules.{Breach, first_broken}
 use Rattle.nd_types.specs.Meant.{Meant}
 use Rattle.idl_rule_definitions.specs.Meaning.{meaning, HasIdentifiers}
 

@@ -1,7 +1,5 @@
-pub mod AcfFile
-pub mod Loaded
 pub mod Idl
-pub mod Asked
+pub mod Loaded
 pub mod Compiled
 pub mod Reading
 pub mod Read

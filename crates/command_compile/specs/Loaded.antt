@@ -1,7 +1,7 @@
 -- An attribute configuration file of the code as one of the definitions.
 use Rattle.std.specs.Prelude.{Option, option_map}
 use Rattle.acf_reader.specs.Seen.{seen_acf}
-use Rattle.command_compile.specs.AcfFile.{AcfFile}
+use Rattle.command_compile.specs.Idl.{AcfFile}
 use Rattle.command_compile.specs.declared.acf.NamedAcf.{NamedAcf}
 
 abbrev pub seen_file : NamedAcf → AcfFile

@@ -3,8 +3,7 @@ use Rattle.std.specs.Prelude.{◌≡◌, ℕ, true, List, Option}
 use Rattle.idl_grammar.specs.Tree.{Tree}
 use Rattle.idl_scope.specs.declared.name_fault.NameFault.{NameFault}
 use Rattle.idl_names.specs.Decided.{is_decided}
-use Rattle.idl_names.specs.Sources.{Source}
-use Rattle.idl_names.specs.Walk.{State, Stopped, IsResolved, IsRefused}
+use Rattle.idl_names.specs.Walk.{Source, State, Stopped, IsResolved, IsRefused}
 
 -- The names of the files are resolved, or there is a first fault of the files, neither by running out of memory nor by a failed load.
 pub data Comes (held : Option (List ℕ → Option (List ℕ))) (main : List Source) (t : Tree) : Type 0 where

@@ -7,7 +7,7 @@ use Rattle.idl_lexer.specs.Verdict.{IsVerdict, Refused}
 use Rattle.idl_grammar.specs.Answers.{Answers}
 use Rattle.idl_grammar.specs.Tree.{Tree}
 use Rattle.idl_grammar.specs.declared.fault.SyntaxFault.{SyntaxFault}
-use Rattle.idl_names.specs.Files.{IsFile, IsNoFile}
+use Rattle.idl_names.specs.Walk.{IsFile, IsNoFile}
 
 -- Tokens are a tree of a grammar, or have a first fault.
 pub record HasAnswer {A : Type 0} (p : A → Phrase) (t : Text) : Type 0 where

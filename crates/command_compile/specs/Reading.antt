@@ -1,21 +1,19 @@
 -- What the steps of compiling answer: loads, the main file, the attribute configuration file, and the names asked for on the way.
 use Rattle.std.specs.Prelude.{◌≡◌, ℕ, ◌≤◌, ◌<◌, ◌⊎◌, List, [], ◌∷◌, ◌++◌, length, drop, Option, None, Some, ⊤}
-use Rattle.nd_base.specs.Outside.{IsContent}
-use Rattle.nd_base.specs.Over.{FilesSeen}
+use Rattle.nd_base.specs.Over.{IsContent, FilesSeen}
 use Rattle.nd_types.specs.declared.interface.Interface.{Interface}
-use Rattle.idl_lexer.specs.Lexed.{Lexed, place_of}
+use Rattle.idl_lexer.specs.Verdict.{Lexed, place_of}
 use Rattle.idl_grammar.specs.declared.fault.SyntaxFault.{SyntaxFault}
 use Rattle.idl_grammar.specs.declared.fault.SyntaxFault.TheVariants as parser
 use Rattle.idl_scope.specs.declared.name_fault.NameFault.{NameFault}
 use Rattle.idl_scope.specs.declared.name_fault.NameFault.TheVariants as names
-use Rattle.idl_names.specs.Sources.{Source}
-use Rattle.idl_names.specs.Walk.{State, names_of}
+use Rattle.idl_names.specs.Walk.{Source, State, names_of}
 use Rattle.nd_base.specs.Text.{position_of}
 use Rattle.command_refusals.specs.Loads.{IsLoadCause}
 use Rattle.command_refusals.specs.declared.refusal.IdlReason.TheVariants as reason
 use Rattle.command_refusals.specs.declared.refusal.Refusal.{Refusal}
 use Rattle.command_refusals.specs.declared.refusal.Refusal.TheVariants.{Memory, BadIdl}
-use Rattle.command_compile.specs.Asked.{AreAsked, all_due}
+use Rattle.command_compile.specs.Compiled.{AreAsked, all_due}
 use Rattle.command_compile.specs.Idl.{Means, word_at, reported_by, IsAcfFault}
 
 -- what is reported of tokens that are not a file of the language for a fault
@@ -29,7 +27,7 @@ IsReportedUnparsed l (parser.Banned k) f = f ≡ names.Syntax 0 (place_of l k) (
 abbrev pub IsOrMemory : Refusal → Refusal → Type 0
 IsOrMemory due reported = (reported ≡ due) ⊎ (reported ≡ Memory)
 
--- why the text of an attribute configuration file of a name is refused; of memory no more is said
+-- why the text of an attribute configuration file of a name is refused; running out of memory needs no cause
 abbrev pub IsReportedAcf : List ℕ → List ℕ → Refusal → Type 0
 IsReportedAcf name text Memory = ⊤
 IsReportedAcf name text (BadIdl file line column why) =

@@ -1,6 +1,6 @@
 -- What the files of a command come to: a main file with all that it imports, beside the attribute configuration file that may be named.
 use Rattle.std.specs.Prelude.{ℕ, List, Option, Result, Ok, Err}
-use Rattle.nd_base.specs.Outside.{IsMissing}
+use Rattle.nd_base.specs.Over.{IsMissing}
 use Rattle.nd_types.specs.declared.interface.Interface.{Interface}
 use Rattle.command_refusals.specs.declared.refusal.IdlReason.{IdlReason}
 use Rattle.command_refusals.specs.declared.refusal.Refusal.{Refusal}

@@ -4,7 +4,7 @@ ghost use Rattle.nd_base.specs.Over.{files_seen};
 ghost use Rattle.idl_lexer.specs.Verdict.{IsFault};
 ghost use Rattle.idl_names.specs.Loads.{IsOfText};
 ghost use Rattle.acf_reader.specs.Seen.{seen_acf};
-ghost use Rattle.command_compile.specs.AcfFile.{IsAcf, IsLoadedAcf, IsBeside};
+ghost use Rattle.command_compile.specs.Idl.{IsAcf, IsLoadedAcf, IsBeside};
 ghost use Rattle.command_compile.specs.Loaded.{seen_file, seen_beside};
 ghost use Rattle.command_compile.specs.Reading.{IsAcfCause, IsBesideCause, IsReportedAcf, IsReportedUnread};
 

@@ -1,20 +1,16 @@
 // The interface that files mean: the main file is loaded and read, its names are resolved with those of the files that it imports, and the rules are
 // checked, with an attribute configuration file if one is named.
 ghost use Rattle.std.specs.Prelude.{◌≡◌, ◌≤◌, ◌++◌, ℕ, List, Option, Some, length, drop, option_map, option_to_list, IfOk, IfErr};
-ghost use Rattle.nd_base.specs.Outside.{IsContent};
-ghost use Rattle.nd_base.specs.Over.{files_seen};
+ghost use Rattle.nd_base.specs.Over.{IsContent, files_seen};
 ghost use Rattle.acf_reader.specs.Seen.{seen_acf};
 ghost use Rattle.idl_grammar.specs.Seen.{seen_tree};
-ghost use Rattle.idl_names.specs.Files.{IsFile};
+ghost use Rattle.idl_names.specs.Walk.{IsFile, names_of};
 ghost use Rattle.idl_names.specs.Loads.{IsOfText};
 ghost use Rattle.idl_names.specs.Seen.{seen_scope};
 ghost use Rattle.idl_names.specs.Causes.{IsAbsent, IsFailed};
-ghost use Rattle.idl_names.specs.Walk.{names_of};
-ghost use Rattle.command_compile.specs.AcfFile.{tree_beside};
-ghost use Rattle.command_compile.specs.Asked.{AsksFiles};
-ghost use Rattle.command_compile.specs.Idl.{main_file, AreResolved, Means, IsMainFault, IsNameFault};
+ghost use Rattle.command_compile.specs.Idl.{tree_beside, main_file, AreResolved, Means, IsMainFault, IsNameFault};
+ghost use Rattle.command_compile.specs.Compiled.{AsksFiles, IsCompiled, IsListed, IsPlanned, IsIdlCause, IsTextCause};
 ghost use Rattle.command_compile.specs.Loaded.{seen_beside};
-ghost use Rattle.command_compile.specs.Compiled.{IsCompiled, IsListed, IsPlanned, IsIdlCause, IsTextCause};
 ghost use Rattle.command_compile.specs.Reading.{IsReportedUnparsed, IsJudged, MeansAfter, AsksAfter, AsksOfImports};
 
 use crate::acf::{NamedAcf, load_beside};

@@ -19,7 +19,7 @@ use Rattle.nd_grammar.specs.decoded.Verdict.{DecodingSeen, IsDecoded, with_items
 use Rattle.command_decode.specs.Taken.{IsEnd}
 use Rattle.command_decode.proofs.Steps.{over}
 use Rattle.ndr_explain.specs.Explained.{explanation}
-use Rattle.command_decode.specs.Explanations.{IsExplained, IsLogged}
+use Rattle.command_decode.specs.Decoded.{IsExplained, IsLogged}
 
 -- what was decoded was taken, and its items are in a log that was empty
 pub logged_is : (s : SourceSeen) (w : Setting) (order : Order) (taken : ℕ) (g : Graph) (t : DecodingSeen) → t.log ≡ record { keeps = true; items = [] }

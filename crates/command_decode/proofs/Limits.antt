@@ -23,12 +23,9 @@ use Rattle.nd_value.specs.Tree.{Tree, Trees, drop_trees, node, node_count, take_
 use Rattle.nd_value.proofs.Apart.{all_append}
 use Rattle.nd_grammar.specs.declared.reason.Reason.{Reason}
 use Rattle.nd_grammar.specs.declared.reason.Reason.TheVariants as reason
-use Rattle.nd_grammar.specs.Bad.{Bad}
-use Rattle.nd_grammar.specs.Entry.{Actual, Align, Chunk, Context, Entry, EntryAt, Kind, Max, Num, Number, Offset, Tag, Test, Text, Unread, end_to_end, size_at}
-use Rattle.nd_grammar.specs.InPlace.{entries, in_place}
-use Rattle.nd_grammar.specs.Refusal.{Accepts, is_enumerator, is_long, is_other, is_selected, kind_refusal, refusal, refused_if, tested_at, text_refusal}
-use Rattle.nd_grammar.specs.Represents.{piece}
-use Rattle.nd_grammar.specs.Stream.{Stream, chunk_entries, chunks, pipe_entries, pipes_entries, root_tests, standing_entries, step_entries, step_tests}
+use Rattle.nd_grammar.specs.Refusal.{Bad, Accepts, is_enumerator, is_long, is_other, is_selected, kind_refusal, refusal, refused_if, tested_at, text_refusal}
+use Rattle.nd_grammar.specs.Entry.{Actual, Align, Chunk, Context, Entry, EntryAt, Kind, Max, Num, Number, Offset, Tag, Test, Text, Unread, end_to_end, size_at, entries, in_place}
+use Rattle.nd_grammar.specs.Stream.{piece, Stream, chunk_entries, chunks, pipe_entries, pipes_entries, root_tests, standing_entries, step_entries, step_tests}
 use Rattle.nd_grammar.proofs.reader.EntriesFine.{Aligns, Fine, FullOk, IsFine, fine_entries, fine_in_place, fine_tests, fine_whole}
 use Rattle.nd_grammar.proofs.reader.ReaderNodes.{if_not}
 use Rattle.nd_grammar.proofs.reader.ReaderTests.{root_tests_are, tests_fine}

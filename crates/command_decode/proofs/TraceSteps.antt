@@ -27,10 +27,9 @@ use Rattle.ndr_decoder_state.specs.declared.fault.DecodeFault.{DecodeFault}
 use Rattle.ndr_decoder_state.specs.declared.fault.DecodeFault.TheVariants as fault
 use Rattle.ndr_explain.specs.Explained.{explanation}
 use Rattle.ndr_trace_value.specs.Traces.{IsTraceOf}
-use Rattle.command_decode.specs.Explanations.{IsExplanation}
+use Rattle.command_decode.specs.Decoded.{IsExplanation, IsRefusedTrace, IsTrailedTrace, IsTraced, fault_line, trailing_line}
 use Rattle.command_refusals.specs.declared.refusal.OctetsFault.TheVariants.{Refused, Trailing}
 use Rattle.command_decode.specs.Fronts.{IsLoggedFront, IsRefusedFront}
-use Rattle.command_decode.specs.Traced.{IsRefusedTrace, IsTrailedTrace, IsTraced, fault_line, trailing_line}
 use Rattle.command_decode.specs.declared.held.Traced.{Traced}
 use Rattle.command_decode.specs.declared.held.Traced.TheVariants as traced
 

@@ -1,6 +1,3 @@
-pub mod Printed
+pub mod Decoded
 pub mod Taken
-pub mod Explanations
 pub mod Fronts
-pub mod Stopped
-pub mod Traced

@@ -7,7 +7,7 @@ use Rattle.nd_base.specs.Over.{SourceSeen, HasRisen}
 use Rattle.nd_value.specs.declared.value.Graph.{Graph}
 use Rattle.nd_value.specs.Setting.{Setting}
 use Rattle.nd_value.specs.Conforms.{Conforms}
-use Rattle.nd_grammar.specs.Represents.{Represents}
+use Rattle.nd_grammar.specs.Stream.{Represents}
 use Rattle.command_refusals.specs.declared.refusal.Refusal.{Refusal}
 use Rattle.command_refusals.specs.declared.refusal.Refusal.TheVariants.{ReadFault, BadOctets}
 use Rattle.command_refusals.specs.declared.refusal.OctetsFault.TheVariants.{Trailing}

@@ -5,8 +5,7 @@ ghost use Rattle.nd_base.specs.Over.{source_seen};
 ghost use Rattle.nd_types.specs.declared.types.Operation.{Operation};
 ghost use Rattle.nd_value.specs.Fitting.{setting_beside};
 ghost use Rattle.nd_value.specs.Request.{IsRequestOf};
-ghost use Rattle.command_decode.specs.Printed.{IsInputCause};
-ghost use Rattle.command_decode.specs.Explanations.{IsExplained, IsLogged};
+ghost use Rattle.command_decode.specs.Decoded.{IsInputCause, IsExplained, IsLogged};
 
 use crate::end;
 use command_refusals::{OctetsFault, Refusal};

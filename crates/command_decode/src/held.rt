@@ -6,7 +6,7 @@ ghost use Rattle.nd_types.specs.declared.types.Operation.{Operation};
 ghost use Rattle.nd_value.specs.Fitting.{setting_beside};
 ghost use Rattle.nd_value.specs.Request.{IsRequestOf};
 ghost use Rattle.command_decode.specs.Fronts.{IsLoggedFront, IsRefusedFront};
-ghost use Rattle.command_decode.specs.Traced.{IsTraced, fault_line, trailing_line};
+ghost use Rattle.command_decode.specs.Decoded.{IsTraced, fault_line, trailing_line};
 
 use command_refusals::{OctetsFault, fault_words};
 use nd_base::{LentSource, Memory, Octets, Order, Steps, Uncounted};

@@ -5,7 +5,7 @@ ghost use Rattle.nd_base.specs.Over.{source_seen};
 ghost use Rattle.nd_types.specs.declared.types.Operation.{Operation};
 ghost use Rattle.nd_value.specs.Fitting.{setting_beside};
 ghost use Rattle.nd_value.specs.Request.{IsRequestOf};
-ghost use Rattle.command_decode.specs.Printed.{IsPrinted, IsInputCause};
+ghost use Rattle.command_decode.specs.Decoded.{IsPrinted, IsInputCause};
 ghost use Rattle.command_decode.specs.Taken.{IsTaken, IsEnd, IsNoEnd};
 
 use command_refusals::{OctetsFault, Refusal};

@@ -5,8 +5,7 @@ ghost use Rattle.nd_base.specs.Over.{source_seen};
 ghost use Rattle.nd_types.specs.declared.types.Operation.{Operation};
 ghost use Rattle.nd_value.specs.Fitting.{setting_beside};
 ghost use Rattle.nd_value.specs.Request.{IsRequestOf};
-ghost use Rattle.command_decode.specs.Explanations.{IsExplained};
-ghost use Rattle.command_decode.specs.Stopped.{IsStopped, IsMadeOf};
+ghost use Rattle.command_decode.specs.Decoded.{IsExplained, IsStopped, IsMadeOf};
 
 use crate::held::{Traced, trace_held};
 use command_refusals::Refusal;

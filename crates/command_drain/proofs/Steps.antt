@@ -7,19 +7,18 @@ use Rattle.std.specs.Io.KnownBytes.{Consumes, Keeps}
 use Rattle.std.proofs.lemmas.Bool.{cases_lt}
 use Rattle.nd_base.proofs.Rising.{rose_later}
 use Rattle.nd_base.specs.declared.octets.Order.{Order}
-use Rattle.nd_base.specs.Counts.{Rose}
-use Rattle.nd_base.specs.Over.{SourceSeen}
+use Rattle.nd_base.specs.Over.{Rose, SourceSeen}
 use Rattle.nd_value.specs.declared.value.Graph.{Graph}
 use Rattle.nd_value.specs.Setting.{Setting}
 use Rattle.nd_grammar.specs.declared.reason.Reason.{Reason}
 use Rattle.nd_grammar.specs.decoded.Verdict.{DecodingSeen}
 use Rattle.ndr_pipe.specs.Ends.{EndsSeen}
 use Rattle.ndr_drain.specs.Drained as drained
-use Rattle.ndr_drain.specs.Given.{pipe_count}
+use Rattle.ndr_drain.specs.Drained.{pipe_count}
 use Rattle.ndr_drain.specs.declared.fault.DrainFault.{DrainFault}
 use Rattle.ndr_drain.specs.declared.fault.DrainFault.TheVariants as fault
 use Rattle.command_decode.specs.Taken.{IsEnd, IsNoEnd}
-use Rattle.text_grammar.specs.Printed.{IsText}
+use Rattle.text_grammar.specs.Written.{IsText}
 use Rattle.command_refusals.specs.declared.refusal.Refusal.{Refusal}
 use Rattle.command_refusals.specs.declared.refusal.Refusal.TheVariants.{Memory, Absent, FileFailed, BadIdl, NoOperation, ReadFault, BadOctets, BadText, BadValue, TooLong, BadRequest, BadLabel}
 use Rattle.command_refusals.specs.declared.refusal.Refusal.TheVariants.{ShortLabel, TooFewEnds, EndFailed}

@@ -8,16 +8,16 @@ use Rattle.nd_value.specs.declared.value.Graph.{Graph}
 use Rattle.nd_value.specs.Conforms.{Conforms}
 use Rattle.nd_value.specs.Deferral.{before_pipes}
 use Rattle.nd_value.specs.Setting.{Setting, root_list}
-use Rattle.nd_grammar.specs.Represents.{Represents}
+use Rattle.nd_grammar.specs.Stream.{Represents}
 use Rattle.nd_grammar.specs.decoded.Verdict.{DecodingSeen}
 use Rattle.ndr_drain_laws.specs.parts.Parts.{without_pipes}
 use Rattle.ndr_pipe.specs.Ends.{EndsSeen, AreAsBefore}
 use Rattle.ndr_drain.specs.Drained as drained
-use Rattle.ndr_drain.specs.Given.{given_pipes, pipe_count}
+use Rattle.ndr_drain.specs.Drained.{given_pipes, pipe_count}
 use Rattle.ndr_drain.specs.declared.fault.DrainFault.{DrainFault}
 use Rattle.ndr_drain.specs.declared.fault.DrainFault.TheVariants as fault
-use Rattle.command_decode.specs.Printed.{IsWhole}
-use Rattle.text_grammar.specs.Printed.{IsText}
+use Rattle.command_decode.specs.Decoded.{IsWhole}
+use Rattle.text_grammar.specs.Written.{IsText}
 use Rattle.command_refusals.specs.declared.refusal.Refusal.{Refusal}
 use Rattle.command_refusals.specs.declared.refusal.Refusal.TheVariants.{Memory, ReadFault, BadOctets, EndFailed, TooFewEnds}
 use Rattle.command_refusals.specs.declared.refusal.OctetsFault.TheVariants.{Refused, Trailing}

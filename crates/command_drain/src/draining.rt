@@ -5,8 +5,7 @@ ghost use Rattle.nd_base.specs.Over.{source_seen};
 ghost use Rattle.nd_types.specs.declared.types.Operation.{Operation};
 ghost use Rattle.nd_value.specs.Fitting.{setting_beside};
 ghost use Rattle.nd_value.specs.Request.{IsRequestOf};
-ghost use Rattle.ndr_pipe.specs.Ends.{AreOpen, ends_over};
-ghost use Rattle.ndr_pipe.specs.Seen.{ends_seen};
+ghost use Rattle.ndr_pipe.specs.Ends.{AreOpen, ends_over, ends_seen};
 ghost use Rattle.command_drain.specs.Printed.{IsPrinted, IsDrainRefusal};
 ghost use Rattle.command_drain.specs.Taken.{IsTaken, IsNotTaken};
 

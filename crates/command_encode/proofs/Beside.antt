@@ -13,8 +13,7 @@ use Rattle.text_grammar.specs.declared.version.Version.{Version}
 use Rattle.text_grammar.specs.declared.fault.TextReason.{TextReason}
 use Rattle.text_grammar.specs.declared.fault.TextReason.TheVariants as reason
 use Rattle.text_grammar.specs.Tokens.{Token, Cell}
-use Rattle.text_grammar.specs.Readable.{IsReadable}
-use Rattle.text_grammar.specs.Reads.{Lexeme, Cut, End, Bad, ReadsAs, Writing, CanGoOn, IsWhole, GoesOn, IsNameDue, IsReason, IsFirstFault, IsTextFault}
+use Rattle.text_grammar.specs.Reads.{IsReadable, Lexeme, Cut, End, Bad, ReadsAs, Writing, CanGoOn, IsWhole, GoesOn, IsNameDue, IsReason, IsFirstFault, IsTextFault}
 use Rattle.text_grammar.specs.Paths.{IsPath}
 use Rattle.text_grammar.proofs.Nodes.{readable_formed, formed_readable}
 

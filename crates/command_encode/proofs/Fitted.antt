@@ -7,7 +7,7 @@ use Rattle.nd_value.specs.declared.item.Home.{Home}
 use Rattle.nd_value.specs.declared.misfit.MisfitReason.{MisfitReason}
 use Rattle.nd_value.specs.declared.value.Graph.{Graph}
 use Rattle.nd_value.specs.Setting.{Setting}
-use Rattle.nd_value.specs.FirstMisfit.{IsFirstMisfit}
+use Rattle.nd_value.specs.Conforms.{IsFirstMisfit}
 use Rattle.nd_value.specs.Fitting.{Fitting, setting_of, setting_beside}
 use Rattle.text_grammar.specs.Paths.{IsPath}
 use Rattle.text_grammar.specs.declared.fault.TextFault.{TextFault}
@@ -17,7 +17,7 @@ use Rattle.command_refusals.specs.declared.refusal.Refusal.{Refusal}
 use Rattle.command_refusals.specs.declared.refusal.Refusal.TheVariants.{Memory, Absent, FileFailed, BadIdl, NoOperation, ReadFault, BadOctets, BadText, BadValue, TooLong, BadRequest, BadLabel}
 use Rattle.command_refusals.specs.declared.refusal.Refusal.TheVariants.{ShortLabel, TooFewEnds, EndFailed}
 use Rattle.command_refusals.specs.declared.refusal.Refusal.TheVariants.{BadPdu, NotCompatible, BadScript, LongScript}
-use Rattle.command_encode.specs.Fitted.{IsTextCause, IsValueCause, IsMisfitAt}
+use Rattle.command_encode.specs.Encoded.{IsTextCause, IsValueCause, IsMisfitAt}
 use Rattle.command_encode.proofs.Beside.{reads_beside, fault_beside, path_beside}
 use Rattle.command_encode.proofs.Paths.{misfit_path}
 

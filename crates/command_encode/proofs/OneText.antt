@@ -4,8 +4,7 @@ use Rattle.nd_base.specs.declared.TheConstants.{FILE_LIMIT}
 use Rattle.nd_value.specs.declared.misfit.MisfitReason.{MisfitReason}
 use Rattle.nd_value.specs.declared.value.Graph.{Graph}
 use Rattle.nd_value.specs.Setting.{Setting}
-use Rattle.nd_value.specs.Conforms.{Conforms}
-use Rattle.nd_value.specs.FirstMisfit.{MisfitAt}
+use Rattle.nd_value.specs.Conforms.{Conforms, MisfitAt}
 use Rattle.nd_value.proofs.Misfits.{misfit_is_no_fit, one_first_misfit}
 use Rattle.nd_grammar.specs.LegalSide.{IsLegalSide}
 use Rattle.text_grammar.specs.declared.fault.TextReason.{TextReason}
@@ -20,8 +19,7 @@ use Rattle.command_refusals.specs.declared.refusal.Refusal.TheVariants.{ShortLab
 use Rattle.command_refusals.specs.declared.refusal.Refusal.TheVariants.{BadPdu, NotCompatible, BadScript, LongScript}
 use Rattle.command_refusals.specs.declared.refusal.RequestFault.{RequestFault}
 use Rattle.command_refusals.specs.declared.refusal.RequestFault.TheVariants.{Text, Value}
-use Rattle.command_encode.specs.Fitted.{IsTextCause, IsMisfitAt}
-use Rattle.command_encode.specs.Request.{inputs, IsRequestText, IsRequestFault}
+use Rattle.command_encode.specs.Encoded.{IsTextCause, IsMisfitAt, inputs, IsRequestText, IsRequestFault}
 use Rattle.command_encode.proofs.Paths.{one_path}
 
 module _ (w : Setting) (side : IsLegalSide w) (text : List ℕ) where

@@ -16,17 +16,15 @@ use Rattle.nd_value.specs.declared.item.Home.TheVariants as home
 use Rattle.nd_value.specs.declared.misfit.MisfitReason.{MisfitReason}
 use Rattle.nd_value.specs.declared.misfit.MisfitReason.TheVariants as misfit
 use Rattle.nd_value.specs.declared.value.Graph.{Graph}
-use Rattle.nd_value.specs.Agreement.{Agreement}
+use Rattle.nd_value.specs.Agreement.{Agreement, root_agreements}
 use Rattle.nd_value.specs.Deferral.{Pending, pointer, pointer_by, home_pointers}
-use Rattle.nd_value.specs.FirstMisfit.{MisfitAt, or_later, at_node, first_node, root_count, clashes, first_shared, IsFirstMisfit, is_local, is_shared, is_unreached, is_disagreeing, disagreement_of}
-use Rattle.nd_value.specs.Homes.{HomeNode, in_home, root_nodes, cell_nodes, root_pointers, cell_pointers, all_pointers}
+use Rattle.nd_value.specs.Conforms.{MisfitAt, or_later, at_node, first_node, root_count, clashes, first_shared, IsFirstMisfit, is_local, is_shared, is_unreached, is_disagreeing, disagreement_of}
+use Rattle.nd_value.specs.Conforms.{HomeNode, in_home, root_nodes, cell_nodes, root_pointers, cell_pointers, all_pointers, subject}
 use Rattle.nd_value.specs.Misfit.{misfit_of}
-use Rattle.nd_value.specs.Conforms.{subject}
 use Rattle.nd_value.specs.Nodes.{TypedNode, nodes_of, governed_nodes, home_nodes, child_types, child_agreements, rest_agreements, selected_types}
 use Rattle.nd_value.specs.Setting.{Setting, Among, root_list, or_unread, cell_home, cell_of_number, cell_tree}
 use Rattle.nd_value.specs.Tree as tree
 use Rattle.nd_value.specs.Tree.{Tree, Trees, node, none, more, count, node_count, Label, Referent, is_pointer, cell_in}
-use Rattle.nd_value.specs.Variables.{root_agreements}
 use Rattle.nd_value.proofs.Apart.{among_left, among_right}
 use Rattle.text_grammar.specs.Paths.{child_paths, element_paths, arm_paths, member_path, node_paths, home_name, home_types, home_value, root_types, cell_types, IsPath}
 use Rattle.nd_lemmas.proofs.Lists.{length_map as map_length}

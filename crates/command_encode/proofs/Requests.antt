@@ -1,14 +1,13 @@
 -- The request of a file, from what the steps answer.
 use Rattle.std.proofs.Common.{ℕ, List, Result, Ok, Err, IfOk, IfErr}
-use Rattle.nd_base.specs.Outside.{IsContent}
-use Rattle.nd_base.specs.Over.{FilesSeen}
+use Rattle.nd_base.specs.Over.{IsContent, FilesSeen}
 use Rattle.nd_value.specs.Setting.{Setting}
 use Rattle.nd_value.specs.Fitting.{Fitting}
 use Rattle.command_refusals.specs.declared.refusal.Refusal.{Refusal}
 use Rattle.command_refusals.specs.declared.refusal.Refusal.TheVariants.{Memory, Absent, FileFailed, BadIdl, NoOperation, ReadFault, BadOctets, BadText, BadValue, TooLong, BadRequest, BadLabel}
 use Rattle.command_refusals.specs.declared.refusal.Refusal.TheVariants.{ShortLabel, TooFewEnds, EndFailed}
 use Rattle.command_refusals.specs.declared.refusal.Refusal.TheVariants.{BadPdu, NotCompatible, BadScript, LongScript}
-use Rattle.command_encode.specs.Request.{IsRequestText, IsTextRefusal, HoldsRequest, HoldsNoRequest}
+use Rattle.command_encode.specs.Encoded.{IsRequestText, IsTextRefusal, HoldsRequest, HoldsNoRequest}
 
 module _ (f : FilesSeen) (name : List ℕ) (w : Setting) where
   module _ (text : List ℕ) (content : IsContent f.held name text) where

@@ -7,13 +7,13 @@ use Rattle.nd_types.specs.declared.interface.Interface.{Interface}
 use Rattle.nd_types.specs.declared.types.Operation.{Operation}
 use Rattle.nd_value.specs.Fitting.{Fitting, setting_beside}
 use Rattle.nd_value.specs.Setting.{Setting}
-use Rattle.nd_grammar.specs.Chosen.{Chosen}
+use Rattle.nd_grammar.specs.Stream.{Chosen}
 use Rattle.ndr_encode.specs.Work.{WorkSeen, IsWorkFor, IsTooLong, IsChosen}
 use Rattle.command_refusals.specs.declared.refusal.Refusal.{Refusal}
 use Rattle.command_refusals.specs.declared.refusal.Refusal.TheVariants.{Memory, Absent, FileFailed, BadIdl, NoOperation, ReadFault, BadOctets, BadText, BadValue, TooLong, BadRequest, BadLabel}
 use Rattle.command_refusals.specs.declared.refusal.Refusal.TheVariants.{ShortLabel, TooFewEnds, EndFailed}
 use Rattle.command_refusals.specs.declared.refusal.Refusal.TheVariants.{BadPdu, NotCompatible, BadScript, LongScript}
-use Rattle.command_encode.specs.Written.{IsWritten, IsLong, IsWritingCause}
+use Rattle.command_encode.specs.Encoded.{IsWritten, IsLong, IsWritingCause}
 use Rattle.command_encode.specs.Prepared.{IsUnprepared}
 
 module _ (f : Fitting) (k : ℕ) (o : Operation) (there : slice_get f.interface.operations f.op ≡ Some o) where

@@ -1,4 +1,2 @@
-pub mod Written
+pub mod Encoded
 pub mod Prepared
-pub mod Fitted
-pub mod Request

@@ -5,7 +5,7 @@ use Rattle.ndr_encode.specs.Work.{IsTooLong}
 use Rattle.command_refusals.specs.declared.refusal.Refusal.{Refusal}
 use Rattle.command_refusals.specs.declared.refusal.Refusal.TheVariants.{Memory, TooLong}
 
--- its octets are too many; of memory no more is said
+-- its octets are too many; running out of memory needs no cause
 abbrev pub IsUnprepared : Fitting → ℕ → Refusal → Type 0
 IsUnprepared f chunk Memory = ⊤
 IsUnprepared f chunk (TooLong many) = IsTooLong f chunk many

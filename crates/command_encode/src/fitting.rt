@@ -3,13 +3,12 @@ ghost use Rattle.std.specs.Prelude.{◌≡◌, ℕ, ◌<◌, ◌^◌, List, leng
 ghost use Rattle.std.specs.List.{slice_get};
 ghost use Rattle.nd_types.specs.declared.types.Operation.{Operation};
 ghost use Rattle.nd_value.specs.declared.value.Graph.{Graph as GraphValue};
-ghost use Rattle.nd_value.specs.Conforms.{HasFewNodes};
-ghost use Rattle.nd_value.specs.FirstMisfit.{IsMisfit};
+ghost use Rattle.nd_value.specs.Conforms.{HasFewNodes, IsMisfit};
 ghost use Rattle.nd_value.specs.Fitting.{setting_beside};
 ghost use Rattle.nd_value.specs.Request.{IsRequestOf};
 ghost use Rattle.nd_value.specs.Setting.{Setting};
 ghost use Rattle.text_grammar.specs.Reads.{ReadsAs, IsFault};
-ghost use Rattle.command_encode.specs.Fitted.{IsTextCause, IsValueCause};
+ghost use Rattle.command_encode.specs.Encoded.{IsTextCause, IsValueCause};
 
 use command_refusals::Refusal;
 use nd_graph::{Fit, Graph, Misfit, fit};

@@ -6,8 +6,7 @@ ghost use Rattle.nd_types.specs.declared.types.Operation.{Operation};
 ghost use Rattle.nd_types.specs.declared.types.Side.TheVariants.{In};
 ghost use Rattle.nd_value.specs.Fitting.{setting_of};
 ghost use Rattle.nd_value.specs.Setting.{Setting};
-ghost use Rattle.command_encode.specs.Fitted.{IsTextCause};
-ghost use Rattle.command_encode.specs.Request.{inputs, IsRequestText, HoldsRequest, HoldsNoRequest, IsTextRefusal};
+ghost use Rattle.command_encode.specs.Encoded.{IsTextCause, inputs, IsRequestText, HoldsRequest, HoldsNoRequest, IsTextRefusal};
 
 use crate::fitting::fit_text;
 use command_refusals::{Refusal, RequestFault, load};

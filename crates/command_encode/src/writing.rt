@@ -4,7 +4,7 @@ ghost use Rattle.std.specs.List.{slice_get};
 ghost use Rattle.nd_types.specs.declared.types.Operation.{Operation};
 ghost use Rattle.nd_value.specs.Fitting.{setting_beside};
 ghost use Rattle.ndr_encode.specs.Work.{IsWorkFor};
-ghost use Rattle.command_encode.specs.Written.{IsWritten, IsWritingCause};
+ghost use Rattle.command_encode.specs.Encoded.{IsWritten, IsWritingCause};
 ghost use Rattle.command_encode.specs.Prepared.{IsUnprepared};
 
 use command_refusals::Refusal;

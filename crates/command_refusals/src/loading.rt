@@ -1,7 +1,6 @@
 // Files by their names.
 ghost use Rattle.std.specs.Prelude.{◌≡◌, ◌≤◌, [], ◌∷◌, ◌++◌, IfOk, IfErr};
-ghost use Rattle.nd_base.specs.Outside.{IsContent};
-ghost use Rattle.nd_base.specs.Over.{files_seen};
+ghost use Rattle.nd_base.specs.Over.{IsContent, files_seen};
 ghost use Rattle.command_refusals.specs.Loads.{IsLoadCause};
 
 use crate::refusal::Refusal;

@@ -14,11 +14,10 @@ use Rattle.nd_value.specs.declared.misfit.MisfitReason.TheVariants as misfit
 use Rattle.nd_value.specs.Tree as tree
 use Rattle.nd_value.specs.Tree.{node, none}
 use Rattle.nd_value.specs.Setting.{root_list, cell_of_number, cell_home}
-use Rattle.nd_value.specs.Homes.{HomeNode, in_home, cell_nodes, cell_pointers, all_nodes, all_pointers}
+use Rattle.nd_value.specs.Conforms.{HomeNode, in_home, cell_nodes, cell_pointers, all_nodes, all_pointers, Conforms, Reached, by_root, by_cell, AgreesAt, AllEarlier, ShareOnlyIfFull, FewNodes}
 use Rattle.nd_value.specs.Nodes.{home_nodes}
 use Rattle.nd_value.specs.Deferral.{Pending}
 use Rattle.nd_value.specs.Misfit.{misfit_of, misfit_by, unless, has_machine_values, has_type, names_cell}
-use Rattle.nd_value.specs.Conforms.{Conforms, Reached, by_root, by_cell, AgreesAt, AllEarlier, ShareOnlyIfFull, FewNodes}
 use Rattle.nd_value.proofs.Apart.{all_append}
 use Rattle.command_sample.specs.Interface.{sample_types, sample_setting}
 use Rattle.command_sample.specs.Nodes.{next_state, value_by, left, right, sample_node, sample_nodes, sample_graph}

@@ -10,10 +10,10 @@ use Rattle.nd_types.specs.declared.types.Side.TheVariants.{In}
 use Rattle.nd_value.specs.declared.value.Graph.{Graph}
 use Rattle.nd_value.specs.Conforms.{Conforms}
 use Rattle.nd_value.specs.Fitting.{setting_beside}
-use Rattle.nd_value.specs.Same.{Same}
+use Rattle.nd_value.specs.Canon.{Same}
 use Rattle.nd_value.specs.Setting.{Setting}
 use Rattle.nd_grammar.specs.declared.reason.Reason.{Reason}
-use Rattle.nd_grammar.specs.Represents.{Represents}
+use Rattle.nd_grammar.specs.Stream.{Represents}
 use Rattle.nd_grammar.proofs.OneGraph.{one_graph}
 use Rattle.nd_grammar.specs.decoded.Verdict.{DecodingSeen, IsDecoded, IsRefused}
 use Rattle.ndr_decoder_laws.proofs.verdict.NeverRefused.{never_refused}

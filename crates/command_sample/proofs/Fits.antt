@@ -9,19 +9,17 @@ use Rattle.nd_types.specs.declared.types.Side.{Side}
 use Rattle.nd_types.specs.declared.types.Side.TheVariants.{In}
 use Rattle.nd_types.specs.Table.{Table}
 use Rattle.nd_value.specs.declared.value.Graph.{Graph}
-use Rattle.nd_value.specs.Conforms.{Conforms, HasFewNodes}
+use Rattle.nd_value.specs.Conforms.{Conforms, HasFewNodes, IsOfNoFit}
 use Rattle.nd_value.specs.Deferral.{Step, Deferral, due_roots, before_pipes}
-use Rattle.nd_value.specs.FirstMisfit.{IsOfNoFit}
 use Rattle.nd_value.specs.Fitting.{Fitting, setting_beside}
 use Rattle.nd_value.specs.declared.item.Home.{Home}
 use Rattle.nd_value.specs.declared.misfit.Misfit.{Misfit}
 use Rattle.nd_value.specs.declared.misfit.Misfit.TheVariants as answer
 use Rattle.nd_value.specs.declared.misfit.MisfitReason.{MisfitReason}
 use Rattle.nd_value.specs.Setting.{Setting, root_list}
-use Rattle.nd_grammar.specs.Chosen.{Chosen, pipe_cuts}
+use Rattle.nd_grammar.specs.Stream.{Chosen, pipe_cuts, representation}
 use Rattle.nd_grammar.specs.Entry.{end_of}
 use Rattle.nd_grammar.specs.LegalSide.{IsLegalSide}
-use Rattle.nd_grammar.specs.Stream.{representation}
 use Rattle.nd_grammar.proofs.ChosenRepresents.{chosen_exists, chosen_represents}
 use Rattle.ndr_encode.specs.Work.{WorkSeen, IsWorkFor, IsTooLong, IsChosen, chosen_length}
 use Rattle.ndr_encode.proofs.Lengths.{chosen_length as end_of_octets}

@@ -1,9 +1,8 @@
 -- The lines of a summary of the sample.
 use Rattle.std.proofs.Common.{◌≡◌, ◌∙◌, ℕ, ◌+◌, ◌*◌, Bool, true, List, Result, Ok, Err, IfOk, ap}
 use Rattle.nd_base.specs.declared.octets.Memory.{Memory}
-use Rattle.command_sample.specs.Nodes.{sample_sum}
+use Rattle.command_sample.specs.Nodes.{sample_sum, sample_lines}
 use Rattle.command_sample.specs.Steps.{summary_lines}
-use Rattle.command_sample.specs.Summary.{sample_lines}
 
 pub lines_are : (seed n cells octets sum : ℕ) (same : Bool) (text : List ℕ) → cells ≡ n → octets ≡ 4 + 12 * n → sum ≡ sample_sum n seed → same ≡ true
     → text ≡ summary_lines cells octets sum same → text ≡ sample_lines seed n

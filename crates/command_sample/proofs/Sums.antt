@@ -6,7 +6,7 @@ use Rattle.std.proofs.lemmas.Bool.{cases_eq, lt-ltb}
 use Rattle.nd_value.specs.declared.value.Graph.{Graph}
 use Rattle.nd_value.specs.Tree as tree
 use Rattle.nd_value.specs.Tree.{Tree, Trees, Referent, node, none, more}
-use Rattle.nd_value.specs.Same.{Same, renumbered, renumbered_label}
+use Rattle.nd_value.specs.Canon.{Same, renumbered, renumbered_label}
 use Rattle.command_sample.specs.Nodes.{next_state, sample_nodes, sample_graph, sample_sum, value_by}
 use Rattle.command_sample.specs.Values.{small_in, value_of, values_sum}
 use Rattle.command_sample.proofs.Conforming.{length_is, value_small}

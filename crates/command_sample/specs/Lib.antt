@@ -1,5 +1,4 @@
 pub mod Steps
-pub mod Summary
-pub mod Interface
 pub mod Nodes
+pub mod Interface
 pub mod Values

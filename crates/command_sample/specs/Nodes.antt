@@ -1,8 +1,13 @@
--- The graph of the sample. `x` is a state, `n` how many nodes there are, `i` the number of a node, from 1, `k` how many are left.
-use Rattle.std.specs.Prelude.{ℕ, ◌+◌, ◌*◌, ◌/◌, ◌%◌, ◌^◌, suc, zero, pos, if◌then◌else◌, nat_lt, List, [], ◌∷◌, Option, Some, None}
+-- The graph of the sample, and its summary.
+use Rattle.std.specs.Prelude.{ℕ, ◌+◌, ◌*◌, ◌^◌, ◌/◌, ◌%◌, zero, suc, pos, if◌then◌else◌, nat_lt, List, [], ◌∷◌, Option, Some, None, codes, decimal}
+use Rattle.nd_base.specs.Text.{joined}
 use Rattle.nd_value.specs.declared.value.Graph.{Graph}
 use Rattle.nd_value.specs.Tree as tree
 use Rattle.nd_value.specs.Tree.{Tree, Referent, node, none, trees}
+
+-- ## The graph
+
+-- `x` is a state, `n` how many nodes there are, `i` the number of a node, from 1, `k` how many are left.
 
 -- the state after a state of the generator
 abbrev pub next_state : ℕ → ℕ
@@ -47,3 +52,11 @@ sample_graph seed n = record { roots = pointer_to (Some 1) ∷ []; cells = sampl
 abbrev pub sample_sum : ℕ → ℕ → ℕ
 sample_sum zero x = 0
 sample_sum (suc k) x = value_by (next_state x) + sample_sum k (next_state (next_state x))
+
+-- ## The summary of the sample of a seed and a count
+
+-- so many nodes, the octets of a pointer and of that many nodes, the sum of their values, and that they are the same
+abbrev pub sample_lines : ℕ → ℕ → List ℕ
+sample_lines seed n =
+    joined (codes "cells " ∷ decimal n ∷ codes "\noctets " ∷ decimal (4 + 12 * n) ∷ codes "\nsum " ∷ decimal (sample_sum n seed)
+    ∷ codes "\nsame yes\n" ∷ [])

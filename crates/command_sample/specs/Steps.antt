@@ -5,7 +5,7 @@ use Rattle.nd_base.specs.declared.octets.Order.TheVariants.{Little}
 use Rattle.nd_types.specs.declared.interface.Interface.{Interface}
 use Rattle.nd_types.specs.declared.types.Side.TheVariants.{In}
 use Rattle.nd_value.specs.Fitting.{Fitting}
-use Rattle.nd_grammar.specs.Represents.{Represents}
+use Rattle.nd_grammar.specs.Stream.{Represents}
 use Rattle.command_sample.specs.Interface.{sample_types, take, sample_setting}
 use Rattle.command_sample.specs.Nodes.{sample_graph}
 

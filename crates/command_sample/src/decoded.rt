@@ -1,6 +1,6 @@
 // The graph that is decoded, and the sum of its values.
 ghost use Rattle.std.specs.Prelude.{◌≡◌, ℕ, ◌<◌, ◌^◌, suc, length, IfOk};
-ghost use Rattle.nd_value.specs.Same.{Same};
+ghost use Rattle.nd_value.specs.Canon.{Same};
 ghost use Rattle.nd_value.specs.Setting.{cell_at};
 ghost use Rattle.command_sample.specs.Nodes.{sample_graph};
 ghost use Rattle.command_sample.specs.Values.{small as small_of, small_in, value_of, values_sum as sum_of_values};

@@ -3,7 +3,7 @@ ghost use Rattle.std.specs.Prelude.{◌≡◌, ℕ, ◌+◌, ◌*◌, ◌≤◌,
 ghost use Rattle.nd_value.specs.Conforms.{Conforms};
 ghost use Rattle.nd_value.specs.Deferral.{Step, Deferral, due_roots, before_pipes};
 ghost use Rattle.nd_value.specs.declared.value.Graph.{Graph};
-ghost use Rattle.nd_value.specs.Same.{Same};
+ghost use Rattle.nd_value.specs.Canon.{Same};
 ghost use Rattle.nd_value.specs.Setting.{root_list};
 ghost use Rattle.nd_grammar.specs.Entry.{end_of};
 ghost use Rattle.nd_grammar.specs.Stream.{representation};

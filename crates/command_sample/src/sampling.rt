@@ -1,7 +1,7 @@
 // The sample, from its seed to its summary.
 ghost use Rattle.std.specs.Prelude.{◌≡◌, ◌≤◌, IfOk};
 ghost use Rattle.command_sample.specs.Steps.{IsSampleInterface, IsSampleFit};
-ghost use Rattle.command_sample.specs.Summary.{sample_lines};
+ghost use Rattle.command_sample.specs.Nodes.{sample_lines};
 
 use crate::decoded::{decoded, values_sum};
 use crate::encoded::encoded;

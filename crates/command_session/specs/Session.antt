@@ -53,7 +53,7 @@ pub record HasBadLine (s : SourceSeen) (line : ℕ) : Type 0 where
   pub few : length octets ≤ script_limit
   pub bad : IsBadLine octets line
 
--- why a session is refused; of memory no more is said
+-- why a session is refused; running out of memory needs no cause
 abbrev pub IsSessionCause : SourceSeen → Refusal → Type 0
 IsSessionCause s Memory = ⊤
 IsSessionCause s ReadFault = HasRisen s.faults

@@ -1,7 +1,6 @@
 // A script is read and run, and what it comes to is written.
 ghost use Rattle.std.specs.Prelude.{◌≡◌, ◌≢◌, ◌⊎◌, ℕ, List, [], ◌∷◌, MatchResult};
-ghost use Rattle.nd_base.specs.Counts.{Rose};
-ghost use Rattle.nd_base.specs.Over.{source_seen, sink_seen};
+ghost use Rattle.nd_base.specs.Over.{Rose, source_seen, sink_seen};
 ghost use Rattle.command_refusals.specs.declared.refusal.Refusal.{Refusal as Why};
 ghost use Rattle.command_streams.specs.Input.{AreGiven};
 ghost use Rattle.command_streams.specs.Delivery.{IsOneOf, IsCompleted, IsGiven};

@@ -1,9 +1,14 @@
--- The octets of an input that are read.
-use Rattle.std.specs.Prelude.{◌≡◌, ℕ, ◌+◌, ◌<◌, ◌≤◌, true, List, length, take, Option, Some, ⊤}
+-- The octets of an input that are read, and the format label before them (C706, section 14.1).
+use Rattle.std.specs.Prelude.{◌≡◌, ℕ, ◌+◌, ◌<◌, ◌≤◌, true, List, length, take, Option, Some, Ok, Err, ⊤}
 use Rattle.std.specs.Io.KnownBytes.{Consumes, IsAtEnd}
+use Rattle.nd_base.specs.declared.octets.Order.{Order}
 use Rattle.nd_base.specs.Over.{SourceSeen, HasRisen}
+use Rattle.ndr_prim.specs.declared.label.LabelFault.{LabelFault}
+use Rattle.ndr_prim.specs.Label.{order_of_label}
 use Rattle.command_refusals.specs.declared.refusal.Refusal.{Refusal}
-use Rattle.command_refusals.specs.declared.refusal.Refusal.TheVariants.{Memory, ReadFault}
+use Rattle.command_refusals.specs.declared.refusal.Refusal.TheVariants.{Memory, ReadFault, BadLabel, ShortLabel}
+
+-- ## The octets that are read
 
 -- These octets were read: the whole input, or its first octets to one past a limit.
 pub record AreRead (s : SourceSeen) (limit : ℕ) (octets : List ℕ) : Type 0 where
@@ -12,7 +17,7 @@ pub record AreRead (s : SourceSeen) (limit : ℕ) (octets : List ℕ) : Type 0 w
   pub whole : length octets < limit + 1 → s.ended ≡ true
   pub none_left : length octets < limit + 1 → IsAtEnd s.left_now
 
--- why the input was not read; of memory no more is said
+-- why the input was not read; running out of memory needs no cause
 abbrev pub IsFetchCause : SourceSeen → Refusal → Type 0
 IsFetchCause s Memory = ⊤
 IsFetchCause s ReadFault = HasRisen s.faults
@@ -29,3 +34,41 @@ pub record IsInput (s : SourceSeen) (limit : ℕ) (octets : List ℕ) : Type 0 w
   pub left : s.left ≡ Some all
   pub counted : octets ≡ take (limit + 1) all
   pub reads : HasRisen s.faults → ⊥
+
+-- ## The format label
+
+-- `s` is the source over the call.
+
+-- The four octets of a label were taken, and state this order.
+pub record HasLabel (s : SourceSeen) (order : Order) : Type 0 where
+  pub label : List ℕ
+  pub taken : Consumes s.left s.left_now label
+  pub four : length label ≡ 4
+  pub states : order_of_label label ≡ Ok order
+
+-- Four octets were taken, and are refused as a label for this reason.
+pub record IsBadLabel (s : SourceSeen) (why : LabelFault) : Type 0 where
+  pub label : List ℕ
+  pub taken : Consumes s.left s.left_now label
+  pub four : length label ≡ 4
+  pub states : order_of_label label ≡ Err why
+
+-- All that the source gives was taken, and is shorter than a label.
+pub record IsShortLabel (s : SourceSeen) : Type 0 where
+  pub label : List ℕ
+  pub taken : Consumes s.left s.left_now label
+  pub short : length label < 4
+  pub ended : s.ended ≡ true
+  pub none_left : IsAtEnd s.left_now
+
+-- why there is no label
+abbrev pub IsLabelCause : SourceSeen → Refusal → Type 0
+IsLabelCause s ReadFault = HasRisen s.faults
+IsLabelCause s (BadLabel why) = IsBadLabel s why
+IsLabelCause s ShortLabel = IsShortLabel s
+IsLabelCause s _ = ⊥
+
+-- why nothing more was taken: the source failed
+abbrev pub IsReadFault : SourceSeen → Refusal → Type 0
+IsReadFault s ReadFault = HasRisen s.faults
+IsReadFault s _ = ⊥

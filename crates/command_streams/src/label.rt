@@ -2,7 +2,7 @@
 ghost use Rattle.std.specs.Prelude.{◌≡◌, ◌≤◌, ◌+◌, ◌<◌, List, ℕ, Option, take, length, true, IfOk, IfErr};
 ghost use Rattle.std.specs.Io.KnownBytes.{Consumes, IsAtEnd};
 ghost use Rattle.nd_base.specs.Over.{source_seen};
-ghost use Rattle.command_streams.specs.Label.{HasLabel, IsLabelCause, IsFetchCause};
+ghost use Rattle.command_streams.specs.Input.{HasLabel, IsLabelCause, IsReadFault};
 
 use command_refusals::Refusal;
 use nd_base::{Order, Source};
@@ -53,7 +53,7 @@ fn fetch_some<S: Source>(input: &mut S, octets: &mut [u8; 4], came: usize) -> Re
     ensures octets { IfOk result (λ n. (start : Option (List ℕ)) → Consumes start (S.left input.old) (take came octets.old)
         → Consumes start (S.left input.new) (take (came + n) octets.new)) }
     ensures end { IfOk result (λ n. n ≡ 0 → (S.ended input.new ≡ true) × IsAtEnd (S.left input.new)) }
-    ensures fault { IfErr result (IsFetchCause (source_seen S.left S.ended S.faults input.old input.new)) }
+    ensures fault { IfErr result (IsReadFault (source_seen S.left S.ended S.faults input.old input.new)) }
     ensures later { S.faults input.old ≤ S.faults input.new }
 {
     match input.fetch(&mut octets[came..]) {

@@ -6,7 +6,7 @@ use Rattle.std.specs.List.{position_or_len}
 use Rattle.std.proofs.lemmas.Bool.{ltb-false}
 use Rattle.std.proofs.lemmas.List.{take_all, drop_all}
 use Rattle.std.proofs.lemmas.Option.{cond_some}
-use Rattle.command_why.specs.Entries.{entries, onto, title}
+use Rattle.command_why.specs.Explained.{entries, onto, title}
 
 -- ## The first place at which a test passes, or the length of a list in which it passes nowhere
 

@@ -1,7 +1,7 @@
 -- What two names share once one of them ends.
 use Rattle.std.proofs.Common.{◌≡◌, ◌∙◌, ◌⊎◌, inl, inr, ℕ, ◌+◌, ◌≤◌, List, [], ◌∷◌, length, drop, refl, ap, arith}
 use Rattle.std.proofs.lemmas.List.{drop_all}
-use Rattle.command_why.specs.Nearest.{shared}
+use Rattle.command_why.specs.Explained.{shared}
 
 none_first : (other : List ℕ) → shared [] other ≡ 0
 none_first [] = refl

@@ -1,8 +1,7 @@
 // What the entries say of the words of a command.
 ghost use Rattle.std.specs.Prelude.{◌≡◌, ◌∷◌, map, option_map, IfOk};
 ghost use Rattle.std.specs.String.{string_bytes};
-ghost use Rattle.command_why.specs.Entries.{entries, entry_of};
-ghost use Rattle.command_why.specs.Explained.{spelled as spelled_of, name_explained, explained_by, explained};
+ghost use Rattle.command_why.specs.Explained.{entries, entry_of, spelled as spelled_of, name_explained, explained_by, explained};
 
 use crate::entries::ENTRIES;
 use crate::near::{names, nearest};

@@ -1,8 +1,7 @@
 // The names of entries: of all, and of those that are nearest to a name that has none.
 ghost use Rattle.std.specs.Prelude.{◌≡◌, ◌≤◌, ◌⊎◌, max, IfOk};
-ghost use Rattle.command_why.specs.Entries.{entries, names as names_of};
-ghost use Rattle.command_why.specs.Nearest.{lower as lower_of, shared as shared_of, most_shared as most_shared_of};
-ghost use Rattle.command_why.specs.Nearest.{names_sharing as names_sharing_of, nearest as nearest_of};
+ghost use Rattle.command_why.specs.Explained.{entries, names as names_of, lower as lower_of, shared as shared_of, most_shared as most_shared_of};
+ghost use Rattle.command_why.specs.Explained.{names_sharing as names_sharing_of, nearest as nearest_of};
 
 use crate::pages::{first_page, title};
 use nd_base::{Memory, Octets};

@@ -1,6 +1,6 @@
 // The entries of a text, one after the other, and their names.
 ghost use Rattle.std.specs.Prelude.{◌≡◌, ◌==◌, ◌≤◌, ◌<◌, ◌∷◌, length, take, drop, position, IfSome};
-ghost use Rattle.command_why.specs.Entries.{entries, title as title_of};
+ghost use Rattle.command_why.specs.Explained.{entries, title as title_of};
 
 // The first entry of a text, and what follows it.
 #[derive(Clone, Copy)]

@@ -1,5 +1,5 @@
 -- What a session says of each resource that it opened.
-use Rattle.std.specs.Prelude.{◌≡◌, ℕ, ◌+◌, ◌-◌, ◌^◌, ◌≤◌, min, suc, Bool, true, false, eqb, List, [], ◌∷◌, ◌++◌, map, Some, remove, if◌then◌else◌}
+use Rattle.std.specs.Prelude.{◌≡◌, ℕ, ◌+◌, ◌-◌, ◌^◌, ◌≤◌, min, suc, Bool, true, false, ◌==◌, List, [], ◌∷◌, ◌++◌, map, Some, remove, if◌then◌else◌}
 use Rattle.std.specs.List.{slice_get}
 use Rattle.std.specs.Str.{bytes_eq}
 use Rattle.std.specs.Io.KnownBytes.{append_known}
@@ -24,7 +24,7 @@ effect client id (Use other text) Done = if bytes_eq other id then Accepted text
 effect client id (Use other text) Failed = if bytes_eq other id then FailedUse else Nothing
 effect client id (Close other) Done = if bytes_eq other id then Closed else Nothing
 effect client id (Close other) Failed = if bytes_eq other id then FailedClose else Nothing
-effect client id (Down other) answer = if eqb client other then RunDown else Nothing
+effect client id (Down other) answer = if client == other then RunDown else Nothing
 effect client id line answer = Nothing
 
 -- the life of a resource: the lines that were accepted, each with a line feed; how many lines said that it failed; whether a line closed it

@@ -1,5 +1,6 @@
 -- One entry of a store is called, or leaves.
-use Rattle.std.proofs.Common.{◌≡◌, ◌∙◌, ap, sym, refl, subst, ℕ, zero, suc, ◌<◌, ◌≤◌, Bool, true, false, true≢false, List, [], ◌∷◌, length, map, eqb, Option, Some, None, option_map, position, slice_set, slice_index_or, get_or, if◌then◌else◌, is_some, nat_le, remove, arith}
+use Rattle.std.proofs.Common.{◌≡◌, ◌∙◌, ap, sym, refl, subst, ℕ, zero, suc, ◌<◌, ◌≤◌, Bool, true, false, true≢false}
+use Rattle.std.proofs.Common.{List, [], ◌∷◌, length, map, eqb, Option, Some, None, option_map, position, slice_set, slice_index_or, get_or, if◌then◌else◌, is_some, nat_le, remove, arith}
 use Rattle.std.specs.List.{slice_get}
 use Rattle.std.specs.Str.{bytes_eq}
 use Rattle.std.proofs.lemmas.List.{map-set, length-map}

@@ -1,5 +1,5 @@
 -- A store: what is live, in the order of opening.
-use Rattle.std.specs.Prelude.{◌≡◌, ℕ, suc, Bool, false, cond, eqb, List, [], ◌∷◌, map, Option, Some, None, option_map, position}
+use Rattle.std.specs.Prelude.{◌≡◌, ℕ, suc, Bool, false, ◌==◌, List, [], ◌∷◌, map, Option, Some, None, option_map, position}
 use Rattle.std.specs.List.{AllByRecursion}
 use Rattle.std.specs.Str.{bytes_eq}
 use Rattle.ctx_store.specs.Resource.{ResourceSeen}
@@ -24,7 +24,7 @@ place_of entries id = position (bytes_eq id) (ids_of entries)
 
 -- the place of a client's first live resource, and none if it has none
 abbrev pub first_of : List Live → ℕ → Option ℕ
-first_of entries client = position (λ e. eqb e.client client) entries
+first_of entries client = position (λ e. e.client == client) entries
 
 -- no identifier is there twice
 abbrev pub AreDistinct : List Live → Type 0

@@ -1,7 +1,7 @@
 -- What a resource shows of itself, and what its calls do.
 use Rattle.std.specs.Prelude.{◌≡◌, ℕ, ◌≤◌, Bool, true, false, List, [], ◌∷◌, ◌++◌, Option, Result, MatchResult}
 use Rattle.std.specs.Io.KnownBytes.{append_known}
-use Rattle.nd_base.specs.Counts.{Rose}
+use Rattle.nd_base.specs.Over.{Rose}
 
 -- a resource: the lines applied, each with a line feed, where it shows them; whether it was ended; how often it failed
 pub record ResourceSeen : Type 0 where

@@ -1,5 +1,5 @@
 // A store of live resources, in the order of opening. A resource is live from when it is opened until it is ended.
-ghost use Rattle.std.specs.Prelude.{◌≡◌, ◌+◌, ◌<◌, ◌≤◌, ◌++◌, [], ◌∷◌, length, eqb, false, Some, None, map, remove, position};
+ghost use Rattle.std.specs.Prelude.{◌≡◌, ◌+◌, ◌<◌, ◌≤◌, ◌++◌, [], ◌∷◌, length, ◌==◌, false, Some, None, map, remove, position};
 ghost use Rattle.std.specs.Prelude.{IfOk, IfErr, OnOk, OnErr, MatchResult, MatchOption, option_map};
 ghost use Rattle.std.specs.List.{slice_get};
 ghost use Rattle.ctx_store.specs.Resource.{HasApplied, HasEndedSo};
@@ -95,7 +95,7 @@ impl<R: Resource> Entry<R> {
     }
 
     fn is_of(&self, client: u32) -> bool
-        ensures { result ≡ eqb self.now.client client }
+        ensures { result ≡ (self.now.client == client) }
     {
         self.client == client
     }
@@ -209,7 +209,7 @@ impl<R: Resource> StoreOf<R> {
 
     // The place of a client's first resource.
     fn first_of(&self, client: u32) -> Option<usize>
-        ensures { result ≡ position (λ e. eqb e.client client) self.now.entries.items }
+        ensures { result ≡ position (λ e. e.client == client) self.now.entries.items }
     {
         self.entries.iter().position(|entry| entry.is_of(client))
     }

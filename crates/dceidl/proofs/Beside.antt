@@ -10,7 +10,7 @@ use Rattle.command_refusals.specs.declared.refusal.Refusal.TheVariants.{NotCompa
 use Rattle.command_refusals.specs.Lines.{status_of}
 use Rattle.command_streams.specs.Delivery.{IsOneOf}
 use Rattle.dceidl.specs.Causes.{AreTraced, IsCause, IsWrittenBeside, statuses_of, tells, traces}
-use Rattle.dceidl.specs.Seen.{Seen}
+use Rattle.dceidl.specs.Asked.{Seen}
 
 module _ (x : Seen) where
   -- ## Octets that are traced

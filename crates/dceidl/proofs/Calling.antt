@@ -10,15 +10,13 @@ use Rattle.nd_types.specs.declared.types.Side.TheVariants.{Out}
 use Rattle.nd_types.specs.declared.TheConstants.{OPERATION_LIMIT}
 use Rattle.nd_value.specs.Setting.{Setting}
 use Rattle.nd_value.specs.Fitting.{setting_of}
-use Rattle.rpc_pdu.specs.Pieces.{Pieces}
+use Rattle.rpc_pdu.specs.Fragments.{Pieces}
 use Rattle.command_call.specs.Called.{IsCalled, IsCallCause}
 use Rattle.command_line.specs.Words.{Subject}
 use Rattle.command_line.specs.declared.command.OrderWord.TheVariants.{Fixed}
 use Rattle.command_refusals.specs.declared.refusal.Refusal.{Refusal}
-use Rattle.dceidl.specs.Encode.{IsLabelledEncoding}
-use Rattle.dceidl.specs.Input.{OfText}
+use Rattle.dceidl.specs.Input.{IsLabelledEncoding, OfText, HasCalled, IsNoCall, IsWrapped, head_for}
 use Rattle.dceidl.specs.Ready.{IsFound, IsCallReady}
-use Rattle.dceidl.specs.Wrapped.{HasCalled, IsNoCall, IsWrapped, head_for}
 use Rattle.dceidl.specs.declared.TheConstants.{WRAP_CHUNK}
 
 -- ## `call`

@@ -14,16 +14,15 @@ use Rattle.nd_value.specs.Setting.{Setting}
 use Rattle.nd_value.specs.Conforms.{Conforms}
 use Rattle.nd_value.specs.Fitting.{setting_of}
 use Rattle.nd_grammar.specs.LegalSide.{IsLegalSide}
-use Rattle.nd_grammar.specs.Represents.{Represents}
+use Rattle.nd_grammar.specs.Stream.{Represents}
 use Rattle.rpc_pdu.specs.declared.pdu.Wanted.{Wanted}
 use Rattle.rpc_pdu.specs.declared.pdu.PduReason.{PduReason}
-use Rattle.rpc_pdu.specs.Fragments.{Fragments, SameCall, HasNumber}
+use Rattle.rpc_pdu.specs.Fragments.{Fragments, SameCall, HasNumber, IsRefused}
 use Rattle.rpc_pdu.specs.Fragments as pdu
-use Rattle.rpc_pdu.specs.Joined.{IsRefused}
 use Rattle.rpc_pdu.proofs.Reading.{never_both, one_call, one_refusal}
 use Rattle.rpc_pdu.proofs.KnownOctets.{known_bad}
 use Rattle.rpc_pdu.proofs.Numbers.{call_number}
-use Rattle.command_decode.specs.Printed.{IsDecoding, IsWhole}
+use Rattle.command_decode.specs.Decoded.{IsDecoding, IsWhole}
 use Rattle.command_call.specs.Called.{IsCall, IsCalled, IsTrailed, IsOfNoOperation, HasBadStub, IsStubSource, IsStubCause, IsCallCause}
 use Rattle.command_call.specs.Called as called
 use Rattle.command_refusals.specs.declared.refusal.OctetsFault.{OctetsFault}

@@ -2,22 +2,20 @@
 use Rattle.std.proofs.Common.{◌≡◌, ◌∙◌, ℕ, ◌<◌, true, false, Bool, List, length, Some, None, Result, Ok, Err, IfOk, IfErr, refl, sym, ap, subst, inr}
 use Rattle.nd_types.specs.declared.interface.Interface.{Interface}
 use Rattle.nd_types.specs.declared.types.Operation.{Operation}
-use Rattle.nd_types.specs.Operations.{operation_named}
+use Rattle.nd_types.specs.Roots.{operation_named}
 use Rattle.nd_value.specs.Setting.{Setting}
 use Rattle.nd_types.specs.declared.types.Side.{Side}
 use Rattle.nd_value.specs.Fitting.{setting_of}
 use Rattle.dceidl.specs.declared.ready.Ready.{Ready}
-use Rattle.ndr_pipe.specs.End.{EndSeen}
-use Rattle.ndr_pipe.specs.Ends.{EndsSeen}
-use Rattle.dceidl.specs.Asked.{AsksEnds}
+use Rattle.ndr_pipe.specs.Ends.{EndSeen, EndsSeen}
+use Rattle.dceidl.specs.Asked.{AsksEnds, Seen}
 use Rattle.command_line.specs.declared.command.OrderWord.{OrderWord}
 use Rattle.command_line.specs.declared.command.Task.{Task}
-use Rattle.dceidl.specs.Seen.{Seen}
 use Rattle.command_line.specs.Words.{Subject, Values}
 use Rattle.dceidl.specs.Causes.{IsMade, IsCause}
 use Rattle.text_grammar.specs.declared.TheConstants.{TEXT_LIMIT}
-use Rattle.command_encode.specs.Fitted.{IsTextCause}
-use Rattle.dceidl.specs.Encode.{IsLabelledEncoding, IsEncodingCause, IsMigration}
+use Rattle.command_encode.specs.Encoded.{IsTextCause}
+use Rattle.dceidl.specs.Input.{IsLabelledEncoding, IsEncodingCause, IsMigration, OfText, IsMadeOf, IsTaskCause, IsInputTextCause, IsInputEncodingCause}
 use Rattle.command_refusals.specs.declared.refusal.Refusal.{Refusal}
 use Rattle.command_refusals.specs.declared.refusal.Refusal.TheVariants.{Memory, Absent, FileFailed, BadIdl, NoOperation, ReadFault, BadOctets, BadText, BadValue, TooLong, BadRequest, BadLabel}
 use Rattle.command_refusals.specs.declared.refusal.Refusal.TheVariants.{ShortLabel, TooFewEnds, EndFailed}
@@ -25,7 +23,6 @@ use Rattle.command_refusals.specs.declared.refusal.Refusal.TheVariants.{BadPdu, 
 use Rattle.nd_base.specs.Over.{FilesSeen, SourceSeen}
 use Rattle.dceidl.specs.Ready.{IsFound, IsReady, IsReadyCause, IsNotFound}
 use Rattle.command_compile.specs.Compiled.{IsCompiled, IsIdlCause}
-use Rattle.dceidl.specs.Input.{OfText, IsMadeOf, IsTaskCause, IsInputTextCause, IsInputEncodingCause}
 use Rattle.command_streams.specs.Input.{AreRead}
 use Rattle.nd_lemmas.proofs.Lists.{item_at}
 

@@ -1,7 +1,6 @@
 -- What `compat` answers, from what its files mean: its statuses, the files that are due, and what must come where no load fails.
 use Rattle.std.proofs.Common.{◌≡◌, ◌∙◌, ℕ, List, [], ◌∷◌, Option, Some, None, refl, sym, ap, ap₂, subst, inl, inr, ◌⊎◌}
-use Rattle.nd_base.specs.Outside.{IsMissing}
-use Rattle.nd_base.specs.Over.{FilesSeen, HasRisen}
+use Rattle.nd_base.specs.Over.{IsMissing, FilesSeen, HasRisen}
 use Rattle.nd_types.specs.declared.interface.Interface.{Interface}
 use Rattle.idl_compat.specs.declared.pairs.TypePair.{TypePair}
 use Rattle.idl_compat.specs.declared.compared.Compared.{Compared}
@@ -16,13 +15,11 @@ use Rattle.command_refusals.specs.declared.refusal.Refusal.TheVariants.{Memory, 
 use Rattle.command_refusals.specs.declared.refusal.Refusal.TheVariants.{ShortLabel, TooFewEnds, EndFailed}
 use Rattle.command_refusals.specs.declared.refusal.Refusal.TheVariants.{BadPdu, NotCompatible, BadScript, LongScript}
 use Rattle.command_refusals.specs.Lines.{status_of}
-use Rattle.command_compile.specs.Asked.{FileNames}
+use Rattle.command_compile.specs.Compiled.{FileNames, IsCompiled, IsIdlCause}
 use Rattle.command_compile.specs.Idl.{Means}
-use Rattle.command_compile.specs.Compiled.{IsCompiled, IsIdlCause}
 use Rattle.command_compile.proofs.OneInterface.{one_interface}
 use Rattle.command_compile.specs.Compat.{first_part, second_part, AfterFirst, IsFilesCause, IsDifferent, IsCompatible, IsNotCompatible, IsCompatCause, fault_of}
-use Rattle.dceidl.specs.Held.{IsHeld, IsHeldInterface, MustBeNoIdl}
-use Rattle.dceidl.specs.Compat.{CanBeCompared, AreHeld, MustBeIncomparable, IsDueSecond}
+use Rattle.dceidl.specs.Held.{IsHeld, IsHeldInterface, MustBeNoIdl, CanBeCompared, AreHeld, MustBeIncomparable, IsDueSecond}
 use Rattle.command_streams.specs.Delivery.{IsOneOf}
 use Rattle.dceidl.specs.Rows.{IsDueOf}
 use Rattle.dceidl.proofs.HeldFiles.{compiled_cause, no_idl, no_idl_cause, means_here}

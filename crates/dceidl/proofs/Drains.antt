@@ -4,13 +4,11 @@ use Rattle.std.proofs.lemmas.Option.{same_Some}
 use Rattle.std.specs.List.{slice_get}
 use Rattle.std.specs.Prelude.{slice_set}
 use Rattle.nd_base.specs.declared.octets.Order.{Order}
-use Rattle.nd_base.specs.Counts.{Rose}
-use Rattle.nd_base.specs.Over.{SourceSeen, HasRisen}
+use Rattle.nd_base.specs.Over.{Rose, SourceSeen, HasRisen}
 use Rattle.nd_value.specs.Setting.{Setting, root_list}
 use Rattle.ndr_drain_laws.specs.parts.Parts.{Spot, Part, after}
-use Rattle.ndr_pipe.specs.End.{EndSeen}
-use Rattle.ndr_pipe.specs.Ends.{EndsSeen, change_at}
-use Rattle.ndr_drain.specs.Given.{pipe_count, end_of_root, end_after, ends_after}
+use Rattle.ndr_pipe.specs.Ends.{EndSeen, EndsSeen, change_at}
+use Rattle.ndr_drain.specs.Drained.{pipe_count, end_of_root, end_after, ends_after}
 use Rattle.command_drain.specs.Printed.{IsPrinted, IsDrainRefusal}
 use Rattle.command_decode.proofs.Steps.{refused_is}
 use Rattle.command_refusals.specs.declared.refusal.Refusal.{Refusal}

@@ -10,15 +10,14 @@ use Rattle.nd_value.specs.declared.value.Graph.{Graph}
 use Rattle.nd_value.specs.Setting.{Setting}
 use Rattle.nd_value.specs.Conforms.{Conforms}
 use Rattle.nd_value.specs.Fitting.{Fitting, IsFit, setting_beside}
-use Rattle.command_encode.specs.Written.{IsWritten, IsWritingCause}
-use Rattle.command_encode.specs.Fitted.{IsTextCause}
-use Rattle.text_grammar.specs.Printed.{IsText}
+use Rattle.command_encode.specs.Encoded.{IsWritten, IsWritingCause, IsTextCause}
+use Rattle.text_grammar.specs.Written.{IsText}
 use Rattle.text_grammar.specs.Reads.{ReadsAs}
 use Rattle.command_refusals.specs.declared.refusal.Refusal.{Refusal}
 use Rattle.command_refusals.specs.declared.refusal.Refusal.TheVariants.{Memory, Absent, FileFailed, BadIdl, NoOperation, ReadFault, BadOctets, BadText, BadValue, TooLong, BadRequest, BadLabel}
 use Rattle.command_refusals.specs.declared.refusal.Refusal.TheVariants.{ShortLabel, TooFewEnds, EndFailed}
 use Rattle.command_refusals.specs.declared.refusal.Refusal.TheVariants.{BadPdu, NotCompatible, BadScript, LongScript}
-use Rattle.dceidl.specs.Encode.{IsEncoding, IsEncodingCause, IsMigration}
+use Rattle.dceidl.specs.Input.{IsEncoding, IsEncodingCause, IsMigration}
 
 -- why a text is refused is why it is not encoded
 pub text_cause : (w : Setting) (chunk : ℕ) (text : List ℕ) (e : Refusal) → IsTextCause w text e → IsEncodingCause w chunk text e

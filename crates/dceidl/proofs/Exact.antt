@@ -20,25 +20,23 @@ use Rattle.command_refusals.specs.declared.refusal.Refusal.TheVariants.{BadPdu, 
 use Rattle.command_refusals.specs.declared.refusal.OctetsFault.TheVariants.{Refused, Trailing}
 use Rattle.command_refusals.specs.declared.refusal.RequestFault.{RequestFault}
 use Rattle.command_refusals.specs.Lines.{status_of, line_of}
-use Rattle.nd_grammar.specs.Represents.{Represents}
-use Rattle.ndr_drain.specs.Given.{pipe_count}
+use Rattle.nd_grammar.specs.Stream.{Represents}
+use Rattle.ndr_drain.specs.Drained.{pipe_count}
 use Rattle.command_drain.specs.Printed as draining
 use Rattle.command_drain.specs.Printed.{IsDrainRefusal}
-use Rattle.command_decode.specs.Explanations.{IsExplained}
-use Rattle.command_decode.specs.Stopped.{IsTraceCause}
-use Rattle.command_decode.specs.Printed.{IsPrinted, IsInputCause}
-use Rattle.command_encode.specs.Fitted.{IsTextCause}
+use Rattle.command_decode.specs.Decoded.{IsExplained, IsTraceCause, IsPrinted, IsInputCause}
+use Rattle.command_encode.specs.Encoded.{IsTextCause}
 use Rattle.command_encode.proofs.OneText.{good_cause, fault_cause, misfit_cause}
 use Rattle.dceidl.specs.Causes.{IsMade, IsCause, IsWrittenBeside, IsUnexplained}
 use Rattle.command_why.specs.declared.lookup.Explained.TheVariants.{Found, Nearest}
 use Rattle.dceidl.proofs.Compats.{compat_done, compat_settled}
-use Rattle.dceidl.specs.Encode.{IsLabelledEncoding, IsLongEncoding, IsEncodingCause, IsMigration}
-use Rattle.dceidl.specs.Input.{OfText, IsMadeOf, IsTaskCause, IsInputTextCause, IsInputEncodingCause}
+use Rattle.dceidl.specs.Input.{IsLabelledEncoding, IsLongEncoding, IsEncodingCause, IsMigration, OfText, IsMadeOf, IsTaskCause, IsInputTextCause, IsInputEncodingCause, HasCalled, IsNoCall, IsWrapped}
+use Rattle.dceidl.specs.Input.{IsNoWrap, wrap_task}
 use Rattle.dceidl.specs.Rows.{IsSound, AreAccepted, AreGivenIn, IsRefusedAt, HasEnds, CanBeMade, MustBeUnready, MustBeNoRequest, MustBeNoLabel, MustBeNoOctets, MustBeNoText}
 use Rattle.command_streams.specs.Input.{IsInput, AreGiven}
 use Rattle.dceidl.specs.Rows.{MustBeNoEncoding, MustBeNoInput, CanBeDone, MustBeRefused, Refuses}
 use Rattle.command_streams.specs.Delivery.{IsCompleted}
-use Rattle.dceidl.specs.Seen.{Seen}
+use Rattle.dceidl.specs.Asked.{Seen}
 use Rattle.command_line.specs.Words.{Command, Subject, Values, Compile, Plan, Call, Wrap, Compat, Why, Sample, Help, Version}
 use Rattle.command_line.specs.Words.{idl_of, op_of, order_in}
 use Rattle.nd_types.specs.Meant.{Meant, meant_by}
@@ -47,7 +45,6 @@ use Rattle.nd_types.specs.declared.types.Side.TheVariants.{Out}
 use Rattle.nd_value.specs.Fitting.{setting_of}
 use Rattle.command_call.specs.Called.{IsCalled, IsCallCause}
 use Rattle.dceidl.specs.Ready.{IsReady, IsNumbered, IsCallReady, IsCallUnready}
-use Rattle.dceidl.specs.Wrapped.{HasCalled, IsNoCall, IsWrapped, IsNoWrap, wrap_task}
 use Rattle.dceidl.specs.Rows.{IsAccepted, IsCallAccepted, MustBeNoCall, MustBeNoFragments}
 use Rattle.dceidl.specs.declared.TheConstants.{WRAP_CHUNK}
 use Rattle.dceidl.proofs.Calls.{cause_over, called_over, refused_calls, refused_unmade, good_call, bad_stub, bad_unmade}

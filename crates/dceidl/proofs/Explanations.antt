@@ -4,9 +4,8 @@ use Rattle.command_line.specs.Words.{Command, Why, command, command_or_why, why_
 use Rattle.command_streams.specs.declared.outcome.Outcome.{Outcome}
 use Rattle.command_streams.specs.declared.outcome.Outcome.TheVariants.{Done, Refused, Reported, Wanting}
 use Rattle.command_refusals.specs.declared.refusal.Refusal.TheVariants.{Memory}
-use Rattle.dceidl.specs.Asked.{Asks, AsksFor}
+use Rattle.dceidl.specs.Asked.{Asks, AsksFor, Seen}
 use Rattle.dceidl.specs.Run.{IsOutcome, IsCommandOutcome, IsExplanation}
-use Rattle.dceidl.specs.Seen.{Seen}
 
 as_outcome : (x : Seen) (words : List (List ℕ)) (outcome : Outcome) → IsExplanation words outcome → IsCommandOutcome x (Why words) outcome
 as_outcome x words (Done made) h = h

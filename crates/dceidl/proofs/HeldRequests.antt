@@ -9,7 +9,7 @@ use Rattle.command_refusals.specs.declared.refusal.Refusal.TheVariants.{Memory, 
 use Rattle.command_refusals.specs.declared.refusal.Refusal.TheVariants.{ShortLabel, TooFewEnds, EndFailed}
 use Rattle.command_refusals.specs.declared.refusal.Refusal.TheVariants.{BadPdu, NotCompatible, BadScript, LongScript}
 use Rattle.command_refusals.specs.declared.refusal.RequestFault.{RequestFault}
-use Rattle.command_encode.specs.Request.{inputs, beside, IsRequestText, IsRequestFault, HoldsRequest, HoldsNoRequest}
+use Rattle.command_encode.specs.Encoded.{inputs, beside, IsRequestText, IsRequestFault, HoldsRequest, HoldsNoRequest}
 use Rattle.command_encode.proofs.OneText.{request_or_fault, one_request, one_request_fault}
 use Rattle.dceidl.specs.Ready.{IsReadyBeside, IsAllReady, IsUnready, HasAsked, up_to}
 use Rattle.dceidl.specs.Held.{IsHeld}

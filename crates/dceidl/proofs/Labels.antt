@@ -3,11 +3,10 @@ use Rattle.std.proofs.Common.{◌≡◌, ℕ, ◌+◌, ◌<◌, ◌≤◌, Bool,
 use Rattle.std.proofs.lemmas.List.{append-nil, length-append, drop_at}
 use Rattle.std.specs.Io.KnownBytes.{Consumes, IsAtEnd}
 use Rattle.nd_base.specs.declared.octets.Order.{Order}
-use Rattle.nd_base.specs.Counts.{Rose}
-use Rattle.nd_base.specs.Over.{SourceSeen, HasRisen}
+use Rattle.nd_base.specs.Over.{Rose, SourceSeen, HasRisen}
 use Rattle.nd_base.proofs.Rising.{rose_later}
 use Rattle.nd_value.specs.Setting.{Setting}
-use Rattle.command_streams.specs.Label.{HasLabel, IsShortLabel, IsLabelCause}
+use Rattle.command_streams.specs.Input.{HasLabel, IsShortLabel, IsLabelCause, AreGiven}
 use Rattle.ndr_pipe.specs.Ends.{EndsSeen}
 use Rattle.ndr_prim.specs.declared.label.LabelFault.{LabelFault}
 use Rattle.ndr_prim.specs.Label.{order_of_label}
@@ -21,7 +20,6 @@ use Rattle.command_line.specs.declared.command.OrderWord.TheVariants.{Fixed, Lab
 use Rattle.command_line.specs.declared.command.Task.TheVariants.{Read}
 use Rattle.dceidl.specs.Input.{IsAfterLabel, IsOpened, IsUnopened, IsMadeReading, IsReadingCause, IsMadeOf, IsTaskCause}
 use Rattle.dceidl.specs.Rows.{AreGivenIn}
-use Rattle.command_streams.specs.Input.{AreGiven}
 use Rattle.command_streams.proofs.OneInput.{split_by}
 use Rattle.nd_lemmas.proofs.Lists.{take_front}
 

@@ -7,7 +7,7 @@ use Rattle.nd_value.specs.declared.value.Graph.{Graph}
 use Rattle.nd_value.specs.Setting.{Setting}
 use Rattle.nd_value.specs.Conforms.{Conforms}
 use Rattle.nd_grammar.specs.LegalSide.{IsLegalSide}
-use Rattle.nd_grammar.specs.Represents.{Represents}
+use Rattle.nd_grammar.specs.Stream.{Represents}
 use Rattle.nd_grammar.proofs.ReaderLaws.{never_both, one_beginning}
 use Rattle.nd_grammar.proofs.OneRefusal.{one_bad}
 use Rattle.command_refusals.specs.declared.refusal.Refusal.{Refusal}
@@ -19,17 +19,17 @@ use Rattle.command_refusals.specs.declared.refusal.OctetsFault.TheVariants as fa
 use Rattle.nd_base.specs.Over.{SourceSeen}
 use Rattle.nd_grammar.specs.declared.reason.Reason.{Reason}
 use Rattle.nd_grammar.specs.declared.reason.Reason.TheVariants as reason
-use Rattle.nd_grammar.specs.Bad.{Bad}
+use Rattle.nd_grammar.specs.Refusal.{Bad}
 use Rattle.nd_grammar.proofs.Following.{may_follow}
 use Rattle.std.specs.Io.KnownBytes.{IsAtEnd}
-use Rattle.command_decode.specs.Printed.{IsWhole, IsInputCause, IsRefusedInput, IsTrailedInput}
+use Rattle.command_decode.specs.Decoded.{IsWhole, IsInputCause, IsRefusedInput, IsTrailedInput}
 use Rattle.dceidl.specs.Rows.{IsRefusedAt, IsTrailing}
 use Rattle.command_streams.specs.Input.{AreGiven}
 use Rattle.command_streams.proofs.OneInput.{split_input}
 use Rattle.nd_lemmas.proofs.Lists.{take_front}
 use Rattle.dceidl.proofs.Sides.{whole_begins}
 
--- why octets are refused; where memory was wanting no more is said
+-- why octets are refused; running out of memory needs no cause
 abbrev pub IsOctetsCause : Setting → Order → List ℕ → Refusal → Type 0
 IsOctetsCause w order octets Memory = ⊤
 IsOctetsCause w order octets (BadOctets place why) = IsRefusedAt w order octets place why

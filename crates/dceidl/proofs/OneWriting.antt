@@ -9,12 +9,11 @@ use Rattle.nd_value.specs.Conforms.{Conforms}
 use Rattle.nd_value.proofs.Misfits.{misfit_is_no_fit}
 use Rattle.nd_grammar.specs.LegalSide.{IsLegalSide}
 use Rattle.nd_grammar.proofs.ChosenRepresents.{chosen_exists}
-use Rattle.command_encode.specs.Written.{IsWritten, IsLong}
+use Rattle.command_encode.specs.Encoded.{IsWritten, IsLong, IsTextCause, IsMisfitAt}
 use Rattle.text_grammar.specs.declared.fault.TextReason.{TextReason}
 use Rattle.text_grammar.specs.Reads.{ReadsAs, IsTextFault}
 use Rattle.text_grammar.proofs.Stated.{one_graph}
 use Rattle.text_grammar.proofs.OneText.{never_both}
-use Rattle.command_encode.specs.Fitted.{IsTextCause, IsMisfitAt}
 use Rattle.command_encode.proofs.OneText.{good_cause}
 use Rattle.command_refusals.specs.declared.refusal.Refusal.{Refusal}
 use Rattle.command_refusals.specs.declared.refusal.Refusal.TheVariants.{Memory, Absent, FileFailed, BadIdl, NoOperation, ReadFault, BadOctets, BadText, BadValue, TooLong, BadRequest, BadLabel}
@@ -22,7 +21,7 @@ use Rattle.command_refusals.specs.declared.refusal.Refusal.TheVariants.{ShortLab
 use Rattle.command_refusals.specs.declared.refusal.Refusal.TheVariants.{BadPdu, NotCompatible, BadScript, LongScript}
 use Rattle.command_line.specs.Words.{order_in}
 use Rattle.command_line.specs.declared.command.OrderWord.{OrderWord}
-use Rattle.dceidl.specs.Encode.{IsEncoding, IsLabelledEncoding, IsLongEncoding, IsEncodingCause, IsMigration}
+use Rattle.dceidl.specs.Input.{IsEncoding, IsLabelledEncoding, IsLongEncoding, IsEncodingCause, IsMigration}
 
 -- a text that reads as a graph that conforms
 pub record IsGood (w : Setting) (text : List ℕ) : Type 0 where

@@ -2,7 +2,7 @@
 use Rattle.std.proofs.Common.{◌≡◌, ◌∙◌, ℕ, true, List, [], Option, Some, None, refl, ap, sym, subst, inl, inr}
 use Rattle.std.specs.Prelude.{option_map}
 use Rattle.nd_base.specs.Over.{FilesSeen}
-use Rattle.command_compile.specs.Asked.{FileNames}
+use Rattle.command_compile.specs.Compiled.{FileNames}
 use Rattle.command_compile.specs.Compat.{IsBeside, IsPlaceWritten}
 use Rattle.command_line.specs.Words.{Command, Compat}
 use Rattle.command_refusals.specs.Lines.{status_of, line_of}
@@ -14,9 +14,9 @@ use Rattle.command_refusals.specs.declared.refusal.Refusal.TheVariants.{BadPdu, 
 use Rattle.command_streams.specs.declared.outcome.Outcome.{Outcome}
 use Rattle.command_streams.specs.declared.outcome.Outcome.TheVariants.{Done, Refused, Reported, Wanting}
 use Rattle.dceidl.specs.Causes.{IsUntold}
-use Rattle.dceidl.specs.Compat.{IsComparedOutcome}
+use Rattle.dceidl.specs.Held.{IsComparedOutcome}
 use Rattle.dceidl.specs.Run.{IsCommandOutcome}
-use Rattle.dceidl.specs.Seen.{Seen}
+use Rattle.dceidl.specs.Asked.{Seen}
 
 -- a place is beside the refusal of an operation alone
 pub told_at : (f : FilesSeen) (old new : FileNames) (r : Refusal) (text : List ℕ) → IsBeside f old new r (Some text) → (status : ℕ) (line : List ℕ) → status ≡ status_of r

@@ -3,9 +3,7 @@
 use Rattle.std.proofs.Common.{◌≡◌, ◌∙◌, ℕ, ◌≤◌, List, [], ◌∷◌, ◌++◌, Option, Some, None, Result, Ok, Err, IfOk, IfErr, refl, sym, ap, subst, inl, inr, arith}
 use Rattle.std.proofs.lemmas.List.{append_cancel_left}
 use Rattle.nd_base.proofs.Rising.{rose_later}
-use Rattle.nd_base.specs.Counts.{Rose}
-use Rattle.nd_base.specs.Outside.{IsContent, IsMissing}
-use Rattle.nd_base.specs.Over.{FilesSeen, SourceSeen, HasRisen}
+use Rattle.nd_base.specs.Over.{Rose, IsContent, IsMissing, FilesSeen, SourceSeen, HasRisen}
 use Rattle.nd_types.specs.declared.interface.Interface.{Interface}
 use Rattle.nd_types.specs.declared.types.Operation.{Operation}
 use Rattle.nd_value.specs.declared.value.Graph.{Graph}
@@ -14,15 +12,14 @@ use Rattle.command_refusals.specs.declared.refusal.Refusal.{Refusal}
 use Rattle.command_refusals.specs.declared.refusal.Refusal.TheVariants.{Memory, Absent, FileFailed, BadIdl, NoOperation, ReadFault, BadOctets, BadText, BadValue, TooLong, BadRequest, BadLabel}
 use Rattle.command_refusals.specs.declared.refusal.Refusal.TheVariants.{ShortLabel, TooFewEnds, EndFailed}
 use Rattle.command_refusals.specs.declared.refusal.Refusal.TheVariants.{BadPdu, NotCompatible, BadScript, LongScript}
-use Rattle.command_encode.specs.Request.{beside, HoldsRequest, HoldsNoRequest}
-use Rattle.command_compile.specs.Asked.{AsksFiles, AreAsked, all_due}
+use Rattle.command_encode.specs.Encoded.{beside, HoldsRequest, HoldsNoRequest}
+use Rattle.command_compile.specs.Compiled.{AsksFiles, AreAsked, all_due}
 use Rattle.ndr_pipe.specs.Ends.{EndsSeen}
 use Rattle.command_line.specs.declared.command.Task.{Task}
-use Rattle.dceidl.specs.Asked.{AsksRequest}
+use Rattle.dceidl.specs.Asked.{AsksRequest, seen_over}
 use Rattle.dceidl.specs.Causes.{IsMade, IsCause}
 use Rattle.dceidl.specs.Input.{IsMadeOf, IsTaskCause, IsMadeBeside, IsBesideCause}
 use Rattle.dceidl.specs.Ready.{IsFound, IsReady, HasAsked, up_to}
-use Rattle.dceidl.specs.Seen.{seen_over}
 use Rattle.command_line.specs.Words.{Subject, Values}
 
 -- files over one part of a run and then over the next

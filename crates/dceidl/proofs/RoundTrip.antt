@@ -4,20 +4,19 @@ use Rattle.nd_base.specs.declared.octets.Order.{Order}
 use Rattle.nd_value.specs.declared.value.Graph.{Graph}
 use Rattle.nd_value.specs.Setting.{Setting}
 use Rattle.nd_value.specs.Conforms.{Conforms}
-use Rattle.nd_value.specs.Same.{Same}
+use Rattle.nd_value.specs.Canon.{Same}
 use Rattle.nd_grammar.specs.LegalSide.{IsLegalSide}
-use Rattle.nd_grammar.specs.Represents.{Represents}
-use Rattle.nd_grammar.specs.Chosen.{Chosen}
+use Rattle.nd_grammar.specs.Stream.{Represents, Chosen}
 use Rattle.nd_grammar.proofs.ReaderLaws.{one_beginning}
 use Rattle.nd_grammar.proofs.ChosenRepresents.{chosen_represents, chosen_exists, chosen_alone}
 use Rattle.nd_grammar.proofs.written.SameForms.{same_written}
 use Rattle.text_grammar.specs.declared.TheConstants.{TEXT_LIMIT}
 use Rattle.text_grammar.specs.Reads.{ReadsAs}
-use Rattle.text_grammar.specs.Printed.{IsText}
+use Rattle.text_grammar.specs.Written.{IsText}
 use Rattle.text_grammar.proofs.Stated.{one_graph}
 use Rattle.value_text.proofs.PrintedReads.{printed_reads}
-use Rattle.command_decode.specs.Printed.{IsDecoding}
-use Rattle.dceidl.specs.Encode.{IsEncoding, IsMigration}
+use Rattle.command_decode.specs.Decoded.{IsDecoding}
+use Rattle.dceidl.specs.Input.{IsEncoding, IsMigration}
 use Rattle.dceidl.proofs.Sides.{whole_begins}
 
 -- graphs that conform have one text exactly if they are the same

@@ -1,8 +1,7 @@
 -- The rows of a run follow from the whole of it: each goes by the way in which the run ended.
 use Rattle.std.proofs.Common.{◌≡◌, ◌∙◌, ℕ, List, [], ◌∷◌, Option, Some, None, refl, sym, ap, subst, inl, inr, ◌⊎◌}
 use Rattle.std.specs.Prelude.{◌≢◌, Bool, true, false, codes}
-use Rattle.nd_base.specs.Outside.{IsMissing}
-use Rattle.nd_base.specs.Over.{FilesSeen, SourceSeen, SinkSeen, HasRisen, Got}
+use Rattle.nd_base.specs.Over.{IsMissing, FilesSeen, SourceSeen, SinkSeen, HasRisen, Got, Rose}
 use Rattle.command_streams.specs.declared.outcome.Outcome.{Outcome}
 use Rattle.command_streams.specs.declared.outcome.Outcome.TheVariants.{Done, Refused, Reported, Wanting}
 use Rattle.command_refusals.specs.declared.refusal.Refusal.{Refusal}
@@ -10,14 +9,12 @@ use Rattle.command_refusals.specs.declared.refusal.Refusal.TheVariants.{Memory, 
 use Rattle.command_refusals.specs.declared.refusal.Refusal.TheVariants.{ShortLabel, TooFewEnds, EndFailed}
 use Rattle.command_refusals.specs.declared.refusal.Refusal.TheVariants.{BadPdu, NotCompatible, BadScript, LongScript}
 use Rattle.dceidl.specs.Causes.{IsMade, IsCause, IsWrittenBeside, IsUnexplained, statuses_of, values_statuses, tells}
-use Rattle.dceidl.specs.Wrapped.{IsNoCall, IsNoWrap}
+use Rattle.dceidl.specs.Input.{IsNoCall, IsNoWrap, IsOpened, IsTaskCause}
 use Rattle.command_refusals.specs.Lines.{status_of, line_of}
 use Rattle.command_compile.specs.Compiled.{IsIdlCause}
-use Rattle.dceidl.specs.Asked.{IsRequestDue, asks_files, asks_input, drains}
+use Rattle.dceidl.specs.Asked.{IsRequestDue, asks_files, asks_input, drains, Seen}
 use Rattle.dceidl.proofs.Drains.{refused_rose}
-use Rattle.nd_base.specs.Counts.{Rose}
 use Rattle.nd_base.proofs.Rising.{rose_later}
-use Rattle.dceidl.specs.Input.{IsOpened, IsTaskCause}
 use Rattle.dceidl.specs.Ready.{HasAsked}
 use Rattle.ndr_pipe.specs.Ends.{EndsSeen}
 use Rattle.nd_base.specs.declared.octets.Order.{Order}
@@ -31,7 +28,6 @@ use Rattle.dceidl.specs.Rows.{IsDone, IsRefusedWith, IsRefusedBeside, IsRefused,
 use Rattle.dceidl.specs.Rows.{IsDueOf, IsDueNext, IsDueAndMissing, IsDueAndReported, EndRose, IsEndReported, HasNotFailed}
 use Rattle.command_streams.specs.Delivery.{IsOneOf, IsDelivered}
 use Rattle.dceidl.specs.Run.{HasRun, IsOutcome, IsCommandOutcome}
-use Rattle.dceidl.specs.Seen.{Seen}
 use Rattle.nd_value.specs.Setting.{Setting}
 use Rattle.command_line.specs.Words.{Command, Subject, Values, Compile, Plan, Call, Wrap, Compat, Why, Sample, Help, Version, command, idl_of, op_of}
 use Rattle.dceidl.proofs.Beside.{beside_one, beside_quiet, one_in}

@@ -6,8 +6,7 @@ use Rattle.nd_base.specs.declared.octets.Order.{Order}
 use Rattle.nd_value.specs.declared.value.Graph.{Graph}
 use Rattle.nd_value.specs.Setting.{Setting, Among}
 use Rattle.nd_value.specs.Conforms.{Conforms}
-use Rattle.nd_grammar.specs.Represents.{Represents}
-use Rattle.nd_grammar.specs.Prefix.{BeginsWith}
+use Rattle.nd_grammar.specs.Stream.{Represents, BeginsWith}
 use Rattle.std.proofs.lemmas.List.{take_all as take_whole}
 
 pub whole_begins : (w : Setting) (order : Order) (octets : List ℕ) (g : Graph) → Represents w order octets g → Conforms w g

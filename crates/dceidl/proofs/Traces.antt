@@ -4,27 +4,26 @@ use Rattle.nd_base.specs.declared.octets.Order.{Order}
 use Rattle.nd_base.specs.Over.{FilesSeen, IsUntouched, SourceSeen}
 use Rattle.nd_value.specs.Setting.{Setting}
 use Rattle.ndr_pipe.specs.Ends.{AreAsBefore, EndsSeen}
-use Rattle.command_decode.specs.Explanations.{IsExplained}
+use Rattle.command_decode.specs.Decoded.{IsExplained, AreLines, IsBeside, IsOther, IsStopped}
 use Rattle.command_line.specs.declared.command.OrderWord.{OrderWord}
 use Rattle.command_line.specs.declared.command.OrderWord.TheVariants.{Fixed, Label}
 use Rattle.command_line.specs.declared.command.Reading.TheVariants.{Trace}
 use Rattle.command_line.specs.declared.command.Task.TheVariants.{Read}
 use Rattle.command_line.specs.Words.{Command, Subject, Values, idl_of, op_of}
-use Rattle.command_streams.specs.Label.{HasLabel, IsLabelCause}
+use Rattle.command_streams.specs.Input.{HasLabel, IsLabelCause}
 use Rattle.command_refusals.specs.Lines.{line_of, status_of}
 use Rattle.command_refusals.specs.declared.refusal.Refusal.{Refusal}
 use Rattle.command_refusals.specs.declared.refusal.Refusal.TheVariants.{Memory, Absent, FileFailed, BadIdl, NoOperation, ReadFault, BadOctets, BadText, BadValue, TooLong, BadRequest, BadLabel}
 use Rattle.command_refusals.specs.declared.refusal.Refusal.TheVariants.{ShortLabel, TooFewEnds, EndFailed}
 use Rattle.command_refusals.specs.declared.refusal.Refusal.TheVariants.{BadPdu, NotCompatible, BadScript, LongScript}
 use Rattle.command_streams.specs.declared.outcome.Outcome.TheVariants.{Reported}
-use Rattle.command_encode.specs.Request.{HoldsNoRequest}
+use Rattle.command_encode.specs.Encoded.{HoldsNoRequest}
 use Rattle.command_decode.specs.declared.tracing.Stopped.{Stopped}
-use Rattle.command_decode.specs.Stopped.{AreLines, IsBeside, IsOther, IsStopped}
 use Rattle.dceidl.specs.Causes.{IsCause, IsMade, IsUntold, IsWrittenBeside}
 use Rattle.dceidl.specs.Input.{IsAfterLabel, IsMadeOf, IsOpened, IsTaskCause}
 use Rattle.dceidl.specs.Ready.{IsAllReady, IsReadyCause, IsUnready}
 use Rattle.dceidl.specs.Run.{IsCommandOutcome}
-use Rattle.dceidl.specs.Seen.{Seen, seen_over}
+use Rattle.dceidl.specs.Asked.{Seen, seen_over}
 use Rattle.dceidl.specs.Tracing.{AreTaskLines, IsAllBeside, IsStoppedCommand, IsStoppedTask}
 use Rattle.dceidl.proofs.Labels.{over}
 

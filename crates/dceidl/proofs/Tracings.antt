@@ -9,9 +9,9 @@ use Rattle.nd_lemmas.proofs.Lists.{take_front}
 use Rattle.nd_value.specs.Setting.{Setting}
 use Rattle.nd_grammar.specs.declared.reason.Reason.{Reason}
 use Rattle.nd_grammar.specs.declared.reason.Reason.TheVariants as reason
-use Rattle.nd_grammar.specs.Bad.{Bad}
+use Rattle.nd_grammar.specs.Refusal.{Bad}
 use Rattle.nd_grammar.specs.decoded.Verdict.{MayFollow}
-use Rattle.nd_grammar.specs.Represents.{Represents}
+use Rattle.nd_grammar.specs.Stream.{Represents}
 use Rattle.nd_grammar.proofs.StaysBad.{stays_bad}
 use Rattle.command_refusals.specs.declared.refusal.OctetsFault.{OctetsFault}
 use Rattle.command_refusals.specs.declared.refusal.OctetsFault.TheVariants as fault
@@ -21,8 +21,7 @@ use Rattle.command_refusals.specs.declared.refusal.Refusal.TheVariants.{ShortLab
 use Rattle.command_refusals.specs.declared.refusal.Refusal.TheVariants.{BadPdu, NotCompatible, BadScript, LongScript}
 use Rattle.command_streams.specs.Input.{AreGiven, AreRead}
 use Rattle.command_streams.proofs.OneInput.{split_input}
-use Rattle.command_decode.specs.Stopped.{IsRefusedSource, IsTraceCause}
-use Rattle.command_decode.specs.Traced.{IsRefusedTrace, IsRefusedWith, IsTrailedTrace}
+use Rattle.command_decode.specs.Decoded.{IsRefusedSource, IsTraceCause, IsRefusedTrace, IsRefusedWith, IsTrailedTrace}
 use Rattle.command_decode.proofs.Limits.{truncated_within}
 use Rattle.dceidl.specs.Rows.{IsRefusedAt, IsTrailing}
 use Rattle.dceidl.proofs.OneReading.{IsOctetsCause}

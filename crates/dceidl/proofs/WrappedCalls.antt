@@ -13,17 +13,15 @@ use Rattle.nd_value.specs.Fitting.{setting_of}
 use Rattle.rpc_pdu.specs.declared.pdu.Head.{Head}
 use Rattle.rpc_pdu.specs.declared.pdu.Head.TheVariants as head
 use Rattle.rpc_pdu.specs.declared.pdu.Wanted.TheVariants.{Request, Response}
-use Rattle.rpc_pdu.specs.Fragments.{Fragments}
-use Rattle.rpc_pdu.specs.Pieces.{Pieces, HeadFits, want_of, opnum_of}
+use Rattle.rpc_pdu.specs.Fragments.{Fragments, Pieces, HeadFits, want_of, opnum_of}
 use Rattle.rpc_pdu.proofs.Reading.{one_call}
 use Rattle.nd_grammar.proofs.LegalSides.{interface_side as legal_side_of}
 use Rattle.command_call.specs.Called.{IsCall, IsCalled, call_line}
 use Rattle.command_call.specs.Called as called
-use Rattle.command_decode.specs.Printed.{IsDecoding}
+use Rattle.command_decode.specs.Decoded.{IsDecoding}
 use Rattle.command_streams.specs.Input.{AreGiven}
-use Rattle.dceidl.specs.Encode.{IsMigration}
+use Rattle.dceidl.specs.Input.{IsMigration, IsWrapped, head_for, stated_for}
 use Rattle.command_line.specs.Words.{Subject}
-use Rattle.dceidl.specs.Wrapped.{IsWrapped, head_for, stated_for}
 use Rattle.dceidl.specs.declared.TheConstants.{WRAP_CHUNK}
 use Rattle.dceidl.proofs.Calling.{few_numbers, short_stub}
 use Rattle.dceidl.proofs.Calls.{own_is}

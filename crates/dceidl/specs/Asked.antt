@@ -1,19 +1,32 @@
--- What a run may ask for: files only when they are due, and each once; the input only if the command reads it; and the ends of pipes only if it
--- drains.
-use Rattle.std.specs.Prelude.{◌≡◌, ◌⊎◌, ℕ, Bool, true, false, List, [], ◌∷◌, ◌++◌, Option, None, Some, ⊤}
-use Rattle.nd_base.specs.Outside.{IsContent}
-use Rattle.nd_base.specs.Over.{FilesSeen, SourceSeen, AreUntouched, IsUntouched}
+-- What a run reads from and gives to, and what it may ask for.
+use Rattle.std.specs.Prelude.{◌≡◌, ◌⊎◌, ℕ, Bool, true, false, List, [], ◌∷◌, ◌++◌, Option, Some, None, ⊤}
+use Rattle.nd_base.specs.Over.{FilesSeen, SourceSeen, IsContent, AreUntouched, IsUntouched}
 use Rattle.nd_types.specs.declared.interface.Interface.{Interface}
-use Rattle.nd_types.specs.Operations.{operation_named}
-use Rattle.dceidl.specs.Seen.{Seen}
-use Rattle.command_line.specs.Words.{Command, Subject, Values, Compile, Plan, Call, Wrap, Compat, Why, Sample, Help, Version}
+use Rattle.nd_types.specs.Roots.{operation_named}
+use Rattle.ndr_pipe.specs.Ends.{EndsSeen, AreAsBefore}
 use Rattle.command_line.specs.declared.command.Reading.TheVariants.{Decode, Explain, Trace, Drain}
 use Rattle.command_line.specs.declared.command.Task.{Task}
 use Rattle.command_line.specs.declared.command.Task.TheVariants.{Read, Encode, Migrate}
-use Rattle.command_compile.specs.Asked.{AsksFiles, FileNames, AreAsked, all_due}
-use Rattle.ndr_pipe.specs.Ends.{EndsSeen, AreAsBefore}
+use Rattle.command_line.specs.Words.{Command, Subject, Values, Compile, Plan, Call, Wrap, Compat, Why, Sample, Help, Version}
+use Rattle.command_compile.specs.Compiled.{AsksFiles, FileNames, AreAsked, all_due}
 use Rattle.command_compile.specs.Idl.{Means}
 use Rattle.command_compile.specs.Compat.{AsksBoth}
+
+-- ## What a run reads from, and the ends to which it gives the elements of pipes
+
+-- files, input and ends over a run
+pub record Seen : Type 0 where
+  pub files : FilesSeen
+  pub input : SourceSeen
+  pub ends : EndsSeen
+
+abbrev pub seen_over : FilesSeen → SourceSeen → EndsSeen → Seen
+seen_over f s e = record { files = f; input = s; ends = e }
+
+-- ## What a run may ask for
+
+-- It asks for files only when they are due, and for each once; for the input only if the command reads it; and for the ends of pipes only if
+-- it drains.
 
 -- the files of the interface that a command asks for, or of the first if it asks for two
 abbrev pub asks_files : Command → Option FileNames

@@ -4,21 +4,19 @@ use Rattle.nd_base.specs.declared.octets.Order.{Order}
 use Rattle.nd_base.specs.Over.{SourceSeen, IsUntouched}
 use Rattle.nd_value.specs.Setting.{Setting}
 use Rattle.ndr_pipe.specs.Ends.{AreAsBefore}
-use Rattle.dceidl.specs.Asked.{drains}
-use Rattle.dceidl.specs.Input.{IsMadeOf, IsOpened, IsTaskCause}
+use Rattle.dceidl.specs.Asked.{drains, Seen}
+use Rattle.dceidl.specs.Input.{IsMadeOf, IsOpened, IsTaskCause, HasCalled, IsNoCall, IsWrapped, IsNoWrap}
 use Rattle.command_compile.specs.Compiled.{IsListed, IsPlanned, IsIdlCause}
 use Rattle.command_compile.specs.Compat.{IsCompatible, IsCompatCause, IsPlaceWritten}
-use Rattle.command_decode.specs.Stopped.{AreLines}
+use Rattle.command_decode.specs.Decoded.{AreLines}
 use Rattle.command_why.specs.Explained.{explained}
 use Rattle.command_why.specs.declared.lookup.Explained.TheVariants.{Found, Nearest}
 use Rattle.dceidl.specs.Ready.{IsAllReady, IsUnready}
-use Rattle.dceidl.specs.Wrapped.{HasCalled, IsNoCall, IsWrapped, IsNoWrap}
-use Rattle.dceidl.specs.Seen.{Seen}
 use Rattle.command_line.specs.Words.{Command, Subject, Values, Compile, Plan, Call, Wrap, Compat, Why, Sample, Help, Version}
 use Rattle.command_line.specs.declared.command.Reading.TheVariants.{Trace}
 use Rattle.command_line.specs.declared.command.Task.{Task}
 use Rattle.command_line.specs.declared.command.Task.TheVariants.{Read}
-use Rattle.command_sample.specs.Summary.{sample_lines}
+use Rattle.command_sample.specs.Nodes.{sample_lines}
 use Rattle.command_refusals.specs.declared.refusal.Refusal.{Refusal}
 use Rattle.command_refusals.specs.declared.refusal.Refusal.TheVariants.{Memory, BadOctets, NotCompatible}
 use Rattle.command_refusals.specs.declared.refusal.CompatFault.TheVariants.{Differs}

@@ -1,36 +1,87 @@
--- What commands make of the input, and why it is refused.
-use Rattle.std.specs.Prelude.{◌≡◌, ◌⊎◌, ℕ, ◌+◌, ◌<◌, ◌≤◌, true, List, [], length, Ok, ⊤}
+-- What the commands on values make of texts and of the input, and why these are refused.
+use Rattle.std.specs.Prelude.{◌≡◌, ◌⊎◌, ℕ, ◌+◌, ◌<◌, ◌≤◌, true, List, [], ◌∷◌, ◌++◌, length, Option, Some, None, Ok, ⊤}
 use Rattle.std.specs.Io.KnownBytes.{Consumes, IsAtEnd}
-use Rattle.nd_base.specs.Over.{FilesSeen, SourceSeen, HasRisen, IsUntouched}
 use Rattle.nd_base.specs.declared.octets.Order.{Order}
-use Rattle.text_grammar.specs.declared.TheConstants.{TEXT_LIMIT}
+use Rattle.nd_base.specs.Over.{FilesSeen, SourceSeen, HasRisen, IsUntouched}
+use Rattle.nd_types.specs.declared.interface.Interface.{Interface}
+use Rattle.nd_types.specs.declared.types.Operation.{Operation}
+use Rattle.nd_types.specs.declared.types.Side.{Side}
+use Rattle.nd_types.specs.declared.types.Side.TheVariants.{In, Out}
+use Rattle.ndr_prim.specs.Label.{order_of_label}
 use Rattle.nd_value.specs.declared.value.Graph.{Graph}
 use Rattle.nd_value.specs.Setting.{Setting}
-use Rattle.command_drain.specs.Printed as draining
-use Rattle.command_decode.specs.Explanations.{IsExplained}
-use Rattle.command_decode.specs.Stopped.{IsTraceCause}
-use Rattle.command_decode.specs.Printed.{IsPrinted, IsInputCause}
-use Rattle.command_encode.specs.Fitted.{IsTextCause}
-use Rattle.command_encode.specs.Request.{beside, HoldsRequest, HoldsNoRequest}
-use Rattle.command_streams.specs.Label.{IsLabelCause}
-use Rattle.command_streams.specs.Input.{AreRead}
-use Rattle.ndr_prim.specs.Label.{order_of_label}
+use Rattle.nd_value.specs.Conforms.{Conforms}
+use Rattle.nd_value.specs.Fitting.{setting_of}
+use Rattle.text_grammar.specs.declared.TheConstants.{TEXT_LIMIT}
+use Rattle.text_grammar.specs.Written.{IsText}
+use Rattle.text_grammar.specs.Reads.{ReadsAs}
 use Rattle.ndr_pipe.specs.Ends.{EndsSeen, AreAsBefore}
-use Rattle.dceidl.specs.Encode.{IsLabelledEncoding, IsLongEncoding, IsMigration}
-use Rattle.command_line.specs.declared.command.Reading.{Reading}
-use Rattle.command_line.specs.declared.command.Reading.TheVariants.{Decode, Explain, Trace, Drain}
+use Rattle.rpc_pdu.specs.declared.pdu.Head.{Head}
+use Rattle.rpc_pdu.specs.declared.pdu.Head.TheVariants as head
+use Rattle.rpc_pdu.specs.Fragments.{Pieces}
 use Rattle.command_line.specs.declared.command.OrderWord.{OrderWord}
 use Rattle.command_line.specs.declared.command.OrderWord.TheVariants.{Fixed, Label}
+use Rattle.command_line.specs.declared.command.Reading.{Reading}
+use Rattle.command_line.specs.declared.command.Reading.TheVariants.{Decode, Explain, Trace, Drain}
 use Rattle.command_line.specs.declared.command.Task.{Task}
 use Rattle.command_line.specs.declared.command.Task.TheVariants.{Read, Encode, Migrate}
+use Rattle.command_line.specs.Words.{order_in, Subject}
 use Rattle.command_refusals.specs.declared.refusal.Refusal.{Refusal}
-use Rattle.command_refusals.specs.declared.refusal.Refusal.TheVariants.{Memory, ReadFault, TooLong}
+use Rattle.command_refusals.specs.declared.refusal.Refusal.TheVariants.{TooLong, Memory, ReadFault}
+use Rattle.command_streams.specs.Input.{IsLabelCause, AreRead}
+use Rattle.command_decode.specs.Decoded.{IsExplained, IsTraceCause, IsPrinted, IsInputCause}
+use Rattle.command_encode.specs.Encoded.{IsWritten, IsLong, IsTextCause, beside, HoldsRequest, HoldsNoRequest}
+use Rattle.command_call.specs.Called.{IsCalled, IsCallCause}
+use Rattle.command_drain.specs.Printed as draining
+use Rattle.dceidl.specs.declared.TheConstants.{WRAP_CHUNK}
+use Rattle.dceidl.specs.Ready.{IsFound, IsReady, IsReadyCause, IsCallReady, IsCallUnready}
+
+-- ## What is made of a text
+
+-- The text reads as a graph that conforms, and the octets are those that are chosen for it, which are no more than a stream may have.
+pub record IsEncoding (w : Setting) (order : Order) (chunk : ℕ) (text octets : List ℕ) : Type 0 where
+  pub graph : Graph
+  pub reads : ReadsAs w text graph
+  pub conforms : Conforms w graph
+  pub written : IsWritten w order chunk graph octets
+
+-- what is written before the octets of values: a format label (C706 14.1) of little endian, ASCII and IEEE, if the command asks for one
+abbrev pub label_for : OrderWord → List ℕ
+label_for (Fixed order) = []
+label_for Label = 16 ∷ 0 ∷ 0 ∷ 0 ∷ []
+
+-- The octets of a text were made, after a format label if the command asks for one.
+pub record IsLabelledEncoding (w : Setting) (word : OrderWord) (chunk : ℕ) (text made : List ℕ) : Type 0 where
+  pub octets : List ℕ
+  pub encoding : IsEncoding w (order_in word) chunk text octets
+  pub made_is : made ≡ label_for word ++ octets
+
+-- The text reads as a graph that conforms, and so many octets are chosen for it, which are more than a stream may have.
+pub record IsLongEncoding (w : Setting) (chunk : ℕ) (text : List ℕ) (length : ℕ) : Type 0 where
+  pub graph : Graph
+  pub reads : ReadsAs w text graph
+  pub conforms : Conforms w graph
+  pub long : IsLong w chunk graph length
+
+-- why a text is not encoded; running out of memory needs no cause
+abbrev pub IsEncodingCause : Setting → ℕ → List ℕ → Refusal → Type 0
+IsEncodingCause w chunk text (TooLong length) = IsLongEncoding w chunk text length
+IsEncodingCause w chunk text refusal = IsTextCause w text refusal
+
+-- The text reads as a graph that conforms, and what is made is that graph's text as it is printed.
+pub record IsMigration (w : Setting) (text made : List ℕ) : Type 0 where
+  pub graph : Graph
+  pub reads : ReadsAs w text graph
+  pub conforms : Conforms w graph
+  pub printed : IsText w graph made
+
+-- ## What is made of the input, and why it is refused
 
 -- the text of the input was read to its end or to one octet past its limit, and this holds of it
 abbrev pub OfText : SourceSeen → (List ℕ → Type 0) → Type 0
 OfText s P = (text : List ℕ) × AreRead s TEXT_LIMIT text × P text
 
--- why the text of the input is refused; of memory no more is said
+-- why the text of the input is refused; running out of memory needs no cause
 abbrev pub IsInputTextCause : SourceSeen → Setting → Refusal → Type 0
 IsInputTextCause s w ReadFault = HasRisen s.faults
 IsInputTextCause s w Memory = ⊤
@@ -41,7 +92,7 @@ abbrev pub IsInputEncodingCause : SourceSeen → Setting → ℕ → Refusal →
 IsInputEncodingCause s w chunk (TooLong length) = OfText s (λ text. IsLongEncoding w chunk text length)
 IsInputEncodingCause s w chunk refusal = IsInputTextCause s w refusal
 
--- ## Octets, after a format label if the command asks for one
+-- ### Octets, after a format label if the command asks for one
 
 -- these octets are the label before octets in this order: none if the command names the order
 abbrev pub IsLabel : OrderWord → List ℕ → Order → Type 0
@@ -82,7 +133,7 @@ IsReadingCause Explain s e w order r = IsInputCause s w order r
 IsReadingCause Trace s e w order r = IsTraceCause s w order r
 IsReadingCause Drain s e w order r = draining.IsDrainRefusal s e w order r
 
--- ## The input, by what is done
+-- ### The input, by what is done
 
 -- this is made of the input
 abbrev pub IsMadeOf : SourceSeen → EndsSeen → Task → Setting → List ℕ → Type 0
@@ -105,3 +156,50 @@ IsMadeBeside f s e name task w made = (q : Graph) × HoldsRequest f name w q × 
 abbrev pub IsBesideCause : FilesSeen → SourceSeen → EndsSeen → List ℕ → Task → Setting → Refusal → Type 0
 IsBesideCause f s e name task w r =
     (HoldsNoRequest f name w r × IsUntouched s × AreAsBefore e) ⊎ ((q : Graph) × HoldsRequest f name w q × IsTaskCause s e task (beside w q) r)
+
+-- ## What `call` and `wrap` make, and why they are refused
+
+-- `f` are files over a run, `s` is the input.
+
+-- ### `call`
+
+-- the files mean an interface, and the input is printed as a call
+abbrev pub HasCalled : FilesSeen → SourceSeen → List ℕ → Option (List ℕ) → Option (List ℕ) → List ℕ → Type 0
+HasCalled f s idl acf op made = (i : Interface) × (number : Option ℕ) × IsCallReady f idl acf op i number × IsCalled s i number made
+
+-- why it is not: the files are refused before the input is touched, or the input is
+abbrev pub IsNoCall : FilesSeen → SourceSeen → List ℕ → Option (List ℕ) → Option (List ℕ) → Refusal → Type 0
+IsNoCall f s idl acf op r =
+    (IsCallUnready f idl acf op r × IsUntouched s)
+    ⊎ ((i : Interface) × (number : Option ℕ) × IsCallReady f idl acf op i number × IsCallCause s i number r)
+
+-- ### `wrap`
+
+-- the values are encoded in this order, with large chunks
+abbrev pub wrap_task : Order → Task
+wrap_task order = Encode (Fixed order) WRAP_CHUNK
+
+-- inputs are of a request, which states the number of its operation, and outputs of a response
+abbrev pub head_for : Side → ℕ → Head
+head_for In n = head.Request n
+head_for Out n = head.Response
+
+-- the operation by which `call` reads what was written for a side: a request states its own
+abbrev pub stated_for : Side → ℕ → Option ℕ
+stated_for In n = None
+stated_for Out n = Some n
+
+-- The octets of the values of the text are the stub data of the fragments that are written.
+pub record IsWrapped (f : FilesSeen) (s : SourceSeen) (of : Subject) (order : Order) (call max : ℕ) (made : List ℕ) : Type 0 where
+  pub interface : Interface
+  pub number : ℕ
+  pub operation : Operation
+  pub found : IsFound f of interface number operation
+  pub stub : List ℕ
+  pub encoded : OfText s (λ text. IsLabelledEncoding (setting_of interface operation of.side) (Fixed order) WRAP_CHUNK text stub)
+  pub made_is : made ≡ Pieces order (head_for of.side number) call max stub
+
+-- why nothing is written: as the text is not encoded
+abbrev pub IsNoWrap : FilesSeen → SourceSeen → Subject → Refusal → Type 0
+IsNoWrap f s of r =
+    (IsReadyCause f of r × IsUntouched s) ⊎ ((w : Setting) × IsReady f of w × IsInputEncodingCause s w WRAP_CHUNK r)

@@ -6,14 +6,14 @@ use Rattle.nd_types.specs.declared.interface.Interface.{Interface}
 use Rattle.nd_types.specs.declared.types.Operation.{Operation}
 use Rattle.nd_types.specs.declared.types.Side.{Side}
 use Rattle.nd_types.specs.declared.types.Side.TheVariants.{Out}
-use Rattle.nd_types.specs.Operations.{operation_named}
+use Rattle.nd_types.specs.Roots.{operation_named}
 use Rattle.nd_value.specs.declared.value.Graph.{Graph}
 use Rattle.nd_value.specs.Fitting.{setting_of}
 use Rattle.nd_value.specs.Setting.{Setting}
 use Rattle.command_line.specs.Words.{Subject}
 use Rattle.command_refusals.specs.declared.refusal.Refusal.{Refusal}
 use Rattle.command_refusals.specs.declared.refusal.Refusal.TheVariants.{NoOperation}
-use Rattle.command_encode.specs.Request.{beside, HoldsRequest, HoldsNoRequest}
+use Rattle.command_encode.specs.Encoded.{beside, HoldsRequest, HoldsNoRequest}
 use Rattle.command_compile.specs.Compiled.{IsCompiled, IsIdlCause}
 
 -- the operation of a name, by its number

@@ -1,35 +1,29 @@
--- The rows of a run, each for all commands at once: what a status says by itself, and what comes where nothing fails.
-use Rattle.std.specs.Prelude.{◌≡◌, ◌⊎◌, ℕ, ◌+◌, ◌<◌, ◌++◌, Err, length, Bool, true, false, List, [], ◌∷◌, codes, decimal, take, Option, None}
-use Rattle.std.specs.Prelude.{Some, ⊤}
+-- What the clauses of `run` say, each for all commands at once: of a status by itself, and of what comes where nothing fails.
+use Rattle.std.specs.Prelude.{◌≡◌, ◌⊎◌, ℕ, ◌+◌, ◌<◌, ◌++◌, Err, length, Bool, true, false, List, [], ◌∷◌, codes, decimal, take, Option, None, Some, ⊤}
 use Rattle.std.specs.List.{slice_get}
 use Rattle.nd_base.specs.declared.octets.Order.{Order}
-use Rattle.nd_base.specs.Outside.{IsMissing}
-use Rattle.nd_base.specs.Over.{FilesSeen, SourceSeen, SinkSeen, HasRisen, Got, IsAsBefore}
+use Rattle.nd_base.specs.Over.{IsMissing, FilesSeen, SourceSeen, SinkSeen, HasRisen, Got, IsAsBefore, Rose}
 use Rattle.nd_types.specs.declared.interface.Interface.{Interface}
 use Rattle.nd_types.specs.declared.types.Operation.{Operation}
 use Rattle.nd_types.specs.declared.types.Side.TheVariants.{Out}
-use Rattle.nd_types.specs.Operations.{operation_named}
+use Rattle.nd_types.specs.Roots.{operation_named}
 use Rattle.nd_value.specs.declared.value.Graph.{Graph}
 use Rattle.nd_value.specs.Setting.{Setting}
 use Rattle.nd_value.specs.Conforms.{Conforms}
 use Rattle.nd_value.specs.Fitting.{setting_of}
-use Rattle.nd_grammar.specs.Represents.{Represents}
-use Rattle.nd_grammar.specs.Prefix.{BeginsWith}
-use Rattle.nd_grammar.specs.Bad.{Bad}
-use Rattle.command_encode.specs.Written.{IsWritten, IsLong}
+use Rattle.nd_grammar.specs.Stream.{Represents, BeginsWith}
+use Rattle.nd_grammar.specs.Refusal.{Bad}
+use Rattle.command_encode.specs.Encoded.{IsWritten, IsLong, IsMisfitAt, beside, IsRequestText, IsRequestFault}
 use Rattle.text_grammar.specs.declared.TheConstants.{TEXT_LIMIT}
 use Rattle.text_grammar.specs.Reads.{ReadsAs, IsTextFault}
 use Rattle.nd_base.specs.Text.{joined}
 use Rattle.dceidl.specs.Causes.{IsMade, IsCause, IsWrittenBeside, IsUntold, IsUnexplained, tells}
-use Rattle.dceidl.specs.Compat.{CanBeCompared, MustBeIncomparable, IsDueSecond}
+use Rattle.dceidl.specs.Held.{CanBeCompared, MustBeIncomparable, IsDueSecond, IsHeld, MustBeNoIdl}
 use Rattle.command_why.specs.Explained.{explained}
 use Rattle.command_why.specs.declared.lookup.Explained.TheVariants.{Found}
-use Rattle.dceidl.specs.Asked.{IsRequestDue, asks_files, asks_input}
-use Rattle.dceidl.specs.Held.{IsHeld, MustBeNoIdl}
-use Rattle.dceidl.specs.Input.{IsLabel}
+use Rattle.dceidl.specs.Asked.{IsRequestDue, asks_files, asks_input, Seen}
+use Rattle.dceidl.specs.Input.{IsLabel, wrap_task}
 use Rattle.command_streams.specs.Input.{AreGiven, IsInput}
-use Rattle.command_encode.specs.Fitted.{IsMisfitAt}
-use Rattle.command_encode.specs.Request.{beside, IsRequestText, IsRequestFault}
 use Rattle.command_compile.specs.Idl.{Means, IsDueFile}
 use Rattle.command_refusals.specs.Lines.{status_of, line_of}
 use Rattle.rpc_pdu.specs.declared.pdu.Wanted.{Wanted}
@@ -38,17 +32,12 @@ use Rattle.rpc_pdu.specs.Fragments as pdu
 use Rattle.command_call.specs.Called.{IsCall}
 use Rattle.command_call.specs.Called as called
 use Rattle.dceidl.specs.Ready.{IsNamed, IsNumbered}
-use Rattle.dceidl.specs.Wrapped.{wrap_task}
-use Rattle.dceidl.specs.Seen.{Seen}
-use Rattle.command_line.specs.Words.{Command, Subject, Values, Compile, Plan, Call, Wrap, Compat, Why, Sample, Help, Version}
-use Rattle.command_line.specs.Words.{idl_of, op_of, order_in}
-use Rattle.command_compile.specs.Asked.{FileNames}
+use Rattle.command_line.specs.Words.{Command, Subject, Values, Compile, Plan, Call, Wrap, Compat, Why, Sample, Help, Version, idl_of, op_of, order_in}
+use Rattle.command_compile.specs.Compiled.{FileNames}
 use Rattle.ndr_prim.specs.Label.{order_of_label}
-use Rattle.nd_base.specs.Counts.{Rose}
-use Rattle.ndr_drain.specs.Given.{pipe_count}
+use Rattle.ndr_drain.specs.Drained.{pipe_count}
 use Rattle.command_drain.specs.Printed.{AreEnough}
-use Rattle.ndr_pipe.specs.End.{EndSeen}
-use Rattle.ndr_pipe.specs.Ends.{EndsSeen}
+use Rattle.ndr_pipe.specs.Ends.{EndSeen, EndsSeen}
 use Rattle.command_line.specs.declared.command.Reading.{Reading}
 use Rattle.command_line.specs.declared.command.Reading.TheVariants.{Decode, Explain, Trace, Drain}
 use Rattle.command_line.specs.declared.command.OrderWord.{OrderWord}
@@ -57,8 +46,7 @@ use Rattle.command_line.specs.declared.command.Task.{Task}
 use Rattle.command_line.specs.declared.command.Task.TheVariants.{Read, Encode, Migrate}
 use Rattle.command_refusals.specs.declared.refusal.Refusal.{Refusal}
 use Rattle.command_refusals.specs.declared.refusal.Refusal.TheVariants.{BadIdl, NoOperation, BadOctets, BadText, BadValue, TooLong, BadRequest}
-use Rattle.command_refusals.specs.declared.refusal.Refusal.TheVariants.{BadLabel, ShortLabel, TooFewEnds}
-use Rattle.command_refusals.specs.declared.refusal.Refusal.TheVariants.{BadPdu}
+use Rattle.command_refusals.specs.declared.refusal.Refusal.TheVariants.{BadLabel, ShortLabel, TooFewEnds, BadPdu}
 use Rattle.command_refusals.specs.declared.refusal.FragmentsFault.{FragmentsFault}
 use Rattle.command_refusals.specs.declared.refusal.FragmentsFault.TheVariants as fragments
 use Rattle.command_refusals.specs.declared.refusal.OctetsFault.{OctetsFault}

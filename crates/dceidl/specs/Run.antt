@@ -2,12 +2,11 @@
 use Rattle.std.specs.Prelude.{◌≡◌, ◌⊎◌, ℕ, List, Option, None, Some, codes, ⊤}
 use Rattle.nd_base.specs.Over.{SinkSeen}
 use Rattle.command_streams.specs.Delivery.{IsDelivered}
-use Rattle.dceidl.specs.Asked.{Asks}
+use Rattle.dceidl.specs.Asked.{Asks, Seen}
 use Rattle.dceidl.specs.Causes.{IsMade, IsCause, IsWrittenBeside, IsUntold, IsUnexplained}
 use Rattle.command_refusals.specs.Lines.{line_of, status_of}
 use Rattle.command_why.specs.Explained.{explained}
 use Rattle.command_why.specs.declared.lookup.Explained.TheVariants.{Found, Nearest}
-use Rattle.dceidl.specs.Seen.{Seen}
 use Rattle.command_line.specs.Words.{Command, command, idl_of, op_of}
 use Rattle.command_refusals.specs.declared.refusal.Refusal.{Refusal}
 use Rattle.command_streams.specs.declared.outcome.Outcome.{Outcome}

@@ -15,11 +15,11 @@ use Rattle.command_line.specs.declared.command.Task.TheVariants.{Read}
 use Rattle.command_line.specs.Words.{Command, Subject}
 use Rattle.command_refusals.specs.declared.refusal.Refusal.{Refusal}
 use Rattle.command_decode.specs.declared.tracing.Stopped.{Stopped}
-use Rattle.command_decode.specs.Stopped.{AreLines, IsOther}
+use Rattle.command_decode.specs.Decoded.{AreLines, IsOther}
 use Rattle.dceidl.specs.Causes.{IsCause, IsUntold, IsWrittenBeside}
 use Rattle.dceidl.specs.Input.{IsOpened, IsTaskCause}
 use Rattle.dceidl.specs.Ready.{IsAllReady}
-use Rattle.dceidl.specs.Seen.{Seen}
+use Rattle.dceidl.specs.Asked.{Seen}
 use Rattle.dceidl.specs.declared.prepared.Prepared.{Prepared}
 
 -- What a command on values speaks of is ready, with its request if one is named.

@@ -4,13 +4,11 @@ use Rattle.nd_base.specs.Over.{SinkSeen, HasRisen, Got}
 use Rattle.command_line.specs.Words.{Command, command}
 use Rattle.command_refusals.specs.declared.refusal.Refusal.{Refusal}
 use Rattle.command_streams.specs.Delivery.{IsOneOf, IsCompleted}
-use Rattle.dceidl.specs.Asked.{Asks}
+use Rattle.dceidl.specs.Asked.{Asks, Seen}
 use Rattle.dceidl.specs.Causes.{statuses_of}
 use Rattle.dceidl.specs.Rows.{IsDone, IsRefused, AreUnknown, tells_refused, ReadsInput, IsDueAndMissing, IsDueAndReported, IsEndReported}
-use Rattle.dceidl.specs.Rows.{HasNotFailed}
-use Rattle.dceidl.specs.Rows.{IsSound, CanBeDone, MustBeRefused, Refuses}
+use Rattle.dceidl.specs.Rows.{HasNotFailed, IsSound, CanBeDone, MustBeRefused, Refuses}
 use Rattle.dceidl.specs.Run.{HasRun}
-use Rattle.dceidl.specs.Seen.{Seen}
 
 -- what `run` promises of a command line
 pub record IsRun (line : List (List ℕ)) (x : Seen) (out notes : SinkSeen) (status : ℕ) : Type 0 where

@@ -1,8 +1,8 @@
 // The fragments of the input are printed as a call.
 ghost use Rattle.std.specs.Prelude.{◌≡◌, Some, None, option_map, IfOk, IfErr};
 ghost use Rattle.nd_base.specs.Over.{files_seen, source_seen};
-ghost use Rattle.command_compile.specs.Asked.{AsksFiles};
-ghost use Rattle.dceidl.specs.Wrapped.{HasCalled, IsNoCall};
+ghost use Rattle.command_compile.specs.Compiled.{AsksFiles};
+ghost use Rattle.dceidl.specs.Input.{HasCalled, IsNoCall};
 
 use crate::ready::make_ready;
 use command_call::print_call;

@@ -1,11 +1,11 @@
 // `compat .. why`: two versions are compared, and the first place at which they differ is written beside the refusal.
 ghost use Rattle.std.specs.Prelude.{◌≡◌, true, false, option_map, IfSome, IfNone};
 ghost use Rattle.nd_base.specs.Over.{FilesSeen, files_seen};
-ghost use Rattle.command_compile.specs.Asked.{FileNames};
+ghost use Rattle.command_compile.specs.Compiled.{FileNames};
 ghost use Rattle.command_compile.specs.Compat.{AsksBoth, IsIncompatible};
 ghost use Rattle.command_line.specs.Commands.{command_of};
 ghost use Rattle.command_line.specs.Words.{Compat};
-ghost use Rattle.dceidl.specs.Compat.{HasNoPlace, IsComparedOutcome};
+ghost use Rattle.dceidl.specs.Held.{HasNoPlace, IsComparedOutcome};
 
 use command_compile::{Incompatible, compat_why};
 use command_line::Command;

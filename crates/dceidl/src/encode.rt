@@ -4,8 +4,8 @@ ghost use Rattle.std.specs.List.{slice_get};
 ghost use Rattle.nd_types.specs.declared.types.Operation.{Operation};
 ghost use Rattle.nd_value.specs.Fitting.{setting_beside};
 ghost use Rattle.nd_value.specs.Request.{IsRequestOf};
-ghost use Rattle.command_encode.specs.Fitted.{IsTextCause};
-ghost use Rattle.dceidl.specs.Encode.{IsEncoding, IsLabelledEncoding, IsEncodingCause, IsMigration, label_for};
+ghost use Rattle.command_encode.specs.Encoded.{IsTextCause};
+ghost use Rattle.dceidl.specs.Input.{IsEncoding, IsLabelledEncoding, IsEncodingCause, IsMigration, label_for};
 
 use crate::ready::Ready;
 use command_encode::{fit_text, write_octets};

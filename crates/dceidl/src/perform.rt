@@ -6,14 +6,12 @@ ghost use Rattle.nd_types.specs.declared.types.Operation.{Operation};
 ghost use Rattle.nd_types.specs.declared.types.Side.TheVariants.{Out};
 ghost use Rattle.nd_value.specs.Fitting.{setting_of, setting_beside};
 ghost use Rattle.nd_value.specs.Request.{IsRequestOf};
-ghost use Rattle.ndr_pipe.specs.Ends.{AreOpen, ends_over};
-ghost use Rattle.ndr_pipe.specs.Seen.{ends_seen};
-ghost use Rattle.dceidl.specs.Asked.{AsksFor, AsksEnds, drains};
+ghost use Rattle.ndr_pipe.specs.Ends.{AreOpen, ends_over, ends_seen};
+ghost use Rattle.dceidl.specs.Asked.{AsksFor, AsksEnds, drains, seen_over};
 ghost use Rattle.dceidl.specs.Causes.{IsMade, IsCause};
 ghost use Rattle.command_line.specs.Commands.{command_of, subject_of, IsWellFormed, HasChunks};
-ghost use Rattle.dceidl.specs.Encode.{IsLabelledEncoding, IsMigration};
-ghost use Rattle.dceidl.specs.Input.{IsMadeOf, IsTaskCause, IsMadeBeside, IsBesideCause, IsInputEncodingCause, IsInputTextCause, OfText};
-ghost use Rattle.dceidl.specs.Seen.{seen_over};
+ghost use Rattle.dceidl.specs.Input.{IsLabelledEncoding, IsMigration, IsMadeOf, IsTaskCause, IsMadeBeside, IsBesideCause, IsInputEncodingCause};
+ghost use Rattle.dceidl.specs.Input.{IsInputTextCause, OfText};
 ghost use Rattle.command_line.specs.Words.{Values};
 
 use crate::call::call;

@@ -1,9 +1,9 @@
 // What a command speaks of is made ready: the interface of the files, and the operation.
 ghost use Rattle.std.specs.Prelude.{◌≡◌, ◌<◌, ◌≤◌, length, Some, IfOk, IfErr};
 ghost use Rattle.nd_types.specs.declared.types.Operation.{Operation};
-ghost use Rattle.nd_types.specs.Operations.{operation_named};
+ghost use Rattle.nd_types.specs.Roots.{operation_named};
 ghost use Rattle.nd_base.specs.Over.{files_seen};
-ghost use Rattle.command_compile.specs.Asked.{AsksFiles};
+ghost use Rattle.command_compile.specs.Compiled.{AsksFiles};
 ghost use Rattle.command_line.specs.Commands.{subject_of};
 ghost use Rattle.dceidl.specs.Ready.{IsFound, IsReadyCause, IsNotFound};
 

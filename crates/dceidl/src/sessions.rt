@@ -1,9 +1,7 @@
 // The top call with a stock: `session` runs a script over it, and all other words are a command line of `run`.
 ghost use Rattle.std.specs.Prelude.{◌≡◌, ◌≢◌, ◌⊎◌, ℕ, List, [], ◌∷◌, true, false};
-ghost use Rattle.nd_base.specs.Counts.{Rose};
-ghost use Rattle.nd_base.specs.Over.{files_seen, source_seen, sink_seen, AreUntouched};
-ghost use Rattle.ndr_pipe.specs.Ends.{AreOpen, AreAsBefore, ends_over};
-ghost use Rattle.ndr_pipe.specs.Seen.{ends_seen};
+ghost use Rattle.nd_base.specs.Over.{Rose, files_seen, source_seen, sink_seen, AreUntouched};
+ghost use Rattle.ndr_pipe.specs.Ends.{AreOpen, AreAsBefore, ends_over, ends_seen};
 ghost use Rattle.ctx_session.specs.Session.{AreFresh};
 ghost use Rattle.ctx_session.specs.Stocked.{fresh_seen};
 ghost use Rattle.ctx_session.specs.Outcome.{IsUntouched, stock_over};
@@ -13,7 +11,7 @@ ghost use Rattle.command_streams.specs.Input.{AreGiven};
 ghost use Rattle.command_streams.specs.Delivery.{IsOneOf, IsCompleted};
 ghost use Rattle.command_session.specs.Session.{session_over, HasSession};
 ghost use Rattle.command_session.specs.Rows.{IsAnswered, IsRefusedWith, IsCutShort, IsUnreported, HasNotFailed, IsScript, IsNoScript, Refuses};
-ghost use Rattle.dceidl.specs.Seen.{seen_over};
+ghost use Rattle.dceidl.specs.Asked.{seen_over};
 ghost use Rattle.dceidl.specs.Whole.{IsRun};
 
 use crate::top::run;

@@ -2,21 +2,17 @@
 ghost use Rattle.std.specs.Prelude.{◌≡◌, ◌≢◌, ◌⊎◌, [], ◌∷◌, codes, false, map, Some, None, IfOk, option_map};
 ghost use Rattle.std.specs.String.{string_bytes};
 ghost use Rattle.std.specs.Io.KnownBytes.{Appends};
-ghost use Rattle.nd_base.specs.Counts.{Rose};
-ghost use Rattle.nd_base.specs.Over.{files_seen, source_seen, sink_seen};
+ghost use Rattle.nd_base.specs.Over.{Rose, files_seen, source_seen, sink_seen};
 ghost use Rattle.command_refusals.specs.declared.refusal.Refusal.{Refusal as Why};
-ghost use Rattle.ndr_pipe.specs.Ends.{AreOpen, ends_over};
-ghost use Rattle.ndr_pipe.specs.Seen.{ends_seen};
-ghost use Rattle.dceidl.specs.Asked.{Asks, AsksFor};
+ghost use Rattle.ndr_pipe.specs.Ends.{AreOpen, ends_over, ends_seen};
+ghost use Rattle.dceidl.specs.Asked.{Asks, AsksFor, seen_over};
 ghost use Rattle.dceidl.specs.Causes.{statuses_of, tells};
 ghost use Rattle.command_line.specs.Commands.{command_of, IsWellFormed};
 ghost use Rattle.command_refusals.specs.Lines.{status_of, line_of};
-ghost use Rattle.dceidl.specs.Rows.{IsDone, IsRefused, AreUnknown, tells_refused};
-ghost use Rattle.dceidl.specs.Rows.{ReadsInput, IsDueAndMissing, IsDueAndReported, IsEndReported, HasNotFailed};
+ghost use Rattle.dceidl.specs.Rows.{IsDone, IsRefused, AreUnknown, tells_refused, ReadsInput, IsDueAndMissing, IsDueAndReported, IsEndReported};
+ghost use Rattle.dceidl.specs.Rows.{HasNotFailed, IsSound, CanBeDone, MustBeRefused, Refuses};
 ghost use Rattle.command_streams.specs.Delivery.{IsOneOf, IsCompleted};
-ghost use Rattle.dceidl.specs.Rows.{IsSound, CanBeDone, MustBeRefused, Refuses};
 ghost use Rattle.dceidl.specs.Run.{IsOutcome, IsCommandOutcome, IsExplanation, HasRun};
-ghost use Rattle.dceidl.specs.Seen.{seen_over};
 ghost use Rattle.command_line.specs.Words.{Command as Wanted, command, counted_command, idl_of, op_of, name_in as name_or_nothing};
 
 use crate::compared::{asked_versions, compared};

@@ -12,12 +12,11 @@ ghost use Rattle.command_line.specs.Words.{Values, idl_of, op_of};
 ghost use Rattle.command_line.specs.declared.command.OrderWord.TheVariants.{Label};
 ghost use Rattle.command_line.specs.declared.command.Reading.TheVariants.{Trace};
 ghost use Rattle.command_line.specs.declared.command.Task.TheVariants.{Read};
-ghost use Rattle.dceidl.specs.Asked.{AsksFilesOf};
+ghost use Rattle.dceidl.specs.Asked.{AsksFilesOf, Seen, seen_over};
 ghost use Rattle.dceidl.specs.Causes.{IsMade, tells, traces};
-ghost use Rattle.dceidl.specs.Compat.{HasNoPlace};
+ghost use Rattle.dceidl.specs.Held.{HasNoPlace};
 ghost use Rattle.dceidl.specs.Input.{IsMadeOf};
 ghost use Rattle.dceidl.specs.Run.{IsCommandOutcome};
-ghost use Rattle.dceidl.specs.Seen.{Seen, seen_over};
 ghost use Rattle.dceidl.specs.Tracing.{IsPrepared, IsStoppedCommand, IsStoppedTask};
 
 use crate::prepared::{Prepared, prepare};

@@ -2,11 +2,11 @@
 ghost use Rattle.std.specs.Prelude.{◌≡◌, ◌≤◌, ◌<◌, ◌^◌, length, Some, IfOk, IfErr};
 ghost use Rattle.nd_base.specs.Over.{files_seen, source_seen};
 ghost use Rattle.nd_base.specs.declared.TheConstants.{STREAM_LIMIT};
-ghost use Rattle.command_compile.specs.Asked.{AsksFiles};
+ghost use Rattle.command_compile.specs.Compiled.{AsksFiles};
 ghost use Rattle.command_line.specs.Commands.{subject_of};
 ghost use Rattle.command_line.specs.declared.TheConstants.{LEAST_MAX};
-ghost use Rattle.rpc_pdu.specs.Pieces.{Pieces};
-ghost use Rattle.dceidl.specs.Wrapped.{IsWrapped, IsNoWrap, head_for};
+ghost use Rattle.rpc_pdu.specs.Fragments.{Pieces};
+ghost use Rattle.dceidl.specs.Input.{IsWrapped, IsNoWrap, head_for};
 
 use crate::WRAP_CHUNK;
 use crate::perform::encode_input;

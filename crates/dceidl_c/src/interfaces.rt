@@ -1,7 +1,7 @@
 // Interfaces.
 ghost use Rattle.std.specs.Prelude.{◌≡◌, ◌≤◌, ◌<◌, length, take, drop, Some, None, true, is_some, IsSomeAnd, IsUtf8};
 ghost use Rattle.std.specs.List.{slice_get};
-ghost use Rattle.nd_types.specs.Operations.{operation_named};
+ghost use Rattle.nd_types.specs.Roots.{operation_named};
 ghost use Rattle.library_interface.specs.Named.{HasBadName};
 ghost use Rattle.library_answers.specs.Answers.{interface_in, refusal_in};
 ghost use Rattle.library_answers.specs.Compiling.{IsFilesCompile, IsFilesRefusal};

@@ -68,8 +68,13 @@ pub extern "C" fn dceidl_home_counts(
     };
     let status = match &*held {
         Held::Nodes(list) => {
-            *roots = list.roots;
-            *cells = list.starts.as_slice().len().saturating_sub(list.roots);
+            let held_nodes = list.nodes();
+            *roots = held_nodes.roots;
+            *cells = held_nodes
+                .starts
+                .as_slice()
+                .len()
+                .saturating_sub(held_nodes.roots);
             OK
         }
         _ => EMPTY,
@@ -97,7 +102,7 @@ pub extern "C" fn dceidl_root_node(
         return EMPTY;
     };
     let status = match &*held {
-        Held::Nodes(list) => set_number(list.root(root), node),
+        Held::Nodes(list) => set_number(list.nodes().root(root), node),
         _ => EMPTY,
     };
     nodes.put(alloc, held);
@@ -123,7 +128,7 @@ pub extern "C" fn dceidl_cell_node(
         return EMPTY;
     };
     let status = match &*held {
-        Held::Nodes(list) => set_number(list.cell(cell), node),
+        Held::Nodes(list) => set_number(list.nodes().cell(cell), node),
         _ => EMPTY,
     };
     nodes.put(alloc, held);
@@ -150,7 +155,7 @@ pub extern "C" fn dceidl_node_at(
         return EMPTY;
     };
     let status = match &*held {
-        Held::Nodes(list) => describe_at(list, node, description),
+        Held::Nodes(list) => describe_at(list.nodes(), node, description),
         _ => EMPTY,
     };
     nodes.put(alloc, held);
@@ -177,7 +182,7 @@ pub extern "C" fn dceidl_node_after(
         return EMPTY;
     };
     let status = match &*held {
-        Held::Nodes(list) => set_after(list, node, after),
+        Held::Nodes(list) => set_after(list.nodes(), node, after),
         _ => EMPTY,
     };
     nodes.put(alloc, held);
@@ -206,7 +211,7 @@ pub extern "C" fn dceidl_node_part(
         return EMPTY;
     };
     let status = match &*held {
-        Held::Nodes(list) => set_part(list, node, index, part),
+        Held::Nodes(list) => set_part(list.nodes(), node, index, part),
         _ => EMPTY,
     };
     nodes.put(alloc, held);
@@ -241,7 +246,7 @@ pub extern "C" fn dceidl_node_numbers(
         return EMPTY;
     };
     let status = match &*held {
-        Held::Nodes(list) => copy_numbers(list, node, out, count),
+        Held::Nodes(list) => copy_numbers(list.nodes(), node, out, count),
         _ => EMPTY,
     };
     nodes.put(alloc, held);
@@ -276,7 +281,7 @@ pub extern "C" fn dceidl_node_octets(
         return EMPTY;
     };
     let status = match &*held {
-        Held::Nodes(list) => copy_octets(list, node, out, len),
+        Held::Nodes(list) => copy_octets(list.nodes(), node, out, len),
         _ => EMPTY,
     };
     nodes.put(alloc, held);
@@ -311,7 +316,7 @@ pub extern "C" fn dceidl_node_bytes(
         return EMPTY;
     };
     let status = match &*held {
-        Held::Nodes(list) => copy_bytes(list, node, out, len),
+        Held::Nodes(list) => copy_bytes(list.nodes(), node, out, len),
         _ => EMPTY,
     };
     nodes.put(alloc, held);

@@ -5,8 +5,7 @@
 mod standard_input;
 
 ghost use Rattle.std.specs.Prelude.{◌≡◌, false, IfOk};
-ghost use Rattle.ndr_pipe.specs.Ends.{AreOpen};
-ghost use Rattle.ndr_pipe.specs.Seen.{ends_seen};
+ghost use Rattle.ndr_pipe.specs.Ends.{AreOpen, ends_seen};
 ghost use Rattle.ctx_session.specs.Session.{AreFresh};
 ghost use Rattle.ctx_session.specs.Stocked.{fresh_seen};
 

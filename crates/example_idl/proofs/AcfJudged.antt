@@ -1,8 +1,8 @@
 -- What is reported of attribute configuration files.
 use Rattle.std.proofs.Common.{◌≡◌, refl}
 use Rattle.std.specs.Prelude.{map, [], ◌∷◌, Some}
-use Rattle.idl_grammar.specs.Lexemes.{words, symbol_of}
-use Rattle.idl_grammar.specs.Limits.{names, binary_operators, unary_operators, binary_of, unary_of, symbol_level, is_unary, is_operator, many_operators}
+use Rattle.idl_grammar.specs.Text.{words, symbol_of}
+use Rattle.idl_grammar.specs.Expressions.{names, binary_operators, unary_operators, binary_of, unary_of, symbol_level, is_unary, is_operator, many_operators}
 use Rattle.idl_grammar.specs.ReadExpressions.{is_operand, operand_of, outer_read}
 use Rattle.idl_grammar.specs.Reading.{simple_firsts, width_read, unsigned_read, integer_read, simple_read, switch_type_read, pointer_class_read, variable_word_read, variable_name_read, uuid_read}
 use Rattle.idl_grammar.specs.Reading.{version_numbers_read, version_read, endpoint_read, pointer_default_read, variable_read, switch_attribute_read, case_attribute_read, bracket_attribute_read}
@@ -15,11 +15,9 @@ use Rattle.idl_grammar.specs.Answers.{is_banned, file_answer}
 use Rattle.idl_rule_definitions.specs.Nodes.{nodes}
 use Rattle.idl_rule_definitions.specs.Scene.{hoists, scene_of}
 use Rattle.idl_rule_definitions.specs.Rules.{breaches}
-use Rattle.idl_rule_definitions.specs.TypeRules.{contains, is_too_deep}
-use Rattle.idl_rule_definitions.specs.ArrayRules.{is_barred_in_pipes}
+use Rattle.idl_rule_definitions.specs.TypeRules.{contains, is_too_deep, is_barred_in_pipes}
 use Rattle.idl_rule_definitions.specs.Numbering.{needed_types, own_types}
 use Rattle.acf_reader.specs.Symbols as acf_symbols
-use Rattle.acf_reader.specs.Lexemes as acf_lexemes
 use Rattle.acf_reader.specs.Reading as acf_reading
 use Rattle.acf_reader.specs.Answers as acf_answers
 use Rattle.idl_rule_definitions.specs.Texts.{no_rule, rule_at}
@@ -33,7 +31,7 @@ unfolding words symbol_of names binary_operators unary_operators binary_of unary
     dimension_read declarator_read declarators_read enumerator_read enumerators_read label_read labels_read discriminant_read maybe_name_read union_switch_read type_firsts member_firsts arm_firsts
     member_read members_read struct_body_read arm_field_read arm_read case_read cases_read cases_body_read arms_read arms_body_read struct_read union_body_read union_read enum_read parameter_read
     more_parameters_read void_parameters_read parameters_read init_read typedef_read const_read signature_read declared_read export_read import_read export_firsts imports_read exports_read file_read
-    is_banned file_answer hoists contains is_too_deep is_barred_in_pipes needed_types own_types nodes scene_of breaches acf_symbols.names acf_lexemes.words acf_lexemes.symbol_of
+    is_banned file_answer hoists contains is_too_deep is_barred_in_pipes needed_types own_types nodes scene_of breaches acf_symbols.names acf_symbols.words acf_symbols.symbol_of
     acf_reading.handle_type_read acf_reading.variable_read acf_reading.implicit_handle_read acf_reading.attribute_kind_read acf_reading.attribute_read acf_reading.attributes_read
     acf_reading.maybe_attributes_read acf_reading.parameter_read acf_reading.parameters_read acf_reading.signature_read acf_reading.types_read acf_reading.include_read acf_reading.operation_read
     acf_reading.element_read acf_reading.element_firsts acf_reading.body_read acf_reading.acf_read acf_answers.acf_answer acf_breaches
@@ -46,7 +44,7 @@ unfolding words symbol_of names binary_operators unary_operators binary_of unary
     dimension_read declarator_read declarators_read enumerator_read enumerators_read label_read labels_read discriminant_read maybe_name_read union_switch_read type_firsts member_firsts arm_firsts
     member_read members_read struct_body_read arm_field_read arm_read case_read cases_read cases_body_read arms_read arms_body_read struct_read union_body_read union_read enum_read parameter_read
     more_parameters_read void_parameters_read parameters_read init_read typedef_read const_read signature_read declared_read export_read import_read export_firsts imports_read exports_read file_read
-    is_banned file_answer hoists contains is_too_deep is_barred_in_pipes needed_types own_types nodes scene_of breaches acf_symbols.names acf_lexemes.words acf_lexemes.symbol_of
+    is_banned file_answer hoists contains is_too_deep is_barred_in_pipes needed_types own_types nodes scene_of breaches acf_symbols.names acf_symbols.words acf_symbols.symbol_of
     acf_reading.handle_type_read acf_reading.variable_read acf_reading.implicit_handle_read acf_reading.attribute_kind_read acf_reading.attribute_read acf_reading.attributes_read
     acf_reading.maybe_attributes_read acf_reading.parameter_read acf_reading.parameters_read acf_reading.signature_read acf_reading.types_read acf_reading.include_read acf_reading.operation_read
     acf_reading.element_read acf_reading.element_firsts acf_reading.body_read acf_reading.acf_read acf_answers.acf_answer acf_breaches
@@ -59,7 +57,7 @@ unfolding words symbol_of names binary_operators unary_operators binary_of unary
     dimension_read declarator_read declarators_read enumerator_read enumerators_read label_read labels_read discriminant_read maybe_name_read union_switch_read type_firsts member_firsts arm_firsts
     member_read members_read struct_body_read arm_field_read arm_read case_read cases_read cases_body_read arms_read arms_body_read struct_read union_body_read union_read enum_read parameter_read
     more_parameters_read void_parameters_read parameters_read init_read typedef_read const_read signature_read declared_read export_read import_read export_firsts imports_read exports_read file_read
-    is_banned file_answer hoists contains is_too_deep is_barred_in_pipes needed_types own_types nodes scene_of breaches acf_symbols.names acf_lexemes.words acf_lexemes.symbol_of
+    is_banned file_answer hoists contains is_too_deep is_barred_in_pipes needed_types own_types nodes scene_of breaches acf_symbols.names acf_symbols.words acf_symbols.symbol_of
     acf_reading.handle_type_read acf_reading.variable_read acf_reading.implicit_handle_read acf_reading.attribute_kind_read acf_reading.attribute_read acf_reading.attributes_read
     acf_reading.maybe_attributes_read acf_reading.parameter_read acf_reading.parameters_read acf_reading.signature_read acf_reading.types_read acf_reading.include_read acf_reading.operation_read
     acf_reading.element_read acf_reading.element_firsts acf_reading.body_read acf_reading.acf_read acf_answers.acf_answer acf_breaches
@@ -72,7 +70,7 @@ unfolding words symbol_of names binary_operators unary_operators binary_of unary
     dimension_read declarator_read declarators_read enumerator_read enumerators_read label_read labels_read discriminant_read maybe_name_read union_switch_read type_firsts member_firsts arm_firsts
     member_read members_read struct_body_read arm_field_read arm_read case_read cases_read cases_body_read arms_read arms_body_read struct_read union_body_read union_read enum_read parameter_read
     more_parameters_read void_parameters_read parameters_read init_read typedef_read const_read signature_read declared_read export_read import_read export_firsts imports_read exports_read file_read
-    is_banned file_answer hoists contains is_too_deep is_barred_in_pipes needed_types own_types nodes scene_of breaches acf_symbols.names acf_lexemes.words acf_lexemes.symbol_of
+    is_banned file_answer hoists contains is_too_deep is_barred_in_pipes needed_types own_types nodes scene_of breaches acf_symbols.names acf_symbols.words acf_symbols.symbol_of
     acf_reading.handle_type_read acf_reading.variable_read acf_reading.implicit_handle_read acf_reading.attribute_kind_read acf_reading.attribute_read acf_reading.attributes_read
     acf_reading.maybe_attributes_read acf_reading.parameter_read acf_reading.parameters_read acf_reading.signature_read acf_reading.types_read acf_reading.include_read acf_reading.operation_read
     acf_reading.element_read acf_reading.element_firsts acf_reading.body_read acf_reading.acf_read acf_answers.acf_answer acf_breaches
@@ -85,7 +83,7 @@ unfolding words symbol_of names binary_operators unary_operators binary_of unary
     dimension_read declarator_read declarators_read enumerator_read enumerators_read label_read labels_read discriminant_read maybe_name_read union_switch_read type_firsts member_firsts arm_firsts
     member_read members_read struct_body_read arm_field_read arm_read case_read cases_read cases_body_read arms_read arms_body_read struct_read union_body_read union_read enum_read parameter_read
     more_parameters_read void_parameters_read parameters_read init_read typedef_read const_read signature_read declared_read export_read import_read export_firsts imports_read exports_read file_read
-    is_banned file_answer hoists contains is_too_deep is_barred_in_pipes needed_types own_types nodes scene_of breaches acf_symbols.names acf_lexemes.words acf_lexemes.symbol_of
+    is_banned file_answer hoists contains is_too_deep is_barred_in_pipes needed_types own_types nodes scene_of breaches acf_symbols.names acf_symbols.words acf_symbols.symbol_of
     acf_reading.handle_type_read acf_reading.variable_read acf_reading.implicit_handle_read acf_reading.attribute_kind_read acf_reading.attribute_read acf_reading.attributes_read
     acf_reading.maybe_attributes_read acf_reading.parameter_read acf_reading.parameters_read acf_reading.signature_read acf_reading.types_read acf_reading.include_read acf_reading.operation_read
     acf_reading.element_read acf_reading.element_firsts acf_reading.body_read acf_reading.acf_read acf_answers.acf_answer acf_breaches

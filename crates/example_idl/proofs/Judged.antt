@@ -1,8 +1,8 @@
 -- What is reported of the small texts, and what others mean.
 use Rattle.std.proofs.Common.{◌≡◌, refl}
 use Rattle.std.specs.Prelude.{map, [], ◌∷◌}
-use Rattle.idl_grammar.specs.Lexemes.{words, symbol_of}
-use Rattle.idl_grammar.specs.Limits.{names, binary_operators, unary_operators, binary_of, unary_of, symbol_level, is_unary, is_operator, many_operators}
+use Rattle.idl_grammar.specs.Text.{words, symbol_of}
+use Rattle.idl_grammar.specs.Expressions.{names, binary_operators, unary_operators, binary_of, unary_of, symbol_level, is_unary, is_operator, many_operators}
 use Rattle.idl_grammar.specs.ReadExpressions.{is_operand, operand_of, outer_read}
 use Rattle.idl_grammar.specs.Reading.{simple_firsts, width_read, unsigned_read, integer_read, simple_read, switch_type_read, pointer_class_read, variable_word_read, variable_name_read, uuid_read}
 use Rattle.idl_grammar.specs.Reading.{version_numbers_read, version_read, endpoint_read, pointer_default_read, variable_read, switch_attribute_read, case_attribute_read, bracket_attribute_read}
@@ -15,8 +15,7 @@ use Rattle.idl_grammar.specs.Answers.{is_banned, file_answer}
 use Rattle.idl_rule_definitions.specs.Nodes.{nodes}
 use Rattle.idl_rule_definitions.specs.Scene.{hoists, scene_of}
 use Rattle.idl_rule_definitions.specs.Rules.{breaches}
-use Rattle.idl_rule_definitions.specs.TypeRules.{contains, is_too_deep}
-use Rattle.idl_rule_definitions.specs.ArrayRules.{is_barred_in_pipes}
+use Rattle.idl_rule_definitions.specs.TypeRules.{contains, is_too_deep, is_barred_in_pipes}
 use Rattle.idl_rule_definitions.specs.Numbering.{needed_types, own_types}
 use Rattle.idl_rule_definitions.specs.Meaning.{meaning}
 use Rattle.idl_rule_definitions.specs.Texts.{told_of}

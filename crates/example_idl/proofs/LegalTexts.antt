@@ -4,15 +4,13 @@ use Rattle.std.specs.Prelude.{Result, Ok, Err, All}
 use Rattle.idl_grammar.specs.ReadPhrases.{Fault}
 use Rattle.nd_types.specs.Legal.{IsLegal}
 use Rattle.idl_grammar.specs.Tree.{Tree}
-use Rattle.idl_rule_definitions.specs.Rules.{Breach}
-use Rattle.idl_rule_definitions.specs.FirstBroken.{first_broken}
+use Rattle.idl_rule_definitions.specs.Rules.{Breach, first_broken, breaches}
 use Rattle.idl_rule_definitions.specs.Alone.{alone}
 use Rattle.idl_rule_definitions.specs.Texts.{cut, told_of_tree, no_rule}
 use Rattle.example_idl.specs.Interfaces.{meant_of_tree}
 use Rattle.example_idl.proofs.Judged.{sum_means, directory_means}
-use Rattle.idl_grammar.specs.Lexemes.{lexemes}
-use Rattle.idl_grammar.specs.Lexemes.{words, symbol_of}
-use Rattle.idl_grammar.specs.Limits.{names, binary_operators, unary_operators, binary_of, unary_of, symbol_level, is_unary, is_operator, many_operators}
+use Rattle.idl_grammar.specs.Text.{lexemes, words, symbol_of}
+use Rattle.idl_grammar.specs.Expressions.{names, binary_operators, unary_operators, binary_of, unary_of, symbol_level, is_unary, is_operator, many_operators}
 use Rattle.idl_grammar.specs.ReadExpressions.{is_operand, operand_of, outer_read}
 use Rattle.idl_grammar.specs.Reading.{simple_firsts, width_read, unsigned_read, integer_read, simple_read, switch_type_read, pointer_class_read, variable_word_read, variable_name_read, uuid_read}
 use Rattle.idl_grammar.specs.Reading.{version_numbers_read, version_read, endpoint_read, pointer_default_read, variable_read, switch_attribute_read, case_attribute_read, bracket_attribute_read}
@@ -24,9 +22,7 @@ use Rattle.idl_grammar.specs.Reading.{signature_read, declared_read, export_read
 use Rattle.idl_grammar.specs.Answers.{is_banned, file_answer}
 use Rattle.idl_rule_definitions.specs.Nodes.{nodes}
 use Rattle.idl_rule_definitions.specs.Scene.{hoists, scene_of}
-use Rattle.idl_rule_definitions.specs.Rules.{breaches}
-use Rattle.idl_rule_definitions.specs.TypeRules.{contains, is_too_deep}
-use Rattle.idl_rule_definitions.specs.ArrayRules.{is_barred_in_pipes}
+use Rattle.idl_rule_definitions.specs.TypeRules.{contains, is_too_deep, is_barred_in_pipes}
 use Rattle.idl_rule_definitions.specs.Numbering.{needed_types, own_types}
 use Rattle.idl_rule_definitions.specs.Texts.{told_of}
 use Rattle.example_idl.specs.Interfaces.{meant_of, sum_text, sum_meant, directory_text, directory_meant}

@@ -1,8 +1,8 @@
 -- The worked listings.
 use Rattle.std.proofs.Common.{◌≡◌, refl}
 use Rattle.std.specs.Prelude.{[], ◌∷◌}
-use Rattle.idl_grammar.specs.Lexemes.{words, symbol_of}
-use Rattle.idl_grammar.specs.Limits.{names, binary_operators, unary_operators, symbol_level, is_unary, many_operators}
+use Rattle.idl_grammar.specs.Text.{words, symbol_of}
+use Rattle.idl_grammar.specs.Expressions.{names, binary_operators, unary_operators, symbol_level, is_unary, many_operators}
 use Rattle.idl_grammar.specs.ReadExpressions.{is_operand, operand_of, outer_read}
 use Rattle.idl_grammar.specs.Reading.{simple_firsts, width_read, unsigned_read, integer_read, simple_read, switch_type_read, pointer_class_read, variable_word_read, variable_name_read, uuid_read}
 use Rattle.idl_grammar.specs.Reading.{version_numbers_read, version_read, pointer_default_read, variable_read, switch_attribute_read, case_attribute_read, bracket_attribute_read, attribute_kind_read}

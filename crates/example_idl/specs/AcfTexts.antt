@@ -3,10 +3,10 @@ use Rattle.std.specs.Prelude.{ℕ, Bool, true, false, List, [], ◌∷◌, ◌++
 use Rattle.std.specs.List.{flat_map}
 use Rattle.idl_grammar.specs.ReadPhrases.{Fault}
 use Rattle.idl_grammar.specs.Tree.{Tree}
-use Rattle.acf_reader.specs.Lexemes.{lexemes}
-use Rattle.acf_reader.specs.Tree.{Acf}
+use Rattle.acf_reader.specs.Symbols.{lexemes}
+use Rattle.acf_reader.specs.Grammar.{Acf}
 use Rattle.acf_reader.specs.Answers.{acf_answer}
-use Rattle.idl_rule_definitions.specs.World.{World}
+use Rattle.idl_rule_definitions.specs.Nodes.{World}
 use Rattle.idl_rule_definitions.specs.Alone.{alone, with_import}
 use Rattle.idl_rule_definitions.specs.Texts.{cut, no_rule}
 use Rattle.idl_rule_definitions.specs.Rules.{Breach, breach}

@@ -14,7 +14,7 @@ use Rattle.nd_types.specs.declared.types.Way.{Way}
 use Rattle.nd_types.specs.declared.types.Way.TheVariants as way
 use Rattle.nd_types.specs.declared.TheConstants.{HANDLE}
 use Rattle.nd_types.specs.Kinds.{basic_types}
-use Rattle.idl_grammar.specs.Lexemes.{lexemes}
+use Rattle.idl_grammar.specs.Text.{lexemes}
 use Rattle.idl_grammar.specs.Tree.{Tree}
 use Rattle.idl_grammar.specs.Answers.{file_answer}
 use Rattle.idl_rule_definitions.specs.Alone.{alone}
@@ -66,7 +66,11 @@ sum_meant = record {
 -- enumerators, a union whose tag is a member, a text, and pointers that lead back
 abbrev pub directory_text : List ℕ
 directory_text =
-    codes "[local, version(2.1), pointer_default(unique)] interface dir { typedef enum { FILE_KIND, FOLDER_KIND = 4 } kind_t; typedef [switch_type(kind_t)] union { [case(FILE_KIND)] unsigned long size; [case(FOLDER_KIND)] ; } detail_t; typedef struct entry { kind_t kind; [switch_is(kind)] detail_t detail; [string] char name[16]; [ptr] struct entry *parent; struct entry *next; } entry; unsigned long list([in, string] char *path, [out] entry *first); void put([in] handle_t h, [in, unique] entry *e, [in] unsigned long n, [in, size_is(n)] byte data[*]); }"
+    codes "[local, version(2.1), pointer_default(unique)] interface dir { typedef enum { FILE_KIND, FOLDER_KIND = 4 } kind_t; "
+    ++ codes "typedef [switch_type(kind_t)] union { [case(FILE_KIND)] unsigned long size; [case(FOLDER_KIND)] ; } detail_t; "
+    ++ codes "typedef struct entry { kind_t kind; [switch_is(kind)] detail_t detail; [string] char name[16]; [ptr] struct entry *parent; "
+    ++ codes "struct entry *next; } entry; unsigned long list([in, string] char *path, [out] entry *first); "
+    ++ codes "void put([in] handle_t h, [in, unique] entry *e, [in] unsigned long n, [in, size_is(n)] byte data[*]); }"
 
 abbrev pub directory_meant : Meant
 directory_meant = record {

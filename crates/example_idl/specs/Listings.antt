@@ -1,7 +1,7 @@
 -- Texts, and how the interfaces are listed that they mean.
 use Rattle.std.specs.Prelude.{ℕ, List, [], ◌∷◌, ◌++◌, map, codes, Result, Ok, Err}
 use Rattle.idl_grammar.specs.ReadPhrases.{Fault}
-use Rattle.idl_grammar.specs.Lexemes.{lexemes}
+use Rattle.idl_grammar.specs.Text.{lexemes}
 use Rattle.idl_grammar.specs.Tree.{Tree}
 use Rattle.idl_grammar.specs.Answers.{file_answer}
 use Rattle.idl_rule_definitions.specs.Alone.{with_import}
@@ -133,7 +133,8 @@ forms_file = lines (
     ∷ codes "typedef union switch (boolean k) { case FALSE: long a; default: ; case TRUE: char c; } choice;"
     ∷ codes "typedef pipe short shorts;"
     ∷ codes "typedef [context_handle] void *ctx;"
-    ∷ codes "long f([in] shorts *p, [in, size_is(*n)] byte data[*], [in] long *n, [in] ctx c, [in, out, unique] choice *u, [out] shorts q, [out] grid g);"
+    ∷ codes "long f([in] shorts *p, [in, size_is(*n)] byte data[*], [in] long *n, [in] ctx c,"
+    ∷ codes "[in, out, unique] choice *u, [out] shorts q, [out] grid g);"
     ∷ codes "void g();"
     ∷ codes "}"
     ∷ []

@@ -59,7 +59,8 @@ texts_that_keep =
     ∷ keeps (codes "[local] interface t { typedef [context_handle] void *c;  }")
     ∷ keeps (codes "[local] interface t { typedef [context_handle] void *c; void f([in]c a,[out]c*b); }")
     ∷ keeps (codes "[local] interface t { struct s{[ptr]struct s*a;}; }")
-    ∷ keeps (codes "[local] interface t { typedef long a[1][1][1][1][1][1][1][1][1][1][1][1][1][1][1][1][1][1][1][1][1][1][1][1][1][1][1][1][1][1][1]; }")
+    ∷ keeps
+    (codes "[local] interface t { typedef long a[1][1][1][1][1][1][1][1][1][1][1][1][1][1][1][1][1][1][1][1][1][1][1][1][1][1][1][1][1][1][1]; }")
     ∷ keeps (codes "[local] interface t { enum{A=32767}; }")
     ∷ keeps (codes "[local] interface t { typedef long a[1]; }")
     ∷ keeps (codes "[local] interface t { typedef long a[0..2]; }")

@@ -12,21 +12,17 @@ use Rattle.nd_types.specs.declared.types.Class.TheVariants.{Ref, Unique, Full}
 use Rattle.nd_value.specs.declared.value.Graph.{Graph}
 use Rattle.nd_base.specs.declared.TheConstants.{STREAM_LIMIT}
 use Rattle.nd_value.specs.Setting.{Setting, Among, root_list}
-use Rattle.nd_grammar.specs.Stream.{Stream, representation, AllCut}
+use Rattle.nd_grammar.specs.Stream.{Stream, representation, AllCut, piece, Spells, IsNumber, IsRendered, id_octets, IsNumbering, Represents, Chosen, octets_from, pipe_cuts}
 use Rattle.nd_value.specs.Deferral.{Due, due_root, due_referent, Step, root_stands, referent_stands, stands_already, Deferral, none_due, at_root, at_null, at_standing, at_referent, Pending, due_of}
 use Rattle.nd_value.specs.Deferral.{standing_root, standing_cell, IsPlaced, IsPlacedFull, AreFree, Placed_cells, root_cell, due_roots, before_pipes}
 use Rattle.nd_types.specs.Number.{unsigned, value_of_octets}
 use Rattle.nd_grammar.specs.Entry.{Kind, Entry, Align, Max, Offset, Actual, Chunk, Number, Num, Tag, Text, Context, Test, Unread, size_at, EntryAt, end_to_end, end_of, full_cells}
-use Rattle.nd_grammar.specs.Represents.{piece, Spells, IsNumber, IsRendered, id_octets, IsNumbering, Represents}
-use Rattle.nd_grammar.specs.Bad.{Bad}
-use Rattle.nd_grammar.specs.Refusal.{Accepts, refusal}
+use Rattle.nd_grammar.specs.Refusal.{Bad, Accepts, refusal}
 use Rattle.nd_grammar.specs.NextMark.{IsReadTo}
 use Rattle.nd_grammar.specs.declared.reason.Reason.{Reason}
 use Rattle.nd_value.specs.Canon.{canonical_number, named_cells}
-use Rattle.nd_grammar.specs.Chosen.{Chosen, octets_from, pipe_cuts}
-use Rattle.nd_value.specs.Conforms.{IsPartial, ShareOnlyIfFull, AllEarlier}
+use Rattle.nd_value.specs.Conforms.{IsPartial, ShareOnlyIfFull, AllEarlier, all_nodes, all_pointers}
 use Rattle.nd_value.specs.Misfit.{is_partial_node, has_machine_values}
-use Rattle.nd_value.specs.Homes.{all_nodes, all_pointers}
 use Rattle.nd_lemmas.proofs.Booleans.{first_true as and_left, second_true as and_right}
 
 abbrev is_full : Class → Bool

@@ -10,12 +10,10 @@ use Rattle.nd_value.specs.declared.value.Graph.{Graph}
 use Rattle.nd_value.specs.Conforms.{IsPartial}
 use Rattle.nd_value.specs.Setting.{Setting, Among}
 use Rattle.nd_value.proofs.NodeFacts.{sound_partial}
-use Rattle.nd_grammar.specs.Bad.{Bad}
+use Rattle.nd_grammar.specs.Refusal.{Bad, Accepts}
 use Rattle.nd_grammar.specs.Entry.{Entry, size_at, end_to_end}
-use Rattle.nd_grammar.specs.Represents.{IsRendered}
-use Rattle.nd_grammar.specs.Refusal.{Accepts}
-use Rattle.nd_grammar.specs.Stream.{Stream, representation}
-use Rattle.nd_grammar.specs.FewItems.{item_count}
+use Rattle.nd_grammar.specs.Stream.{IsRendered, Stream, representation}
+use Rattle.nd_grammar.specs.Items.{item_count}
 use Rattle.nd_grammar.specs.NextMark.{NextAlike, IsOneToOne, IsReadTo}
 use Rattle.nd_grammar.specs.declared.reason.Reason.{Reason}
 use Rattle.nd_grammar.specs.declared.reason.Reason.TheVariants as reason

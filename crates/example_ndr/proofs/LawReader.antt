@@ -6,13 +6,11 @@ use Rattle.nd_types.specs.Layout.{align_of, hoists}
 use Rattle.nd_types.specs.Roots.{roots_of}
 use Rattle.nd_types.specs.Number.{AreOctets}
 use Rattle.nd_value.specs.declared.value.Graph.{Graph}
-use Rattle.nd_value.specs.Same.{Same}
+use Rattle.nd_value.specs.Canon.{Same}
 use Rattle.nd_grammar.specs.declared.reason.Reason.TheVariants as reason
-use Rattle.nd_grammar.specs.Bad.{Bad}
-use Rattle.nd_grammar.specs.Prefix.{BeginsWith}
+use Rattle.nd_grammar.specs.Refusal.{Bad}
+use Rattle.nd_grammar.specs.Stream.{BeginsWith, Represents, Chosen}
 use Rattle.nd_value.specs.Conforms.{Conforms}
-use Rattle.nd_grammar.specs.Represents.{Represents}
-use Rattle.nd_grammar.specs.Chosen.{Chosen}
 use Rattle.nd_grammar.proofs.ChosenRepresents.{chosen_represents, chosen_apart}
 use Rattle.nd_grammar.proofs.written.SameForms.{same_written}
 use Rattle.example_ndr.proofs.Check.{upto, chosen_so}

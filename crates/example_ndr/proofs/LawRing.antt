@@ -11,11 +11,10 @@ use Rattle.nd_value.specs.declared.item.Home.TheVariants as home
 use Rattle.nd_value.specs.Tree.{Referent}
 use Rattle.nd_value.specs.Setting.{Setting, unread, cell_home}
 use Rattle.nd_value.specs.Deferral.{Pending}
-use Rattle.nd_value.specs.Homes.{all_pointers}
-use Rattle.nd_value.specs.Conforms.{Conforms, Reached, by_root, by_cell}
+use Rattle.nd_value.specs.Conforms.{all_pointers, Conforms, Reached, by_root, by_cell}
 use Rattle.nd_grammar.specs.declared.reason.Reason.TheVariants as reason
-use Rattle.nd_grammar.specs.Represents.{Represents}
-use Rattle.nd_grammar.specs.Bad.{Bad}
+use Rattle.nd_grammar.specs.Stream.{Represents}
+use Rattle.nd_grammar.specs.Refusal.{Bad}
 use Rattle.nd_grammar.specs.ExampleParts.{request, param, field, id, num, pointer_to, two, struct_of, cell, four}
 use Rattle.example_ndr.proofs.Check.{upto, represents_so, bad_so, unshared_are, partial_so}
 

@@ -15,13 +15,11 @@ use Rattle.nd_value.specs.Conforms.{Conforms, IsPartial}
 use Rattle.nd_value.specs.Setting.{Setting, Among, cell_home}
 use Rattle.nd_value.proofs.NodeFacts.{sound_conforming, sound_partial}
 use Rattle.nd_grammar.specs.declared.reason.Reason.TheVariants as reason
-use Rattle.nd_grammar.specs.Bad.{Bad}
+use Rattle.nd_grammar.specs.Refusal.{Bad, tested_at}
 use Rattle.nd_grammar.specs.Entry.{Entry, EntryAt, end_to_end}
 use Rattle.nd_grammar.specs.LegalSide.{IsLegalSide}
-use Rattle.nd_grammar.specs.NamedOrder.{cells_met}
-use Rattle.nd_grammar.specs.Refusal.{tested_at}
-use Rattle.nd_grammar.specs.Represents.{Represents}
-use Rattle.nd_grammar.specs.Stream.{Stream, representation}
+use Rattle.nd_grammar.specs.NextMark.{cells_met}
+use Rattle.nd_grammar.specs.Stream.{Represents, Stream, representation}
 use Rattle.nd_grammar.specs.Tested.{IsSpokenOf}
 use Rattle.nd_grammar.proofs.agreements.TestedAt.{test_finds}
 use Rattle.nd_grammar.proofs.NamedOrder.{named_in_order}

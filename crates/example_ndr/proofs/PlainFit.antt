@@ -9,11 +9,10 @@ use Rattle.nd_types.specs.declared.types.TypeDef.TheVariants as def
 use Rattle.nd_types.specs.declared.types.Operation.{Operation}
 use Rattle.nd_types.specs.declared.types.Side.{Side}
 use Rattle.nd_types.specs.Table.{Table, type_at}
-use Rattle.nd_types.specs.Roots.{Root, roots_of}
+use Rattle.nd_types.specs.Roots.{Root, roots_of, NamedRoot, named_root, named_roots}
 use Rattle.nd_types.specs.declared.types.Primitive.{Primitive}
 use Rattle.nd_types.specs.Numbers.{has_number_roots, IsPrimitiveRoot}
 use Rattle.std.proofs.lemmas.Option.{same_Some}
-use Rattle.nd_types.specs.Walk.{NamedRoot, named_root, named_roots}
 use Rattle.nd_types.proofs.LegalLaws.{passes_at}
 use Rattle.nd_types.proofs.NumberRoots.{primitive_roots}
 use Rattle.example_ndr.specs.Simple.{is_simple}
@@ -23,15 +22,13 @@ use Rattle.nd_value.specs.declared.item.Home.TheVariants as home
 use Rattle.nd_value.specs.declared.misfit.MisfitReason.{MisfitReason}
 use Rattle.nd_value.specs.Tree as tree
 use Rattle.nd_value.specs.Tree.{Tree, Trees, node, none, more, Label, Referent}
-use Rattle.nd_value.specs.Agreement.{Agreement}
+use Rattle.nd_value.specs.Agreement.{Agreement, root_agreements}
 use Rattle.nd_value.specs.Setting.{Setting, root_list, cell_home, Among}
 use Rattle.nd_value.specs.Nodes.{TypedNode, child_types, child_agreements, first_agreements, nodes_of, governed_nodes, home_nodes}
 use Rattle.nd_value.specs.Deferral.{Pending, pointer_by, pointer, home_pointers}
-use Rattle.nd_value.specs.Variables.{root_agreements}
-use Rattle.nd_value.specs.Homes.{HomeNode, in_home, root_nodes, cell_nodes, all_nodes, all_pointers, root_pointers, cell_pointers}
+use Rattle.nd_value.specs.Conforms.{HomeNode, in_home, root_nodes, cell_nodes, all_nodes, all_pointers, root_pointers, cell_pointers, Conforms, HasFewNodes, Reached, by_root, by_cell, subject}
+use Rattle.nd_value.specs.Conforms.{MisfitAt, first_local, first_shared, IsFirstUnreached, disagreement_of, first_disagreeing, IsFirstMisfit, is_local, is_unreached}
 use Rattle.nd_value.specs.Misfit.{misfit_of, has_shape, has_machine_values}
-use Rattle.nd_value.specs.Conforms.{Conforms, HasFewNodes, Reached, by_root, by_cell, subject}
-use Rattle.nd_value.specs.FirstMisfit.{MisfitAt, first_local, first_shared, IsFirstUnreached, disagreement_of, first_disagreeing, IsFirstMisfit, is_local, is_unreached}
 use Rattle.nd_value.specs.Fitting.{setting_of}
 use Rattle.nd_value.proofs.NodeFacts.{fit_node}
 use Rattle.nd_value.proofs.Misfits.{all_left, all_both, all_weaker, Without, first-none, none-local, passed_conforms}

@@ -8,9 +8,8 @@ use Rattle.nd_value.specs.declared.misfit.MisfitReason.TheVariants as misfit
 use Rattle.nd_value.specs.declared.value.Graph.{Graph}
 use Rattle.nd_value.specs.Setting.{Setting, cell_home}
 use Rattle.nd_value.specs.Deferral.{Pending}
-use Rattle.nd_value.specs.Conforms.{Conforms, Reached, by_root}
-use Rattle.nd_value.specs.Same.{Same}
-use Rattle.nd_value.specs.FirstMisfit.{IsFirstMisfit, is_local, is_disagreeing}
+use Rattle.nd_value.specs.Conforms.{Conforms, Reached, by_root, IsFirstMisfit, is_local, is_disagreeing}
+use Rattle.nd_value.specs.Canon.{Same}
 use Rattle.nd_value.proofs.Misfits.{passed_conforms}
 use Rattle.example_ndr.specs.Graphs.{sized, other_size, said, zero_within, sized_back, two_back, asked, sized_by_own, one_back, asked_by_pointer, ring_of_one, ring_of_two}
 

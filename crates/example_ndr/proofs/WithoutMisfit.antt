@@ -8,10 +8,9 @@ use Rattle.nd_value.specs.declared.value.Graph.{Graph}
 use Rattle.nd_value.specs.Tree.{Referent}
 use Rattle.nd_value.specs.Setting.{Setting, Among, root_list, cell_home, cell_of_number}
 use Rattle.nd_value.specs.Deferral.{Pending, home_pointers}
-use Rattle.nd_value.specs.Homes.{all_nodes, all_pointers, root_pointers}
+use Rattle.nd_value.specs.Conforms.{all_nodes, all_pointers, root_pointers, Conforms, HasFewNodes, Reached, by_root, by_cell, MisfitAt, first_local, first_shared, first_disagreeing, IsFirstUnreached}
+use Rattle.nd_value.specs.Conforms.{IsFirstMisfit, is_local, is_shared, is_unreached, is_disagreeing}
 use Rattle.nd_value.specs.Misfit.{has_machine_values}
-use Rattle.nd_value.specs.Conforms.{Conforms, HasFewNodes, Reached, by_root, by_cell}
-use Rattle.nd_value.specs.FirstMisfit.{MisfitAt, first_local, first_shared, first_disagreeing, IsFirstUnreached, IsFirstMisfit, is_local, is_shared, is_unreached, is_disagreeing}
 use Rattle.nd_value.proofs.Misfits.{passed_conforms}
 use Rattle.example_ndr.proofs.Levels.{level, gone, level_on, gone_from, last_level, in_last, IsLast}
 

@@ -15,14 +15,12 @@ use Rattle.nd_value.specs.declared.misfit.MisfitReason.TheVariants as misfit
 use Rattle.nd_value.specs.Tree as tree
 use Rattle.nd_value.specs.Tree.{node, none, more}
 use Rattle.nd_value.specs.Setting.{Setting, unread, cell_home}
-use Rattle.nd_value.specs.FirstMisfit.{IsFirstMisfit, is_local}
+use Rattle.nd_value.specs.Conforms.{IsFirstMisfit, is_local}
 use Rattle.nd_grammar.specs.declared.reason.Reason.TheVariants as reason
 use Rattle.nd_grammar.specs.Entry.{Entry, end_to_end}
-use Rattle.nd_grammar.specs.Stream.{representation}
+use Rattle.nd_grammar.specs.Stream.{representation, Represents, Chosen}
 use Rattle.nd_grammar.specs.Items.{items}
-use Rattle.nd_grammar.specs.Represents.{Represents}
-use Rattle.nd_grammar.specs.Bad.{Bad}
-use Rattle.nd_grammar.specs.Chosen.{Chosen}
+use Rattle.nd_grammar.specs.Refusal.{Bad}
 use Rattle.nd_grammar.specs.ExampleParts.{request, param, governed, field, attribute, id, num, pointer_to, two, struct_of, cell, four}
 use Rattle.example_ndr.specs.ExamplesArrays.{sized, sized_graph, sized_octets, nested, nested_graph, nested_octets}
 use Rattle.example_ndr.proofs.Check.{represents_so, bad_so, partial_so, chosen_so, steps_of}

@@ -20,17 +20,13 @@ use Rattle.nd_value.specs.Tree as tree
 use Rattle.nd_value.specs.Tree.{Tree, Trees, node, none, more, trees, count}
 use Rattle.nd_value.specs.Setting.{Setting, unread, cell_home}
 use Rattle.nd_value.specs.Nodes.{TypedNode, nodes_of}
-use Rattle.nd_value.specs.Homes.{HomeNode}
+use Rattle.nd_value.specs.Conforms.{HomeNode, IsPartial, AllEarlier, ShareOnlyIfFull}
 use Rattle.nd_value.specs.Deferral.{root_stands, Deferral, none_due, at_root, due_referent, pointer, Pending}
-use Rattle.nd_value.specs.Conforms.{IsPartial, AllEarlier, ShareOnlyIfFull}
 use Rattle.nd_value.specs.Misfit.{has_machine_values, is_partial_node}
 use Rattle.nd_grammar.specs.declared.reason.Reason.TheVariants as reason
-use Rattle.nd_grammar.specs.Entry.{Entry, EntryAt, Text, Test, end_to_end, full_cells, size_at}
-use Rattle.nd_grammar.specs.InPlace.{in_place, child_tests}
-use Rattle.nd_grammar.specs.Stream.{Stream, representation}
-use Rattle.nd_grammar.specs.Represents.{Represents, piece}
-use Rattle.nd_grammar.specs.Refusal.{refusal, refused_if, kind_refusal, is_long}
-use Rattle.nd_grammar.specs.Bad.{Bad}
+use Rattle.nd_grammar.specs.Entry.{Entry, EntryAt, Text, Test, end_to_end, full_cells, size_at, in_place, child_tests}
+use Rattle.nd_grammar.specs.Stream.{Stream, representation, Represents, piece}
+use Rattle.nd_grammar.specs.Refusal.{refusal, refused_if, kind_refusal, is_long, Bad}
 use Rattle.nd_grammar.specs.ExampleParts.{request, param, id, num, pointer_to, two, struct_of, cell, four}
 use Rattle.example_ndr.specs.ExamplesArrays.{sized, sized_octets}
 use Rattle.nd_grammar.proofs.PlainStreams.{no_tests_below}

@@ -11,7 +11,7 @@ use Rattle.nd_value.specs.declared.value.Graph.{Graph}
 use Rattle.nd_value.specs.Tree as tree
 use Rattle.nd_value.specs.Tree.{Tree, node, none}
 use Rattle.nd_value.specs.Setting.{Setting}
-use Rattle.nd_grammar.specs.Represents.{Represents}
+use Rattle.nd_grammar.specs.Stream.{Represents}
 use Rattle.nd_grammar.specs.ExampleParts.{request, param, field, empty_arm, id, num, pointer_to, one, two, struct_of, cell, four}
 use Rattle.example_ndr.proofs.Check.{represents_so}
 

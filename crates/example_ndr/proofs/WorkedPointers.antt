@@ -16,15 +16,11 @@ use Rattle.nd_value.specs.Tree as tree
 use Rattle.nd_value.specs.Tree.{node, none, more, Referent}
 use Rattle.nd_value.specs.Setting.{Setting, unread, cell_home, cell_of_number, Among}
 use Rattle.nd_value.specs.Deferral.{Pending, home_pointers}
-use Rattle.nd_value.specs.Homes.{all_pointers}
-use Rattle.nd_value.specs.Same.{renumbered}
-use Rattle.nd_value.specs.Canon.{IsCanon, canonical_number}
-use Rattle.nd_value.specs.Conforms.{Conforms, Reached, by_root, by_cell}
-use Rattle.nd_value.specs.FirstMisfit.{IsFirstMisfit, is_local, is_shared, is_unreached}
+use Rattle.nd_value.specs.Conforms.{all_pointers, Conforms, Reached, by_root, by_cell, IsFirstMisfit, is_local, is_shared, is_unreached}
+use Rattle.nd_value.specs.Canon.{renumbered, IsCanon, canonical_number}
 use Rattle.nd_grammar.specs.declared.reason.Reason.TheVariants as reason
-use Rattle.nd_grammar.specs.Represents.{Represents}
-use Rattle.nd_grammar.specs.Bad.{Bad}
-use Rattle.nd_grammar.specs.Chosen.{Chosen}
+use Rattle.nd_grammar.specs.Stream.{Represents, Chosen}
+use Rattle.nd_grammar.specs.Refusal.{Bad}
 use Rattle.example_ndr.specs.Examples.{ring, ring_node, ring_of_one, ring_of_two, ring_swapped, ring_and_stray}
 use Rattle.nd_grammar.specs.ExampleParts.{request, param, field, attribute, id, num, pointer_to, null, one, two, struct_of, cell, four}
 use Rattle.example_ndr.specs.ExamplesPointers.{pairs, shared_leaf, shared_leaf_octets, null_y, null_y_octets, null_pair, unique_longs, two_fives, shared_five, full_longs, long_and_short, one_five_one}

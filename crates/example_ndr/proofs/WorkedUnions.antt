@@ -12,11 +12,10 @@ use Rattle.nd_value.specs.declared.misfit.MisfitReason.TheVariants as misfit
 use Rattle.nd_value.specs.Tree as tree
 use Rattle.nd_value.specs.Tree.{Tree, node, none, more}
 use Rattle.nd_value.specs.Setting.{Setting, unread}
-use Rattle.nd_value.specs.FirstMisfit.{IsFirstMisfit, is_local, is_disagreeing}
+use Rattle.nd_value.specs.Conforms.{IsFirstMisfit, is_local, is_disagreeing}
 use Rattle.nd_grammar.specs.declared.reason.Reason.TheVariants as reason
-use Rattle.nd_grammar.specs.Represents.{Represents}
-use Rattle.nd_grammar.specs.Bad.{Bad}
-use Rattle.nd_grammar.specs.Chosen.{Chosen}
+use Rattle.nd_grammar.specs.Stream.{Represents, Chosen}
+use Rattle.nd_grammar.specs.Refusal.{Bad}
 use Rattle.nd_grammar.specs.ExampleParts.{request, param, governed, field, attribute, arm, empty_arm, id, num, null, one, two, three, struct_of, four}
 use Rattle.example_ndr.specs.ExamplesUnions.{choice, choice_of_hyper, default_chosen, choice_octets, pipe_of_longs, three_piped, chunks_of_two, first_chunk}
 use Rattle.example_ndr.proofs.Check.{represents_so, bad_so, partial_so, chosen_so}

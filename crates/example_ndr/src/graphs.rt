@@ -3,9 +3,8 @@ ghost use Rattle.std.specs.Prelude.{pos, Some, None};
 ghost use Rattle.nd_value.specs.declared.item.Home.TheVariants as home;
 ghost use Rattle.nd_value.specs.declared.misfit.MisfitReason.TheVariants as misfit;
 ghost use Rattle.nd_value.specs.Setting.{cell_home};
-ghost use Rattle.nd_value.specs.Conforms.{Conforms};
-ghost use Rattle.nd_value.specs.Same.{Same};
-ghost use Rattle.nd_value.specs.FirstMisfit.{IsFirstMisfit};
+ghost use Rattle.nd_value.specs.Conforms.{Conforms, IsFirstMisfit};
+ghost use Rattle.nd_value.specs.Canon.{Same};
 ghost use Rattle.example_ndr.specs.Graphs.{sized, other_size, said, zero_within, sized_back, two_back, asked, sized_by_own, one_back};
 ghost use Rattle.example_ndr.specs.Graphs.{asked_by_pointer, ring_of_one, ring_of_two};
 

@@ -3,10 +3,8 @@ ghost use Rattle.std.specs.Prelude.{◌≡◌, ◌<◌, ◌^◌, true, length};
 ghost use Rattle.std.specs.List.{list_all};
 ghost use Rattle.nd_value.specs.declared.value.Graph.{Graph};
 ghost use Rattle.nd_value.specs.Setting.{Setting};
-ghost use Rattle.nd_value.specs.Homes.{all_nodes};
+ghost use Rattle.nd_value.specs.Conforms.{all_nodes, Conforms, HasFewNodes, MisfitAt, IsFirstMisfit};
 ghost use Rattle.nd_value.specs.Misfit.{has_machine_values};
-ghost use Rattle.nd_value.specs.Conforms.{Conforms, HasFewNodes};
-ghost use Rattle.nd_value.specs.FirstMisfit.{MisfitAt, IsFirstMisfit};
 
 /// A graph of values of the program, with few cells and few nodes, conforms where it has no first misfit.
 pub fn conforms_without_misfit()

@@ -8,9 +8,8 @@ ghost use Rattle.nd_types.specs.Numbers.{has_number_roots};
 ghost use Rattle.nd_types.specs.Plain.{IsPlainInterface};
 ghost use Rattle.example_ndr.specs.Simple.{has_simple_cells};
 ghost use Rattle.nd_value.specs.declared.value.Graph.{Graph};
-ghost use Rattle.nd_value.specs.Conforms.{Conforms, HasFewNodes};
+ghost use Rattle.nd_value.specs.Conforms.{Conforms, HasFewNodes, MisfitAt, IsFirstMisfit};
 ghost use Rattle.nd_value.specs.Fitting.{setting_of};
-ghost use Rattle.nd_value.specs.FirstMisfit.{MisfitAt, IsFirstMisfit};
 
 /// A graph of a side whose roots are primitives, with few cells, each of a simple type, and few nodes, conforms where it has no first misfit.
 pub fn numbers_exact()

@@ -3,15 +3,13 @@ use Rattle.std.proofs.Common.{◌≡◌, ◌∙◌, ℕ, Option, Some, None, Res
 use Rattle.std.specs.Result.{IsErrAnd}
 use Rattle.nd_base.specs.declared.octets.Place.{Place}
 use Rattle.nd_types.specs.declared.interface.Interface.{Interface}
-use Rattle.acf_reader.specs.Tree.{Acf}
+use Rattle.acf_reader.specs.Grammar.{Acf}
 use Rattle.idl_rule_definitions.specs.declared.fault.RuleFault.{RuleFault}
 use Rattle.idl_rule_definitions.specs.declared.fault.RuleFault.TheVariants as fault
-use Rattle.idl_rule_definitions.specs.World.{World}
-use Rattle.idl_rule_definitions.specs.Rules.{Breach, breach}
-use Rattle.idl_rule_definitions.specs.FirstBroken.{first_of, first_broken}
+use Rattle.idl_rule_definitions.specs.Nodes.{World}
+use Rattle.idl_rule_definitions.specs.Rules.{Breach, breach, first_of, first_broken}
 use Rattle.idl_rule_definitions.specs.Answers.{Answers, IsMeaning}
-use Rattle.idl_check.specs.AcfRules.{acf_breaches, first_of_all, or_else}
-use Rattle.idl_check.specs.SeenAcf.{AnswersBeside, IsMeaningBeside}
+use Rattle.idl_check.specs.AcfRules.{acf_breaches, first_of_all, or_else, AnswersBeside, IsMeaningBeside}
 use Rattle.idl_check.proofs.AcfLast.{acf_behind, none_beside}
 
 -- a rule that is reported without the file is reported beside it

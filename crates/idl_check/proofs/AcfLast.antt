@@ -8,25 +8,22 @@ use Rattle.idl_grammar.specs.Tree.{Export, Tree}
 use Rattle.idl_grammar.specs.Tree as idl
 use Rattle.idl_scope.specs.Known.{Known}
 use Rattle.acf_reader.specs.declared.tree.Attribute.{Attribute}
-use Rattle.acf_reader.specs.Tree.{Parameter, BodyElement, Include, Types, Operation, Acf}
+use Rattle.acf_reader.specs.Grammar.{Parameter, BodyElement, Include, Types, Operation, Acf}
 use Rattle.idl_rule_definitions.specs.Nodes.{Construct, place_in, Node, HeaderNode, AttributeNode, SwitchNode, TagNode, BodyNode, EnumeratorNode, LabelNode, EmptyArmNode, DeclaratorNode, ConstantNode}
-use Rattle.idl_rule_definitions.specs.Nodes.{TypeNode, OperationNode}
+use Rattle.idl_rule_definitions.specs.Nodes.{TypeNode, OperationNode, World}
 use Rattle.idl_rule_definitions.specs.Types.{Names, switch_type, is_void, is_handle, is_pipe, is_context}
-use Rattle.idl_rule_definitions.specs.AttributeRules.{is_out_of_place, is_repeated, lacks_uuid_and_local, is_large_version, is_second_class}
-use Rattle.idl_rule_definitions.specs.DeclarationRules.{has_no_body, lacks_switch_type, is_wrongly_cased, has_class, has_string, lacks_direction}
-use Rattle.idl_rule_definitions.specs.ValueRules.{is_large_enumerator, has_lower_bounds, is_bad_label, is_wrong_constant, is_void_constant, is_handle_constant}
+use Rattle.idl_rule_definitions.specs.DeclarationRules.{is_out_of_place, is_repeated, lacks_uuid_and_local, is_large_version, is_second_class, has_no_body, lacks_switch_type, is_wrongly_cased}
+use Rattle.idl_rule_definitions.specs.DeclarationRules.{has_class, has_string, lacks_direction, is_large_enumerator, has_lower_bounds, is_bad_label, is_wrong_constant, is_void_constant}
+use Rattle.idl_rule_definitions.specs.DeclarationRules.{is_handle_constant, too_many}
 use Rattle.idl_rule_definitions.specs.TypeRules.{holds_void, holds_handle, holds_pipe, is_no_context_handle, holds_context_handle, in_tag, contains_itself, is_deep_body, holds_deep_array}
-use Rattle.idl_rule_definitions.specs.TypeRules.{is_wrong_result}
-use Rattle.idl_rule_definitions.specs.ArrayRules.{has_wrong_counts, has_wrong_dimensions, has_wrong_elements, hoists_before_last, is_hoisting_arm, holds_wrong_pipe}
-use Rattle.idl_rule_definitions.specs.PointerRules.{has_class_without_pointer, holds_pointer_without_class, holds_pointer_to_reference, is_nullable_out, is_wrong_out}
+use Rattle.idl_rule_definitions.specs.TypeRules.{is_wrong_result, has_wrong_counts, has_wrong_dimensions, has_wrong_elements, hoists_before_last, is_hoisting_arm, holds_wrong_pipe}
+use Rattle.idl_rule_definitions.specs.TypeRules.{has_class_without_pointer, holds_pointer_without_class, holds_pointer_to_reference, is_nullable_out, is_wrong_out}
 use Rattle.idl_rule_definitions.specs.VariableRules.{may_not_be_switched, holds_nonencapsulated_union, has_wrong_switch, is_wrong_text, is_wrongly_sized, is_wrongly_varying, has_no_variable}
 use Rattle.idl_rule_definitions.specs.VariableRules.{has_wrong_variable}
-use Rattle.idl_rule_definitions.specs.CountRules.{too_many}
-use Rattle.idl_rule_definitions.specs.World.{World}
 use Rattle.idl_rule_definitions.specs.Meaning.{main_among}
 use Rattle.idl_rule_definitions.specs.Scene.{Scene, Scoped, Use, Body, use_of, tag_type, scene_of}
-use Rattle.idl_rule_definitions.specs.Rules.{Breach, breach, broken_at, broken_in, breaches_at, breaches_of_use, breaches_of_body, breaches_in, breaches}
-use Rattle.idl_rule_definitions.specs.FirstBroken.{comes_before, rank, earlier, first_of, first_broken, IsLeast}
+use Rattle.idl_rule_definitions.specs.Rules.{Breach, breach, broken_at, broken_in, breaches_at, breaches_of_use, breaches_of_body, breaches_in, breaches, comes_before, rank, earlier, first_of}
+use Rattle.idl_rule_definitions.specs.Rules.{first_broken, IsLeast}
 use Rattle.idl_rule_definitions.proofs.Order as order
 use Rattle.idl_check.specs.AcfRules as acf
 use Rattle.idl_check.specs.AcfRules.{is_misplaced, is_of_type, is_of_operation, is_of_parameter, is_no_type, is_no_parameter, attribute_list, parameters_found, breaches_of_parameter}

@@ -4,8 +4,8 @@ use Rattle.std.specs.List.{flat_map}
 use Rattle.std.proofs.lemmas.List.{drop_more, drop_all}
 use Rattle.idl_grammar.specs.Tree as idl
 use Rattle.acf_reader.specs.declared.tree.Attribute.{Attribute}
-use Rattle.acf_reader.specs.Tree.{Parameter}
-use Rattle.idl_rule_definitions.specs.World.{World}
+use Rattle.acf_reader.specs.Grammar.{Parameter}
+use Rattle.idl_rule_definitions.specs.Nodes.{World}
 use Rattle.idl_rule_definitions.specs.Rules.{Breach}
 use Rattle.idl_rule_definitions.specs.Noted.{noted, if_broken}
 use Rattle.idl_check.specs.AcfRules.{acf_file, broken_at, breaches_of_operation}

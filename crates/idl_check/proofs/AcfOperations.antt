@@ -10,10 +10,9 @@ use Rattle.nd_base.specs.declared.octets.Memory.{Memory}
 use Rattle.idl_grammar.specs.declared.words.Spelling.{Spelling}
 use Rattle.idl_grammar.specs.Tree.{Export}
 use Rattle.idl_grammar.specs.Tree as idl
-use Rattle.idl_scope.specs.Tables.{found, put}
+use Rattle.idl_scope.specs.Known.{found, put}
 use Rattle.idl_scope.specs.Steps.{parameters_of}
-use Rattle.idl_check.specs.AcfRules.{parameters_if, parameters_found}
-use Rattle.idl_check.specs.SeenAcf.{parameters_in, operation_name, number_if, number_of, AreOperations}
+use Rattle.idl_check.specs.AcfRules.{parameters_if, parameters_found, parameters_in, operation_name, number_if, number_of, AreOperations}
 
 -- what is found once a name has got a value
 found_put : {X : Type 0} (es : List (List ℕ × X)) (name other : List ℕ) (x : X) → found other (put es name x) ≡ cond (bytes_eq other name) (Some x) (found other es)

@@ -2,11 +2,10 @@
 use Rattle.std.proofs.Common.{◌≡◌, ◌∙◌, refl, sym, ap, List, [], ◌∷◌, ◌++◌, Option, Some, None, append-nil}
 use Rattle.std.specs.List.{flat_map}
 use Rattle.idl_grammar.specs.Tree as idl
-use Rattle.acf_reader.specs.Tree.{Acf}
-use Rattle.idl_rule_definitions.specs.World.{World}
+use Rattle.acf_reader.specs.Grammar.{Acf}
+use Rattle.idl_rule_definitions.specs.Nodes.{World}
 use Rattle.idl_rule_definitions.specs.Meaning.{main_among}
-use Rattle.idl_rule_definitions.specs.Rules.{Breach}
-use Rattle.idl_rule_definitions.specs.FirstBroken.{first_of}
+use Rattle.idl_rule_definitions.specs.Rules.{Breach, first_of}
 use Rattle.idl_rule_definitions.specs.Noted.{noted}
 use Rattle.idl_check.specs.AcfRules.{broken_at, breaks_header, breaches_of_element, breaches_beside, acf_breaches}
 use Rattle.idl_rule_definitions.proofs.Noted.{noted_all}

@@ -1,28 +1,36 @@
--- The rule on attribute configuration files (C706, section 4.3): their interface, types, operations and parameters are names of the IDL, and their
--- attributes stand in their places. It is the fortieth. It is reported where the file, the element of its body or the parameter begins in which it is
--- broken.
--- `f` is an attribute configuration file, `e` an element of its body, `a` an attribute, `p` a parameter in it, `q` one in the IDL.
-use Rattle.std.specs.Prelude.{ℕ, Bool, true, false, not, ◌||◌, List, [], ◌∷◌, ◌++◌, Option, Some, None}
+-- The rule on attribute configuration files (C706, section 4.3), and the answer with such a file.
+use Rattle.std.specs.Prelude.{◌≡◌, ℕ, suc, Bool, true, false, not, ◌||◌, List, [], ◌∷◌, ◌++◌, Option, Some, None, Result, Ok, Err}
 use Rattle.std.specs.List.{list_any, flat_map}
 use Rattle.std.specs.Str.{bytes_eq}
+use Rattle.nd_types.specs.declared.interface.Interface.{Interface}
+use Rattle.nd_types.specs.Meant.{meant_by}
 use Rattle.idl_grammar.specs.declared.words.Spelling.{Spelling}
 use Rattle.idl_grammar.specs.Tree.{Export, Tree}
 use Rattle.idl_grammar.specs.Tree as idl
-use Rattle.idl_scope.specs.Known.{Known, meaning_in, is_type}
-use Rattle.idl_scope.specs.Steps.{parameters_of}
 use Rattle.acf_reader.specs.declared.tree.HandleType.{HandleType}
 use Rattle.acf_reader.specs.declared.tree.HandleType.TheVariants as handle
 use Rattle.acf_reader.specs.declared.tree.AttributeKind.{AttributeKind}
 use Rattle.acf_reader.specs.declared.tree.AttributeKind.TheVariants.{AutoHandle, ExplicitHandle, ImplicitHandle, Code, NoCode, InLine, OutOfLine}
 use Rattle.acf_reader.specs.declared.tree.AttributeKind.TheVariants.{EnableAllocate, Heap, CommStatus, FaultStatus}
 use Rattle.acf_reader.specs.declared.tree.Attribute.{Attribute}
-use Rattle.acf_reader.specs.Tree.{Attributes, Parameter, BodyElement, Include, Types, Operation, Acf}
-use Rattle.idl_rule_definitions.specs.World.{World}
-use Rattle.idl_rule_definitions.specs.Meaning.{main_among}
-use Rattle.idl_rule_definitions.specs.Rules.{Breach, breach, breaches}
-use Rattle.idl_rule_definitions.specs.FirstBroken.{first_of}
+use Rattle.acf_reader.specs.Grammar.{Attributes, Parameter, BodyElement, Include, Types, Operation, Acf}
+use Rattle.idl_scope.specs.Known.{Known, meaning_in, is_type, found}
+use Rattle.idl_scope.specs.Steps.{parameters_of}
+use Rattle.idl_rule_definitions.specs.declared.fault.RuleFault.{RuleFault}
+use Rattle.idl_rule_definitions.specs.declared.fault.RuleFault.TheVariants as fault
+use Rattle.idl_rule_definitions.specs.Nodes.{World}
+use Rattle.idl_rule_definitions.specs.Meaning.{main_among, meaning}
+use Rattle.idl_rule_definitions.specs.Rules.{Breach, breach, breaches, first_of}
+use Rattle.idl_check.specs.declared.acf_places.Spot.{Spot}
+use Rattle.idl_check.specs.declared.acf_places.Spot.TheVariants as spot
 
--- ## Places of attributes (C706, sections 4.3.1 to 4.3.8; which attribute stands where in this project is its own choice)
+-- ## The rule
+
+-- It is the fortieth: the interface, types, operations and parameters of such a file are names of the IDL, and its attributes are in their places.
+-- It is reported where the file, the element of its body or the parameter begins in which it is broken.
+-- `f` is an attribute configuration file, `e` an element of its body, `a` an attribute, `p` a parameter in it, `q` one in the IDL.
+
+-- ### Places of attributes (C706, sections 4.3.1 to 4.3.8; which attribute stands where in this project is its own choice)
 
 abbrev pub is_of_interface : AttributeKind → Bool
 is_of_interface AutoHandle = true
@@ -66,7 +74,7 @@ attribute_list (Some a) = a.list
 abbrev pub is_misplaced : (AttributeKind → Bool) → List Attribute → Bool
 is_misplaced belongs list = list_any (λ a. not (belongs a.kind)) list
 
--- ## Names of the IDL
+-- ### Names of the IDL
 
 abbrev pub is_no_type : Known → Spelling → Bool
 is_no_type known name = not (is_type (meaning_in known name.octets))
@@ -97,7 +105,7 @@ parameters_found name (e ∷ es) = elim (declared_parameters name e) [ Some ps �
 abbrev pub is_no_parameter : List idl.Parameter → Spelling → Bool
 is_no_parameter ps name = not (list_any (λ q. bytes_eq name.octets q.declarator.name.octets) ps)
 
--- ## Breaches
+-- ### Breaches
 
 -- the number by which an attribute configuration file is reported; no file of IDL has it
 abbrev pub acf_file : ℕ
@@ -136,7 +144,7 @@ unfoldable pub acf_breaches : World → Option Acf → List Breach
 acf_breaches w None = []
 acf_breaches w (Some f) = flat_map (breaches_beside w.known f) (main_among w.files)
 
--- ## All rules
+-- ### All rules
 
 -- all rules that are broken, each where it is
 abbrev pub all_breaches : World → Option Acf → List Breach
@@ -150,3 +158,47 @@ first_of_all w acf = first_of w (all_breaches w acf)
 abbrev pub or_else : Option Breach → Option Breach → Option Breach
 or_else None other = other
 or_else (Some b) other = Some b
+
+-- ## For the code: places in one function, operations by name, and the answer with an attribute configuration file
+
+-- whether an attribute may stand in a place
+abbrev pub belongs : Spot → AttributeKind → Bool
+belongs spot.Interface = is_of_interface
+belongs spot.Type = is_of_type
+belongs spot.Operation = is_of_operation
+belongs spot.Parameter = is_of_parameter
+
+-- the name of a declaration, where it is an operation
+abbrev pub operation_name : Export → Option Spelling
+operation_name (idl.Operation at a result n ps) = Some n
+operation_name _ = None
+
+-- the parameters of a declaration, where it is an operation
+abbrev pub parameters_in : Option Export → Option (List idl.Parameter)
+parameters_in (Some (idl.Operation at a result n ps)) = Some (parameters_of ps)
+parameters_in _ = None
+
+-- the number of a declaration that is an operation of this name, or else the number that is given
+abbrev pub number_if : List ℕ → ℕ → Option Spelling → Option ℕ → Option ℕ
+number_if name i None rest = rest
+number_if name i (Some n) rest = elim (bytes_eq name n.octets) [ true ↦ Some i | false ↦ rest ]
+
+-- the number of the first operation of a name among declarations, of which the first has the number `i`
+abbrev pub number_of : List ℕ → ℕ → List Export → Option ℕ
+number_of name i [] = None
+number_of name i (e ∷ es) = number_if name i (operation_name e) (number_of name (suc i) es)
+
+-- a table of the operations among declarations, of which the first has the number `i`
+pub record AreOperations (i : ℕ) (exports : List Export) (table : List (List ℕ × ℕ)) : Type 0 where
+  pub found : (name : List ℕ) → found name table ≡ number_of name i exports
+
+-- Files that keep all rules with an attribute configuration file, if there is one, and their interface.
+pub record IsMeaningBeside (w : World) (acf : Option Acf) (i : Interface) : Type 0 where
+  pub keeps : first_of_all w acf ≡ None
+  pub means : meaning w ≡ meant_by i ∷ []
+
+-- A rule is reported exactly where it is the first broken one, the fortieth after all others.
+abbrev pub AnswersBeside : World → Option Acf → Result Interface RuleFault → Type 0
+AnswersBeside w acf (Ok i) = IsMeaningBeside w acf i
+AnswersBeside w acf (Err fault.Memory) = Unit {0}
+AnswersBeside w acf (Err (fault.Broken rule place)) = first_of_all w acf ≡ Some (breach rule place)

@@ -1,2 +1,1 @@
 pub mod AcfRules
-pub mod SeenAcf

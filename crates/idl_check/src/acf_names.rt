@@ -6,8 +6,8 @@ ghost use Rattle.std.specs.List.{list_any};
 ghost use Rattle.idl_grammar.specs.Seen.{seen_parameter, seen_parameters, seen_export};
 ghost use Rattle.idl_scope.specs.Seen.{known_in};
 ghost use Rattle.idl_scope.specs.Steps.{parameters_of};
-ghost use Rattle.idl_check.specs.AcfRules.{is_no_type, handle_is_no_type, has_unknown_handle, is_no_parameter, parameters_found};
-ghost use Rattle.idl_check.specs.SeenAcf.{parameters_in, operation_name, AreOperations};
+ghost use Rattle.idl_check.specs.AcfRules.{is_no_type, handle_is_no_type, has_unknown_handle, is_no_parameter, parameters_found, parameters_in};
+ghost use Rattle.idl_check.specs.AcfRules.{operation_name, AreOperations};
 
 use acf_reader::{Attribute, AttributeKind, HandleType};
 use idl_grammar::{Export, Identifier, Parameter, Parameters};

@@ -1,8 +1,7 @@
 // Which attribute stands where in an attribute configuration file (C706, sections 4.3.1 to 4.3.8).
 ghost use Rattle.std.specs.Prelude.{◌≡◌, not, option_map};
 ghost use Rattle.acf_reader.specs.Seen.{seen_attributes};
-ghost use Rattle.idl_check.specs.AcfRules.{is_of_interface, is_of_type, is_of_operation, is_of_parameter, is_misplaced, attribute_list};
-ghost use Rattle.idl_check.specs.SeenAcf.{belongs};
+ghost use Rattle.idl_check.specs.AcfRules.{is_of_interface, is_of_type, is_of_operation, is_of_parameter, is_misplaced, attribute_list, belongs};
 
 use acf_reader::{Attribute, AttributeKind, Attributes};
 

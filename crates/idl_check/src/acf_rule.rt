@@ -7,15 +7,14 @@ ghost use Rattle.idl_grammar.specs.Tree as idl;
 ghost use Rattle.idl_grammar.specs.Seen as of_idl;
 ghost use Rattle.idl_scope.specs.Seen.{seen_files, known_in};
 ghost use Rattle.acf_reader.specs.Seen.{seen_parameter, seen_element, seen_acf};
-ghost use Rattle.idl_rule_definitions.specs.World.{World};
+ghost use Rattle.idl_rule_definitions.specs.Nodes.{World};
 ghost use Rattle.idl_rule_definitions.specs.Checked.{world_of};
-ghost use Rattle.idl_rule_definitions.specs.FirstBroken.{first_of};
+ghost use Rattle.idl_rule_definitions.specs.Rules.{first_of};
 ghost use Rattle.idl_rule_definitions.specs.Found.{seen_breach};
 ghost use Rattle.idl_rule_definitions.specs.Noted.{noted};
-ghost use Rattle.idl_check.specs.SeenAcf.{belongs};
+ghost use Rattle.idl_check.specs.AcfRules.{belongs, acf_file, broken_at, is_misplaced, breaches_of_parameter, breaches_of_operation};
+ghost use Rattle.idl_check.specs.AcfRules.{breaches_of_element, breaks_header, is_no_type, has_unknown_handle, acf_breaches};
 ghost use Rattle.idl_check.specs.declared.acf_places.Spot.TheVariants as spot;
-ghost use Rattle.idl_check.specs.AcfRules.{acf_file, broken_at, is_misplaced, breaches_of_parameter, breaches_of_operation, breaches_of_element};
-ghost use Rattle.idl_check.specs.AcfRules.{breaks_header, is_no_type, has_unknown_handle, acf_breaches};
 
 use crate::acf_names::{
     NamedOperations, any_is_no_type, any_unknown_handle, is_no_parameter, operations_of,

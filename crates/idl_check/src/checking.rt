@@ -2,7 +2,7 @@
 ghost use Rattle.std.specs.Prelude.{option_map};
 ghost use Rattle.acf_reader.specs.Seen.{seen_acf};
 ghost use Rattle.idl_rule_definitions.specs.Checked.{world_of};
-ghost use Rattle.idl_check.specs.SeenAcf.{AnswersBeside};
+ghost use Rattle.idl_check.specs.AcfRules.{AnswersBeside};
 
 use crate::acf_rule::acf_breach;
 use crate::interface::interface_of;

@@ -3,14 +3,12 @@
 ghost use Rattle.std.specs.Prelude.{◌≡◌, ℕ, Option, None, Ok, Err};
 ghost use Rattle.nd_base.specs.declared.octets.Place.{Place};
 ghost use Rattle.nd_types.specs.declared.interface.Interface.{Interface};
-ghost use Rattle.acf_reader.specs.Tree.{Acf};
-ghost use Rattle.idl_rule_definitions.specs.World.{World};
+ghost use Rattle.acf_reader.specs.Grammar.{Acf};
+ghost use Rattle.idl_rule_definitions.specs.Nodes.{World};
 ghost use Rattle.idl_rule_definitions.specs.declared.fault.RuleFault.TheVariants as fault;
 ghost use Rattle.nd_types.specs.Meant.{meant_by};
-ghost use Rattle.idl_rule_definitions.specs.FirstBroken.{first_of, first_broken, IsLeast};
-ghost use Rattle.idl_rule_definitions.specs.Rules.{breach};
-ghost use Rattle.idl_check.specs.AcfRules.{acf_breaches, all_breaches, first_of_all, or_else};
-ghost use Rattle.idl_check.specs.SeenAcf.{AnswersBeside};
+ghost use Rattle.idl_rule_definitions.specs.Rules.{first_of, first_broken, IsLeast, breach};
+ghost use Rattle.idl_check.specs.AcfRules.{acf_breaches, all_breaches, first_of_all, or_else, AnswersBeside};
 
 /// The rule on attribute configuration files is reported where no other is: all rules together have as their first one that of the others, and where
 /// these have none its own. No lesser one is broken, and none at an earlier place. Without such a file the others stand alone.

@@ -5,7 +5,7 @@ use Rattle.std.specs.Prelude.{slice_get}
 use Rattle.std.specs.List.{AllByRecursion}
 use Rattle.std.proofs.lemmas.Option.{same_Some}
 use Rattle.idl_compat.specs.declared.pairs.TypePair.{TypePair}
-use Rattle.idl_compat.specs.Alike.{OneByOne, IsPair}
+use Rattle.idl_compat.specs.Comparison.{OneByOne, IsPair}
 use Rattle.idl_compat.specs.Asking.{Includes, IsAskedBy, Asks}
 
 pub same_lists : {X : Type 0} (xs ys : List X) → length xs ≡ length ys → ((j : ℕ) → j < length xs → slice_get xs j ≡ slice_get ys j) → xs ≡ ys

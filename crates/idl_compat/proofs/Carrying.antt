@@ -16,10 +16,10 @@ use Rattle.nd_value.specs.declared.value.Graph.{Graph}
 use Rattle.nd_value.specs.Tree.{Referent}
 use Rattle.nd_value.specs.Fitting.{setting_of}
 use Rattle.nd_value.specs.Conforms.{Conforms}
-use Rattle.nd_grammar.specs.Represents.{Represents}
+use Rattle.nd_grammar.specs.Stream.{Represents}
 use Rattle.idl_compat.specs.declared.pairs.TypePair.{TypePair}
-use Rattle.idl_compat.specs.Alike.{OneByOne, IsPair, IsOneToOne, Alike, AlikeFound, AlikeOperations, AlikeTypes, alike_prims, alike_enums, alike_structs, alike_arrays, alike_texts, alike_unions}
-use Rattle.idl_compat.specs.Alike.{alike_pointers, alike_contexts, alike_pipes}
+use Rattle.idl_compat.specs.Comparison.{OneByOne, IsPair, IsOneToOne, Alike, AlikeFound, AlikeOperations, AlikeTypes, alike_prims, alike_enums, alike_structs, alike_arrays, alike_texts, alike_unions}
+use Rattle.idl_compat.specs.Comparison.{alike_pointers, alike_contexts, alike_pipes}
 use Rattle.idl_compat.specs.Carry.{partner, carried_cell, carry}
 use Rattle.idl_compat.proofs.Tied.{IsTied, turned, tied_turned, one_turned, operations_turned}
 use Rattle.idl_compat.proofs.Roots.{AlikeRoot, roots_alike}

@@ -22,9 +22,9 @@ use Rattle.nd_types.specs.Legal.{named_types, is_in_table, is_handle, result_pas
 use Rattle.nd_value.specs.Setting.{Among}
 use Rattle.idl_compat.specs.declared.pairs.TypePair.{TypePair}
 use Rattle.idl_compat.specs.declared.compared.Compared.TheVariants.{Yes}
-use Rattle.idl_compat.specs.Alike.{OneByOne, BothOrNone, IsPair, IsOneToOne, Alike, AlikeFound, AlikeFields, AlikeArms, AlikeDefaults, AlikeTypes, alike_prims, alike_enums, alike_structs}
-use Rattle.idl_compat.specs.Alike.{alike_arrays, alike_texts, alike_unions, alike_pointers, alike_contexts, alike_pipes, AlikeParams, AlikeOperations}
-use Rattle.idl_compat.specs.Comparison.{IsOneUuid, IsNewer, HasAll, IsAllAlike, IsCompared}
+use Rattle.idl_compat.specs.Comparison.{OneByOne, BothOrNone, IsPair, IsOneToOne, Alike, AlikeFound, AlikeFields, AlikeArms, AlikeDefaults, AlikeTypes, alike_prims, alike_enums, alike_structs}
+use Rattle.idl_compat.specs.Comparison.{alike_arrays, alike_texts, alike_unions, alike_pointers, alike_contexts, alike_pipes, AlikeParams, AlikeOperations, IsOneUuid, IsNewer, HasAll, IsAllAlike}
+use Rattle.idl_compat.specs.Comparison.{IsCompared}
 use Rattle.idl_compat.proofs.Carrying.{tied_by}
 use Rattle.idl_compat.proofs.Placed.{pair_left, pair_right, pair_split}
 

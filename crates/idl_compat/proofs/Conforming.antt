@@ -18,16 +18,15 @@ use Rattle.nd_value.specs.declared.item.Home.{Home}
 use Rattle.nd_value.specs.declared.item.Home.TheVariants as home
 use Rattle.nd_value.specs.Tree as tree
 use Rattle.nd_value.specs.Tree.{Tree, Trees, node, none, more, Label, Referent, is_pointer, cell_in}
-use Rattle.nd_value.specs.Agreement.{Agreement}
+use Rattle.nd_value.specs.Agreement.{Agreement, root_agreements}
 use Rattle.nd_value.specs.Setting.{Setting, root_list, cell_of_number, cell_at, cell_home, Among}
 use Rattle.nd_value.specs.Nodes.{TypedNode, governed_nodes, home_nodes}
-use Rattle.nd_value.specs.Variables.{root_agreements}
 use Rattle.nd_value.specs.Deferral.{Pending, pointer, pointer_by, home_pointers}
-use Rattle.nd_value.specs.Homes.{HomeNode, in_home, root_nodes, cell_nodes, all_nodes, root_pointers, cell_pointers, all_pointers}
+use Rattle.nd_value.specs.Conforms.{HomeNode, in_home, root_nodes, cell_nodes, all_nodes, root_pointers, cell_pointers, all_pointers, Conforms, ShareOnlyIfFull, AllEarlier, Reached, by_root, by_cell}
+use Rattle.nd_value.specs.Conforms.{subject_by, AgreesAt, IsAgreed, FewNodes, HasFewNodes}
 use Rattle.nd_value.specs.declared.misfit.MisfitReason.TheVariants as misfit
 use Rattle.nd_value.specs.Misfit.{misfit_of, has_machine_values, names_pointee, has_type, unless, has_shape, has_range, is_no_null_ref, names_cell, has_counts, is_within, has_no_zero, has_arm}
-use Rattle.nd_value.specs.Conforms.{Conforms, ShareOnlyIfFull, AllEarlier, Reached, by_root, by_cell, subject_by, AgreesAt, IsAgreed, FewNodes, HasFewNodes}
-use Rattle.idl_compat.specs.Alike.{OneByOne}
+use Rattle.idl_compat.specs.Comparison.{OneByOne}
 use Rattle.idl_compat.proofs.Tied.{IsTied, one_append}
 use Rattle.idl_compat.proofs.Nodes.{AlikeNode, alike_node, AlikePending, alike_pending, governed_alike, home_alike, pointers_alike}
 use Rattle.idl_compat.proofs.Roots.{AlikeRoot, alike_root}

@@ -7,7 +7,7 @@ use Rattle.nd_types.specs.declared.types.TypeDef.{TypeDef}
 use Rattle.nd_types.specs.Table.{Table, type_at}
 use Rattle.idl_compat.specs.declared.pairs.TypePair.{TypePair}
 use Rattle.idl_compat.specs.declared.placing.Pairing.{Pairing}
-use Rattle.idl_compat.specs.Alike.{IsPair, AlikeTypes, AllAlike}
+use Rattle.idl_compat.specs.Comparison.{IsPair, AlikeTypes, AllAlike}
 use Rattle.idl_compat.specs.Asking.{Includes, Asks}
 use Rattle.idl_compat.specs.Placing.{IsPaired, empties}
 use Rattle.idl_compat.specs.Matching.{IsPossible, HasMet, Meets, AreExpanded}

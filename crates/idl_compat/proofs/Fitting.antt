@@ -18,8 +18,8 @@ use Rattle.nd_value.specs.Tree as tree
 use Rattle.nd_value.specs.Tree.{Tree, Trees, node, none, more, Label, count, Referent}
 use Rattle.nd_value.specs.Setting.{cell_of_number, cell_at, cell_tree}
 use Rattle.nd_value.specs.Misfit.{arm_fits, has_shape, has_range, is_no_null_ref, names_cell, has_type, names_pointee, has_counts, is_within, has_no_zero, selects, has_arm, unless, misfit_by}
-use Rattle.idl_compat.specs.Alike.{OneByOne, BothOrNone, AlikeFields, AlikeArms, AlikeDefaults, AlikeTypes, alike_prims, alike_enums, alike_structs, alike_arrays, alike_texts, alike_unions}
-use Rattle.idl_compat.specs.Alike.{alike_pointers, alike_contexts, alike_pipes}
+use Rattle.idl_compat.specs.Comparison.{OneByOne, BothOrNone, AlikeFields, AlikeArms, AlikeDefaults, AlikeTypes, alike_prims, alike_enums, alike_structs, alike_arrays, alike_texts, alike_unions}
+use Rattle.idl_compat.specs.Comparison.{alike_pointers, alike_contexts, alike_pipes}
 use Rattle.idl_compat.proofs.Tied.{IsTied}
 use Rattle.idl_compat.proofs.Nodes.{selected_alike}
 use Rattle.idl_compat.proofs.Streams.{graph_of}

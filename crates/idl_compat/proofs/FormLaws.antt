@@ -8,8 +8,8 @@ use Rattle.nd_types.specs.declared.types.Primitive.{Primitive}
 use Rattle.nd_types.specs.declared.types.Field.{Field}
 use Rattle.nd_types.specs.declared.types.Arm.{Arm}
 use Rattle.idl_compat.specs.declared.pairs.TypePair.{TypePair}
-use Rattle.idl_compat.specs.Alike.{OneByOne, IsPair, AlikeFields, AlikeTypes, alike_prims, alike_enums, alike_structs, alike_arrays, alike_texts, alike_pointers, alike_contexts, alike_pipes}
-use Rattle.idl_compat.specs.Alike.{alike_unions, AlikeArms, AlikeDefaults}
+use Rattle.idl_compat.specs.Comparison.{OneByOne, IsPair, AlikeFields, AlikeTypes, alike_prims, alike_enums, alike_structs, alike_arrays, alike_texts, alike_pointers, alike_contexts, alike_pipes}
+use Rattle.idl_compat.specs.Comparison.{alike_unions, AlikeArms, AlikeDefaults}
 use Rattle.idl_compat.specs.Asking.{Asks}
 use Rattle.idl_compat.proofs.AskingLaws.{as_asked, none_asked, both_last}
 

@@ -16,8 +16,8 @@ use Rattle.nd_types.specs.Legal.{named_types}
 use Rattle.nd_value.specs.Setting.{Among}
 use Rattle.idl_compat.specs.declared.pairs.TypePair.{TypePair}
 use Rattle.idl_compat.specs.declared.placing.Pairing.{Pairing}
-use Rattle.idl_compat.specs.Alike.{OneByOne, BothOrNone, IsPair, IsOneToOne, Alike, AlikeFound, AlikeFields, AlikeArms, AlikeDefaults, AlikeTypes, alike_prims, alike_enums, alike_structs}
-use Rattle.idl_compat.specs.Alike.{alike_arrays, alike_texts, alike_unions, alike_pointers, alike_contexts, alike_pipes, AlikeParams, AlikeOperations}
+use Rattle.idl_compat.specs.Comparison.{OneByOne, BothOrNone, IsPair, IsOneToOne, Alike, AlikeFound, AlikeFields, AlikeArms, AlikeDefaults, AlikeTypes, alike_prims, alike_enums, alike_structs}
+use Rattle.idl_compat.specs.Comparison.{alike_arrays, alike_texts, alike_unions, alike_pointers, alike_contexts, alike_pipes, AlikeParams, AlikeOperations}
 use Rattle.idl_compat.specs.Asking.{Includes}
 use Rattle.idl_compat.specs.Placing.{IsPaired}
 use Rattle.idl_compat.specs.Needed.{IsNeeded, by_param, by_result, by_part}

@@ -7,7 +7,7 @@ use Rattle.idl_compat.specs.declared.pairs.TypePair.{TypePair}
 use Rattle.idl_compat.specs.declared.placing.Pairing.{Pairing}
 use Rattle.idl_compat.specs.declared.placing.Placing.{Placing}
 use Rattle.idl_compat.specs.declared.placing.Placing.TheVariants as placing
-use Rattle.idl_compat.specs.Alike.{IsPair, IsOneToOne}
+use Rattle.idl_compat.specs.Comparison.{IsPair, IsOneToOne}
 use Rattle.idl_compat.specs.Asking.{Includes, IsAskedBy, Asks}
 use Rattle.idl_compat.specs.Placing.{IsPaired, IsAdded, IsPlacing}
 use Rattle.idl_compat.specs.Matching.{IsPossible, HasMet, Meets}

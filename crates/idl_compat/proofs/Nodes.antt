@@ -16,8 +16,8 @@ use Rattle.nd_value.specs.Tree.{Tree, Trees, node, none, more, Label, count, nod
 use Rattle.nd_value.specs.Agreement.{Agreement, member_agreements}
 use Rattle.nd_value.specs.Nodes.{TypedNode, nodes_of, home_nodes, governed_nodes, child_types, child_agreements, selected_types, first_agreements, rest_agreements}
 use Rattle.nd_value.specs.Deferral.{Pending, pointer, pointer_by, home_pointers}
-use Rattle.idl_compat.specs.Alike.{OneByOne, BothOrNone, AlikeFields, AlikeArms, AlikeDefaults, AlikeTypes, alike_prims, alike_enums, alike_structs, alike_arrays, alike_texts, alike_unions}
-use Rattle.idl_compat.specs.Alike.{alike_pointers, alike_contexts, alike_pipes}
+use Rattle.idl_compat.specs.Comparison.{OneByOne, BothOrNone, AlikeFields, AlikeArms, AlikeDefaults, AlikeTypes, alike_prims, alike_enums, alike_structs, alike_arrays, alike_texts, alike_unions}
+use Rattle.idl_compat.specs.Comparison.{alike_pointers, alike_contexts, alike_pipes}
 use Rattle.idl_compat.proofs.Tied.{IsTied, one_append, lists_typed, fields_typed}
 
 -- a node under both tables

@@ -5,8 +5,7 @@ use Rattle.nd_types.specs.declared.interface.Interface.{Interface}
 use Rattle.idl_compat.specs.declared.pairs.TypePair.{TypePair}
 use Rattle.idl_compat.specs.declared.compared.Compared.{Compared}
 use Rattle.idl_compat.specs.declared.compared.Compared.TheVariants.{Yes, OtherUuid, OtherMajor, OlderMinor, Fewer, Differs}
-use Rattle.idl_compat.specs.Alike.{IsPair, Alike}
-use Rattle.idl_compat.specs.Comparison.{IsOneUuid, AreAlike, IsNewer, HasAll, IsOtherMajor, IsOlderMinor, IsFewer, IsFirst, IsFirstDifferent, IsAllAlike, IsCompared, IsOneAnswer}
+use Rattle.idl_compat.specs.Comparison.{IsPair, Alike, IsOneUuid, AreAlike, IsNewer, HasAll, IsOtherMajor, IsOlderMinor, IsFewer, IsFirst, IsFirstDifferent, IsAllAlike, IsCompared, IsOneAnswer}
 use Rattle.idl_compat.proofs.Growing.{alike_fewer}
 
 raised : (i k : ℕ) → (i < k) ⊎ ((i ≡ k) ⊎ (k < i)) → (suc i < suc k) ⊎ ((suc i ≡ suc k) ⊎ (suc k < suc i))

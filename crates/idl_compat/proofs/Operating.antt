@@ -8,11 +8,10 @@ use Rattle.nd_types.specs.declared.types.Operation.{Operation}
 use Rattle.nd_types.specs.Table.{type_at}
 use Rattle.idl_compat.specs.declared.pairs.TypePair.{TypePair}
 use Rattle.idl_compat.specs.declared.placing.Pairing.{Pairing}
-use Rattle.idl_compat.specs.Alike.{IsPair, IsOneToOne, Alike, AllAlike, AlikeFound}
+use Rattle.idl_compat.specs.Comparison.{IsPair, IsOneToOne, Alike, AllAlike, AlikeFound, HasAll, IsFirst, IsFirstDifferent, IsAllAlike, IsCompared, HasPartners}
 use Rattle.idl_compat.specs.Asking.{Includes}
 use Rattle.idl_compat.specs.declared.compared.Compared.{Compared}
 use Rattle.idl_compat.specs.declared.compared.Compared.TheVariants as compared
-use Rattle.idl_compat.specs.Comparison.{HasAll, IsFirst, IsFirstDifferent, IsAllAlike, IsCompared, HasPartners}
 use Rattle.idl_compat.specs.Streams.{IsStreamOf, CarriesStreams}
 use Rattle.idl_compat.specs.Placing.{IsPaired, IsEmptyPairing, empties}
 use Rattle.idl_compat.specs.Matching.{IsPossible, HasMet, Meets, AreExpanded, IsMatched, MatchesOne, MatchesAll}

@@ -6,7 +6,7 @@ use Rattle.std.proofs.lemmas.Option.{same_Some, none-some}
 use Rattle.std.proofs.lemmas.List.{get_or-set_same, get_or-set_other, length-append, length-set}
 use Rattle.idl_compat.specs.declared.pairs.TypePair.{TypePair}
 use Rattle.idl_compat.specs.declared.placing.Pairing.{Pairing}
-use Rattle.idl_compat.specs.Alike.{IsPair, IsOneToOne}
+use Rattle.idl_compat.specs.Comparison.{IsPair, IsOneToOne}
 use Rattle.idl_compat.specs.Asking.{Includes}
 use Rattle.idl_compat.specs.Placing.{empties, IsPaired, IsAdded}
 

@@ -18,8 +18,8 @@ use Rattle.nd_types.specs.Table.{Table, type_at}
 use Rattle.nd_types.specs.Roots.{Root, roots_of, travels, pipe_referent, pipe_by, pipe_of, root_by, root_of, params_from, result_root, root_index}
 use Rattle.nd_lemmas.proofs.Booleans.{first_true as left_true, second_true as right_true}
 use Rattle.nd_value.specs.Deferral.{root_type, before_pipes}
-use Rattle.idl_compat.specs.Alike.{OneByOne, BothOrNone, AlikeTypes, alike_prims, alike_enums, alike_structs, alike_arrays, alike_texts, alike_unions, alike_pointers, alike_contexts, alike_pipes}
-use Rattle.idl_compat.specs.Alike.{AlikeParams, AlikeOperations}
+use Rattle.idl_compat.specs.Comparison.{OneByOne, BothOrNone, AlikeTypes, alike_prims, alike_enums, alike_structs, alike_arrays, alike_texts, alike_unions, alike_pointers, alike_contexts, alike_pipes}
+use Rattle.idl_compat.specs.Comparison.{AlikeParams, AlikeOperations}
 use Rattle.idl_compat.proofs.Tied.{IsTied, one_append}
 
 -- a root under both tables

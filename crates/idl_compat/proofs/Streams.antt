@@ -16,17 +16,15 @@ use Rattle.nd_value.specs.declared.item.Home.{Home}
 use Rattle.nd_value.specs.declared.item.Home.TheVariants as home
 use Rattle.nd_value.specs.Tree as tree
 use Rattle.nd_value.specs.Tree.{Tree, Trees, node, none, more, Label, node_count, take_trees, drop_trees, Referent}
-use Rattle.nd_value.specs.Agreement.{Agreement, agreement, number_of}
+use Rattle.nd_value.specs.Agreement.{Agreement, agreement, number_of, starred, variable, root_agreements}
 use Rattle.nd_value.specs.Setting.{Setting, root_list, root_at, cell_at, cell_home}
-use Rattle.nd_value.specs.Variables.{starred, variable, root_agreements}
 use Rattle.nd_value.specs.Deferral.{Pending, home_pointers, Due, due_root, due_referent, due_roots, due_of, before_pipes, Step, root_stands, referent_stands, stands_already, Deferral, none_due}
 use Rattle.nd_value.specs.Deferral.{at_root, at_null, at_standing, at_referent, Standing, standing_root, standing_by, standing_cell, direct, root_type, root_cell, Placed_cells, AreFree}
 use Rattle.nd_value.proofs.FewRoots.{few_before_pipes}
-use Rattle.nd_grammar.specs.Entry.{Entry, Align, Chunk, Unread, end_to_end, end_of, full_cells}
-use Rattle.nd_grammar.specs.InPlace.{entries, tests, in_place, whole_value}
+use Rattle.nd_grammar.specs.Entry.{Entry, Align, Chunk, Unread, end_to_end, end_of, full_cells, entries, tests, in_place, whole_value}
 use Rattle.nd_grammar.specs.Stream.{Stream, standing_entries, step_tests, step_entries, root_test, root_tests, chunk_entries, chunks, pipe_entries, pipes_entries, AllCut, head_entries, representation}
-use Rattle.nd_grammar.specs.Represents.{Represents, IsRendered, IsNumbering}
-use Rattle.idl_compat.specs.Alike.{OneByOne, AlikeTypes, alike_prims, alike_enums, alike_structs, alike_arrays, alike_texts, alike_unions, alike_pointers, alike_contexts, alike_pipes}
+use Rattle.nd_grammar.specs.Stream.{Represents, IsRendered, IsNumbering}
+use Rattle.idl_compat.specs.Comparison.{OneByOne, AlikeTypes, alike_prims, alike_enums, alike_structs, alike_arrays, alike_texts, alike_unions, alike_pointers, alike_contexts, alike_pipes}
 use Rattle.idl_compat.proofs.Tied.{IsTied, one_append, one_map}
 use Rattle.idl_compat.proofs.Nodes.{AlikePending, alike_pending, pointers_alike}
 use Rattle.idl_compat.proofs.Roots.{AlikeRoot, alike_root, index_alike, before_alike, root_typed, drop_alike}

@@ -10,8 +10,8 @@ use Rattle.nd_types.specs.declared.types.Operation.{Operation}
 use Rattle.nd_types.specs.declared.TheConstants.{HANDLE, NESTING_LIMIT}
 use Rattle.nd_types.specs.Table.{Table, type_at, width, carrier}
 use Rattle.nd_types.specs.Layout.{largest, arm_type, arm_types, default_type, type_list, at_least_4, tag_width, align_by, align_within, align_of, last_hoists, hoists_by, hoists_within, hoists}
-use Rattle.idl_compat.specs.Alike.{OneByOne, BothOrNone, AlikeFields, AlikeArms, AlikeDefaults, AlikeTypes, alike_prims, alike_enums, alike_structs, alike_arrays, alike_texts, alike_unions}
-use Rattle.idl_compat.specs.Alike.{alike_pointers, alike_contexts, alike_pipes, AlikeParams, AlikeOperations}
+use Rattle.idl_compat.specs.Comparison.{OneByOne, BothOrNone, AlikeFields, AlikeArms, AlikeDefaults, AlikeTypes, alike_prims, alike_enums, alike_structs, alike_arrays, alike_texts, alike_unions}
+use Rattle.idl_compat.specs.Comparison.{alike_pointers, alike_contexts, alike_pipes, AlikeParams, AlikeOperations}
 
 -- related types are alike, none has two partners, and none is HANDLE
 pub record IsTied (R : ℕ → ℕ → Type 0) (old new : Table) : Type 0 where

@@ -6,9 +6,8 @@ use Rattle.nd_types.specs.declared.interface.Interface.{Interface}
 use Rattle.nd_types.specs.Table.{Table, type_at}
 use Rattle.idl_compat.specs.declared.pairs.TypePair.{TypePair}
 use Rattle.idl_compat.specs.declared.placing.Pairing.{Pairing}
-use Rattle.idl_compat.specs.Alike.{Alike, AlikeTypes, AllAlike, AlikeFound, IsPair, IsOneToOne}
+use Rattle.idl_compat.specs.Comparison.{Alike, AlikeTypes, AllAlike, AlikeFound, IsPair, IsOneToOne, IsFirst}
 use Rattle.idl_compat.specs.Asking.{Includes}
-use Rattle.idl_compat.specs.Comparison.{IsFirst}
 use Rattle.idl_compat.specs.Placing.{IsPaired}
 
 -- a one-to-one list of pairs of types that are there

@@ -1,12 +1,12 @@
 -- Pairs of types that are placed one after the other, with the partners of each type by number.
 -- `s` is what is placed before a call and `s'` after it, `t` is an old type's number, `u` a new one's, `m` a list of pairs.
-use Rattle.std.specs.Prelude.{◌≡◌, ◌⊎◌, ℕ, ◌+◌, ◌<◌, List, [], ◌∷◌, ◌++◌, Option, Some, None, suc, length, get_or, replicate}
+use Rattle.std.specs.Prelude.{◌≡◌, ◌⊎◌, ℕ, ◌+◌, ◌<◌, List, [], ◌∷◌, ◌++◌, Option, Some, None, suc, length, slice_index_or, replicate}
 use Rattle.nd_types.specs.declared.interface.Interface.{Interface}
 use Rattle.idl_compat.specs.declared.pairs.TypePair.{TypePair}
 use Rattle.idl_compat.specs.declared.placing.Pairing.{Pairing}
 use Rattle.idl_compat.specs.declared.placing.Placing.{Placing}
 use Rattle.idl_compat.specs.declared.placing.Placing.TheVariants as placing
-use Rattle.idl_compat.specs.Alike.{IsPair, IsOneToOne}
+use Rattle.idl_compat.specs.Comparison.{IsPair, IsOneToOne}
 use Rattle.idl_compat.specs.Asking.{Includes}
 
 -- how many types have no partner
@@ -23,10 +23,10 @@ pub record IsEmptyPairing (old new : Interface) (s : Pairing) : Type 0 where
 
 -- the partners of the old types and of the new ones, by number, are those of the pairs
 pub record IsPaired (s : Pairing) : Type 0 where
-  pub to_new : (t u : ℕ) → IsPair s.pairs t u → get_or s.forward t None ≡ Some u
-  pub to_old : (t u : ℕ) → IsPair s.pairs t u → get_or s.backward u None ≡ Some t
-  pub of_new : (t u : ℕ) → get_or s.forward t None ≡ Some u → IsPair s.pairs t u
-  pub of_old : (t u : ℕ) → get_or s.backward u None ≡ Some t → IsPair s.pairs t u
+  pub to_new : (t u : ℕ) → IsPair s.pairs t u → slice_index_or s.forward t None ≡ Some u
+  pub to_old : (t u : ℕ) → IsPair s.pairs t u → slice_index_or s.backward u None ≡ Some t
+  pub of_new : (t u : ℕ) → slice_index_or s.forward t None ≡ Some u → IsPair s.pairs t u
+  pub of_old : (t u : ℕ) → slice_index_or s.backward u None ≡ Some t → IsPair s.pairs t u
   pub basic : (t u : ℕ) → IsPair s.pairs t u → (t < 12) ⊎ (u < 12) → t ≡ u
   -- so there are at most as many pairs as old types
   pub room : length s.pairs + empties s.forward ≡ length s.forward

@@ -10,7 +10,7 @@ use Rattle.nd_value.specs.declared.value.Graph.{Graph}
 use Rattle.nd_value.specs.Setting.{Setting}
 use Rattle.nd_value.specs.Fitting.{setting_of}
 use Rattle.nd_value.specs.Conforms.{Conforms}
-use Rattle.nd_grammar.specs.Represents.{Represents}
+use Rattle.nd_grammar.specs.Stream.{Represents}
 use Rattle.idl_compat.specs.declared.pairs.TypePair.{TypePair}
 use Rattle.idl_compat.specs.declared.compared.Compared.{Compared}
 use Rattle.idl_compat.specs.declared.compared.Compared.TheVariants as compared

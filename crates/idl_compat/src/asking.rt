@@ -1,7 +1,7 @@
 // Which pairs of types two types or operations ask for, if they are to be alike.
 ghost use Rattle.std.specs.Prelude.{◌≡◌, ℕ, List, Some, true, false, IfOk, slice_get};
 ghost use Rattle.idl_compat.specs.declared.pairs.TypePair.{TypePair};
-ghost use Rattle.idl_compat.specs.Alike.{OneByOne, AlikeFields, IsPair};
+ghost use Rattle.idl_compat.specs.Comparison.{OneByOne, AlikeFields, IsPair};
 ghost use Rattle.idl_compat.specs.Asking.{Asks};
 
 use crate::{TypePair, TypePairs};

@@ -4,7 +4,7 @@ ghost use Rattle.nd_types.specs.declared.types.TypeDef.TheVariants.{Prim as TheP
 ghost use Rattle.nd_types.specs.declared.types.TypeDef.TheVariants.{Text as TheText, Union as TheUnion, Pointer as ThePointer, Context as TheContext};
 ghost use Rattle.nd_types.specs.declared.types.TypeDef.TheVariants.{Pipe as ThePipe};
 ghost use Rattle.idl_compat.specs.declared.pairs.TypePair.{TypePair};
-ghost use Rattle.idl_compat.specs.Alike.{AlikeTypes, BothOrNone, AlikeArms, AlikeDefaults, OneByOne, IsPair};
+ghost use Rattle.idl_compat.specs.Comparison.{AlikeTypes, BothOrNone, AlikeArms, AlikeDefaults, OneByOne, IsPair};
 ghost use Rattle.idl_compat.specs.Asking.{Asks};
 
 use crate::TypePairs;

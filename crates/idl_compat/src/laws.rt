@@ -7,14 +7,12 @@ ghost use Rattle.nd_types.specs.declared.types.Side.{Side};
 ghost use Rattle.nd_value.specs.declared.value.Graph.{Graph};
 ghost use Rattle.nd_value.specs.Fitting.{setting_of};
 ghost use Rattle.nd_value.specs.Conforms.{Conforms};
-ghost use Rattle.nd_grammar.specs.Represents.{Represents};
+ghost use Rattle.nd_grammar.specs.Stream.{Represents};
 ghost use Rattle.idl_compat.specs.declared.pairs.TypePair.{TypePair};
-ghost use Rattle.idl_compat.specs.Alike.{Alike};
-ghost use Rattle.idl_compat.specs.Alike.{IsPair};
+ghost use Rattle.idl_compat.specs.Comparison.{Alike, IsPair, IsCompared, IsOneAnswer};
 ghost use Rattle.idl_compat.specs.Carry.{carry};
 ghost use Rattle.idl_compat.specs.declared.compared.Compared.{Compared};
 ghost use Rattle.idl_compat.specs.declared.compared.Compared.TheVariants.{Yes};
-ghost use Rattle.idl_compat.specs.Comparison.{IsCompared, IsOneAnswer};
 ghost use Rattle.idl_compat.specs.Needed.{IsNeeded};
 
 /// Of two interfaces whose first operations are alike, octets represent a graph that conforms to a side of such an operation of the

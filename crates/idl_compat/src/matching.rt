@@ -1,7 +1,7 @@
 // The types and operations of two interfaces, matched with one another.
 ghost use Rattle.std.specs.Prelude.{◌≡◌, ◌≤◌, ℕ, List, Some, None, true, false, length, slice_get, IfOk};
 ghost use Rattle.nd_types.specs.Table.{type_at};
-ghost use Rattle.idl_compat.specs.Alike.{AlikeTypes, AllAlike, AlikeFound, IsPair};
+ghost use Rattle.idl_compat.specs.Comparison.{AlikeTypes, AllAlike, AlikeFound, IsPair};
 ghost use Rattle.idl_compat.specs.Placing.{IsPaired};
 ghost use Rattle.idl_compat.specs.Matching.{Meets, AreExpanded, IsMatched, MatchesOne, MatchesAll};
 

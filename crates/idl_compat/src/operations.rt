@@ -1,6 +1,6 @@
 // The pairs that two operations ask for.
 ghost use Rattle.std.specs.Prelude.{◌≡◌, ℕ, List, Some, true, false, IfOk};
-ghost use Rattle.idl_compat.specs.Alike.{OneByOne, AlikeParams, AlikeOperations, IsPair};
+ghost use Rattle.idl_compat.specs.Comparison.{OneByOne, AlikeParams, AlikeOperations, IsPair};
 ghost use Rattle.idl_compat.specs.Asking.{Asks};
 
 use crate::TypePairs;

@@ -1,5 +1,5 @@
 // The partners of the types of one table, by the types' numbers.
-ghost use Rattle.std.specs.Prelude.{◌≡◌, Some, None, length, get_or, slice_set, replicate, IfOk};
+ghost use Rattle.std.specs.Prelude.{◌≡◌, Some, None, length, slice_index_or, slice_set, replicate, IfOk};
 
 use nd_base::Memory;
 use nd_types::TypeId;
@@ -39,7 +39,7 @@ impl Partners {
 
     // The partner of a type, where it has one.
     pub(crate) fn of(&self, of: TypeId) -> Option<u32>
-        ensures { result ≡ get_or self.now of.0 None }
+        ensures { result ≡ slice_index_or self.now of.0 None }
     {
         match self.items.get(of.0 as usize) {
             Some(partner) => *partner,

@@ -1,5 +1,5 @@
 // Pairs of types, placed one after the other.
-ghost use Rattle.std.specs.Prelude.{◌≡◌, ◌⊎◌, ◌<◌, ℕ, List, Option, Some, None, true, false, length, get_or, IfOk};
+ghost use Rattle.std.specs.Prelude.{◌≡◌, ◌⊎◌, ◌<◌, ℕ, List, Option, Some, None, true, false, length, slice_index_or, IfOk};
 ghost use Rattle.idl_compat.specs.Placing.{IsPaired, IsPlacing, IsEmptyPairing};
 ghost use Rattle.idl_compat.specs.Matching.{Meets};
 ghost use Rattle.idl_compat.specs.Asking.{Includes};
@@ -54,7 +54,7 @@ impl Pairing {
 
     // A pair of two types of which the old one has no partner yet.
     fn place_first(&mut self, pair: TypePair) -> Result<Placing, Memory>
-        ensures { IsPaired self.old → get_or self.old.forward pair.old.0 None ≡ None
+        ensures { IsPaired self.old → slice_index_or self.old.forward pair.old.0 None ≡ None
             → IfOk result (IsPlacing self.old self.new pair.old.0 pair.new.0) }
     {
         if pair.old.0 as usize >= self.forward.len() || pair.new.0 as usize >= self.backward.len() {

@@ -5,11 +5,11 @@ use Rattle.nd_types.specs.declared.types.TypeId.{TypeId}
 use Rattle.nd_types.specs.declared.types.TypeDef.{TypeDef}
 use Rattle.nd_types.specs.declared.types.Field.{Field}
 use Rattle.nd_types.specs.declared.types.Arm.{Arm}
-use Rattle.idl_compat.specs.Alike.{OneByOne, BothOrNone, AlikeFields, AlikeArms, AlikeDefaults, AlikeTypes, alike_prims, alike_enums, alike_structs, alike_arrays, alike_texts, alike_unions}
-use Rattle.idl_compat.specs.Alike.{alike_pointers, alike_contexts, alike_pipes}
+use Rattle.idl_compat.specs.Comparison.{OneByOne, BothOrNone, AlikeFields, AlikeArms, AlikeDefaults, AlikeTypes, alike_prims, alike_enums, alike_structs, alike_arrays, alike_texts, alike_unions}
+use Rattle.idl_compat.specs.Comparison.{alike_pointers, alike_contexts, alike_pipes}
 use Rattle.idl_compat_place.specs.declared.steps.Step.{Step}
 use Rattle.idl_compat_place.specs.declared.steps.Step.TheVariants as step
-use Rattle.idl_compat_place.specs.Places.{child, member_type, arm_type}
+use Rattle.idl_compat_place.specs.Differences.{child, member_type, arm_type}
 
 module _ (R S : ℕ → ℕ → Type 0) where
   members_by : (fs gs : List Field) → OneByOne (AlikeFields R) fs gs

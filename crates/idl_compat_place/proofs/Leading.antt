@@ -12,8 +12,7 @@ use Rattle.idl_compat_place.specs.declared.origins.Origin.{Origin}
 use Rattle.idl_compat_place.specs.declared.origins.Origin.TheVariants as origin
 use Rattle.idl_compat_place.specs.declared.places.Place.{Place}
 use Rattle.idl_compat_place.specs.declared.trail.Trail.{Trail}
-use Rattle.idl_compat_place.specs.Parts.{part_at}
-use Rattle.idl_compat_place.specs.Places.{led, stepped, child_of}
+use Rattle.idl_compat_place.specs.Differences.{part_at, led, stepped, child_of}
 use Rattle.idl_compat_place.specs.Trails.{IsOfPart, IsStepFrom, IsOrigin, IsTrail, IsPlaced}
 
 -- From the pair of an origin the steps lead to the pair from which they began, and so they do after any others that lead to it.

@@ -10,7 +10,7 @@ use Rattle.nd_types.specs.declared.types.Param.{Param}
 use Rattle.nd_types.specs.declared.types.Operation.{Operation}
 use Rattle.nd_types.specs.declared.TheConstants.{HANDLE}
 use Rattle.idl_compat.specs.declared.pairs.TypePair.{TypePair}
-use Rattle.idl_compat.specs.Alike.{OneByOne, BothOrNone, Alike, AllAlike, AlikeFound, AlikeOperations, AlikeParams, AlikeTypes, IsPair}
+use Rattle.idl_compat.specs.Comparison.{OneByOne, BothOrNone, Alike, AllAlike, AlikeFound, AlikeOperations, AlikeParams, AlikeTypes, IsPair}
 use Rattle.idl_compat.specs.Asking.{Asks}
 use Rattle.idl_compat.proofs.Expanding.{or_last}
 use Rattle.idl_compat.proofs.Matched.{itself}
@@ -26,8 +26,7 @@ use Rattle.idl_compat_place.specs.declared.trail.End.{End}
 use Rattle.idl_compat_place.specs.declared.places.Place.{Place}
 use Rattle.idl_compat_place.specs.declared.places.Difference.{Difference}
 use Rattle.idl_compat_place.specs.declared.places.Difference.TheVariants as difference
-use Rattle.idl_compat_place.specs.Parts.{part_type, AlikeOrResults, AlikeParts, AlikePartsAt, AreHandles, AreAlikeUpTo, AreAsMany}
-use Rattle.idl_compat_place.specs.Differences.{IsUpTo, IsFirstDifference, IsFound, AreClashing, part_of}
+use Rattle.idl_compat_place.specs.Differences.{part_type, AlikeOrResults, AlikeParts, AlikePartsAt, AreHandles, AreAlikeUpTo, AreAsMany, IsUpTo, IsFirstDifference, IsFound, AreClashing, part_of}
 use Rattle.idl_compat_place.specs.Trails.{IsOrigin, IsRefuted, IsEnd, IsPlaced, WalksFrom, AreWanted, IsWalkedTo, IsFoundAt}
 use Rattle.idl_compat_place.specs.Trails.{IsFinding, IsDifferenceAt, AreOtherParams, AreOtherForms, WalksPart, WalksParams, WalksOperation, WalksAll}
 use Rattle.idl_compat_place.proofs.Trailing.{trail_next}

@@ -5,7 +5,7 @@ use Rattle.nd_types.specs.declared.types.TypeId.{TypeId}
 use Rattle.nd_types.specs.Table.{Table}
 use Rattle.idl_listing.proofs.ListedLines.{left_is}
 use Rattle.idl_compat_place.specs.declared.steps.Step.{Step}
-use Rattle.idl_compat_place.specs.Places.{led, stepped, child_of}
+use Rattle.idl_compat_place.specs.Differences.{led, stepped, child_of}
 use Rattle.idl_compat_place.specs.Lines.{found, step_text, path_text}
 
 stepped_by : (types : Table) (t : Option TypeId) (n : Step) → child_of (found types t) n ≡ stepped types t n

@@ -8,7 +8,7 @@ use Rattle.nd_types.specs.declared.interface.Interface.{Interface}
 use Rattle.idl_compat.specs.declared.pairs.TypePair.{TypePair}
 use Rattle.idl_compat.specs.declared.placing.Pairing.{Pairing}
 use Rattle.idl_compat.specs.declared.placing.Placing.TheVariants as placing
-use Rattle.idl_compat.specs.Alike.{IsPair, IsOneToOne}
+use Rattle.idl_compat.specs.Comparison.{IsPair, IsOneToOne}
 use Rattle.idl_compat.specs.Asking.{Includes}
 use Rattle.idl_compat.specs.Placing.{IsPlacing, IsEmptyPairing}
 use Rattle.idl_compat.specs.Matching.{IsMatched}

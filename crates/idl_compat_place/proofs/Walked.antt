@@ -8,7 +8,7 @@ use Rattle.nd_types.specs.declared.types.TypeId.{TypeId}
 use Rattle.nd_types.specs.declared.types.TypeDef.{TypeDef}
 use Rattle.nd_types.specs.Table.{type_at}
 use Rattle.idl_compat.specs.declared.pairs.TypePair.{TypePair}
-use Rattle.idl_compat.specs.Alike.{AlikeTypes, AllAlike, IsPair}
+use Rattle.idl_compat.specs.Comparison.{AlikeTypes, AllAlike, IsPair}
 use Rattle.idl_compat.specs.Placing.{empties}
 use Rattle.idl_compat.specs.Matching.{AreExpanded}
 use Rattle.idl_compat.proofs.Expanding.{at_front, or_last, expanded_more, all_expanded, all_by}
@@ -19,8 +19,7 @@ use Rattle.idl_compat_place.specs.declared.origins.Origin.{Origin}
 use Rattle.idl_compat_place.specs.declared.origins.Origin.TheVariants as origin
 use Rattle.idl_compat_place.specs.declared.trail.Trail.{Trail}
 use Rattle.idl_compat_place.specs.declared.trail.End.{End}
-use Rattle.idl_compat_place.specs.Places.{child, child_of, nth_child}
-use Rattle.idl_compat_place.specs.Differences.{AreUnlike}
+use Rattle.idl_compat_place.specs.Differences.{child, child_of, nth_child, AreUnlike}
 use Rattle.idl_compat_place.specs.Trails.{IsOrigin, IsTrail, IsEnd, HasWalked, Walks, IsChildPaired, ArePartsPaired, AreChildrenPaired, AreOtherForms}
 use Rattle.idl_compat_place.proofs.Forms.{alike_by}
 use Rattle.idl_compat_place.proofs.Leading.{origin_there}

@@ -17,15 +17,14 @@ use Rattle.nd_types.specs.declared.types.Way.{Way}
 use Rattle.nd_types.specs.declared.types.Way.TheVariants as way
 use Rattle.nd_types.specs.declared.types.Operation.{Operation}
 use Rattle.nd_types.specs.Table.{Table, type_at}
-use Rattle.idl_listing.specs.Lines.{class_word}
+use Rattle.idl_listing.specs.Listing.{class_word}
 use Rattle.idl_compat.specs.declared.pairs.TypePair.{TypePair}
 use Rattle.idl_compat_place.specs.declared.steps.Step.{Step}
 use Rattle.idl_compat_place.specs.declared.steps.Step.TheVariants as step
 use Rattle.idl_compat_place.specs.declared.places.Place.{Place}
 use Rattle.idl_compat_place.specs.declared.places.Difference.{Difference}
 use Rattle.idl_compat_place.specs.declared.places.Difference.TheVariants.{Counts, Parts, Types, Clash}
-use Rattle.idl_compat_place.specs.Parts.{part_at}
-use Rattle.idl_compat_place.specs.Places.{led}
+use Rattle.idl_compat_place.specs.Differences.{part_at, led}
 
 -- ## Types
 

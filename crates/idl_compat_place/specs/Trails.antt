@@ -9,7 +9,7 @@ use Rattle.nd_types.specs.declared.types.Param.{Param}
 use Rattle.nd_types.specs.declared.types.Operation.{Operation}
 use Rattle.nd_types.specs.Table.{type_at}
 use Rattle.idl_compat.specs.declared.pairs.TypePair.{TypePair}
-use Rattle.idl_compat.specs.Alike.{AlikeTypes, AlikeParams, Alike, AllAlike, IsPair}
+use Rattle.idl_compat.specs.Comparison.{AlikeTypes, AlikeParams, Alike, AllAlike, IsPair}
 use Rattle.idl_compat.specs.Placing.{IsPaired}
 use Rattle.idl_compat_place.specs.declared.places.Place.{Place}
 use Rattle.idl_compat_place.specs.declared.places.Difference.{Difference}
@@ -24,9 +24,8 @@ use Rattle.idl_compat_place.specs.declared.trail.Found.TheVariants as found
 use Rattle.idl_compat_place.specs.declared.trail.Finding.{Finding}
 use Rattle.idl_compat_place.specs.declared.wanted.Wanted.{Wanted}
 use Rattle.idl_compat_place.specs.declared.wanted.Wanted.TheVariants as wanted
-use Rattle.idl_compat_place.specs.Parts.{AreHandles, part_at, part_type, AlikeParts, AlikePartsAt, AreAlikeUpTo, AreAsMany}
-use Rattle.idl_compat_place.specs.Places.{child, child_of, IsPlace}
-use Rattle.idl_compat_place.specs.Differences.{AreUnlike, AreClashing, IsUpTo, IsDifference, op_of, part_of}
+use Rattle.idl_compat_place.specs.Differences.{AreHandles, part_at, part_type, AlikeParts, AlikePartsAt, AreAlikeUpTo, AreAsMany, child, child_of}
+use Rattle.idl_compat_place.specs.Differences.{IsPlace, AreUnlike, AreClashing, IsUpTo, IsDifference, op_of, part_of}
 
 -- the types of a pair are those of a part that was walked, or of the one that is walked
 pub record IsOfPart (old new : Interface) (k n base before j i : ℕ) (p : TypePair) : Type 0 where

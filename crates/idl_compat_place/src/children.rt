@@ -1,6 +1,7 @@
 // The types to which steps lead.
 ghost use Rattle.std.specs.Prelude.{◌≡◌, ℕ, ◌≤◌, None};
-ghost use Rattle.idl_compat_place.specs.Places.{child as child_by, nth_child as nth_child_of, default_child as default_of, tag_child as tag_of, only};
+ghost use Rattle.idl_compat_place.specs.Differences.{child as child_by, nth_child as nth_child_of, default_child as default_of, tag_child as tag_of};
+ghost use Rattle.idl_compat_place.specs.Differences.{only};
 
 use crate::Step;
 use nd_types::{TypeDef, TypeId};

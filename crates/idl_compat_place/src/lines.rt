@@ -1,8 +1,7 @@
 // The lines that are written of a difference.
 ghost use Rattle.std.specs.Prelude.{◌≡◌, Some, None, option_map, slice_get, IfOk};
 ghost use Rattle.nd_types.specs.Table.{type_at};
-ghost use Rattle.idl_compat_place.specs.Parts.{part_at};
-ghost use Rattle.idl_compat_place.specs.Places.{child_of as child_in};
+ghost use Rattle.idl_compat_place.specs.Differences.{part_at, child_of as child_in};
 ghost use Rattle.idl_compat_place.specs.Lines.{prim_text as prim_text_of, counted as counted_by};
 ghost use Rattle.idl_compat_place.specs.Lines.{array_text as array_text_of, string_text as string_text_of};
 ghost use Rattle.idl_compat_place.specs.Lines.{definition_text as definition_text_of, type_text as type_text_of, way_text as way_text_of};

@@ -2,7 +2,7 @@
 ghost use Rattle.std.specs.Prelude.{◌≡◌, ◌≤◌, ℕ, true, false, IfOk, Some, length, slice_get};
 ghost use Rattle.nd_types.specs.declared.interface.Interface.{Interface as TheInterface};
 ghost use Rattle.idl_compat.specs.declared.pairs.TypePair.{TypePair as Pair};
-ghost use Rattle.idl_compat.specs.Alike.{IsPair};
+ghost use Rattle.idl_compat.specs.Comparison.{IsPair};
 ghost use Rattle.idl_compat_place.specs.declared.origins.Origin.{Origin as TheOrigin};
 ghost use Rattle.idl_compat_place.specs.declared.origins.Origin.TheVariants as origins;
 ghost use Rattle.idl_compat_place.specs.Differences.{AreClashing};

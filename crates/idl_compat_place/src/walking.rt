@@ -3,7 +3,7 @@ ghost use Rattle.std.specs.Prelude.{◌≡◌, ◌≤◌, ◌<◌, ℕ, length, 
 ghost use Rattle.nd_types.specs.declared.interface.Interface.{Interface as TheInterface};
 ghost use Rattle.nd_types.specs.Table.{type_at};
 ghost use Rattle.idl_compat.specs.declared.pairs.TypePair.{TypePair as Pair};
-ghost use Rattle.idl_compat.specs.Alike.{AlikeTypes, AllAlike, IsPair};
+ghost use Rattle.idl_compat.specs.Comparison.{AlikeTypes, AllAlike, IsPair};
 ghost use Rattle.idl_compat.specs.Matching.{AreExpanded};
 ghost use Rattle.idl_compat_place.specs.Trails.{IsChildPaired, ArePartsPaired, AreChildrenPaired, IsTrail, IsOrigin, IsEnd, IsWalkedTo, Walks};
 ghost use Rattle.idl_compat_place.specs.Trails.{WalksFrom, WalksPart, WalksParams, WalksOperation, WalksAll};

@@ -2,7 +2,7 @@
 ghost use Rattle.std.specs.Prelude.{◌≡◌, ℕ, List, Some, None, true, false, IfOk, slice_get};
 ghost use Rattle.nd_types.specs.declared.types.Operation.{Operation as TheOperation};
 ghost use Rattle.idl_compat.specs.declared.pairs.TypePair.{TypePair as Pair};
-ghost use Rattle.idl_compat.specs.Alike.{AlikeParams, IsPair};
+ghost use Rattle.idl_compat.specs.Comparison.{AlikeParams, IsPair};
 ghost use Rattle.idl_compat_place.specs.Trails.{AreOtherForms, AreOtherParams, IsWanted};
 
 use idl_compat::{TypePair, TypePairs, ask_param, ask_types};

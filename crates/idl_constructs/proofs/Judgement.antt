@@ -7,13 +7,11 @@ use Rattle.idl_rule_definitions.specs.declared.fault.RuleFault.TheVariants as fa
 use Rattle.idl_rule_definitions.specs.Answers.{Answers}
 use Rattle.std.specs.List.{flat_map}
 use Rattle.idl_scope.specs.Known.{Known}
-use Rattle.idl_rule_definitions.specs.World.{World}
-use Rattle.idl_rule_definitions.specs.Nodes.{Node, nodes, file_nodes, place_in}
+use Rattle.idl_rule_definitions.specs.Nodes.{World, Node, nodes, file_nodes, place_in}
 use Rattle.idl_rule_definitions.specs.Types.{Names}
 use Rattle.idl_rule_definitions.specs.Scene.{Scene, Scoped, scoped_from, names_behind, scene_of}
-use Rattle.idl_rule_definitions.specs.Rules.{Breach, breach, breaches, breaches_in}
-use Rattle.idl_rule_definitions.specs.FirstBroken.{first_of, first_broken, IsLeast}
-use Rattle.idl_rule_definitions.specs.CountRules.{too_many}
+use Rattle.idl_rule_definitions.specs.Rules.{Breach, breach, breaches, breaches_in, first_of, first_broken, IsLeast}
+use Rattle.idl_rule_definitions.specs.DeclarationRules.{too_many}
 use Rattle.idl_rule_definitions.specs.Noted.{noted, of_lists, of_others}
 use Rattle.idl_constructs.specs.ListBreaches.{list_breaches}
 use Rattle.idl_rule_definitions.specs.OtherBreaches.{other_breaches}

@@ -10,10 +10,9 @@ use Rattle.idl_grammar.specs.declared.attributes.Attribute as program
 use Rattle.idl_grammar.specs.Seen.{seen_attribute}
 use Rattle.idl_grammar.specs.Tree.{Attribute}
 use Rattle.idl_constructs.specs.declared.words.Word.{Word}
-use Rattle.idl_rule_definitions.specs.World.{World}
+use Rattle.idl_rule_definitions.specs.Nodes.{World, Construct, place_in, AttributeNode, attribute_nodes_from}
 use Rattle.idl_constructs.specs.Spelled.{spelled}
 use Rattle.idl_rule_definitions.specs.Attributes.{word_of, is_word, has}
-use Rattle.idl_rule_definitions.specs.Nodes.{Construct, place_in, AttributeNode, attribute_nodes_from}
 use Rattle.idl_rule_definitions.specs.Rules.{Breach, broken_at}
 use Rattle.idl_rule_definitions.specs.Noted.{noted, if_broken}
 use Rattle.idl_constructs.specs.ListBreaches.{is_among, AreWords, attribute_breaches, list_breaches_at, list_breaches}

@@ -7,16 +7,14 @@ use Rattle.idl_rule_definitions.specs.Nodes.{TypeNode, OperationNode}
 use Rattle.idl_rule_definitions.specs.Types.{Names, switch_type, is_void, is_handle, is_pipe, is_context}
 use Rattle.idl_rule_definitions.specs.Scene.{Scene, Scoped, Use, Body, use_of, tag_type}
 use Rattle.idl_rule_definitions.specs.Rules.{Breach, breach, broken_at, breaches_at, breaches_of_use, breaches_of_body, breaches_in}
-use Rattle.idl_rule_definitions.specs.AttributeRules.{is_out_of_place, is_repeated, lacks_uuid_and_local, is_large_version, is_second_class}
-use Rattle.idl_rule_definitions.specs.DeclarationRules.{has_no_body, lacks_switch_type, is_wrongly_cased, has_class, has_string, lacks_direction}
-use Rattle.idl_rule_definitions.specs.ValueRules.{is_large_enumerator, has_lower_bounds, is_bad_label, is_wrong_constant, is_void_constant, is_handle_constant}
+use Rattle.idl_rule_definitions.specs.DeclarationRules.{is_out_of_place, is_repeated, lacks_uuid_and_local, is_large_version, is_second_class, has_no_body, lacks_switch_type, is_wrongly_cased}
+use Rattle.idl_rule_definitions.specs.DeclarationRules.{has_class, has_string, lacks_direction, is_large_enumerator, has_lower_bounds, is_bad_label, is_wrong_constant, is_void_constant}
+use Rattle.idl_rule_definitions.specs.DeclarationRules.{is_handle_constant, too_many}
 use Rattle.idl_rule_definitions.specs.TypeRules.{holds_void, holds_handle, holds_pipe, is_no_context_handle, holds_context_handle, in_tag, contains_itself, is_deep_body, holds_deep_array}
-use Rattle.idl_rule_definitions.specs.TypeRules.{is_wrong_result}
-use Rattle.idl_rule_definitions.specs.ArrayRules.{has_wrong_counts, has_wrong_dimensions, has_wrong_elements, hoists_before_last, is_hoisting_arm, holds_wrong_pipe}
-use Rattle.idl_rule_definitions.specs.PointerRules.{has_class_without_pointer, holds_pointer_without_class, holds_pointer_to_reference, is_nullable_out, is_wrong_out}
+use Rattle.idl_rule_definitions.specs.TypeRules.{is_wrong_result, has_wrong_counts, has_wrong_dimensions, has_wrong_elements, hoists_before_last, is_hoisting_arm, holds_wrong_pipe}
+use Rattle.idl_rule_definitions.specs.TypeRules.{has_class_without_pointer, holds_pointer_without_class, holds_pointer_to_reference, is_nullable_out, is_wrong_out}
 use Rattle.idl_rule_definitions.specs.VariableRules.{may_not_be_switched, holds_nonencapsulated_union, has_wrong_switch, is_wrong_text, is_wrongly_sized, is_wrongly_varying, has_no_variable}
 use Rattle.idl_rule_definitions.specs.VariableRules.{has_wrong_variable}
-use Rattle.idl_rule_definitions.specs.CountRules.{too_many}
 use Rattle.idl_rule_definitions.specs.Noted.{is_of_lists, of_lists, of_others}
 use Rattle.idl_constructs.specs.ListBreaches.{list_breaches_at, list_breaches}
 use Rattle.idl_rule_definitions.specs.OtherBreaches.{other_breaches}

@@ -8,7 +8,7 @@ use Rattle.idl_constructs.specs.Spelled.{spelled}
 use Rattle.idl_rule_definitions.specs.Attributes.{has}
 use Rattle.idl_rule_definitions.specs.Nodes.{Construct, Node, HeaderNode, AttributeNode}
 use Rattle.idl_rule_definitions.specs.Rules.{Breach, broken_at}
-use Rattle.idl_rule_definitions.specs.AttributeRules.{is_out_of_place, is_repeated, lacks_uuid_and_local, is_large_version}
+use Rattle.idl_rule_definitions.specs.DeclarationRules.{is_out_of_place, is_repeated, lacks_uuid_and_local, is_large_version}
 use Rattle.idl_rule_definitions.specs.declared.rule.TheConstants as Rule
 
 abbrev pub attribute_breaches : Construct → List Attribute → Attribute → List Breach

@@ -1,6 +1,6 @@
 -- Graphs of numbers. A node is a number; the graph lists for each the numbers that stand right in it, in order. A number without a list is a node
 -- in which nothing stands.
-use Rattle.std.specs.Prelude.{ℕ, suc, zero, ◌≡◌, ◌<◌, ◌≤◌, Bool, true, false, eqb, ◌||◌, List, [], ◌∷◌, length, Option, Some, None, slice_index}
+use Rattle.std.specs.Prelude.{ℕ, suc, zero, ◌≡◌, ◌<◌, ◌≤◌, Bool, true, false, ◌==◌, ◌||◌, List, [], ◌∷◌, length, Option, Some, None, slice_index}
 use Rattle.std.specs.Prelude.{slice_index_or}
 use Rattle.std.specs.List.{list_all, list_any}
 use Rattle.idl_cycles.specs.declared.graph.rounds.Rule.{Rule}
@@ -40,7 +40,7 @@ has_within (suc n) graph rules node = has_by (rule_at rules node) (has_within n 
 -- one contains another through at most n steps
 abbrev pub contains_within : ℕ → List (List ℕ) → ℕ → ℕ → Bool
 contains_within zero graph outer inner = false
-contains_within (suc n) graph outer inner = list_any (λ p. eqb p inner || contains_within n graph p inner) (parts_at graph outer)
+contains_within (suc n) graph outer inner = list_any (λ p. p == inner || contains_within n graph p inner) (parts_at graph outer)
 
 -- a path that comes to no node twice has no more steps than there are nodes
 abbrev pub contains_itself : List (List ℕ) → ℕ → Bool

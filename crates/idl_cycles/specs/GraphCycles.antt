@@ -1,5 +1,6 @@
 -- What peeling and searching keep.
-use Rattle.std.specs.Prelude.{ℕ, ◌+◌, ◌≡◌, ◌<◌, ◌≤◌, Bool, true, false, not, eqb, ltb, cond, ◌&&◌, ◌||◌, ◌⊎◌, List, [], ◌∷◌, length, Option, Some}
+use Rattle.std.specs.Prelude.{ℕ, ◌+◌, ◌≡◌, ◌<◌, ◌≤◌, Bool, true, false, not, ◌==◌, nat_lt, if◌then◌else◌, ◌&&◌, ◌||◌, ◌⊎◌, List, [], ◌∷◌, length}
+use Rattle.std.specs.Prelude.{Option, Some}
 use Rattle.std.specs.Prelude.{None, slice_index, slice_index_or}
 use Rattle.std.specs.List.{list_all, list_any}
 use Rattle.idl_cycles.specs.Graph.{parts_at, contains_within}
@@ -21,16 +22,16 @@ pub record ArePeeled (graph : List (List ℕ)) (peeled : List Bool) : Type 0 whe
 
 -- the node itself, or what it contains through at most n steps
 abbrev pub reaches_within : ℕ → List (List ℕ) → ℕ → ℕ → Bool
-reaches_within n graph from to = eqb from to || contains_within n graph from to
+reaches_within n graph from to = from == to || contains_within n graph from to
 
 -- whether the search of this number came to a node; what is no node counts as such
 abbrev pub is_marked : ℕ → List ℕ → ℕ → Bool
-is_marked number seen node = eqb (slice_index_or seen node number) number
+is_marked number seen node = slice_index_or seen node number == number
 
 -- how often a number is in a list
 abbrev pub times_in : ℕ → List ℕ → ℕ
 times_in number [] = 0
-times_in number (x ∷ xs) = cond (eqb x number) 1 0 + times_in number xs
+times_in number (x ∷ xs) = (if x == number then 1 else 0) + times_in number xs
 
 -- a node is in the queue, at a place from this one on
 pub record Waits (queue : List ℕ) (from node : ℕ) : Type 0 where
@@ -46,7 +47,7 @@ pub record Comes (number : ℕ) (nodes seen queue seen' queue' : List ℕ) : Typ
   pub stays : (node : ℕ) → is_marked number seen node ≡ true → is_marked number seen' node ≡ true
   pub grows : length queue ≤ length queue'
   pub before : (place : ℕ) → place < length queue → slice_index queue' place ≡ slice_index queue place
-  pub new : (place : ℕ) → length queue ≤ place → place < length queue' → list_any (λ p. eqb p (slice_index queue' place)) nodes ≡ true
+  pub new : (place : ℕ) → length queue ≤ place → place < length queue' → list_any (λ p. p == slice_index queue' place) nodes ≡ true
   pub waits : (node : ℕ) → is_marked number seen' node ≡ true → (is_marked number seen node ≡ true) ⊎ Waits queue' (length queue) node
   pub marks : list_all (is_marked number seen') nodes ≡ true
   pub bound : ((node : ℕ) → slice_index seen node ≤ number) → (node : ℕ) → slice_index seen' node ≤ number
@@ -58,7 +59,7 @@ pub record IsReady (graph : List (List ℕ)) (number : ℕ) (seen : List ℕ) : 
 
 -- each part of a node is another than the start, and marked
 abbrev pub is_done : List (List ℕ) → ℕ → ℕ → List ℕ → ℕ → Bool
-is_done graph start number seen node = list_all (λ p. not (eqb p start) && is_marked number seen p) (parts_at graph node)
+is_done graph start number seen node = list_all (λ p. not (p == start) && is_marked number seen p) (parts_at graph node)
 
 -- the search of this number from a start, as it has done with what is in the queue before the head
 pub record Searches (graph : List (List ℕ)) (start number head : ℕ) (seen queue : List ℕ) : Type 0 where
@@ -75,4 +76,4 @@ pub record Searches (graph : List (List ℕ)) (start number head : ℕ) (seen qu
 -- whether a key is less than the least so far
 abbrev pub is_less_than : ℕ → Option ℕ → Bool
 is_less_than key None = true
-is_less_than key (Some least) = ltb key least
+is_less_than key (Some least) = nat_lt key least

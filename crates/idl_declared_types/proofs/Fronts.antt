@@ -4,10 +4,9 @@ use Rattle.std.specs.List.{flat_map}
 use Rattle.std.proofs.lemmas.Grind.{flat_map-append}
 use Rattle.std.proofs.Math.Seq.{take-length}
 use Rattle.idl_scope.specs.Known.{Known}
-use Rattle.idl_rule_definitions.specs.World.{World}
+use Rattle.idl_rule_definitions.specs.Nodes.{World, Node, nodes}
 use Rattle.idl_constructs.specs.declared.nodes.Node as program_node
 use Rattle.idl_constructs.specs.declared.nodes.Nodes as program_nodes
-use Rattle.idl_rule_definitions.specs.Nodes.{Node, nodes}
 use Rattle.idl_rule_definitions.specs.Types.{Names}
 use Rattle.idl_rule_definitions.specs.Scene.{scoped_from, names_behind, scene_of}
 use Rattle.idl_constructs.specs.SeenNodes.{seen_node, seen_nodes}

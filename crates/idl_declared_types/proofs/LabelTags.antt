@@ -15,14 +15,13 @@ use Rattle.idl_constructs.specs.declared.nodes.Nodes as program_nodes
 use Rattle.idl_declared_types.specs.declared.types.BodyTypes.{BodyTypes}
 use Rattle.idl_declared_types.specs.declared.types.Typed.{Typed}
 use Rattle.idl_declared_types.specs.declared.types.Types as program_types
-use Rattle.idl_rule_definitions.specs.World.{World, number_of}
-use Rattle.idl_rule_definitions.specs.Nodes.{Construct, ArmLabel, LabelNode, label_nodes}
+use Rattle.idl_rule_definitions.specs.Nodes.{World, number_of, Construct, ArmLabel, LabelNode, label_nodes}
 use Rattle.idl_rule_definitions.specs.Types.{IdlType, Void, Handle, ContextHandle, Basic, Struct, Union, Enum, Array, Text, Pointer, Pipe, Names}
 use Rattle.idl_declared_types.specs.Kinds.{basic_in, type_by, type_at}
 use Rattle.idl_declared_types.specs.Places.{found_place}
 use Rattle.idl_rule_definitions.specs.Scene.{Scene, Body, bodies, body_of, tag_type, enumerators_in, enumerators_found, enumerators_of}
 use Rattle.idl_declared_types.specs.SeenTypes.{tag_seen, IsTypes}
-use Rattle.idl_rule_definitions.specs.ValueRules.{same_value, label_value, is_value_of, is_label_of, is_bad_label}
+use Rattle.idl_rule_definitions.specs.DeclarationRules.{same_value, label_value, is_value_of, is_label_of, is_bad_label}
 use Rattle.idl_rule_definitions.specs.Rules.{Breach, broken_at}
 use Rattle.idl_rule_definitions.specs.Noted.{noted}
 use Rattle.idl_rule_definitions.specs.OthersOf.{others_of}

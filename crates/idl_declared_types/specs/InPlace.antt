@@ -1,5 +1,5 @@
 -- For the code: what types hold in their place, as a graph of their numbers with `void` after them.
-use Rattle.std.specs.Prelude.{◌≡◌, ℕ, suc, ◌<◌, Bool, true, ltb, List, map, Option, Some, None}
+use Rattle.std.specs.Prelude.{◌≡◌, ℕ, suc, ◌<◌, Bool, true, nat_lt, List, map, Option, Some, None}
 use Rattle.std.specs.List.{list_all}
 use Rattle.nd_base.specs.declared.octets.Place.{Place}
 use Rattle.idl_declared_types.specs.declared.kinds.Kind.{Kind}
@@ -17,7 +17,7 @@ parts_in_place s place = in_place s (Struct place)
 -- the numbers of types, each one of a type or that of `void` after them
 pub record AreHeld (ks : List Kind) (count : ℕ) (numbers : List ℕ) (types : List IdlType) : Type 0 where
   pub seen : map (type_at ks) numbers ≡ types
-  pub within : list_all (λ p. ltb p (suc count)) numbers ≡ true
+  pub within : list_all (λ p. nat_lt p (suc count)) numbers ≡ true
 
 -- the parts of each node are what its type holds in its place
 abbrev pub IsPlaces : Scene → List Kind → ℕ → List (List ℕ) → Type 0

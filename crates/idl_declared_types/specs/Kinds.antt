@@ -1,5 +1,5 @@
 -- The types of the program as those of the rules. `ks` are the kinds that were met, in order: a type's number is its place among them.
-use Rattle.std.specs.Prelude.{◌≡◌, ◌<◌, ℕ, zero, suc, Bool, true, ltb, ◌&&◌, List, [], ◌∷◌, ◌++◌, length, Option, Some, None, slice_get}
+use Rattle.std.specs.Prelude.{◌≡◌, ◌<◌, ℕ, zero, suc, Bool, true, nat_lt, ◌&&◌, List, [], ◌∷◌, ◌++◌, length, Option, Some, None, slice_get}
 use Rattle.nd_types.specs.declared.types.Primitive.{Primitive}
 use Rattle.nd_types.specs.declared.types.Primitive.TheVariants as primitive
 use Rattle.idl_grammar.specs.declared.attributes.PointerClass.{PointerClass}
@@ -72,11 +72,11 @@ basic_in _ = None
 
 -- whether the types that a kind is made of are among the first n, and its number is that of a primitive type
 abbrev pub is_inside : ℕ → Kind → Bool
-is_inside n (kind.Basic number) = ltb number 11
-is_inside n (kind.Array element count varying) = ltb element n
-is_inside n (kind.Text element count) = ltb element n
-is_inside n (kind.Pointer class to) = ltb to n
-is_inside n (kind.Pipe element) = ltb element n
+is_inside n (kind.Basic number) = nat_lt number 11
+is_inside n (kind.Array element count varying) = nat_lt element n
+is_inside n (kind.Text element count) = nat_lt element n
+is_inside n (kind.Pointer class to) = nat_lt to n
+is_inside n (kind.Pipe element) = nat_lt element n
 is_inside n _ = true
 
 -- each kind is made of types that came before it

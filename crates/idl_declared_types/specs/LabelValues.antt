@@ -4,10 +4,9 @@ use Rattle.std.specs.List.{list_any}
 use Rattle.idl_declared_types.specs.declared.labels.Valued.{Valued}
 use Rattle.idl_grammar.specs.Tree.{Enumerator}
 use Rattle.idl_scope.specs.Known.{Known}
-use Rattle.idl_rule_definitions.specs.World.{number_of}
-use Rattle.idl_rule_definitions.specs.Nodes.{Construct, ArmLabel}
+use Rattle.idl_rule_definitions.specs.Nodes.{number_of, Construct, ArmLabel}
 use Rattle.idl_rule_definitions.specs.Rules.{Breach, broken_at}
-use Rattle.idl_rule_definitions.specs.ValueRules.{same_value, label_value}
+use Rattle.idl_rule_definitions.specs.DeclarationRules.{same_value, label_value}
 use Rattle.idl_rule_definitions.specs.declared.rule.TheConstants as Rule
 
 abbrev pub valued : Known → ArmLabel → Valued

@@ -1,6 +1,6 @@
 -- The names of types as the program keeps them: each with the number of its type.
-use Rattle.std.specs.Prelude.{◌≡◌, ℕ, Bool, true, false, ltb, List, [], ◌∷◌, ◌++◌, map, is_some}
-use Rattle.idl_scope.specs.Tables.{found}
+use Rattle.std.specs.Prelude.{◌≡◌, ℕ, Bool, true, false, nat_lt, List, [], ◌∷◌, ◌++◌, map, is_some}
+use Rattle.idl_scope.specs.Known.{found}
 use Rattle.std.specs.List.{list_all}
 use Rattle.idl_declared_types.specs.declared.kinds.Kind.{Kind}
 use Rattle.idl_constructs.specs.declared.nodes.Node.{Node}
@@ -15,11 +15,11 @@ seen_names ks names = map (λ e. (e.0, type_at ks e.1)) names
 
 -- numbers of some of the first n types
 abbrev pub are_below : ℕ → List ℕ → Bool
-are_below n numbers = list_all (λ k. ltb k n) numbers
+are_below n numbers = list_all (λ k. nat_lt k n) numbers
 
 -- each of them has one of the first n types
 abbrev pub are_within : ℕ → List (List ℕ × ℕ) → Bool
-are_within n names = list_all (λ e. ltb e.1 n) names
+are_within n names = list_all (λ e. nat_lt e.1 n) names
 
 -- one more; a name that is there already keeps its type
 abbrev pub and_name : List (List ℕ × ℕ) → List ℕ → ℕ → List (List ℕ × ℕ)

@@ -1,6 +1,6 @@
 -- The numbers that the program gives to types, as those of the definitions. `ks` are the kinds of its types.
-use Rattle.std.specs.Prelude.{◌≡◌, ◌<◌, ℕ, ◌+◌, Bool, true, false, not, ◌&&◌, ◌||◌, eqb, List, [], ◌∷◌, ◌++◌, map, length, Option, Some, None}
-use Rattle.std.specs.Prelude.{slice_get, ltb}
+use Rattle.std.specs.Prelude.{◌≡◌, ◌<◌, ℕ, ◌+◌, Bool, true, false, not, ◌&&◌, ◌||◌, ◌==◌, List, [], ◌∷◌, ◌++◌, map, length, Option, Some, None}
+use Rattle.std.specs.Prelude.{slice_get, nat_lt}
 use Rattle.std.specs.List.{list_any, list_all, slice_set}
 use Rattle.nd_base.specs.declared.octets.Place.{Place}
 use Rattle.nd_types.specs.declared.TheConstants.{BASIC_TYPES, HANDLE}
@@ -79,13 +79,13 @@ IsClosed firsts = (t : IdlType) → has_number firsts t ≡ true → list_all (i
 -- the number of a kind, from n on
 abbrev pub given : ℕ → List Own → ℕ → Option ℕ
 given n [] k = None
-given n (o ∷ os) k = elim (eqb o.kind k) [ true ↦ Some n | false ↦ given (n + 1) os k ]
+given n (o ∷ os) k = elim (o.kind == k) [ true ↦ Some n | false ↦ given (n + 1) os k ]
 
 -- these types have numbers so far
 pub record Shows (ks : List Kind) (firsts : List Needed) (t : Numbers) : Type 0 where
   pub once : AreOnce ks
   pub own : map seen_needed firsts ≡ map (seen_own ks) t.own.items
-  pub within : list_all (λ o. ltb o.kind (length ks)) t.own.items ≡ true
+  pub within : list_all (λ o. nat_lt o.kind (length ks)) t.own.items ≡ true
   pub count : length t.numbers.items ≡ length ks
   pub numbers : (k : ℕ) → k < length ks → slice_get t.numbers.items k ≡ Some (given BASIC_TYPES t.own.items k)
 

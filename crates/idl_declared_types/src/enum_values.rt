@@ -2,7 +2,7 @@
 ghost use Rattle.std.specs.Prelude.{◌≡◌, ◌∷◌, ◌++◌, [], map, IfOk};
 ghost use Rattle.idl_grammar.specs.Seen.{seen_enumerator, seen_type};
 ghost use Rattle.idl_scope.specs.Seen.{known_in};
-ghost use Rattle.idl_rule_definitions.specs.World as world;
+ghost use Rattle.idl_rule_definitions.specs.Nodes as world;
 ghost use Rattle.idl_rule_definitions.specs.Scene as scenes;
 ghost use Rattle.idl_declared_types.specs.LabelValues.{Holds, values_of};
 

@@ -4,8 +4,7 @@ ghost use Rattle.idl_rule_definitions.specs.Types as types;
 ghost use Rattle.idl_rule_definitions.specs.Types.{IdlType};
 ghost use Rattle.idl_declared_types.specs.Kinds.{type_by};
 ghost use Rattle.idl_declared_types.specs.KindTests.{pointee_of, referent_of, octet_primitive, switch_primitive, is_enum_type};
-ghost use Rattle.idl_rule_definitions.specs.TypeRules.{is_result_type};
-ghost use Rattle.idl_rule_definitions.specs.PointerRules.{is_out_type};
+ghost use Rattle.idl_rule_definitions.specs.TypeRules.{is_result_type, is_out_type};
 ghost use Rattle.idl_rule_definitions.specs.VariableRules as variables;
 
 use crate::kinds::{Class, Kind};

@@ -3,7 +3,7 @@ ghost use Rattle.std.specs.Prelude.{◌≡◌, ◌^◌, ◌<◌, ◌+ℤ◌, pos
 ghost use Rattle.idl_grammar.specs.Seen.{seen_expr, seen_bound, seen_attribute, seen_declarator};
 ghost use Rattle.idl_scope.specs.Seen.{known_in};
 ghost use Rattle.idl_scope.specs.Small.{is_below};
-ghost use Rattle.idl_rule_definitions.specs.World.{value_in};
+ghost use Rattle.idl_rule_definitions.specs.Nodes.{value_in};
 ghost use Rattle.idl_rule_definitions.specs.Types as types;
 ghost use Rattle.idl_rule_definitions.specs.Types.{Pointer};
 ghost use Rattle.idl_declared_types.specs.Kinds.{seen_class, type_at, Stands, Keeps};

@@ -2,7 +2,7 @@
 ghost use Rattle.std.specs.Prelude.{◌≡◌, ℕ, true, List, length, IfOk};
 ghost use Rattle.idl_grammar.specs.Seen.{seen_type};
 ghost use Rattle.idl_scope.specs.Seen.{known_in};
-ghost use Rattle.idl_scope.specs.Tables.{found};
+ghost use Rattle.idl_scope.specs.Known.{found};
 ghost use Rattle.idl_rule_definitions.specs.Types as types;
 ghost use Rattle.idl_rule_definitions.specs.Types.{IdlType};
 ghost use Rattle.idl_declared_types.specs.Kinds.{type_by, is_inside, Stands, Keeps};

@@ -1,6 +1,6 @@
 -- Attributes are read exactly: the kinds of attributes, and lists of them.
 use Rattle.std.proofs.Common.{◌≡◌, ℕ, ◌+◌, ◌≤◌, true, List, [], ◌∷◌, length, refl, sym, ap, subst, arith, inl, inr, Option}
-use Rattle.idl_grammar.specs.Text.{Lexeme, Text, symbol_at, is, is_in, Ban, Lifted, Rel, optional, bracketed, located, ◌⊗◌, ◌⊳◌}
+use Rattle.idl_grammar.specs.Text.{Lexeme, Text, symbol_at, is, is_in, Ban, Lifted, Rel, optional, bracketed, located, ◌⊗◌, ◌⊳◌, made}
 use Rattle.idl_grammar.specs.ReadPhrases.{to_unit}
 use Rattle.idl_grammar.proofs.Exact.{Agrees, Exact, HasPhrase, turned_exact}
 use Rattle.idl_grammar.proofs.Parts.{marked, mark_has, turned_has, ruled_exact, of_symbol}
@@ -18,7 +18,6 @@ use Rattle.idl_grammar.specs.Reading.{commas_read, pointer_class_read, plain_wor
 use Rattle.idl_grammar.specs.Reading.{pointer_default_read, variable_read, switch_attribute_read, case_attribute_read, bracket_attribute_read, attribute_kind_read, attribute_of, attribute_read}
 use Rattle.idl_grammar.specs.Reading.{attributes_of, attributes_read, maybe_attributes_read}
 use Rattle.idl_grammar.proofs.Combine.{changed_exact, one_of_exact, one_word, each_meant, either, either_exact, either_begins}
-use Rattle.idl_grammar.specs.Text.{made}
 use Rattle.idl_grammar.proofs.Sequences.{made_exact, made_begins}
 use Rattle.idl_grammar.proofs.AttributesExact.{pointer_class_exact, pointer_class_begins, variable_word_begins, uuid_exact, version_numbers, version_exact, endpoint_exact, pointer_default_exact}
 use Rattle.idl_grammar.proofs.AttributesExact.{variable_exact, switch_attribute_exact, case_attribute_exact}

@@ -10,8 +10,7 @@ use Rattle.idl_grammar.specs.declared.words.Spelling.{Spelling}
 use Rattle.idl_grammar.specs.declared.attributes.PointerClass.TheVariants as class
 use Rattle.idl_grammar.specs.declared.attributes.VariableWord.TheVariants as variable
 use Rattle.idl_grammar.specs.Symbols as symbol
-use Rattle.idl_grammar.specs.Limits.{names}
-use Rattle.idl_grammar.specs.Expressions.{spelled, ident, outer}
+use Rattle.idl_grammar.specs.Expressions.{names, spelled, ident, outer}
 use Rattle.idl_grammar.specs.ReadExpressions.{spelled_read, ident_read, outer_read}
 use Rattle.idl_grammar.specs.Grammar.{flag, in_round, commas, switch_type, class_words, pointer_class, variable_words, variable_word, variable_name}
 use Rattle.idl_grammar.specs.Reading.{flag_read, in_round_read, commas_read, switch_type_read, pointer_class_read, variable_word_read, variable_of, variable_name_read, class_symbols, variable_symbols}

@@ -4,12 +4,11 @@ use Rattle.std.proofs.lemmas.List.{get_or-take}
 use Rattle.nd_lemmas.proofs.Booleans.{clash}
 use Rattle.idl_grammar.specs.Text.{Lexeme, Text, the_end, lexeme_at, is, Ban}
 use Rattle.idl_grammar.specs.ReadPhrases.{Passes}
-use Rattle.idl_grammar.specs.Verdict.{begins, derives, lax, limits_before}
+use Rattle.idl_grammar.specs.Answers.{begins, derives, lax, limits_before, is_banned, Answers}
 use Rattle.idl_grammar.proofs.Within.{mark_within}
 use Rattle.idl_grammar.specs.Symbols as symbol
 use Rattle.idl_grammar.specs.Tree.{Tree}
 use Rattle.idl_grammar.specs.Grammar.{file}
-use Rattle.idl_grammar.specs.Answers.{is_banned, Answers}
 use Rattle.idl_grammar.proofs.CleanFile.{no_banned_word}
 use Rattle.idl_grammar.proofs.Judged.{ended}
 

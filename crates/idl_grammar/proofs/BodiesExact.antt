@@ -10,10 +10,9 @@ use Rattle.idl_grammar.specs.declared.words.Spelling.{Spelling}
 use Rattle.idl_grammar.specs.declared.types.SwitchType.{SwitchType}
 use Rattle.idl_grammar.specs.declared.types.Discriminant.{Discriminant}
 use Rattle.idl_grammar.specs.Symbols as symbol
-use Rattle.idl_grammar.specs.Limits.{names}
+use Rattle.idl_grammar.specs.Expressions.{names, placed, ident, outer}
 use Rattle.idl_grammar.specs.Tree as tree
 use Rattle.idl_grammar.specs.Tree.{Expr, Enumerator, Label}
-use Rattle.idl_grammar.specs.Expressions.{placed, ident, outer}
 use Rattle.idl_grammar.specs.ReadExpressions.{placed_read, ident_read, outer_read}
 use Rattle.idl_grammar.specs.Grammar.{in_round, commas, switch_type, enumerator, enumerators, label, labels, discriminant, union_switch}
 use Rattle.idl_grammar.specs.Reading.{in_round_read, commas_read, switch_type_read, enumerator_of, enumerator_read, enumerators_read, label_read, label_firsts, labels_read, discriminant_of}

@@ -2,7 +2,7 @@
 use Rattle.std.proofs.Common.{◌≡◌, ℕ, ◌+◌, ◌<◌, Bool, true, false, List, [], ◌∷◌, length, refl, arith, leb, Option}
 use Rattle.idl_grammar.specs.Text.{Text, Phrase, Rel, Lifted, is, is_in, mark, optional, ◌▹◌}
 use Rattle.idl_grammar.specs.ReadPhrases.{to_unit}
-use Rattle.idl_grammar.specs.Verdict.{derives}
+use Rattle.idl_grammar.specs.Answers.{derives, is_banned}
 use Rattle.idl_grammar.specs.declared.words.Spelling.{Spelling}
 use Rattle.idl_grammar.specs.declared.expressions.Operand.{Operand}
 use Rattle.idl_grammar.specs.declared.expressions.Operand.TheVariants as operand
@@ -23,15 +23,14 @@ use Rattle.idl_grammar.specs.declared.types.TagKind.{TagKind}
 use Rattle.idl_grammar.specs.declared.types.TagKind.TheVariants as tags
 use Rattle.idl_grammar.specs.declared.types.Discriminant.{Discriminant}
 use Rattle.idl_grammar.specs.Symbols as symbol
-use Rattle.idl_grammar.specs.Limits.{Meant, symbols_of, value_of, names, symbol_level, is_unary, binary_operators, unary_operators, binary_of, unary_of}
+use Rattle.idl_grammar.specs.Expressions.{Meant, symbols_of, value_of, names, symbol_level, is_unary, binary_operators, unary_operators, binary_of, unary_of, spelling, spelled, placed, ident, leaf}
+use Rattle.idl_grammar.specs.Expressions.{expr, outer}
 use Rattle.idl_grammar.specs.Tree as tree
 use Rattle.idl_grammar.specs.Tree.{Expr, AttributeKind, Attribute, Attributes, Bound, Declarator, Init, Enumerator, Label, TypeSpec, Members, Cases, Arms, Arm, Import, Parameter, Parameters, Export}
 use Rattle.idl_grammar.specs.Tree.{Tree}
-use Rattle.idl_grammar.specs.Expressions.{spelling, spelled, placed, ident, leaf, expr, outer}
 use Rattle.idl_grammar.specs.Grammar.{one_of, in_round, width_words, class_words, variable_words, width, integer, simple, switch_type, pointer_class, variable_word, variable_name, attribute_kind}
 use Rattle.idl_grammar.specs.Grammar.{attribute, attributes, bound, dimension, declarator, declarators, enumerator, enumerators, label, labels, discriminant, union_switch, tag_symbol, in_curly}
 use Rattle.idl_grammar.specs.Grammar.{member, type_spec, some_members, members, some_cases, cases, some_arms, arms, arm, parameter, parameters, init, export, import, file}
-use Rattle.idl_grammar.specs.Answers.{is_banned}
 use Rattle.idl_grammar.proofs.Clean.{Clean, token_clean, mark_clean, nothing_clean, never_clean, then_clean, unless_clean, only_clean, at_clean, flag_clean, optional_clean, many_clean, some_clean}
 use Rattle.idl_grammar.proofs.Clean.{separated_clean, bracketed_clean, located_clean}
 

@@ -4,13 +4,12 @@ use Rattle.std.proofs.lemmas.Bool.{eqb-true}
 use Rattle.std.proofs.lemmas.Bool.Decides.{eqb_tells}
 use Rattle.nd_lemmas.proofs.Booleans.{clash}
 use Rattle.idl_grammar.specs.Text.{Lexeme, Text, lexeme_at, symbol_at, is, is_in, Lifted, Rel, mark, optional, ◌∣◌}
-use Rattle.idl_grammar.specs.ReadPhrases.{Syntax, Read, then, join, turned, mark_read, choice_read}
+use Rattle.idl_grammar.specs.ReadPhrases.{Syntax, Read, and_then, join, turned, mark_read, choice_read}
 use Rattle.idl_grammar.proofs.Exact.{Stops, Exact, HasPhrase, Meets, Part, turned_exact}
 use Rattle.idl_grammar.proofs.Parts.{token_exact, token_has, of_symbol, mark_exact, marked, optional_exact, optional_has, turned_has}
 use Rattle.idl_grammar.proofs.Sequences.{stops, Begins, BeginsOr, disjoint, subset, apart, in_more, choice_exact, choice_begins}
 use Rattle.idl_grammar.specs.Symbols as symbol
-use Rattle.idl_grammar.specs.Limits.{Meant, symbols_of, value_of, names}
-use Rattle.idl_grammar.specs.Expressions.{spelling, spelled, placed, ident}
+use Rattle.idl_grammar.specs.Expressions.{Meant, symbols_of, value_of, names, spelling, spelled, placed, ident}
 use Rattle.idl_grammar.specs.ReadExpressions.{spelled_read, placed_read, ident_read}
 use Rattle.idl_grammar.specs.Grammar.{flag, one_of}
 use Rattle.idl_grammar.specs.Reading.{branch_read, bind_read, unless_read, flag_read, one_of_read}
@@ -95,7 +94,7 @@ module _ {A B C : Type 0} (P : Rel A) (Q : Rel B) (Whole : Rel C) (f : A ⊎ B �
       choice_begins P Q firsts others all begins else_begins p q lifted x i j part.part part.phrase
 
 -- a value, what depends on it, and what is made of both
-pub bind_is : {A B C : Type 0} (make : A → B → C) (r : Read A) (g : A → ℕ → Read B) → turned (λ (p : A × B). make p.0 p.1) (then r g) ≡ bind_read r (λ a m. turned (make a) (g a m))
+pub bind_is : {A B C : Type 0} (make : A → B → C) (r : Read A) (g : A → ℕ → Read B) → turned (λ (p : A × B). make p.0 p.1) (and_then r g) ≡ bind_read r (λ a m. turned (make a) (g a m))
 bind_is make (Err f) g = refl
 bind_is {A = A} {B = B} make (Ok x) g = by_case (g x.0 x.1) where
   by_case : (s : Read B) → turned (λ (p : A × B). make p.0 p.1) (join x.0 s) ≡ turned (make x.0) s

@@ -9,10 +9,9 @@ use Rattle.idl_grammar.proofs.Sequences.{stops, Begins, subset, disjoint, meets_
 use Rattle.idl_grammar.proofs.Sequences.{list_begins, separated_exact, separated_has, separated_begins, bracketed_exact, bracketed_begins, made_exact, made_begins}
 use Rattle.idl_grammar.specs.declared.words.Spelling.{Spelling}
 use Rattle.idl_grammar.specs.Symbols as symbol
-use Rattle.idl_grammar.specs.Limits.{names}
+use Rattle.idl_grammar.specs.Expressions.{names, placed, ident, outer}
 use Rattle.idl_grammar.specs.Tree as tree
 use Rattle.idl_grammar.specs.Tree.{Expr, Bound, Declarator}
-use Rattle.idl_grammar.specs.Expressions.{placed, ident, outer}
 use Rattle.idl_grammar.specs.ReadExpressions.{placed_read, ident_read, outer_read}
 use Rattle.idl_grammar.specs.Grammar.{bound, dimension, declarator, declarators}
 use Rattle.idl_grammar.specs.Reading.{unless_read, upper_read, range_of, range_read, bound_read, dimension_read, declarator_of, declarator_read, declarators_read}

@@ -1,6 +1,6 @@
 -- What it means that a reading is exact, and how exact readings are put together.
 use Rattle.std.proofs.Common.{◌≡◌, ℕ, ◌+◌, ◌<◌, ◌≤◌, true, false, length, drop, ap, subst, arith, Ok, Err, ◌∙◌}
-use Rattle.idl_grammar.specs.ReadPhrases.{Fault, Syntax, Passes, Read, join, then, turned}
+use Rattle.idl_grammar.specs.ReadPhrases.{Fault, Syntax, Passes, Read, join, and_then, turned}
 use Rattle.idl_grammar.specs.Text.{Text, lexeme_at, Depth, Lifted, ◌▹◌, Rel}
 
 abbrev pub place : Fault → ℕ
@@ -157,7 +157,7 @@ module _ {A B : Type 0} (P : Rel A) (Q : Rel B) (StopP Stop : Stops) (meets : Me
 
   pub pair_exact : (r : Read A) (g : A → ℕ → Read B) → Exact P StopP t i r
       → ((a : A) (m : ℕ) → Found P StopP t i a m → Exact Q Stop t m (g a m))
-      → Exact (pair P Q) Stop t i (then r g)
+      → Exact (pair P Q) Stop t i (and_then r g)
   pair_exact (Err f) g x next = first_fails f x
   pair_exact (Ok a) g x next = joined a.0 a.1 x (g a.0 a.1) (next a.0 a.1 x)
 

@@ -1,7 +1,7 @@
 -- Declarations are read exactly.
 use Rattle.std.proofs.Common.{◌≡◌, ℕ, ◌+◌, ◌≤◌, Bool, true, false, List, [], ◌∷◌, length, refl, sym, subst, arith, ◌⊎◌, inl, inr, Option, Some, None}
 use Rattle.idl_grammar.specs.Text.{Text, lexeme_at, is_in, Lifted, Rel, mark, optional, located, made, ◌⊗◌, ◌⊳◌, ◌⊲◌, ◌∣◌}
-use Rattle.idl_grammar.specs.ReadPhrases.{Read, then, turned, mark_read, located_read}
+use Rattle.idl_grammar.specs.ReadPhrases.{Read, and_then, turned, mark_read, located_read}
 use Rattle.idl_grammar.proofs.Exact.{Exact, HasPhrase, Part, pair_exact}
 use Rattle.idl_grammar.proofs.Parts.{marked, mark_exact, mark_has, pair_has, turned_has, optional_has}
 use Rattle.idl_grammar.proofs.Sequences.{stops, Begins, subset, disjoint, meets_first, skip_exact, skip_has, skip_begins, end_exact, end_has, end_begins, pair_begins, or_pair_begins}
@@ -9,10 +9,9 @@ use Rattle.idl_grammar.proofs.Sequences.{located_exact, bracketed_exact, bracket
 use Rattle.idl_grammar.specs.declared.words.Spelling.{Spelling}
 use Rattle.idl_grammar.specs.declared.types.SimpleType.{SimpleType}
 use Rattle.idl_grammar.specs.Symbols as symbol
-use Rattle.idl_grammar.specs.Limits.{names}
+use Rattle.idl_grammar.specs.Expressions.{names, spelled, placed, ident, outer}
 use Rattle.idl_grammar.specs.Tree as tree
 use Rattle.idl_grammar.specs.Tree.{Expr, Attributes, Declarator, Init, TypeSpec, Parameters, Export}
-use Rattle.idl_grammar.specs.Expressions.{spelled, placed, ident, outer}
 use Rattle.idl_grammar.specs.ReadExpressions.{spelled_read, placed_read, ident_read, outer_read}
 use Rattle.idl_grammar.specs.Grammar.{flag, in_round, simple, attributes, declarators, type_spec, parameters, init}
 use Rattle.idl_grammar.specs.Reading.{flag_read, line_read, simple_read, maybe_attributes_read, declarators_read, type_firsts, member_firsts, type_read, parameters_read, init_read, typedef_read}
@@ -252,7 +251,7 @@ module _ (depth : ℕ) where
   typed_of p = declared_of p.0 p.1
 
   module _ (fuel nesting : ℕ) (enough : 129 ≤ nesting) (shallow : depth ≤ 64) (fueled : 65 ≤ fuel + depth) (t : Text) where
-    declared_line_exact : (i : ℕ) → i ≤ length t → Exact declared_line (stops []) t i (then (type_read fuel nesting t depth i) (λ c r. line_read t (declarators_read nesting t depth r)))
+    declared_line_exact : (i : ℕ) → i ≤ length t → Exact declared_line (stops []) t i (and_then (type_read fuel nesting t depth i) (λ c r. line_read t (declarators_read nesting t depth r)))
     declared_line_exact i in_text =
         pair_exact (type_spec depth) (declarators depth ⊲ symbol.Semicolon) (stops type_ends) (stops [])
         (meets_first (declarators depth ⊲ symbol.Semicolon) declarator_firsts type_ends (stops [])
@@ -274,7 +273,7 @@ module _ (depth : ℕ) where
         (λ a o found.
         pair_exact (flag symbol.Pipe) declared_line (stops (symbol.Pipe ∷ [])) (stops [])
         (meets_first declared_line type_firsts (symbol.Pipe ∷ []) (stops []) declared_line_begins types_no_pipe) declared_line_has t o
-        (flag_read symbol.Pipe t o) (λ pipe q. then (type_read fuel nesting t depth q) (λ c r. line_read t (declarators_read nesting t depth r)))
+        (flag_read symbol.Pipe t o) (λ pipe q. and_then (type_read fuel nesting t depth q) (λ c r. line_read t (declarators_read nesting t depth r)))
         (flag_exact symbol.Pipe refl (symbol.Pipe ∷ []) refl t o found.within)
         (λ pipe q found_q. declared_line_exact q found_q.within))))
 

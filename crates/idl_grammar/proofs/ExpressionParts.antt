@@ -13,8 +13,7 @@ use Rattle.idl_grammar.specs.declared.expressions.BinaryOperator.TheVariants as 
 use Rattle.idl_grammar.specs.declared.expressions.Operand.{Operand}
 use Rattle.idl_grammar.specs.declared.expressions.Operand.TheVariants as operand
 use Rattle.idl_grammar.specs.Symbols as symbol
-use Rattle.idl_grammar.specs.Limits.{names, level, symbol_level, is_unary, is_operator, operators, many_operators, symbols_of, binary_operators, unary_operators}
-use Rattle.idl_grammar.specs.Expressions.{spelling, leaf}
+use Rattle.idl_grammar.specs.Expressions.{names, level, symbol_level, is_unary, is_operator, operators, many_operators, symbols_of, binary_operators, unary_operators, spelling, leaf}
 use Rattle.idl_grammar.specs.ReadExpressions.{is_operand, operand_of, leaf_read}
 use Rattle.idl_grammar.proofs.Combine.{changed_exact}
 

@@ -4,7 +4,7 @@ use Rattle.std.proofs.lemmas.Bool.{le-leb, eqb-true, leb-false, lt-leb}
 use Rattle.std.proofs.lemmas.Bool.Decides.{eqb_tells}
 use Rattle.nd_lemmas.proofs.Booleans.{clash}
 use Rattle.idl_grammar.specs.Text.{Lexeme, Text, lexeme_at, symbol_at, is, Lifted, Rel, Depth, many_brackets, many, optional, ◌⊳◌, ◌⊲◌}
-use Rattle.idl_grammar.specs.ReadPhrases.{Read, then, turned, many_read, behind_read}
+use Rattle.idl_grammar.specs.ReadPhrases.{Read, and_then, turned, many_read, behind_read}
 use Rattle.idl_grammar.proofs.Exact.{Stops, Found, Exact, HasPhrase, pair, Meets, pair_exact, Part, turned_exact}
 use Rattle.idl_grammar.proofs.Parts.{ruled_exact, optional_exact, optional_has, many_exact, many_has, marked, of_symbol, pair_has, turned_has}
 use Rattle.idl_grammar.proofs.Sequences.{skip_exact, skip_has, end_meets_exact, end_has}
@@ -12,9 +12,9 @@ use Rattle.idl_grammar.specs.declared.expressions.UnaryOperator.{UnaryOperator}
 use Rattle.idl_grammar.specs.declared.expressions.Operand.{Operand}
 use Rattle.idl_grammar.specs.declared.expressions.Operand.TheVariants as operand
 use Rattle.idl_grammar.specs.Symbols as symbol
-use Rattle.idl_grammar.specs.Limits.{level, symbol_level, is_unary, is_operator, operators, many_operators, binary_of, unary_of, binary_operators}
+use Rattle.idl_grammar.specs.Expressions.{level, symbol_level, is_unary, is_operator, operators, many_operators, binary_of, unary_of, binary_operators, spelled, placed, leaf, opening, counted}
+use Rattle.idl_grammar.specs.Expressions.{unary_sign, expr}
 use Rattle.idl_grammar.specs.Tree.{Expr, Leaf, Round, Unary, Binary, Conditional}
-use Rattle.idl_grammar.specs.Expressions.{spelled, placed, leaf, opening, counted, unary_sign, expr}
 use Rattle.idl_grammar.specs.ReadExpressions.{leaf_read, opening_read, unary_sign_read, binary_sign_read, question_read, fold, operation_read, level_read, conditional_of, choice_of_two_read}
 use Rattle.idl_grammar.specs.ReadExpressions.{conditional_read, round_read, unary_read, expr_read}
 use Rattle.idl_grammar.proofs.Levels.{Sign, level_of_sign, at_level, item, split, whole}
@@ -223,7 +223,7 @@ module _ (inside : Bool) (start : ℕ) where
       choice_exact i based in_text =
           pair_exact question (pair (expr inside depth start 0) (symbol.Colon ⊳ expr inside depth start 0)) anything stop_whole (λ lifted x m j b ph stop. tt)
           (pair_has _ _ (expr_has inside depth start 0) (skip_has symbol.Colon (expr inside depth start 0) refl (expr_has inside depth start 0))) t i
-          (question_read start t i) (λ at n. then (whole_of n) (λ a o. behind_read symbol.Colon t whole_of o))
+          (question_read start t i) (λ at n. and_then (whole_of n) (λ a o. behind_read symbol.Colon t whole_of o))
           (ruled_exact Depth (many_operators start) (many_operators_depends start) (λ a. is a.symbol symbol.Question) (λ a. a.at) (of_symbol symbol.Question) refl refl
           (λ lifted x j deep e. inl (deep j (omega arith))) anything t i in_text)
           (λ q n found.
@@ -311,7 +311,7 @@ module _ (inside : Bool) (start : ℕ) where
 
     unary_case : (i : ℕ) → base ≤ i → i ≤ length t → (b c : Bool) → is_unary (symbol_at t i) ≡ b → is (symbol_at t i) symbol.OpenRound ≡ c
         → Exact (expr inside depth start 11) (stop_at 0) t i
-        (cond b (turned (λ p. Unary p.0.0 p.0.1 p.1) (then (unary_sign_read start t i) (λ s m. unary depth m)))
+        (cond b (turned (λ p. Unary p.0.0 p.0.1 p.1) (and_then (unary_sign_read start t i) (λ s m. unary depth m)))
         (cond c (turned (λ p. Round p.0 p.1) (round_read depth t whole_of i)) (turned Leaf (leaf_read inside t i))))
     unary_case i based in_text true c h g =
         turned_exact (pair sign (expr inside depth start 11)) (expr inside depth start 11) unary_of_parts (λ lifted x i j a ph. ph) (stop_at 0) t i

@@ -1,17 +1,16 @@
 -- Files are read exactly.
 use Rattle.std.proofs.Common.{◌≡◌, ℕ, ◌+◌, ◌≤◌, true, false, List, [], ◌∷◌, length, refl, sym, subst, arith, inl, inr, Option, Some, None}
 use Rattle.idl_grammar.specs.Text.{Text, is_in, Lifted, Rel, located, made, ◌⊗◌, ◌⊳◌, ◌⊲◌, many, bracketed}
-use Rattle.idl_grammar.specs.ReadPhrases.{then}
+use Rattle.idl_grammar.specs.ReadPhrases.{and_then}
 use Rattle.idl_grammar.proofs.Exact.{Exact, HasPhrase, pair_exact, turned_exact}
 use Rattle.idl_grammar.proofs.Parts.{pair_has, many_has}
 use Rattle.idl_grammar.proofs.Sequences.{stops, Begins, subset, disjoint, meets_or, skip_exact, skip_has, skip_begins, end_exact, end_has, located_begins, bracketed_exact, bracketed_has}
 use Rattle.idl_grammar.proofs.Sequences.{made_begins, list_exact, list_begins, separated_exact, separated_has, ends_at}
 use Rattle.idl_grammar.specs.declared.words.Spelling.{Spelling}
 use Rattle.idl_grammar.specs.Symbols as symbol
-use Rattle.idl_grammar.specs.Limits.{names}
+use Rattle.idl_grammar.specs.Expressions.{names, spelled, ident}
 use Rattle.idl_grammar.specs.Tree as tree
 use Rattle.idl_grammar.specs.Tree.{Attributes, TypeSpec, Parameters, Export, Import}
-use Rattle.idl_grammar.specs.Expressions.{spelled, ident}
 use Rattle.idl_grammar.specs.ReadExpressions.{spelled_read, ident_read}
 use Rattle.idl_grammar.specs.Grammar.{attributes, export, commas, import, file}
 use Rattle.idl_grammar.specs.Reading.{type_firsts, member_firsts, export_read, export_firsts, commas_read, attributes_read, import_of, import_read, imports_read, exports_read, tree_of, file_read}
@@ -190,7 +189,7 @@ file_exact fuel nesting enough fueled t i in_text =
     (ident_read false t o) _ (ident_exact false (stops []) t o in_o)
     (λ name q found_q.
     bracketed_exact 0 symbol.OpenCurly symbol.CloseCurly contents refl refl (stops body_ends) (stops []) t q found_q.within (ends_at symbol.CloseCurly body_ends (stops []) body_closes) contents_has
-    (λ r. then (imports_read t r) (λ is u. exports_read fuel nesting t 1 u))
+    (λ r. and_then (imports_read t r) (λ is u. exports_read fuel nesting t 1 u))
     (λ room r past in_r.
     pair_exact (many import) (many (export 1)) (stops (symbol.Import ∷ [])) (stops body_ends)
     (meets_or (many (export 1)) export_firsts (symbol.Import ∷ []) body_ends (list_begins (export 1) export_firsts (export_begins 1)) exports_no_import import_ends) (many_has (export 1)) t r

@@ -1,10 +1,9 @@
 -- What is answered on the examples.
 use Rattle.std.proofs.Common.{◌≡◌, refl, subst, arith, Result, Ok, Err}
-use Rattle.idl_lexer.specs.Lexed.{Lexed}
-use Rattle.idl_grammar.specs.Text.{Depth, Ban}
+use Rattle.idl_lexer.specs.Verdict.{Lexed}
+use Rattle.idl_grammar.specs.Text.{Depth, Ban, lexemes, words, symbol_of}
 use Rattle.idl_grammar.specs.ReadPhrases.{Fault, Syntax, Passes}
-use Rattle.idl_grammar.specs.Lexemes.{lexemes, words, symbol_of}
-use Rattle.idl_grammar.specs.Limits.{names, binary_operators, unary_operators, binary_of, unary_of, symbol_level, is_unary, is_operator, many_operators}
+use Rattle.idl_grammar.specs.Expressions.{names, binary_operators, unary_operators, binary_of, unary_of, symbol_level, is_unary, is_operator, many_operators}
 use Rattle.idl_grammar.specs.ReadExpressions.{is_operand, operand_of, outer_read}
 use Rattle.idl_grammar.specs.Reading.{simple_firsts, width_read, unsigned_read, integer_read, simple_read, switch_type_read, pointer_class_read, variable_word_read, variable_name_read, uuid_read}
 use Rattle.idl_grammar.specs.Reading.{version_numbers_read, version_read, endpoint_read, pointer_default_read, variable_read, switch_attribute_read, case_attribute_read, bracket_attribute_read}

@@ -2,7 +2,7 @@
 use Rattle.std.proofs.Common.{◌≡◌, ℕ, ◌≤◌, Bool, true, false, cond, [], refl, sym, ap, arith, ◌∙◌, ◌⊎◌, inl, inr, Result, Ok, Err}
 use Rattle.idl_grammar.specs.Text.{Text, Rel, Depth, Ban}
 use Rattle.idl_grammar.specs.ReadPhrases.{Fault, Syntax, Passes}
-use Rattle.idl_grammar.specs.Verdict.{IsSyntax, IsRefused, Judges, whole_read}
+use Rattle.idl_grammar.specs.Answers.{IsSyntax, IsRefused, Judges, whole_read, is_banned, Answers, named, file_answer}
 use Rattle.idl_grammar.specs.Gives.{IsText}
 use Rattle.idl_grammar.proofs.Exact.{Exact}
 use Rattle.idl_grammar.proofs.Judged.{whole_judged, one_verdict}
@@ -10,7 +10,6 @@ use Rattle.idl_grammar.proofs.Sequences.{stops}
 use Rattle.idl_grammar.specs.Tree.{Tree}
 use Rattle.idl_grammar.specs.Grammar.{file}
 use Rattle.idl_grammar.specs.Reading.{file_read}
-use Rattle.idl_grammar.specs.Answers.{is_banned, Answers, named, file_answer}
 use Rattle.idl_grammar.proofs.FileExact.{file_exact}
 
 module _ {A : Type 0} (p : Rel A) (t : Text) where

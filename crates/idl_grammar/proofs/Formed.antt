@@ -3,18 +3,17 @@ use Rattle.std.proofs.Common.{◌≡◌, ℕ, zero, suc, Bool, true, false, cond
 use Rattle.std.specs.List.{list_all, AllByRecursion}
 use Rattle.std.specs.Str.{bytes_eq}
 use Rattle.nd_base.specs.Text.{is_identifier}
-use Rattle.idl_grammar.specs.Text.{lexeme_at, symbol_at, is_in}
+use Rattle.idl_grammar.specs.Text.{lexeme_at, symbol_at, is_in, symbol_among, words, symbol_of, lexeme_of, lexemes, no_words, IsFormed}
 use Rattle.std.proofs.lemmas.Bool.{and_parts as both}
 use Rattle.nd_lemmas.proofs.Booleans.{clash}
 use Rattle.idl_lexer.specs.declared.tokens.TokenKind.{TokenKind}
 use Rattle.idl_lexer.specs.declared.tokens.TokenKind.TheVariants as token
 use Rattle.idl_lexer.specs.declared.tokens.Token.{Token}
-use Rattle.idl_lexer.specs.Lexed.{Lexed, AreFormed}
-use Rattle.idl_lexer.specs.Lexed as lexed
+use Rattle.idl_lexer.specs.Verdict.{Lexed, AreFormed}
+use Rattle.idl_lexer.specs.Verdict as lexed
 use Rattle.idl_lexer.specs.Pieces.{IsUuid}
 use Rattle.idl_grammar.specs.Symbols.{Spelled, marks}
 use Rattle.idl_grammar.specs.Symbols as symbol
-use Rattle.idl_grammar.specs.Lexemes.{symbol_among, words, symbol_of, lexeme_of, lexemes, no_words, IsFormed}
 
 cond_one : (b : Bool) (m n : ℕ) (test : ℕ → Bool) (wanted : Bool) → test m ≡ wanted → test n ≡ wanted → test (cond b m n) ≡ wanted
 cond_one true m n test wanted p q = p

@@ -9,7 +9,7 @@ use Rattle.std.proofs.lemmas.Bool.{le-leb}
 use Rattle.std.proofs.lemmas.Bool.Decides.{eqb_tells}
 use Rattle.idl_grammar.specs.Text.{Rel, Text, the_end, lexeme_at, Lifted, Rule, Depth, Ban}
 use Rattle.idl_grammar.specs.ReadPhrases.{Fault, Syntax, Passes, Read}
-use Rattle.idl_grammar.specs.Verdict.{begins, derives, strict, lax, limits_before, limits_before_but, all_but, Judges, whole_read}
+use Rattle.idl_grammar.specs.Answers.{begins, derives, strict, lax, limits_before, limits_before_but, all_but, Judges, whole_read}
 use Rattle.idl_grammar.proofs.OneVerdict.{Refused, refused_alone, tree_alone}
 use Rattle.idl_grammar.proofs.Exact.{place, front, Refuses, Lifts, Agrees, IsDeepFrom, Stops, Found, Failed, Exact}
 

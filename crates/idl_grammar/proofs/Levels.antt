@@ -7,9 +7,8 @@ use Rattle.nd_lemmas.proofs.Booleans.{clash}
 use Rattle.idl_grammar.specs.Text.{Text, symbol_at, Lifted, Rel, Depth, many, token, unless}
 use Rattle.idl_grammar.proofs.Exact.{pair}
 use Rattle.idl_grammar.specs.declared.expressions.BinaryOperator.{BinaryOperator}
-use Rattle.idl_grammar.specs.Limits.{level, symbol_level, binary_of, many_operators}
+use Rattle.idl_grammar.specs.Expressions.{level, symbol_level, binary_of, many_operators, expr, counted, binary_sign}
 use Rattle.idl_grammar.specs.Tree.{Expr, Leaf, Round, Unary, Binary, Conditional}
-use Rattle.idl_grammar.specs.Expressions.{expr, counted, binary_sign}
 use Rattle.idl_grammar.specs.ReadExpressions.{fold}
 
 -- an operator and its octet

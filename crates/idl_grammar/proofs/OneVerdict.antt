@@ -5,7 +5,7 @@ use Rattle.std.proofs.lemmas.Bool.{lt-leb}
 use Rattle.std.proofs.lemmas.Bool.Decides.{eqb_tells}
 use Rattle.idl_grammar.specs.Text.{Rel, Text, the_end, Lifted, Rule, Depth, Ban}
 use Rattle.idl_grammar.specs.ReadPhrases.{Fault, Syntax, Passes}
-use Rattle.idl_grammar.specs.Verdict.{begins, derives, strict, lax, limits_before, limits_before_but, all_but, is_rule, IsSyntax, IsRefused, IsTree, Judges}
+use Rattle.idl_grammar.specs.Answers.{begins, derives, strict, lax, limits_before, limits_before_but, all_but, is_rule, IsSyntax, IsRefused, IsTree, Judges}
 use Rattle.idl_grammar.proofs.Exact.{place, front, front_late, Refuses, Lifts, IsDeepFrom}
 
 -- a text that goes as far as it can

@@ -7,9 +7,8 @@ use Rattle.idl_grammar.proofs.Parts.{turned_has}
 use Rattle.idl_grammar.proofs.Sequences.{stops, Begins, subset, smaller, in_more}
 use Rattle.idl_grammar.specs.declared.expressions.Operand.TheVariants as operand
 use Rattle.idl_grammar.specs.Symbols as symbol
-use Rattle.idl_grammar.specs.Limits.{names, symbol_level, is_unary, symbols_of, binary_operators, unary_operators, level, binary_of}
+use Rattle.idl_grammar.specs.Expressions.{names, symbol_level, is_unary, symbols_of, binary_operators, unary_operators, level, binary_of, spelled, expr, outer}
 use Rattle.idl_grammar.specs.Tree.{Expr, Leaf, Round, Unary, Binary, Conditional}
-use Rattle.idl_grammar.specs.Expressions.{spelled, expr, outer}
 use Rattle.idl_grammar.specs.ReadExpressions.{outer_read}
 use Rattle.idl_grammar.proofs.Combine.{alone_in, here_exact, stopped_exact, spelled_has}
 use Rattle.idl_grammar.proofs.ExpressionParts.{operand_symbols, is_in_list, leaf_back}

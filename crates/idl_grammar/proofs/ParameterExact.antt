@@ -11,7 +11,7 @@ use Rattle.idl_grammar.specs.declared.types.SimpleType.TheVariants as types
 use Rattle.idl_grammar.specs.declared.types.IntegerType.TheVariants as integers
 use Rattle.idl_grammar.specs.declared.types.TagKind.TheVariants as tags
 use Rattle.idl_grammar.specs.Symbols as symbol
-use Rattle.idl_grammar.specs.Limits.{names}
+use Rattle.idl_grammar.specs.Expressions.{names}
 use Rattle.idl_grammar.specs.Tree as tree
 use Rattle.idl_grammar.specs.Tree.{Attributes, Declarator, TypeSpec, Parameter, Parameters}
 use Rattle.idl_grammar.specs.Grammar.{commas, width, integer, simple, attributes, declarator, type_spec, parameter}

@@ -3,16 +3,15 @@ use Rattle.std.proofs.Common.{◌≡◌, ℕ, ◌+◌, ◌≤◌, Bool, true, fa
 use Rattle.std.proofs.lemmas.Bool.{eqb-true}
 use Rattle.nd_lemmas.proofs.Booleans.{clash}
 use Rattle.idl_grammar.specs.Text.{Lexeme, Text, lexeme_at, symbol_at, is, is_in, Lifted, Rel, nothing, mark, many, optional, located, separated, made, ◌▹◌, ◌⊗◌, ◌⊳◌}
-use Rattle.idl_grammar.specs.ReadPhrases.{Read, then, turned}
+use Rattle.idl_grammar.specs.ReadPhrases.{Read, and_then, turned}
 use Rattle.idl_grammar.proofs.Exact.{Stops, Exact, HasPhrase, Part, pair_exact, turned_exact}
 use Rattle.idl_grammar.proofs.Parts.{turned_has, optional_has, many_has}
 use Rattle.idl_grammar.proofs.Sequences.{stops, Begins, meets_or, pair_begins, list_begins, separated_begins, skip_begins}
 use Rattle.idl_grammar.specs.declared.types.SimpleType.TheVariants as types
 use Rattle.idl_grammar.specs.Symbols as symbol
-use Rattle.idl_grammar.specs.Limits.{names}
+use Rattle.idl_grammar.specs.Expressions.{names, placed}
 use Rattle.idl_grammar.specs.Tree as tree
 use Rattle.idl_grammar.specs.Tree.{Attributes, Declarator, TypeSpec, Parameter, Parameters}
-use Rattle.idl_grammar.specs.Expressions.{placed}
 use Rattle.idl_grammar.specs.ReadExpressions.{placed_read}
 use Rattle.idl_grammar.specs.Grammar.{commas, simple, declarator, parameter, parameters}
 use Rattle.idl_grammar.specs.Reading.{branch_read, bind_read, commas_read, declarator_read, type_firsts, member_firsts, parameter_of, parameter_read, more_parameters_read, void_parameters_read}
@@ -151,7 +150,7 @@ module _ (depth : ℕ) where
 
   module _ (fuel nesting : ℕ) (enough : 129 ≤ nesting) (shallow : depth ≤ 64) (fueled : 65 ≤ fuel + depth) (t : Text) where
     abbrev behind_first_read : ℕ → Read (Declarator × List Parameter)
-    behind_first_read i = then (declarator_read nesting t depth i) (λ d m. more_parameters_read fuel nesting t depth m)
+    behind_first_read i = and_then (declarator_read nesting t depth i) (λ d m. more_parameters_read fuel nesting t depth m)
 
     behind_first_exact : (i : ℕ) → i ≤ length t → Exact behind_first (stops declarators_ends) t i (behind_first_read i)
     behind_first_exact i in_text =
@@ -161,7 +160,7 @@ module _ (depth : ℕ) where
         (many_has (symbol.Comma ⊳ parameter depth)) t i (declarator_read nesting t depth i) (λ d m. more_parameters_read fuel nesting t depth m) (declarator_exact nesting enough t depth i in_text)
         (λ d m found. more_exact depth fuel nesting enough shallow fueled t m found.within)
 
-    void_parts_exact : (i : ℕ) → i ≤ length t → Exact void_parts closing t i (then (placed_read symbol.Void t i) (λ at m. unless_read symbol.CloseRound t behind_first_read m))
+    void_parts_exact : (i : ℕ) → i ≤ length t → Exact void_parts closing t i (and_then (placed_read symbol.Void t i) (λ at m. unless_read symbol.CloseRound t behind_first_read m))
     void_parts_exact i in_text =
         pair_exact (placed symbol.Void) (optional behind_first) (stops []) closing (λ lifted x m j b ph stop. refl) (optional_has behind_first) t i (placed_read symbol.Void t i)
         (λ at m. unless_read symbol.CloseRound t behind_first_read m)
@@ -170,7 +169,7 @@ module _ (depth : ℕ) where
         unless_exact behind_first declarator_firsts behind_first_begins symbol.CloseRound declarators_no_close (stops declarators_ends) closing_ends t m found.within behind_first_read
         (behind_first_exact m found.within))
 
-    void_is : (i : ℕ) → turned void_of (then (placed_read symbol.Void t i) (λ at m. unless_read symbol.CloseRound t behind_first_read m))
+    void_is : (i : ℕ) → turned void_of (and_then (placed_read symbol.Void t i) (λ at m. unless_read symbol.CloseRound t behind_first_read m))
         ≡ bind_read (placed_read symbol.Void t i) (λ at m. branch_read (symbol.CloseRound ∷ []) t m (Ok (tree.Void, m)) (void_parameters_read fuel nesting t depth at m))
     unfolding void_parameters_read
     void_is i =

@@ -6,9 +6,8 @@ use Rattle.std.proofs.Math.Decide.{dec_lt}
 use Rattle.std.proofs.Math.ListN.{get_or-append}
 use Rattle.std.proofs.lemmas.List.{drop_at, get_or_past, get_or-drop, get_or-take, drop-drop}
 use Rattle.nd_lemmas.proofs.Booleans.{clash}
-use Rattle.idl_grammar.specs.Text.{Rel, Lexeme}
-use Rattle.idl_grammar.specs.Text.{Text, the_end, lexeme_at, symbol_at, Lifted, mark, many, token, optional, unless, is, Rule}
-use Rattle.idl_grammar.specs.ReadPhrases.{Syntax, Passes, Read, then, turned, token_read, ruled_read, mark_read, optional_read, many_read, to_unit}
+use Rattle.idl_grammar.specs.Text.{Rel, Lexeme, Text, the_end, lexeme_at, symbol_at, Lifted, mark, many, token, optional, unless, is, Rule}
+use Rattle.idl_grammar.specs.ReadPhrases.{Syntax, Passes, Read, and_then, turned, token_read, ruled_read, mark_read, optional_read, many_read, to_unit}
 use Rattle.idl_grammar.proofs.Exact.{Agrees, IsDeepFrom, Stops, Found, Rest, Failed, Exact, HasPhrase, pair, Meets, pair_exact, Part, turned_exact, deep_later}
 
 -- ## texts
@@ -243,7 +242,7 @@ module _ {A : Type 0} (P : Rel A) (go : Lexeme → Bool) (StopP Stop : Stops)
     nil_only i h lifted x e (a ∷ rest) j ph stop = clash (go (lexeme_at x i)) (first lifted x i ph.0 a ph.1) (ap go e ∙ h)
 
     many_case : (n i : ℕ) → base ≤ i → i ≤ length t → (rest : (m : ℕ) → m ≤ length t → i < m → Exact (many P) Stop t m (many_read go item t n m))
-        → (b : Bool) → go (lexeme_at t i) ≡ b → Exact (many P) Stop t i (cond b (turned consed (then (item i) (λ a m. many_read go item t n m))) (Ok ([], i)))
+        → (b : Bool) → go (lexeme_at t i) ≡ b → Exact (many P) Stop t i (cond b (turned consed (and_then (item i) (λ a m. many_read go item t n m))) (Ok ([], i)))
     many_case n i based in_text rest true h =
         turned_exact (pair P (many P)) (many P) consed (λ lifted x i j a ph. ph) Stop t i (cons_back i h) _
         (pair_exact P (many P) StopP Stop many_meets (many_has P) t i (item i) (λ a m. many_read go item t n m) (exact i based in_text)

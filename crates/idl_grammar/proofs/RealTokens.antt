@@ -2,17 +2,16 @@
 use Rattle.std.proofs.Common.{◌≡◌, ℕ, zero, suc, Bool, true, false, cond, eqb, not, List, [], ◌∷◌, map, refl, ap, arith}
 use Rattle.std.specs.List.{list_all}
 use Rattle.std.specs.Str.{bytes_eq}
-use Rattle.idl_grammar.specs.Text.{Lexeme}
+use Rattle.idl_grammar.specs.Text.{Lexeme, symbol_among, words, symbol_of, lexeme_of, lexemes}
 use Rattle.idl_grammar.specs.Gives.{IsText}
 use Rattle.std.proofs.lemmas.Bool.{and_parts as both, not-true as not_zero}
 use Rattle.nd_lemmas.proofs.Booleans.{clash}
 use Rattle.idl_lexer.specs.declared.tokens.TokenKind.{TokenKind}
 use Rattle.idl_lexer.specs.declared.tokens.TokenKind.TheVariants as token
 use Rattle.idl_lexer.specs.declared.tokens.Token.{Token}
-use Rattle.idl_lexer.specs.Lexed.{Lexed}
+use Rattle.idl_lexer.specs.Verdict.{Lexed}
 use Rattle.idl_grammar.specs.Symbols.{Spelled, marks}
 use Rattle.idl_grammar.specs.Symbols as symbol
-use Rattle.idl_grammar.specs.Lexemes.{symbol_among, words, symbol_of, lexeme_of, lexemes}
 
 -- no word of a list has the number of the end
 abbrev pub are_real : List Spelled → Bool

@@ -6,7 +6,7 @@ use Rattle.std.proofs.lemmas.Bool.Decides.{eqb_tells}
 use Rattle.nd_lemmas.proofs.Booleans.{clash}
 use Rattle.idl_grammar.specs.Text.{Lexeme, Text, lexeme_at, symbol_at, is, is_in, Depth, Lifted, Rel, many, token, optional, unless, ◌⊗◌, ◌⊳◌, ◌⊲◌, ◌∣◌, located, some_of, separated, many_brackets}
 use Rattle.idl_grammar.specs.Text.{bracketed, made}
-use Rattle.idl_grammar.specs.ReadPhrases.{Read, join, then, turned, mark_read, to_unit, skip, ended, end_with, located_read, choice_read, option_read, list_read, some_read, behind_read}
+use Rattle.idl_grammar.specs.ReadPhrases.{Read, join, and_then, turned, mark_read, to_unit, skip, ended, end_with, located_read, choice_read, option_read, list_read, some_read, behind_read}
 use Rattle.idl_grammar.specs.ReadPhrases.{separated_read, open_read, bracketed_read}
 use Rattle.idl_grammar.proofs.Exact.{Stops, Found, Exact, HasPhrase, Meets, pair_exact, Part, turned_exact}
 use Rattle.idl_grammar.proofs.Parts.{ruled_exact, ruled_has, optional_exact, many_exact, many_has, mark_exact, mark_has, marked, of_symbol, pair_has, turned_has, moves_of}
@@ -72,7 +72,7 @@ fewer_stops P ends all t i s (Err e) f = record {
 
 -- ## marks before and after
 
-skip_is : {A : Type 0} (r : Read (Unit {0})) (g : ℕ → Read A) → turned (λ (p : Unit {0} × A). p.1) (then r (λ u m. g m)) ≡ skip r g
+skip_is : {A : Type 0} (r : Read (Unit {0})) (g : ℕ → Read A) → turned (λ (p : Unit {0} × A). p.1) (and_then r (λ u m. g m)) ≡ skip r g
 skip_is (Err f) g = refl
 skip_is {A = A} (Ok x) g = by_case (g x.1) where
   by_case : (s : Read A) → turned (λ (p : Unit {0} × A). p.1) (join x.0 s) ≡ s
@@ -84,7 +84,7 @@ pub skip_exact : {A : Type 0} (s : ℕ) (P : Rel A) (Stop : Stops) (t : Text) (i
 skip_exact {A = A} s P Stop t i real in_text has g exact =
     subst (λ (r : Read A). Exact (s ⊳ P) Stop t i r) (skip_is (mark_read s t i) g)
     (turned_exact (marked s ⊗ P) (s ⊳ P) (λ (p : Unit {0} × A). p.1) (λ lifted x i j a ph. ph) Stop t i
-    (λ lifted x e c j ph stop. record { part = (tt, c); is = refl; phrase = ph }) (then (mark_read s t i) (λ u m. g m))
+    (λ lifted x e c j ph stop. record { part = (tt, c); is = refl; phrase = ph }) (and_then (mark_read s t i) (λ u m. g m))
     (pair_exact (marked s) P (stops []) Stop (λ lifted x m j b ph stop. refl) has t i (mark_read s t i) (λ u m. g m) (mark_exact s real (stops []) t i in_text)
     (λ u m found. exact m (omega (arith, (found.phrase (λ _ _. false) t (λ p lt. refl)).1)) found.within)))
 
@@ -94,7 +94,7 @@ skip_has {A = A} s P real has = turned_has (marked s ⊗ P) (s ⊳ P) (λ (p : U
 pub skip_begins : {A : Type 0} (s : ℕ) (P : Rel A) → Begins (s ⊳ P) (s ∷ [])
 skip_begins s P lifted x i j a ph = ap (λ (b : Bool). b || false) (eq-eqb (symbol_at x i) s ph.1.0)
 
-end_is : {A : Type 0} (r : Read A) (g : ℕ → Read (Unit {0})) → turned (λ (p : A × Unit {0}). p.0) (then r (λ a m. g m)) ≡ end_with r g
+end_is : {A : Type 0} (r : Read A) (g : ℕ → Read (Unit {0})) → turned (λ (p : A × Unit {0}). p.0) (and_then r (λ a m. g m)) ≡ end_with r g
 end_is (Err f) g = refl
 end_is {A = A} (Ok x) g = by_case (g x.1) where
   by_case : (s : Read (Unit {0})) → turned (λ (p : A × Unit {0}). p.0) (join x.0 s) ≡ ended x.0 s
@@ -106,7 +106,7 @@ pub end_meets_exact : {A : Type 0} (P : Rel A) (s : ℕ) (StopP Stop : Stops) (t
 end_meets_exact {A = A} P s StopP Stop t i real meets r exact =
     subst (λ (v : Read A). Exact (P ⊲ s) Stop t i v) (end_is r (λ m. mark_read s t m))
     (turned_exact (P ⊗ marked s) (P ⊲ s) (λ (p : A × Unit {0}). p.0) (λ lifted x i j a ph. ph) Stop t i
-    (λ lifted x e c j ph stop. record { part = (c, tt); is = refl; phrase = ph }) (then r (λ a m. mark_read s t m))
+    (λ lifted x e c j ph stop. record { part = (c, tt); is = refl; phrase = ph }) (and_then r (λ a m. mark_read s t m))
     (pair_exact P (marked s) StopP Stop meets (mark_has s real) t i r (λ a m. mark_read s t m) exact
     (λ a m found. mark_exact s real Stop t m found.within)))
 

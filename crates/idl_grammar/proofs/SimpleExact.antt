@@ -1,7 +1,7 @@
 -- Types without parts are read exactly.
 use Rattle.std.proofs.Common.{◌≡◌, ℕ, ◌≤◌, Bool, true, false, List, [], ◌∷◌, length, refl, sym, subst, ◌⊎◌, inl, inr}
 use Rattle.idl_grammar.specs.Text.{Text, symbol_at, Lifted, Rel, never, mark, ◌▹◌, ◌⊗◌, ◌⊳◌, ◌∣◌}
-use Rattle.idl_grammar.specs.ReadPhrases.{then, mark_read, behind_read}
+use Rattle.idl_grammar.specs.ReadPhrases.{and_then, mark_read, behind_read}
 use Rattle.idl_grammar.proofs.Exact.{Exact, HasPhrase, Part, pair_exact}
 use Rattle.idl_grammar.proofs.Parts.{marked, mark_exact, mark_has, pair_has, turned_has}
 use Rattle.idl_grammar.proofs.Sequences.{stops, Begins, disjoint, meets_or, skip_exact, skip_begins, pair_begins}
@@ -14,8 +14,7 @@ use Rattle.idl_grammar.specs.declared.types.SimpleType.TheVariants as types
 use Rattle.idl_grammar.specs.declared.types.SwitchType.{SwitchType}
 use Rattle.idl_grammar.specs.declared.types.SwitchType.TheVariants as switches
 use Rattle.idl_grammar.specs.Symbols as symbol
-use Rattle.idl_grammar.specs.Limits.{names, symbols_of}
-use Rattle.idl_grammar.specs.Expressions.{ident}
+use Rattle.idl_grammar.specs.Expressions.{names, symbols_of, ident}
 use Rattle.idl_grammar.specs.Grammar.{flag, one_of, width_words, width, integer, simple, switch_type}
 use Rattle.idl_grammar.specs.ReadExpressions.{ident_read}
 use Rattle.idl_grammar.specs.Reading.{flag_read, width_symbols, simple_words, simple_firsts, width_read, unsigned_read, integer_read, simple_read, switch_type_read}
@@ -69,7 +68,7 @@ unsigned_back lifted x i j types.Handle ph = absurd ph
 sized_begins : Begins (width ⊗ flag symbol.Int) width_symbols
 sized_begins = pair_begins width (flag symbol.Int) width_symbols width_begins
 
-sized_exact : (t : Text) (i : ℕ) → i ≤ length t → Exact (width ⊗ flag symbol.Int) (stops simple_ends) t i (then (width_read t i) (λ w m. flag_read symbol.Int t m))
+sized_exact : (t : Text) (i : ℕ) → i ≤ length t → Exact (width ⊗ flag symbol.Int) (stops simple_ends) t i (and_then (width_read t i) (λ w m. flag_read symbol.Int t m))
 sized_exact t i in_text =
     pair_exact width (flag symbol.Int) (stops []) (stops simple_ends) (λ lifted x m j b ph stop. refl) (flag_has symbol.Int refl) t i (width_read t i) (λ w m. flag_read symbol.Int t m)
     (width_exact [] t i in_text) (λ w m found. flag_exact symbol.Int refl simple_ends refl t m found.within)
@@ -78,7 +77,7 @@ unsigned_exact : (t : Text) (i : ℕ) → i ≤ length t → Exact unsigned_rest
 unfolding unsigned_read
 unsigned_exact t i in_text =
     branch_exact (marked symbol.Char) (width ⊗ flag symbol.Int) unsigned_rest unsigned_of (symbol.Char ∷ []) width_symbols (mark_begins symbol.Char refl) sized_begins refl unsigned_forth unsigned_back
-    (stops simple_ends) t i (mark_read symbol.Char t i) (then (width_read t i) (λ w m. flag_read symbol.Int t m)) (λ h. mark_exact symbol.Char refl (stops simple_ends) t i in_text)
+    (stops simple_ends) t i (mark_read symbol.Char t i) (and_then (width_read t i) (λ w m. flag_read symbol.Int t m)) (λ h. mark_exact symbol.Char refl (stops simple_ends) t i in_text)
     (sized_exact t i in_text)
 
 unsigned_has : HasPhrase unsigned_rest
@@ -117,7 +116,7 @@ integer_exact t i in_text =
     Rattle.idl_grammar.proofs.Exact.turned_exact width_parts width_first width_of_parts (λ lifted x i j a ph. ph) (stops simple_ends) t i (λ lifted x e c j ph stop. width_back lifted x i j c ph) _
     (pair_exact width (flag symbol.Unsigned ⊗ flag symbol.Int) (stops []) (stops simple_ends) (λ lifted x m j b ph stop. refl)
     (pair_has _ _ (flag_has symbol.Unsigned refl) (flag_has symbol.Int refl)) t i
-    (width_read t i) (λ w m. then (flag_read symbol.Unsigned t m) (λ u o. flag_read symbol.Int t o))
+    (width_read t i) (λ w m. and_then (flag_read symbol.Unsigned t m) (λ u o. flag_read symbol.Int t o))
     (width_exact [] t i in_text)
     (λ w m found.
     pair_exact (flag symbol.Unsigned) (flag symbol.Int) (stops (symbol.Unsigned ∷ [])) (stops simple_ends)

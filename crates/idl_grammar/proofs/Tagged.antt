@@ -1,14 +1,13 @@
 -- A word, and a tag with a body or without one, or a body alone.
 use Rattle.std.proofs.Common.{◌≡◌, ℕ, ◌≤◌, Bool, true, false, List, [], ◌∷◌, cond, length, refl, ap, ◌∙◌, ◌⊎◌, inl, inr, Option, Some, None, Ok}
 use Rattle.idl_grammar.specs.Text.{Text, symbol_at, is, is_in, Rel, optional, ◌⊗◌, ◌∣◌}
-use Rattle.idl_grammar.specs.ReadPhrases.{Read, then, turned, choice_read, option_read}
+use Rattle.idl_grammar.specs.ReadPhrases.{Read, and_then, turned, choice_read, option_read}
 use Rattle.idl_grammar.proofs.Exact.{Exact, HasPhrase, pair_exact}
 use Rattle.idl_grammar.proofs.Parts.{pair_has, optional_has}
 use Rattle.idl_grammar.proofs.Sequences.{stops, Begins, disjoint, subset, pair_begins, option_exact, choice_exact, choice_has, fewer_stops}
 use Rattle.idl_grammar.specs.declared.words.Spelling.{Spelling}
-use Rattle.idl_grammar.specs.Limits.{names}
+use Rattle.idl_grammar.specs.Expressions.{names, placed, ident}
 use Rattle.idl_grammar.specs.Tree.{TypeSpec}
-use Rattle.idl_grammar.specs.Expressions.{placed, ident}
 use Rattle.idl_grammar.specs.ReadExpressions.{placed_read, ident_read}
 use Rattle.idl_grammar.specs.Reading.{branch_read, bind_read, tagged_read}
 use Rattle.idl_grammar.proofs.Combine.{branch_is, bind_is, bind_alike, turned_twice, placed_exact, placed_begins, ident_exact, ident_has, ident_begins}
@@ -37,17 +36,17 @@ module _ {B : Type 0} (alone : ℕ → Spelling → TypeSpec) (full : ℕ → Op
 
   module _ (firsts : List ℕ) (t : Text) (body : ℕ → Read B) where
     abbrev pub tagging_read : ℕ → Read (Tagging B)
-    tagging_read m = choice_read (names false) t m (then (ident_read false t m) (λ tag o. option_read firsts t body o)) (body m)
+    tagging_read m = choice_read (names false) t m (and_then (ident_read false t m) (λ tag o. option_read firsts t body o)) (body m)
 
     -- the parts, and what is made of them at once
     tagging_is : (at m : ℕ) → turned (tagging_of at) (tagging_read m) ≡ tagged_read firsts t (alone at) (λ tag o. turned (full at tag) (body o)) m
     tagging_is at m =
-        branch_is (tagging_of at) (names false) t m (then (ident_read false t m) (λ tag o. option_read firsts t body o)) (body m)
+        branch_is (tagging_of at) (names false) t m (and_then (ident_read false t m) (λ tag o. option_read firsts t body o)) (body m)
         ∙ ap (λ (r : Read TypeSpec). branch_read (names false) t m r (turned (full at None) (body m)))
         (bind_is (with_tag at) (ident_read false t m) (λ tag o. option_read firsts t body o)
         ∙ bind_alike (ident_read false t m) _ _ (λ tag o. option_case at tag (is_in firsts (symbol_at t o)) (body o) o))
 
-    pub tagged_is : (s i : ℕ) → turned tagged_of (then (placed_read s t i) (λ at m. tagging_read m))
+    pub tagged_is : (s i : ℕ) → turned tagged_of (and_then (placed_read s t i) (λ at m. tagging_read m))
         ≡ bind_read (placed_read s t i) (λ at m. tagged_read firsts t (alone at) (λ tag o. turned (full at tag) (body o)) m)
     tagged_is s i = bind_is tagging_of (placed_read s t i) (λ at m. tagging_read m) ∙ bind_alike (placed_read s t i) _ _ tagging_is
 
@@ -70,7 +69,7 @@ module _ {B : Type 0} (P : Rel B) (firsts : List ℕ) (P_begins : Begins P first
   tagged_begins s real = pair_begins (placed s) tagging (s ∷ []) (placed_begins s real)
 
   pub tagged_exact : (s : ℕ) → is 0 s ≡ false → (t : Text) (i : ℕ) → i ≤ length t → (body : ℕ → Read B) → ((m : ℕ) → m ≤ length t → Exact P (stops []) t m (body m))
-      → Exact (tagged s) (stops type_ends) t i (then (placed_read s t i) (λ at m. choice_read (names false) t m (then (ident_read false t m) (λ tag o. option_read firsts t body o)) (body m)))
+      → Exact (tagged s) (stops type_ends) t i (and_then (placed_read s t i) (λ at m. choice_read (names false) t m (and_then (ident_read false t m) (λ tag o. option_read firsts t body o)) (body m)))
   tagged_exact s real t i in_text body exact =
       pair_exact (placed s) tagging (stops []) (stops type_ends) (λ lifted x m j b ph stop. refl) tagging_has t i (placed_read s t i) _ (placed_exact s real (stops []) t i in_text)
       (λ at m found.

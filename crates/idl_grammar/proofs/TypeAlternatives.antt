@@ -8,10 +8,9 @@ use Rattle.idl_grammar.specs.declared.words.Spelling.{Spelling}
 use Rattle.idl_grammar.specs.declared.types.TagKind.{TagKind}
 use Rattle.idl_grammar.specs.declared.types.TagKind.TheVariants as tags
 use Rattle.idl_grammar.specs.Symbols as symbol
-use Rattle.idl_grammar.specs.Limits.{names}
+use Rattle.idl_grammar.specs.Expressions.{names, ident}
 use Rattle.idl_grammar.specs.Tree as tree
 use Rattle.idl_grammar.specs.Tree.{Enumerator, Label, TypeSpec, Members, Cases, Arms, Arm}
-use Rattle.idl_grammar.specs.Expressions.{ident}
 use Rattle.idl_grammar.specs.Grammar.{simple, tag_symbol, in_curly, type_spec, some_members, some_cases, some_arms}
 use Rattle.idl_grammar.specs.Reading.{simple_firsts, type_firsts, MemberParts, members_of, cases_of, arms_of}
 use Rattle.idl_grammar.proofs.Combine.{alone_in}

@@ -1,7 +1,7 @@
 -- The bodies of types are read exactly, over any phrases of types inside them.
 use Rattle.std.proofs.Common.{◌≡◌, ℕ, ◌+◌, ◌<◌, ◌≤◌, true, false, List, [], ◌∷◌, length, refl, arith, ◌⊎◌, inl, inr, Option, Some, None}
 use Rattle.idl_grammar.specs.Text.{Text, is_in, Lifted, Rel, mark, optional, bracketed, some_of, located, made, ◌⊗◌, ◌⊲◌, ◌∣◌}
-use Rattle.idl_grammar.specs.ReadPhrases.{Read, then, mark_read, choice_read}
+use Rattle.idl_grammar.specs.ReadPhrases.{Read, and_then, mark_read, choice_read}
 use Rattle.idl_grammar.proofs.Exact.{Exact, HasPhrase, Part, pair_exact}
 use Rattle.idl_grammar.proofs.Parts.{marked, mark_exact, mark_has, pair_has, turned_has, optional_has}
 use Rattle.idl_grammar.proofs.Sequences.{stops, Begins, subset, disjoint, meets_first, ends_at, end_exact, end_has, end_begins, pair_begins, or_pair_begins, located_exact, located_has}
@@ -9,7 +9,7 @@ use Rattle.idl_grammar.proofs.Sequences.{located_begins, some_exact, some_has, b
 use Rattle.idl_grammar.specs.declared.words.Spelling.{Spelling}
 use Rattle.idl_grammar.specs.declared.types.Discriminant.{Discriminant}
 use Rattle.idl_grammar.specs.Symbols as symbol
-use Rattle.idl_grammar.specs.Limits.{names}
+use Rattle.idl_grammar.specs.Expressions.{names}
 use Rattle.idl_grammar.specs.Tree as tree
 use Rattle.idl_grammar.specs.Tree.{Attributes, Declarator, Label, TypeSpec, Arm}
 use Rattle.idl_grammar.specs.Grammar.{attributes, declarator, declarators, labels, union_switch}
@@ -330,7 +330,7 @@ module _ (depth : ℕ) (R : Rel TypeSpec) (R_has : HasPhrase R) (R_begins : Begi
     -- the body of a union, before its type is made
     abbrev pub union_parts_read : ℕ → Read (Cased ⊎ List Arm)
     union_parts_read i =
-        choice_read (symbol.Switch ∷ []) t i (then (union_switch_read t depth i) (λ s m. cases_body_read nesting t depth again m)) (arms_body_read nesting t depth again i)
+        choice_read (symbol.Switch ∷ []) t i (and_then (union_switch_read t depth i) (λ s m. cases_body_read nesting t depth again m)) (arms_body_read nesting t depth again i)
 
     curly_no_name : disjoint (symbol.OpenCurly ∷ []) (names false) ≡ true
     unfolding names

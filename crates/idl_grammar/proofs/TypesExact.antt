@@ -1,7 +1,7 @@
 -- Types are read exactly.
 use Rattle.std.proofs.Common.{◌≡◌, ℕ, zero, suc, ◌+◌, ◌<◌, ◌≤◌, true, false, List, [], ◌∷◌, length, refl, sym, ap, subst, arith, ◌∙◌, inl, inr, Option, Some, None, Ok}
 use Rattle.idl_grammar.specs.Text.{Text, Lifted, Rel, made}
-use Rattle.idl_grammar.specs.ReadPhrases.{Read, then, turned}
+use Rattle.idl_grammar.specs.ReadPhrases.{Read, and_then, turned}
 use Rattle.idl_grammar.proofs.Exact.{Exact}
 use Rattle.idl_grammar.proofs.Sequences.{stops, Begins, disjoint, subset, fewer_stops, made_exact, made_begins}
 use Rattle.idl_grammar.specs.declared.words.Spelling.{Spelling}
@@ -9,10 +9,9 @@ use Rattle.idl_grammar.specs.declared.types.TagKind.{TagKind}
 use Rattle.idl_grammar.specs.declared.types.Discriminant.{Discriminant}
 use Rattle.idl_grammar.specs.declared.types.TagKind.TheVariants as tags
 use Rattle.idl_grammar.specs.Symbols as symbol
-use Rattle.idl_grammar.specs.Limits.{names}
+use Rattle.idl_grammar.specs.Expressions.{names, ident}
 use Rattle.idl_grammar.specs.Tree as tree
 use Rattle.idl_grammar.specs.Tree.{Enumerator, Label, TypeSpec, Members, Cases, Arms, Arm}
-use Rattle.idl_grammar.specs.Expressions.{ident}
 use Rattle.idl_grammar.specs.ReadExpressions.{ident_read}
 use Rattle.idl_grammar.specs.Grammar.{simple, enumerators, type_spec}
 use Rattle.idl_grammar.specs.Reading.{branch_read, bind_read, simple_firsts, simple_read, enumerators_read, struct_body_read, struct_read, union_body_read, union_read, enum_read, tagged_read}
@@ -225,7 +224,7 @@ module _ (depth : ℕ) where
     abbrev union_firsts : List ℕ
     union_firsts = symbol.Switch ∷ symbol.OpenCurly ∷ []
 
-    union_is : (i : ℕ) → turned (union_of depth) (then (placed_read symbol.Union t i) (λ at m. tagging_read (union_alone depth) (union_full depth) union_firsts t parts_of_union m))
+    union_is : (i : ℕ) → turned (union_of depth) (and_then (placed_read symbol.Union t i) (λ at m. tagging_read (union_alone depth) (union_full depth) union_firsts t parts_of_union m))
         ≡ bind_read (placed_read symbol.Union t i) (λ at m. union_read nesting t depth again at m)
     unfolding union_read
     union_is i =

@@ -23,11 +23,10 @@ use Rattle.idl_grammar.specs.declared.types.TagKind.{TagKind}
 use Rattle.idl_grammar.specs.declared.types.TagKind.TheVariants as tags
 use Rattle.idl_grammar.specs.declared.types.Discriminant.{Discriminant}
 use Rattle.idl_grammar.specs.Symbols as symbol
-use Rattle.idl_grammar.specs.Limits.{Meant, meant, symbols_of, value_of}
+use Rattle.idl_grammar.specs.Expressions.{Meant, meant, symbols_of, value_of, spelled, placed, ident, outer}
 use Rattle.idl_grammar.specs.Tree as tree
 use Rattle.idl_grammar.specs.Tree.{Expr, AttributeKind, Attribute, Attributes, Bound, Declarator, Init, Enumerator, Label, TypeSpec, Members, Cases}
 use Rattle.idl_grammar.specs.Tree.{Arms, Arm, Import, Parameter, Parameters, Export, Tree}
-use Rattle.idl_grammar.specs.Expressions.{spelled, placed, ident, outer}
 
 -- ## Small parts
 

@@ -1,5 +1,5 @@
 -- Readings: what the functions of a parser give, on lists.
-use Rattle.std.specs.Prelude.{ℕ, zero, suc, ◌+◌, Bool, List, [], ◌∷◌, cond, Option, Some, None, Result, Ok, Err}
+use Rattle.std.specs.Prelude.{ℕ, zero, suc, ◌+◌, Bool, List, [], ◌∷◌, if◌then◌else◌, Option, Some, None, Result, Ok, Err}
 use Rattle.std.specs.Prelude.{◌⊎◌, length}
 use Rattle.std.proofs.Common.{inl, inr}
 use Rattle.idl_grammar.specs.Text.{Text, Lexeme, lexeme_at, symbol_at, is, is_in, Rule, Depth, many_brackets}
@@ -18,9 +18,9 @@ join a (Err f) = Err f
 join a (Ok y) = Ok ((a, y.0), y.1)
 
 -- one after the other
-abbrev pub then : {A B : Type 0} → Read A → (A → ℕ → Read B) → Read (A × B)
-then (Err f) g = Err f
-then (Ok x) g = join x.0 (g x.0 x.1)
+abbrev pub and_then : {A B : Type 0} → Read A → (A → ℕ → Read B) → Read (A × B)
+and_then (Err f) g = Err f
+and_then (Ok x) g = join x.0 (g x.0 x.1)
 
 -- a value made of what was read
 abbrev pub turned : {A C : Type 0} → (A → C) → Read A → Read C
@@ -29,24 +29,25 @@ turned make (Ok x) = Ok (make x.0, x.1)
 
 -- one token that passes a test
 abbrev pub token_read : {A : Type 0} → (Lexeme → Bool) → (Lexeme → A) → Text → ℕ → Read A
-token_read good see t i = cond (good (lexeme_at t i)) (Ok (see (lexeme_at t i), i + 1)) (Err (Syntax i))
+token_read good see t i = if good (lexeme_at t i) then Ok (see (lexeme_at t i), i + 1) else Err (Syntax i)
 
 -- the same, where a rule may refuse it
 abbrev pub ruled_read : {A : Type 0} → Rule → (Text → ℕ → Bool) → (Lexeme → Bool) → (Lexeme → A) → Text → ℕ → Read A
 ruled_read rule refused good see t i =
-    cond (good (lexeme_at t i)) (cond (refused t i) (Err (Passes rule i)) (Ok (see (lexeme_at t i), i + 1))) (Err (Syntax i))
+    if good (lexeme_at t i) then (if refused t i then Err (Passes rule i) else Ok (see (lexeme_at t i), i + 1)) else Err (Syntax i)
 
 abbrev pub mark_read : ℕ → Text → ℕ → Read (Unit {0})
-mark_read s t i = cond (is (symbol_at t i) s) (Ok (tt, i + 1)) (Err (Syntax i))
+mark_read s t i = if is (symbol_at t i) s then Ok (tt, i + 1) else Err (Syntax i)
 
 -- an item, where the next token passes a test
 abbrev pub optional_read : {A : Type 0} → (Lexeme → Bool) → (ℕ → Read A) → Text → ℕ → Read (Option A)
-optional_read go item t i = cond (go (lexeme_at t i)) (turned Some (item i)) (Ok (None, i))
+optional_read go item t i = if go (lexeme_at t i) then turned Some (item i) else Ok (None, i)
 
 -- items, while the next token passes a test
 abbrev pub many_read : {A : Type 0} → (Lexeme → Bool) → (ℕ → Read A) → Text → ℕ → ℕ → Read (List A)
 many_read go item t zero i = Ok ([], i)
-many_read go item t (suc n) i = cond (go (lexeme_at t i)) (turned (λ p. p.0 ∷ p.1) (then (item i) (λ a m. many_read go item t n m))) (Ok ([], i))
+many_read go item t (suc n) i =
+    if go (lexeme_at t i) then turned (λ p. p.0 ∷ p.1) (and_then (item i) (λ a m. many_read go item t n m)) else Ok ([], i)
 
 abbrev pub to_unit : Lexeme → Unit {0}
 to_unit a = tt
@@ -73,7 +74,7 @@ located_read t i r = turned (λ a. ((lexeme_at t i).at, a)) r
 
 -- the first where the next symbol is one of these, else the second
 abbrev pub choice_read : {A B : Type 0} → List ℕ → Text → ℕ → Read A → Read B → Read (A ⊎ B)
-choice_read firsts t i r s = cond (is_in firsts (symbol_at t i)) (turned inl r) (turned inr s)
+choice_read firsts t i r s = if is_in firsts (symbol_at t i) then turned inl r else turned inr s
 
 -- an item where the next symbol is one of these
 abbrev pub option_read : {A : Type 0} → List ℕ → Text → (ℕ → Read A) → ℕ → Read (Option A)
@@ -85,7 +86,7 @@ list_read firsts t item i = many_read (λ a. is_in firsts a.symbol) item t (suc 
 
 -- at least one
 abbrev pub some_read : {A : Type 0} → List ℕ → Text → (ℕ → Read A) → ℕ → Read (List A)
-some_read firsts t item i = turned (λ p. p.0 ∷ p.1) (then (item i) (λ a m. list_read firsts t item m))
+some_read firsts t item i = turned (λ p. p.0 ∷ p.1) (and_then (item i) (λ a m. list_read firsts t item m))
 
 -- a mark, and an item
 abbrev pub behind_read : {A : Type 0} → ℕ → Text → (ℕ → Read A) → ℕ → Read A
@@ -93,7 +94,7 @@ behind_read s t item i = skip (mark_read s t i) item
 
 -- at least one, with a mark between each two
 abbrev pub separated_read : {A : Type 0} → ℕ → Text → (ℕ → Read A) → ℕ → Read (List A)
-separated_read s t item i = turned (λ p. p.0 ∷ p.1) (then (item i) (λ a m. list_read (s ∷ []) t (behind_read s t item) m))
+separated_read s t item i = turned (λ p. p.0 ∷ p.1) (and_then (item i) (λ a m. list_read (s ∷ []) t (behind_read s t item) m))
 
 -- a bracket that opens, with so many others open
 abbrev pub open_read : ℕ → ℕ → Text → ℕ → Read (Unit {0})

@@ -1,8 +1,9 @@
 -- What the functions of a parser give, on lists: one reading for each function, in the shape of its calls. nesting is the number of
 -- levels that an expression may still nest, and fuel that of types; depth is the number of brackets that are open at the place.
-use Rattle.std.specs.Prelude.{ℕ, zero, suc, ◌+◌, Bool, true, false, List, [], ◌∷◌, cond, Option, Some, None, Ok, Err}
+use Rattle.std.specs.Prelude.{ℕ, zero, suc, ◌+◌, Bool, true, false, List, [], ◌∷◌, if◌then◌else◌, Option, Some, None, Ok, Err}
 use Rattle.idl_grammar.specs.Text.{Text, lexeme_at, symbol_at, is, is_in, Depth, Ban}
-use Rattle.idl_grammar.specs.ReadPhrases.{Read, Passes, then, turned, token_read, ruled_read, mark_read, to_unit, end_with, located_read, option_read}
+use Rattle.idl_grammar.specs.ReadPhrases.{Read, Passes, and_then, turned, token_read, ruled_read, mark_read, to_unit, end_with, located_read}
+use Rattle.idl_grammar.specs.ReadPhrases.{option_read}
 use Rattle.idl_grammar.specs.ReadPhrases.{list_read, some_read, behind_read, separated_read, bracketed_read}
 use Rattle.idl_grammar.specs.declared.words.Spelling.{Spelling}
 use Rattle.idl_grammar.specs.declared.attributes.PointerClass.{PointerClass}
@@ -20,7 +21,7 @@ use Rattle.idl_grammar.specs.declared.types.SwitchType.TheVariants as switches
 use Rattle.idl_grammar.specs.declared.types.TagKind.TheVariants as tags
 use Rattle.idl_grammar.specs.declared.types.Discriminant.{Discriminant}
 use Rattle.idl_grammar.specs.Symbols as symbol
-use Rattle.idl_grammar.specs.Limits.{Meant, meant, symbols_of, value_of, names}
+use Rattle.idl_grammar.specs.Expressions.{Meant, meant, symbols_of, value_of, names}
 use Rattle.idl_grammar.specs.Tree as tree
 use Rattle.idl_grammar.specs.Tree.{Expr, AttributeKind, Attribute, Attributes, Bound, Declarator, Init, Enumerator, Label, TypeSpec, Members, Cases}
 use Rattle.idl_grammar.specs.Tree.{Arms, Arm, Import, Parameter, Parameters, Export, Tree}
@@ -31,7 +32,7 @@ use Rattle.idl_grammar.specs.ReadExpressions.{spelled_read, placed_read, ident_r
 
 -- one reading where the next symbol is one of these, else another
 abbrev pub branch_read : {A : Type 0} → List ℕ → Text → ℕ → Read A → Read A → Read A
-branch_read firsts t i r s = cond (is_in firsts (symbol_at t i)) r s
+branch_read firsts t i r s = if is_in firsts (symbol_at t i) then r else s
 
 -- a value, and what depends on it
 abbrev pub bind_read : {A B : Type 0} → Read A → (A → ℕ → Read B) → Read B
@@ -40,10 +41,10 @@ bind_read (Ok x) g = g x.0 x.1
 
 -- nothing before a mark, else an item
 abbrev pub unless_read : {A : Type 0} → ℕ → Text → (ℕ → Read A) → ℕ → Read (Option A)
-unless_read s t item i = cond (is (symbol_at t i) s) (Ok (None, i)) (turned Some (item i))
+unless_read s t item i = if is (symbol_at t i) s then Ok (None, i) else turned Some (item i)
 
 abbrev pub flag_read : ℕ → Text → ℕ → Read Bool
-flag_read s t i = cond (is (symbol_at t i) s) (Ok (true, i + 1)) (Ok (false, i))
+flag_read s t i = if is (symbol_at t i) s then Ok (true, i + 1) else Ok (false, i)
 
 abbrev pub one_of_read : {A : Type 0} → A → List (Meant A) → Text → ℕ → Read A
 one_of_read otherwise list t i = token_read (λ a. is_in (symbols_of list) a.symbol) (λ a. value_of otherwise list a.symbol) t i
@@ -87,13 +88,13 @@ unfoldable pub unsigned_read : Text → ℕ → Read SimpleType
 unsigned_read t i =
     branch_read (symbol.Char ∷ []) t i
     (turned (λ u. types.Char true) (mark_read symbol.Char t i))
-    (turned (λ p. types.Integer (integers.UnsignedFirst p.0 p.1)) (then (width_read t i) (λ w m. flag_read symbol.Int t m)))
+    (turned (λ p. types.Integer (integers.UnsignedFirst p.0 p.1)) (and_then (width_read t i) (λ w m. flag_read symbol.Int t m)))
 
 -- an integer that begins with its width
 unfoldable pub integer_read : Text → ℕ → Read SimpleType
 integer_read t i =
     turned (λ p. types.Integer (integers.WidthFirst p.0 p.1.0 p.1.1))
-    (then (width_read t i) (λ w m. then (flag_read symbol.Unsigned t m) (λ u o. flag_read symbol.Int t o)))
+    (and_then (width_read t i) (λ w m. and_then (flag_read symbol.Unsigned t m) (λ u o. flag_read symbol.Int t o)))
 
 unfoldable pub simple_read : Text → ℕ → Read SimpleType
 simple_read t i =
@@ -115,7 +116,7 @@ abbrev pub variable_of : Bool × Spelling → Variable
 variable_of p = record { star = p.0; name = p.1 }
 
 unfoldable pub variable_name_read : Text → ℕ → Read Variable
-variable_name_read t i = turned variable_of (then (flag_read symbol.Star t i) (λ s m. ident_read true t m))
+variable_name_read t i = turned variable_of (and_then (flag_read symbol.Star t i) (λ s m. ident_read true t m))
 
 -- attributes of one word
 abbrev pub plain_words : List (Meant AttributeKind)
@@ -147,7 +148,7 @@ uuid_read t depth i = behind_read symbol.Uuid t (in_round_read depth t (spelled_
 -- Number [ "." Number ]
 unfoldable pub version_numbers_read : Text → ℕ → Read (Spelling × Option Spelling)
 version_numbers_read t i =
-    then (spelled_read symbol.Number t i) (λ major m. option_read (symbol.Dot ∷ []) t (behind_read symbol.Dot t (spelled_read symbol.Number t)) m)
+    and_then (spelled_read symbol.Number t i) (λ major m. option_read (symbol.Dot ∷ []) t (behind_read symbol.Dot t (spelled_read symbol.Number t)) m)
 
 unfoldable pub version_read : Text → ℕ → ℕ → Read (Spelling × Option Spelling)
 version_read t depth i = behind_read symbol.Version t (in_round_read depth t (version_numbers_read t)) i
@@ -159,7 +160,7 @@ unfoldable pub pointer_default_read : Text → ℕ → ℕ → Read PointerClass
 pointer_default_read t depth i = behind_read symbol.PointerDefault t (in_round_read depth t (pointer_class_read t)) i
 
 unfoldable pub variable_read : Text → ℕ → ℕ → Read (VariableWord × Variable)
-variable_read t depth i = then (variable_word_read t i) (λ w m. in_round_read depth t (variable_name_read t) m)
+variable_read t depth i = and_then (variable_word_read t i) (λ w m. in_round_read depth t (variable_name_read t) m)
 
 unfoldable pub switch_attribute_read : Text → ℕ → ℕ → Read SwitchType
 switch_attribute_read t depth i = behind_read symbol.SwitchType t (in_round_read depth t (switch_type_read true t)) i
@@ -216,7 +217,7 @@ range_of p = elim p.1 [ None ↦ tree.Count p.0 | Some upper ↦ elim upper [ No
 unfoldable pub range_read : ℕ → Text → ℕ → ℕ → Read Bound
 range_read nesting t depth i =
     turned range_of
-    (then (outer_read nesting false t depth i)
+    (and_then (outer_read nesting false t depth i)
     (λ e m. option_read (symbol.DotDot ∷ []) t (behind_read symbol.DotDot t (upper_read nesting t depth)) m))
 
 unfoldable pub bound_read : ℕ → Text → ℕ → ℕ → Read Bound
@@ -231,8 +232,8 @@ declarator_of p = record { stars = p.0; name = p.1.0; dimensions = p.1.1 }
 unfoldable pub declarator_read : ℕ → Text → ℕ → ℕ → Read Declarator
 declarator_read nesting t depth i =
     turned declarator_of
-    (then (list_read (symbol.Star ∷ []) t (placed_read symbol.Star t) i)
-    (λ s m. then (ident_read false t m) (λ name o. list_read (symbol.OpenSquare ∷ []) t (dimension_read nesting t depth) o)))
+    (and_then (list_read (symbol.Star ∷ []) t (placed_read symbol.Star t) i)
+    (λ s m. and_then (ident_read false t m) (λ name o. list_read (symbol.OpenSquare ∷ []) t (dimension_read nesting t depth) o)))
 
 unfoldable pub declarators_read : ℕ → Text → ℕ → ℕ → Read (List Declarator)
 declarators_read nesting t depth i = commas_read t (declarator_read nesting t depth) i
@@ -245,7 +246,7 @@ enumerator_of p = record { name = p.0; value = p.1 }
 unfoldable pub enumerator_read : ℕ → Text → ℕ → ℕ → Read Enumerator
 enumerator_read nesting t depth i =
     turned enumerator_of
-    (then (ident_read false t i)
+    (and_then (ident_read false t i)
     (λ name m. option_read (symbol.Equals ∷ []) t (behind_read symbol.Equals t (outer_read nesting false t depth)) m))
 
 unfoldable pub enumerators_read : ℕ → Text → ℕ → ℕ → Read (List Enumerator)
@@ -255,7 +256,7 @@ unfoldable pub label_read : ℕ → Text → ℕ → ℕ → Read Label
 label_read nesting t depth i =
     branch_read (symbol.Case ∷ []) t i
     (turned (λ p. tree.Value p.0 p.1)
-    (then (placed_read symbol.Case t i) (λ at m. end_with (outer_read nesting false t depth m) (λ o. mark_read symbol.Colon t o))))
+    (and_then (placed_read symbol.Case t i) (λ at m. end_with (outer_read nesting false t depth m) (λ o. mark_read symbol.Colon t o))))
     (turned tree.Default (end_with (placed_read symbol.Default t i) (λ o. mark_read symbol.Colon t o)))
 
 abbrev pub label_firsts : List ℕ
@@ -268,14 +269,15 @@ abbrev pub discriminant_of : SwitchType × Spelling → Discriminant
 discriminant_of p = record { of = p.0; name = p.1 }
 
 unfoldable pub discriminant_read : Text → ℕ → Read Discriminant
-discriminant_read t i = turned discriminant_of (then (switch_type_read false t i) (λ s m. ident_read false t m))
+discriminant_read t i = turned discriminant_of (and_then (switch_type_read false t i) (λ s m. ident_read false t m))
 
 -- [ Ident ]
 unfoldable pub maybe_name_read : Text → ℕ → Read (Option Spelling)
 maybe_name_read t i = option_read (names false) t (ident_read false t) i
 
 unfoldable pub union_switch_read : Text → ℕ → ℕ → Read (Discriminant × Option Spelling)
-union_switch_read t depth i = behind_read symbol.Switch t (λ m. then (in_round_read depth t (discriminant_read t) m) (λ d o. maybe_name_read t o)) i
+union_switch_read t depth i =
+    behind_read symbol.Switch t (λ m. and_then (in_round_read depth t (discriminant_read t) m) (λ d o. maybe_name_read t o)) i
 
 -- what a type begins with
 unfoldable pub type_firsts : List ℕ
@@ -297,7 +299,7 @@ MemberParts = ℕ × (Option Attributes × (TypeSpec × List Declarator))
 unfoldable pub member_read : ℕ → Text → ℕ → (ℕ → Read TypeSpec) → ℕ → Read MemberParts
 member_read nesting t depth again i =
     located_read t i
-    (then (maybe_attributes_read nesting t depth i) (λ a m. then (again m) (λ c o. line_read t (declarators_read nesting t depth o))))
+    (and_then (maybe_attributes_read nesting t depth i) (λ a m. and_then (again m) (λ c o. line_read t (declarators_read nesting t depth o))))
 
 unfoldable pub members_read : ℕ → Text → ℕ → (ℕ → Read TypeSpec) → ℕ → Read (List MemberParts)
 members_read nesting t depth again i = some_read member_firsts t (member_read nesting t depth again) i
@@ -307,18 +309,18 @@ struct_body_read nesting t depth again i = in_curly_read depth t (members_read n
 
 -- type declr ";"
 unfoldable pub arm_field_read : ℕ → Text → ℕ → (ℕ → Read TypeSpec) → ℕ → Read (TypeSpec × Declarator)
-arm_field_read nesting t depth again i = then (again i) (λ c o. line_read t (declarator_read nesting t depth o))
+arm_field_read nesting t depth again i = and_then (again i) (λ c o. line_read t (declarator_read nesting t depth o))
 
 unfoldable pub arm_read : ℕ → Text → ℕ → (ℕ → Read TypeSpec) → ℕ → Read Arm
 arm_read nesting t depth again i =
     turned (λ p. elim p.1.1 [ None ↦ tree.Empty p.0 p.1.0 | Some f ↦ tree.Typed p.0 p.1.0 f.0 f.1 ])
     (located_read t i
-    (then (maybe_attributes_read nesting t depth i)
+    (and_then (maybe_attributes_read nesting t depth i)
     (λ a m. branch_read (symbol.Semicolon ∷ []) t m (turned (λ u. None) (mark_read symbol.Semicolon t m))
     (turned Some (arm_field_read nesting t depth again m)))))
 
 unfoldable pub case_read : ℕ → Text → ℕ → (ℕ → Read TypeSpec) → ℕ → Read (List Label × Arm)
-case_read nesting t depth again i = then (labels_read nesting t depth i) (λ ls m. arm_read nesting t depth again m)
+case_read nesting t depth again i = and_then (labels_read nesting t depth i) (λ ls m. arm_read nesting t depth again m)
 
 unfoldable pub cases_read : ℕ → Text → ℕ → (ℕ → Read TypeSpec) → ℕ → Read (List (List Label × Arm))
 cases_read nesting t depth again i = some_read label_firsts t (case_read nesting t depth again) i
@@ -362,7 +364,7 @@ unfoldable pub union_body_read : ℕ → Text → ℕ → (ℕ → Read TypeSpec
 union_body_read nesting t depth again at tag i =
     branch_read (symbol.Switch ∷ []) t i
     (turned (λ p. tree.EncapsulatedUnion at tag p.0.0 p.0.1 (cases_of p.1))
-    (then (union_switch_read t depth i) (λ s m. cases_body_read nesting t depth again m)))
+    (and_then (union_switch_read t depth i) (λ s m. cases_body_read nesting t depth again m)))
     (turned (λ a. tree.NonEncapsulatedUnion at tag (arms_of a)) (arms_body_read nesting t depth again i))
 
 unfoldable pub union_read : ℕ → Text → ℕ → (ℕ → Read TypeSpec) → ℕ → ℕ → Read TypeSpec
@@ -397,7 +399,8 @@ unfoldable pub parameter_read : ℕ → ℕ → Text → ℕ → ℕ → Read Pa
 parameter_read fuel nesting t depth i =
     turned parameter_of
     (located_read t i
-    (then (maybe_attributes_read nesting t depth i) (λ a m. then (type_read fuel nesting t depth m) (λ c o. declarator_read nesting t depth o))))
+    (and_then (maybe_attributes_read nesting t depth i)
+    (λ a m. and_then (type_read fuel nesting t depth m) (λ c o. declarator_read nesting t depth o))))
 
 -- the parameters after the first one
 unfoldable pub more_parameters_read : ℕ → ℕ → Text → ℕ → ℕ → Read (List Parameter)
@@ -407,7 +410,7 @@ more_parameters_read fuel nesting t depth i = list_read (symbol.Comma ∷ []) t 
 unfoldable pub void_parameters_read : ℕ → ℕ → Text → ℕ → ℕ → ℕ → Read Parameters
 void_parameters_read fuel nesting t depth at i =
     turned (λ p. tree.Listed (parameter_of (at, (None, (tree.Simple types.Void, p.0))) ∷ p.1))
-    (then (declarator_read nesting t depth i) (λ d m. more_parameters_read fuel nesting t depth m))
+    (and_then (declarator_read nesting t depth i) (λ d m. more_parameters_read fuel nesting t depth m))
 
 unfoldable pub parameters_read : ℕ → ℕ → Text → ℕ → ℕ → Read Parameters
 parameters_read fuel nesting t depth i =
@@ -428,23 +431,23 @@ unfoldable pub typedef_read : ℕ → ℕ → Text → ℕ → ℕ → ℕ → R
 typedef_read fuel nesting t depth at i =
     turned (λ p. tree.Typedef at p.0 p.1.0 p.1.1.0 p.1.1.1)
     (behind_read symbol.Typedef t
-    (λ m. then (maybe_attributes_read nesting t depth m)
-    (λ a o. then (flag_read symbol.Pipe t o)
-    (λ pipe q. then (type_read fuel nesting t depth q) (λ c r. line_read t (declarators_read nesting t depth r))))) i)
+    (λ m. and_then (maybe_attributes_read nesting t depth m)
+    (λ a o. and_then (flag_read symbol.Pipe t o)
+    (λ pipe q. and_then (type_read fuel nesting t depth q) (λ c r. line_read t (declarators_read nesting t depth r))))) i)
 
 -- the same of a constant, from `const` on
 unfoldable pub const_read : ℕ → Text → ℕ → ℕ → ℕ → Read Export
 const_read nesting t depth at i =
     turned (λ p. tree.Const at p.0 p.1.0 p.1.1.0 p.1.1.1)
     (behind_read symbol.Const t
-    (λ m. then (simple_read t m)
-    (λ s o. then (flag_read symbol.Star t o)
-    (λ star q. then (ident_read false t q) (λ name r. behind_read symbol.Equals t (λ u. line_read t (init_read nesting t depth u)) r)))) i)
+    (λ m. and_then (simple_read t m)
+    (λ s o. and_then (flag_read symbol.Star t o)
+    (λ star q. and_then (ident_read false t q) (λ name r. behind_read symbol.Equals t (λ u. line_read t (init_read nesting t depth u)) r)))) i)
 
 -- Ident "(" [ params ] ")" ";"
 unfoldable pub signature_read : ℕ → ℕ → Text → ℕ → ℕ → Read (Spelling × Parameters)
 signature_read fuel nesting t depth i =
-    then (ident_read false t i) (λ name m. line_read t (in_round_read depth t (parameters_read fuel nesting t (depth + 1)) m))
+    and_then (ident_read false t i) (λ name m. line_read t (in_round_read depth t (parameters_read fuel nesting t (depth + 1)) m))
 
 abbrev pub declared_of : ℕ → Option Attributes × (TypeSpec × Option (Spelling × Parameters)) → Export
 declared_of at p = elim p.1.1 [ None ↦ tree.Tagged at p.0 p.1.0 | Some s ↦ tree.Operation at p.0 p.1.0 s.0 s.1 ]
@@ -453,8 +456,8 @@ declared_of at p = elim p.1.1 [ None ↦ tree.Tagged at p.0 p.1.0 | Some s ↦ t
 unfoldable pub declared_read : ℕ → ℕ → Text → ℕ → ℕ → ℕ → Read Export
 declared_read fuel nesting t depth at i =
     turned (declared_of at)
-    (then (maybe_attributes_read nesting t depth i)
-    (λ a m. then (type_read fuel nesting t depth m)
+    (and_then (maybe_attributes_read nesting t depth i)
+    (λ a m. and_then (type_read fuel nesting t depth m)
     (λ c o. branch_read (symbol.Semicolon ∷ []) t o (turned (λ u. None) (mark_read symbol.Semicolon t o))
     (turned Some (signature_read fuel nesting t depth o)))))
 
@@ -486,6 +489,7 @@ tree_of p = record { attributes = p.0; name = p.1.0; imports = p.1.1.0; exports 
 unfoldable pub file_read : ℕ → ℕ → Text → ℕ → Read Tree
 file_read fuel nesting t i =
     turned tree_of
-    (then (attributes_read nesting t 0 i)
+    (and_then (attributes_read nesting t 0 i)
     (λ a m. behind_read symbol.Interface t
-    (λ o. then (ident_read false t o) (λ name q. in_curly_read 0 t (λ r. then (imports_read t r) (λ is u. exports_read fuel nesting t 1 u)) q)) m))
+    (λ o. and_then (ident_read false t o)
+    (λ name q. in_curly_read 0 t (λ r. and_then (imports_read t r) (λ is u. exports_read fuel nesting t 1 u)) q)) m))

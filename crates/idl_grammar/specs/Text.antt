@@ -1,7 +1,20 @@
--- Texts of tokens, and phrases in them.
-use Rattle.std.specs.Prelude.{◌≡◌, ℕ, ◌+◌, Bool, true, false, ◌⊎◌, List, [], ◌∷◌, eqb, leb, slice_index_or, Option, Some, None}
+-- Texts of tokens, and phrases in them; and the tokens of a text as the grammar sees them.
+use Rattle.std.specs.Prelude.{◌≡◌, ◌⊎◌, ℕ, ◌+◌, Bool, true, false, if◌then◌else◌, ◌==◌, nat_le, List, [], ◌∷◌, slice_index_or, ◌++◌, map, Option}
+use Rattle.std.specs.Prelude.{slice_range}
+use Rattle.std.specs.Prelude.{Some, None}
 use Rattle.std.specs.List.{list_any}
 use Rattle.std.proofs.Common.{inl, inr}
+use Rattle.std.specs.Str.{bytes_eq}
+use Rattle.nd_base.specs.Text.{is_identifier}
+use Rattle.idl_lexer.specs.declared.tokens.TokenKind.{TokenKind}
+use Rattle.idl_lexer.specs.declared.tokens.TokenKind.TheVariants as kind
+use Rattle.idl_lexer.specs.declared.tokens.Token.{Token}
+use Rattle.idl_lexer.specs.Verdict.{Lexed}
+use Rattle.idl_lexer.specs.Pieces.{IsUuid}
+use Rattle.idl_grammar.specs.Symbols.{Spelled, reserved_words, attribute_words, banned_words, banned_attributes, marks}
+use Rattle.idl_grammar.specs.Symbols as symbol
+
+-- ## Texts and phrases
 
 -- A token as a grammar sees it: the number that the grammar gives its symbol, the octet where it begins, and its
 -- octets.
@@ -25,7 +38,7 @@ symbol_at x i = (lexeme_at x i).symbol
 
 -- whether two symbols are one
 abbrev pub is : ℕ → ℕ → Bool
-is a b = eqb a b
+is a b = a == b
 
 -- What may refuse a token that the grammar else takes: a limit of depth, or a ban of a word.
 pub data Rule : Type 0 where
@@ -79,7 +92,7 @@ only_if b p lifted x i j = (b ≡ true) × p lifted x i j
 abbrev pub unless : Rule → (Text → ℕ → Bool) → Phrase → Phrase
 unless rule refused p lifted x i j = ((lifted rule i ≡ true) ⊎ (refused x i ≡ false)) × p lifted x i j
 
--- ## Phrases of trees
+-- ### Phrases of trees
 
 -- a phrase for each tree of a type
 abbrev pub Rel : Type 0 → Type 1
@@ -122,7 +135,7 @@ separated s P (a ∷ others) = P a ▹ many (s ⊳ P) others
 
 -- a bracket here would be the 65th that is open
 abbrev pub many_brackets : ℕ → Text → ℕ → Bool
-many_brackets depth x i = leb 64 depth
+many_brackets depth x i = nat_le 64 depth
 
 -- a phrase between brackets, of which so many others are open
 abbrev pub bracketed : {A : Type 0} → ℕ → ℕ → ℕ → Rel A → Rel A
@@ -130,8 +143,48 @@ bracketed depth open_mark close_mark P a = unless Depth (many_brackets depth) (m
 
 -- whether a symbol is one of a list
 abbrev pub is_in : List ℕ → ℕ → Bool
-is_in symbols s = list_any (λ d. eqb s d) symbols
+is_in symbols s = list_any (λ d. s == d) symbols
 
 -- what is made of a phrase
 abbrev pub made : {A C : Type 0} → (A → C) → Rel A → Rel C
 made {A} make P c lifted x i j = (a : A) × (c ≡ make a) × P a lifted x i j
+
+-- ## The tokens of a text as the grammar sees them
+
+-- the symbol that is spelled so, or another where none is
+abbrev pub symbol_among : List Spelled → ℕ → List ℕ → ℕ
+symbol_among [] otherwise octets = otherwise
+symbol_among (s ∷ others) otherwise octets = if bytes_eq octets s.octets then s.symbol else symbol_among others otherwise octets
+
+-- all words that are no mere names
+unfoldable pub words : List Spelled
+words = reserved_words ++ attribute_words ++ banned_words ++ banned_attributes
+
+-- the symbol of a token
+unfoldable pub symbol_of : TokenKind → List ℕ → ℕ
+symbol_of kind.Word octets = symbol_among words symbol.Name octets
+symbol_of kind.Uuid octets = symbol.UuidValue
+symbol_of kind.Number octets = symbol.Number
+symbol_of kind.Char octets = symbol.Character
+symbol_of kind.Str octets = symbol.Quoted
+symbol_of kind.Mark octets = symbol_among marks symbol.Unknown octets
+
+abbrev pub lexeme_of : List ℕ → Token → Lexeme
+lexeme_of text t =
+    let octets = slice_range text t.from t.to in
+    record { symbol = symbol_of t.kind octets; at = t.from; octets = octets }
+
+-- the tokens of a text that was lexed
+abbrev pub lexemes : Lexed → Text
+lexemes lexed = map (lexeme_of lexed.text) lexed.tokens
+
+-- ### What words and UUIDs are
+
+-- the symbols of all that is no word
+unfoldable pub no_words : List ℕ
+no_words = symbol.End ∷ symbol.UuidValue ∷ symbol.Number ∷ symbol.Character ∷ symbol.Quoted ∷ symbol.Unknown ∷ map (λ s. s.symbol) marks
+
+-- a text whose words are identifiers, and whose UUIDs have their form
+pub record IsFormed (x : Text) : Type 0 where
+  pub word : (i : ℕ) → is_in no_words (symbol_at x i) ≡ false → is_identifier (lexeme_at x i).octets ≡ true
+  pub uuid : (i : ℕ) → symbol_at x i ≡ symbol.UuidValue → IsUuid (lexeme_at x i).octets

@@ -1,5 +1,5 @@
 -- The tree without where it lies in memory: what the grammar relates to texts. Each part has the name that it has in the program.
-use Rattle.std.specs.Prelude.{ℕ, Bool, List, Option}
+use Rattle.std.specs.Prelude.{ℕ, Bool, true, List, Option}
 use Rattle.idl_grammar.specs.declared.words.Spelling.{Spelling}
 use Rattle.idl_grammar.specs.declared.expressions.BinaryOperator.{BinaryOperator}
 use Rattle.idl_grammar.specs.declared.expressions.UnaryOperator.{UnaryOperator}
@@ -11,6 +11,11 @@ use Rattle.idl_grammar.specs.declared.types.SimpleType.{SimpleType}
 use Rattle.idl_grammar.specs.declared.types.SwitchType.{SwitchType}
 use Rattle.idl_grammar.specs.declared.types.TagKind.{TagKind}
 use Rattle.idl_grammar.specs.declared.types.Discriminant.{Discriminant}
+use Rattle.idl_grammar.specs.declared.types.Width.{Width}
+use Rattle.idl_grammar.specs.declared.types.IntegerType.{IntegerType}
+use Rattle.idl_grammar.specs.declared.types.IntegerType.TheVariants.{WidthFirst, UnsignedFirst}
+
+-- ## The tree
 
 pub data Expr : Type 0 where
   Leaf : (operand : Operand) → Expr
@@ -121,3 +126,13 @@ pub record Tree : Type 0 where
   pub name : Spelling
   pub imports : List Import
   pub exports : List Export
+
+-- ## What an integer type is, in either order of its words
+
+abbrev pub width_of : IntegerType → Width
+width_of (WidthFirst w unsigned int) = w
+width_of (UnsignedFirst w int) = w
+
+abbrev pub is_without_sign : IntegerType → Bool
+is_without_sign (WidthFirst w unsigned int) = unsigned
+is_without_sign (UnsignedFirst w int) = true

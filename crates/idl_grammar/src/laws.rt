@@ -1,17 +1,15 @@
 //! Laws over the definitions.
 
 ghost use Rattle.std.specs.Prelude.{◌≡◌, ℕ, ◌≤◌, ◌<◌, length, true, false, Result, Ok, Err};
-ghost use Rattle.idl_grammar.specs.Text.{Text, Depth, Ban, Lifted};
+ghost use Rattle.idl_grammar.specs.Text.{Text, Depth, Ban, Lifted, lexemes, IsFormed};
 ghost use Rattle.idl_grammar.specs.ReadPhrases.{Fault, Syntax, Passes};
-ghost use Rattle.idl_grammar.specs.Verdict.{Judges, whole_read, begins, derives, limits_before};
+ghost use Rattle.idl_grammar.specs.Answers.{Judges, whole_read, begins, derives, limits_before, Answers, file_answer, is_banned};
 ghost use Rattle.idl_grammar.specs.Gives.{IsText};
-ghost use Rattle.idl_lexer.specs.Lexed.{Lexed, AreFormed};
-ghost use Rattle.idl_grammar.specs.Lexemes.{lexemes, IsFormed};
+ghost use Rattle.idl_lexer.specs.Verdict.{Lexed, AreFormed};
 ghost use Rattle.idl_grammar.specs.Examples.{small_file, small_tree, unended, banned_attribute, banned_word, attribute_name, deep};
 ghost use Rattle.idl_grammar.specs.Tree.{Tree};
 ghost use Rattle.idl_grammar.specs.Grammar.{file};
 ghost use Rattle.idl_grammar.specs.Reading.{file_read};
-ghost use Rattle.idl_grammar.specs.Answers.{Answers, file_answer, is_banned};
 
 /// What is read of the tokens of a file is its one tree, or the first token at which no file of the language goes on, or the first one that a
 /// limit of depth or a ban refuses. Nothing else is right of these tokens. The numbers of levels are any that are large enough.

@@ -7,7 +7,7 @@
 //! Phrases are the part that is one for all grammars: a grammar is a relation of texts of tokens, places in them and trees,
 //! put together from a few combinators (specs/Text). What a parser's function gives is a reading (specs/ReadPhrases). The
 //! laws of proofs/ say when a reading is exact: its value is the only one, and its fault is at the first token with which no
-//! text of the grammar goes on (specs/Verdict). They are proved once, for any grammar.
+//! text of the grammar goes on (specs/Answers). They are proved once, for any grammar.
 #![tactic(auto)]
 
 mod attributes;

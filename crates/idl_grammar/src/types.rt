@@ -35,7 +35,7 @@ pub enum IntegerType {
 
 impl IntegerType {
     ghost use Rattle.std.specs.Prelude.{◌≡◌};
-    ghost use Rattle.idl_grammar.specs.Integers.{width_of, is_without_sign};
+    ghost use Rattle.idl_grammar.specs.Tree.{width_of, is_without_sign};
 
     /// The width, whichever word stands first. Takes no memory.
     pub fn width(self) -> Width

@@ -30,12 +30,11 @@ use Rattle.idl_declared_types.specs.declared.types.BodyTypes.{BodyTypes}
 use Rattle.idl_declared_types.specs.declared.numbering.Own.{Own}
 use Rattle.idl_declared_types.specs.declared.numbering.Numbers.{Numbers}
 use Rattle.idl_interface.specs.declared.definitions.FoundBody.{FoundBody}
-use Rattle.idl_rule_definitions.specs.World as world
-use Rattle.idl_rule_definitions.specs.World.{World}
-use Rattle.idl_rule_definitions.specs.Nodes.{Construct, Declared, ArmLabel, LabelledArm, arms_of}
+use Rattle.idl_rule_definitions.specs.Nodes as world
+use Rattle.idl_rule_definitions.specs.Nodes.{World, Construct, Declared, ArmLabel, LabelledArm, arms_of}
 use Rattle.idl_rule_definitions.specs.Types.{Names, Struct, Union, Enum, type_of}
 use Rattle.idl_rule_definitions.specs.Scene.{Scene, scene_of, Body, bodies, body_of, parts_declared, arm_declared, tag_type}
-use Rattle.idl_rule_definitions.specs.ValueRules.{label_value}
+use Rattle.idl_rule_definitions.specs.DeclarationRules.{label_value}
 use Rattle.idl_rule_definitions.specs.Numbering.{Needed, own_types}
 use Rattle.idl_declared_types.specs.Kinds.{type_at}
 use Rattle.idl_declared_types.specs.Places.{found_place}

@@ -2,7 +2,7 @@
 use Rattle.std.proofs.Common.{◌≡◌, ℕ, ◌+◌, Bool, true, false, cond, List, [], ◌∷◌, ◌++◌, length, Option, Some, None, option_map, is_some, refl, sym, ap, ◌∙◌, arith, true≢false}
 use Rattle.std.specs.Str.{bytes_eq}
 use Rattle.std.proofs.lemmas.Slice.Eq.{bytes_eq-Decides}
-use Rattle.idl_scope.specs.Tables.{found, put}
+use Rattle.idl_scope.specs.Known.{found, put}
 use Rattle.idl_scope.proofs.Tables.{put_new}
 use Rattle.idl_rule_definitions.specs.Nodes.{Declared}
 use Rattle.idl_rule_definitions.specs.VariableRules.{Listed, listed_from}

@@ -5,15 +5,14 @@ use Rattle.std.proofs.lemmas.Bool.{ltb-false, or_parts}
 use Rattle.std.proofs.lemmas.Grind.{flat_map-append}
 use Rattle.std.proofs.lemmas.List.{drop_more}
 use Rattle.std.proofs.lemmas.Option.{slice_get_within, get_or_from_slice_get}
-use Rattle.idl_lexer.specs.Numbers.{number_of}
+use Rattle.idl_lexer.specs.Pieces.{number_of}
 use Rattle.idl_grammar.specs.Tree.{Tree, Attribute, AttributeKind}
 use Rattle.idl_grammar.specs.Tree as tree
-use Rattle.idl_scope.specs.Ended.{Ended, has_ended}
-use Rattle.idl_rule_definitions.specs.World.{World}
+use Rattle.idl_scope.specs.Known.{Ended, has_ended}
+use Rattle.idl_rule_definitions.specs.Nodes.{World, Construct, attribute_nodes, attribute_nodes_from, export_nodes, header_of, file_nodes, nodes}
 use Rattle.idl_rule_definitions.specs.Attributes.{first_said}
-use Rattle.idl_rule_definitions.specs.AttributeRules.{is_out_of_place, is_repeated, is_past_65535, is_large_minor, is_large_version_in, is_large_version, lacks_uuid_and_local}
+use Rattle.idl_rule_definitions.specs.DeclarationRules.{is_out_of_place, is_repeated, is_past_65535, is_large_minor, is_large_version_in, is_large_version, lacks_uuid_and_local}
 use Rattle.idl_constructs.specs.ListBreaches.{attribute_breaches, list_breaches_at, list_breaches}
-use Rattle.idl_rule_definitions.specs.Nodes.{Construct, attribute_nodes, attribute_nodes_from, export_nodes, header_of, file_nodes, nodes}
 use Rattle.idl_rule_definitions.specs.Noted.{of_lists}
 use Rattle.idl_rule_definitions.specs.Rules.{broken_at, breaches}
 use Rattle.idl_rule_definitions.specs.Scene.{Scene, scene_of}

@@ -19,9 +19,8 @@ use Rattle.idl_grammar.specs.Tree as tree
 use Rattle.idl_grammar.specs.Reading.{cases_of, arms_of}
 use Rattle.idl_grammar.specs.Seen.{seen_attribute, seen_kind, seen_label, seen_case, seen_arm}
 use Rattle.idl_scope.specs.Known.{Known}
-use Rattle.idl_rule_definitions.specs.Nodes.{Declared, labels_in, labels_said, arm_label, arms_of_cases, arms_of_arms}
-use Rattle.idl_rule_definitions.specs.World.{value_in}
-use Rattle.idl_rule_definitions.specs.ValueRules.{label_value}
+use Rattle.idl_rule_definitions.specs.Nodes.{Declared, labels_in, labels_said, arm_label, arms_of_cases, arms_of_arms, value_in}
+use Rattle.idl_rule_definitions.specs.DeclarationRules.{label_value}
 use Rattle.idl_rule_definitions.specs.VariableRules.{Listed, listed_from, variables}
 use Rattle.idl_rule_definitions.specs.Meaning.{index_in, attr_var, field_vars, way_of}
 use Rattle.idl_interface.specs.Made.{AreListed, index_or, attr_var_by, field_vars_by, field_by, field_with, parameter_by, parameter_with, each_with, ValuedArm, valued, seen_valued, value_said}

@@ -4,8 +4,7 @@ use Rattle.std.proofs.lemmas.Bool.{leb-true}
 use Rattle.std.proofs.lemmas.List.{length-drop}
 use Rattle.nd_lemmas.proofs.Booleans.{clash}
 use Rattle.nd_base.specs.Text.{is_hex_digit}
-use Rattle.idl_lexer.specs.Numbers.{digit_value}
-use Rattle.idl_lexer.specs.Pieces.{is_dash_place, IsUuid}
+use Rattle.idl_lexer.specs.Pieces.{digit_value, is_dash_place, IsUuid}
 use Rattle.idl_rule_definitions.specs.Meaning.{uuid_from}
 
 -- a number does not become less by what follows it

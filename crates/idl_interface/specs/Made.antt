@@ -1,5 +1,5 @@
 -- Members, parameters and arms over the numbers of their types, as the program makes them.
-use Rattle.std.specs.Prelude.{◌≡◌, ◌≤◌, ℕ, ◌^◌, Bool, true, false, ltb, nat_le, List, [], ◌∷◌, ◌++◌, map, length, Vec, Option, Some, None, is_none}
+use Rattle.std.specs.Prelude.{◌≡◌, ◌≤◌, ℕ, ◌^◌, Bool, true, false, nat_lt, nat_le, List, [], ◌∷◌, ◌++◌, map, length, Vec, Option, Some, None, is_none}
 use Rattle.std.specs.Prelude.{option_map, ℤ, pos, codes}
 use Rattle.std.specs.List.{flat_map, list_any}
 use Rattle.nd_types.specs.declared.types.TypeId.{TypeId}
@@ -19,19 +19,17 @@ use Rattle.idl_grammar.specs.declared.attributes.Variable.{Variable}
 use Rattle.idl_grammar.specs.Tree.{Attribute, Label, TypeSpec}
 use Rattle.idl_grammar.specs.Tree as tree
 use Rattle.idl_grammar.specs.Seen.{seen_type}
-use Rattle.idl_scope.specs.Known.{Known}
-use Rattle.idl_scope.specs.Tables.{found}
+use Rattle.idl_scope.specs.Known.{Known, found}
 use Rattle.idl_interface.specs.declared.arms.ValuedArm as program
 use Rattle.idl_declared_types.specs.declared.kinds.Kind.{Kind}
 use Rattle.idl_declared_types.specs.declared.numbering.Numbers.{Numbers}
 use Rattle.idl_interface.specs.declared.definitions.FoundBody.{FoundBody}
 use Rattle.idl_interface.specs.declared.definitions.Program.{Program}
-use Rattle.idl_rule_definitions.specs.World.{value_in}
+use Rattle.idl_rule_definitions.specs.Nodes.{value_in, Declared, LabelledArm, result_of}
 use Rattle.idl_rule_definitions.specs.Checked.{world_of}
-use Rattle.idl_rule_definitions.specs.Nodes.{Declared, LabelledArm, result_of}
 use Rattle.idl_rule_definitions.specs.Types.{type_of}
 use Rattle.idl_rule_definitions.specs.Scene.{Scene, scene_of, Body, body_of, parts_of, tag_type}
-use Rattle.idl_rule_definitions.specs.ValueRules.{label_value}
+use Rattle.idl_rule_definitions.specs.DeclarationRules.{label_value}
 use Rattle.idl_rule_definitions.specs.VariableRules.{listed_from, variables}
 use Rattle.idl_declared_types.specs.Kinds.{type_at}
 use Rattle.idl_constructs.specs.declared.nodes.Declared as declared
@@ -61,7 +59,7 @@ tag_id ks t (Some k) = id (number_at ks t k)
 -- a bound of 32 bits
 abbrev pub is_narrow : Option ℕ → Bool
 is_narrow None = true
-is_narrow (Some n) = ltb n (2 ^ 32)
+is_narrow (Some n) = nat_lt n (2 ^ 32)
 
 -- no more members or arms than an interface may have
 abbrev pub has_few_parts : TypeDef → Bool

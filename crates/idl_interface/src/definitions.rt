@@ -5,7 +5,7 @@ ghost use Rattle.nd_types.specs.declared.types.TypeDef.TheVariants as def;
 ghost use Rattle.nd_types.specs.Legal.{has_small_bound, has_named_parts};
 ghost use Rattle.idl_grammar.specs.Seen.{seen_type, seen_enumerator};
 ghost use Rattle.idl_scope.specs.Seen.{known_in};
-ghost use Rattle.idl_rule_definitions.specs.World as world;
+ghost use Rattle.idl_rule_definitions.specs.Nodes as world;
 ghost use Rattle.idl_rule_definitions.specs.Types.{IdlType, Struct, Union, Enum};
 ghost use Rattle.idl_rule_definitions.specs.Meaning as meaning;
 ghost use Rattle.idl_rule_definitions.specs.Nodes.{arms_of};

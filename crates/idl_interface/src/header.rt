@@ -1,7 +1,6 @@
 // What the header of a file says.
 ghost use Rattle.std.specs.Prelude.{◌≡◌, [], ◌∷◌, ◌^◌, ◌<◌, ◌≤◌, ℕ, List, map, IfOk};
-ghost use Rattle.idl_lexer.specs.Numbers.{digit_value};
-ghost use Rattle.idl_lexer.specs.Pieces.{IsUuid};
+ghost use Rattle.idl_lexer.specs.Pieces.{digit_value, IsUuid};
 ghost use Rattle.idl_grammar.specs.Seen.{seen_kind, seen_attribute};
 ghost use Rattle.idl_rule_definitions.specs.Attributes.{first_said};
 ghost use Rattle.idl_rule_definitions.specs.Meaning.{uuid_from, uuid_said, major_said, minor_said, or_none};

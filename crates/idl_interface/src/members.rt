@@ -3,7 +3,7 @@ ghost use Rattle.std.specs.Prelude.{◌≡◌, ◌<◌, ◌^◌, ◌++◌, ◌�
 ghost use Rattle.std.specs.List.{list_all};
 ghost use Rattle.nd_base.specs.Text.{is_identifier};
 ghost use Rattle.idl_grammar.specs.Seen.{seen_kind, seen_attribute};
-ghost use Rattle.idl_scope.specs.Tables.{found};
+ghost use Rattle.idl_scope.specs.Known.{found};
 ghost use Rattle.idl_rule_definitions.specs.Attributes as attributes_of;
 ghost use Rattle.idl_rule_definitions.specs.Attributes.{variable_word, in_word, out_word};
 ghost use Rattle.idl_rule_definitions.specs.VariableRules.{variable_if};

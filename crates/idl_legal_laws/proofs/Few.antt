@@ -8,7 +8,7 @@ use Rattle.nd_types.specs.Kinds.{basic_types}
 use Rattle.idl_rule_definitions.specs.Nodes.{place_in}
 use Rattle.idl_rule_definitions.specs.Scene.{Scene}
 use Rattle.idl_rule_definitions.specs.Rules.{breach, breaches_at, breaches_in}
-use Rattle.idl_rule_definitions.specs.CountRules.{first_past, too_many, types_too_many, operations_too_many, parameters_too_many, parts_too_many}
+use Rattle.idl_rule_definitions.specs.DeclarationRules.{first_past, too_many, types_too_many, operations_too_many, parameters_too_many, parts_too_many}
 use Rattle.idl_rule_definitions.specs.Numbering.{own_types}
 use Rattle.idl_rule_definitions.specs.Meaning.{definition, types_of}
 use Rattle.idl_legal_laws.proofs.Kept.{neither}

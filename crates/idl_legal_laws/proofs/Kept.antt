@@ -4,11 +4,10 @@ use Rattle.idl_rule_definitions.specs.Nodes.{Construct}
 use Rattle.idl_rule_definitions.specs.Rules.{broken_in, breaches_of_use}
 use Rattle.idl_rule_definitions.specs.Scene.{Scene, Use}
 use Rattle.idl_rule_definitions.specs.Kept.{KeepsUse}
-use Rattle.idl_rule_definitions.specs.DeclarationRules.{is_wrongly_cased, lacks_direction}
-use Rattle.idl_rule_definitions.specs.ValueRules.{has_lower_bounds}
-use Rattle.idl_rule_definitions.specs.TypeRules.{holds_void, holds_handle, holds_pipe, is_no_context_handle, holds_context_handle, holds_deep_array, is_wrong_result}
-use Rattle.idl_rule_definitions.specs.ArrayRules.{has_wrong_counts, has_wrong_dimensions, has_wrong_elements, hoists_before_last, is_hoisting_arm, holds_wrong_pipe}
-use Rattle.idl_rule_definitions.specs.PointerRules.{has_class_without_pointer, holds_pointer_without_class, holds_pointer_to_reference, is_nullable_out, is_wrong_out}
+use Rattle.idl_rule_definitions.specs.DeclarationRules.{is_wrongly_cased, lacks_direction, has_lower_bounds}
+use Rattle.idl_rule_definitions.specs.TypeRules.{holds_void, holds_handle, holds_pipe, is_no_context_handle, holds_context_handle, holds_deep_array, is_wrong_result, has_wrong_counts}
+use Rattle.idl_rule_definitions.specs.TypeRules.{has_wrong_dimensions, has_wrong_elements, hoists_before_last, is_hoisting_arm, holds_wrong_pipe, has_class_without_pointer}
+use Rattle.idl_rule_definitions.specs.TypeRules.{holds_pointer_without_class, holds_pointer_to_reference, is_nullable_out, is_wrong_out}
 use Rattle.idl_rule_definitions.specs.VariableRules.{holds_nonencapsulated_union, has_wrong_switch, is_wrong_text, is_wrongly_sized, is_wrongly_varying, has_no_variable, has_wrong_variable}
 use Rattle.idl_rule_definitions.specs.declared.rule.TheConstants as Rule
 

@@ -14,9 +14,9 @@ use Rattle.idl_rule_definitions.specs.Nodes.{TypeNode, OperationNode}
 use Rattle.idl_rule_definitions.specs.Types.{IdlType, Void, Handle, ContextHandle, Basic, Struct, Union, Enum, Array, Text, Pointer, Pipe, Names, type_of, type_of_tag}
 use Rattle.idl_rule_definitions.specs.Scene.{Scoped, Scene, Use, use_of, chain, type_of_body}
 use Rattle.idl_rule_definitions.specs.Rules.{breach, breaches_at, breaches_in}
-use Rattle.idl_rule_definitions.specs.CountRules.{too_many}
+use Rattle.idl_rule_definitions.specs.DeclarationRules.{too_many}
 use Rattle.idl_rule_definitions.specs.Numbering.{Needed, needed, built, needed_by, needed_types, own_types, first_needed, has_own_number, same_type}
-use Rattle.idl_rule_definitions.specs.PointerRules.{refers_to_reference}
+use Rattle.idl_rule_definitions.specs.TypeRules.{refers_to_reference}
 use Rattle.idl_rule_definitions.specs.Kept.{KeepsUse}
 use Rattle.idl_legal_laws.proofs.Kept.{neither, keeps_use}
 use Rattle.idl_rule_definitions.specs.declared.rule.TheConstants as Rule

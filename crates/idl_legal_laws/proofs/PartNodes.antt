@@ -10,7 +10,7 @@ use Rattle.nd_base.specs.declared.octets.Place.{Place}
 use Rattle.idl_rule_definitions.specs.Nodes.{Declared, LabelledArm, arms_of}
 use Rattle.idl_rule_definitions.specs.Types.{IdlType, Void, Handle, ContextHandle, Basic, Struct, Union, Enum, Array, Text, Pointer, Pipe, Names, type_of}
 use Rattle.idl_rule_definitions.specs.Scene.{Scene, Body, body_of, parts_declared, arm_declared, parts_of, parts_of_found, in_place, nests}
-use Rattle.idl_rule_definitions.specs.ValueRules.{label_value}
+use Rattle.idl_rule_definitions.specs.DeclarationRules.{label_value}
 use Rattle.idl_rule_definitions.specs.Numbering.{number_of_type, is_numbered}
 use Rattle.idl_rule_definitions.specs.Meaning.{definition, types_of, field, first_type, struct_of, defined_by, defined_at, body_if, is_struct, is_union, is_enum, type_of_arm, arm_by, labelled_arms}
 use Rattle.idl_rule_definitions.specs.Meaning.{default_by, default_arm, first_arm}

@@ -20,7 +20,7 @@ use Rattle.idl_rule_definitions.specs.Types.{IdlType, Void, Handle, ContextHandl
 use Rattle.idl_rule_definitions.specs.Types.{is_reference}
 use Rattle.idl_rule_definitions.specs.Scene.{Scoped, Scene, Body, body_of, type_of_body}
 use Rattle.idl_rule_definitions.specs.Rules.{breaches_in}
-use Rattle.idl_rule_definitions.specs.PointerRules.{refers_to_reference}
+use Rattle.idl_rule_definitions.specs.TypeRules.{refers_to_reference}
 use Rattle.idl_rule_definitions.specs.Numbering.{Needed, needed, built, needed_by, needed_types, own_types, same_type, is_numbered, is_numbered_or_none}
 use Rattle.idl_rule_definitions.specs.Meaning.{definition, types_of, struct_of, defined_by, defined_at, body_if, is_struct, is_union, is_enum}
 use Rattle.idl_rule_definitions.proofs.Equal.{type_is}

@@ -12,14 +12,13 @@ use Rattle.idl_grammar.specs.declared.types.Discriminant.{Discriminant}
 use Rattle.idl_grammar.specs.Tree.{TypeSpec, Members, Cases, Arms, Declarator, Attributes}
 use Rattle.idl_grammar.specs.Tree as tree
 use Rattle.nd_base.specs.declared.octets.Place.{Place}
-use Rattle.idl_rule_definitions.specs.World.{World}
-use Rattle.idl_rule_definitions.specs.Nodes.{Construct, place_in, Position, InMember, InArm, InCasedArm, InHeader, InTypedef, InTaggedType, InParameter, InOperation, inside, Declared, declared, Node}
-use Rattle.idl_rule_definitions.specs.Nodes.{HeaderNode, AttributeNode, SwitchNode, TagNode, BodyNode, EnumeratorNode, LabelNode, EmptyArmNode, DeclaratorNode, ConstantNode, TypeNode, OperationNode}
-use Rattle.idl_rule_definitions.specs.Nodes.{declared_members, declarator_nodes, labels_of, label_nodes}
+use Rattle.idl_rule_definitions.specs.Nodes.{World, Construct, place_in, Position, InMember, InArm, InCasedArm, InHeader, InTypedef, InTaggedType, InParameter, InOperation, inside, Declared, declared}
+use Rattle.idl_rule_definitions.specs.Nodes.{Node, HeaderNode, AttributeNode, SwitchNode, TagNode, BodyNode, EnumeratorNode, LabelNode, EmptyArmNode, DeclaratorNode, ConstantNode, TypeNode}
+use Rattle.idl_rule_definitions.specs.Nodes.{OperationNode, declared_members, declarator_nodes, labels_of, label_nodes}
 use Rattle.idl_rule_definitions.specs.Types.{IdlType, Void, Handle, ContextHandle, Basic, Struct, Union, Enum, Array, Text, Pointer, Pipe, Names, type_of, is_void, is_handle}
 use Rattle.idl_rule_definitions.specs.Scene.{Scoped, Scene, scene_of, use_of, Body, bodies, body_by, body_among, body_of, place_of, same_place, parts_declared}
 use Rattle.idl_rule_definitions.specs.Rules.{breach, breaches, breaches_at, breaches_in}
-use Rattle.idl_rule_definitions.specs.CountRules.{too_many}
+use Rattle.idl_rule_definitions.specs.DeclarationRules.{too_many}
 use Rattle.idl_rule_definitions.specs.TypeRules.{without_void, without_handle, is_in_alone}
 use Rattle.idl_rule_definitions.specs.Kept.{KeepsUse}
 use Rattle.idl_rule_definitions.specs.Numbering.{Needed, built, first_needed, has_own_number, needed_by, needed_types, own_types, same_type, number_of_type, is_numbered, is_numbered_or_none}

@@ -9,7 +9,7 @@ use Rattle.idl_grammar.specs.declared.types.SimpleType.{SimpleType}
 use Rattle.idl_grammar.specs.declared.types.SimpleType.TheVariants as simple
 use Rattle.idl_grammar.specs.Tree.{TypeSpec}
 use Rattle.idl_grammar.specs.Tree as tree
-use Rattle.idl_scope.specs.Tables.{found}
+use Rattle.idl_scope.specs.Known.{found}
 use Rattle.idl_rule_definitions.specs.Nodes.{Construct, Node, SwitchNode, BodyNode, switch_node, label_nodes, labels_of}
 use Rattle.idl_rule_definitions.specs.Types.{IdlType, or_void, Void, Handle, ContextHandle, Basic, Struct, Union, Enum, Array, Text, Pointer, Pipe, Names, type_of, named_type, simple_type}
 use Rattle.idl_rule_definitions.specs.Types.{switch_type, is_void, is_handle, is_pipe, is_context}

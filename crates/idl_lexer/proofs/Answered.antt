@@ -18,12 +18,9 @@ use Rattle.idl_lexer.specs.declared.literals.Due.{Due}
 use Rattle.idl_lexer.specs.declared.literals.Due.TheVariants as due
 use Rattle.idl_lexer.specs.declared.literals.Step.{Step}
 use Rattle.idl_lexer.specs.declared.literals.Step.TheVariants as step
-use Rattle.idl_lexer.specs.Classes.{is_space, is_mark_octet, are_mark}
-use Rattle.idl_lexer.specs.Numbers.{number_of}
-use Rattle.idl_lexer.specs.Pieces.{IsUuid, IsComment, fits_uuid}
+use Rattle.idl_lexer.specs.Pieces.{is_space, is_mark_octet, are_mark, number_of, IsUuid, IsComment, fits_uuid}
 use Rattle.idl_lexer.specs.Literals.{completes_after, Reaches, IsEnd, IsOpen, IsBadAt, Opens}
-use Rattle.idl_lexer.specs.Cut.{IsCut, IsRefused, OpensComment}
-use Rattle.idl_lexer.specs.Verdict.{text_limit, token_of, HasVerdict, Verdict, Cut, Refused}
+use Rattle.idl_lexer.specs.Verdict.{IsCut, IsRefused, OpensComment, text_limit, token_of, HasVerdict, Verdict, Cut, Refused}
 use Rattle.idl_lexer.proofs.Ranges.{range_at, range_length}
 use Rattle.idl_lexer.proofs.FirstOctets.{equal_octets}
 use Rattle.idl_lexer.proofs.Cuts.{longest_word, longest_number, word_cut, number_cut, uuid_cut, space_cut, pair_cut, single_cut, comment_cut, bad_octet, long_name, bad_number, some_number}

@@ -2,7 +2,7 @@
 use Rattle.std.proofs.Common.{◌≡◌, ℕ, ◌+◌, ◌-◌, ◌<◌, ◌≤◌, List, length, sym, ap, arith, ◌∙◌}
 use Rattle.std.specs.Prelude.{slice_index, slice_range}
 use Rattle.idl_lexer.specs.Pieces.{IsComment}
-use Rattle.idl_lexer.specs.Cut.{OpensComment}
+use Rattle.idl_lexer.specs.Verdict.{OpensComment}
 use Rattle.idl_lexer.proofs.Ranges.{range_at, range_length, range_first}
 
 -- no `*/` is between two places

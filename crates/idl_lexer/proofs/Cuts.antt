@@ -11,10 +11,8 @@ use Rattle.idl_lexer.specs.declared.cut.Piece.{Piece}
 use Rattle.idl_lexer.specs.declared.cut.PieceKind.{PieceKind}
 use Rattle.idl_lexer.specs.declared.cut.PieceKind.TheVariants as piece
 use Rattle.nd_base.specs.Text.{is_letter, is_digit, is_hex_digit, is_word_octet}
-use Rattle.idl_lexer.specs.Classes.{is_space, is_mark_octet, are_mark}
-use Rattle.idl_lexer.specs.Numbers.{number_of}
-use Rattle.idl_lexer.specs.Pieces.{IsRun, IsUuid, IsComment, IsOf, is_mark}
-use Rattle.idl_lexer.specs.Cut.{IsLongest, IsCut, OpensComment, IsRefused}
+use Rattle.idl_lexer.specs.Pieces.{is_space, is_mark_octet, are_mark, number_of, IsRun, IsUuid, IsComment, IsOf, is_mark}
+use Rattle.idl_lexer.specs.Verdict.{IsLongest, IsCut, OpensComment, IsRefused}
 use Rattle.idl_lexer.proofs.Ranges.{range_at, range_length, range_first, range_empty, range_cons, range_one}
 use Rattle.idl_lexer.proofs.FirstOctets.{may_begin, begins, is_some as has_octets, word_kind, space_kind, mark_kind, nothing_begins, hex_word, equal_octets, IsRunKind}
 

@@ -7,8 +7,7 @@ use Rattle.idl_lexer.specs.declared.tokens.TokenKind.TheVariants as token
 use Rattle.idl_lexer.specs.declared.cut.PieceKind.{PieceKind}
 use Rattle.idl_lexer.specs.declared.cut.PieceKind.TheVariants as piece
 use Rattle.nd_base.specs.Text.{is_letter, is_digit, is_hex_digit, is_word_octet}
-use Rattle.idl_lexer.specs.Classes.{is_space, is_one_of, is_mark_octet, are, are_mark}
-use Rattle.idl_lexer.specs.Pieces.{IsOf, char_goes_on, string_goes_on}
+use Rattle.idl_lexer.specs.Pieces.{is_space, is_one_of, is_mark_octet, are, are_mark, IsOf, char_goes_on, string_goes_on}
 use Rattle.std.proofs.lemmas.Bool.{and_parts as both, not-true as not_true, or_left, or_right}
 use Rattle.nd_lemmas.proofs.Booleans.{clash}
 

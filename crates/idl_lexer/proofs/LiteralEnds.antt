@@ -15,10 +15,9 @@ use Rattle.idl_lexer.specs.declared.literals.Unended.TheVariants as unended
 use Rattle.idl_lexer.specs.declared.cut.Refusal.{Refusal}
 use Rattle.idl_lexer.specs.declared.literals.Step.{Step}
 use Rattle.idl_lexer.specs.declared.literals.Step.TheVariants as step
-use Rattle.idl_lexer.specs.Classes.{is_plain, is_escape}
-use Rattle.idl_lexer.specs.Pieces.{IsOf, closes, string_goes_on, string_escape_goes_on, char_escape_goes_on}
+use Rattle.idl_lexer.specs.Pieces.{is_plain, is_escape, IsOf, closes, string_goes_on, string_escape_goes_on, char_escape_goes_on}
 use Rattle.idl_lexer.specs.Literals.{completes, completes_after, is_empty, Reaches, IsEnd, IsOpen, IsBadAt, IsUnended, refusal_of, Opens}
-use Rattle.idl_lexer.specs.Cut.{IsCut, IsRefused, Begins}
+use Rattle.idl_lexer.specs.Verdict.{IsCut, IsRefused, Begins}
 use Rattle.idl_lexer.proofs.Ranges.{range_empty, range_cons, range_split, range_more}
 use Rattle.idl_lexer.proofs.FirstOctets.{may_begin, begins, string_kind, char_kind}
 use Rattle.idl_lexer.proofs.Cuts.{none_empty}

@@ -11,12 +11,9 @@ use Rattle.idl_lexer.specs.declared.cut.Piece.{Piece}
 use Rattle.idl_lexer.specs.declared.cut.PieceKind.{PieceKind}
 use Rattle.idl_lexer.specs.declared.cut.PieceKind.TheVariants as piece
 use Rattle.nd_base.specs.Text.{is_letter, is_digit, is_word_octet}
-use Rattle.idl_lexer.specs.Classes.{is_mark_octet}
-use Rattle.idl_lexer.specs.Numbers.{number_of}
-use Rattle.idl_lexer.specs.Pieces.{IsRun, IsUuid, IsComment, IsOf, is_mark}
-use Rattle.idl_lexer.specs.Cut.{IsLongest, IsCut, OpensComment, IsRefused, Begins, IsStuck, IsBadOctet, IsOpenText}
-use Rattle.idl_lexer.specs.Verdict.{AreCut, token_of, AreTokens, IsFirstFault, IsVerdict, IsFault, Answers, Verdict, Cut, Refused}
-use Rattle.idl_lexer.specs.Lexed.{Lexed}
+use Rattle.idl_lexer.specs.Pieces.{is_mark_octet, number_of, IsRun, IsUuid, IsComment, IsOf, is_mark}
+use Rattle.idl_lexer.specs.Verdict.{IsLongest, IsCut, OpensComment, IsRefused, Begins, IsStuck, IsBadOctet, IsOpenText, AreCut, token_of, AreTokens, IsFirstFault, IsVerdict, IsFault, Answers, Verdict}
+use Rattle.idl_lexer.specs.Verdict.{Cut, Refused, Lexed}
 use Rattle.idl_lexer.specs.declared.tokens.LexFault.{LexFault}
 use Rattle.idl_lexer.specs.declared.tokens.LexFault.TheVariants as errors
 use Rattle.idl_lexer.proofs.Ranges.{range_split, range_one, range_first}

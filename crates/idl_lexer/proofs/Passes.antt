@@ -9,9 +9,7 @@ use Rattle.idl_lexer.specs.declared.tokens.Token.{Token}
 use Rattle.idl_lexer.specs.declared.cut.Piece.{Piece}
 use Rattle.idl_lexer.specs.declared.cut.PieceKind.{PieceKind}
 use Rattle.idl_lexer.specs.declared.cut.PieceKind.TheVariants as piece
-use Rattle.idl_lexer.specs.Cut.{IsCut, IsRefused}
-use Rattle.idl_lexer.specs.Lexed.{AreWithin}
-use Rattle.idl_lexer.specs.Verdict.{AreCut, token_of, AreTokens, IsFirstFault, IsVerdict, Refused, text_limit}
+use Rattle.idl_lexer.specs.Verdict.{IsCut, IsRefused, AreWithin, AreCut, token_of, AreTokens, IsFirstFault, IsVerdict, Refused, text_limit}
 
 one_more : (text : List ℕ) (from : ℕ) (ps : List Piece) (at : ℕ) (p : Piece) → AreCut text from ps at → p.from ≡ at → IsCut text p → AreCut text from (ps ++ p ∷ []) p.to
 one_more text from [] at p cut here is = (here ∙ cut, is, refl)

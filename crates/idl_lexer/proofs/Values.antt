@@ -8,7 +8,7 @@ use Rattle.std.specs.Prelude.{slice_index, leb, ◌||◌, ◌&&◌}
 use Rattle.std.specs.List.{list_all}
 use Rattle.nd_base.specs.Text.{is_digit, is_hex_digit}
 use Rattle.std.proofs.lemmas.Bool.{and_parts as both}
-use Rattle.idl_lexer.specs.Numbers.{digit_value, value_from, in_64_bits}
+use Rattle.idl_lexer.specs.Pieces.{digit_value, value_from, in_64_bits}
 
 pub value_grows : (base so_far : ℕ) (xs : List ℕ) → 1 ≤ base → so_far ≤ value_from base so_far xs
 value_grows base so_far [] h = omega arith

@@ -12,9 +12,7 @@ use Rattle.idl_lexer.specs.declared.cut.PieceKind.{PieceKind}
 use Rattle.idl_lexer.specs.declared.cut.PieceKind.TheVariants as piece
 use Rattle.nd_base.specs.Text.{is_letter, is_word_octet}
 use Rattle.idl_lexer.specs.Pieces.{IsRun, IsUuid, IsOf}
-use Rattle.idl_lexer.specs.Lexed.{IsFormed, AreFormed}
-use Rattle.idl_lexer.specs.Cut.{IsCut}
-use Rattle.idl_lexer.specs.Verdict.{AreCut, token_of, AreTokens}
+use Rattle.idl_lexer.specs.Verdict.{IsFormed, AreFormed, IsCut, AreCut, token_of, AreTokens}
 use Rattle.idl_lexer.proofs.Ranges.{range_length}
 
 -- a token that is in the text; if it is a word it has the form of one and is no longer than 31 octets, and if it is a UUID it has its form

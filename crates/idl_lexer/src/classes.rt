@@ -1,6 +1,6 @@
 // The classes of octets that tokens are made of.
 ghost use Rattle.std.specs.Prelude.{◌≡◌};
-ghost use Rattle.idl_lexer.specs.Classes as classes;
+ghost use Rattle.idl_lexer.specs.Pieces as classes;
 
 pub(crate) fn is_space(octet: u8) -> bool
     ensures { result ≡ classes.is_space octet }

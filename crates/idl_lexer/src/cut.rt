@@ -1,12 +1,12 @@
 // What is cut at a place of a text.
 ghost use Rattle.std.specs.Prelude.{◌≡◌, ℕ, ◌+◌, ◌-◌, ◌<◌, ◌≤◌, true, false, ◌||◌, length, slice_index, slice_range, MatchResult, MatchOption};
 ghost use Rattle.std.specs.Bool.{MatchBool};
-ghost use Rattle.idl_lexer.specs.Classes as classes;
+ghost use Rattle.idl_lexer.specs.Pieces as classes;
 ghost use Rattle.nd_base.specs.Text as class;
 ghost use Rattle.idl_lexer.specs.Pieces.{IsComment};
 ghost use Rattle.idl_lexer.specs.Literals.{Opens, refusal_of};
 ghost use Rattle.idl_lexer.specs.declared.cut.PieceKind.TheVariants as piece;
-ghost use Rattle.idl_lexer.specs.Cut.{IsCut, IsRefused, OpensComment};
+ghost use Rattle.idl_lexer.specs.Verdict.{IsCut, IsRefused, OpensComment};
 
 use crate::classes::{are_mark, is_mark_octet, is_space};
 use crate::literals::{Due, Unended, literal_end};

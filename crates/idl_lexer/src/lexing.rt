@@ -1,7 +1,6 @@
 // The tokens of a whole text.
 ghost use Rattle.std.specs.Prelude.{◌≡◌, ◌≤◌, ◌<◌, ℕ, length, ◌++◌, IfOk, IfErr, OnOk};
-ghost use Rattle.idl_lexer.specs.Lexed.{AreWithin};
-ghost use Rattle.idl_lexer.specs.Verdict.{Verdict, AreTokens, IsFault, IsVerdict, Answers, token_of, text_limit};
+ghost use Rattle.idl_lexer.specs.Verdict.{AreWithin, Verdict, AreTokens, IsFault, IsVerdict, Answers, token_of, text_limit};
 ghost use Rattle.idl_lexer.specs.declared.tokens.LexFault.TheVariants as errors;
 
 use crate::cut::{Piece, PieceKind, cut};

@@ -2,7 +2,7 @@
 ghost use Rattle.std.specs.Prelude.{◌≡◌, ◌≤◌, ◌<◌, ◌^◌, ◌+◌, ◌*◌, List, ℕ, [], ◌∷◌, length, Some, None, cond, ltb, true, IsTrue};
 ghost use Rattle.std.specs.List.{list_all};
 ghost use Rattle.nd_base.specs.Text as class;
-ghost use Rattle.idl_lexer.specs.Numbers as numbers;
+ghost use Rattle.idl_lexer.specs.Pieces as numbers;
 
 use nd_base::text::{is_digit, is_hex_digit};
 

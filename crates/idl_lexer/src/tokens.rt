@@ -101,7 +101,7 @@ pub struct Tokens {
 }
 
 impl Model for Tokens {
-    ghost use Rattle.idl_lexer.specs.Lexed.{Lexed, AreWithin, AreFormed};
+    ghost use Rattle.idl_lexer.specs.Verdict.{Lexed, AreWithin, AreFormed};
 
     ghost Value = { Lexed };
 
@@ -112,7 +112,7 @@ impl Model for Tokens {
 
 impl Tokens {
     ghost use Rattle.std.specs.Prelude.{◌≡◌, ◌≤◌, ◌<◌, ◌↔◌, ℕ, length, slice_range, slice_get, Some, cond, ltb};
-    ghost use Rattle.idl_lexer.specs.Lexed.{AreWithin, AreFormed, place_of, IsKindOf, IsTextOf};
+    ghost use Rattle.idl_lexer.specs.Verdict.{AreWithin, AreFormed, place_of, IsKindOf, IsTextOf};
 
     /// Keeps a text and its tokens.
     pub(crate) fn keep(text: Octets, tokens: Vec<Token>) -> Tokens

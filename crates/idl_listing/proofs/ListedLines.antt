@@ -3,7 +3,7 @@ use Rattle.std.proofs.Common.{◌≡◌, ◌∙◌, ℕ, ◌+◌, ◌≤◌, Lis
 use Rattle.std.specs.List.{flat_map, enumerate_from, slice_get}
 use Rattle.std.proofs.lemmas.List.{drop_more, drop_all}
 use Rattle.std.proofs.lemmas.Option.{slice_get_within, get_or_from_slice_get}
-use Rattle.idl_listing.specs.Lines.{behind}
+use Rattle.idl_listing.specs.Listing.{behind}
 use Rattle.idl_listing.proofs.WordByWord.{behind_more}
 
 -- what is left begins with the next item

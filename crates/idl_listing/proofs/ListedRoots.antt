@@ -11,10 +11,8 @@ use Rattle.nd_types.specs.declared.types.Side.TheVariants as side
 use Rattle.nd_types.specs.declared.TheConstants.{HANDLE}
 use Rattle.nd_types.specs.Table.{Table}
 use Rattle.nd_types.specs.Fields.{param_fields}
-use Rattle.nd_types.specs.Roots.{Root, roots_of, root_of, root_by, pipe_of, params_from, result_root, travels}
-use Rattle.nd_types.specs.Walk.{named_root, named_roots}
-use Rattle.idl_listing.specs.Lines.{line, side_word}
-use Rattle.idl_listing.specs.Listing.{attrs_words, root_line, side_lines}
+use Rattle.nd_types.specs.Roots.{Root, roots_of, root_of, root_by, pipe_of, params_from, result_root, travels, named_root, named_roots}
+use Rattle.idl_listing.specs.Listing.{line, side_word, attrs_words, root_line, side_lines}
 use Rattle.idl_listing.specs.Worded.{vars_in, vars_at, named_line}
 
 -- each root has the attributes of its parameter

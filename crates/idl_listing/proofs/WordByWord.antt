@@ -1,7 +1,7 @@
 -- Lines that are written word by word.
 use Rattle.std.proofs.Common.{◌≡◌, ◌∙◌, ℕ, List, [], ◌∷◌, ◌++◌, refl, ap, sym, append_assoc, codes}
 use Rattle.std.proofs.lemmas.List.{append-nil}
-use Rattle.idl_listing.specs.Lines.{spaced, line, behind}
+use Rattle.idl_listing.specs.Listing.{spaced, line, behind}
 
 -- a line is its first word with the others after it
 pub spaced_first : (word : List ℕ) (words : List (List ℕ)) → spaced (word ∷ words) ≡ word ++ behind words

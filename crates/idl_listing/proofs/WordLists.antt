@@ -1,7 +1,6 @@
 -- The words of a type's line, and the digits of base 16.
 use Rattle.std.proofs.Common.{◌≡◌, ◌∙◌, ℕ, zero, suc, ◌-◌, ◌/◌, ◌%◌, ◌≤◌, List, [], ◌∷◌, ◌++◌, ap, sym, append_assoc, codes, arith}
-use Rattle.idl_listing.specs.Lines.{line}
-use Rattle.idl_listing.specs.Listing.{hex_digit, hex_digits}
+use Rattle.idl_listing.specs.Listing.{line, hex_digit, hex_digits}
 
 -- the words of a type's line
 pub type_words : (t : List ℕ) (form tail : List (List ℕ)) (number align : List ℕ)

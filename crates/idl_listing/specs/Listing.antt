@@ -1,10 +1,13 @@
--- How an interface is listed for people: a line for its header, then the lines of each type that it declares, then the lines of each operation.
--- How the lines look is this project's own choice.
--- `t` is the number of a type, `d` what it is, `f` a member, `a` an arm, `v` an attribute with its variable, `o` an operation, `r` a root.
-use Rattle.std.specs.Prelude.{ℕ, ◌+◌, ◌^◌, ◌/◌, ◌%◌, zero, suc, Bool, true, false, cond, leb, List, [], ◌∷◌, ◌++◌, map, drop, length, slice_get}
-use Rattle.std.specs.Prelude.{Option, Some, None, codes, decimal}
+-- How an interface is listed for people: a line for its header, then the lines of each type that it declares, then those of each operation.
+use Rattle.std.specs.Prelude.{ℕ, ◌+◌, ◌^◌, ◌/◌, ◌%◌, zero, suc, Bool, true, false, if◌then◌else◌, nat_le, List, [], ◌∷◌, ◌++◌, length, map, drop}
+use Rattle.std.specs.Prelude.{Option, Some}
+use Rattle.std.specs.Prelude.{None, slice_get, codes, decimal}
 use Rattle.std.specs.List.{flat_map, enumerate_from}
 use Rattle.std.specs.Fmt.{signed_decimal}
+use Rattle.nd_types.specs.declared.types.Class.{Class}
+use Rattle.nd_types.specs.declared.types.Class.TheVariants as class
+use Rattle.nd_types.specs.declared.types.Side.{Side}
+use Rattle.nd_types.specs.declared.types.Side.TheVariants as side
 use Rattle.nd_types.specs.declared.types.TypeId.{TypeId}
 use Rattle.nd_types.specs.declared.types.TypeDef.{TypeDef}
 use Rattle.nd_types.specs.declared.types.TypeDef.TheVariants.{Enum, Struct, Array, Text, Union, Pointer, Pipe}
@@ -14,22 +17,57 @@ use Rattle.nd_types.specs.declared.types.AttrVar.{AttrVar}
 use Rattle.nd_types.specs.declared.types.Attr.{Attr}
 use Rattle.nd_types.specs.declared.types.Attr.TheVariants as attr
 use Rattle.nd_types.specs.declared.types.Operation.{Operation}
-use Rattle.nd_types.specs.declared.types.Side.{Side}
-use Rattle.nd_types.specs.declared.types.Side.TheVariants as side
 use Rattle.nd_types.specs.Table.{Table}
 use Rattle.nd_types.specs.Kinds.{basic_types}
 use Rattle.nd_types.specs.Layout.{align_of, hoists}
 use Rattle.nd_types.specs.Fields.{param_fields}
-use Rattle.nd_types.specs.Roots.{Root, roots_of}
-use Rattle.nd_types.specs.Walk.{root_name}
+use Rattle.nd_types.specs.Roots.{Root, roots_of, root_name}
 use Rattle.nd_types.specs.Meant.{Meant}
-use Rattle.idl_listing.specs.Lines.{line, word_if, class_word, side_word}
 
--- ## The header
+-- ## Lines of words, and the words for what is listed
+
+-- words with a space between each two
+abbrev pub spaced : List (List ℕ) → List ℕ
+spaced [] = []
+spaced (word ∷ []) = word
+spaced (word ∷ next ∷ words) = word ++ codes " " ++ spaced (next ∷ words)
+
+-- a line of words
+abbrev pub line : List (List ℕ) → List ℕ
+line words = spaced words ++ codes "\n"
+
+-- a word, where the test holds
+abbrev pub word_if : Bool → List ℕ → List (List ℕ)
+word_if true word = word ∷ []
+word_if false word = []
+
+-- words, each after a space
+abbrev pub behind : List (List ℕ) → List ℕ
+behind [] = []
+behind (word ∷ words) = codes " " ++ word ++ behind words
+
+-- the word of a class of pointers
+abbrev pub class_word : Class → List ℕ
+class_word class.Ref = codes "ref"
+class_word class.Unique = codes "unique"
+class_word class.Full = codes "ptr"
+
+-- the word of a side
+abbrev pub side_word : Side → List ℕ
+side_word side.In = codes "in"
+side_word side.Out = codes "out"
+
+-- ## The lines of an interface
+
+-- How the lines look is this project's own choice.
+-- `t` is the number of a type, `d` what it is, `f` a member, `a` an arm, `v` an attribute with its variable, `o` an operation, `r` a
+-- root.
+
+-- ### The header
 
 -- a digit of base 16, in lower case
 abbrev pub hex_digit : ℕ → ℕ
-hex_digit n = cond (leb n 9) (48 + n) (87 + n)
+hex_digit n = if nat_le n 9 then 48 + n else 87 + n
 
 -- the last k digits of a number in base 16
 abbrev pub hex_digits : ℕ → ℕ → List ℕ
@@ -53,7 +91,7 @@ version_word major minor = decimal major ++ codes "." ++ decimal minor
 abbrev pub header_line : Meant → List ℕ
 header_line m = line (codes "interface" ∷ m.name ∷ codes "version" ∷ version_word m.major m.minor ∷ codes "uuid" ∷ uuid_word m.uuid ∷ [])
 
--- ## Attributes of members and parameters
+-- ### Attributes of members and parameters
 
 abbrev pub attr_word : Attr → List ℕ
 attr_word attr.Size = codes "size_is"
@@ -82,7 +120,7 @@ attr_words list v = attr_word v.attr ∷ variable_word list v ∷ []
 abbrev pub attrs_words : List Field → List AttrVar → List (List ℕ)
 attrs_words list vars = flat_map (attr_words list) vars
 
--- ## Types
+-- ### Types
 
 -- what a type is; basic types have no lines
 abbrev pub form : TypeDef → List (List ℕ)
@@ -139,7 +177,7 @@ type_lines types e = type_line types e.0 e.1 ++ part_lines e.1
 abbrev pub own_types : Table → List (ℕ × TypeDef)
 own_types types = enumerate_from (length basic_types) (drop (length basic_types) types)
 
--- ## Operations
+-- ### Operations
 
 -- in NAME T, out NAME T
 abbrev pub root_line : Operation → Side → Root → List ℕ
@@ -153,7 +191,7 @@ side_lines types o s = flat_map (root_line o s) (roots_of types s o)
 abbrev pub operation_lines : Table → ℕ × Operation → List ℕ
 operation_lines types e = line (codes "op" ∷ decimal e.0 ∷ e.1.name ∷ []) ++ side_lines types e.1 side.In ++ side_lines types e.1 side.Out
 
--- ## The listing
+-- ### The listing
 
 unfoldable pub listing : Meant → List ℕ
 listing m = header_line m ++ flat_map (type_lines m.types) (own_types m.types) ++ flat_map (operation_lines m.types) (enumerate_from 0 m.operations)

@@ -6,9 +6,8 @@ use Rattle.nd_types.specs.declared.types.Param.{Param}
 use Rattle.nd_types.specs.declared.types.Operation.{Operation}
 use Rattle.nd_types.specs.declared.types.Side.{Side}
 use Rattle.nd_types.specs.Fields.{param_fields}
-use Rattle.nd_types.specs.Walk.{NamedRoot}
-use Rattle.idl_listing.specs.Lines.{line, side_word}
-use Rattle.idl_listing.specs.Listing.{attrs_words}
+use Rattle.nd_types.specs.Roots.{NamedRoot}
+use Rattle.idl_listing.specs.Listing.{line, side_word, attrs_words}
 
 -- the attributes of a parameter; the result and what is no parameter have none
 abbrev pub vars_in : Option Param → List AttrVar

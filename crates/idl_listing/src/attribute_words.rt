@@ -1,7 +1,6 @@
 // An attribute of a member or parameter.
 ghost use Rattle.std.specs.Prelude.{◌≡◌, ◌++◌, ◌∷◌, [], OnOk};
-ghost use Rattle.idl_listing.specs.Listing.{attr_word, star};
-ghost use Rattle.idl_listing.specs.Lines.{behind};
+ghost use Rattle.idl_listing.specs.Listing.{attr_word, star, behind};
 
 use crate::word;
 use nd_base::{Memory, Octets};

@@ -1,7 +1,6 @@
 // The first line of a listing: the name, the version and the UUID of an interface.
 ghost use Rattle.std.specs.Prelude.{◌≡◌, ◌<◌, ◌++◌, ◌∷◌, [], OnOk};
-ghost use Rattle.idl_listing.specs.Listing.{hex_digit, hex_digits, uuid_text, uuid_word, version_word, header_line};
-ghost use Rattle.idl_listing.specs.Lines.{behind};
+ghost use Rattle.idl_listing.specs.Listing.{hex_digit, hex_digits, uuid_text, uuid_word, version_word, header_line, behind};
 ghost use Rattle.nd_types.specs.Meant.{meant_by};
 
 use crate::{number, word};

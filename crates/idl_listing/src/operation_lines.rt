@@ -3,9 +3,8 @@ ghost use Rattle.std.specs.Prelude.{◌≡◌, ◌++◌, ◌∷◌, [], Some, sl
 ghost use Rattle.std.specs.List.{flat_map, enumerate_from};
 ghost use Rattle.nd_types.specs.declared.types.Operation.{Operation as OperationValue};
 ghost use Rattle.nd_types.specs.Fields.{param_fields};
-ghost use Rattle.nd_types.specs.Walk.{root_value};
-ghost use Rattle.idl_listing.specs.Lines.{line, behind};
-ghost use Rattle.idl_listing.specs.Listing.{attrs_words, side_lines, operation_lines, field_name};
+ghost use Rattle.nd_types.specs.Roots.{root_value};
+ghost use Rattle.idl_listing.specs.Listing.{line, behind, attrs_words, side_lines, operation_lines, field_name};
 ghost use Rattle.idl_listing.specs.Worded.{vars_at, named_line};
 
 use crate::attribute_words::attribute;

@@ -3,9 +3,8 @@ ghost use Rattle.std.specs.Prelude.{◌≡◌, ◌++◌, ◌∷◌, [], map, sli
 ghost use Rattle.std.specs.Fmt.{signed_decimal};
 ghost use Rattle.std.specs.List.{flat_map};
 ghost use Rattle.nd_types.specs.declared.types.TypeDef.TheVariants as def;
-ghost use Rattle.idl_listing.specs.Lines.{behind};
-ghost use Rattle.idl_listing.specs.Listing.{attrs_words, form, type_line, member_line, arm_name, arm_type, arm_line, default_line, part_lines};
-ghost use Rattle.idl_listing.specs.Listing.{type_lines, own_types, field_name};
+ghost use Rattle.idl_listing.specs.Listing.{behind, attrs_words, form, type_line, member_line, arm_name, arm_type, arm_line, default_line};
+ghost use Rattle.idl_listing.specs.Listing.{part_lines, type_lines, own_types, field_name};
 
 use crate::attribute_words::attribute;
 use crate::{class_word, number, signed, word, word_if};

@@ -1,7 +1,7 @@
 // Words of a line, each after a space, and the words of classes and sides.
 ghost use Rattle.std.specs.Prelude.{◌≡◌, ◌++◌, ◌∷◌, [], OnOk, codes, decimal};
 ghost use Rattle.std.specs.Fmt.{signed_decimal};
-ghost use Rattle.idl_listing.specs.Lines.{word_if, behind, class_word, side_word};
+ghost use Rattle.idl_listing.specs.Listing.{word_if, behind, class_word, side_word};
 
 use itoa::Buffer;
 use nd_base::{Memory, Octets};

@@ -16,16 +16,15 @@ use Rattle.idl_scope.specs.declared.fault.ExpressionFault.TheVariants as express
 use Rattle.idl_scope.specs.declared.name_fault.NameFault.{NameFault}
 use Rattle.idl_scope.specs.declared.name_fault.NameFault.TheVariants as fault
 use Rattle.idl_names.specs.Causes.{IsAbsent, IsFailed}
-use Rattle.idl_scope.specs.Ended.{Ended, ended, has_ended}
+use Rattle.idl_scope.specs.Known.{Ended, ended, has_ended, Known, nothing, passed, and_then, walked, where_known, where_free, where_valued, in_file, expression_fault_in, tag_used}
 use Rattle.idl_names.specs.Going.{Point, Asked, Leads, Went}
 use Rattle.idl_names.specs.Loads.{IsLoaded}
-use Rattle.idl_names.specs.Sources.{Source, file_number, and_source}
+use Rattle.idl_names.specs.Walk.{Source, file_number, and_source, State, Due, Pass, Load, End, Ending, Done, Stopped, Walk, load_of, all_of, with_known, with_ended, start, names_of, AsksAlong}
+use Rattle.idl_names.specs.Walk.{most_files}
 use Rattle.idl_scope.specs.Steps as step
 use Rattle.idl_scope.specs.Steps.{Step, attribute_steps, imports_of, declaration_steps}
-use Rattle.idl_scope.specs.Known.{Known, nothing, passed, then, walked, where_known, where_free, where_valued, in_file, expression_fault_in, tag_used}
 use Rattle.idl_scope.specs.Kept.{is_memory, IsRight}
 use Rattle.idl_names.specs.Walk as walk
-use Rattle.idl_names.specs.Walk.{State, Due, Pass, Load, End, Ending, Done, Stopped, Walk, load_of, all_of, with_known, with_ended, start, names_of, AsksAlong, most_files}
 use Rattle.nd_base.proofs.Rising.{rose_later as rose_before}
 
 -- ## Counts
@@ -151,7 +150,7 @@ walked_of_names : (file : ℕ) (k : Known) (steps : List Step) → OfNames (walk
 walked_of_names file k [] = tt
 walked_of_names file k (s ∷ steps) = by (passed file k s) (passed_of_names file k s) (λ next. walked_of_names file next steps)
   where
-    by : (r : Result Known NameFault) → OfNames r → ((next : Known) → OfNames (walked file next steps)) → OfNames (then r (λ next. walked file next steps))
+    by : (r : Result Known NameFault) → OfNames r → ((next : Known) → OfNames (walked file next steps)) → OfNames (and_then r (λ next. walked file next steps))
     by (Ok next) h more = more next
     by (Err f) h more = h
 
@@ -180,7 +179,7 @@ module _ (held : Option (List ℕ → Option (List ℕ))) (file : ℕ) where
     where
       by : (r : Result Known NameFault) → passed file s.known x ≡ r
           → ((k : Known) → walked file k steps ≡ Ok after → Walk held (with_known s k) (map (Pass file) steps ++ rest) e)
-          → then r (λ next. walked file next steps) ≡ Ok after
+          → and_then r (λ next. walked file next steps) ≡ Ok after
           → Walk held s (Pass file x ∷ (map (Pass file) steps ++ rest)) e
       by (Ok k) is more g = walk.goes_on s file x k (map (Pass file) steps ++ rest) e is (more k g)
       by (Err f) is more g = absurd (cc)
@@ -195,7 +194,7 @@ module _ (held : Option (List ℕ → Option (List ℕ))) (file : ℕ) where
 
       by : (r : Result Known NameFault) → passed file s.known x ≡ r
           → ((k : Known) → walked file k steps ≡ Err f → Walk held (with_known s k) (map (Pass file) steps ++ rest) (Stopped s.sources f))
-          → then r (λ next. walked file next steps) ≡ Err f
+          → and_then r (λ next. walked file next steps) ≡ Err f
           → Walk held s (Pass file x ∷ (map (Pass file) steps ++ rest)) (Stopped s.sources f)
       by (Ok k) is more g = walk.goes_on s file x k (map (Pass file) steps ++ rest) (Stopped s.sources f) is (more k g)
       by (Err n) is more g = subst (λ (m : NameFault). Walk held s (Pass file x ∷ (map (Pass file) steps ++ rest)) (Stopped s.sources m)) (same_fault g)

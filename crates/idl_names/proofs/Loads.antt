@@ -3,25 +3,22 @@ use Rattle.std.proofs.Common.{◌≡◌, ◌⊎◌, inl, inr, ℕ, ◌+◌, ◌<
 use Rattle.std.proofs.Common.{Err, IfOk, IfErr}
 use Rattle.std.proofs.lemmas.List.{length-map, length-append, map-set}
 use Rattle.std.proofs.Math.ListN.{get_or-map}
-use Rattle.idl_grammar.specs.Text.{Text, Rel, Depth, Ban}
+use Rattle.idl_grammar.specs.Text.{Text, Rel, Depth, Ban, lexemes}
 use Rattle.idl_grammar.specs.ReadPhrases.{Fault, Syntax, Passes, Read}
-use Rattle.idl_grammar.specs.Verdict.{whole_read}
+use Rattle.idl_grammar.specs.Answers.{whole_read, is_banned, Answers, named_fault, named, file_answer}
 use Rattle.idl_grammar.proofs.Exact.{front, Exact}
 use Rattle.idl_grammar.proofs.Sequences.{stops}
 use Rattle.idl_grammar.proofs.Within.{mark_within}
 use Rattle.nd_base.specs.declared.octets.Place.{Place}
 use Rattle.nd_base.specs.declared.outside.FileFault.{FileFault}
 use Rattle.nd_base.specs.declared.outside.FileFault.TheVariants as file_fault
-use Rattle.nd_base.specs.Outside.{IsContent, IsMissing}
-use Rattle.idl_lexer.specs.Lexed.{Lexed}
-use Rattle.idl_lexer.specs.Verdict.{AreTokens}
+use Rattle.nd_base.specs.Over.{IsContent, IsMissing}
+use Rattle.idl_lexer.specs.Verdict.{Lexed, AreTokens}
 use Rattle.idl_lexer.specs.declared.tokens.LexFault.TheVariants as lex_fault
 use Rattle.idl_grammar.specs.Symbols as symbol
-use Rattle.idl_grammar.specs.Lexemes.{lexemes}
 use Rattle.idl_grammar.specs.Tree.{Tree}
 use Rattle.idl_grammar.specs.Grammar as grammar
 use Rattle.idl_grammar.specs.Reading as grammar_readings
-use Rattle.idl_grammar.specs.Answers.{is_banned, Answers, named_fault, named, file_answer}
 use Rattle.idl_grammar.proofs.FileExact as grammar_exact
 use Rattle.idl_grammar.proofs.FileLaws.{file_answered_alone}
 use Rattle.idl_grammar.proofs.RealTokens.{lexemes_real}
@@ -31,13 +28,11 @@ use Rattle.idl_parser.specs.Answered.{Told}
 use Rattle.idl_scope.specs.declared.name_fault.NameFault.{NameFault}
 use Rattle.idl_scope.specs.declared.name_fault.NameFault.TheVariants as fault
 use Rattle.idl_scope.specs.declared.scope.FileTree.{FileTree}
-use Rattle.idl_names.specs.Files.{IsFile}
+use Rattle.idl_names.specs.Walk.{IsFile, Source, and_source, State, Due, Load, Stopped, Walk, IsDue}
 use Rattle.idl_scope.specs.Seen.{seen_file}
 use Rattle.idl_grammar.specs.Seen.{seen_tree}
 use Rattle.idl_names.specs.Loads.{IsLoaded, IsFaultOf, IsOfText, told_syntax, told_load, IsLoadFault}
-use Rattle.idl_names.specs.Sources.{Source, and_source}
 use Rattle.idl_names.specs.Walk as walk
-use Rattle.idl_names.specs.Walk.{State, Due, Load, Stopped, Walk, IsDue}
 
 pub token_count : (l : Lexed) → length (lexemes l) ≡ length l.tokens
 token_count l = simp length-map refl

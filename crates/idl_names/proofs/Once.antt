@@ -3,13 +3,12 @@ use Rattle.std.proofs.Common.{◌≡◌, ℕ, ◌<◌, ◌≤◌, Bool, true, fa
 use Rattle.std.proofs.lemmas.Option.{same_Some}
 use Rattle.nd_lemmas.proofs.Booleans.{clash}
 use Rattle.idl_grammar.specs.ReadPhrases.{Fault, Syntax}
-use Rattle.nd_base.specs.Outside.{loaded, IsContent, IsMissing}
-use Rattle.idl_lexer.specs.Lexed.{Lexed, place_of}
-use Rattle.idl_lexer.specs.Verdict.{IsVerdict, AreTokens, Cut, Refused}
+use Rattle.nd_base.specs.Over.{loaded, IsContent, IsMissing}
+use Rattle.idl_lexer.specs.Verdict.{Lexed, place_of, IsVerdict, AreTokens, Cut, Refused}
 use Rattle.idl_lexer.specs.declared.tokens.LexKind.{LexKind}
 use Rattle.idl_lexer.specs.declared.tokens.Token.{Token}
 use Rattle.idl_lexer.proofs.OneVerdict.{one_verdict}
-use Rattle.idl_grammar.specs.Lexemes.{lexemes}
+use Rattle.idl_grammar.specs.Text.{lexemes}
 use Rattle.idl_grammar.specs.Tree.{Tree}
 use Rattle.idl_grammar.specs.Answers.{file_answer}
 use Rattle.idl_grammar.proofs.FileLaws.{file_answered_alone}
@@ -18,11 +17,8 @@ use Rattle.idl_grammar.specs.declared.fault.SyntaxFault.{SyntaxFault}
 use Rattle.idl_grammar.specs.declared.fault.SyntaxFault.TheVariants as syntax
 use Rattle.idl_scope.specs.declared.name_fault.NameFault.{NameFault}
 use Rattle.idl_scope.specs.declared.name_fault.NameFault.TheVariants as fault
-use Rattle.idl_names.specs.Files.{IsRead, IsFile, IsNoFile, IsSyntaxFault}
-use Rattle.idl_scope.specs.Ended.{has_ended}
-use Rattle.idl_scope.specs.Known.{Known, passed}
-use Rattle.idl_names.specs.Sources.{file_number}
-use Rattle.idl_names.specs.Walk.{State, Due, Ending, Done, Stopped, Walk, most_files, with_known, with_source, all_of}
+use Rattle.idl_names.specs.Walk.{IsRead, IsFile, IsNoFile, IsSyntaxFault, file_number, State, Due, Ending, Done, Stopped, Walk, most_files, with_known, with_source, all_of}
+use Rattle.idl_scope.specs.Known.{has_ended, Known, passed}
 use Rattle.idl_names.specs.Walk as walk
 use Rattle.idl_names.specs.Decided.{is_decided, has_memory, FailsAs}
 use Rattle.idl_names.proofs.Loads.{same_fault as same_errors}

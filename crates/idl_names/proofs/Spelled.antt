@@ -2,9 +2,9 @@
 use Rattle.std.proofs.Common.{◌≡◌, ◌≢◌, ℕ, ◌+◌, ◌-◌, ◌<◌, ◌≤◌, Bool, true, false, not, cond, eqb, refl, sym, ap, ◌∙◌, arith, List, [], ◌∷◌, ◌++◌, ◌||◌, drop, length, get_or, position, map}
 use Rattle.std.proofs.lemmas.List.{append_assoc, drop_more, length-drop, length-map}
 use Rattle.std.specs.List.{position_or_len}
-use Rattle.idl_scope.specs.Ended.{Ended, has_ended}
+use Rattle.idl_scope.specs.Known.{Ended, has_ended}
 use Rattle.idl_scope.specs.Value.{escaped}
-use Rattle.idl_names.specs.Sources.{backslash, before_quote, string_value}
+use Rattle.idl_names.specs.Walk.{backslash, before_quote, string_value}
 use Rattle.idl_grammar.proofs.OneVerdict.{unequal as are_not_same}
 use Rattle.std.proofs.lemmas.Bool.{eq-eqb as are_same}
 

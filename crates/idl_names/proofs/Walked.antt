@@ -6,25 +6,25 @@ use Rattle.std.proofs.lemmas.List.{drop_more, drop_all}
 use Rattle.std.proofs.lemmas.List.Concat.{flat_map-cons}
 use Rattle.idl_scope.specs.declared.name_fault.NameFault.{NameFault}
 use Rattle.idl_scope.specs.Steps.{Step}
-use Rattle.idl_scope.specs.Known.{Known, passed, then, walked}
+use Rattle.idl_scope.specs.Known.{Known, passed, and_then, walked}
 use Rattle.idl_scope.specs.Kept.{is_memory, IsRight}
 
-pub append_is : (file : ℕ) (k : Known) (a b : List Step) → walked file k (a ++ b) ≡ then (walked file k a) (λ next. walked file next b)
+pub append_is : (file : ℕ) (k : Known) (a b : List Step) → walked file k (a ++ b) ≡ and_then (walked file k a) (λ next. walked file next b)
 append_is file k [] b = refl
 append_is file k (s ∷ a) b = by (passed file k s) (λ next. append_is file next a b)
   where
-    by : (r : Result Known NameFault) → ((next : Known) → walked file next (a ++ b) ≡ then (walked file next a) (λ n. walked file n b))
-        → then r (λ next. walked file next (a ++ b)) ≡ then (then r (λ next. walked file next a)) (λ n. walked file n b)
+    by : (r : Result Known NameFault) → ((next : Known) → walked file next (a ++ b) ≡ and_then (walked file next a) (λ n. walked file n b))
+        → and_then r (λ next. walked file next (a ++ b)) ≡ and_then (and_then r (λ next. walked file next a)) (λ n. walked file n b)
     by (Ok next) more = more next
     by (Err f) more = refl
 
 -- after steps that are passed
 pub goes_on : (file : ℕ) (k n : Known) (a b : List Step) → walked file k a ≡ Ok n → walked file k (a ++ b) ≡ walked file n b
-goes_on file k n a b e = append_is file k a b ∙ ap (λ r. then r (λ next. walked file next b)) e
+goes_on file k n a b e = append_is file k a b ∙ ap (λ r. and_then r (λ next. walked file next b)) e
 
 -- a fault ends the walk
 pub stops : (file : ℕ) (k : Known) (a b : List Step) (f : NameFault) → walked file k a ≡ Err f → walked file k (a ++ b) ≡ Err f
-stops file k a b f e = append_is file k a b ∙ ap (λ r. then r (λ next. walked file next b)) e
+stops file k a b f e = append_is file k a b ∙ ap (λ r. and_then r (λ next. walked file next b)) e
 
 -- what was answered on the steps after them is answered on all
 pub right_on : {A : Type 0} (file : ℕ) (k n last : Known) (a b : List Step) (r : Result A NameFault) → walked file k a ≡ Ok n → IsRight last r (walked file n b)

@@ -1,6 +1,6 @@
 -- What faults of files rest on.
 use Rattle.std.specs.Prelude.{ℕ, ⊤}
-use Rattle.nd_base.specs.Counts.{Rose}
+use Rattle.nd_base.specs.Over.{Rose}
 use Rattle.idl_scope.specs.declared.name_fault.NameFault.{NameFault}
 use Rattle.idl_scope.specs.declared.name_fault.NameFault.TheVariants as fault
 

@@ -2,8 +2,7 @@
 use Rattle.std.specs.Prelude.{◌≡◌, ℕ, ◌≤◌, List, ◌++◌, length, Option, Result, Ok, Err, IfErr}
 use Rattle.idl_scope.specs.declared.name_fault.NameFault.{NameFault}
 use Rattle.idl_names.specs.Causes.{IsAbsent, IsFailed}
-use Rattle.idl_names.specs.Sources.{Source}
-use Rattle.idl_names.specs.Walk.{State, Due, Ending, Stopped, Walk, names_of, most_files}
+use Rattle.idl_names.specs.Walk.{Source, State, Due, Ending, Stopped, Walk, names_of, most_files}
 
 -- The names that were asked for since are those of the sources that were added since, in order.
 pub record Asked (before : List (List ℕ)) (sources : List Source) (after : List (List ℕ)) (more : List Source) : Type 0 where

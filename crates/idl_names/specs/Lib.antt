@@ -1,5 +1,3 @@
-pub mod Sources
-pub mod Files
 pub mod Walk
 pub mod Seen
 pub mod Causes

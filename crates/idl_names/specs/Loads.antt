@@ -3,18 +3,15 @@ use Rattle.std.specs.Prelude.{◌≡◌, ℕ, ◌≤◌, ◌<◌, List, [], ◌�
 use Rattle.nd_base.specs.declared.octets.Place.{Place}
 use Rattle.nd_base.specs.declared.outside.FileFault.{FileFault}
 use Rattle.nd_base.specs.declared.outside.FileFault.TheVariants as file_fault
-use Rattle.nd_base.specs.Outside.{IsContent}
-use Rattle.idl_lexer.specs.Lexed.{Lexed, place_of}
-use Rattle.idl_lexer.specs.Verdict.{IsVerdict, Refused}
+use Rattle.nd_base.specs.Over.{IsContent}
+use Rattle.idl_lexer.specs.Verdict.{Lexed, place_of, IsVerdict, Refused}
 use Rattle.idl_lexer.specs.declared.tokens.LexFault.TheVariants as lex_fault
 use Rattle.idl_grammar.specs.declared.fault.SyntaxFault.{SyntaxFault}
 use Rattle.idl_grammar.specs.declared.fault.SyntaxFault.TheVariants as syntax
 use Rattle.idl_scope.specs.declared.name_fault.NameFault.{NameFault}
 use Rattle.idl_scope.specs.declared.name_fault.NameFault.TheVariants as fault
-use Rattle.idl_scope.specs.Ended.{Ended}
-use Rattle.idl_names.specs.Files.{IsFile, IsNoFile}
-use Rattle.idl_names.specs.Sources.{Source, and_source}
-use Rattle.idl_names.specs.Walk.{State, Due, Load, Stopped, Walk, IsDue}
+use Rattle.idl_scope.specs.Known.{Ended}
+use Rattle.idl_names.specs.Walk.{IsFile, IsNoFile, Source, and_source, State, Due, Load, Stopped, Walk, IsDue}
 
 -- how the text of a file is at fault, unless memory was wanting
 abbrev pub IsFaultOf : ℕ → List ℕ → NameFault → Type 0

@@ -1,7 +1,6 @@
 -- What the program keeps, as the definitions have it.
 use Rattle.idl_names.specs.declared.resolving.WalkState.{WalkState}
-use Rattle.idl_names.specs.Sources.{Source}
-use Rattle.idl_names.specs.Walk.{State}
+use Rattle.idl_names.specs.Walk.{Source, State}
 use Rattle.idl_scope.specs.declared.scope.Scope.{Scope}
 use Rattle.idl_scope.specs.SeenFiles.{seen_files}
 use Rattle.std.specs.Prelude.{List}

@@ -1,20 +1,99 @@
 -- The walk through the files: each file by its attributes, then its imports, then its declarations. An import is walked in its place.
-use Rattle.std.specs.Prelude.{◌≡◌, ◌⊎◌, ℕ, ◌≤◌, ◌<◌, Bool, true, false, eqb, List, [], ◌∷◌, ◌++◌, map, drop, length, Option, Some, None, Ok, Err}
+use Rattle.std.specs.Prelude.{◌≡◌, ◌⊎◌, ℕ, ◌<◌, ◌≤◌, Bool, true, false, ◌==◌, List, [], ◌∷◌, ◌++◌, length, map, drop, Option, Some, None, slice_get}
+use Rattle.std.specs.Prelude.{Result, Ok, Err, position, option_map}
+use Rattle.std.specs.Str.{bytes_eq}
+use Rattle.std.specs.Str.Lossy.{utf8_lossy}
 use Rattle.nd_base.specs.declared.octets.Place.{Place}
-use Rattle.nd_base.specs.Outside.{IsContent, IsMissing}
+use Rattle.nd_base.specs.Over.{IsContent, IsMissing}
 use Rattle.idl_lexer.specs.declared.tokens.LexKind.{LexKind}
 use Rattle.idl_lexer.specs.declared.tokens.LexFault.TheVariants as lex_fault
-use Rattle.idl_lexer.specs.Verdict.{IsVerdict, Refused}
+use Rattle.idl_lexer.specs.Verdict.{Lexed, place_of, AreTokens, IsVerdict, Refused}
+use Rattle.idl_grammar.specs.declared.fault.SyntaxFault.{SyntaxFault}
+use Rattle.idl_grammar.specs.declared.fault.SyntaxFault.TheVariants as syntax_fault
 use Rattle.idl_grammar.specs.declared.words.Spelling.{Spelling}
+use Rattle.idl_grammar.specs.Text.{Depth, Ban, lexemes}
+use Rattle.idl_grammar.specs.ReadPhrases.{Fault, Syntax, Passes}
 use Rattle.idl_grammar.specs.Tree.{Tree}
+use Rattle.idl_grammar.specs.Grammar as grammar
+use Rattle.idl_grammar.specs.Answers.{Answers}
 use Rattle.idl_scope.specs.declared.name_fault.NameFault.{NameFault}
 use Rattle.idl_scope.specs.declared.name_fault.NameFault.TheVariants as fault
-use Rattle.idl_grammar.specs.declared.fault.SyntaxFault.{SyntaxFault}
+use Rattle.idl_scope.specs.Value.{escaped}
 use Rattle.idl_scope.specs.Steps.{Step, attribute_steps, imports_of, declaration_steps}
-use Rattle.idl_scope.specs.Known.{Known, nothing, passed, place_in, first_undefined}
-use Rattle.idl_names.specs.Sources.{Source, file_number, file_named, and_source}
-use Rattle.idl_scope.specs.Ended.{Ended, ended, has_ended}
-use Rattle.idl_names.specs.Files.{IsFile, IsNoFile}
+use Rattle.idl_scope.specs.Known.{Known, nothing, passed, place_in, first_undefined, Ended, ended, has_ended}
+
+-- ## What the text of a file is read as: its tree, or its first fault
+
+-- The text is cut into tokens, and this is answered on them by the grammar.
+pub record IsRead (text : List ℕ) (lexed : Lexed) (answer : Result Tree Fault) : Type 0 where
+  pub text_is : lexed.text ≡ text
+  pub tokens : AreTokens text lexed.tokens
+  pub answered : Answers grammar.file (lexemes lexed) answer
+
+-- the text is a file of this tree
+pub record IsFile (text : List ℕ) (tree : Tree) : Type 0 where
+  pub lexed : Lexed
+  pub read : IsRead text lexed (Ok tree)
+
+-- the token of a fault, and the fault as the grammar has it
+abbrev pub IsSyntaxFault : SyntaxFault → ℕ → Fault → Type 0
+IsSyntaxFault syntax_fault.Memory token f = ⊥
+IsSyntaxFault (syntax_fault.Syntax k) token f = (token ≡ k) × (f ≡ Syntax k)
+IsSyntaxFault (syntax_fault.Deep k) token f = (token ≡ k) × (f ≡ Passes Depth k)
+IsSyntaxFault (syntax_fault.Banned k) token f = (token ≡ k) × (f ≡ Passes Ban k)
+
+-- The text is cut into tokens and is no file, for a fault at a token that begins at this octet.
+pub record IsNoFile (text : List ℕ) (at : ℕ) (fault : SyntaxFault) : Type 0 where
+  pub lexed : Lexed
+  pub told : Fault
+  pub token : ℕ
+  pub is_told : IsSyntaxFault fault token told
+  pub read : IsRead text lexed (Err told)
+  pub octet : at ≡ place_of lexed token
+
+-- ## Files by the names under which they are loaded
+
+pub record Source : Type 0 where
+  pub name : List ℕ
+  pub text : List ℕ
+
+abbrev pub source : List ℕ → List ℕ → Source
+source name text = record { name = name; text = text }
+
+-- the number of the file of a name
+abbrev pub file_number : List Source → List ℕ → Option ℕ
+file_number sources name = position (λ s. bytes_eq name s.name) sources
+
+abbrev pub file_name : List Source → ℕ → Option (List ℕ)
+file_name sources file = option_map (λ s. s.name) (slice_get sources file)
+
+abbrev pub file_text : List Source → ℕ → Option (List ℕ)
+file_text sources file = option_map (λ s. s.text) (slice_get sources file)
+
+abbrev pub backslash : ℕ
+backslash = 92
+
+-- what is before the closing quote, its escapes read
+abbrev pub before_quote : List ℕ → List ℕ
+before_quote [] = []
+before_quote (c ∷ []) = []
+before_quote (c ∷ d ∷ rest) = elim (c == backslash) [ true ↦ escaped d ∷ before_quote rest | false ↦ c ∷ before_quote (d ∷ rest) ]
+
+-- what a string spells between its quotes
+abbrev pub string_value : List ℕ → List ℕ
+string_value [] = []
+string_value (quote ∷ rest) = before_quote rest
+
+-- The name of the file that a string spells. The strings of a text are ASCII, and names are text: of other octets, that a tree may have which was
+-- read from no text, those that are no UTF-8 are replaced as in the strings of programs.
+abbrev pub file_named : List ℕ → List ℕ
+file_named string = utf8_lossy (string_value string)
+
+-- the files, with one more
+abbrev pub and_source : List Source → List ℕ → List ℕ → List Source
+and_source sources name text = sources ++ source name text ∷ []
+
+-- ## The walk
 
 -- the greatest number of files
 abbrev pub most_files : ℕ
@@ -47,7 +126,7 @@ load_of file string = Load (place_in file string) (file_named string.octets)
 -- all of a file
 abbrev pub all_of : ℕ → Tree → List Due
 all_of file t =
-    map (Pass file) (attribute_steps t.attributes) ++ map (load_of file) (imports_of t) ++ map (Pass file) (declaration_steps (eqb file 0) t)
+    map (Pass file) (attribute_steps t.attributes) ++ map (load_of file) (imports_of t) ++ map (Pass file) (declaration_steps (file == 0) t)
     ++ End file t ∷ []
 
 -- A file is to be loaded: it is not there yet, and not one too many.

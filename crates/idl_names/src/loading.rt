@@ -4,12 +4,10 @@ ghost use Rattle.idl_lexer.specs.Verdict.{AreTokens};
 ghost use Rattle.idl_grammar.specs.Seen.{seen_tree};
 ghost use Rattle.idl_scope.specs.declared.name_fault.NameFault.TheVariants as faults;
 ghost use Rattle.idl_names.specs.Causes.{IsAbsent, IsFailed};
-ghost use Rattle.idl_names.specs.Files.{IsFile};
+ghost use Rattle.idl_names.specs.Walk.{IsFile, Source, and_source, most_files};
 ghost use Rattle.idl_names.specs.Going.{Asked};
 ghost use Rattle.idl_names.specs.Loads.{IsFaultOf, IsOfText, told_syntax, told_load, IsLoaded, IsLoadFault};
 ghost use Rattle.idl_scope.specs.Seen.{seen_file};
-ghost use Rattle.idl_names.specs.Sources.{Source, and_source};
-ghost use Rattle.idl_names.specs.Walk.{most_files};
 
 use crate::{FILES_LIMIT, Sources};
 use idl_grammar::{SyntaxFault, Tree};

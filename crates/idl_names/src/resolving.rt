@@ -7,9 +7,8 @@ ghost use Rattle.idl_names.specs.Causes.{IsAbsent, IsFailed};
 ghost use Rattle.idl_names.specs.Going.{point, Went};
 ghost use Rattle.idl_scope.specs.Seen.{seen_files};
 ghost use Rattle.idl_names.specs.Seen.{seen_scope, seen_state};
-ghost use Rattle.idl_names.specs.Sources.{file_number};
-ghost use Rattle.idl_scope.specs.Ended.{has_ended};
-ghost use Rattle.idl_names.specs.Walk.{IsResolved, IsRefused, AsksAlong, Load, load_of, all_of, names_of, most_files};
+ghost use Rattle.idl_names.specs.Walk.{file_number, IsResolved, IsRefused, AsksAlong, Load, load_of, all_of, names_of, most_files};
+ghost use Rattle.idl_scope.specs.Known.{has_ended};
 
 use crate::Sources;
 use crate::declarations::exports;

@@ -1,7 +1,7 @@
 // The files, by the numbers that places have.
 ghost use Rattle.std.specs.Prelude.{◌≡◌, ℕ, ◌<◌, List, [], ◌∷◌, ◌++◌, length, option_map, position, string_bytes, IfOk, OnOk, IfErr, OnErr};
 ghost use Rattle.std.specs.Str.{bytes_eq};
-ghost use Rattle.idl_names.specs.Sources.{Source, file_name, file_number, file_text, and_source};
+ghost use Rattle.idl_names.specs.Walk.{Source, file_name, file_number, file_text, and_source};
 
 use nd_base::{Memory, Octets};
 use std::alloc::Global;
@@ -33,7 +33,7 @@ fn number_in(files: &[File], name: &str) -> Option<usize>
 
 impl Model for Sources {
     ghost use Rattle.std.specs.Prelude.{List, map, string_bytes};
-    ghost use Rattle.idl_names.specs.Sources.{Source, source};
+    ghost use Rattle.idl_names.specs.Walk.{Source, source};
 
     ghost Value = { List Source };
 

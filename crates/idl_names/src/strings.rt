@@ -1,6 +1,6 @@
 // The names of files that strings spell.
-ghost use Rattle.std.specs.Prelude.{◌≡◌, ◌∷◌, ◌++◌, ℕ, cond, eqb, string_bytes, IfOk};
-ghost use Rattle.idl_names.specs.Sources as sources;
+ghost use Rattle.std.specs.Prelude.{◌≡◌, ◌∷◌, ◌++◌, ℕ, if◌then◌else◌, ◌==◌, string_bytes, IfOk};
+ghost use Rattle.idl_names.specs.Walk as sources;
 ghost use Rattle.idl_scope.specs.Value as values;
 
 use idl_scope::escaped;
@@ -9,8 +9,8 @@ use std::alloc::Global;
 
 /// The character that begins with an octet, and how many octets spell it.
 fn character(octet: u8, next: u8) -> (u8, usize)
-    ensures character { result.0 ≡ cond (eqb octet sources.backslash) (values.escaped next) octet }
-    ensures width { result.1 ≡ cond (eqb octet sources.backslash) 2 1 }
+    ensures character { result.0 ≡ (if octet == sources.backslash then values.escaped next else octet) }
+    ensures width { result.1 ≡ (if octet == sources.backslash then 2 else 1) }
 {
     if octet == b'\\' {
         (escaped(next), 2)

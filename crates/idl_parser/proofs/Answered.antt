@@ -5,7 +5,7 @@ use Rattle.idl_grammar.specs.declared.refusal.Refusal.TheVariants as refusal
 use Rattle.idl_grammar.specs.Text.{Text, Rule, Depth, Ban}
 use Rattle.idl_grammar.specs.ReadPhrases.{Fault, Syntax, Passes, Read}
 use Rattle.idl_grammar.specs.Gives.{Fails, GivesWhole}
-use Rattle.idl_grammar.specs.Verdict.{whole_read}
+use Rattle.idl_grammar.specs.Answers.{whole_read, is_banned, named_fault, named, file_answer}
 use Rattle.idl_grammar.proofs.Exact.{Exact, front}
 use Rattle.idl_grammar.proofs.Sequences.{stops}
 use Rattle.idl_grammar.specs.declared.files.Tree.{Tree}
@@ -13,7 +13,6 @@ use Rattle.idl_grammar.specs.Tree as tree
 use Rattle.idl_grammar.specs.Grammar.{file}
 use Rattle.idl_grammar.specs.Reading.{file_read}
 use Rattle.idl_grammar.specs.Seen.{seen_tree}
-use Rattle.idl_grammar.specs.Answers.{is_banned, named_fault, named, file_answer}
 use Rattle.idl_grammar.proofs.FileExact.{file_exact}
 use Rattle.idl_grammar.specs.declared.fault.SyntaxFault.{SyntaxFault}
 use Rattle.idl_grammar.specs.declared.fault.SyntaxFault.TheVariants as errors

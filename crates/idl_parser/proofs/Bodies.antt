@@ -2,20 +2,20 @@
 use Rattle.std.proofs.Common.{◌≡◌, ℕ, Bool, true, false, not, List, [], ◌∷◌, cond, refl, ap, ◌∙◌, Ok, Err, Option, Some, None}
 use Rattle.idl_grammar.specs.declared.refusal.Refusal.{Refusal}
 use Rattle.idl_grammar.specs.Text.{Text, symbol_at, is_in}
-use Rattle.idl_grammar.specs.ReadPhrases.{Read, join, then, skip, ended, end_with, mark_read, open_read, bracketed_read}
+use Rattle.idl_grammar.specs.ReadPhrases.{Read, join, and_then, skip, ended, end_with, mark_read, open_read, bracketed_read}
 use Rattle.idl_grammar.specs.Gives.{Fails}
 use Rattle.idl_grammar.proofs.Fails.{fails_equal, fails_is}
 use Rattle.idl_grammar.specs.declared.words.Spelling.{Spelling}
-use Rattle.idl_grammar.specs.Limits.{names}
+use Rattle.idl_grammar.specs.Expressions.{names}
 use Rattle.idl_grammar.specs.Tree.{TypeSpec}
 use Rattle.idl_grammar.specs.ReadExpressions.{ident_read}
 use Rattle.idl_grammar.specs.Reading.{branch_read, bind_read, tagged_read}
 
-pub then_reads : {A B : Type 0} (r : Read A) (g : A → ℕ → Read B) (a : A) (m : ℕ) (b : B) (n : ℕ) → r ≡ Ok (a, m) → g a m ≡ Ok (b, n) → then r g ≡ Ok ((a, b), n)
-then_reads {A = A} {B = B} r g a m b n e f = ap (λ (v : Read A). then v g) e ∙ ap (λ (v : Read B). join a v) f
+pub then_reads : {A B : Type 0} (r : Read A) (g : A → ℕ → Read B) (a : A) (m : ℕ) (b : B) (n : ℕ) → r ≡ Ok (a, m) → g a m ≡ Ok (b, n) → and_then r g ≡ Ok ((a, b), n)
+then_reads {A = A} {B = B} r g a m b n e f = ap (λ (v : Read A). and_then v g) e ∙ ap (λ (v : Read B). join a v) f
 
-pub then_fails : {A B : Type 0} (r : Read A) (g : A → ℕ → Read B) (a : A) (m : ℕ) (x : Refusal) → r ≡ Ok (a, m) → Fails x (g a m) → Fails x (then r g)
-then_fails {A = A} r g a m x e f = fails_is x (then r g) (join a (g a m)) (ap (λ (v : Read A). then v g) e) (fails_equal (λ v. join a v) (λ _. refl) x (g a m) f)
+pub then_fails : {A B : Type 0} (r : Read A) (g : A → ℕ → Read B) (a : A) (m : ℕ) (x : Refusal) → r ≡ Ok (a, m) → Fails x (g a m) → Fails x (and_then r g)
+then_fails {A = A} r g a m x e f = fails_is x (and_then r g) (join a (g a m)) (ap (λ (v : Read A). and_then v g) e) (fails_equal (λ v. join a v) (λ _. refl) x (g a m) f)
 
 pub bracketed_reads : {A : Type 0} (depth o c : ℕ) (t : Text) (item : ℕ → Read A) (i m n p : ℕ) (a : A) → open_read depth o t i ≡ Ok (tt, m) → item m ≡ Ok (a, n) → mark_read c t n ≡ Ok (tt, p)
     → bracketed_read depth o c t item i ≡ Ok (a, p)

@@ -2,7 +2,7 @@
 use Rattle.std.proofs.Common.{◌≡◌, ℕ, Bool, true, false, ◌||◌, List, [], ◌∷◌, ◌++◌, refl, ap, ◌∙◌, eqb}
 use Rattle.idl_grammar.specs.Text.{is_in}
 use Rattle.idl_grammar.specs.Symbols as symbol
-use Rattle.idl_grammar.specs.Limits.{names}
+use Rattle.idl_grammar.specs.Expressions.{names}
 use Rattle.idl_grammar.specs.Reading.{type_firsts}
 
 or_again : (a b c : Bool) → ((a || b) || c) ≡ (a || (b || c))

@@ -2,10 +2,9 @@
 ghost use Rattle.std.specs.Prelude.{◌≡◌, ◌≤◌, ◌<◌, length, Result};
 ghost use Rattle.idl_grammar.specs.ReadPhrases.{Fault};
 ghost use Rattle.idl_grammar.specs.Gives.{GivesWhole};
-ghost use Rattle.idl_grammar.specs.Verdict.{whole_read};
-ghost use Rattle.idl_grammar.specs.Answers.{Answers, file_answer};
+ghost use Rattle.idl_grammar.specs.Answers.{whole_read, Answers, file_answer};
 ghost use Rattle.idl_grammar.specs.Grammar.{file as grammar_file};
-ghost use Rattle.idl_grammar.specs.Lexemes.{lexemes as grammar_lexemes};
+ghost use Rattle.idl_grammar.specs.Text.{lexemes as grammar_lexemes};
 ghost use Rattle.idl_grammar.specs.Reading.{file_read};
 ghost use Rattle.idl_grammar.specs.Seen.{seen_tree};
 ghost use Rattle.idl_grammar.specs.Tree as tree;

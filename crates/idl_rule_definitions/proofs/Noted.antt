@@ -3,9 +3,8 @@ use Rattle.std.proofs.Common.{◌≡◌, ◌∙◌, ℕ, Bool, true, false, not,
 use Rattle.std.specs.Prelude.{⊤}
 use Rattle.std.specs.Prelude.{eqb, ltb, filter}
 use Rattle.std.proofs.lemmas.Bool.Decides.{nat_tests}
-use Rattle.idl_rule_definitions.specs.World.{World}
-use Rattle.idl_rule_definitions.specs.Rules.{Breach}
-use Rattle.idl_rule_definitions.specs.FirstBroken.{comes_before, rank, earlier, first_of}
+use Rattle.idl_rule_definitions.specs.Nodes.{World}
+use Rattle.idl_rule_definitions.specs.Rules.{Breach, comes_before, rank, earlier, first_of}
 use Rattle.idl_rule_definitions.specs.Noted.{later, noted, is_of_lists, of_lists, of_others}
 use Rattle.idl_rule_definitions.proofs.Order.{not_before_next, behind_not}
 

@@ -3,9 +3,8 @@ use Rattle.std.proofs.Common.{◌≡◌, ℕ, Bool, true, false, ◌||◌, ◌&&
 use Rattle.std.specs.Prelude.{eqb, ltb}
 use Rattle.std.specs.List.{list_any}
 use Rattle.std.proofs.lemmas.Bool.Decides.{nat_tests}
-use Rattle.idl_rule_definitions.specs.World.{World}
-use Rattle.idl_rule_definitions.specs.Rules.{Breach}
-use Rattle.idl_rule_definitions.specs.FirstBroken.{comes_before, same_breach, rank, earlier, first_of, IsFirstOf, IsLeast}
+use Rattle.idl_rule_definitions.specs.Nodes.{World}
+use Rattle.idl_rule_definitions.specs.Rules.{Breach, comes_before, same_breach, rank, earlier, first_of, IsFirstOf, IsLeast}
 use Rattle.std.proofs.lemmas.Bool.{or_parts as neither, or_right as second}
 
 -- three numbers, compared one after the other

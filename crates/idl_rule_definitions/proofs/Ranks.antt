@@ -1,8 +1,8 @@
 -- Where a file is in a list.
 use Rattle.std.proofs.Common.{◌≡◌, ◌∙◌, ℕ, zero, suc, ◌+◌, ◌<◌, ◌≤◌, Bool, true, false, List, [], ◌∷◌, drop, length, refl, ap, sym, arith, eqb, add-one}
 use Rattle.std.proofs.lemmas.List.{drop_all}
-use Rattle.idl_scope.specs.Ended.{Ended}
-use Rattle.idl_rule_definitions.specs.FirstBroken.{rank_in}
+use Rattle.idl_scope.specs.Known.{Ended}
+use Rattle.idl_rule_definitions.specs.Rules.{rank_in}
 use Rattle.idl_rule_definitions.specs.Found.{is_file_at}
 
 here : (files : List Ended) (file n : ℕ) → is_file_at files n file ≡ true → rank_in (drop n files) file ≡ 0

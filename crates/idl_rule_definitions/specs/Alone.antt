@@ -2,10 +2,9 @@
 use Rattle.std.specs.Prelude.{true, false, [], ◌∷◌, ◌++◌, Result, Ok, Err}
 use Rattle.idl_grammar.specs.Tree.{Tree}
 use Rattle.idl_scope.specs.declared.name_fault.NameFault.{NameFault}
-use Rattle.idl_scope.specs.Ended.{ended}
+use Rattle.idl_scope.specs.Known.{ended, Known, nothing, walked}
 use Rattle.idl_scope.specs.Steps.{attribute_steps, declaration_steps}
-use Rattle.idl_scope.specs.Known.{Known, nothing, walked}
-use Rattle.idl_rule_definitions.specs.World.{World}
+use Rattle.idl_rule_definitions.specs.Nodes.{World}
 
 abbrev or_nothing : Result Known NameFault → Known
 or_nothing (Ok k) = k

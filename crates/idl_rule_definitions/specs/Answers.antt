@@ -3,9 +3,8 @@ use Rattle.std.specs.Prelude.{◌≡◌, [], ◌∷◌, Some, None, Result, Ok, 
 use Rattle.nd_types.specs.declared.interface.Interface.{Interface}
 use Rattle.idl_rule_definitions.specs.declared.fault.RuleFault.{RuleFault}
 use Rattle.idl_rule_definitions.specs.declared.fault.RuleFault.TheVariants as fault
-use Rattle.idl_rule_definitions.specs.World.{World}
-use Rattle.idl_rule_definitions.specs.Rules.{breach}
-use Rattle.idl_rule_definitions.specs.FirstBroken.{first_broken}
+use Rattle.idl_rule_definitions.specs.Nodes.{World}
+use Rattle.idl_rule_definitions.specs.Rules.{breach, first_broken}
 use Rattle.idl_rule_definitions.specs.Meaning.{meaning}
 use Rattle.nd_types.specs.Meant.{meant_by}
 

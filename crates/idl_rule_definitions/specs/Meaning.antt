@@ -1,5 +1,5 @@
 -- What a file means that keeps the rules: its interface, with the table of types and the operations.
-use Rattle.std.specs.Prelude.{◌≡◌, ℕ, ◌+◌, ◌*◌, Bool, true, false, eqb, List, [], ◌∷◌, ◌++◌, map, Option, Some, None, option_map, ℤ, pos, negsuc}
+use Rattle.std.specs.Prelude.{◌≡◌, ℕ, ◌+◌, ◌*◌, Bool, true, false, ◌==◌, List, [], ◌∷◌, ◌++◌, map, Option, Some, None, option_map, ℤ, pos, negsuc}
 use Rattle.std.specs.Prelude.{codes}
 use Rattle.std.specs.List.{flat_map, list_all}
 use Rattle.nd_types.specs.declared.types.TypeId.{TypeId}
@@ -19,20 +19,19 @@ use Rattle.nd_types.specs.declared.types.Operation.{Operation}
 use Rattle.nd_types.specs.Table.{Table}
 use Rattle.nd_types.specs.Kinds.{basic_types}
 use Rattle.nd_types.specs.Legal.{has_named_parts, has_names}
-use Rattle.idl_lexer.specs.Numbers.{digit_value, number_of}
+use Rattle.idl_lexer.specs.Pieces.{digit_value, number_of}
 use Rattle.idl_grammar.specs.declared.attributes.PointerClass.{PointerClass}
 use Rattle.idl_grammar.specs.declared.attributes.PointerClass.TheVariants as class
 use Rattle.idl_grammar.specs.declared.attributes.Variable.{Variable}
 use Rattle.idl_grammar.specs.Tree.{Attribute, AttributeKind, TypeSpec, Arm, Tree}
 use Rattle.idl_grammar.specs.Tree as tree
-use Rattle.idl_scope.specs.Ended.{Ended}
-use Rattle.idl_rule_definitions.specs.World.{World}
-use Rattle.idl_rule_definitions.specs.World as world
+use Rattle.idl_scope.specs.Known.{Ended}
+use Rattle.idl_rule_definitions.specs.Nodes.{World, Declared, LabelledArm, arms_of, Node, OperationNode, result_of}
+use Rattle.idl_rule_definitions.specs.Nodes as world
 use Rattle.idl_rule_definitions.specs.Attributes.{has, first_said, in_word, out_word}
-use Rattle.idl_rule_definitions.specs.Nodes.{Declared, LabelledArm, arms_of, Node, OperationNode, result_of}
 use Rattle.idl_rule_definitions.specs.Types.{IdlType, Void, Handle, Basic, Struct, Union, Enum, Array, Text, Pointer, Pipe, Names, type_of}
 use Rattle.idl_rule_definitions.specs.Scene.{Scene, scene_of, Body, body_of, parts_declared, arm_declared, tag_type}
-use Rattle.idl_rule_definitions.specs.ValueRules.{label_value}
+use Rattle.idl_rule_definitions.specs.DeclarationRules.{label_value}
 use Rattle.idl_rule_definitions.specs.VariableRules.{Listed, listed_from, variables}
 use Rattle.idl_rule_definitions.specs.Numbering.{own_types, number_of_type}
 use Rattle.nd_types.specs.Meant.{Meant}
@@ -218,7 +217,7 @@ pub record HasIdentifiers (types : Table) (operations : List Operation) : Type 0
 -- the number of a UUID's digits, after those of n
 abbrev pub uuid_from : ℕ → List ℕ → ℕ
 uuid_from n [] = n
-uuid_from n (c ∷ cs) = elim (eqb c 45) [ true ↦ uuid_from n cs | false ↦ uuid_from (16 * n + digit_value c) cs ]
+uuid_from n (c ∷ cs) = elim (c == 45) [ true ↦ uuid_from n cs | false ↦ uuid_from (16 * n + digit_value c) cs ]
 
 abbrev pub uuid_said : AttributeKind → Option ℕ
 uuid_said (tree.Uuid u) = Some (uuid_from 0 u.octets)
@@ -250,7 +249,7 @@ header_meant s t = record {
 -- the main file is number 0
 abbrev pub main_among : List Ended → List Tree
 main_among [] = []
-main_among (f ∷ fs) = elim (eqb f.file 0) [ true ↦ f.tree ∷ [] | false ↦ main_among fs ]
+main_among (f ∷ fs) = elim (f.file == 0) [ true ↦ f.tree ∷ [] | false ↦ main_among fs ]
 
 -- The interface that the main file declares, beside the files that it imports.
 unfoldable pub meaning : World → List Meant

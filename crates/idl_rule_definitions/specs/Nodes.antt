@@ -1,6 +1,5 @@
--- All that a rule may speak of, as one list in the order of the text: each attribute, type, label, enumerator and declarator, where it stands.
--- `c` is the construct in which something stands: a declaration, member, parameter or arm.
-use Rattle.std.specs.Prelude.{ℕ, ◌+◌, Bool, true, false, eqb, List, [], ◌∷◌, ◌++◌, map, length, Option, Some, None}
+-- What the rules speak of: the files of a compilation, and all that is in them, as one list in the order of the text.
+use Rattle.std.specs.Prelude.{ℕ, ◌+◌, ℤ, pos, Bool, true, false, ◌==◌, List, [], ◌∷◌, ◌++◌, length, map, Option, Some, None, Result, Ok, Err}
 use Rattle.std.specs.List.{flat_map}
 use Rattle.nd_base.specs.declared.octets.Place.{Place}
 use Rattle.idl_grammar.specs.declared.words.Spelling.{Spelling}
@@ -11,12 +10,41 @@ use Rattle.idl_grammar.specs.declared.types.TagKind.{TagKind}
 use Rattle.idl_grammar.specs.Tree.{Expr, Attribute, AttributeKind, Attributes, Declarator, Init, Enumerator, Label, TypeSpec, Members, Cases, Arms}
 use Rattle.idl_grammar.specs.Tree.{Arm, Parameter, Export, Tree}
 use Rattle.idl_grammar.specs.Tree as tree
-use Rattle.idl_scope.specs.Ended.{Ended}
+use Rattle.idl_scope.specs.declared.meaning.Meaning.{Meaning}
+use Rattle.idl_scope.specs.declared.meaning.Meaning.TheVariants as meaning
+use Rattle.idl_scope.specs.Known.{Ended, Known, meaning_in}
+use Rattle.idl_scope.specs.Value.{value}
 use Rattle.idl_scope.specs.Steps.{parameters_of}
-use Rattle.idl_rule_definitions.specs.World.{World}
 use Rattle.idl_rule_definitions.specs.Attributes.{attribute_list, default_class_in, switch_type_in}
 
--- ## Where something stands
+-- ## The files of a compilation, with what is known of their names
+
+pub record World : Type 0 where
+  -- in the order in which their resolving ended; the main file is number 0
+  pub files : List Ended
+  pub known : Known
+
+abbrev or_zero : {X : Type 0} → Result ℤ X → ℤ
+or_zero (Ok z) = z
+or_zero (Err f) = pos 0
+
+-- The value of an expression. Each expression of files that are resolved has one.
+abbrev pub value_in : Known → Expr → ℤ
+value_in known e = or_zero (value (meaning_in known) e)
+
+abbrev number_meant : Option Meaning → Option ℤ
+number_meant (Some (meaning.Number z)) = Some z
+number_meant _ = None
+
+-- the number that a name stands for
+abbrev pub number_of : Known → List ℕ → Option ℤ
+number_of known name = number_meant (meaning_in known name)
+
+-- ## Each attribute, type, label, enumerator and declarator, where it stands
+
+-- `c` is the construct in which something stands: a declaration, member, parameter or arm.
+
+-- ### Where something stands
 
 pub data Position : Type 0 where
   InHeader : Position
@@ -86,7 +114,7 @@ pub data Node : Type 0 where
   TypeNode : (c : Construct) (type : TypeSpec) → Node
   OperationNode : (c : Construct) (name : Spelling) (parameters : List Declared) (result : TypeSpec) → Node
 
--- ## Lists
+-- ### Lists
 
 -- the attributes of a list, after these
 abbrev pub attribute_nodes_from : Construct → List Attribute → List Attribute → List Node
@@ -120,7 +148,7 @@ abbrev pub declarator_nodes : List Declared → ℕ → List Declared → List N
 declarator_nodes list index [] = []
 declarator_nodes list index (d ∷ ds) = DeclaratorNode list index d ∷ declarator_nodes list (index + 1) ds
 
--- ## Labels
+-- ### Labels
 
 abbrev pub arm_label : Label → ArmLabel
 arm_label (tree.Value at e) = record { at = at; value = Some e }
@@ -171,7 +199,7 @@ abbrev pub label_nodes : Construct → TypeSpec → List ArmLabel → List ArmLa
 label_nodes c body before [] = []
 label_nodes c body before (l ∷ ls) = LabelNode c body before l ∷ label_nodes c body (before ++ l ∷ []) ls
 
--- ## Types
+-- ### Types
 
 abbrev mutual
   -- a type, with all that is in it
@@ -209,7 +237,7 @@ abbrev mutual
       attribute_nodes (inside c position at a) ++ type_nodes (inside c position at a) type
       ++ DeclaratorNode [] 0 (declared (inside c position at a) type d) ∷ []
 
--- ## Declarations
+-- ### Declarations
 
 abbrev pub parameter_nodes : Construct → List Declared → ℕ → List Parameter → List Node
 parameter_nodes c list index [] = []
@@ -242,7 +270,7 @@ export_nodes is_main header (tree.Tagged at a type) =
 export_nodes is_main header (tree.Operation at a result name ps) =
     elim is_main [ true ↦ operation_nodes (inside header InOperation at a) result name (parameters_of ps) | false ↦ [] ]
 
--- ## Files
+-- ### Files
 
 -- the header of a file; a file begins with its attributes
 abbrev pub header_of : Ended → Construct
@@ -257,7 +285,7 @@ header_of f = record {
 abbrev pub file_nodes : Ended → List Node
 file_nodes f =
     HeaderNode (header_of f) f.tree.attributes.at ∷ attribute_nodes (header_of f)
-    ++ flat_map (export_nodes (eqb f.file 0) (header_of f)) f.tree.exports
+    ++ flat_map (export_nodes (f.file == 0) (header_of f)) f.tree.exports
 
 -- The files stand in the order in which their resolving ended.
 unfoldable pub nodes : World → List Node

@@ -1,9 +1,8 @@
 -- For the code: the first breach so far, as breaches are noted one by one, and the breaches in two parts.
-use Rattle.std.specs.Prelude.{ℕ, Bool, true, false, ltb, List, [], ◌∷◌, Option, Some, None}
+use Rattle.std.specs.Prelude.{ℕ, Bool, true, false, nat_lt, List, [], ◌∷◌, Option, Some, None}
 use Rattle.nd_base.specs.declared.octets.Place.{Place}
-use Rattle.idl_rule_definitions.specs.World.{World}
-use Rattle.idl_rule_definitions.specs.Rules.{Breach, breach}
-use Rattle.idl_rule_definitions.specs.FirstBroken.{comes_before}
+use Rattle.idl_rule_definitions.specs.Nodes.{World}
+use Rattle.idl_rule_definitions.specs.Rules.{Breach, breach, comes_before}
 use Rattle.idl_rule_definitions.specs.declared.rule.TheConstants as Rule
 
 -- the first, with one more after those before
@@ -23,7 +22,7 @@ if_broken rule place false = []
 
 -- The rules on attributes as they stand in lists come first: 1 to 4. Where they hold, no list of attributes has a word twice.
 abbrev pub is_of_lists : Breach → Bool
-is_of_lists b = ltb b.rule Rule.BODY
+is_of_lists b = nat_lt b.rule Rule.BODY
 
 abbrev pub of_lists : List Breach → List Breach
 of_lists [] = []

@@ -1,7 +1,7 @@
 -- The numbers of types. 0 to 11 are the basic types. From 12 on they stand in the order of the text: a struct, union or enum at the first place of
 -- its tag, or where it has none of its first word; a pointer, array, text or pipe at the first declarator that needs it, after the types of which it
 -- is made. Equal types have one number.
-use Rattle.std.specs.Prelude.{ℕ, ◌+◌, Bool, true, false, not, ◌&&◌, eqb, List, [], ◌∷◌, ◌++◌, map, length, Option, Some, None, ℤ}
+use Rattle.std.specs.Prelude.{ℕ, ◌+◌, Bool, true, false, not, ◌&&◌, ◌==◌, List, [], ◌∷◌, ◌++◌, map, length, Option, Some, None, ℤ}
 use Rattle.std.specs.List.{list_any, flat_map}
 use Rattle.std.specs.Ordering.{int_eq}
 use Rattle.nd_types.specs.declared.TheConstants.{HANDLE}
@@ -36,7 +36,7 @@ abbrev pub same_type : IdlType → IdlType → Bool
 same_type Void Void = true
 same_type Handle Handle = true
 same_type ContextHandle ContextHandle = true
-same_type (Basic p) (Basic q) = eqb (prim_number p) (prim_number q)
+same_type (Basic p) (Basic q) = prim_number p == prim_number q
 same_type (Struct p) (Struct q) = same_place p q
 same_type (Union p) (Union q) = same_place p q
 same_type (Enum p) (Enum q) = same_place p q

@@ -1,28 +1,29 @@
--- Which rules of the language are broken, and where. Each kind of node has the rules that speak of it; a rule is reported at the octet where the
--- attribute, the attribute list or the label begins that breaks it, and else where the innermost declaration, member, parameter, arm or enumerator
--- begins in which it is broken.
-use Rattle.std.specs.Prelude.{ℕ, Bool, true, false, List, [], ◌∷◌, ◌++◌, map}
-use Rattle.std.specs.List.{flat_map}
+-- Which rules of the language are broken, and where; and which of these is reported.
+use Rattle.std.specs.Prelude.{◌≡◌, ℕ, ◌+◌, Bool, true, false, ◌&&◌, ◌||◌, ◌==◌, nat_lt, List, [], ◌∷◌, ◌++◌, map, Option, Some, None}
+use Rattle.std.specs.List.{flat_map, list_any}
 use Rattle.nd_base.specs.declared.octets.Place.{Place}
-use Rattle.idl_rule_definitions.specs.World.{World}
-use Rattle.idl_rule_definitions.specs.Nodes.{Construct, place_in, Node, HeaderNode, AttributeNode, SwitchNode, TagNode, BodyNode, EnumeratorNode}
-use Rattle.idl_rule_definitions.specs.Nodes.{LabelNode, EmptyArmNode, DeclaratorNode, ConstantNode, TypeNode, OperationNode}
+use Rattle.idl_scope.specs.Known.{Ended}
+use Rattle.idl_rule_definitions.specs.declared.rule.TheConstants as Rule
+use Rattle.idl_rule_definitions.specs.Nodes.{World, Construct, place_in, Node, HeaderNode, AttributeNode, SwitchNode, TagNode, BodyNode}
+use Rattle.idl_rule_definitions.specs.Nodes.{EnumeratorNode, LabelNode, EmptyArmNode, DeclaratorNode, ConstantNode, TypeNode, OperationNode}
 use Rattle.idl_rule_definitions.specs.Types.{Names, switch_type, is_void, is_handle, is_pipe, is_context}
-use Rattle.idl_rule_definitions.specs.Scene.{Scene, scene_of, Body, Use, use_of, tag_type}
-use Rattle.idl_rule_definitions.specs.AttributeRules.{is_out_of_place, is_repeated, lacks_uuid_and_local, is_large_version, is_second_class}
+use Rattle.idl_rule_definitions.specs.Scene.{Scene, scene_of, Body, Use, use_of, tag_type, same_place}
+use Rattle.idl_rule_definitions.specs.DeclarationRules.{is_out_of_place, is_repeated, lacks_uuid_and_local, is_large_version, is_second_class}
 use Rattle.idl_rule_definitions.specs.DeclarationRules.{has_no_body, lacks_switch_type, is_wrongly_cased, has_class, has_string, lacks_direction}
-use Rattle.idl_rule_definitions.specs.ValueRules.{is_large_enumerator, has_lower_bounds, is_bad_label, is_wrong_constant, is_void_constant}
-use Rattle.idl_rule_definitions.specs.ValueRules.{is_handle_constant}
+use Rattle.idl_rule_definitions.specs.DeclarationRules.{is_large_enumerator, has_lower_bounds, is_bad_label, is_wrong_constant, is_void_constant}
+use Rattle.idl_rule_definitions.specs.DeclarationRules.{is_handle_constant, too_many}
 use Rattle.idl_rule_definitions.specs.TypeRules.{holds_void, holds_handle, holds_pipe, is_no_context_handle, holds_context_handle, in_tag}
-use Rattle.idl_rule_definitions.specs.TypeRules.{contains_itself, is_deep_body, holds_deep_array, is_wrong_result}
-use Rattle.idl_rule_definitions.specs.ArrayRules.{has_wrong_counts, has_wrong_dimensions, has_wrong_elements, hoists_before_last, is_hoisting_arm}
-use Rattle.idl_rule_definitions.specs.ArrayRules.{holds_wrong_pipe}
-use Rattle.idl_rule_definitions.specs.PointerRules.{has_class_without_pointer, holds_pointer_without_class, holds_pointer_to_reference}
-use Rattle.idl_rule_definitions.specs.PointerRules.{is_nullable_out, is_wrong_out}
+use Rattle.idl_rule_definitions.specs.TypeRules.{contains_itself, is_deep_body, holds_deep_array, is_wrong_result, has_wrong_counts}
+use Rattle.idl_rule_definitions.specs.TypeRules.{has_wrong_dimensions, has_wrong_elements, hoists_before_last, is_hoisting_arm, holds_wrong_pipe}
+use Rattle.idl_rule_definitions.specs.TypeRules.{has_class_without_pointer, holds_pointer_without_class, holds_pointer_to_reference, is_nullable_out}
+use Rattle.idl_rule_definitions.specs.TypeRules.{is_wrong_out}
 use Rattle.idl_rule_definitions.specs.VariableRules.{may_not_be_switched, holds_nonencapsulated_union, has_wrong_switch, is_wrong_text}
 use Rattle.idl_rule_definitions.specs.VariableRules.{is_wrongly_sized, is_wrongly_varying, has_no_variable, has_wrong_variable}
-use Rattle.idl_rule_definitions.specs.CountRules.{too_many}
-use Rattle.idl_rule_definitions.specs.declared.rule.TheConstants as Rule
+
+-- ## Which rules are broken, and where
+
+-- Each kind of node has the rules that speak of it; a rule is reported at the octet where the attribute, the attribute list or the label
+-- begins that breaks it, and else where the innermost declaration, member, parameter, arm or enumerator begins in which it is broken.
 
 -- a rule, and a place at which it is broken
 pub record Breach : Type 0 where
@@ -114,3 +115,60 @@ breaches_in s = flat_map (λ n. breaches_at s n.names n.node) s.nodes ++ map (λ
 
 unfoldable pub breaches : World → List Breach
 breaches w = breaches_in (scene_of w)
+
+-- ## The rule that is reported: the least broken one, at its first place
+
+-- Places go by the files in the order in which their resolving ended, then by octets.
+
+-- how many files ended before this one
+abbrev pub rank_in : List Ended → ℕ → ℕ
+rank_in [] file = 0
+rank_in (f ∷ fs) file = elim (f.file == file) [ true ↦ 0 | false ↦ rank_in fs file + 1 ]
+
+abbrev pub rank : World → ℕ → ℕ
+rank w file = rank_in w.files file
+
+abbrev pub place_before : World → Place → Place → Bool
+place_before w p q = nat_lt (rank w p.file) (rank w q.file) || rank w p.file == rank w q.file && nat_lt p.at q.at
+
+-- a lesser rule, or the same at an earlier place
+abbrev pub comes_before : World → Breach → Breach → Bool
+comes_before w a b = nat_lt a.rule b.rule || a.rule == b.rule && place_before w a.place b.place
+
+-- ### The first one
+
+abbrev pub earlier : World → Breach → Option Breach → Breach
+earlier w a None = a
+earlier w a (Some b) = elim (comes_before w b a) [ true ↦ b | false ↦ a ]
+
+-- the first of a list
+abbrev pub first_of : World → List Breach → Option Breach
+first_of w [] = None
+first_of w (b ∷ bs) = Some (earlier w b (first_of w bs))
+
+-- The rule that is reported, and where; none where no rule is broken.
+abbrev pub first_broken : World → Option Breach
+first_broken w = first_of w (breaches w)
+
+-- ### What that means
+
+abbrev pub same_breach : Breach → Breach → Bool
+same_breach a b = a.rule == b.rule && same_place a.place b.place
+
+-- one is in a list, and none in it comes before it
+pub record IsFirstOf (w : World) (bs : List Breach) (b : Breach) : Type 0 where
+  pub broken : list_any (same_breach b) bs ≡ true
+  pub first : list_any (λ a. comes_before w a b) bs ≡ false
+
+-- the first of a list, or none of an empty one
+abbrev pub IsLeast : World → List Breach → Option Breach → Type 0
+IsLeast w bs None = bs ≡ []
+IsLeast w bs (Some b) = IsFirstOf w bs b
+
+-- The rule is broken there, and no lesser rule is broken anywhere, nor this one at an earlier place.
+abbrev pub IsFirstBroken : World → Breach → Type 0
+IsFirstBroken w b = IsFirstOf w (breaches w) b
+
+-- No rule is broken.
+abbrev pub KeepsRules : World → Type 0
+KeepsRules w = breaches w ≡ []

@@ -1,16 +1,15 @@
 -- The nodes of all files, each with the names of types that are declared before it.
 -- `t` is a type, `u` a declarator with its type, `b` a body, `place` the one by which a struct, union or enum is reported.
-use Rattle.std.specs.Prelude.{ℕ, suc, zero, Bool, true, false, eqb, ◌&&◌, List, [], ◌∷◌, ◌++◌, map, Option, Some, None, is_none, option_map}
+use Rattle.std.specs.Prelude.{ℕ, suc, zero, Bool, true, false, ◌==◌, ◌&&◌, List, [], ◌∷◌, ◌++◌, map, Option, Some, None, is_none, option_map}
 use Rattle.std.specs.List.{list_all, flat_map}
 use Rattle.nd_base.specs.declared.octets.Place.{Place}
 use Rattle.idl_grammar.specs.declared.types.SwitchType.{SwitchType}
 use Rattle.idl_grammar.specs.Tree.{Attribute, TypeSpec, Arm, Enumerator}
 use Rattle.idl_grammar.specs.Tree as tree
 use Rattle.idl_scope.specs.Known.{Known}
-use Rattle.idl_rule_definitions.specs.World.{World}
+use Rattle.idl_rule_definitions.specs.Nodes.{World, Construct, Position, InTypedef, InTaggedType, Declared, declared, inside, declared_members}
+use Rattle.idl_rule_definitions.specs.Nodes.{arms_of, Node, BodyNode, DeclaratorNode, nodes}
 use Rattle.idl_rule_definitions.specs.Attributes.{switch_type_in}
-use Rattle.idl_rule_definitions.specs.Nodes.{Construct, Position, InTypedef, InTaggedType, Declared, declared, inside, declared_members, arms_of}
-use Rattle.idl_rule_definitions.specs.Nodes.{Node, BodyNode, DeclaratorNode, nodes}
 use Rattle.idl_rule_definitions.specs.Types.{IdlType, Struct, Union, Enum, Array, Text, Pointer, Pipe, Names, type_of, declared_type, switch_type}
 use Rattle.idl_rule_definitions.specs.Types.{place_of_body}
 
@@ -57,7 +56,7 @@ place_of_type file (tree.Enum at tag es) = place_of_body file at tag
 place_of_type file _ = record { file = file; at = 0 }
 
 abbrev pub same_place : Place → Place → Bool
-same_place p q = eqb p.file q.file && eqb p.at q.at
+same_place p q = p.file == q.file && p.at == q.at
 
 abbrev pub body_by : Names → Node → List Body
 body_by names (BodyNode c body) = record { construct = c; names = names; body = body } ∷ []

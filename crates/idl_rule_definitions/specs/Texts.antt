@@ -1,18 +1,16 @@
 -- Texts of one file as examples: their tokens, their trees, and which rule is told of them.
-use Rattle.std.specs.Prelude.{ℕ, zero, suc, ◌+◌, ◌-◌, Bool, true, false, eqb, List, [], ◌∷◌, Option, Some, None, Result, Ok, Err}
+use Rattle.std.specs.Prelude.{ℕ, zero, suc, ◌+◌, ◌-◌, Bool, true, false, ◌==◌, List, [], ◌∷◌, Option, Some, None, Result, Ok, Err}
 use Rattle.idl_grammar.specs.ReadPhrases.{Fault}
 use Rattle.nd_base.specs.Text.{is_letter, is_digit, is_word_octet}
-use Rattle.idl_lexer.specs.Classes.{is_space}
-use Rattle.idl_lexer.specs.Pieces.{fits_uuid}
+use Rattle.idl_lexer.specs.Pieces.{is_space, fits_uuid}
 use Rattle.idl_lexer.specs.declared.tokens.TokenKind.{TokenKind}
 use Rattle.idl_lexer.specs.declared.tokens.TokenKind.TheVariants as token
 use Rattle.idl_lexer.specs.declared.tokens.Token.{Token}
-use Rattle.idl_lexer.specs.Lexed.{Lexed}
-use Rattle.idl_grammar.specs.Lexemes.{lexemes}
+use Rattle.idl_lexer.specs.Verdict.{Lexed}
+use Rattle.idl_grammar.specs.Text.{lexemes}
 use Rattle.idl_grammar.specs.Tree.{Tree}
 use Rattle.idl_grammar.specs.Answers.{file_answer}
-use Rattle.idl_rule_definitions.specs.Rules.{Breach, breach}
-use Rattle.idl_rule_definitions.specs.FirstBroken.{first_broken}
+use Rattle.idl_rule_definitions.specs.Rules.{Breach, breach, first_broken}
 use Rattle.idl_rule_definitions.specs.Alone.{alone}
 
 -- ## Tokens of a text that has words, numbers, UUIDs, strings without escapes, spaces, `..` and marks of one octet alone
@@ -23,10 +21,10 @@ word_length (c ∷ cs) = elim (is_word_octet c) [ true ↦ word_length cs + 1 | 
 
 abbrev is_dot : List ℕ → Bool
 is_dot [] = false
-is_dot (c ∷ cs) = eqb c 46
+is_dot (c ∷ cs) = c == 46
 
 abbrev mark_length : ℕ → List ℕ → ℕ
-mark_length c cs = elim (eqb c 46) [ true ↦ elim (is_dot cs) [ true ↦ 2 | false ↦ 1 ] | false ↦ 1 ]
+mark_length c cs = elim (c == 46) [ true ↦ elim (is_dot cs) [ true ↦ 2 | false ↦ 1 ] | false ↦ 1 ]
 
 -- text begins with a UUID, from place k of it on; so many octets of it are left
 abbrev uuid_begins : ℕ → ℕ → List ℕ → Bool
@@ -35,7 +33,7 @@ uuid_begins (suc left) k [] = false
 uuid_begins (suc left) k (c ∷ cs) = elim (fits_uuid k c) [ true ↦ uuid_begins left (k + 1) cs | false ↦ false ]
 
 abbrev is_quote : ℕ → Bool
-is_quote c = eqb c 34
+is_quote c = c == 34
 
 -- the octets up to a closing quote, and it
 abbrev quote_length : List ℕ → ℕ

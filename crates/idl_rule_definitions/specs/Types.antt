@@ -15,15 +15,12 @@ use Rattle.idl_grammar.specs.declared.types.SwitchType.{SwitchType}
 use Rattle.idl_grammar.specs.declared.types.SwitchType.TheVariants as switch
 use Rattle.idl_grammar.specs.declared.types.TagKind.{TagKind}
 use Rattle.idl_grammar.specs.declared.types.TagKind.TheVariants as tag_kind
-use Rattle.idl_grammar.specs.Integers.{width_of, is_without_sign}
-use Rattle.idl_grammar.specs.Tree.{Attribute, Bound, Declarator, TypeSpec}
+use Rattle.idl_grammar.specs.Tree.{width_of, is_without_sign, Attribute, Bound, Declarator, TypeSpec}
 use Rattle.idl_grammar.specs.Tree as tree
 use Rattle.idl_scope.specs.declared.tag.TagDefinition.{TagDefinition}
-use Rattle.idl_scope.specs.Tables.{found}
-use Rattle.idl_scope.specs.Known.{Known}
-use Rattle.idl_rule_definitions.specs.World.{value_in}
+use Rattle.idl_scope.specs.Known.{found, Known}
+use Rattle.idl_rule_definitions.specs.Nodes.{value_in, Construct, Position, InParameter, Declared}
 use Rattle.idl_rule_definitions.specs.Attributes.{has, has_one_of, class_in, sizes, lengths, context_handle_word, string_word}
-use Rattle.idl_rule_definitions.specs.Nodes.{Construct, Position, InParameter, Declared}
 
 -- A type. Names of types are resolved. A struct, union or enum is identified by the place of its tag, or where it has none by that of its first word.
 pub data IdlType : Type 0 where

@@ -1,5 +1,5 @@
 -- The rules of `string` and of the attributes that state counts and tags by variables (C706, sections 4.2.11 and 4.2.17 to 4.2.19).
-use Rattle.std.specs.Prelude.{ℕ, ◌+◌, Bool, true, false, not, ◌&&◌, ◌||◌, eqb, List, [], ◌∷◌, ◌++◌, Option, Some, None, codes}
+use Rattle.std.specs.Prelude.{ℕ, ◌+◌, Bool, true, false, not, ◌&&◌, ◌||◌, ◌==◌, List, [], ◌∷◌, ◌++◌, Option, Some, None, codes}
 use Rattle.std.specs.List.{list_any}
 use Rattle.std.specs.Str.{bytes_eq}
 use Rattle.nd_types.specs.declared.types.Primitive.TheVariants as primitive
@@ -157,7 +157,7 @@ is_wrongly_varying u =
 
 abbrev pub is_other : ℕ → Option Listed → Bool
 is_other index None = false
-is_other index (Some d) = not (eqb d.index index)
+is_other index (Some d) = not (d.index == index)
 
 abbrev pub has_no_variable : Use → Bool
 has_no_variable u = list_any (λ v. not (is_other u.index (variable_of u v))) (variables (switch_is_word ∷ sizes ++ lengths) u.construct.attributes)

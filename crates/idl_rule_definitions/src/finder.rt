@@ -1,8 +1,8 @@
 // The first of the rules that are broken.
 ghost use Rattle.std.specs.Prelude.{◌≡◌, Some, None, option_map};
 ghost use Rattle.idl_scope.specs.Seen.{seen_files};
-ghost use Rattle.idl_rule_definitions.specs.World.{World};
-ghost use Rattle.idl_rule_definitions.specs.FirstBroken.{rank_in, comes_before};
+ghost use Rattle.idl_rule_definitions.specs.Nodes.{World};
+ghost use Rattle.idl_rule_definitions.specs.Rules.{rank_in, comes_before};
 ghost use Rattle.idl_rule_definitions.specs.Noted.{noted, if_broken};
 ghost use Rattle.idl_rule_definitions.specs.Found.{seen_breach, is_file_at};
 

@@ -4,15 +4,13 @@ use Rattle.std.specs.List.{flat_map}
 use Rattle.std.proofs.lemmas.Bool.Decides.{nat_tests}
 use Rattle.std.proofs.lemmas.List.Concat.{flat_map-cons}
 use Rattle.std.proofs.lemmas.Grind.{flat_map-append}
-use Rattle.idl_rule_definitions.specs.World.{World}
-use Rattle.idl_rule_definitions.specs.Nodes.{Construct, Node, HeaderNode, AttributeNode, SwitchNode, TagNode, BodyNode, EnumeratorNode, LabelNode, EmptyArmNode, DeclaratorNode, ConstantNode, TypeNode}
-use Rattle.idl_rule_definitions.specs.Nodes.{OperationNode}
+use Rattle.idl_rule_definitions.specs.Nodes.{World, Construct, Node, HeaderNode, AttributeNode, SwitchNode, TagNode, BodyNode, EnumeratorNode, LabelNode, EmptyArmNode, DeclaratorNode, ConstantNode}
+use Rattle.idl_rule_definitions.specs.Nodes.{TypeNode, OperationNode}
 use Rattle.idl_rule_definitions.specs.Types.{Names}
 use Rattle.idl_rule_definitions.specs.Scene.{Scene, Scoped, Body, body_by}
 use Rattle.idl_rule_definitions.specs.TypeRules.{contains_itself, is_deep_body}
 use Rattle.idl_rule_definitions.specs.DeclarationRules.{lacks_switch_type}
-use Rattle.idl_rule_definitions.specs.Rules.{Breach, broken_in, breaches_at, breaches_of_body}
-use Rattle.idl_rule_definitions.specs.FirstBroken.{comes_before, rank, earlier, first_of}
+use Rattle.idl_rule_definitions.specs.Rules.{Breach, broken_in, breaches_at, breaches_of_body, comes_before, rank, earlier, first_of}
 use Rattle.idl_rule_definitions.specs.Noted.{later, noted, of_others}
 use Rattle.idl_rule_definitions.specs.OtherBreaches.{other_breaches_at, other_breaches}
 use Rattle.idl_value_rules.specs.RestBreaches.{but_cycles, cycles_alone, rest_breaches_at, rest_breaches, cycle_of, cycle_breaches}

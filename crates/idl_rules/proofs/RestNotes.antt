@@ -11,17 +11,14 @@ use Rattle.idl_constructs.specs.declared.nodes.Declared as declared
 use Rattle.idl_constructs.specs.declared.nodes.Node as program_node
 use Rattle.idl_constructs.specs.declared.nodes.Node.TheVariants as node
 use Rattle.idl_constructs.specs.declared.nodes.Nodes as program_nodes
-use Rattle.idl_rule_definitions.specs.World.{World}
-use Rattle.idl_rule_definitions.specs.AttributeRules.{is_out_of_place, is_repeated, is_large_version, is_second_class, lacks_uuid_and_local}
-use Rattle.idl_rule_definitions.specs.DeclarationRules.{has_no_body}
-use Rattle.idl_rule_definitions.specs.ValueRules.{is_large_enumerator, is_bad_label, is_wrong_constant, is_void_constant, is_handle_constant}
-use Rattle.idl_rule_definitions.specs.Nodes.{Construct, ArmLabel, Node, HeaderNode, AttributeNode, SwitchNode, TagNode, BodyNode, EnumeratorNode, LabelNode, EmptyArmNode, DeclaratorNode, ConstantNode}
-use Rattle.idl_rule_definitions.specs.Nodes.{TypeNode, OperationNode, attribute_nodes_from, label_nodes, labels_of}
+use Rattle.idl_rule_definitions.specs.Nodes.{World, Construct, ArmLabel, Node, HeaderNode, AttributeNode, SwitchNode, TagNode, BodyNode, EnumeratorNode, LabelNode, EmptyArmNode, DeclaratorNode}
+use Rattle.idl_rule_definitions.specs.Nodes.{ConstantNode, TypeNode, OperationNode, attribute_nodes_from, label_nodes, labels_of}
+use Rattle.idl_rule_definitions.specs.DeclarationRules.{is_out_of_place, is_repeated, is_large_version, is_second_class, lacks_uuid_and_local, has_no_body, is_large_enumerator, is_bad_label}
+use Rattle.idl_rule_definitions.specs.DeclarationRules.{is_wrong_constant, is_void_constant, is_handle_constant, lacks_switch_type}
 use Rattle.idl_rule_definitions.specs.Types.{Names, switch_type}
 use Rattle.idl_rule_definitions.specs.Scene.{Scene, Scoped, Body, body_by, scoped_from, names_behind, use_of, tag_type}
 use Rattle.idl_rule_definitions.specs.Rules.{Breach, broken_at, broken_in, breaches_at, breaches_of_use, breaches_of_body}
 use Rattle.idl_rule_definitions.specs.TypeRules.{contains_itself, is_deep_body}
-use Rattle.idl_rule_definitions.specs.DeclarationRules.{lacks_switch_type}
 use Rattle.idl_constructs.specs.SeenNodes.{seen_construct, seen_declared, seen_result, list_at, seen_node}
 use Rattle.idl_declared_types.specs.SeenTypes.{names_at, scoped_front}
 use Rattle.idl_rule_definitions.specs.Noted.{noted, of_others}

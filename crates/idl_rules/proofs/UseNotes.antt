@@ -4,11 +4,10 @@ use Rattle.idl_rule_definitions.specs.Nodes.{Construct}
 use Rattle.idl_rule_definitions.specs.Types.{IdlType, is_void, is_handle, is_pipe, is_context}
 use Rattle.idl_rule_definitions.specs.Scene.{Scene, Use, Body}
 use Rattle.idl_rule_definitions.specs.Rules.{Breach, broken_at, broken_in, breaches_of_use}
-use Rattle.idl_rule_definitions.specs.DeclarationRules.{lacks_switch_type, is_wrongly_cased, has_class, has_string, lacks_direction}
-use Rattle.idl_rule_definitions.specs.ValueRules.{has_lower_bounds}
+use Rattle.idl_rule_definitions.specs.DeclarationRules.{lacks_switch_type, is_wrongly_cased, has_class, has_string, lacks_direction, has_lower_bounds}
 use Rattle.idl_rule_definitions.specs.TypeRules.{holds_void, holds_handle, holds_pipe, is_no_context_handle, holds_context_handle, in_tag, is_deep_body, holds_deep_array, is_wrong_result}
-use Rattle.idl_rule_definitions.specs.ArrayRules.{has_wrong_counts, has_wrong_dimensions, has_wrong_elements, hoists_before_last, is_hoisting_arm, holds_wrong_pipe}
-use Rattle.idl_rule_definitions.specs.PointerRules.{has_class_without_pointer, holds_pointer_without_class, holds_pointer_to_reference, is_nullable_out, is_wrong_out}
+use Rattle.idl_rule_definitions.specs.TypeRules.{has_wrong_counts, has_wrong_dimensions, has_wrong_elements, hoists_before_last, is_hoisting_arm, holds_wrong_pipe, has_class_without_pointer}
+use Rattle.idl_rule_definitions.specs.TypeRules.{holds_pointer_without_class, holds_pointer_to_reference, is_nullable_out, is_wrong_out}
 use Rattle.idl_rule_definitions.specs.VariableRules.{may_not_be_switched, holds_nonencapsulated_union, has_wrong_switch, is_wrong_text, is_wrongly_sized, is_wrongly_varying, has_no_variable}
 use Rattle.idl_rule_definitions.specs.VariableRules.{has_wrong_variable}
 use Rattle.idl_rule_definitions.specs.Noted.{of_others}

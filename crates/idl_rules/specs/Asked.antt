@@ -1,32 +1,26 @@
 -- For the code: what the rules ask of a declarator where it stands, over the numbers of its types.
-use Rattle.std.specs.Prelude.{◌≡◌, ◌+◌, Bool, ltb, not, ◌&&◌, eqb, List, [], ◌∷◌, ◌++◌, length}
+use Rattle.std.specs.Prelude.{◌≡◌, ◌+◌, Bool, nat_lt, not, ◌&&◌, List, [], ◌∷◌, ◌++◌, length, Vec}
 use Rattle.std.specs.List.{flat_map}
 use Rattle.idl_rules.specs.declared.asked.Asked.{Asked}
 use Rattle.idl_declared_types.specs.declared.kinds.Kind.{Kind}
 use Rattle.idl_declared_types.specs.Kinds.{type_at}
-use Rattle.idl_constructs.specs.SeenNodes.{seen_construct}
+use Rattle.idl_constructs.specs.SeenNodes.{seen_construct, seen_node}
 use Rattle.idl_declared_types.specs.SeenTypes.{IsTypedUse}
 use Rattle.idl_rule_definitions.specs.Nodes.{Construct}
-use Rattle.idl_rule_definitions.specs.Types.{IdlType, is_void, is_handle, is_pipe, is_context}
+use Rattle.idl_rule_definitions.specs.Types.{IdlType, is_void, is_handle, is_pipe, is_context, Names}
 use Rattle.idl_rule_definitions.specs.Scene.{Scene, Scoped, Body, Use}
 use Rattle.idl_rule_definitions.specs.Rules.{Breach, broken_in, breaches_at}
-use Rattle.idl_rule_definitions.specs.DeclarationRules.{lacks_switch_type, is_wrongly_cased, has_class, has_string, lacks_direction}
-use Rattle.idl_rule_definitions.specs.ValueRules.{has_lower_bounds}
+use Rattle.idl_rule_definitions.specs.DeclarationRules.{lacks_switch_type, is_wrongly_cased, has_class, has_string, lacks_direction, has_lower_bounds}
 use Rattle.idl_rule_definitions.specs.TypeRules.{holds_void, holds_handle, holds_pipe, is_no_context_handle, holds_context_handle, in_tag}
-use Rattle.idl_rule_definitions.specs.TypeRules.{is_deep_body, holds_deep_array, is_wrong_result}
-use Rattle.idl_rule_definitions.specs.ArrayRules.{has_wrong_counts, has_wrong_dimensions, has_wrong_elements, hoists_before_last, is_hoisting_arm}
-use Rattle.idl_rule_definitions.specs.ArrayRules.{holds_wrong_pipe}
-use Rattle.idl_rule_definitions.specs.PointerRules.{has_class_without_pointer, holds_pointer_without_class, holds_pointer_to_reference}
-use Rattle.idl_rule_definitions.specs.PointerRules.{is_nullable_out, is_wrong_out}
+use Rattle.idl_rule_definitions.specs.TypeRules.{is_deep_body, holds_deep_array, is_wrong_result, has_wrong_counts, has_wrong_dimensions}
+use Rattle.idl_rule_definitions.specs.TypeRules.{has_wrong_elements, hoists_before_last, is_hoisting_arm, holds_wrong_pipe, has_class_without_pointer}
+use Rattle.idl_rule_definitions.specs.TypeRules.{holds_pointer_without_class, holds_pointer_to_reference, is_nullable_out, is_wrong_out}
 use Rattle.idl_rule_definitions.specs.VariableRules.{may_not_be_switched, holds_nonencapsulated_union, has_wrong_switch, is_wrong_text}
 use Rattle.idl_rule_definitions.specs.VariableRules.{is_wrongly_sized, is_wrongly_varying, has_no_variable, has_wrong_variable}
-use Rattle.std.specs.Prelude.{Vec}
 use Rattle.idl_grammar.specs.Seen.{seen_type}
 use Rattle.idl_constructs.specs.declared.nodes.Declared as declared
 use Rattle.idl_constructs.specs.declared.nodes.Node as program_node
 use Rattle.idl_constructs.specs.declared.nodes.Node.TheVariants as node
-use Rattle.idl_constructs.specs.SeenNodes.{seen_node}
-use Rattle.idl_rule_definitions.specs.Types.{Names}
 use Rattle.idl_rule_definitions.specs.OthersOf.{others_of}
 use Rattle.idl_rule_definitions.specs.declared.rule.TheConstants as Rule
 
@@ -34,7 +28,7 @@ use Rattle.idl_rule_definitions.specs.declared.rule.TheConstants as Rule
 
 -- others stand after it in its list
 abbrev pub is_followed : Use → Bool
-is_followed u = ltb (u.index + 1) (length u.list)
+is_followed u = nat_lt (u.index + 1) (length u.list)
 
 -- a declarator in the program's terms; what is not said there is that of another
 abbrev pub asked_use : List Kind → Asked → Use → Use

@@ -1,7 +1,7 @@
 // What the rules ask of a declarator where it stands.
 ghost use Rattle.std.specs.Prelude.{◌≡◌, ◌++◌, Bool, List, Option, option_map};
 ghost use Rattle.idl_scope.specs.Seen.{seen_files};
-ghost use Rattle.idl_rule_definitions.specs.World.{World};
+ghost use Rattle.idl_rule_definitions.specs.Nodes.{World};
 ghost use Rattle.idl_rule_definitions.specs.Nodes as rules;
 ghost use Rattle.idl_rule_definitions.specs.Rules.{Breach, broken_in};
 ghost use Rattle.idl_rule_definitions.specs.Scene.{Scene, chain, below};

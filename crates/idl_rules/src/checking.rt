@@ -2,7 +2,7 @@
 ghost use Rattle.std.specs.Prelude.{◌≡◌, None, map, option_map, IfOk};
 ghost use Rattle.idl_rule_definitions.specs.declared.fault.RuleFault.TheVariants as faults;
 ghost use Rattle.idl_rule_definitions.specs.Checked.{world_of};
-ghost use Rattle.idl_rule_definitions.specs.CountRules as rules;
+ghost use Rattle.idl_rule_definitions.specs.DeclarationRules as rules;
 ghost use Rattle.idl_rule_definitions.specs.Found.{seen_breach};
 ghost use Rattle.idl_rule_definitions.specs.Noted.{noted};
 ghost use Rattle.idl_rule_definitions.specs.OtherBreaches.{other_breaches};

@@ -2,10 +2,10 @@
 ghost use Rattle.std.specs.Prelude.{◌≡◌, ◌&&◌, not, map, List, Option, option_map};
 ghost use Rattle.idl_scope.specs.Seen.{seen_files};
 ghost use Rattle.idl_grammar.specs.Seen.{seen_attribute};
-ghost use Rattle.idl_rule_definitions.specs.World.{World};
+ghost use Rattle.idl_rule_definitions.specs.Nodes.{World};
 ghost use Rattle.idl_rule_definitions.specs.Scene.{Scene, Use};
 ghost use Rattle.idl_rule_definitions.specs.Rules.{Breach};
-ghost use Rattle.idl_rule_definitions.specs.PointerRules as rules;
+ghost use Rattle.idl_rule_definitions.specs.TypeRules as rules;
 ghost use Rattle.idl_rule_definitions.specs.Attributes.{has, out_word};
 ghost use Rattle.idl_rule_definitions.specs.DeclarationRules.{is_parameter};
 ghost use Rattle.idl_declared_types.specs.Kinds.{type_at};

@@ -1,10 +1,10 @@
 // Rules 5 to 38, node by node.
-ghost use Rattle.std.specs.Prelude.{◌≡◌, ◌+◌, ltb, List, [], Option, Some, length, option_map, OnOk};
+ghost use Rattle.std.specs.Prelude.{◌≡◌, ◌+◌, nat_lt, List, [], Option, Some, length, option_map, OnOk};
 ghost use Rattle.std.specs.List.{slice_get};
 ghost use Rattle.idl_grammar.specs.Seen.{seen_type};
 ghost use Rattle.idl_scope.specs.Seen.{seen_files, known_in};
 ghost use Rattle.idl_declared_types.specs.declared.kinds.Kind as kind;
-ghost use Rattle.idl_rule_definitions.specs.World.{World};
+ghost use Rattle.idl_rule_definitions.specs.Nodes.{World};
 ghost use Rattle.idl_rule_definitions.specs.Types.{Names};
 ghost use Rattle.idl_rule_definitions.specs.Scene.{Scene, Use, Body, use_of, type_of_body};
 ghost use Rattle.idl_rule_definitions.specs.Rules.{Breach, breaches_of_use};
@@ -40,14 +40,14 @@ use std::alloc::Global;
 
 /// Whether others come after one of so many.
 fn is_before_last(index: usize, count: usize) -> bool
-    ensures { result ≡ ltb (index + 1) count }
+    ensures { result ≡ nat_lt (index + 1) count }
 {
     index < count.saturating_sub(1)
 }
 
 /// Whether others stand after one in a list.
 fn is_followed(nodes: &Nodes<'_>, list: usize, index: usize) -> bool
-    ensures { result ≡ ltb (index + 1) (length (list_at nodes.now.lists.items list)) }
+    ensures { result ≡ nat_lt (index + 1) (length (list_at nodes.now.lists.items list)) }
 {
     match nodes.lists.get(list) {
         Some(list) => is_before_last(index, list.len()),

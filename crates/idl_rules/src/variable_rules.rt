@@ -2,7 +2,7 @@
 ghost use Rattle.std.specs.Prelude.{◌≡◌, ◌&&◌, not, map, List, Option, option_map};
 ghost use Rattle.idl_scope.specs.Seen.{seen_files};
 ghost use Rattle.idl_grammar.specs.Seen.{seen_attribute};
-ghost use Rattle.idl_rule_definitions.specs.World.{World};
+ghost use Rattle.idl_rule_definitions.specs.Nodes.{World};
 ghost use Rattle.idl_rule_definitions.specs.Scene.{Scene, Use};
 ghost use Rattle.idl_rule_definitions.specs.Rules.{Breach};
 ghost use Rattle.idl_rule_definitions.specs.VariableRules as rules;

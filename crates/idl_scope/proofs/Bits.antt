@@ -7,7 +7,7 @@ use Rattle.std.proofs.lemmas.Nat.{pow_pos, and_comm, or_comm, xor_comm, and_le_l
 use Rattle.std.proofs.lemmas.Nat.Bits.{same_from_bits_below, same_from_bits, bit_at_above, bit_at_and, bit_at_or, bit_at_xor, bit_at_not, bit_at-lt}
 use Rattle.std.proofs.Math.Nat.{min_comm, max_comm, add_comm, two-pow-succ}
 use mir.Val.{bits, hbits, to_z, of_z, SFits}
-use Rattle.idl_scope.specs.Whole.{without, bits_in_both, bits_in_either, bits_in_one, complement, bit}
+use Rattle.idl_scope.specs.Value.{without, bits_in_both, bits_in_either, bits_in_one, complement, bit}
 
 two : (f : ℕ → ℕ → ℕ) (x y p q : ℕ) → x ≡ p → y ≡ q → f x y ≡ f p q
 two f x y p q e g = ap (λ z. f z y) e ∙ ap (f p) g

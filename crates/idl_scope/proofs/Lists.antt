@@ -3,8 +3,7 @@ use Rattle.std.proofs.Common.{◌≡◌, ℕ, Bool, true, false, cond, refl, ap,
 use Rattle.std.proofs.lemmas.List.{map-append}
 use Rattle.std.specs.Str.{bytes_eq}
 use Rattle.nd_base.specs.declared.octets.Place.{Place}
-use Rattle.idl_scope.specs.Tables.{found, put}
-use Rattle.idl_scope.specs.Known.{place_in_list}
+use Rattle.idl_scope.specs.Known.{found, put, place_in_list}
 use Rattle.idl_scope.specs.Kept.{spelled, listed}
 use Rattle.idl_scope.proofs.Tables.{put_new}
 

@@ -8,10 +8,9 @@ use Rattle.idl_grammar.specs.declared.expressions.UnaryOperator.{UnaryOperator}
 use Rattle.idl_grammar.specs.Tree.{Expr, Unary, Binary, Conditional}
 use Rattle.idl_scope.specs.declared.fault.ConstFault.TheVariants.{OutOfRange, ZeroDivisor}
 use Rattle.idl_scope.specs.declared.fault.ValueFault.{ValueFault}
-use Rattle.idl_scope.specs.Whole.{is_in_range, is_zero, truth, bits_in_both, bits_in_either, bits_in_one}
-use Rattle.idl_scope.specs.Operators.{Outcome, fault_at, with_value, in_range, shifted, divided, unary_value, binary_value, is_decided}
+use Rattle.idl_scope.specs.Value.{is_in_range, is_zero, truth, bits_in_both, bits_in_either, bits_in_one, Outcome, fault_at, with_value, in_range, shifted, divided, unary_value, binary_value}
+use Rattle.idl_scope.specs.Value.{is_decided, value}
 use Rattle.idl_scope.specs.declared.meaning.Meaning.{Meaning}
-use Rattle.idl_scope.specs.Value.{value}
 
 -- a value, where there is one, is in range
 abbrev Keeps : Outcome → Type 0

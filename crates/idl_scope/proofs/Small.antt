@@ -10,7 +10,7 @@ use mir.Syntax.{w128}
 use Rattle.idl_scope.specs.declared.meaning.Meaning.{Meaning}
 use Rattle.idl_scope.specs.declared.meaning.Meaning.TheVariants as meaning
 use Rattle.idl_scope.specs.Small.{is_below, is_small, are_small}
-use Rattle.idl_scope.specs.Tables.{found, put}
+use Rattle.idl_scope.specs.Known.{found, put}
 use Rattle.idl_scope.proofs.Tables.{put_new}
 
 -- ## Numbers

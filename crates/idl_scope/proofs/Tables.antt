@@ -4,7 +4,7 @@ use Rattle.std.specs.Result.{MatchResult, OnOk}
 use Rattle.std.specs.Str.{bytes_eq}
 use Rattle.std.specs.Map.{lookup}
 use Rattle.indexmap.specs.IndexMap.{insert_entry}
-use Rattle.idl_scope.specs.Tables.{found, put, table}
+use Rattle.idl_scope.specs.Known.{found, put, table}
 
 abbrev pub is_key : {A : Type 0} → List ℕ → Vec ℕ A → Bool
 is_key name k = bytes_eq name k.items

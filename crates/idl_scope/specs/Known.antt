@@ -1,12 +1,15 @@
--- What is known of names, and what each step of a file does to it (C706, section 4.2). That the names of imported files are known in all
--- files after them, in one space for all, is this project's own choice, as are the numbers of enumerators.
-use Rattle.std.specs.Prelude.{ℕ, Bool, true, false, cond, List, [], ◌∷◌, ◌++◌, Option, Some, None, option_map, ℤ, pos, ◌+ℤ◌, Result, Ok, Err}
+-- What is known of names, and what each step of a file does to it (C706, section 4.2).
+use Rattle.std.specs.Prelude.{ℕ, ℤ, pos, Bool, true, false, if◌then◌else◌, ◌==◌, List, [], ◌∷◌, ◌++◌, map, Option, Some, None, Result, Ok, option_map}
+use Rattle.std.specs.Prelude.{Vec}
+use Rattle.std.specs.Prelude.{◌+ℤ◌, Err}
+use Rattle.std.specs.List.{list_any}
 use Rattle.std.specs.Str.{bytes_eq}
+use Rattle.std.specs.Map.{lookup}
 use Rattle.nd_base.specs.declared.octets.Place.{Place}
 use Rattle.idl_grammar.specs.declared.words.Spelling.{Spelling}
 use Rattle.idl_grammar.specs.declared.types.TagKind.{TagKind}
 use Rattle.idl_grammar.specs.declared.types.TagKind.TheVariants as tag_kind
-use Rattle.idl_grammar.specs.Tree.{Expr}
+use Rattle.idl_grammar.specs.Tree.{Tree, Expr}
 use Rattle.idl_scope.specs.declared.meaning.Meaning.{Meaning}
 use Rattle.idl_scope.specs.declared.meaning.Meaning.TheVariants as meaning
 use Rattle.idl_scope.specs.declared.tag.TagDefinition.{TagDefinition}
@@ -15,9 +18,39 @@ use Rattle.idl_scope.specs.declared.fault.ExpressionFault.{ExpressionFault}
 use Rattle.idl_scope.specs.declared.fault.ExpressionFault.TheVariants as expression_fault
 use Rattle.idl_scope.specs.declared.name_fault.NameFault.{NameFault}
 use Rattle.idl_scope.specs.declared.name_fault.NameFault.TheVariants as fault
-use Rattle.idl_scope.specs.Tables.{found, put}
 use Rattle.idl_scope.specs.Value.{evaluated}
 use Rattle.idl_scope.specs.Steps.{Step, UseType, UseTag, DefineTag, Declare, Know, KnowValue, KnowNext, Evaluate, Enlist}
+
+-- ## Files whose resolving has ended
+
+pub record Ended : Type 0 where
+  pub file : ℕ
+  pub tree : Tree
+
+abbrev pub ended : ℕ → Tree → Ended
+ended file tree = record { file = file; tree = tree }
+
+abbrev pub has_ended : List Ended → ℕ → Bool
+has_ended files file = list_any (λ e. e.file == file) files
+
+-- ## Tables by names: lists of names with what is there
+
+abbrev pub found : {X : Type 0} → List ℕ → List (List ℕ × X) → Option X
+found name entries = lookup (bytes_eq name) entries
+
+-- one more; a name that is there already keeps its place and gets the new value
+abbrev pub put : {X : Type 0} → List (List ℕ × X) → List ℕ → X → List (List ℕ × X)
+put [] name x = (name, x) ∷ []
+put (e ∷ entries) name x = elim (bytes_eq name e.0) [ true ↦ (e.0, x) ∷ entries | false ↦ e ∷ put entries name x ]
+
+-- a table of the program as a list
+abbrev pub table : {A X : Type 0} → List (Vec ℕ A × X) → List (List ℕ × X)
+table entries = map (λ e. (e.0.items, e.1)) entries
+
+-- ## What is known, and what steps do to it
+
+-- That the names of imported files are known in all files after them, in one space for all, is this project's own choice, as are the
+-- numbers of enumerators.
 
 -- all that was declared so far, each list in the order of declaration
 pub record Known : Type 0 where
@@ -33,7 +66,7 @@ pub record Known : Type 0 where
 abbrev pub nothing : Known
 nothing = record { places = []; meanings = []; tags = []; uses = [] }
 
--- ## Names that are known
+-- ### Names that are known
 
 abbrev pub meaning_in : Known → List ℕ → Option Meaning
 meaning_in k name = found name k.meanings
@@ -56,7 +89,7 @@ is_of_kind kind (Some d) = same_kind kind d.kind
 abbrev pub is_defined : Known → TagKind → List ℕ → Bool
 is_defined k kind tag = is_of_kind kind (found tag k.tags)
 
--- ## The values of expressions
+-- ### The values of expressions
 
 abbrev pub place_in : ℕ → Spelling → Place
 place_in file s = record { file = file; at = s.at }
@@ -81,7 +114,7 @@ abbrev pub next_meaning : Known → Option Spelling → Meaning
 next_meaning k None = meaning.Number (pos 0)
 next_meaning k (Some previous) = next_of (meaning_in k previous.octets)
 
--- ## Steps
+-- ### Steps
 
 abbrev pub with_meaning : Known → Spelling → Meaning → Known
 with_meaning k name m = record k { meanings = put k.meanings name.octets m }
@@ -118,7 +151,7 @@ tag_used file k kind tag false = Err (fault.Unknown (place_in file tag))
 -- where a name is in a list of members or parameters
 abbrev pub place_in_list : ℕ → List Spelling → List ℕ → Option Place
 place_in_list file [] name = None
-place_in_list file (s ∷ before) name = cond (bytes_eq name s.octets) (Some (place_in file s)) (place_in_list file before name)
+place_in_list file (s ∷ before) name = if bytes_eq name s.octets then Some (place_in file s) else place_in_list file before name
 
 abbrev pub tag_place : Known → List ℕ → Option Place
 tag_place k tag = option_map (λ d. d.place) (found tag k.tags)
@@ -144,16 +177,16 @@ passed file k (Evaluate e) = where_valued (value_in file k e) (λ z. k)
 passed file k (Enlist before name) = where_free (place_in_list file before name.octets) (place_in file name) k
 
 -- goes on from what is known
-abbrev pub then : Result Known NameFault → (Known → Result Known NameFault) → Result Known NameFault
-then (Ok k) next = next k
-then (Err f) next = Err f
+abbrev pub and_then : Result Known NameFault → (Known → Result Known NameFault) → Result Known NameFault
+and_then (Ok k) next = next k
+and_then (Err f) next = Err f
 
 -- what is known after steps in a file, or the first fault
 abbrev pub walked : ℕ → Known → List Step → Result Known NameFault
 walked file k [] = Ok k
-walked file k (s ∷ steps) = then (passed file k s) (λ next. walked file next steps)
+walked file k (s ∷ steps) = and_then (passed file k s) (λ next. walked file next steps)
 
--- ## After all files
+-- ### After all files
 
 -- where the first of these uses stands whose tag has no body of its kind
 abbrev pub first_undefined : Known → List TagUse → Option Place

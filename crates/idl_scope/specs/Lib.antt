@@ -1,12 +1,8 @@
-pub mod Whole
-pub mod Operators
 pub mod Value
 pub mod Checked
 pub mod Steps
-pub mod Tables
 pub mod Known
 pub mod Kept
 pub mod Small
-pub mod Ended
 pub mod SeenFiles
 pub mod Seen

@@ -2,7 +2,7 @@
 use Rattle.idl_grammar.specs.Seen.{seen_tree}
 use Rattle.idl_scope.specs.declared.scope.FileTree.{FileTree}
 use Rattle.idl_scope.specs.declared.scope.FileTrees.{FileTrees}
-use Rattle.idl_scope.specs.Ended.{Ended, ended}
+use Rattle.idl_scope.specs.Known.{Ended, ended}
 use Rattle.std.specs.Prelude.{List, map}
 
 abbrev pub seen_file : FileTree → Ended

@@ -1,7 +1,7 @@
 // The value of a constant expression (C706, section 4.2.7).
 ghost use Rattle.std.specs.Prelude.{◌≡◌, ℕ, true, List, Option, IfOk, IfSome};
 ghost use Rattle.idl_grammar.specs.Seen.{seen_expr};
-ghost use Rattle.idl_lexer.specs.Numbers.{number_of as number_of_octets};
+ghost use Rattle.idl_lexer.specs.Pieces.{number_of as number_of_octets};
 ghost use Rattle.idl_scope.specs.Small.{is_below};
 ghost use Rattle.idl_scope.specs.Value as values;
 

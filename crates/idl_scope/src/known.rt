@@ -1,8 +1,7 @@
 // What is known of names on the way through the files, and each step of a file.
 ghost use Rattle.std.specs.Prelude.{◌≡◌, ◌+◌, ◌++◌, true, [], ◌∷◌, length, option_map, IfOk, OnOk};
 ghost use Rattle.idl_grammar.specs.Seen.{seen_expr};
-ghost use Rattle.idl_scope.specs.Tables.{found};
-ghost use Rattle.idl_scope.specs.Known.{Known, nothing, walked, value_in, is_defined, first_undefined, next_meaning, place_in};
+ghost use Rattle.idl_scope.specs.Known.{found, Known, nothing, walked, value_in, is_defined, first_undefined, next_meaning, place_in};
 ghost use Rattle.idl_scope.specs.Kept.{listed, IsRight};
 ghost use Rattle.idl_scope.specs.Small.{is_below, is_small};
 ghost use Rattle.idl_scope.specs.Steps.{UseType, UseTag, DefineTag, Declare, Know, KnowValue, KnowNext, Evaluate, Enlist};

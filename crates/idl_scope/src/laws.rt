@@ -4,9 +4,8 @@ ghost use Rattle.std.specs.Prelude.{◌≡◌, ℕ, ◌+◌, ◌-◌, ◌%◌, m
 ghost use Rattle.idl_grammar.specs.declared.expressions.BinaryOperator.{BinaryOperator};
 ghost use Rattle.idl_grammar.specs.declared.expressions.UnaryOperator.{UnaryOperator};
 ghost use Rattle.idl_grammar.specs.Tree.{Expr, Unary, Binary, Conditional};
-ghost use Rattle.idl_scope.specs.Whole.{bit, complement, bits_in_both, bits_in_either, bits_in_one, is_in_range};
+ghost use Rattle.idl_scope.specs.Value.{bit, complement, bits_in_both, bits_in_either, bits_in_one, is_in_range, value};
 ghost use Rattle.idl_scope.specs.declared.meaning.Meaning.{Meaning};
-ghost use Rattle.idl_scope.specs.Value.{value};
 
 /// The operators on bits work on two's complement of unlimited width, bit by bit, and meanings with the same bits are
 /// the same.

@@ -1,6 +1,6 @@
 // What operators give, in whole numbers (C706, section 4.2.7).
 ghost use Rattle.std.specs.Prelude.{◌≡◌, ◌≤◌, ◌^◌, pos};
-ghost use Rattle.idl_scope.specs.Operators as operators;
+ghost use Rattle.idl_scope.specs.Value as operators;
 ghost use Rattle.idl_scope.specs.Checked.{checked, places_of};
 
 use crate::whole::{

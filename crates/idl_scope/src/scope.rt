@@ -1,8 +1,7 @@
 // What is known once all files are resolved.
 ghost use Rattle.std.specs.Prelude.{◌≡◌, true, [], ◌∷◌, ◌++◌, length, slice_get, option_map, OnOk};
-ghost use Rattle.idl_scope.specs.Known.{place_found};
+ghost use Rattle.idl_scope.specs.Known.{place_found, has_ended};
 ghost use Rattle.idl_scope.specs.SeenFiles.{seen_file, seen_files};
-ghost use Rattle.idl_scope.specs.Ended.{has_ended};
 
 use crate::known::NameTables;
 use crate::{Meaning, Names};

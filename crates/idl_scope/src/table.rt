@@ -1,6 +1,6 @@
 // Tables by names.
 ghost use Rattle.std.specs.Prelude.{◌≡◌, [], length, OnOk, MatchResult};
-ghost use Rattle.idl_scope.specs.Tables.{found, put};
+ghost use Rattle.idl_scope.specs.Known.{found, put};
 
 use indexmap::IndexMap;
 use nd_base::Memory;
@@ -16,7 +16,7 @@ pub struct Table<V: Copy> {
 
 impl<V: Copy> Model for Table<V> {
     ghost use Rattle.std.specs.Prelude.{List, ℕ};
-    ghost use Rattle.idl_scope.specs.Tables.{table};
+    ghost use Rattle.idl_scope.specs.Known.{table};
 
     ghost Value = { List (List ℕ × V) };
 

@@ -1,6 +1,6 @@
 // Whole numbers in constant expressions (C706, section 4.2.7).
 ghost use Rattle.std.specs.Prelude.{◌≡◌};
-ghost use Rattle.idl_scope.specs.Whole as whole;
+ghost use Rattle.idl_scope.specs.Value as whole;
 
 /// The least value of an operator.
 const LEAST: i128 = -0x8000_0000_0000_0000;

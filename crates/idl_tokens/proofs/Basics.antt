@@ -1,11 +1,10 @@
 -- A name is in the text; a word that stands for a value is read.
 use Rattle.std.proofs.Common.{◌≡◌, ℕ, ◌+◌, ◌<◌, Bool, true, false, ◌||◌, cond, eqb, length, refl, ap, ◌∙◌, List, [], ◌∷◌, Ok, Err, Option, Some, None}
-use Rattle.idl_grammar.specs.Text.{Text, symbol_at, is_in}
+use Rattle.idl_grammar.specs.Text.{Text, symbol_at, is_in, no_words}
 use Rattle.idl_grammar.specs.ReadPhrases.{Syntax}
 use Rattle.idl_grammar.proofs.Within.{test_within}
 use Rattle.idl_grammar.proofs.Sequences.{disjoint, apart}
-use Rattle.idl_grammar.specs.Lexemes.{no_words}
-use Rattle.idl_grammar.specs.Limits.{Meant, names, symbols_of, value_of}
+use Rattle.idl_grammar.specs.Expressions.{Meant, names, symbols_of, value_of}
 use Rattle.idl_grammar.specs.Reading.{one_of_read}
 use Rattle.idl_tokens.specs.Found.{found}
 use Rattle.idl_grammar.proofs.Combine.{name_real as not_end}

@@ -8,7 +8,7 @@ use Rattle.idl_grammar.specs.declared.expressions.BinaryOperator.{BinaryOperator
 use Rattle.idl_grammar.specs.declared.expressions.BinaryOperator.TheVariants as binary
 use Rattle.idl_grammar.specs.declared.expressions.UnaryOperator.{UnaryOperator}
 use Rattle.idl_grammar.specs.declared.expressions.UnaryOperator.TheVariants as unary
-use Rattle.idl_grammar.specs.Limits.{level, symbol_level, binary_operators, unary_operators, binary_of, unary_of, is_unary, operators, many_operators}
+use Rattle.idl_grammar.specs.Expressions.{level, symbol_level, binary_operators, unary_operators, binary_of, unary_of, is_unary, operators, many_operators}
 use Rattle.idl_grammar.specs.ReadExpressions.{unary_sign_read, binary_sign_read}
 use Rattle.idl_tokens.specs.Found.{found}
 use Rattle.idl_tokens.proofs.Basics.{is_found, not_found}

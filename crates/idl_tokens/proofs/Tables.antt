@@ -1,7 +1,7 @@
 -- A search in a table of words or marks.
 use Rattle.std.proofs.Common.{◌≡◌, ℕ, zero, suc, ◌+◌, ◌<◌, ◌≤◌, Bool, true, false, cond, length, refl, sym, ap, subst, arith, add-one, ◌∙◌, List, [], ◌∷◌, map, drop, slice_index_or}
 use Rattle.std.specs.Str.{bytes_eq}
-use Rattle.idl_grammar.specs.Lexemes.{symbol_among}
+use Rattle.idl_grammar.specs.Text.{symbol_among}
 use Rattle.idl_tokens.specs.declared.words.Entry.{Entry}
 use Rattle.idl_tokens.specs.Lexemes.{seen_entry}
 

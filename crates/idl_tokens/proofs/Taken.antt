@@ -1,10 +1,9 @@
 -- One more token is taken over.
 use Rattle.std.proofs.Common.{◌≡◌, ℕ, zero, suc, ◌+◌, ◌<◌, ◌≤◌, length, refl, sym, ap, arith, ◌∙◌, List, [], ◌∷◌, ◌++◌, map, take, slice_get, slice_range, Some, None, add-one, option_map, unwrap_or}
-use Rattle.idl_grammar.specs.Text.{Lexeme}
+use Rattle.idl_grammar.specs.Text.{Lexeme, symbol_of, lexeme_of}
 use Rattle.idl_lexer.specs.declared.tokens.TokenKind.{TokenKind}
 use Rattle.idl_lexer.specs.declared.tokens.Token.{Token}
-use Rattle.idl_lexer.specs.Lexed.{Lexed, IsKindOf, IsTextOf, place_of}
-use Rattle.idl_grammar.specs.Lexemes.{symbol_of, lexeme_of}
+use Rattle.idl_lexer.specs.Verdict.{Lexed, IsKindOf, IsTextOf, place_of}
 
 abbrev made : TokenKind → ℕ → List ℕ → Lexeme
 made kind at octets = record { symbol = symbol_of kind octets; at = at; octets = octets }

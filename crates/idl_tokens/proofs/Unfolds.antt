@@ -3,13 +3,13 @@ use Rattle.std.proofs.Common.{◌≡◌, ◌≢◌, ℕ, zero, suc, ◌+◌, ◌
 use Rattle.std.proofs.lemmas.Bool.Decides.{eqb_tells}
 use Rattle.idl_grammar.specs.declared.refusal.Refusal.{Refusal}
 use Rattle.idl_grammar.specs.Text.{Text, symbol_at, is}
-use Rattle.idl_grammar.specs.ReadPhrases.{Read, then, join, turned, many_read}
+use Rattle.idl_grammar.specs.ReadPhrases.{Read, and_then, join, turned, many_read}
 use Rattle.idl_grammar.specs.Gives.{Fails}
 use Rattle.idl_grammar.proofs.Fails.{fails_equal, fails_is}
 use Rattle.idl_grammar.specs.declared.expressions.BinaryOperator.{BinaryOperator}
 use Rattle.idl_grammar.specs.declared.expressions.Operand.{Operand}
 use Rattle.idl_grammar.specs.Symbols as symbol
-use Rattle.idl_grammar.specs.Limits.{symbol_level, is_unary}
+use Rattle.idl_grammar.specs.Expressions.{symbol_level, is_unary}
 use Rattle.idl_grammar.specs.Tree.{Expr, Binary, Leaf}
 use Rattle.idl_grammar.specs.ReadExpressions.{leaf_read, fold, operation_read, level_read, conditional_read, unary_read, expr_read}
 
@@ -45,13 +45,13 @@ abbrev pub behind : ℕ → Text → (ℕ → Read Expr) → ℕ → Expr → �
 behind start t unary k e n i = turned (fold e) (ops_read start t unary k n i)
 
 level_is : (start : ℕ) (t : Text) (unary : ℕ → Read Expr) (k i : ℕ) → 0 < k → k ≤ 10
-    → level_read start t unary k i ≡ turned (λ p. fold p.0 p.1) (then (level_read start t unary (k - 1) i) (λ e m. ops_read start t unary k (suc (length t)) m))
+    → level_read start t unary k i ≡ turned (λ p. fold p.0 p.1) (and_then (level_read start t unary (k - 1) i) (λ e m. ops_read start t unary k (suc (length t)) m))
 level_is start t unary zero i h low = absurd (omega (arith, h))
 level_is start t unary (suc k) i h low =
     let e : k ≡ suc k - 1 = omega arith in
     let d : 10 - k ≡ 11 - suc k = omega arith in
     ap (λ (p : ℕ × ℕ). turned (λ q. fold q.0 q.1)
-    (then (level_read start t unary p.0 i) (λ e m. many_read (λ a. eqb (symbol_level a.symbol) p.1) (operation_read p.1 start t (level_read start t unary p.0)) t (suc (length t)) m)))
+    (and_then (level_read start t unary p.0 i) (λ e m. many_read (λ a. eqb (symbol_level a.symbol) p.1) (operation_read p.1 start t (level_read start t unary p.0)) t (suc (length t)) m)))
     (let both : ◌≡◌ {A = ℕ × ℕ} (k, 10 - k) (suc k - 1, 11 - suc k) = cc in both)
 
 fold_join : (e : Expr) (r : Read (List ((ℕ × BinaryOperator) × Expr))) → turned (λ p. fold p.0 p.1) (join e r) ≡ turned (fold e) r
@@ -62,7 +62,7 @@ pub level_begins : (start : ℕ) (t : Text) (unary : ℕ → Read Expr) (k i : �
     → level_read start t unary k i ≡ behind start t unary k e (suc (length t)) m
 level_begins start t unary k i e m h low first =
     level_is start t unary k i h low
-    ∙ (ap (λ (r : Read Expr). turned (λ p. fold p.0 p.1) (then r (λ e m. ops_read start t unary k (suc (length t)) m))) first
+    ∙ (ap (λ (r : Read Expr). turned (λ p. fold p.0 p.1) (and_then r (λ e m. ops_read start t unary k (suc (length t)) m))) first
     ∙ fold_join e (ops_read start t unary k (suc (length t)) m))
 
 -- A loop over the operators of a rank: what is read from the start is what is read after the left side.
@@ -76,7 +76,7 @@ pub record Behind (start : ℕ) (t : Text) (unary : ℕ → Read Expr) (k i : �
 module _ (start : ℕ) (t : Text) (unary : ℕ → Read Expr) (k i : ℕ) (e : Expr) (m : ℕ) (b : Behind start t unary k i e m) where
   -- the operators after, where one stands here
   abbrev here_read : ℕ → Read ((ℕ × BinaryOperator) × Expr) → Read Expr
-  here_read n r = turned (fold e) (turned (λ p. p.0 ∷ p.1) (then r (λ a p. ops_read start t unary k n p)))
+  here_read n r = turned (fold e) (turned (λ p. p.0 ∷ p.1) (and_then r (λ a p. ops_read start t unary k n p)))
 
   one_more : symbol_level (symbol_at t m) ≡ 11 - k → (n : ℕ) × (length t < suc n + m) × (level_read start t unary k i ≡ here_read n (operand_read start t unary k m))
   one_more h = by_fuel b.fuel b.enough b.is where
@@ -87,7 +87,7 @@ module _ (start : ℕ) (t : Text) (unary : ℕ → Read Expr) (k i : ℕ) (e : E
       n,
       enough,
       is
-          ∙ ap (λ (v : Bool). turned (fold e) (cond v (turned (λ p. p.0 ∷ p.1) (then (operand_read start t unary k m) (λ a p. ops_read start t unary k n p))) (Ok ([], m)))) (eq-eqb _ _ h),
+          ∙ ap (λ (v : Bool). turned (fold e) (cond v (turned (λ p. p.0 ∷ p.1) (and_then (operand_read start t unary k m) (λ a p. ops_read start t unary k n p))) (Ok ([], m)))) (eq-eqb _ _ h),
     )
 
   pub stops : symbol_level (symbol_at t m) ≢ 11 - k → level_read start t unary k i ≡ Ok (e, m)
@@ -97,7 +97,8 @@ module _ (start : ℕ) (t : Text) (unary : ℕ → Read Expr) (k i : ℕ) (e : E
 
     by_fuel : (n : ℕ) → level_read start t unary k i ≡ behind start t unary k e n m → level_read start t unary k i ≡ Ok (e, m)
     by_fuel zero is = is
-    by_fuel (suc n) is = is ∙ ap (λ (v : Bool). turned (fold e) (cond v (turned (λ p. p.0 ∷ p.1) (then (operand_read start t unary k m) (λ a p. ops_read start t unary k n p))) (Ok ([], m)))) not_one
+    by_fuel (suc n) is =
+        is ∙ ap (λ (v : Bool). turned (fold e) (cond v (turned (λ p. p.0 ∷ p.1) (and_then (operand_read start t unary k m) (λ a p. ops_read start t unary k n p))) (Ok ([], m)))) not_one
 
   pub fails_operation : symbol_level (symbol_at t m) ≡ 11 - k → (x : Refusal) → Fails x (operand_read start t unary k m) → Fails x (level_read start t unary k i)
   fails_operation h x f = let one = one_more h in fails_is x _ _ one.2 (fails_equal (λ r. here_read one.0 r) (λ _. refl) x _ f)

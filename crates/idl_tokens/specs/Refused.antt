@@ -1,5 +1,5 @@
 -- How a refusal is answered.
-use Rattle.std.specs.Prelude.{◌≡◌, ℕ, ◌≤◌, cond}
+use Rattle.std.specs.Prelude.{◌≡◌, ℕ, ◌≤◌, if◌then◌else◌}
 use Rattle.idl_grammar.specs.declared.refusal.Refusal.{Refusal}
 use Rattle.idl_grammar.specs.declared.refusal.Refusal.TheVariants as refusal
 use Rattle.idl_grammar.specs.Text.{Text}
@@ -17,6 +17,6 @@ IsWithin (refusal.Banned k) n = k ≤ n
 -- a refusal as it is answered: a word that is banned anywhere is named as such
 abbrev pub IsNamed : Text → Refusal → SyntaxFault → Type 0
 IsNamed t refusal.Memory f = f ≡ errors.Memory
-IsNamed t (refusal.Syntax k) f = f ≡ cond (is_banned t k) (errors.Banned k) (errors.Syntax k)
+IsNamed t (refusal.Syntax k) f = f ≡ (if is_banned t k then errors.Banned k else errors.Syntax k)
 IsNamed t (refusal.Deep k) f = f ≡ errors.Deep k
 IsNamed t (refusal.Banned k) f = f ≡ errors.Banned k

@@ -1,6 +1,6 @@
 // Tokens as the grammar sees them.
 ghost use Rattle.std.specs.Prelude.{◌≡◌, ◌≤◌, length, map, IfOk};
-ghost use Rattle.idl_grammar.specs.Lexemes.{symbol_among, symbol_of as grammar_symbol, lexemes as grammar_lexemes, IsFormed};
+ghost use Rattle.idl_grammar.specs.Text.{symbol_among, symbol_of as grammar_symbol, lexemes as grammar_lexemes, IsFormed};
 ghost use Rattle.idl_tokens.specs.Lexemes.{text_of, seen_entry};
 
 use crate::symbol;
@@ -29,7 +29,7 @@ pub fn among(table: &[Entry], otherwise: u8, octets: &[u8]) -> u8
 }
 
 /// The symbol of a token.
-#[tactic(auto, unfolding(idl_grammar::specs::Lexemes::symbol_of, idl_grammar::specs::Lexemes::words))]
+#[tactic(auto, unfolding(idl_grammar::specs::Text::symbol_of, idl_grammar::specs::Text::words))]
 fn symbol_of(kind: TokenKind, octets: &[u8]) -> u8
     ensures { result ≡ grammar_symbol kind octets.now }
 {

@@ -2,8 +2,8 @@
 ghost use Rattle.std.specs.Prelude.{◌≡◌, ◌≤◌, ◌<◌, length, IfOk, eqb, false};
 ghost use Rattle.idl_grammar.specs.Text.{symbol_at};
 ghost use Rattle.idl_grammar.specs.Gives.{Gives};
-ghost use Rattle.idl_grammar.specs.Limits.{level as level_of, symbol_level as level_of_symbol, binary_operators, unary_operators};
-ghost use Rattle.idl_grammar.specs.Limits.{is_unary as is_unary_symbol, is_operator as is_operator_symbol, operators, many_operators};
+ghost use Rattle.idl_grammar.specs.Expressions.{level as level_of, symbol_level as level_of_symbol, binary_operators, unary_operators};
+ghost use Rattle.idl_grammar.specs.Expressions.{is_unary as is_unary_symbol, is_operator as is_operator_symbol, operators, many_operators};
 ghost use Rattle.idl_grammar.specs.ReadExpressions.{unary_sign_read, binary_sign_read, question_read};
 ghost use Rattle.idl_tokens.specs.Found.{found};
 
@@ -15,7 +15,7 @@ use idl_grammar::{BinaryOperator, Refusal, UnaryOperator};
 const OPERATOR_LIMIT: usize = 64;
 
 /// The binary operator that a mark stands for.
-#[tactic(auto, unfolding(idl_grammar::specs::Limits::binary_operators))]
+#[tactic(auto, unfolding(idl_grammar::specs::Expressions::binary_operators))]
 fn binary_of(symbol: u8) -> Option<BinaryOperator>
     ensures { result ≡ found binary_operators symbol }
 {
@@ -43,7 +43,7 @@ fn binary_of(symbol: u8) -> Option<BinaryOperator>
 }
 
 /// The unary operator that a mark stands for.
-#[tactic(auto, unfolding(idl_grammar::specs::Limits::unary_operators))]
+#[tactic(auto, unfolding(idl_grammar::specs::Expressions::unary_operators))]
 fn unary_of(symbol: u8) -> Option<UnaryOperator>
     ensures { result ≡ found unary_operators symbol }
 {
@@ -100,7 +100,7 @@ pub(crate) fn is_unary(symbol: u8) -> bool
 }
 
 /// Whether a symbol is an operator where an expression has it.
-#[tactic(auto, unfolding(idl_grammar::specs::Limits::is_operator))]
+#[tactic(auto, unfolding(idl_grammar::specs::Expressions::is_operator))]
 fn is_operator(symbol: u8) -> bool
     ensures { result ≡ is_operator_symbol symbol }
 {
@@ -108,7 +108,7 @@ fn is_operator(symbol: u8) -> bool
 }
 
 /// Whether an operator at a place would be the 65th of the expression that begins at `start`.
-#[tactic(auto, unfolding(idl_grammar::specs::Limits::many_operators))]
+#[tactic(auto, unfolding(idl_grammar::specs::Expressions::many_operators))]
 fn is_full(parser: &Parser<'_>, start: usize, at: usize) -> bool
     requires based { start ≤ at }
     requires within { at ≤ length parser.now }

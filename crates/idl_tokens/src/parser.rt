@@ -1,12 +1,10 @@
 // The parts of one token.
 ghost use Rattle.std.specs.Prelude.{◌≡◌, ◌≤◌, ◌<◌, ◌+◌, length, IfOk, IfErr, false};
 ghost use Rattle.idl_grammar.specs.declared.refusal.Refusal.TheVariants as refusal;
-ghost use Rattle.idl_grammar.specs.Text.{symbol_at, lexeme_at, is, is_in};
+ghost use Rattle.idl_grammar.specs.Text.{symbol_at, lexeme_at, is, is_in, no_words, IsFormed};
 ghost use Rattle.idl_grammar.specs.ReadPhrases.{mark_read, open_read};
 ghost use Rattle.idl_grammar.specs.Gives.{Gives, GivesPlace};
-ghost use Rattle.idl_grammar.specs.Expressions.{spelling as spelling_of};
-ghost use Rattle.idl_grammar.specs.Lexemes.{no_words, IsFormed};
-ghost use Rattle.idl_grammar.specs.Limits.{names};
+ghost use Rattle.idl_grammar.specs.Expressions.{spelling as spelling_of, names};
 ghost use Rattle.idl_grammar.specs.Symbols as symbols;
 ghost use Rattle.idl_grammar.specs.ReadExpressions.{spelled_read, placed_read, ident_read, opening_read};
 ghost use Rattle.idl_tokens.specs.Lexemes.{text_of};
@@ -30,8 +28,7 @@ pub struct Parser<'a> {
 }
 
 impl<'a> Model for Parser<'a> {
-    ghost use Rattle.idl_grammar.specs.Text.{Text};
-    ghost use Rattle.idl_grammar.specs.Lexemes.{IsFormed};
+    ghost use Rattle.idl_grammar.specs.Text.{Text, IsFormed};
     ghost use Rattle.idl_tokens.specs.Lexemes.{text_of};
 
     ghost Value = { Text };
@@ -80,7 +77,7 @@ pub(crate) fn is_among(list: &[u8], symbol: u8) -> bool
 }
 
 /// Whether a symbol is that of a name, inside attribute brackets or outside.
-#[tactic(auto, unfolding(idl_grammar::specs::Limits::names))]
+#[tactic(auto, unfolding(idl_grammar::specs::Expressions::names))]
 pub(crate) fn is_name_symbol(inside: bool, symbol: u8) -> bool
     ensures { result ≡ is_in (names inside) symbol }
 {

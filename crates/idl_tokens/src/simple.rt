@@ -1,8 +1,7 @@
 // Types without parts (C706, section 4.2.9).
 ghost use Rattle.std.specs.Prelude.{◌≡◌, ◌≤◌, ◌<◌, length, IfOk, Ok, false};
-ghost use Rattle.idl_grammar.specs.Text.{is_in, symbol_at};
+ghost use Rattle.idl_grammar.specs.Text.{is_in, symbol_at, is};
 ghost use Rattle.idl_grammar.specs.declared.types.SimpleType.TheVariants as types;
-ghost use Rattle.idl_grammar.specs.Text.{is};
 ghost use Rattle.idl_grammar.specs.Gives.{Gives};
 ghost use Rattle.idl_grammar.specs.Grammar.{width_words};
 ghost use Rattle.idl_grammar.specs.Reading.{flag_read, one_of_read, simple_words, simple_firsts, width_read, unsigned_read, integer_read};

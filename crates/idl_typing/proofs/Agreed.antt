@@ -6,8 +6,7 @@ use Rattle.idl_grammar.specs.declared.types.SwitchType.{SwitchType}
 use Rattle.idl_grammar.specs.declared.types.SwitchType.TheVariants as switch
 use Rattle.idl_grammar.specs.Tree.{TypeSpec}
 use Rattle.idl_grammar.specs.Tree as tree
-use Rattle.idl_scope.specs.Known.{Known}
-use Rattle.idl_scope.specs.Tables.{found}
+use Rattle.idl_scope.specs.Known.{Known, found}
 use Rattle.idl_rule_definitions.specs.Nodes.{Construct, Declared}
 use Rattle.idl_rule_definitions.specs.DeclarationRules.{is_parameter}
 use Rattle.idl_rule_definitions.specs.Types.{IdlType, Names, or_void, pipe_or_plain, written_type, switch_type, type_before, declared_from, declared_type, type_of, with_attributes}

@@ -9,7 +9,7 @@ use Rattle.std.proofs.lemmas.List.Folds.{list_any-append}
 use Rattle.std.proofs.lemmas.Slice.Eq.{bytes_eq-Decides}
 use Rattle.idl_grammar.specs.declared.attributes.Variable.{Variable}
 use Rattle.idl_grammar.specs.Tree.{Attribute}
-use Rattle.idl_scope.specs.Tables.{found}
+use Rattle.idl_scope.specs.Known.{found}
 use Rattle.idl_constructs.specs.declared.nodes.Declared as declared
 use Rattle.idl_rule_definitions.specs.Attributes.{variable_said}
 use Rattle.idl_rule_definitions.specs.Nodes.{Declared}

@@ -1,14 +1,13 @@
 -- The names of lists of members and parameters, each with its place in its list.
 use Rattle.std.specs.Prelude.{◌≡◌, ℕ, Bool, true, false, not, List, Option, Some, None, option_map, Vec}
 use Rattle.std.specs.List.{slice_get}
-use Rattle.idl_scope.specs.Tables.{found}
+use Rattle.idl_scope.specs.Known.{found, Known}
 use Rattle.idl_constructs.specs.declared.nodes.Declared as declared
 use Rattle.idl_grammar.specs.declared.attributes.Variable.{Variable}
 use Rattle.idl_typing.specs.declared.variables.Wanted.{Wanted}
 use Rattle.idl_typing.specs.declared.variables.Wanted.TheVariants as wanted
 use Rattle.idl_rule_definitions.specs.Nodes.{Declared}
 use Rattle.idl_constructs.specs.SeenNodes.{list_at}
-use Rattle.idl_scope.specs.Known.{Known}
 use Rattle.idl_rule_definitions.specs.DeclarationRules.{is_parameter}
 use Rattle.idl_rule_definitions.specs.Types.{IdlType, Enum, Names, type_of}
 use Rattle.idl_rule_definitions.specs.VariableRules.{listed_from, is_other, is_integer, may_be_switched, passes}

@@ -1,10 +1,9 @@
 -- How far the types of the nodes are read: of the first i nodes of the program.
-use Rattle.std.specs.Prelude.{◌≡◌, ◌<◌, ℕ, Bool, true, false, List, [], ◌∷◌, ◌++◌, length, ltb, Option, Some, None, is_some, option_map}
+use Rattle.std.specs.Prelude.{◌≡◌, ◌<◌, ℕ, Bool, true, false, List, [], ◌∷◌, ◌++◌, length, nat_lt, Option, Some, None, is_some, option_map}
 use Rattle.std.specs.List.{flat_map, slice_get}
 use Rattle.std.specs.Option.{option_and_then}
 use Rattle.nd_base.specs.declared.octets.Place.{Place}
-use Rattle.idl_scope.specs.Known.{Known}
-use Rattle.idl_scope.specs.Tables.{found}
+use Rattle.idl_scope.specs.Known.{Known, found}
 use Rattle.idl_declared_types.specs.declared.kinds.Kind.{Kind}
 use Rattle.idl_constructs.specs.declared.nodes.Node as program_node
 use Rattle.idl_constructs.specs.declared.nodes.Nodes as program_nodes
@@ -58,7 +57,7 @@ BodiesRead known n i ks noted places = BodiesOver known n (bodies_front known n 
 -- the number of a tag, where there is one, is among the first n
 abbrev pub is_tag_below : ℕ → Option ℕ → Bool
 is_tag_below n None = true
-is_tag_below n (Some k) = ltb k n
+is_tag_below n (Some k) = nat_lt k n
 
 -- the tags of these bodies
 pub record TagsOver (front : List Body) (ks : List Kind) (noted : List BodyTypes) : Type 0 where

@@ -2,11 +2,10 @@
 ghost use Rattle.std.specs.Prelude.{◌≡◌, ℕ, true, List, [], ◌∷◌, ◌++◌, map, option_map, length, slice_get, IfOk};
 ghost use Rattle.std.specs.List.{list_any};
 ghost use Rattle.idl_grammar.specs.Seen.{seen_kind};
-ghost use Rattle.idl_scope.specs.Tables.{found};
+ghost use Rattle.idl_scope.specs.Known.{found, Known};
 ghost use Rattle.idl_rule_definitions.specs.Attributes.{switch_is_word, sizes, lengths, variable_said};
 ghost use Rattle.idl_scope.specs.Seen.{known_in};
 ghost use Rattle.idl_rule_definitions.specs.Scene.{use_of};
-ghost use Rattle.idl_scope.specs.Known.{Known};
 ghost use Rattle.idl_rule_definitions.specs.Types.{IdlType, Names, type_of};
 ghost use Rattle.idl_rule_definitions.specs.VariableRules as rules;
 ghost use Rattle.idl_rule_definitions.specs.VariableRules.{listed_from, variable_if, passes, has_no_variable, has_wrong_variable};

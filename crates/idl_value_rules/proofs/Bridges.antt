@@ -10,7 +10,7 @@ use Rattle.idl_declared_types.specs.declared.kinds.Kind.{Kind}
 use Rattle.idl_rule_definitions.specs.Types.{IdlType, Void, Handle, ContextHandle, Basic, Struct, Union, Enum, Array, Text, Pointer, Pipe}
 use Rattle.idl_rule_definitions.specs.Scene.{Scene, in_place, nests, hoists_by, hoists_within, hoists}
 use Rattle.idl_rule_definitions.specs.Scene as scene
-use Rattle.idl_rule_definitions.specs.ArrayRules.{is_barred_by, is_barred_within, is_barred_in_pipes}
+use Rattle.idl_rule_definitions.specs.TypeRules.{is_barred_by, is_barred_within, is_barred_in_pipes}
 use Rattle.idl_declared_types.specs.Kinds.{type_at}
 use Rattle.idl_declared_types.specs.InPlace.{hoists_rule, barred_rule, AreRules, IsPlaces}
 use Rattle.idl_cycles.specs.Graph.{parts_at, rule_at, has_by, has_within, last_passes}

@@ -15,14 +15,13 @@ use Rattle.idl_constructs.specs.declared.nodes.Returned as returned
 use Rattle.idl_constructs.specs.declared.nodes.Node as program_node
 use Rattle.idl_constructs.specs.declared.nodes.Node.TheVariants as node
 use Rattle.idl_constructs.specs.declared.nodes.Nodes as program_nodes
-use Rattle.idl_rule_definitions.specs.World.{World}
+use Rattle.idl_rule_definitions.specs.Nodes.{World, Construct, Position, InMember, Node, AttributeNode, EnumeratorNode, LabelNode, ArmLabel, attribute_nodes_from, label_nodes, labels_of}
 use Rattle.idl_rule_definitions.specs.Noted.{noted}
-use Rattle.idl_rule_definitions.specs.Nodes.{Construct, Position, InMember, Node, AttributeNode, EnumeratorNode, LabelNode, ArmLabel, attribute_nodes_from, label_nodes, labels_of}
 use Rattle.idl_rule_definitions.specs.Rules.{Breach, breach}
 use Rattle.idl_rule_definitions.specs.Types.{Names}
 use Rattle.idl_rule_definitions.specs.Scene.{Scene, scoped_from, names_behind}
 use Rattle.idl_rule_definitions.specs.Numbering.{Needed, own_types}
-use Rattle.idl_rule_definitions.specs.CountRules.{first_past, operation_in, parameters_in, member_of, part_in}
+use Rattle.idl_rule_definitions.specs.DeclarationRules.{first_past, operation_in, parameters_in, member_of, part_in}
 use Rattle.idl_constructs.specs.SeenNodes.{seen_construct, seen_declared, seen_result, seen_node, seen_nodes, list_found, list_at, or_empty}
 use Rattle.idl_declared_types.specs.SeenTypes.{scene_seen}
 use Rattle.idl_declared_types.specs.SeenNumbers.{seen_own, seen_needed, AreNumbers}

@@ -6,7 +6,7 @@ use Rattle.std.specs.List.{list_any}
 use Rattle.idl_value_rules.specs.declared.counted.Counted.{Counted}
 use Rattle.idl_rule_definitions.specs.Types.{IdlType, Array, or_void, is_array}
 use Rattle.idl_rule_definitions.specs.Scene.{chain}
-use Rattle.idl_rule_definitions.specs.ArrayRules.{dimensions, times, product, is_right_count, has_wrong_count, are_many, has_many_not_fixed}
+use Rattle.idl_rule_definitions.specs.TypeRules.{dimensions, times, product, is_right_count, has_wrong_count, are_many, has_many_not_fixed}
 use Rattle.idl_value_rules.specs.Counted.{IsCounted, AreCounted}
 use Rattle.idl_declared_types.proofs.Grown.{or_turned as or_swap}
 

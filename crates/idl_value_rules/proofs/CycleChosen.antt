@@ -4,12 +4,10 @@ use Rattle.std.proofs.lemmas.Bool.Decides.{nat_tests}
 use Rattle.std.proofs.lemmas.Option.{none-some, same_Some, slice_get_within}
 use Rattle.std.proofs.lemmas.Bool.{eqb-true}
 use Rattle.nd_base.specs.declared.octets.Place.{Place}
-use Rattle.idl_rule_definitions.specs.World.{World}
-use Rattle.idl_rule_definitions.specs.Nodes.{place_in}
+use Rattle.idl_rule_definitions.specs.Nodes.{World, place_in}
 use Rattle.idl_rule_definitions.specs.Scene.{Scene, Body, bodies}
 use Rattle.idl_rule_definitions.specs.TypeRules.{contains_itself}
-use Rattle.idl_rule_definitions.specs.Rules.{Breach, breach}
-use Rattle.idl_rule_definitions.specs.FirstBroken.{comes_before, rank_in}
+use Rattle.idl_rule_definitions.specs.Rules.{Breach, breach, comes_before, rank_in}
 use Rattle.idl_rule_definitions.specs.Noted.{later, noted}
 use Rattle.idl_value_rules.specs.RestBreaches.{cycle_breaches}
 use Rattle.idl_value_rules.specs.Cycles.{key_of, AreKeys, AreNumbersWith, IsLeastValue, IsLeastOf}

@@ -4,12 +4,10 @@ use Rattle.std.specs.List.{flat_map}
 use Rattle.std.proofs.lemmas.Bool.Decides.{nat_tests}
 use Rattle.std.proofs.lemmas.List.Concat.{flat_map-cons}
 use Rattle.std.proofs.lemmas.Option.{none-some, same_Some}
-use Rattle.idl_rule_definitions.specs.World.{World}
-use Rattle.idl_rule_definitions.specs.Nodes.{place_in}
+use Rattle.idl_rule_definitions.specs.Nodes.{World, place_in}
 use Rattle.idl_rule_definitions.specs.Scene.{Scene, Body, bodies}
 use Rattle.idl_rule_definitions.specs.TypeRules.{contains_itself}
-use Rattle.idl_rule_definitions.specs.Rules.{Breach, breach, broken_in}
-use Rattle.idl_rule_definitions.specs.FirstBroken.{comes_before, rank}
+use Rattle.idl_rule_definitions.specs.Rules.{Breach, breach, broken_in, comes_before, rank}
 use Rattle.idl_rule_definitions.specs.Noted.{later, noted}
 use Rattle.idl_value_rules.specs.RestBreaches.{cycle_of, cycle_breaches}
 use Rattle.idl_rule_definitions.proofs.Noted.{noted_more}

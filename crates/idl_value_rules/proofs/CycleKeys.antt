@@ -3,10 +3,10 @@ use Rattle.std.proofs.Common.{◌≡◌, ◌∙◌, ◌⊎◌, inl, inr, ℕ, ze
 use Rattle.std.specs.Prelude.{slice_index_or}
 use Rattle.std.proofs.lemmas.Option.{none-some, same_Some, slice_get_within}
 use Rattle.nd_base.specs.declared.octets.Place.{Place}
-use Rattle.idl_scope.specs.Ended.{Ended}
+use Rattle.idl_scope.specs.Known.{Ended}
 use Rattle.idl_rule_definitions.specs.Nodes.{place_in}
 use Rattle.idl_rule_definitions.specs.Scene.{Body}
-use Rattle.idl_rule_definitions.specs.FirstBroken.{rank_in}
+use Rattle.idl_rule_definitions.specs.Rules.{rank_in}
 use Rattle.idl_value_rules.specs.Cycles.{key_of, IsKeyAt, AreKeys, AreNumbersWith}
 use Rattle.idl_declared_types.proofs.PlacesFilled.{Each, each_more}
 

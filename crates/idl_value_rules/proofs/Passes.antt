@@ -5,10 +5,9 @@ use Rattle.std.specs.List.{flat_map}
 use Rattle.std.proofs.lemmas.List.{drop_more, drop_all, map-append, length-replicate, replicate-append-replicate}
 use Rattle.std.proofs.lemmas.List.Concat.{flat_map-cons}
 use Rattle.std.proofs.lemmas.Bool.Decides.{nat_tests}
-use Rattle.idl_rule_definitions.specs.World.{World}
-use Rattle.idl_rule_definitions.specs.Nodes.{Construct, place_in}
+use Rattle.idl_rule_definitions.specs.Nodes.{World, Construct, place_in}
 use Rattle.idl_rule_definitions.specs.Rules.{Breach}
-use Rattle.idl_rule_definitions.specs.CountRules.{first_past}
+use Rattle.idl_rule_definitions.specs.DeclarationRules.{first_past}
 use Rattle.idl_rule_definitions.specs.Noted.{noted, if_broken}
 use Rattle.idl_value_rules.specs.SeenCounts.{numbered, one_too_many}
 use Rattle.idl_rule_definitions.proofs.Noted.{noted_more}

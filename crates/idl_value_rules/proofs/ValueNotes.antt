@@ -10,14 +10,13 @@ use Rattle.idl_grammar.specs.declared.types.SimpleType.{SimpleType}
 use Rattle.idl_grammar.specs.Seen.{seen_enumerator, seen_attribute}
 use Rattle.idl_grammar.specs.Tree.{Attribute, Init}
 use Rattle.idl_scope.specs.Known.{Known}
-use Rattle.idl_rule_definitions.specs.World.{World}
+use Rattle.idl_rule_definitions.specs.Nodes.{World, Construct, EnumeratorNode, ConstantNode, AttributeNode, attribute_nodes_from}
 use Rattle.idl_rule_definitions.specs.Attributes.{has, is_word, has_one_of, classes, is_class}
-use Rattle.idl_rule_definitions.specs.AttributeRules.{is_out_of_place, is_repeated, is_large_version, is_second_class}
-use Rattle.idl_rule_definitions.specs.Nodes.{Construct, EnumeratorNode, ConstantNode, AttributeNode, attribute_nodes_from}
+use Rattle.idl_rule_definitions.specs.DeclarationRules.{is_out_of_place, is_repeated, is_large_version, is_second_class, holds, is_large_enumerator, is_void_constant, is_handle_constant}
+use Rattle.idl_rule_definitions.specs.DeclarationRules.{is_wrong_constant}
 use Rattle.idl_rule_definitions.specs.Types.{IdlType, Void, Handle, ContextHandle, Basic, Struct, Union, Enum, Array, Text, Pointer, Pipe, Names}
 use Rattle.idl_declared_types.specs.Kinds.{basic_in}
 use Rattle.idl_rule_definitions.specs.Scene.{Scene}
-use Rattle.idl_rule_definitions.specs.ValueRules.{holds, is_large_enumerator, is_void_constant, is_handle_constant, is_wrong_constant}
 use Rattle.idl_rule_definitions.specs.Rules.{Breach, broken_at}
 use Rattle.idl_rule_definitions.specs.Noted.{noted}
 use Rattle.idl_rule_definitions.specs.OthersOf.{others_of}

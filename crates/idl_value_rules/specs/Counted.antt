@@ -6,7 +6,7 @@ use Rattle.idl_declared_types.specs.declared.kinds.Kind.{Kind}
 use Rattle.idl_rule_definitions.specs.Types.{IdlType, Void, or_void, is_array}
 use Rattle.idl_rule_definitions.specs.Scene.{chain}
 use Rattle.idl_declared_types.specs.Kinds.{inner_of}
-use Rattle.idl_rule_definitions.specs.ArrayRules.{dimensions, product, has_wrong_count, are_many, has_many_not_fixed}
+use Rattle.idl_rule_definitions.specs.TypeRules.{dimensions, product, has_wrong_count, are_many, has_many_not_fixed}
 
 -- this is counted of a type
 pub record IsCounted (t : IdlType) (c : Counted) : Type 0 where

@@ -3,13 +3,13 @@ use Rattle.std.specs.Prelude.{◌≡◌, ℕ, ◌+◌, ◌*◌, ◌^◌, ◌≤�
 use Rattle.std.specs.List.{flat_map}
 use Rattle.std.specs.Option.{option_and_then}
 use Rattle.nd_base.specs.declared.octets.Place.{Place}
-use Rattle.idl_scope.specs.Ended.{Ended}
+use Rattle.idl_scope.specs.Known.{Ended}
 use Rattle.idl_declared_types.specs.declared.kinds.Kind.{Kind}
 use Rattle.idl_declared_types.specs.declared.types.BodyTypes.{BodyTypes}
 use Rattle.idl_declared_types.specs.declared.types.Types as program_types
 use Rattle.idl_rule_definitions.specs.Scene.{Scene, Body, bodies, place_of}
 use Rattle.idl_rule_definitions.specs.TypeRules.{innermost, held, contains_itself}
-use Rattle.idl_rule_definitions.specs.FirstBroken.{rank_in}
+use Rattle.idl_rule_definitions.specs.Rules.{rank_in}
 use Rattle.idl_declared_types.specs.Kinds.{type_at}
 use Rattle.idl_declared_types.specs.Places.{found_place}
 use Rattle.idl_cycles.specs.Graph.{parts_at}

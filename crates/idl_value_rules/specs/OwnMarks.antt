@@ -9,9 +9,8 @@ use Rattle.idl_declared_types.specs.Kinds.{type_at}
 use Rattle.idl_value_rules.specs.SeenMarks.{mark_at, IsMark}
 use Rattle.idl_rule_definitions.specs.Types.{IdlType, is_void, is_handle, is_pipe, is_context}
 use Rattle.idl_rule_definitions.specs.Scene.{Scene, below, hoists, is_nonencapsulated}
-use Rattle.idl_rule_definitions.specs.ArrayRules.{has_wrong_element, is_wrong_pipe}
-use Rattle.idl_rule_definitions.specs.TypeRules.{is_made_of_elements, is_too_deep}
-use Rattle.idl_rule_definitions.specs.PointerRules.{has_no_class, refers_to_reference}
+use Rattle.idl_rule_definitions.specs.TypeRules.{has_wrong_element, is_wrong_pipe, is_made_of_elements, is_too_deep, has_no_class}
+use Rattle.idl_rule_definitions.specs.TypeRules.{refers_to_reference}
 
 pub record IsOwn (s : Scene) (t : IdlType) (o : Own) : Type 0 where
   pub void : o.void ≡ is_void t

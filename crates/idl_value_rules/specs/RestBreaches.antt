@@ -1,5 +1,5 @@
 -- For the code: what nodes break of rules 5 to 38 but 11, which is judged for all bodies at once.
-use Rattle.std.specs.Prelude.{ℕ, Bool, true, false, eqb, List, [], ◌∷◌}
+use Rattle.std.specs.Prelude.{ℕ, Bool, true, false, ◌==◌, List, [], ◌∷◌}
 use Rattle.std.specs.List.{flat_map}
 use Rattle.idl_rule_definitions.specs.Nodes.{Node, BodyNode}
 use Rattle.idl_rule_definitions.specs.Scene.{Scene, Scoped, Body, bodies}
@@ -11,11 +11,11 @@ use Rattle.idl_rule_definitions.specs.declared.rule.TheConstants as Rule
 -- those of a node, but for rule 11
 abbrev pub but_cycles : List Breach → List Breach
 but_cycles [] = []
-but_cycles (b ∷ bs) = elim (eqb b.rule Rule.NO_TYPE_IN_ITSELF) [ true ↦ but_cycles bs | false ↦ b ∷ but_cycles bs ]
+but_cycles (b ∷ bs) = elim (b.rule == Rule.NO_TYPE_IN_ITSELF) [ true ↦ but_cycles bs | false ↦ b ∷ but_cycles bs ]
 
 abbrev pub cycles_alone : List Breach → List Breach
 cycles_alone [] = []
-cycles_alone (b ∷ bs) = elim (eqb b.rule Rule.NO_TYPE_IN_ITSELF) [ true ↦ b ∷ cycles_alone bs | false ↦ cycles_alone bs ]
+cycles_alone (b ∷ bs) = elim (b.rule == Rule.NO_TYPE_IN_ITSELF) [ true ↦ b ∷ cycles_alone bs | false ↦ cycles_alone bs ]
 
 abbrev pub rest_breaches_at : Scene → Scoped → List Breach
 rest_breaches_at s n = but_cycles (other_breaches_at s n)

@@ -6,7 +6,7 @@ use Rattle.idl_constructs.specs.declared.nodes.Node as program_node
 use Rattle.idl_constructs.specs.declared.nodes.Node.TheVariants as node
 use Rattle.idl_rule_definitions.specs.Nodes.{Construct, place_in, labels_of}
 use Rattle.idl_rule_definitions.specs.Rules.{Breach, breach}
-use Rattle.idl_rule_definitions.specs.CountRules.{first_past, member_of}
+use Rattle.idl_rule_definitions.specs.DeclarationRules.{first_past, member_of}
 use Rattle.idl_constructs.specs.SeenNodes.{seen_construct, seen_result, list_at}
 use Rattle.idl_rule_definitions.specs.declared.rule.TheConstants as Rule
 

@@ -8,9 +8,8 @@ use Rattle.idl_value_rules.specs.declared.marks.TheConstants.{OF_VOID}
 use Rattle.idl_declared_types.specs.Kinds.{type_at}
 use Rattle.idl_rule_definitions.specs.Types.{IdlType, is_void, is_handle, is_pipe, is_context}
 use Rattle.idl_rule_definitions.specs.Scene.{Scene, chain, hoists, is_nonencapsulated}
-use Rattle.idl_rule_definitions.specs.ArrayRules.{dimensions, has_wrong_count, are_many, has_many_not_fixed, has_wrong_element, is_wrong_pipe}
-use Rattle.idl_rule_definitions.specs.TypeRules.{is_made_of_elements, is_too_deep}
-use Rattle.idl_rule_definitions.specs.PointerRules.{has_no_class, refers_to_reference}
+use Rattle.idl_rule_definitions.specs.TypeRules.{dimensions, has_wrong_count, are_many, has_many_not_fixed, has_wrong_element, is_wrong_pipe}
+use Rattle.idl_rule_definitions.specs.TypeRules.{is_made_of_elements, is_too_deep, has_no_class, refers_to_reference}
 
 -- What a mark says of a type. "Holds" is of the type and all that it points to or is made of as an array, text or pipe.
 pub record IsMark (s : Scene) (t : IdlType) (m : Mark) : Type 0 where

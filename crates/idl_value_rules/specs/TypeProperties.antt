@@ -3,7 +3,7 @@ use Rattle.std.specs.Prelude.{◌≡◌, ℕ, suc, ◌<◌, false, List, slice_i
 use Rattle.idl_declared_types.specs.declared.kinds.Kind.{Kind}
 use Rattle.idl_value_rules.specs.declared.in_place.Properties.{Properties}
 use Rattle.idl_rule_definitions.specs.Scene.{Scene, nests, hoists}
-use Rattle.idl_rule_definitions.specs.ArrayRules.{is_barred_in_pipes}
+use Rattle.idl_rule_definitions.specs.TypeRules.{is_barred_in_pipes}
 use Rattle.nd_types.specs.declared.TheConstants.{NESTING_LIMIT}
 use Rattle.idl_declared_types.specs.Kinds.{type_at}
 

@@ -1,7 +1,7 @@
 // What the dimensions of types come to (C706, section 4.2.15), by the types' numbers.
 ghost use Rattle.std.specs.Prelude.{◌≡◌, ℕ, Bool, true, List, length, Option, Some, slice_get, IfOk, ℤ};
 ghost use Rattle.idl_grammar.specs.declared.attributes.PointerClass.{PointerClass};
-ghost use Rattle.idl_rule_definitions.specs.ArrayRules as rules;
+ghost use Rattle.idl_rule_definitions.specs.TypeRules as rules;
 ghost use Rattle.idl_rule_definitions.specs.Types.{IdlType, Void, Array, Text, Pointer, Pipe};
 ghost use Rattle.idl_declared_types.specs.Kinds.{type_by, type_at, is_inside};
 ghost use Rattle.idl_value_rules.specs.Counted.{IsCounted, AreCounted, inner_type};

@@ -1,14 +1,14 @@
 // Rule 39: there are not too many types, operations, parameters, members and arms.
 ghost use Rattle.idl_rule_definitions.specs.declared.rule.TheConstants as Rule;
-ghost use Rattle.std.specs.Prelude.{◌≡◌, ◌-◌, ◌&&◌, List, [], ◌∷◌, map, ltb, nat_le, length, replicate, option_map};
+ghost use Rattle.std.specs.Prelude.{◌≡◌, ◌-◌, ◌&&◌, List, [], ◌∷◌, map, nat_lt, nat_le, length, replicate, option_map};
 ghost use Rattle.std.specs.List.{flat_map};
 ghost use Rattle.idl_scope.specs.Known.{Known};
 ghost use Rattle.idl_scope.specs.Seen.{seen_files};
 ghost use Rattle.idl_declared_types.specs.declared.kinds.Kind.{Kind as program_kind};
-ghost use Rattle.idl_rule_definitions.specs.World.{World};
+ghost use Rattle.idl_rule_definitions.specs.Nodes.{World};
 ghost use Rattle.idl_rule_definitions.specs.Rules.{breach};
-ghost use Rattle.idl_rule_definitions.specs.CountRules as rules;
-ghost use Rattle.idl_rule_definitions.specs.CountRules.{first_past};
+ghost use Rattle.idl_rule_definitions.specs.DeclarationRules as rules;
+ghost use Rattle.idl_rule_definitions.specs.DeclarationRules.{first_past};
 ghost use Rattle.idl_rule_definitions.specs.Noted.{noted};
 ghost use Rattle.idl_rule_definitions.specs.Found.{seen_breach};
 ghost use Rattle.idl_constructs.specs.SeenNodes.{seen_construct};
@@ -41,7 +41,7 @@ fn types(finder: &mut Finder<'_>, own: &[Own], limit: usize)
 
 /// Whether the thing with this number, counted from 1, is among so many.
 fn is_among(number: usize, count: usize) -> bool
-    ensures { result ≡ (ltb 0 number && nat_le number count) }
+    ensures { result ≡ (nat_lt 0 number && nat_le number count) }
 {
     0 < number && number <= count
 }

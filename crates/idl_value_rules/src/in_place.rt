@@ -1,9 +1,9 @@
 // What types hold in their place, as a graph of their numbers; and what follows from it.
-ghost use Rattle.std.specs.Prelude.{◌≡◌, ℕ, suc, true, false, ltb, List, map, length, IfOk, slice_index_or};
+ghost use Rattle.std.specs.Prelude.{◌≡◌, ℕ, suc, true, false, nat_lt, List, map, length, IfOk, slice_index_or};
 ghost use Rattle.std.specs.List.{list_all};
 ghost use Rattle.nd_base.specs.declared.octets.Place.{Place};
 ghost use Rattle.idl_rule_definitions.specs.Scene.{Scene, in_place, nests, hoists_within};
-ghost use Rattle.idl_rule_definitions.specs.ArrayRules.{is_barred_within};
+ghost use Rattle.idl_rule_definitions.specs.TypeRules.{is_barred_within};
 ghost use Rattle.idl_declared_types.specs.Kinds.{type_by, type_at, seen_types};
 ghost use Rattle.idl_rule_definitions.specs.Types.{IdlType};
 ghost use Rattle.idl_declared_types.specs.SeenTypes.{IsTypes};
@@ -23,7 +23,7 @@ use std::alloc::Global;
 /// The number of a type, or that of `void` after all types.
 fn node(number: usize, count: usize) -> usize
     ensures same { (ks : List Kind) → length ks ≡ count → type_at ks result ≡ type_at ks number }
-    ensures within { ltb result (suc count) ≡ true }
+    ensures within { nat_lt result (suc count) ≡ true }
 {
     if number < count { number } else { count }
 }

@@ -3,14 +3,14 @@ ghost use Rattle.std.specs.Prelude.{◌≡◌, ◌∷◌, ◌++◌, ℤ, [], opt
 ghost use Rattle.idl_grammar.specs.Seen.{seen_type};
 ghost use Rattle.idl_scope.specs.Seen.{seen_files, known_in};
 ghost use Rattle.idl_constructs.specs.declared.nodes.Nodes as program_nodes;
-ghost use Rattle.idl_rule_definitions.specs.World.{World};
+ghost use Rattle.idl_rule_definitions.specs.Nodes.{World};
 ghost use Rattle.idl_rule_definitions.specs.Nodes as rules;
 ghost use Rattle.idl_rule_definitions.specs.Types.{IdlType, Enum, Names};
 ghost use Rattle.idl_rule_definitions.specs.Scene.{Scene, tag_type};
 ghost use Rattle.idl_constructs.specs.SeenNodes.{seen_construct};
 ghost use Rattle.idl_declared_types.specs.Kinds.{type_by};
 ghost use Rattle.idl_declared_types.specs.SeenTypes.{tag_seen, IsTypes};
-ghost use Rattle.idl_rule_definitions.specs.ValueRules.{is_value_of};
+ghost use Rattle.idl_rule_definitions.specs.DeclarationRules.{is_value_of};
 ghost use Rattle.idl_declared_types.specs.LabelValues as values;
 ghost use Rattle.idl_value_rules.specs.AcceptedLabels as accepted_labels;
 ghost use Rattle.idl_declared_types.specs.LabelValues.{Holds, accepts_value, value_breaches};

@@ -5,8 +5,6 @@ ghost use Rattle.idl_rule_definitions.specs.Scene as scene;
 ghost use Rattle.idl_rule_definitions.specs.Types.{IdlType, Union, is_text, is_varying_array};
 ghost use Rattle.idl_rule_definitions.specs.Types as tests;
 ghost use Rattle.idl_rule_definitions.specs.TypeRules as rules;
-ghost use Rattle.idl_rule_definitions.specs.ArrayRules as arrays;
-ghost use Rattle.idl_rule_definitions.specs.PointerRules as pointer_rules;
 ghost use Rattle.idl_declared_types.specs.Kinds.{type_by, type_at, seen_types, seen_class, is_inside};
 ghost use Rattle.idl_value_rules.specs.TypeProperties.{AreProperties};
 ghost use Rattle.idl_value_rules.specs.OwnMarks.{IsOwn, IsBelow, AreMarksBelow};
@@ -169,7 +167,7 @@ fn is_pipe(kind: Kind) -> bool
 
 /// Whether a type is a pointer without a class.
 fn has_no_class(kind: Kind) -> bool
-    ensures { (types : List IdlType) → result ≡ pointer_rules.has_no_class (type_by types kind) }
+    ensures { (types : List IdlType) → result ≡ rules.has_no_class (type_by types kind) }
 {
     let Kind::Pointer { class, .. } = kind else {
         return false;
@@ -205,7 +203,7 @@ fn is_deep_array(kind: Kind, too_deep: bool) -> bool
 fn has_wrong_element(types: &Types, kind: Kind, properties: &Properties) -> bool
     ensures { (s : Scene) (count : ℕ) → length types.now.kinds ≡ count → is_inside count kind ≡ true
         → AreProperties s types.now.kinds count properties.now
-        → result ≡ arrays.has_wrong_element s (type_by (seen_types types.now.kinds) kind) }
+        → result ≡ rules.has_wrong_element s (type_by (seen_types types.now.kinds) kind) }
 {
     let Kind::Array { element, .. } = kind else {
         return false;
@@ -227,7 +225,7 @@ fn holds(property: &Vec<bool>, number: usize) -> bool
 fn is_wrong_pipe(types: &Types, kind: Kind, properties: &Properties) -> bool
     ensures { (s : Scene) (count : ℕ) → length types.now.kinds ≡ count → is_inside count kind ≡ true
         → AreProperties s types.now.kinds count properties.now
-        → result ≡ arrays.is_wrong_pipe s (type_by (seen_types types.now.kinds) kind) }
+        → result ≡ rules.is_wrong_pipe s (type_by (seen_types types.now.kinds) kind) }
 {
     let Kind::Pipe { element } = kind else {
         return false;
@@ -237,7 +235,7 @@ fn is_wrong_pipe(types: &Types, kind: Kind, properties: &Properties) -> bool
 
 /// Whether a pointer of this kind points to a reference pointer.
 fn refers_to_reference(types: &Types, kind: Kind) -> bool
-    ensures { result ≡ pointer_rules.refers_to_reference (type_by (seen_types types.now.kinds) kind) }
+    ensures { result ≡ rules.refers_to_reference (type_by (seen_types types.now.kinds) kind) }
 {
     let Kind::Pointer { to, .. } = kind else {
         return false;

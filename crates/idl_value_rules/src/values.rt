@@ -2,14 +2,14 @@
 ghost use Rattle.std.specs.Prelude.{◌≡◌, [], ◌∷◌, map, option_map};
 ghost use Rattle.idl_grammar.specs.Seen.{seen_attribute, seen_bound, seen_declarator, seen_enumerator, seen_init};
 ghost use Rattle.idl_scope.specs.Seen.{seen_files, known_in};
-ghost use Rattle.idl_rule_definitions.specs.World.{World};
+ghost use Rattle.idl_rule_definitions.specs.Nodes.{World};
 ghost use Rattle.idl_rule_definitions.specs.Attributes as attributes;
 ghost use Rattle.idl_rule_definitions.specs.Nodes as rules;
 ghost use Rattle.idl_rule_definitions.specs.Types.{Names, simple_type};
 ghost use Rattle.idl_rule_definitions.specs.Scene.{Scene};
 ghost use Rattle.idl_declared_types.specs.Kinds.{basic_in};
 ghost use Rattle.idl_constructs.specs.SeenNodes.{seen_construct};
-ghost use Rattle.idl_rule_definitions.specs.ValueRules as value_rules;
+ghost use Rattle.idl_rule_definitions.specs.DeclarationRules as value_rules;
 ghost use Rattle.idl_rule_definitions.specs.Noted.{noted};
 ghost use Rattle.idl_rule_definitions.specs.OthersOf.{others_of};
 ghost use Rattle.idl_rule_definitions.specs.Found.{seen_breach};

@@ -11,7 +11,7 @@ use Rattle.rpc_pdu.specs.declared.pdu.Head.{Head}
 use Rattle.rpc_pdu.specs.declared.pdu.Joined.{Joined}
 use Rattle.rpc_pdu.specs.declared.pdu.Wanted.{Wanted}
 use Rattle.rpc_pdu.specs.Fragments as pdu
-use Rattle.rpc_pdu.specs.Pieces.{Pieces, want_of, opnum_of}
+use Rattle.rpc_pdu.specs.Fragments.{Pieces, want_of, opnum_of}
 use Rattle.command_refusals.specs.declared.refusal.Refusal.{Refusal}
 use Rattle.command_refusals.specs.declared.refusal.Refusal.TheVariants.{Memory}
 use Rattle.command_compile.specs.Compat.{IsRefusal}
@@ -116,3 +116,6 @@ label_refused octets e held cause reason filled = there_and (refusal_in held) e 
 pub compare_refused : (i j : Interface) (e : Refusal) (held : Option Held) → IsRefusal i j e → (e ≡ Memory → ⊥) → refusal_in held ≡ Some e
     → IsSomeAnd (refusal_in held) (λ x. IsCompareRefusal i j x)
 compare_refused i j e held cause reason filled = there_and (refusal_in held) e (λ x. IsCompareRefusal i j x) filled (reason, cause)
+
+-- what a function that splits names
+pub ruleset splitting = (no_head, no_split_order, few, many, long_stub, splits, split_is, pieces_are)

@@ -76,3 +76,6 @@ module _ (files : List File) (acf : ℕ) (idl : List ℕ) (held : Option Held) (
   refused_beside name some named holds =
       also (refusal_in held) (λ e. IsCompileRefusal files idl (Some name) e) (λ e. IsFilesRefusal files acf e)
       (refused_by_names (Some name) (beside_one files acf name some named)) holds
+
+-- what a function that compiles names
+pub ruleset compiling = (compiled_alone, compiled_beside, refused_alone, refused_beside)

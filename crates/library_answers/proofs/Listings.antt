@@ -85,3 +85,9 @@ past_cells g c past = ap (λ (b : Bool). nat_lt 0 c && b) (lt-leb c (length g.ce
   false_last : (b : Bool) → (b && false) ≡ false
   false_last true = refl
   false_last false = refl
+
+-- ## What functions that build name
+
+pub ruleset builds = (no_side, no_operation, built_is, build_refused, wrong_node)
+
+pub ruleset replies = (no_request, reply_is, reply_refused, wrong_reply)

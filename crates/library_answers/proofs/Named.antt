@@ -8,7 +8,7 @@ use Rattle.nd_types.specs.declared.types.Operation.{Operation}
 use Rattle.nd_types.specs.declared.types.Side.{Side}
 use Rattle.nd_types.specs.declared.types.TypeId.{TypeId}
 use Rattle.nd_types.specs.Table.{type_at}
-use Rattle.nd_types.specs.Walk.{named_roots}
+use Rattle.nd_types.specs.Roots.{named_roots}
 use Rattle.library_values.specs.declared.finding.Named.{Named}
 use Rattle.library_values.specs.Finding.{IsRootNamed, HasNoRoot, IsMemberNamed, HasNoMember}
 use Rattle.library_answers.specs.Answers.{side_numbered}

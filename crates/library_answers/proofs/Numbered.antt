@@ -61,3 +61,11 @@ positive (suc n) some = omega arith
 
 pub layout_is : (order chunk : ℕ) (r : Order) → Some r ≡ order_numbered order → (chunk ≡ 0 → ⊥) → is_layout order chunk ≡ true
 layout_is order chunk r is some = ap (λ (x : Option Order). is_some x && nat_lt 0 chunk) (sym is) ∙ lt-ltb 0 chunk (positive chunk some)
+
+-- ## What functions that are given numbers name
+
+pub ruleset no_values = (no_side, no_operation)
+
+pub ruleset no_stream = (no_stream_side, no_stream_order, no_stream_operation)
+
+pub ruleset layouts = (no_layout_order, no_chunk, layout_is)

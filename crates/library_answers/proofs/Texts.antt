@@ -9,7 +9,7 @@ use Rattle.nd_value.specs.Fitting.{Fitting, setting_beside}
 use Rattle.text_grammar.specs.Reads.{ReadsAs}
 use Rattle.command_refusals.specs.declared.refusal.Refusal.{Refusal}
 use Rattle.command_refusals.specs.declared.refusal.Refusal.TheVariants.{Memory}
-use Rattle.command_encode.specs.Fitted.{IsTextCause}
+use Rattle.command_encode.specs.Encoded.{IsTextCause}
 use Rattle.library_handles.specs.declared.held.Held.{Held}
 use Rattle.library_values.specs.Decoded.{IsOf}
 use Rattle.library_answers.specs.Answers.{side_numbered, values_in, refusal_in}

@@ -12,7 +12,7 @@ use Rattle.rpc_pdu.specs.declared.pdu.Joined.{Joined}
 use Rattle.rpc_pdu.specs.declared.pdu.Wanted.{Wanted}
 use Rattle.rpc_pdu.specs.declared.pdu.Wanted.TheVariants.{Request, Response}
 use Rattle.rpc_pdu.specs.Fragments as pdu
-use Rattle.rpc_pdu.specs.Pieces.{Pieces, want_of, opnum_of}
+use Rattle.rpc_pdu.specs.Fragments.{Pieces, want_of, opnum_of}
 use Rattle.command_refusals.specs.declared.refusal.Refusal.{Refusal}
 use Rattle.command_refusals.specs.declared.refusal.Refusal.TheVariants.{Memory}
 use Rattle.library_calls.specs.Fragments.{IsJoinedOf, IsFragmentsCause}

@@ -5,11 +5,11 @@ use Rattle.nd_types.specs.declared.interface.Interface.{Interface}
 use Rattle.nd_types.specs.declared.types.Operation.{Operation}
 use Rattle.nd_types.specs.declared.types.Side.TheVariants.{Out}
 use Rattle.nd_value.specs.Fitting.{Fitting, setting_beside}
-use Rattle.text_grammar.specs.Printed.{IsText}
+use Rattle.text_grammar.specs.Written.{IsText}
 use Rattle.text_grammar.specs.Reads.{ReadsAs}
 use Rattle.command_refusals.specs.declared.refusal.Refusal.{Refusal}
 use Rattle.command_refusals.specs.declared.refusal.Refusal.TheVariants.{Memory}
-use Rattle.command_encode.specs.Fitted.{IsTextCause}
+use Rattle.command_encode.specs.Encoded.{IsTextCause}
 use Rattle.library_values.specs.Decoded.{IsOf}
 use Rattle.library_answers.specs.Answers.{OfSide}
 

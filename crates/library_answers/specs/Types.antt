@@ -6,7 +6,7 @@ use Rattle.nd_types.specs.declared.types.Field.{Field}
 use Rattle.nd_types.specs.declared.types.TypeDef.{TypeDef}
 use Rattle.nd_types.specs.declared.types.TypeDef.TheVariants.{Struct}
 use Rattle.nd_types.specs.Table.{type_at}
-use Rattle.nd_types.specs.Walk.{named_roots}
+use Rattle.nd_types.specs.Roots.{named_roots}
 use Rattle.library_values.specs.Finding.{IsRootNamed, HasNoRoot, IsMemberNamed, HasNoMember}
 use Rattle.library_answers.specs.Answers.{OfSide}
 

@@ -32,6 +32,7 @@ pub const ABSENT: u32 = 6;
 pub const WRONG_NODE: u32 = 7;
 
 // Fills a handle. The box of a full one is kept.
+#[inline(always)]
 pub(crate) fn fill(alloc: Global, handle: &mut Handle, held: Held) -> u32
     ensures known { result ≤ MEMORY }
     ensures not_empty { result ≡ EMPTY → ⊥ }
@@ -51,6 +52,7 @@ pub(crate) fn fill(alloc: Global, handle: &mut Handle, held: Held) -> u32
 }
 
 // Fills a handle with a box of its own.
+#[inline(always)]
 fn fill_empty(alloc: Global, handle: &mut Handle, held: Held) -> u32
     ensures known { result ≤ MEMORY }
     ensures not_empty { result ≡ EMPTY → ⊥ }
@@ -71,6 +73,7 @@ fn fill_empty(alloc: Global, handle: &mut Handle, held: Held) -> u32
 }
 
 // Fills the handle of a fault. That memory was refused is no fault.
+#[inline(never)]
 pub(crate) fn refuse(alloc: Global, fault: &mut Handle, refusal: Refusal) -> u32
     ensures known { result ≤ REFUSED }
     ensures not_empty { result ≡ EMPTY → ⊥ }

@@ -19,7 +19,7 @@ use std::sync::Arc;
 
 /// Fills `values` with those of a side of an operation that a listing says, or the fault, or sets the number of the first node that is wrong. Takes
 /// memory for the values.
-#[tactic(auto, using(crate::proofs::Listings::no_side, crate::proofs::Listings::no_operation, crate::proofs::Listings::built_is, crate::proofs::Listings::build_refused, crate::proofs::Listings::wrong_node))]
+#[tactic(auto, using(crate::proofs::Listings::builds))]
 pub fn build_values(
     alloc: Global,
     compiled: &Arc<Compiled>,
@@ -63,7 +63,7 @@ pub fn build_values(
 }
 
 /// The same with the response to a request.
-#[tactic(auto, using(crate::proofs::Listings::no_request, crate::proofs::Listings::reply_is, crate::proofs::Listings::reply_refused, crate::proofs::Listings::wrong_reply))]
+#[tactic(auto, using(crate::proofs::Listings::replies))]
 pub fn build_reply(
     alloc: Global,
     given: &Values,

@@ -113,7 +113,7 @@ fn number_or_zero(opnum: Option<u16>) -> u32
 
 /// Writes the fragments that stub data are split into (C706, chapter 12), each of at most `most` octets, where there is room for them. Takes memory
 /// for the fragments.
-#[tactic(auto, using(crate::proofs::Calls::no_head, crate::proofs::Calls::no_split_order, crate::proofs::Calls::few, crate::proofs::Calls::many, crate::proofs::Calls::long_stub, crate::proofs::Calls::splits, crate::proofs::Calls::split_is, crate::proofs::Calls::pieces_are))]
+#[tactic(auto, using(crate::proofs::Calls::splitting))]
 pub fn split_stub(
     alloc: Global,
     side: u32,

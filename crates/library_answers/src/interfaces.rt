@@ -2,7 +2,7 @@
 ghost use Rattle.std.specs.Prelude.{◌≡◌, ◌≤◌, ◌<◌, length, take, drop, Some, None, option_map, IfSome, IsSomeAnd, IsUtf8};
 ghost use Rattle.std.specs.Arc.{arc_value};
 ghost use Rattle.std.specs.List.{slice_get};
-ghost use Rattle.nd_types.specs.Operations.{operation_named};
+ghost use Rattle.nd_types.specs.Roots.{operation_named};
 ghost use Rattle.library_interface.specs.Named.{HasBadName};
 ghost use Rattle.library_answers.specs.Answers.{interface_in, refusal_in};
 ghost use Rattle.library_answers.specs.Compiling.{IsCompile, IsCompileRefusal, IsFilesCompile, IsFilesRefusal, name_of_file};
@@ -16,7 +16,7 @@ use std::sync::Arc;
 
 /// Compiles the first file with what it imports, beside the attribute configuration file of the number `acf`, if that is not 0. Fills the interface
 /// or the fault. Takes memory for the interface, and for the files while it compiles.
-#[tactic(auto, using(crate::proofs::Files::compiled_alone, crate::proofs::Files::compiled_beside, crate::proofs::Files::refused_alone, crate::proofs::Files::refused_beside))]
+#[tactic(auto, using(crate::proofs::Files::compiling))]
 pub fn compile(
     alloc: Global,
     files: &[File<'_>],

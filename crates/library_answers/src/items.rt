@@ -18,7 +18,7 @@ use std::alloc::Global;
 
 /// Fills `items` with those of the values of a side of an operation that octets begin with (C706, chapter 14), or the fault. Takes memory for the
 /// items.
-#[tactic(auto, using(crate::proofs::Numbered::no_stream_side, crate::proofs::Numbered::no_stream_order, crate::proofs::Numbered::no_stream_operation, crate::proofs::Logs::items_are, crate::proofs::Octets::decode_refused))]
+#[tactic(auto, using(crate::proofs::Numbered::no_stream, crate::proofs::Logs::items_are, crate::proofs::Octets::decode_refused))]
 pub fn log_items(
     alloc: Global,
     compiled: &Compiled,

@@ -10,11 +10,11 @@ ghost use Rattle.library_answers.specs.Nodes.{nodes_in, low_octet};
 
 use crate::answers::{ARGUMENT, EMPTY, MEMORY, OK, SHORT, fill, lay_out};
 use library_handles::{Handle, Held};
-use library_nodes::{Description, Nodes};
+use library_nodes::{Description, KeptNodes, Nodes};
 use library_values::Values;
 use std::alloc::Global;
 
-/// Fills `nodes` with those of values. Takes memory for the list.
+/// Fills `nodes` with those of values. Takes memory for the list, where it has no room in that before the last one.
 pub fn list_nodes(alloc: Global, values: &Values, nodes: &mut Handle) -> u32
     ensures known { result ≤ MEMORY }
     ensures not_empty { result ≡ EMPTY → ⊥ }
@@ -22,8 +22,48 @@ pub fn list_nodes(alloc: Global, values: &Values, nodes: &mut Handle) -> u32
     ensures listed { result ≡ OK → IsSomeAnd (nodes_in nodes.new.value) (IsListOf values.now.graph) }
     ensures kept { (result ≡ OK → ⊥) → nodes.new.value ≡ nodes.old.value }
 {
-    match Nodes::of(alloc, values.fit().flat()) {
+    let Some(mut full) = nodes.take(alloc) else {
+        return list_first(alloc, values, nodes);
+    };
+    let status = list_again(alloc, values, &mut *full);
+    nodes.put(alloc, full);
+    status
+}
+
+// Fills a handle that holds nothing with the nodes of values.
+#[inline(never)]
+fn list_first(alloc: Global, values: &Values, nodes: &mut Handle) -> u32
+    ensures known { result ≤ MEMORY }
+    ensures not_empty { result ≡ EMPTY → ⊥ }
+    ensures not_argument { result ≡ ARGUMENT → ⊥ }
+    ensures listed { result ≡ OK → IsSomeAnd (nodes_in nodes.new.value) (IsListOf values.now.graph) }
+    ensures kept { (result ≡ OK → ⊥) → nodes.new.value ≡ nodes.old.value }
+{
+    match KeptNodes::of(alloc, values.fit().flat()) {
         Ok(made) => fill(alloc, nodes, Held::Nodes(made)),
+        Err(_) => MEMORY,
+    }
+}
+
+// Puts the nodes of values in the place of what is held: in its room, if it is nodes too.
+fn list_again(alloc: Global, values: &Values, held: &mut Held) -> u32
+    ensures known { result ≤ MEMORY }
+    ensures not_empty { result ≡ EMPTY → ⊥ }
+    ensures not_argument { result ≡ ARGUMENT → ⊥ }
+    ensures listed { result ≡ OK → IsSomeAnd (nodes_in (Some held.new)) (IsListOf values.now.graph) }
+    ensures kept { (result ≡ OK → ⊥) → held.new ≡ held.old }
+{
+    if let Held::Nodes(list) = held {
+        return match list.list(values.fit().flat()) {
+            Ok(()) => OK,
+            Err(_) => MEMORY,
+        };
+    }
+    match KeptNodes::of(alloc, values.fit().flat()) {
+        Ok(made) => {
+            *held = Held::Nodes(made);
+            OK
+        }
         Err(_) => MEMORY,
     }
 }

@@ -16,7 +16,7 @@ use std::alloc::Global;
 use std::sync::Arc;
 
 /// Fills `values` with those of a side of an operation that octets begin with (C706, chapter 14), or the fault. Takes memory for the values.
-#[tactic(auto, using(crate::proofs::Numbered::no_stream_side, crate::proofs::Numbered::no_stream_order, crate::proofs::Numbered::no_stream_operation, crate::proofs::Octets::decode_is, crate::proofs::Octets::decode_refused))]
+#[tactic(auto, using(crate::proofs::Numbered::no_stream, crate::proofs::Octets::decode_is, crate::proofs::Octets::decode_refused))]
 pub fn decode(
     alloc: Global,
     compiled: &Arc<Compiled>,
@@ -56,6 +56,7 @@ pub fn decode(
 }
 
 // Fills a handle with values, and says how many octets they took.
+#[inline(always)]
 fn fill_taken(alloc: Global, made: (Values, u32), values: &mut Handle, taken: &mut usize) -> u32
     ensures known { result ≤ MEMORY }
     ensures not_empty { result ≡ EMPTY → ⊥ }
@@ -122,7 +123,7 @@ pub(crate) fn is_request(values: &Values) -> bool
 }
 
 /// Fills `values` with those of a side of an operation that a text is read as, or the fault. Takes memory for the values.
-#[tactic(auto, using(crate::proofs::Numbered::no_side, crate::proofs::Numbered::no_operation, crate::proofs::Texts::read_is, crate::proofs::Texts::read_refused))]
+#[tactic(auto, using(crate::proofs::Numbered::no_values, crate::proofs::Texts::read_is, crate::proofs::Texts::read_refused))]
 pub fn read(
     alloc: Global,
     compiled: &Arc<Compiled>,

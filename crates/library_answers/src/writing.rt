@@ -31,7 +31,7 @@ pub fn write_text(alloc: Global, values: &Values, out: &mut [u8], len: &mut usiz
 
 /// Writes the octets of values (C706, chapter 14), where there is room for them, or fills the fault. Takes memory for 12 octets for each root and
 /// cell and 4 for each cell, and gives it back.
-#[tactic(auto, using(crate::proofs::Numbered::no_layout_order, crate::proofs::Numbered::no_chunk, crate::proofs::Numbered::layout_is, crate::proofs::Octets::encode_is, crate::proofs::Octets::encode_refused))]
+#[tactic(auto, using(crate::proofs::Numbered::layouts, crate::proofs::Octets::encode_is, crate::proofs::Octets::encode_refused))]
 pub fn encode(
     alloc: Global,
     values: &Values,

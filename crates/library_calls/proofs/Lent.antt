@@ -7,8 +7,7 @@ use Rattle.rpc_pdu.specs.declared.pdu.Wanted.{Wanted}
 use Rattle.rpc_pdu.specs.declared.pdu.PduFault.{PduFault}
 use Rattle.rpc_pdu.specs.declared.pdu.PduFault.TheVariants as fault
 use Rattle.rpc_pdu.specs.declared.pdu.PduReason.{PduReason}
-use Rattle.rpc_pdu.specs.Fragments.{BadPdu}
-use Rattle.rpc_pdu.specs.Joined.{IsJoined, IsJoinCause}
+use Rattle.rpc_pdu.specs.Fragments.{BadPdu, IsJoined, IsJoinCause}
 use Rattle.rpc_pdu.proofs.KnownOctets.{known_bad}
 use Rattle.library_calls.specs.Fragments.{IsJoinedOf}
 

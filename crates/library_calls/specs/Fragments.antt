@@ -15,7 +15,7 @@ pub record IsJoinedOf (want : Wanted) (octets : List ℕ) (j : Joined) : Type 0 
   pub taken_is : length front ≡ j.taken
   pub fragments : pdu.Fragments front want j.order j.call j.opnum j.stub
 
--- why fragments are refused: the first check that fails; of memory no more is said
+-- why fragments are refused: the first check that fails; running out of memory needs no cause
 abbrev pub IsFragmentsCause : Wanted → List ℕ → Refusal → Type 0
 IsFragmentsCause want octets Memory = ⊤
 IsFragmentsCause want octets (BadPdu place (Refused why)) = pdu.BadPdu want octets place why

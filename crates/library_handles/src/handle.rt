@@ -65,16 +65,18 @@ impl Handle {
     }
 
     /// Holds what the box does. What it held before is freed. Takes no memory.
+    #[inline(always)]
     pub fn put(&mut self, alloc: Global, held: Box<Held>)
         ensures { self.new.value ≡ Some held.value }
     {
         let before = replace(self, Handle::of(Loose::of(held)));
         if let Some(loose) = before.loose(alloc) {
-            drop(loose.into_box());
+            let_go(loose);
         }
     }
 
     /// Gives what it holds, and holds nothing after it. Takes no memory.
+    #[inline(always)]
     pub fn take(&mut self, alloc: Global) -> Option<Box<Held>>
         ensures none { self.new.value ≡ None }
         ensures taken { MatchOption result (self.old.value ≡ None) (λ b. self.old.value ≡ Some b.value) }
@@ -85,4 +87,11 @@ impl Handle {
             None => None,
         }
     }
+}
+
+// Frees what a handle held. Most handles that are put into hold nothing.
+#[cold]
+#[inline(never)]
+fn let_go(held: Loose<Held, Global>) {
+    drop(held.into_box());
 }

@@ -1,7 +1,7 @@
 // What a handle holds.
 use command_refusals::Refusal;
 use library_interface::Compiled;
-use library_nodes::Nodes;
+use library_nodes::KeptNodes;
 use library_values::Values;
 use nd_value::ItemLog;
 use std::sync::Arc;
@@ -15,8 +15,8 @@ pub enum Held {
     Values(Values),
     /// Why a call was refused.
     Refusal(Refusal),
-    /// The nodes of values.
-    Nodes(Nodes),
+    /// The nodes of values, in room that is used again.
+    Nodes(KeptNodes),
     /// The items of octets.
     Items(ItemLog),
 }

@@ -1,8 +1,7 @@
 -- What a compiler of files that it loads answers, over files in memory.
 use mathlib.Core.Path.{fun_ext}
 use Rattle.std.proofs.Common.{◌≡◌, ℕ, ◌≤◌, List, Option, Some, arith, subst}
-use Rattle.nd_base.specs.Counts.{Rose}
-use Rattle.nd_base.specs.Over.{FilesSeen, Count}
+use Rattle.nd_base.specs.Over.{Rose, FilesSeen, Count}
 use Rattle.nd_types.specs.declared.interface.Interface.{Interface}
 use Rattle.command_compile.specs.Compiled.{IsCompiled, IsIdlCause}
 use Rattle.command_refusals.specs.declared.refusal.Refusal.{Refusal}

@@ -4,7 +4,7 @@ use Rattle.std.proofs.Common.{Option, None, Some, option_map, Result, Ok, Err, I
 use Rattle.std.proofs.lemmas.Option.{same_Some}
 use Rattle.std.specs.List.{slice_get}
 use Rattle.nd_base.specs.Calls.{failing_calls, fails_next, CallMade}
-use Rattle.nd_base.specs.Counts.{Rose}
+use Rattle.nd_base.specs.Over.{Rose}
 use Rattle.nd_base.specs.InMemory.{with_file}
 use Rattle.nd_base.specs.declared.calls.Calls.{Calls}
 use Rattle.nd_base.specs.declared.outside.FileFault.{FileFault}

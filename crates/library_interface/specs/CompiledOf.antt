@@ -1,7 +1,7 @@
 -- What files in memory mean, and why they mean no interface.
 -- `held` is what is held under each name, `idl` the name of the main file, `acf` that of the attribute configuration file, if one is named.
 use Rattle.std.specs.Prelude.{ℕ, List, Option, Some, ⊤}
-use Rattle.nd_base.specs.Outside.{IsContent, IsMissing}
+use Rattle.nd_base.specs.Over.{IsContent, IsMissing}
 use Rattle.nd_types.specs.declared.interface.Interface.{Interface}
 use Rattle.library_interface.specs.declared.file.File.{File}
 use Rattle.library_interface.specs.Named.{HasBadName}
@@ -17,7 +17,7 @@ pub record IsCompiledOf (held : List ℕ → Option (List ℕ)) (idl : List ℕ)
   pub loaded : IsContent (Some held) idl file
   pub means : Means (Some held) idl file acf i
 
--- why the files mean no interface: one that is due is not among them, or one of them is refused; of memory no more is said
+-- why the files mean no interface: one that is due is not among them, or one of them is refused; running out of memory needs no cause
 abbrev pub IsCompileCause : (List ℕ → Option (List ℕ)) → List ℕ → Option (List ℕ) → Refusal → Type 0
 IsCompileCause held idl acf (Absent file) = IsDueFile (Some held) idl acf file × IsMissing (Some held) file
 IsCompileCause held idl acf Memory = ⊤

@@ -11,7 +11,7 @@ use Rattle.nd_value.specs.Tree.{Flat, Tree, Referent, flat, trees}
 use Rattle.nd_lemmas.proofs.Lists.{length_map}
 use Rattle.command_refusals.specs.declared.refusal.Refusal.{Refusal}
 use Rattle.command_refusals.specs.declared.refusal.Refusal.TheVariants.{Memory}
-use Rattle.command_encode.specs.Fitted.{IsValueCause}
+use Rattle.command_encode.specs.Encoded.{IsValueCause}
 use Rattle.library_nodes.specs.declared.description.Description.{Description}
 use Rattle.library_nodes.specs.declared.TheConstants.{LISTING_LIMIT}
 use Rattle.library_nodes.specs.declared.fault.BuildFault.TheVariants.{Refused}

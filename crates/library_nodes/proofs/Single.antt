@@ -3,13 +3,6 @@
 use Rattle.std.proofs.Common.{◌≡◌, List, [], ◌∷◌, ◌++◌, refl, ap, sym, ◌∙◌, arith}
 use Rattle.nd_value.specs.Tree.{Flat, Tree, Trees, node, none, more, count, flat}
 
-none_more : (t : Tree) → none ≡ more t none → ⊥
-none_more t e = cc
-
--- a tree is not none
-pub no_tree : (ts : Trees) (t : Tree) → ts ≡ none → ts ≡ more t none → ⊥
-no_tree ts t a b = none_more t (sym a ∙ b)
-
 no_parts : (ks : Trees) → count ks ≡ 0 → ks ≡ none
 no_parts none e = refl
 no_parts (more t ts) e = absurd (omega (arith, e))

@@ -2,13 +2,13 @@
 -- `w` is a setting, `l` a listing, `g` a graph.
 use Rattle.std.specs.Prelude.{◌≡◌, ℕ, ◌-◌, Bool, true, ◌||◌, nat_lt, List, ◌++◌, length, map, Result, MatchResult, ⊤}
 use Rattle.nd_types.specs.Table.{Table}
-use Rattle.nd_types.specs.Walk.{named_roots}
+use Rattle.nd_types.specs.Roots.{named_roots}
 use Rattle.nd_value.specs.declared.value.Graph.{Graph}
 use Rattle.nd_value.specs.Setting.{Setting}
 use Rattle.nd_value.specs.Tree.{flat, trees}
 use Rattle.command_refusals.specs.declared.refusal.Refusal.{Refusal}
 use Rattle.command_refusals.specs.declared.refusal.Refusal.TheVariants.{Memory, BadValue}
-use Rattle.command_encode.specs.Fitted.{IsValueCause}
+use Rattle.command_encode.specs.Encoded.{IsValueCause}
 use Rattle.library_nodes.specs.declared.TheConstants.{LISTING_LIMIT}
 use Rattle.library_nodes.specs.declared.fault.BuildFault.{BuildFault}
 use Rattle.library_nodes.specs.declared.fault.BuildFault.TheVariants.{TooMany, WrongNode, Refused}
@@ -57,7 +57,7 @@ pub record IsSaidBadly (w : Setting) (l : Listing) (e : Refusal) : Type 0 where
   pub says : Says w l graph
   pub cause : IsValueCause w graph e
 
--- why no values are built of a listing; of memory no more is said
+-- why no values are built of a listing; running out of memory needs no cause
 abbrev pub IsBuildCause : Setting → Listing → BuildFault → Type 0
 IsBuildCause w l TooMany = has_too_many l ≡ true
 IsBuildCause w l (WrongNode node) = IsWrong w l node

@@ -2,7 +2,7 @@
 -- are due before the others. So the type of each node is known, and where the first wrong one is.
 -- `table` are the types of an interface, `d` is a type, `x` a node, `ts` are types that are due, `us` those of parts, `xs` nodes, `zs` numbers,
 -- `os` octets.
-use Rattle.std.specs.Prelude.{ℕ, suc, ◌-◌, ◌^◌, ℤ, pos, negsuc, Bool, true, false, ◌&&◌, eqb, leb, if◌then◌else◌, nat_lt}
+use Rattle.std.specs.Prelude.{ℕ, suc, ◌-◌, ◌^◌, ℤ, pos, negsuc, Bool, true, false, ◌&&◌, ◌==◌, nat_le, if◌then◌else◌, nat_lt}
 use Rattle.std.specs.Prelude.{List, [], ◌∷◌, ◌++◌, length, map, take, drop, replicate, Option, Some, None}
 use Rattle.nd_types.specs.declared.types.Arm.{Arm}
 use Rattle.nd_types.specs.declared.types.Primitive.TheVariants.{UnsignedHyper}
@@ -39,27 +39,27 @@ is_numeral _ = false
 
 -- the cell of a pointer by its number; 0 is null
 abbrev pub cell_numbered : ℕ → Option ℕ
-cell_numbered n = if eqb n 0 then None else Some n
+cell_numbered n = if n == 0 then None else Some n
 
 -- ## One node
 
 -- a node is of this kind, and so many of its parts are nodes
 abbrev pub has_form : Description → ℕ → ℕ → Bool
-has_form x kind parts = eqb x.kind kind && eqb x.parts parts
+has_form x kind parts = x.kind == kind && x.parts == parts
 
 -- a node of this kind has elements that are nodes, or elements that are numbers
 abbrev pub has_parts : Description → ℕ → Bool
-has_parts x kind = has_form x kind x.count && eqb x.numbers 0
+has_parts x kind = has_form x kind x.count && x.numbers == 0
 
 abbrev pub has_numbers : Description → ℕ → Bool
-has_numbers x kind = has_form x kind 0 && eqb x.numbers x.count
+has_numbers x kind = has_form x kind 0 && x.numbers == x.count
 
 -- a node is a pointer to a cell of 32 bits, or a context handle, whose identifier has 16 octets
 abbrev pub is_pointer : Description → Bool
-is_pointer x = has_form x 6 0 && leb x.number 4294967295
+is_pointer x = has_form x 6 0 && nat_le x.number 4294967295
 
 abbrev pub is_context : Description → Bool
-is_context x = has_form x 7 0 && eqb x.length 16 && leb x.number 4294967295
+is_context x = has_form x 7 0 && x.length == 16 && nat_le x.number 4294967295
 
 -- What a node says: itself, with its elements that are numbers; the types of its parts that are nodes; the numbers and octets after its own.
 pub record Saying : Type 0 where
@@ -83,7 +83,7 @@ numbered test wide label k zs os =
 
 -- an array or a pipe of numbers
 abbrev pub numeric : Bool → ℕ → Label → Description → List ℕ → List ℕ → Option Saying
-numeric wide kind label x zs os = numbered (has_numbers x kind && leb x.count (length zs)) wide label x.count zs os
+numeric wide kind label x zs os = numbered (has_numbers x kind && nat_le x.count (length zs)) wide label x.count zs os
 
 -- an array or a pipe of numbers, or of other values of a type
 abbrev pub elements_by : Bool → Bool → ℕ → ℕ → Label → Description → List ℕ → List ℕ → Option Saying
@@ -111,10 +111,10 @@ saying table (Some (def.Enum values)) x zs os = plain (has_form x 1 0) (tree.Num
 saying table (Some (def.Struct members)) x zs os = plain (has_form x 2 (length members)) tree.Rec (map (λ f. f.of.0) members) zs os
 saying table (Some (def.Array elem bound varying)) x zs os = elements table 3 elem.0 (tree.Arr x.max x.offset) x zs os
 saying table (Some (def.Text elem bound)) x zs os =
-    plain (has_form x 4 0 && leb x.length (length os)) (tree.Text x.max (take x.length os)) [] zs (drop x.length os)
+    plain (has_form x 4 0 && nat_le x.length (length os)) (tree.Text x.max (take x.length os)) [] zs (drop x.length os)
 saying table (Some (def.Union tag encapsulated arms default)) x zs os = united (is_wide (type_at table tag.0)) arms default x zs os
 saying table (Some (def.Pointer class to)) x zs os = plain (is_pointer x) (tree.Ptr (cell_numbered x.number)) [] zs os
-saying table (Some def.Context) x zs os = plain (is_context x && leb 16 (length os)) (tree.Context x.number (take 16 os)) [] zs (drop 16 os)
+saying table (Some def.Context) x zs os = plain (is_context x && nat_le 16 (length os)) (tree.Context x.number (take 16 os)) [] zs (drop 16 os)
 saying table (Some (def.Pipe elem)) x zs os = elements table 8 elem.0 tree.Pipe x zs os
 saying table None x zs os = None
 

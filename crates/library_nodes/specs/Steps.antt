@@ -13,7 +13,7 @@ use Rattle.library_nodes.specs.declared.stop.Stop.TheVariants.{Memory, At}
 use Rattle.library_nodes.specs.Left.{Left}
 use Rattle.library_nodes.specs.Listings.{Saying, Outcome, Wrong, after, goes_on, said_from, said, meant}
 
--- nodes come to this where a call stopped; of memory no more is said
+-- nodes come to this where a call stopped; running out of memory needs no cause
 abbrev pub IsStop : Stop → Outcome → Type 0
 IsStop Memory o = ⊤
 IsStop (At left) o = o ≡ Wrong left

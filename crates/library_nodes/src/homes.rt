@@ -2,7 +2,7 @@
 ghost use Rattle.std.specs.Prelude.{◌≡◌, ◌<◌, ◌^◌, ◌++◌, length, map, Some, Option, false, IfOk, IfErr};
 ghost use Rattle.std.specs.List.{slice_get};
 ghost use Rattle.nd_types.specs.declared.types.Operation.{Operation as OperationValue};
-ghost use Rattle.nd_types.specs.Walk.{named_roots};
+ghost use Rattle.nd_types.specs.Roots.{named_roots};
 ghost use Rattle.nd_value.specs.declared.value.Graph.{Graph as GraphValue};
 ghost use Rattle.nd_value.specs.Conforms.{HasFewNodes};
 ghost use Rattle.nd_value.specs.Fitting.{setting_of, setting_beside};

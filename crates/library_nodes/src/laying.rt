@@ -1,5 +1,5 @@
 // Values are walked over, and their nodes listed.
-ghost use Rattle.std.specs.Prelude.{◌≡◌, ◌∷◌, ◌++◌, [], length, map, option_to_list, true, IfOk, OnOk};
+ghost use Rattle.std.specs.Prelude.{◌≡◌, ◌∷◌, ◌++◌, [], length, map, option_to_list, IfOk, OnOk};
 ghost use Rattle.std.specs.Prelude.{ℕ, ℤ, List};
 ghost use Rattle.nd_value.specs.Tree as tree;
 ghost use Rattle.nd_value.specs.Tree.{flat, more, none, Flat, Tree};
@@ -14,7 +14,7 @@ use crate::node::{Elements, Node};
 use crate::nodes::NodeList;
 use crate::rows::{add_row, next_row};
 use nd_base::{Memory, Octets, push};
-use nd_flat::{FlatGraph, Seen, Walk};
+use nd_flat::{FlatGraph, PlainWalk, Seen, Walk};
 use smallvec::SmallVec;
 
 // Adds the nodes of all roots.
@@ -26,8 +26,7 @@ pub(crate) fn lay_roots(
     ensures { OnOk result (AddsHomes graph.now.roots list.old starts.old.items list.new starts.new.items) }
 {
     for at in 0..graph.root_count() {
-        let mut walk = graph.root_walk(at);
-        lay_home(list, starts, &mut walk)?;
+        lay_home(list, starts, graph.root_plain_walk(at))?;
     }
     Ok(())
 }
@@ -41,57 +40,45 @@ pub(crate) fn lay_cells(
     ensures { OnOk result (AddsHomes (map (λ c. c.val) graph.now.cells) list.old starts.old.items list.new starts.new.items) }
 {
     for at in 0..graph.cell_count() {
-        let mut walk = graph.cell_walk(at);
-        lay_home(list, starts, &mut walk)?;
+        lay_home(list, starts, graph.cell_plain_walk(at))?;
     }
     Ok(())
 }
 
-// Adds the nodes of a home, and notes the number of the first. Most homes are one node that has no parts.
+// Adds the nodes of a home, and notes the number of the first.
+#[inline(always)]
 fn lay_home(
     list: &mut NodeList,
     starts: &mut SmallVec<usize, 4>,
-    walk: &mut Walk<'_>,
+    walk: PlainWalk<'_>,
 ) -> Result<(), Memory>
-    requires { (t : Tree) × (walk.old ≡ more t none) }
+    requires { (t : Tree) × (walk ≡ more t none) }
     ensures starts { OnOk result (starts.new.items ≡ starts.old.items ++ length list.old.nodes.items ∷ []) }
-    ensures adds { OnOk result (Adds (flat walk.old) list.old list.new) }
+    ensures adds { OnOk result (Adds (flat walk.entry) list.old list.new) }
 {
     let Ok(()) = starts.push(list.nodes.as_slice().len()) else {
         return Err(Memory);
     };
-    let Some(seen) = walk.step() else {
-        unreachable!()
-    };
-    if is_single(&seen) {
-        return add_single(list, &seen);
-    }
-    let first = seen;
-    lay_parts(list, &first, walk)
+    lay_value(list, walk)
 }
 
-// Whether a node has no parts, whatever its value is.
+// Adds the nodes of a value. Most values are a number, a pointer or a string, which have no parts.
 #[inline(always)]
-fn is_single(seen: &Seen<'_>) -> bool
-    ensures { result ≡ true → (flat_seen seen.now).1 ≡ 0 }
+fn lay_value(list: &mut NodeList, walk: PlainWalk<'_>) -> Result<(), Memory>
+    requires { (t : Tree) × (walk ≡ more t none) }
+    ensures { OnOk result (Adds (flat walk.entry) list.old list.new) }
 {
-    match seen {
-        Seen::Num(_)
-        | Seen::Text { max: _, octets: _ }
-        | Seen::Ptr(_)
-        | Seen::Context {
-            attributes: _,
-            id: _,
-        } => true,
-        Seen::Rec(_)
-        | Seen::Arr {
-            max: _,
-            offset: _,
-            count: _,
-        }
-        | Seen::Union { tag: _, armed: _ }
-        | Seen::Pipe(_) => false,
+    let mut rest = walk;
+    if let Some(number) = rest.number() {
+        return add_single(list, &Seen::Num(number));
     }
+    if let Some(cell) = rest.pointer() {
+        return add_single(list, &Seen::Ptr(cell));
+    }
+    if let Some((max, octets)) = rest.text() {
+        return add_single(list, &Seen::Text { max, octets });
+    }
+    lay_parts(list, rest)
 }
 
 // Adds a node that is no element of an array or a pipe.
@@ -104,13 +91,13 @@ fn add_single(list: &mut NodeList, seen: &Seen<'_>) -> Result<(), Memory>
     Ok(())
 }
 
-// Adds a node and those of a walk, which come after it.
+// Adds the nodes of a walk.
 #[inline(never)]
-fn lay_parts(list: &mut NodeList, first: &Seen<'_>, walk: &mut Walk<'_>) -> Result<(), Memory>
-    ensures { OnOk result (Adds (flat_seen first.now ∷ flat walk.old) list.old list.new) }
+fn lay_parts(list: &mut NodeList, walk: PlainWalk<'_>) -> Result<(), Memory>
+    ensures { OnOk result (Adds (flat walk.entry) list.old list.new) }
 {
-    let unfinished = add(list, None, first)?;
-    lay_all(list, unfinished, walk)
+    let mut nodes = walk.walk();
+    lay_all(list, None, &mut nodes)
 }
 
 // Adds the nodes of a walk to those that were added, after which an array or a pipe may be unfinished. Numbers that are kept side by side and are

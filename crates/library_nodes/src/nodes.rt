@@ -1,5 +1,5 @@
 // The nodes of all values of a graph.
-ghost use Rattle.std.specs.Prelude.{◌≡◌, ◌+◌, [], IfOk};
+ghost use Rattle.std.specs.Prelude.{◌≡◌, ◌+◌, [], IfOk, OnOk};
 ghost use Rattle.std.specs.List.{slice_get};
 ghost use Rattle.library_nodes.specs.Listed.{IsListOf, root_start, cell_start};
 
@@ -16,6 +16,20 @@ pub struct NodeList {
     pub nodes: Vec<Node>,
     pub numbers: Vec<u64>,
     pub octets: Octets,
+}
+
+impl NodeList {
+    // Lets go of the nodes, and keeps their room for others.
+    #[inline(always)]
+    fn clear(&mut self)
+        ensures nodes { self.new.nodes.items ≡ [] }
+        ensures numbers { self.new.numbers.items ≡ [] }
+        ensures octets { self.new.octets ≡ [] }
+    {
+        self.nodes.clear();
+        self.numbers.clear();
+        self.octets.clear();
+    }
 }
 
 /// The nodes of the roots of a graph and then of its cells, and which of them are the first of these. Of the first four of these homes the numbers
@@ -35,15 +49,35 @@ impl Nodes {
     pub fn of(alloc: Global, graph: &FlatGraph) -> Result<Nodes, Memory>
         ensures { IfOk result (λ n. IsListOf graph.now n) }
     {
-        let mut list = empty_list(alloc);
-        let mut starts = SmallVec::new(alloc);
-        lay_roots(&mut list, &mut starts, graph)?;
-        lay_cells(&mut list, &mut starts, graph)?;
-        Ok(Nodes {
-            list,
-            starts,
-            roots: graph.root_count(),
-        })
+        let mut nodes = Nodes::none(alloc);
+        nodes.fill(graph)?;
+        Ok(nodes)
+    }
+
+    // No nodes. It allocates nothing.
+    #[inline(always)]
+    pub(crate) fn none(alloc: Global) -> Nodes {
+        Nodes {
+            list: NodeList {
+                nodes: Vec::new(alloc),
+                numbers: Vec::new(alloc),
+                octets: Octets::new(alloc),
+            },
+            starts: SmallVec::new(alloc),
+            roots: 0,
+        }
+    }
+
+    // The nodes of another graph in the room of those before, as `of` gives them.
+    pub(crate) fn fill(&mut self, graph: &FlatGraph) -> Result<(), Memory>
+        ensures { OnOk result (IsListOf graph.now self.new) }
+    {
+        self.list.clear();
+        self.starts.clear();
+        lay_roots(&mut self.list, &mut self.starts, graph)?;
+        lay_cells(&mut self.list, &mut self.starts, graph)?;
+        self.roots = graph.root_count();
+        Ok(())
     }
 
     /// The number of the first node of a root by its place, from 0. Takes no memory.
@@ -65,19 +99,6 @@ impl Nodes {
             return None;
         }
         cell_at(self.starts.as_slice(), self.roots, cell as usize - 1)
-    }
-}
-
-// No nodes.
-fn empty_list(alloc: Global) -> NodeList
-    ensures nodes { result.nodes.items ≡ [] }
-    ensures numbers { result.numbers.items ≡ [] }
-    ensures octets { result.octets ≡ [] }
-{
-    NodeList {
-        nodes: Vec::new(alloc),
-        numbers: Vec::new(alloc),
-        octets: Octets::new(alloc),
     }
 }
 

@@ -1,5 +1,5 @@
 // Values of a listing, read by their types.
-ghost use Rattle.std.specs.Prelude.{◌≡◌, [], ◌∷◌, ◌&&◌, leb, Some, length, map, take, drop, replicate, IfOk, IfErr};
+ghost use Rattle.std.specs.Prelude.{◌≡◌, [], ◌∷◌, ◌&&◌, nat_le, Some, length, map, take, drop, replicate, IfOk, IfErr};
 ghost use Rattle.nd_types.specs.Layout.{type_list};
 ghost use Rattle.nd_types.specs.Table.{Table, type_at};
 ghost use Rattle.nd_value.specs.Seen.{tree_of};
@@ -251,7 +251,7 @@ fn number_values(alloc: Global, wide: bool, numbers: &[u64]) -> Result<Vals, Mem
 // A string.
 fn string(alloc: Global, node: &Description, reader: &mut Reader<'_>) -> Result<Val, Stop>
     ensures { (table : Table) → IsBuilt table
-        (plain (has_form node.now 4 0 && leb node.now.length (length reader.old.octets))
+        (plain (has_form node.now 4 0 && nat_le node.now.length (length reader.old.octets))
         (tree.Text node.now.max (take node.now.length reader.old.octets)) [] reader.old.numbers (drop node.now.length reader.old.octets))
         reader.old reader.new result }
 {
@@ -372,7 +372,7 @@ fn pointer(node: &Description, reader: &Reader<'_>) -> Result<Val, Stop>
 // A context handle.
 fn context(node: &Description, reader: &mut Reader<'_>) -> Result<Val, Stop>
     ensures { (table : Table) → IsBuilt table
-        (plain (is_context node.now && leb 16 (length reader.old.octets))
+        (plain (is_context node.now && nat_le 16 (length reader.old.octets))
         (tree.Context node.now.number (take 16 reader.old.octets)) [] reader.old.numbers (drop 16 reader.old.octets))
         reader.old reader.new result }
 {

@@ -6,7 +6,7 @@ use Rattle.nd_base.proofs.Consumed.{rest_of, parts_of, none_left}
 use Rattle.nd_value.specs.declared.value.Graph.{Graph}
 use Rattle.nd_value.specs.Setting.{Setting}
 use Rattle.nd_grammar.specs.declared.reason.Reason.{Reason}
-use Rattle.nd_grammar.specs.Bad.{Bad}
+use Rattle.nd_grammar.specs.Refusal.{Bad}
 use Rattle.nd_grammar.specs.decoded.Verdict.{DecodingSeen, IsDecoded, IsRefused}
 use Rattle.nd_grammar.proofs.Following.{may_follow}
 use Rattle.ndr_decode.specs.Decoding.{IsFault}

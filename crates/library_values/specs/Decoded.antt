@@ -7,7 +7,7 @@ use Rattle.nd_types.specs.declared.types.Side.{Side}
 use Rattle.nd_value.specs.declared.value.Graph.{Graph}
 use Rattle.nd_value.specs.Fitting.{Fitting}
 use Rattle.nd_value.specs.Setting.{Setting}
-use Rattle.nd_grammar.specs.Bad.{Bad}
+use Rattle.nd_grammar.specs.Refusal.{Bad}
 use Rattle.nd_grammar.specs.decoded.Verdict.{RepresentsAlone}
 use Rattle.command_refusals.specs.declared.refusal.Refusal.{Refusal}
 use Rattle.command_refusals.specs.declared.refusal.Refusal.TheVariants.{Memory, BadOctets}
@@ -22,7 +22,7 @@ pub record IsDecodedOf (w : Setting) (order : Order) (octets : List ℕ) (taken 
   pub taken_is : length front ≡ taken
   pub graph : RepresentsAlone w order front g
 
--- why octets are refused: at the first faulty place, for the one reason that applies there; of memory no more is said
+-- why octets are refused: at the first faulty place, for the one reason that applies there; running out of memory needs no cause
 abbrev pub IsOctetsCause : Setting → Order → List ℕ → Refusal → Type 0
 IsOctetsCause w order octets Memory = ⊤
 IsOctetsCause w order octets (BadOctets place (Refused why)) = Bad w order octets place why

@@ -27,7 +27,7 @@ abbrev pub IsEncoded : Fitting → Order → ℕ → List ℕ → List ℕ → E
 IsEncoded f order chunk old new (Written many) = IsWritten f order chunk old new many
 IsEncoded f order chunk old new (Short many) = IsShort f chunk old new many
 
--- why nothing is written: the octets are more than a stream may have; of memory no more is said
+-- why nothing is written: the octets are more than a stream may have; running out of memory needs no cause
 abbrev pub IsEncodeCause : Fitting → ℕ → Refusal → Type 0
 IsEncodeCause f chunk Memory = ⊤
 IsEncodeCause f chunk (TooLong many) = IsTooLong f chunk many

@@ -5,7 +5,7 @@ use Rattle.std.specs.List.{slice_get}
 use Rattle.nd_types.specs.declared.types.Field.{Field}
 use Rattle.nd_types.specs.declared.types.TypeDef.{TypeDef}
 use Rattle.nd_types.specs.declared.types.TypeDef.TheVariants.{Array, Pipe, Pointer}
-use Rattle.nd_types.specs.Walk.{NamedRoot}
+use Rattle.nd_types.specs.Roots.{NamedRoot}
 use Rattle.library_values.specs.declared.finding.Named.{Named}
 
 -- this is the place of the first root of that name, and its type

@@ -94,6 +94,7 @@ fn decode_given(
 }
 
 // The values that octets begin with, with a request or without one.
+#[inline(always)]
 fn decode_beside(
     alloc: Global,
     compiled: &Arc<Compiled>,
@@ -121,6 +122,7 @@ fn decode_beside(
 }
 
 // What was decoded, with its interface.
+#[inline(always)]
 fn held(compiled: &Arc<Compiled>, decoded: Decoded) -> Result<(Values, u32), Refusal>
     requires { decoded.fit.interface ≡ arc_value compiled.now }
     ensures ok { IfOk result (λ d. (d.0 ≡ decoded.fit) × (d.1 ≡ decoded.taken)) }
@@ -133,6 +135,7 @@ fn held(compiled: &Arc<Compiled>, decoded: Decoded) -> Result<(Values, u32), Ref
 }
 
 // What octets begin with, by the plan of an interface.
+#[inline(always)]
 fn decode_lent(
     alloc: Global,
     plan: &Plan,

@@ -7,7 +7,7 @@ ghost use Rattle.nd_types.specs.declared.types.Side.TheVariants.{In, Out};
 ghost use Rattle.nd_value.specs.Fitting.{setting_beside};
 ghost use Rattle.nd_value.specs.Request.{IsRequestOf};
 ghost use Rattle.text_grammar.specs.Reads.{ReadsAs};
-ghost use Rattle.command_encode.specs.Fitted.{IsTextCause};
+ghost use Rattle.command_encode.specs.Encoded.{IsTextCause};
 ghost use Rattle.library_values.specs.Decoded.{IsOf};
 
 use crate::values::{Values, interface_of};

@@ -5,7 +5,7 @@ ghost use Rattle.std.specs.List.{slice_get};
 ghost use Rattle.nd_types.specs.declared.types.Operation.{Operation};
 ghost use Rattle.nd_value.specs.Fitting.{setting_beside};
 ghost use Rattle.command_refusals.specs.declared.refusal.Refusal.TheVariants as refusal;
-ghost use Rattle.text_grammar.specs.Printed.{IsText};
+ghost use Rattle.text_grammar.specs.Written.{IsText};
 ghost use Rattle.library_values.specs.Encoded.{IsEncoded, IsEncodeCause};
 
 use crate::encoding::{Encoded, encode_fit};
@@ -43,6 +43,7 @@ impl Model for Values {
 
 impl Values {
     /// A fit with its interface. Memory is the only refusal: the interface has as many values as can be counted.
+    #[inline(always)]
     pub fn of(compiled: &Arc<Compiled>, fit: Fit) -> Result<Values, Refusal>
         requires { fit.interface ≡ arc_value compiled.now }
         ensures ok { IfOk result (λ v. v ≡ fit) }

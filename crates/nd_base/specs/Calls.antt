@@ -2,7 +2,7 @@
 use Rattle.std.specs.Prelude.{◌≡◌, ℕ, Bool, List, ◌==◌}
 use Rattle.std.specs.List.{list_any}
 use Rattle.nd_base.specs.declared.calls.Calls.{Calls}
-use Rattle.nd_base.specs.Counts.{next_count}
+use Rattle.nd_base.specs.Over.{next_count}
 
 -- the numbers, from 1, of the calls that are to fail
 abbrev pub failing_calls : Calls → List ℕ

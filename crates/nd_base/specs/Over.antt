@@ -1,8 +1,60 @@
 -- What files, sources and sinks show over a call: what they showed before and after it, and their counts.
-use Rattle.std.specs.Prelude.{◌≡◌, ℕ, Bool, List, Option, ◌++◌}
+use Rattle.std.specs.Prelude.{◌≡◌, ℕ, ◌+◌, ◌<◌, ◌≤◌, ◌-◌, ◌^◌, min, Bool, true, false, List, [], ◌++◌, length, take, Option, Some, None, Result}
+use Rattle.std.specs.Prelude.{OnErr, Ok, MatchResult, option_map, ⊤}
 use Rattle.std.specs.Io.KnownBytes.{Appends}
-use Rattle.nd_base.specs.Counts.{Rose}
-use Rattle.nd_base.specs.Outside.{AppendsPrefix}
+use Rattle.nd_base.specs.declared.TheConstants.{FILE_LIMIT}
+
+-- ## Counts of faults and of calls
+
+-- one more, in a counter that stays at its greatest value, 2 ^ 64 - 1
+abbrev pub next_count : ℕ → ℕ
+next_count count = min (count + 1) (2 ^ 64 - 1)
+
+-- a count rose, or is at the greatest value that a counter can have
+abbrev pub Rose : ℕ → ℕ → Type 0
+Rose before now = next_count before ≤ now
+
+-- a count never falls, and an error comes only where it rose
+pub record HasCause {T E : Type 0} (before now : ℕ) (result : Result T E) : Type 0 where
+  pub later : before ≤ now
+  pub failed : OnErr result (Rose before now)
+
+-- ## What sources, sinks and files do to what they show
+
+-- some prefix of the piece was appended
+abbrev pub AppendsPrefix : Option (List ℕ) → Option (List ℕ) → List ℕ → Type 0
+AppendsPrefix old new piece = (n : ℕ) × Appends old new (take n piece)
+
+-- the whole piece was appended at `Ok`, and a prefix of it at `Err`
+abbrev pub PutAppends : {T E : Type 0} → Option (List ℕ) → Option (List ℕ) → Result T E → List ℕ → Type 0
+PutAppends old new result piece = MatchResult result (λ _. Appends old new piece) (λ _. AppendsPrefix old new piece)
+
+-- None for a buffer with room is the end, and after the end nothing comes.
+pub record StaysEnded {E : Type 0} (before now : Bool) (result : Result ℕ E) (buf : List ℕ) : Type 0 where
+  pub met : result ≡ Ok 0 → 0 < length buf → now ≡ true
+  pub stays : before ≡ true → now ≡ true
+  pub nothing : (n : ℕ) → before ≡ true → result ≡ Ok n → n ≡ 0
+
+-- what is left of what a reader shows: nothing once the end was met
+abbrev pub left_at : Bool → Option (List ℕ) → Option (List ℕ)
+left_at false left = left
+left_at true left = option_map (λ _. []) left
+
+-- the octets of a file that a load gives
+abbrev pub loaded : List ℕ → List ℕ
+loaded content = take (FILE_LIMIT + 1) content
+
+-- what a load gave under a name, where the names are known
+abbrev pub IsContent : Option (List ℕ → Option (List ℕ)) → List ℕ → List ℕ → Type 0
+IsContent None name octets = ⊤
+IsContent (Some held) name octets = option_map loaded (held name) ≡ Some octets
+
+-- the name is not held, where the names are known
+abbrev pub IsMissing : Option (List ℕ → Option (List ℕ)) → List ℕ → Type 0
+IsMissing None name = ⊤
+IsMissing (Some held) name = held name ≡ None
+
+-- ## What was shown before and after a call
 
 -- a count at the entry and at the exit
 pub record Count : Type 0 where
@@ -16,7 +68,7 @@ count f before now = record { before = f before; now = f now }
 abbrev pub HasRisen : Count → Type 0
 HasRisen c = Rose c.before c.now
 
--- ## Files
+-- ### Files
 
 -- files over a call: what they hold, the names by which they were asked for, and how often they were absent and failed
 pub record FilesSeen : Type 0 where
@@ -45,7 +97,7 @@ pub record AreUntouched (f : FilesSeen) : Type 0 where
   pub none_absent : f.absences.now ≡ f.absences.before
   pub no_fault : f.faults.now ≡ f.faults.before
 
--- ## Sources
+-- ### Sources
 
 -- a source over a call
 pub record SourceSeen : Type 0 where
@@ -62,7 +114,7 @@ pub record IsUntouched (s : SourceSeen) : Type 0 where
   pub nothing_taken : s.left_now ≡ s.left
   pub no_fault : s.faults.now ≡ s.faults.before
 
--- ## Sinks
+-- ### Sinks
 
 -- a sink over a call
 pub record SinkSeen : Type 0 where

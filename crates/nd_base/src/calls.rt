@@ -1,6 +1,6 @@
 // The calls of an object in memory, some of which are to fail.
 ghost use Rattle.std.specs.Prelude.{◌≡◌, ◌≤◌, IfOk, if◌then◌else◌};
-ghost use Rattle.nd_base.specs.Counts.{next_count};
+ghost use Rattle.nd_base.specs.Over.{next_count};
 ghost use Rattle.nd_base.specs.Calls.{failing_calls, calls_done, fails_next, CallMade};
 
 use crate::Memory;

@@ -7,13 +7,12 @@ use Rattle.nd_types.specs.declared.interface.Interface.{Interface}
 use Rattle.nd_types.specs.declared.types.Operation.{Operation}
 use Rattle.nd_types.specs.declared.types.Side.{Side}
 use Rattle.nd_types.specs.declared.types.Side.TheVariants as side
-use Rattle.nd_types.specs.Walk.{NamedRoot, named_roots}
+use Rattle.nd_types.specs.Roots.{NamedRoot, named_roots}
 use Rattle.nd_value.specs.declared.value.Graph.{Graph}
 use Rattle.nd_value.specs.Tree.{Tree, none}
 use Rattle.nd_value.specs.Setting.{Setting, or_unread}
-use Rattle.nd_value.specs.Conforms.{Conforms}
+use Rattle.nd_value.specs.Conforms.{Conforms, first_local}
 use Rattle.nd_value.specs.Fitting.{Fitting, IsFit, IsGiven, IsGivenRequest, setting_beside, setting_of}
-use Rattle.nd_value.specs.FirstMisfit.{first_local}
 use Rattle.nd_lemmas.proofs.Lists.{past_end, drop_next as drop-get, drop_past as drop-past}
 use Rattle.nd_value.proofs.Misfits.{local-none}
 use Rattle.nd_misfits.specs.declared.numbers.RootNumber.{RootNumber}

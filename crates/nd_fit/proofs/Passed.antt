@@ -11,8 +11,7 @@ use Rattle.nd_types.specs.declared.types.Operation.{Operation}
 use Rattle.nd_types.specs.declared.types.Side.{Side}
 use Rattle.nd_types.specs.Legal.{has_small_values}
 use Rattle.nd_types.specs.Table.{Table, type_at}
-use Rattle.nd_types.specs.Roots.{Root}
-use Rattle.nd_types.specs.Walk.{NamedRoot, named_root}
+use Rattle.nd_types.specs.Roots.{Root, NamedRoot, named_root}
 use Rattle.nd_value.specs.declared.value.Graph.{Graph}
 use Rattle.nd_value.specs.declared.value.CellId.{CellId}
 use Rattle.nd_value.specs.declared.item.Home.TheVariants as home
@@ -23,9 +22,8 @@ use Rattle.nd_value.specs.Nodes.{child_types}
 use Rattle.nd_value.specs.Misfit.{names_cell}
 use Rattle.nd_value.specs.Canon.{target}
 use Rattle.nd_value.specs.Names.{cells_in, named_by, AreThere, HasNames}
-use Rattle.nd_value.specs.Conforms.{HasFewNodes}
+use Rattle.nd_value.specs.Conforms.{HasFewNodes, IsFirstUnreached, first_local}
 use Rattle.nd_value.specs.Fitting.{setting_beside}
-use Rattle.nd_value.specs.FirstMisfit.{IsFirstUnreached, first_local}
 use Rattle.nd_value.specs.Passes.{first_in, first_in_home, first_in_roots, first_in_cells, AreReached}
 use Rattle.nd_value.proofs.FewRoots.{few_named_roots}
 use Rattle.nd_value.proofs.LocalPass.{local_first}

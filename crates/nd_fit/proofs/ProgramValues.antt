@@ -9,21 +9,17 @@ use Rattle.nd_types.specs.declared.types.TypeDef.TheVariants as def
 use Rattle.nd_types.specs.declared.types.Primitive.TheVariants.{Short}
 use Rattle.nd_types.specs.Legal.{has_small_values}
 use Rattle.nd_types.specs.Table.{Table, type_at, fits_octets}
-use Rattle.nd_types.specs.Roots.{Root}
-use Rattle.nd_types.specs.Walk.{NamedRoot, named_root}
+use Rattle.nd_types.specs.Roots.{Root, NamedRoot, named_root}
 use Rattle.nd_value.specs.declared.value.Graph.{Graph}
 use Rattle.nd_value.specs.declared.item.Home.{Home}
 use Rattle.nd_value.specs.declared.item.Home.TheVariants as home
 use Rattle.nd_value.specs.Tree as tree
 use Rattle.nd_value.specs.Tree.{Tree, Trees, Label, node, none, more, count, trees, node_count, Referent}
-use Rattle.nd_value.specs.Agreement.{Agreement}
+use Rattle.nd_value.specs.Agreement.{Agreement, root_agreements}
 use Rattle.nd_value.specs.Setting.{Setting, root_list, cell_home}
 use Rattle.nd_value.specs.Nodes.{TypedNode, child_types, child_agreements, rest_agreements, nodes_of}
-use Rattle.nd_value.specs.Variables.{root_agreements}
-use Rattle.nd_value.specs.Homes.{HomeNode, in_home, root_nodes, cell_nodes, all_nodes}
+use Rattle.nd_value.specs.Conforms.{HomeNode, in_home, root_nodes, cell_nodes, all_nodes, HasFewNodes, first_local}
 use Rattle.nd_value.specs.Misfit.{has_machine_values, is_octet, is_count, has_shape, has_range, is_within}
-use Rattle.nd_value.specs.Conforms.{HasFewNodes}
-use Rattle.nd_value.specs.FirstMisfit.{first_local}
 use Rattle.nd_value.specs.Passes.{first_in, first_in_home, first_in_roots, first_in_cells}
 use Rattle.nd_value.proofs.Apart.{all_map}
 use Rattle.nd_value.proofs.LocalPass.{local_first}

@@ -10,9 +10,7 @@ use Rattle.nd_value.specs.declared.item.Home.TheVariants as home
 use Rattle.nd_value.specs.Tree.{Tree, Referent, none, more}
 use Rattle.nd_value.specs.Setting.{Setting, root_list, cell_home, cell_tree, cell_of_number, Among}
 use Rattle.nd_value.specs.Deferral.{Pending, home_pointers}
-use Rattle.nd_value.specs.Homes.{root_pointers}
-use Rattle.nd_value.specs.Conforms.{Reached, by_root, by_cell}
-use Rattle.nd_value.specs.FirstMisfit.{IsFirstUnreached}
+use Rattle.nd_value.specs.Conforms.{root_pointers, Reached, by_root, by_cell, IsFirstUnreached}
 use Rattle.nd_value.specs.Canon.{target}
 use Rattle.nd_value.specs.Names.{named_by}
 use Rattle.nd_fit.specs.Reach.{Reach, root_names, cell_names, TellsReach, RootsFormed, CellsFormed}

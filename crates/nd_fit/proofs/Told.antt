@@ -10,10 +10,9 @@ use Rattle.nd_value.specs.declared.misfit.MisfitReason.{MisfitReason}
 use Rattle.nd_value.specs.declared.misfit.Misfit.{Misfit}
 use Rattle.nd_value.specs.declared.misfit.Misfit.TheVariants as answer
 use Rattle.nd_value.specs.Setting.{Setting, cell_home}
-use Rattle.nd_value.specs.Homes.{all_pointers}
-use Rattle.nd_value.specs.Conforms.{Conforms}
+use Rattle.nd_value.specs.Conforms.{all_pointers, Conforms, MisfitAt, first_local, first_shared, first_disagreeing, IsFirstMisfit, is_local, is_shared, is_unreached, is_disagreeing, IsMisfit}
+use Rattle.nd_value.specs.Conforms.{IsOfNoFit}
 use Rattle.nd_value.specs.Fitting.{setting_beside, IsFit, IsGiven}
-use Rattle.nd_value.specs.FirstMisfit.{MisfitAt, first_local, first_shared, first_disagreeing, IsFirstMisfit, is_local, is_shared, is_unreached, is_disagreeing, IsMisfit, IsOfNoFit}
 use Rattle.nd_value.specs.Passes.{Tells, TellsUnreached, AreReached}
 use Rattle.nd_value.proofs.Misfits.{misfit_is_no_fit}
 

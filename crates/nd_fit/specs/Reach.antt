@@ -1,6 +1,6 @@
 -- Which cells are reached, by what nodes say alone; and the search for them.
 -- `g` is a graph, `t` a tree, `b` and `c` are cells' numbers, `cs` some of them, `n` is how many cells there are, `s` how far the search has come.
-use Rattle.std.specs.Prelude.{◌≡◌, ℕ, suc, ◌+◌, ◌<◌, ◌≤◌, Bool, true, false, List, [], ◌∷◌, ◌++◌, length, get_or, set, Option, Some, None}
+use Rattle.std.specs.Prelude.{◌≡◌, ℕ, suc, ◌+◌, ◌<◌, ◌≤◌, Bool, true, false, List, [], ◌∷◌, ◌++◌, length, slice_index_or, set, Option, Some, None}
 use Rattle.std.specs.List.{AllByRecursion}
 use Rattle.nd_value.specs.declared.value.Graph.{Graph}
 use Rattle.nd_value.specs.declared.value.CellId.{CellId}
@@ -25,7 +25,7 @@ abbrev pub searched : List Bool → List ℕ → Search
 searched marks queue = record { marks = marks; queue = queue }
 
 abbrev pub is_marked : Search → ℕ → Bool
-is_marked s c = get_or s.marks c false
+is_marked s c = slice_index_or s.marks c false
 
 -- a cell is marked, unless it is
 abbrev pub note_by : Bool → ℕ → Search → Search
@@ -61,7 +61,7 @@ pub record Searching (g : Graph) (rs : List Tree) (s : Search) (at : ℕ) : Type
   pub there : AreThere (length g.cells) s.queue
   pub queued : (c : ℕ) → is_marked s c ≡ true → Among s.queue c
   pub roots : AllByRecursion (λ t. AreMarked s (named_by t)) rs
-  pub closed : (i : ℕ) → i < at → AreMarked s (named_by (cell_at g (get_or s.queue i 0)))
+  pub closed : (i : ℕ) → i < at → AreMarked s (named_by (cell_at g (slice_index_or s.queue i 0)))
   pub marks : length s.marks ≡ suc (length g.cells)
   pub few : length s.queue + unmarked s.marks ≡ suc (length g.cells)
 
@@ -82,5 +82,6 @@ TellsReach g (Some c) = (0 < c.0) × (c.0 ≤ length g.cells) × (¬ Reach g c.0
 
 -- the first cell that is not marked, if one is not
 abbrev pub TellsMark : ℕ → List Bool → Option CellId → Type 0
-TellsMark n marks None = (c : ℕ) → 0 < c → c ≤ n → get_or marks c false ≡ true
-TellsMark n marks (Some c) = (0 < c.0) × (c.0 ≤ n) × (get_or marks c.0 false ≡ false) × ((d : ℕ) → 0 < d → d < c.0 → get_or marks d false ≡ true)
+TellsMark n marks None = (c : ℕ) → 0 < c → c ≤ n → slice_index_or marks c false ≡ true
+TellsMark n marks (Some c) =
+    (0 < c.0) × (c.0 ≤ n) × (slice_index_or marks c.0 false ≡ false) × ((d : ℕ) → 0 < d → d < c.0 → slice_index_or marks d false ≡ true)

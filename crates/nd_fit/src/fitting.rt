@@ -2,9 +2,8 @@
 ghost use Rattle.std.specs.Prelude.{◌≡◌, ◌<◌, ◌^◌, length, slice_get, option_map, Option, Some, None, IfOk, IfErr, OnOk};
 ghost use Rattle.nd_value.specs.declared.value.Graph.{Graph as GraphValue};
 ghost use Rattle.nd_types.specs.declared.types.Operation.{Operation};
-ghost use Rattle.nd_value.specs.Conforms.{Conforms, HasFewNodes};
+ghost use Rattle.nd_value.specs.Conforms.{Conforms, HasFewNodes, first_local, IsMisfit, IsOfNoFit};
 ghost use Rattle.nd_value.specs.Fitting.{setting_beside};
-ghost use Rattle.nd_value.specs.FirstMisfit.{first_local, IsMisfit, IsOfNoFit};
 ghost use Rattle.nd_value.specs.Passes.{TellsUnreached, AreReached};
 ghost use Rattle.nd_value.specs.Request.{IsRequestOf};
 

@@ -2,7 +2,7 @@
 ghost use Rattle.std.specs.Prelude.{◌≡◌, ◌<◌, true, length, slice_get, option_map, Some, IfOk};
 ghost use Rattle.nd_types.specs.declared.types.Operation.{Operation};
 ghost use Rattle.nd_types.specs.declared.types.Side.TheVariants as side;
-ghost use Rattle.nd_types.specs.Walk.{named_roots};
+ghost use Rattle.nd_types.specs.Roots.{named_roots};
 ghost use Rattle.nd_value.specs.Agreement.{number_of};
 ghost use Rattle.nd_value.specs.Setting.{root_at, cell_at};
 ghost use Rattle.nd_misfits.specs.Numbers.{given_numbers, numbers_of, number_at, are_small_roots};

@@ -3,8 +3,7 @@ ghost use Rattle.std.specs.Prelude.{ℕ, ◌<◌, ◌≤◌, length, Some, None}
 ghost use Rattle.nd_value.specs.declared.value.Graph.{Graph};
 ghost use Rattle.nd_value.specs.declared.value.CellId.{CellId};
 ghost use Rattle.nd_value.specs.Setting.{Setting, root_list};
-ghost use Rattle.nd_value.specs.Conforms.{Reached};
-ghost use Rattle.nd_value.specs.FirstMisfit.{IsFirstUnreached};
+ghost use Rattle.nd_value.specs.Conforms.{Reached, IsFirstUnreached};
 ghost use Rattle.nd_fit.specs.Reach.{Reach, TellsReach, RootsFormed, CellsFormed};
 
 /// Where each value has the form of its type, the cells that nodes reach are those that pointers reach by their types.

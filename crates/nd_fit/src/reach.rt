@@ -1,5 +1,5 @@
 // Which cells are reached: the third pass of a fit.
-ghost use Rattle.std.specs.Prelude.{◌≡◌, ◌+◌, ◌<◌, ◌≤◌, ◌^◌, ◌++◌, true, false, length, replicate, get_or, suc};
+ghost use Rattle.std.specs.Prelude.{◌≡◌, ◌+◌, ◌<◌, ◌≤◌, ◌^◌, ◌++◌, true, false, length, replicate, slice_index_or, suc};
 ghost use Rattle.std.specs.Prelude.{Option, OnOk, IfOk, MatchOption};
 ghost use Rattle.nd_value.specs.Seen.{cell_number};
 ghost use Rattle.nd_value.specs.Canon.{target};
@@ -64,7 +64,7 @@ fn from_cells(graph: &FlatGraph, marks: &mut Vec<bool>, queue: &mut Vec<u32>) ->
 
 // An item of a list.
 fn item(list: &[u32], at: usize) -> Option<u32>
-    ensures { MatchOption result (length list.now ≤ at) (λ c. (at < length list.now) × (c ≡ get_or list.now at 0)) }
+    ensures { MatchOption result (length list.now ≤ at) (λ c. (at < length list.now) × (c ≡ slice_index_or list.now at 0)) }
 {
     if at < list.len() {
         Some(list[at])

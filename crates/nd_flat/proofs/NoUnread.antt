@@ -12,10 +12,9 @@ use Rattle.nd_value.specs.Tree as tree
 use Rattle.nd_value.specs.Tree.{Tree, Trees, node, none, more, Referent}
 use Rattle.nd_value.specs.Setting.{Setting, unread, root_list, cell_home}
 use Rattle.nd_value.specs.Nodes.{TypedNode, governed_nodes, home_nodes}
-use Rattle.nd_value.specs.Variables.{root_agreements}
-use Rattle.nd_value.specs.Homes.{HomeNode, in_home, root_nodes, cell_nodes}
+use Rattle.nd_value.specs.Agreement.{root_agreements}
+use Rattle.nd_value.specs.Conforms.{HomeNode, in_home, root_nodes, cell_nodes, Conforms}
 use Rattle.nd_value.specs.Misfit.{misfit_of, has_shape, unless, has_range, is_no_null_ref, names_cell, names_pointee, has_counts, is_within, has_no_zero, has_arm}
-use Rattle.nd_value.specs.Conforms.{Conforms}
 use Rattle.nd_flat.specs.declared.node.Node.{Node}
 use Rattle.nd_flat.specs.declared.flat.Span.{Span}
 use Rattle.nd_flat.specs.declared.flat.CellSpan.{CellSpan}

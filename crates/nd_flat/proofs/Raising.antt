@@ -45,6 +45,7 @@ pipe_node os k (kept.Negative z) fs t h = let e = h.0 in cc
 pipe_node os k (kept.Rec m) fs t h = let e = h.0 in cc
 pipe_node os k (kept.Arr max offset m) fs t h = let e = h.0 in cc
 pipe_node os k (kept.Text max len from) fs t h = let e = h.0 in cc
+pipe_node os k (kept.ShortText max len short) fs t h = let e = h.0 in cc
 pipe_node os k (kept.Tag z armed) fs t h = let e = h.0 in cc
 pipe_node os k (kept.NegativeTag z armed) fs t h = let e = h.0 in cc
 pipe_node os k kept.Null fs t h = let e = h.0 in cc

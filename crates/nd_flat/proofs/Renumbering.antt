@@ -8,7 +8,7 @@ use Rattle.nd_value.specs.declared.value.Graph.{Graph}
 use Rattle.nd_value.specs.Tree as tree
 use Rattle.nd_value.specs.Tree.{Tree, Trees, Label, Flat, Referent, node, none, more, count, flat, unflat, take_trees, drop_trees}
 use Rattle.nd_value.specs.Names.{AreThere}
-use Rattle.nd_value.specs.Same.{renumbered, renumbered_label}
+use Rattle.nd_value.specs.Canon.{renumbered, renumbered_label}
 use Rattle.nd_value.specs.Setting.{cell_tree, cell_of_number}
 use Rattle.nd_base.specs.declared.octets.Order.{Order}
 use Rattle.nd_types.specs.declared.types.Primitive.{Primitive}
@@ -114,6 +114,7 @@ module _ (numbers os : List ℕ) where
   node_seen (kept.Rec k) = refl
   node_seen (kept.Arr max offset k) = refl
   node_seen (kept.Text max len from) = refl
+  node_seen (kept.ShortText max len short) = refl
   node_seen (kept.Tag tag armed) = refl
   node_seen (kept.NegativeTag tag armed) = refl
   node_seen kept.Null = refl
@@ -133,6 +134,7 @@ module _ (numbers os : List ℕ) where
   node_texts (kept.Rec k) h = tt
   node_texts (kept.Arr max offset k) h = tt
   node_texts (kept.Text max len from) h = h
+  node_texts (kept.ShortText max len short) h = h
   node_texts (kept.Tag tag armed) h = tt
   node_texts (kept.NegativeTag tag armed) h = tt
   node_texts kept.Null h = tt

@@ -1,7 +1,7 @@
 -- Nodes as they are kept, and what contracts see of them.
 -- `os` are the octets of all texts, `n` is a node or a number, `k` a number of children.
 use Rattle.std.specs.Prelude.{◌≡◌, ℕ, ◌+◌, ◌-◌, ◌^◌, ◌<◌, ◌≤◌, ◌≤ℤ◌, ℤ, pos, negsuc, Bool, true, false, List, [], ◌∷◌, length, take, drop, map, ◌++◌}
-use Rattle.std.specs.Prelude.{◌*◌, zero, suc, Some, None}
+use Rattle.std.specs.Prelude.{◌*◌, zero, suc, Some, None, if◌then◌else◌, nat_le}
 use Rattle.std.specs.List.{AllByRecursion}
 use Rattle.nd_value.specs.Tree as tree
 use Rattle.nd_value.specs.Tree.{Flat, Label, Trees, node, none, more}
@@ -88,6 +88,7 @@ seen_nodes os (kept.Negative n) = (tree.Num (negsuc n), 0) ∷ []
 seen_nodes os (kept.Rec k) = (tree.Rec, k) ∷ []
 seen_nodes os (kept.Arr max offset k) = (tree.Arr max offset, k) ∷ []
 seen_nodes os (kept.Text max len from) = (tree.Text max (take len (drop from os)), 0) ∷ []
+seen_nodes os (kept.ShortText max len short) = (tree.Text max (take len short), 0) ∷ []
 seen_nodes os (kept.Tag tag armed) = (tree.Union (pos tag), armed_count armed) ∷ []
 seen_nodes os (kept.NegativeTag tag armed) = (tree.Union (negsuc tag), armed_count armed) ∷ []
 seen_nodes os kept.Null = (tree.Ptr None, 0) ∷ []
@@ -108,9 +109,10 @@ abbrev pub flats : List ℕ → List Node → List Flat
 flats os [] = []
 flats os (n ∷ ns) = seen_nodes os n ++ flats os ns
 
--- the octets of a text, of a row of some numbers, or of some structs, are there
+-- the octets of a text, which are few if the node has them, of a row of some numbers, or of some structs, are there
 abbrev pub HasOctets : List ℕ → Node → Type 0
 HasOctets os (kept.Text max len from) = from + len ≤ length os
+HasOctets os (kept.ShortText max len short) = len ≤ 15
 HasOctets os (kept.Row r) = HasRow os r × (0 < r.count)
 HasOctets os (kept.Records o m n from) = HasRecords os (record { order = o; members = m; count = n; from = from })
 HasOctets os _ = Unit {0}
@@ -140,6 +142,15 @@ IsKeepable (tree.Union z) = IsKeepableNumber z
 IsKeepable (tree.Text max octets) = length octets < 2 ^ 32
 IsKeepable tree.Unread = ⊥
 IsKeepable _ = Unit {0}
+
+-- the octets of a text of more than 15 octets; those of others are kept in their nodes
+abbrev pub long_text : List ℕ → List ℕ
+long_text os = if nat_le (length os) 15 then [] else os
+
+-- what a node adds to the octets that are kept
+abbrev pub text_kept : Label → List ℕ
+text_kept (tree.Text max octets) = long_text octets
+text_kept _ = []
 
 -- the octets of a text
 abbrev pub text_of : Label → List ℕ

@@ -2,7 +2,7 @@
 -- each struct at a multiple of the width of its widest number.
 -- `o` is an order, `p` a primitive, `ps` are the members of a struct by their primitives, `at` is a place in a struct, `n` a number of structs, `os`
 -- are octets.
-use Rattle.std.specs.Prelude.{◌≡◌, ℕ, ◌+◌, ◌-◌, ◌*◌, ◌%◌, ◌<◌, ◌≤◌, zero, suc, ℤ, max, List, [], ◌∷◌, ◌++◌, length, take, drop, get_or}
+use Rattle.std.specs.Prelude.{◌≡◌, ℕ, ◌+◌, ◌-◌, ◌*◌, ◌%◌, ◌<◌, ◌≤◌, zero, suc, ℤ, max, List, [], ◌∷◌, ◌++◌, length, take, drop, slice_index_or}
 use Rattle.nd_base.specs.declared.octets.Order.{Order}
 use Rattle.nd_base.specs.declared.octets.Order.TheVariants.{Little}
 use Rattle.nd_types.specs.declared.types.Primitive.TheVariants.{Byte}
@@ -119,7 +119,7 @@ no_records = record {
 
 -- the next member
 abbrev pub next_prim : RecordsLeft → Primitive
-next_prim r = get_or r.members.prims r.next Byte
+next_prim r = slice_index_or r.members.prims r.next Byte
 
 -- its number
 abbrev pub next_value : List ℕ → RecordsLeft → ℤ

@@ -1,6 +1,7 @@
 -- A graph as it is kept, and as contracts see it.
 -- `os` are the octets of all texts, `ns` all nodes, `s` is a span, `c` a cell, `rs` are the spans of roots, `cs` those of cells.
-use Rattle.std.specs.Prelude.{◌≡◌, ◌⊎◌, ℕ, ◌+◌, ◌-◌, ◌<◌, ◌≤◌, ◌^◌, suc, zero, slice_set, List, [], ◌∷◌, length, take, drop, map, get_or, Option}
+use Rattle.std.specs.Prelude.{◌≡◌, ◌⊎◌, ℕ, ◌+◌, ◌-◌, ◌<◌, ◌≤◌, ◌^◌, suc, zero, slice_set, List, [], ◌∷◌, length, take, drop, map, slice_index_or}
+use Rattle.std.specs.Prelude.{Option}
 use Rattle.std.specs.Prelude.{Some, None}
 use Rattle.std.specs.List.{AllByRecursion}
 use Rattle.nd_types.specs.declared.interface.Interface.{Interface}
@@ -64,8 +65,8 @@ abbrev pub no_cell : CellSpan
 no_cell = record { of = record { 0 = 0 }; span = no_span }
 
 abbrev pub chosen_span : List Span → List CellSpan → Home → Span
-chosen_span rs cs (home.Root i) = get_or rs i no_span
-chosen_span rs cs (home.Cell c) = (get_or cs (c.0 - 1) no_cell).span
+chosen_span rs cs (home.Root i) = slice_index_or rs i no_span
+chosen_span rs cs (home.Cell c) = (slice_index_or cs (c.0 - 1) no_cell).span
 
 -- a span is empty, or holds the nodes of one tree, and ends before a place
 pub record IsSound (os : List ℕ) (ns : List Node) (to : ℕ) (s : Span) : Type 0 where

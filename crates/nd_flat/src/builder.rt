@@ -1,5 +1,6 @@
 // Graphs as they are built.
-ghost use Rattle.std.specs.Prelude.{◌≡◌, ℕ, ◌+◌, ◌-◌, ◌<◌, ◌≤◌, ◌^◌, ◌++◌, [], ◌∷◌, length, drop, OnOk, OnErr, IfOk, IfErr, IsTrue, None, option_map};
+ghost use Rattle.std.specs.Prelude.{◌≡◌, ℕ, ◌+◌, ◌-◌, ◌<◌, ◌≤◌, ◌^◌, ◌++◌, [], ◌∷◌, length, drop, slice_set};
+ghost use Rattle.std.specs.Prelude.{OnOk, OnErr, IfOk, IfErr, IsTrue, None, option_map};
 ghost use Rattle.nd_value.specs.Setting.{unread, cell_home};
 ghost use Rattle.nd_value.specs.Tree.{Tree, Referent};
 ghost use Rattle.nd_value.specs.declared.item.Home.TheVariants as home;
@@ -17,6 +18,7 @@ use crate::{Fit, Records, Row, Seen};
 use nd_base::{Ledger, Memory, Octets, Steps, push};
 use nd_types::{Side, Tie, TypeId};
 use nd_value::CellId;
+use smallvec::SmallVec;
 use std::alloc::Global;
 use std::marker::Model;
 
@@ -36,7 +38,7 @@ pub enum OpenHome {
 pub struct Builder {
     nodes: Vec<Node>,
     octets: Octets,
-    roots: Vec<Span>,
+    roots: SmallVec<Span, 4>,
     cells: Vec<CellSpan>,
     home: OpenHome,
     // where the nodes of the open home begin
@@ -71,7 +73,7 @@ impl Builder {
         Builder {
             nodes: Vec::new(alloc),
             octets: Octets::new(alloc),
-            roots: Vec::new(alloc),
+            roots: SmallVec::new(alloc),
             cells: Vec::new(alloc),
             home: OpenHome::NoHome,
             from: 0,
@@ -82,7 +84,8 @@ impl Builder {
         }
     }
 
-    /// Opens the next root, which takes memory. The home that was open must be whole. Out of memory is the only refusal.
+    /// Opens the next root, which takes memory after the fourth. The home that was open must be whole. Out of memory is the only refusal.
+    #[inline(always)]
     pub fn root(&mut self) -> Result<(), Memory>
         requires { CanClose self.old }
         ensures ok { OnOk result (self.new ≡ opened (home.Root (length self.old.graph.roots)) (with_root (closed self.old)) self.old) }
@@ -282,18 +285,29 @@ ghost use Rattle.nd_flat.specs.Store.{IsPlace, closed_roots, closed_cells, IsPip
 
 // Notes the span of the home that was open.
 #[inline(always)]
-fn close(home: OpenHome, span: Span, roots: &mut Vec<Span>, cells: &mut Vec<CellSpan>)
+fn close(home: OpenHome, span: Span, roots: &mut SmallVec<Span, 4>, cells: &mut Vec<CellSpan>)
     requires { IsPlace roots.old.items cells.old.items home }
     ensures roots { roots.new.items ≡ closed_roots home span roots.old.items }
     ensures cells { cells.new.items ≡ closed_cells home span cells.old.items }
 {
     match home {
         OpenHome::NoHome => {}
-        OpenHome::Root(at) => roots[at] = span,
+        OpenHome::Root(at) => put_root(roots, at, span),
         OpenHome::Cell(at) => {
             let of = cells[at].of;
             cells[at] = CellSpan { of, span };
         }
+    }
+}
+
+// Makes the span of a root this one.
+#[inline(always)]
+fn put_root(roots: &mut SmallVec<Span, 4>, at: usize, span: Span)
+    requires { at < length roots.old.items }
+    ensures { roots.new.items ≡ slice_set roots.old.items at span }
+{
+    if let Some(place) = roots.get_mut(at) {
+        *place = span;
     }
 }
 

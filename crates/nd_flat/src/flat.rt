@@ -1,5 +1,5 @@
 // Graphs kept flat: all nodes in one list, of which each root and each cell has a span.
-ghost use Rattle.std.specs.Prelude.{◌≡◌, ◌<◌, suc, length, slice_get, get_or, IfOk};
+ghost use Rattle.std.specs.Prelude.{◌≡◌, ◌<◌, suc, length, slice_get, slice_index_or, IfOk};
 ghost use Rattle.nd_value.specs.Tree.{more, none};
 
 use crate::node::Node;
@@ -8,6 +8,7 @@ use crate::{PlainWalk, Walk};
 use nd_base::{Memory, Octets};
 use nd_types::TypeId;
 use nd_value::{Graph, Home};
+use smallvec::SmallVec;
 use std::alloc::Global;
 use std::marker::Model;
 
@@ -18,6 +19,12 @@ pub struct Span {
     pub len: usize,
 }
 
+impl Default for Span {
+    fn default() -> Span {
+        Span { from: 0, len: 0 }
+    }
+}
+
 // The same of a cell, with the type of its value.
 #[derive(Clone, Copy, Drop)]
 pub struct CellSpan {
@@ -25,13 +32,14 @@ pub struct CellSpan {
     pub span: Span,
 }
 
-/// A graph whose values are kept as lists of nodes, and its texts, rows of numbers and structs of numbers as octets. Contracts see it as roots and
-/// cells. A node takes 24 octets, and a row of numbers, or structs of numbers side by side, one node and their octets.
+/// A graph whose values are kept as lists of nodes, and its longer texts, rows of numbers and structs of numbers as octets. Contracts see it as
+/// roots and cells. A node takes 24 octets, and a row of numbers, or structs of numbers side by side, one node and their octets. Of the first four
+/// roots it takes no memory but for their nodes.
 #[derive(Drop)]
 pub struct FlatGraph {
     pub(crate) nodes: Vec<Node>,
     pub(crate) octets: Octets,
-    pub(crate) roots: Vec<Span>,
+    pub(crate) roots: SmallVec<Span, 4>,
     pub(crate) cells: Vec<CellSpan>,
 }
 
@@ -122,6 +130,34 @@ impl FlatGraph {
         )
     }
 
+    /// The walk over a root, as one that gives nodes that are kept one by one. Takes no memory.
+    #[inline(always)]
+    pub fn root_plain_walk(&self, at: usize) -> PlainWalk<'_>
+        requires { at < length self.now.roots }
+        ensures { result ≡ more (root_at self.now at) none }
+    {
+        let span = root_span(self.roots.as_slice(), at);
+        let nodes = self.nodes.as_slice();
+        PlainWalk::over(
+            &nodes[span.from..span.from + span.len],
+            self.octets.as_slice(),
+        )
+    }
+
+    /// The same of a cell by its place, from 0. Takes no memory.
+    #[inline(always)]
+    pub fn cell_plain_walk(&self, at: usize) -> PlainWalk<'_>
+        requires { at < length self.now.cells }
+        ensures { result ≡ more (cell_at self.now (suc at)) none }
+    {
+        let span = cell_span(self.cells.as_slice(), at);
+        let nodes = self.nodes.as_slice();
+        PlainWalk::over(
+            &nodes[span.from..span.from + span.len],
+            self.octets.as_slice(),
+        )
+    }
+
     /// The type of a cell by its place, from 0. Takes no memory.
     pub fn cell_type(&self, at: usize) -> TypeId
         requires { at < length self.now.cells }
@@ -147,7 +183,7 @@ ghost use Rattle.nd_flat.specs.Store.{HasSpan, chosen_span, no_span, no_cell};
 // The span of a root by its place.
 fn root_span(roots: &[Span], at: usize) -> Span
     requires { at < length roots.now }
-    ensures { result ≡ get_or roots.now at no_span }
+    ensures { result ≡ slice_index_or roots.now at no_span }
 {
     roots[at]
 }
@@ -155,7 +191,7 @@ fn root_span(roots: &[Span], at: usize) -> Span
 // The span of a cell by its place.
 fn cell_span(cells: &[CellSpan], at: usize) -> Span
     requires { at < length cells.now }
-    ensures { result ≡ (get_or cells.now at no_cell).span }
+    ensures { result ≡ (slice_index_or cells.now at no_cell).span }
 {
     cells[at].span
 }
@@ -163,7 +199,7 @@ fn cell_span(cells: &[CellSpan], at: usize) -> Span
 // The type of a cell by its place.
 fn type_in(cells: &[CellSpan], at: usize) -> TypeId
     requires { at < length cells.now }
-    ensures { result ≡ (get_or cells.now at no_cell).of }
+    ensures { result ≡ (slice_index_or cells.now at no_cell).of }
 {
     cells[at].of
 }

@@ -1,9 +1,9 @@
 // Nodes of values: as callers see them, and as they are kept.
-ghost use Rattle.std.specs.Prelude.{◌≡◌, ℕ, List, [], ◌∷◌, ◌++◌, ◌<◌, ◌≤◌, ◌*◌, ◌^◌, length, OnOk, OnErr, IfOk};
+ghost use Rattle.std.specs.Prelude.{◌≡◌, ℕ, List, [], ◌∷◌, ◌++◌, ◌<◌, ◌≤◌, ◌*◌, ◌^◌, length, take, OnOk, OnErr, IfOk};
 ghost use Rattle.nd_value.specs.Tree as tree;
 ghost use Rattle.nd_value.specs.Seen.{cell_number};
-ghost use Rattle.nd_flat.specs.FlatForm.{seen_nodes, flat_seen, HasOctets, HasRow, after_first, row_flats, IsKeepable, IsKeepableNumber, text_of};
-ghost use Rattle.nd_flat.specs.FlatForm.{armed_count, num_flats, row_numbers, IsRow};
+ghost use Rattle.nd_flat.specs.FlatForm.{seen_nodes, flat_seen, HasOctets, HasRow, after_first, row_flats, IsKeepable, IsKeepableNumber};
+ghost use Rattle.nd_flat.specs.FlatForm.{armed_count, long_text, num_flats, row_numbers, text_kept, IsRow};
 ghost use Rattle.nd_flat.specs.Records.{HasLeft, IsRecords, records_left, all_records};
 
 use crate::records::{KeptRecords, RecordsLeft, begun};
@@ -46,8 +46,11 @@ impl<'a> Seen<'a> {
     }
 }
 
-// A node as it is kept: numbers and tags from 0 on apart from those below 0, the octets of a text by where they begin among all
-// octets that are kept, and numbers of a primitive side by side as one node.
+// A text of more octets than these is not kept in its node.
+const SHORT_TEXT: usize = 15;
+
+// A node as it is kept: numbers and tags from 0 on apart from those below 0, the octets of a text in the node, if they are few, or else by where they
+// begin among all octets that are kept, and numbers of a primitive side by side as one node.
 #[derive(Clone, Copy, Drop)]
 pub enum Node {
     Num(u64),
@@ -63,6 +66,12 @@ pub enum Node {
         max: u32,
         len: u32,
         from: usize,
+    },
+    // the first `len` of these octets
+    ShortText {
+        max: u32,
+        len: u8,
+        octets: [u8; 15],
     },
     Tag {
         tag: u64,
@@ -131,7 +140,7 @@ pub(crate) fn enter(left: &mut KeptRow, records: &mut RecordsLeft, node: &Node, 
 
 // A node as callers see it: of a row its first number, of structs the first.
 #[inline(always)]
-pub(crate) fn first_seen<'a>(node: &Node, octets: &'a [u8]) -> Seen<'a>
+pub(crate) fn first_seen<'a>(node: &'a Node, octets: &'a [u8]) -> Seen<'a>
     requires within { HasOctets octets.now node.now }
     ensures { flat_seen result ∷ after_first octets.now node.now ≡ seen_nodes octets.now node.now }
 {
@@ -151,6 +160,14 @@ pub(crate) fn first_seen<'a>(node: &Node, octets: &'a [u8]) -> Seen<'a>
                 octets: &octets[*from..to],
             }
         }
+        Node::ShortText {
+            max,
+            len,
+            octets: short,
+        } => Seen::Text {
+            max: *max,
+            octets: &short[..*len as usize],
+        },
         Node::Tag { tag, armed } => Seen::Union {
             tag: i128::from(*tag),
             armed: *armed,
@@ -176,11 +193,11 @@ pub(crate) fn first_seen<'a>(node: &Node, octets: &'a [u8]) -> Seen<'a>
     }
 }
 
-// A node as it is kept. The octets of a text are appended to those that are kept; where memory is refused nothing changes.
+// A node as it is kept. The octets of a text that is not short are appended to those that are kept; where memory is refused nothing changes.
 #[inline(always)]
 pub(crate) fn kept_node(octets: &mut Octets, node: &Seen<'_>) -> Result<Node, Memory>
     requires small { IsKeepable (flat_seen node.now).0 }
-    ensures octets { OnOk result (octets.new ≡ octets.old ++ text_of (flat_seen node.now).0) }
+    ensures octets { OnOk result (octets.new ≡ octets.old ++ text_kept (flat_seen node.now).0) }
     ensures within { IfOk result (λ n. HasOctets octets.new n) }
     ensures node { IfOk result (λ n. seen_nodes octets.new n ≡ flat_seen node.now ∷ []) }
     ensures err { OnErr result (octets.new ≡ octets.old) }
@@ -246,7 +263,47 @@ fn kept_tag(tag: i128, armed: bool) -> Node
     }
 }
 
+#[inline(always)]
 fn kept_text(octets: &mut Octets, max: u32, text: &[u8]) -> Result<Node, Memory>
+    requires small { length text.now < 2 ^ 32 }
+    ensures octets { OnOk result (octets.new ≡ octets.old ++ long_text text.now) }
+    ensures within { IfOk result (λ n. HasOctets octets.new n) }
+    ensures node { IfOk result (λ n. seen_nodes octets.new n ≡ (tree.Text max text.now, 0) ∷ []) }
+    ensures err { OnErr result (octets.new ≡ octets.old) }
+{
+    if text.len() <= SHORT_TEXT {
+        return Ok(short_text(max, text));
+    }
+    kept_long(octets, max, text)
+}
+
+// A text of few octets.
+#[inline(always)]
+fn short_text(max: u32, text: &[u8]) -> Node
+    requires few { length text.now ≤ 15 }
+    ensures within { (os : List ℕ) → HasOctets os result }
+    ensures node { (os : List ℕ) → seen_nodes os result ≡ (tree.Text max text.now, 0) ∷ [] }
+{
+    Node::ShortText {
+        max,
+        len: text.len() as u8,
+        octets: short_octets(text),
+    }
+}
+
+// The octets of a short text, and zeros after them.
+#[inline(always)]
+fn short_octets(text: &[u8]) -> [u8; SHORT_TEXT]
+    requires few { length text.now ≤ 15 }
+    ensures { take (length text.now) result ≡ text.now }
+{
+    let mut octets = [0; SHORT_TEXT];
+    octets[..text.len()].copy_from_slice(text);
+    octets
+}
+
+// A text whose octets are appended.
+fn kept_long(octets: &mut Octets, max: u32, text: &[u8]) -> Result<Node, Memory>
     requires small { length text.now < 2 ^ 32 }
     ensures octets { OnOk result (octets.new ≡ octets.old ++ text.now) }
     ensures within { IfOk result (λ n. HasOctets octets.new n) }

@@ -5,7 +5,7 @@ ghost use Rattle.nd_value.specs.Tree.{flat, unflat};
 ghost use Rattle.nd_value.specs.Seen.{cell_number};
 ghost use Rattle.nd_value.specs.Canon.{target};
 ghost use Rattle.nd_value.specs.Names.{cells_in};
-ghost use Rattle.nd_flat.specs.FlatForm.{seen_nodes, left_flats, num_flat, no_row, WalkParts};
+ghost use Rattle.nd_flat.specs.FlatForm.{seen_nodes, left_flats, num_flat, no_row, HasOctets, WalkParts};
 ghost use Rattle.nd_flat.specs.Records.{no_records};
 
 use crate::Walk;
@@ -13,9 +13,9 @@ use crate::node::Node;
 use nd_value::CellId;
 use std::marker::Model;
 
-/// A walk over the nodes of values, depth first, that gives structs, numbers and pointers as they are kept one by one. Where anything else comes it
-/// does not move, and `walk` goes on. It has no state but the nodes that are left, so that short values are walked over fast. Contracts see the
-/// values that are left, as those of a walk do. It takes no memory.
+/// A walk over the nodes of values, depth first, that gives structs, numbers, pointers and strings as they are kept one by one. Where anything else
+/// comes it does not move, and `walk` goes on. It has no state but the nodes that are left, so that short values are walked over fast. Contracts see
+/// the values that are left, as those of a walk do. It takes no memory.
 #[derive(Drop)]
 pub struct PlainWalk<'a> {
     nodes: &'a [Node],
@@ -72,7 +72,7 @@ impl<'a> PlainWalk<'a> {
         Some(number)
     }
 
-    /// What the next node names, where it is a pointer. None says that no pointer comes next, and the walk has not moved. Takes no memory.
+    /// What the next node names, where it is a pointer. None says nothing of what comes next, and the walk has not moved. Takes no memory.
     #[inline(always)]
     pub fn pointer(&mut self) -> Option<Option<CellId>>
         ensures some { IfSome result (λ c. flat self.old ≡ (tree.Ptr (cell_number c), 0) ∷ flat self.new) }
@@ -82,6 +82,19 @@ impl<'a> PlainWalk<'a> {
         let pointer = pointer_in(first)?;
         self.nodes = rest;
         Some(pointer)
+    }
+
+    /// The maximum count and the octets of the next string, where one comes next. None says nothing of what comes next, and the walk has not moved.
+    /// Takes no memory.
+    #[inline(always)]
+    pub fn text(&mut self) -> Option<(u32, &'a [u8])>
+        ensures some { IfSome result (λ t. flat self.old ≡ (tree.Text t.0 t.1.now, 0) ∷ flat self.new) }
+        ensures none { IfNone result (self.new ≡ self.old) }
+    {
+        let (first, rest) = self.nodes.split_first()?;
+        let text = text_in(first, self.octets)?;
+        self.nodes = rest;
+        Some(text)
     }
 
     /// The cell that the next node names, and `Some(None)` where that node names none, if a struct, a number or a pointer comes next as a node of its
@@ -143,6 +156,26 @@ fn pointer_in(node: &Node) -> Option<Option<CellId>>
     match node {
         Node::Ptr(cell) => Some(Some(*cell)),
         Node::Null => Some(None),
+        _ => None,
+    }
+}
+
+// The maximum count and the octets of a node that is a string.
+#[inline(always)]
+fn text_in<'a>(node: &'a Node, octets: &'a [u8]) -> Option<(u32, &'a [u8])>
+    requires within { HasOctets octets.now node.now }
+    ensures { IfSome result (λ t. seen_nodes octets.now node.now ≡ (tree.Text t.0 t.1.now, 0) ∷ []) }
+{
+    match node {
+        Node::Text { max, len, from } => {
+            let to = *from + *len as usize;
+            Some((*max, &octets[*from..to]))
+        }
+        Node::ShortText {
+            max,
+            len,
+            octets: short,
+        } => Some((*max, &short[..*len as usize])),
         _ => None,
     }
 }

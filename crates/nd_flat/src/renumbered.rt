@@ -1,5 +1,5 @@
 // Graphs with their cells renumbered.
-ghost use Rattle.std.specs.Prelude.{◌≡◌, length, map, get_or, IfOk};
+ghost use Rattle.std.specs.Prelude.{◌≡◌, length, map, slice_index_or, IfOk};
 ghost use Rattle.nd_value.specs.Names.{AreThere};
 ghost use Rattle.nd_flat.specs.Renumbered.{renumbered_graph};
 ghost use Rattle.nd_flat.specs.RenumberedNodes.{renumbered_node as renumbered_one, cell_span};
@@ -9,6 +9,7 @@ use crate::flat::{CellSpan, Span};
 use crate::node::Node;
 use nd_base::{Memory, Octets};
 use nd_value::CellId;
+use smallvec::SmallVec;
 use std::alloc::Global;
 
 impl FlatGraph {
@@ -26,7 +27,7 @@ impl FlatGraph {
     {
         let nodes = renumbered_nodes(alloc, self.nodes.as_slice(), numbers)?;
         let octets = Octets::copy(alloc, self.octets.as_slice())?;
-        let roots = Vec::from_slice(alloc, self.roots.as_slice())?;
+        let roots = SmallVec::from_slice(alloc, self.roots.as_slice())?;
         let cells = spans(alloc, self.cells.as_slice(), cells)?;
         Ok(FlatGraph {
             nodes,
@@ -62,7 +63,7 @@ fn renumbered_node(node: &Node, numbers: &[u32]) -> Node
 
 // The new number of a cell; 0 if it has none.
 fn number_of(cell: CellId, numbers: &[u32]) -> u32
-    ensures { result ≡ get_or numbers.now cell.0 0 }
+    ensures { result ≡ slice_index_or numbers.now cell.0 0 }
 {
     let at = cell.0 as usize;
     if at < numbers.len() { numbers[at] } else { 0 }

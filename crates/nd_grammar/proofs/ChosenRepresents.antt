@@ -18,16 +18,14 @@ use Rattle.nd_value.specs.declared.item.Home.{Home}
 use Rattle.nd_value.specs.declared.item.Home.TheVariants as home
 use Rattle.nd_value.specs.Tree as tree
 use Rattle.nd_value.specs.Tree.{Tree, Trees, node, none, more, Label, Referent, count, node_count, take_trees, drop_trees}
-use Rattle.nd_value.specs.Agreement.{Agreement}
+use Rattle.nd_value.specs.Agreement.{Agreement, root_agreements}
 use Rattle.nd_value.specs.Setting.{Setting, Among, root_list, root_at, or_unread, cell_home, cell_at, cell_tree, cell_of_number}
 use Rattle.nd_value.specs.Nodes.{nodes_of, child_types}
 use Rattle.nd_value.specs.Deferral.{Pending, pointer, home_pointers, Due, due_referent, due_roots, before_pipes, Step, root_stands, referent_stands, stands_already, Deferral, none_due, at_root}
 use Rattle.nd_value.specs.Deferral.{at_null, at_standing, at_referent, Placed_cells, Standing, standing_root, standing_by, standing_cell, direct, root_type, due_of}
-use Rattle.nd_value.specs.Variables.{root_agreements}
-use Rattle.nd_value.specs.Homes.{HomeNode, in_home, root_nodes, cell_nodes, all_nodes}
+use Rattle.nd_value.specs.Conforms.{HomeNode, in_home, root_nodes, cell_nodes, all_nodes, Conforms}
 use Rattle.nd_value.specs.Misfit.{has_shape, misfit_of, names_cell, names_pointee, has_machine_values}
-use Rattle.nd_value.specs.Canon.{named, target, own_cell, step_names, named_cells, canonical_number}
-use Rattle.nd_value.specs.Conforms.{Conforms}
+use Rattle.nd_value.specs.Canon.{named, target, own_cell, step_names, named_cells, canonical_number, Same}
 use Rattle.nd_value.proofs.Apart.{all_append, all_left, all_right, all_map, among_left, among_right}
 use Rattle.nd_value.proofs.Orderly.{pointee_of_cell}
 use Rattle.nd_value.proofs.NodeFacts.{IsFit, fit_node, all_of_list, sound_conforming}
@@ -35,12 +33,9 @@ use Rattle.nd_value.proofs.DeferralBridge.{deferral_is}
 use Rattle.nd_value.proofs.DeferralLaws.{one_order}
 use Rattle.nd_value.proofs.DeferralExists.{direct_is}
 use Rattle.nd_grammar.specs.LegalSide.{IsLegalSide}
-use Rattle.nd_grammar.specs.Entry.{Entry, full_cells}
-use Rattle.nd_grammar.specs.InPlace.{tests}
-use Rattle.nd_grammar.specs.Stream.{step_entries, standing_entries, step_tests, root_tests, chunk_entries, chunks, Cuts, pipe_entries, pipes_entries, AllCut, kids_of, representation}
-use Rattle.nd_grammar.specs.Represents.{Represents}
-use Rattle.nd_grammar.specs.Chosen.{Chosen, octets_from, pipe_cuts, cut_within}
-use Rattle.nd_value.specs.Same.{Same}
+use Rattle.nd_grammar.specs.Entry.{Entry, full_cells, tests}
+use Rattle.nd_grammar.specs.Stream.{step_entries, standing_entries, step_tests, root_tests, chunk_entries, chunks, Cuts, pipe_entries, pipes_entries, AllCut, kids_of, representation, Represents}
+use Rattle.nd_grammar.specs.Stream.{Chosen, octets_from, pipe_cuts, cut_within}
 use Rattle.nd_value.proofs.FewRoots.{few_before_pipes}
 use Rattle.nd_grammar.proofs.OneGraph.{IsSpelled, one_spelled}
 use Rattle.std.proofs.lemmas.List.{append-nil}

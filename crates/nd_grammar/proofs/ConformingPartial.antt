@@ -10,9 +10,8 @@ use Rattle.nd_value.specs.declared.value.Graph.{Graph}
 use Rattle.nd_value.specs.Tree.{count}
 use Rattle.nd_value.specs.Setting.{Setting}
 use Rattle.nd_value.specs.Nodes.{TypedNode, child_types}
-use Rattle.nd_value.specs.Homes.{HomeNode, all_nodes}
+use Rattle.nd_value.specs.Conforms.{HomeNode, all_nodes, Conforms, IsPartial}
 use Rattle.nd_value.specs.Misfit.{misfit_of, is_partial_node, is_unread}
-use Rattle.nd_value.specs.Conforms.{Conforms, IsPartial}
 use Rattle.nd_value.proofs.NodeFacts.{IsFit, IsRead, fit_node, fit_is_read}
 use Rattle.nd_value.proofs.ValueRanges.{range_fits}
 use Rattle.nd_grammar.specs.LegalSide.{IsLegalSide}

@@ -11,9 +11,8 @@ use Rattle.nd_value.proofs.FewRoots.{few_before_pipes}
 use Rattle.nd_grammar.specs.declared.reason.Reason.{Reason}
 use Rattle.nd_grammar.specs.Entry.{size_at, end_to_end, full_cells}
 use Rattle.nd_grammar.specs.LegalSide.{IsLegalSide}
-use Rattle.nd_grammar.specs.Represents.{Represents, IsRendered}
-use Rattle.nd_grammar.specs.Refusal.{Accepts}
-use Rattle.nd_grammar.specs.Bad.{Bad}
+use Rattle.nd_grammar.specs.Stream.{Represents, IsRendered}
+use Rattle.nd_grammar.specs.Refusal.{Accepts, Bad}
 use Rattle.nd_grammar.proofs.next.Spelt.{carried_on, carried_low, carried_one, cells_in, all_spelt_carried, spelt_in_more}
 use Rattle.nd_grammar.proofs.next.NextStream.{IsLaidOut}
 use Rattle.nd_grammar.proofs.LegalSides.{laid_out}

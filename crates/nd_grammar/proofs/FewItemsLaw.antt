@@ -14,18 +14,15 @@ use Rattle.nd_value.specs.Tree as tree
 use Rattle.nd_value.specs.Tree.{Tree, Trees, node, none, more}
 use Rattle.nd_value.specs.Setting.{Setting, Among, root_list, root_at, or_unread}
 use Rattle.nd_value.specs.Deferral.{Pending, home_pointers, due_root, due_roots, before_pipes, Step, Deferral, standing_root, standing_by, direct, root_type}
-use Rattle.nd_value.specs.Homes.{root_pointers}
+use Rattle.nd_value.specs.Conforms.{root_pointers, Conforms, Reached, by_root, by_cell}
 use Rattle.nd_types.specs.declared.types.Class.TheVariants.{Ref}
-use Rattle.nd_value.specs.Agreement.{Agreement}
-use Rattle.nd_value.specs.Variables.{root_agreements}
-use Rattle.nd_value.specs.Conforms.{Conforms, Reached, by_root, by_cell}
+use Rattle.nd_value.specs.Agreement.{Agreement, root_agreements}
 use Rattle.nd_value.proofs.DeferralExists.{direct_is, direct_pointer}
 use Rattle.nd_value.proofs.FewRoots.{few_before_pipes}
 use Rattle.nd_grammar.specs.Entry.{Entry, end_of}
-use Rattle.nd_grammar.specs.FewItems.{item_count}
+use Rattle.nd_grammar.specs.Items.{item_count}
 use Rattle.nd_grammar.specs.LegalSide.{IsLegalSide}
-use Rattle.nd_grammar.specs.Represents.{Represents}
-use Rattle.nd_grammar.specs.Stream.{step_entries, root_tests, pipes_entries}
+use Rattle.nd_grammar.specs.Stream.{Represents, step_entries, root_tests, pipes_entries}
 use Rattle.nd_grammar.proofs.next.Counting.{no_longer, down, length_down, down_distinct}
 use Rattle.nd_grammar.proofs.conforming.GoodEntries.{HoldsNoPipe}
 use Rattle.nd_grammar.proofs.conforming.GoodStream.{DueGood, roots_due}

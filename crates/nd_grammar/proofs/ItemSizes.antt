@@ -16,11 +16,10 @@ use Rattle.nd_value.specs.Agreement.{Agreement}
 use Rattle.nd_value.specs.Nodes.{TypedNode, nodes_of, child_types, child_agreements, first_agreements, rest_agreements}
 use Rattle.nd_value.specs.Deferral.{Pending, pointer, pointer_by, home_pointers}
 use Rattle.std.proofs.lemmas.Grind.{flat_map-append}
-use Rattle.nd_grammar.specs.Entry.{Kind, Entry, Align, Max, Offset, Actual, Chunk, Number, Num, Tag, Text, Context, Test, Unread, size_at, end_to_end, end_of}
-use Rattle.nd_grammar.specs.FewItems.{is_gap, but_gaps}
-use Rattle.nd_grammar.specs.InPlace.{before_children, entries, in_place, child_tests, hoisted, hoisted_max, whole_value}
-use Rattle.nd_grammar.specs.Items.{items, item_of, item_at}
-use Rattle.nd_grammar.specs.Represents.{piece}
+use Rattle.nd_grammar.specs.Entry.{Kind, Entry, Align, Max, Offset, Actual, Chunk, Number, Num, Tag, Text, Context, Test, Unread, size_at, end_to_end, end_of, before_children, entries, in_place}
+use Rattle.nd_grammar.specs.Entry.{child_tests, hoisted, hoisted_max, whole_value}
+use Rattle.nd_grammar.specs.Items.{is_gap, but_gaps, items, item_of, item_at}
+use Rattle.nd_grammar.specs.Stream.{piece}
 
 -- pointers' numbers among entries
 abbrev is_number : Kind → ℕ

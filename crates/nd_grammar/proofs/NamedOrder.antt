@@ -20,23 +20,21 @@ use Rattle.nd_value.specs.declared.item.Home.{Home}
 use Rattle.nd_value.specs.declared.item.Home.TheVariants as home
 use Rattle.nd_value.specs.Tree as tree
 use Rattle.nd_value.specs.Tree.{Tree, Trees, node, none, more, Label, count, node_count, is_pointer, cell_in, take_trees, drop_trees}
-use Rattle.nd_value.specs.Agreement.{Agreement}
+use Rattle.nd_value.specs.Agreement.{Agreement, root_agreements}
 use Rattle.nd_value.specs.Canon.{own_cell, target, named, named_cells, has, number_from, canonical_number}
 use Rattle.nd_value.specs.Misfit.{has_shape, has_counts}
 use Rattle.nd_value.specs.Setting.{Setting, Among, root_list, root_at, or_unread, cell_at, cell_home}
 use Rattle.nd_value.specs.Nodes.{TypedNode, nodes_of, child_types, child_agreements, first_agreements, rest_agreements}
 use Rattle.nd_value.specs.Deferral.{Pending, pointer, pointer_by, home_pointers, Due, due_root, due_referent, due_roots, before_pipes, Step, Deferral, none_due, at_root, at_null, at_standing}
 use Rattle.nd_value.specs.Deferral.{at_referent, Placed_cells, Standing, standing_root, standing_by, standing_cell, root_type, direct, due_of}
-use Rattle.nd_value.specs.Variables.{root_agreements}
 use Rattle.nd_value.proofs.Apart.{all_append, all_right, among_left, among_right}
 use Rattle.nd_value.proofs.NodeFacts.{IsSound}
 use Rattle.nd_value.proofs.FewRoots.{few_before_pipes}
-use Rattle.nd_grammar.specs.Entry.{Kind, Entry, Align, Max, Num, Text, Context, Unread}
-use Rattle.nd_grammar.specs.InPlace.{before_children, entries, in_place, tag_entries, tests, own_tests, child_tests, hoisted_max, hoisted, whole_value}
+use Rattle.nd_grammar.specs.Entry.{Kind, Entry, Align, Max, Num, Text, Context, Unread, before_children, entries, in_place, tag_entries, tests, own_tests, child_tests, hoisted_max, hoisted}
+use Rattle.nd_grammar.specs.Entry.{whole_value}
 use Rattle.nd_grammar.specs.Stream.{Stream, step_entries, standing_entries, step_tests, root_test, root_tests, chunks, pipe_entries, pipes_entries}
-use Rattle.nd_grammar.specs.NamedOrder.{cells_met}
+use Rattle.nd_grammar.specs.NextMark.{cells_met, named_cell}
 use Rattle.nd_grammar.specs.LegalSide.{IsLegalSide}
-use Rattle.nd_grammar.specs.NextMark.{named_cell}
 use Rattle.nd_types.specs.declared.types.Operation.{Operation}
 use Rattle.nd_types.specs.Legal.{IsLegal, has_small_bound}
 use Rattle.nd_types.proofs.LegalLaws.{passes_at}

@@ -5,12 +5,11 @@ use Rattle.nd_base.specs.declared.octets.Order.{Order}
 use Rattle.nd_value.specs.declared.value.Graph.{Graph}
 use Rattle.nd_value.specs.Setting.{Setting}
 use Rattle.nd_value.specs.Conforms.{Conforms, Reached}
-use Rattle.nd_value.specs.Same.{Same}
+use Rattle.nd_value.specs.Canon.{Same}
 use Rattle.nd_value.proofs.NodeFacts.{IsSound, sound_conforming}
 use Rattle.nd_grammar.specs.Entry.{Entry, end_to_end, end_of, full_cells}
-use Rattle.nd_grammar.specs.Stream.{Stream}
+use Rattle.nd_grammar.specs.Stream.{Stream, Represents, IsRendered, IsNumbering}
 use Rattle.nd_grammar.specs.LegalSide.{IsLegalSide}
-use Rattle.nd_grammar.specs.Represents.{Represents, IsRendered, IsNumbering}
 use Rattle.nd_grammar.proofs.next.Next.{Readings}
 use Rattle.nd_grammar.proofs.next.Standings.{IsMap}
 use Rattle.nd_grammar.proofs.next.NextStream.{IsLaidOut, AreMapped, streams_next}

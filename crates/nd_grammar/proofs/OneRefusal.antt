@@ -15,9 +15,8 @@ use Rattle.nd_value.specs.Conforms.{Conforms}
 use Rattle.nd_value.proofs.NodeFacts.{IsSound, sound_conforming, sound_partial}
 use Rattle.nd_grammar.specs.declared.reason.Reason.{Reason}
 use Rattle.nd_grammar.specs.Entry.{Kind, Entry, size_at, EntryAt, end_to_end, full_cells}
-use Rattle.nd_grammar.specs.Represents.{IsRendered, Represents, piece}
-use Rattle.nd_grammar.specs.Refusal.{refusal, kind_refusal, refused_if, is_long, Accepts}
-use Rattle.nd_grammar.specs.Bad.{Bad}
+use Rattle.nd_grammar.specs.Stream.{IsRendered, Represents, piece}
+use Rattle.nd_grammar.specs.Refusal.{refusal, kind_refusal, refused_if, is_long, Accepts, Bad}
 use Rattle.nd_grammar.specs.LegalSide.{IsLegalSide}
 use Rattle.nd_grammar.proofs.next.Next.{IsUnread, Pair, OneToOne, Readings, Next}
 use Rattle.nd_grammar.proofs.next.Spelt.{carried_on, cells_in, all_spelt_carried, not_spelt, same_size, spelt_in_more}

@@ -3,7 +3,7 @@ use Rattle.std.proofs.Common.{◌≡◌, ℕ, ◌+◌, suc, Bool, true, false, L
 use Rattle.std.specs.List.{slice_get}
 use Rattle.nd_value.specs.declared.item.Home.{Home}
 use Rattle.nd_value.specs.Tree.{Tree, Trees, node, none, more, node_count, is_pointer}
-use Rattle.nd_grammar.specs.InPlace.{own_tests, child_tests}
+use Rattle.nd_grammar.specs.Entry.{own_tests, child_tests}
 
 pub own_none : (b : Bool) (h : Home) (n : ℕ) (t : Tree) → own_tests b h n t [] ≡ []
 own_none true h n t = refl

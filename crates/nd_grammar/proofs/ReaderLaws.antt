@@ -8,17 +8,14 @@ use Rattle.nd_types.specs.Number.{AreOctets}
 use Rattle.nd_value.specs.declared.value.Graph.{Graph}
 use Rattle.nd_value.proofs.NodeFacts.{sound_partial}
 use Rattle.nd_value.specs.Setting.{Setting}
-use Rattle.nd_value.specs.Homes.{HomeNode, all_nodes}
+use Rattle.nd_value.specs.Conforms.{HomeNode, all_nodes, Conforms, AgreesAt, Reached}
 use Rattle.nd_value.specs.Misfit.{misfit_of}
-use Rattle.nd_value.specs.Conforms.{Conforms, AgreesAt, Reached}
 use Rattle.nd_value.proofs.Apart.{all_weaker}
 use Rattle.nd_grammar.specs.LegalSide.{IsLegalSide}
 use Rattle.nd_grammar.specs.declared.reason.Reason.{Reason}
 use Rattle.nd_grammar.specs.Entry.{Entry, size_at, end_to_end, end_of}
-use Rattle.nd_grammar.specs.Represents.{Spells, IsRendered, Represents}
-use Rattle.nd_grammar.specs.Stream.{Stream, representation}
-use Rattle.nd_grammar.specs.Bad.{Bad}
-use Rattle.nd_grammar.specs.Prefix.{BeginsWith}
+use Rattle.nd_grammar.specs.Stream.{Spells, IsRendered, Represents, Stream, representation, BeginsWith}
+use Rattle.nd_grammar.specs.Refusal.{Bad}
 use Rattle.nd_grammar.specs.StreamReader.{read_stream}
 use Rattle.nd_grammar.proofs.reader.ReaderVerdict.{start, AllTaken, all_taken, stopped_is_bad}
 use Rattle.nd_grammar.proofs.agreements.TestedAt.{tests_found}
@@ -26,7 +23,7 @@ use Rattle.nd_grammar.proofs.conforming.Passed.{PassedAll, all_passed, least_end
 use Rattle.nd_grammar.proofs.conforming.StreamConforming.{NodeGood, stream_good, stream_few}
 use Rattle.nd_grammar.proofs.reader.ReaderStream.{Pipes, G, ms, numbering, is_partial, is_stream, numbered, goes_over, ends_within, ends_in_octets, graph_is, head, cells_fit, roots_all_made}
 use Rattle.nd_grammar.proofs.reader.ReaderStream.{all_roots, all_reached, few_cells}
-use Rattle.nd_value.specs.Same.{Same}
+use Rattle.nd_value.specs.Canon.{Same}
 use Rattle.nd_grammar.proofs.OneGraph.{one_graph}
 use Rattle.nd_grammar.proofs.Excluded.{excluded}
 

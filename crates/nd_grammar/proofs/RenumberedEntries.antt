@@ -17,12 +17,10 @@ use Rattle.nd_value.specs.Tree.{Tree, Trees, node, none, more, Label, count, nod
 use Rattle.nd_value.specs.Agreement.{Agreement, number_in}
 use Rattle.nd_value.specs.Nodes.{TypedNode, nodes_of, child_types, child_agreements, first_agreements, rest_agreements}
 use Rattle.nd_value.specs.Deferral.{Pending, pointer, pointer_by, home_pointers}
-use Rattle.nd_value.specs.Canon.{target}
-use Rattle.nd_value.specs.Same.{renumbered, renumbered_label}
+use Rattle.nd_value.specs.Canon.{target, renumbered, renumbered_label}
 use Rattle.nd_value.proofs.Apart.{all_left, all_right}
-use Rattle.nd_grammar.specs.Entry.{Kind, Entry, size_at}
-use Rattle.nd_grammar.specs.InPlace.{before_children, entries, counts, tag_entries, in_place, tests, own_tests, child_tests, hoisted, hoisted_max, own_max, whole_value}
-use Rattle.nd_grammar.specs.Chosen.{octets_of, octets_from}
+use Rattle.nd_grammar.specs.Entry.{Kind, Entry, size_at, before_children, entries, counts, tag_entries, in_place, tests, own_tests, child_tests, hoisted, hoisted_max, own_max, whole_value}
+use Rattle.nd_grammar.specs.Stream.{octets_of, octets_from}
 use Rattle.nd_grammar.proofs.next.Matching.{bare, number_same, child_agreements_same, pointer_bare, through}
 use Rattle.nd_grammar.proofs.next.NextPending.{types_same}
 

@@ -1,13 +1,17 @@
--- The items of a stream: each entry that has octets, with its place, its length and the value that the octets hold.
--- `x` is an entry at its place, `os` are its octets, `k` is the kind and the value of an item.
-use Rattle.std.specs.Prelude.{ℕ, ℤ, pos, List, [], ◌∷◌, ◌++◌, length, Option, Some, None}
+-- The items of a stream: each entry that has octets, with its place, its length and the value that the octets hold; and how many they are.
+use Rattle.std.specs.Prelude.{ℕ, ℤ, pos, Bool, true, false, not, List, [], ◌∷◌, ◌++◌, length, Option, Some, None, filter}
 use Rattle.nd_base.specs.declared.octets.Order.{Order}
+use Rattle.nd_types.specs.Number.{unsigned, value_of_octets}
 use Rattle.nd_value.specs.declared.item.Item.{Item}
 use Rattle.nd_value.specs.declared.item.ItemKind.{ItemKind}
 use Rattle.nd_value.specs.declared.item.ItemKind.TheVariants as item
-use Rattle.nd_types.specs.Number.{unsigned, value_of_octets}
-use Rattle.nd_grammar.specs.Entry.{Kind, Align, Max, Offset, Actual, Chunk, Number, Num, Tag, Text, Context, Test, Unread, size_at, EntryAt}
-use Rattle.nd_grammar.specs.Represents.{piece}
+use Rattle.nd_grammar.specs.Entry.{Kind, Align, Max, Offset, Actual, Chunk, Number, Num, Tag, Text, Context, Test, Unread, size_at, EntryAt, Entry}
+use Rattle.nd_grammar.specs.Entry.{end_to_end}
+use Rattle.nd_grammar.specs.Stream.{piece}
+
+-- ## Items
+
+-- `x` is an entry at its place, `os` are its octets, `k` is the kind and the value of an item.
 
 -- the item of a count or of a pointer's number
 abbrev pub counted : Order → ItemKind → List ℕ → Option (ItemKind × ℤ)
@@ -52,3 +56,17 @@ item_at x (Some k) =
 abbrev pub items : Order → List ℕ → List EntryAt → List Item
 items order octets [] = []
 items order octets (x ∷ xs) = item_at x (item_of order x.entry.kind (piece octets x.at x.entry.kind)) ++ items order octets xs
+
+-- ## How many items a stream has
+
+abbrev pub is_gap : ItemKind → Bool
+is_gap item.Gap = true
+is_gap _ = false
+
+-- the items that are no gaps
+abbrev pub but_gaps : List Item → List Item
+but_gaps xs = filter (λ x. not (is_gap x.kind)) xs
+
+-- how many items other than gaps the entries of a stream are
+abbrev pub item_count : Order → List ℕ → List Entry → ℕ
+item_count order octets ms = length (but_gaps (items order octets (end_to_end 0 ms)))

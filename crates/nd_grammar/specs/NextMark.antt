@@ -1,14 +1,17 @@
--- What the entries before an entry fix of it.
-use Rattle.std.specs.Prelude.{◌≡◌, ◌⊎◌, ℕ, ◌≤◌, pos, List, [], ◌∷◌, length, take, replicate, Option, Some, None}
+-- What the entries before an entry fix of it, and the cells to which a stream comes.
+use Rattle.std.specs.Prelude.{◌≡◌, ◌⊎◌, ℕ, ◌≤◌, pos, List, [], ◌∷◌, ◌++◌, length, take, flat_map, replicate, Option, Some, None}
 use Rattle.std.specs.List.{AllByRecursion}
 use Rattle.nd_base.specs.declared.octets.Order.{Order}
 use Rattle.nd_value.specs.declared.item.Home.{Home}
 use Rattle.nd_value.specs.declared.item.Home.TheVariants as home
 use Rattle.nd_value.specs.Setting.{Among}
+use Rattle.nd_value.specs.Canon.{own_cell, target}
 use Rattle.nd_grammar.specs.Entry.{Kind, Entry, Align, Max, Offset, Actual, Chunk, Number, Num, Tag, Text, Context, Test, Unread, size_at, EntryAt}
 use Rattle.nd_grammar.specs.Entry.{end_to_end, full_cells}
-use Rattle.nd_grammar.specs.Represents.{IsRendered, IsNumbering}
+use Rattle.nd_grammar.specs.Stream.{IsRendered, IsNumbering}
 use Rattle.nd_grammar.specs.Refusal.{Accepts}
+
+-- ## What the entries before an entry fix of it
 
 -- all of an entry's kind but its value: of a pointer's number its class and its referent's type, of a text its length, of an agreement
 -- its attribute and both numbers
@@ -84,3 +87,12 @@ pub record IsReadTo (order : Order) (octets : List ℕ) (entries : List Entry) (
   pub is_numbering : IsNumbering numbering (full_cells entries)
   pub rendered : AllByRecursion (IsRendered order numbering octets) (take n (end_to_end 0 entries))
   pub accepted : Accepts order octets [] (take n (end_to_end 0 entries))
+
+-- ## The cells to which a stream comes, entry by entry
+
+-- `m` is an entry, `c` the number of a cell.
+
+-- An entry comes to the cell in which it stands, and then to the cell that it names, if it is a pointer's number. So a stream comes
+-- first to each cell at the first number that names it, but to the referent of a top-level reference pointer where that begins.
+abbrev pub cells_met : List Entry → List ℕ
+cells_met ms = flat_map (λ m. own_cell m.home ++ target (named_cell m.kind)) ms

@@ -1,6 +1,7 @@
 -- Reading octets: the plain program that finds the graph of which they are a stream, or the place and the reason for which they are none.
 -- It goes entry by entry. From the first entry that the octets refuse on, whatever is read is an unread value, and nothing changes any more.
-use Rattle.std.specs.Prelude.{ℕ, ◌+◌, ◌-◌, suc, zero, ℤ, pos, Bool, true, false, not, ◌&&◌, cond, eqb, List, [], ◌∷◌, ◌++◌, length, map, take, drop}
+use Rattle.std.specs.Prelude.{ℕ, ◌+◌, ◌-◌, suc, zero, ℤ, pos, Bool, true, false, not, ◌&&◌, if◌then◌else◌, ◌==◌, List, [], ◌∷◌, ◌++◌, length, map}
+use Rattle.std.specs.Prelude.{take, drop}
 use Rattle.std.specs.Prelude.{replicate, reverse, Option, Some, None}
 use Rattle.nd_base.specs.declared.octets.Order.{Order}
 use Rattle.nd_types.specs.declared.types.TypeDef.{TypeDef}
@@ -19,9 +20,8 @@ use Rattle.nd_value.specs.Tree.{Tree, Trees, node, none, more, Label, Referent, 
 use Rattle.nd_value.specs.Setting.{unread}
 use Rattle.nd_value.specs.Nodes.{child_types, child_agreements}
 use Rattle.nd_grammar.specs.declared.reason.Reason.{Reason}
-use Rattle.nd_grammar.specs.Entry.{Kind, Entry, Align, Max, Offset, Actual, Number, Num, Tag, Text, Context, size_at, EntryAt}
-use Rattle.nd_grammar.specs.InPlace.{child_tests}
-use Rattle.nd_grammar.specs.Represents.{piece}
+use Rattle.nd_grammar.specs.Entry.{Kind, Entry, Align, Max, Offset, Actual, Number, Num, Tag, Text, Context, size_at, EntryAt, child_tests}
+use Rattle.nd_grammar.specs.Stream.{piece}
 use Rattle.nd_grammar.specs.Refusal.{refusal}
 
 -- how far the octets are read: the place, the entries before it, and the refusal at which reading stopped, if it did
@@ -104,7 +104,7 @@ with_cell to s = record { cells = s.cells ++ record { of = to; val = unread } �
 -- the cell of a number that full pointers have had
 abbrev pub numbered : List (ℕ × ℕ) → ℕ → Option ℕ
 numbered [] v = None
-numbered (x ∷ xs) v = cond (eqb x.0 v) (Some x.1) (numbered xs v)
+numbered (x ∷ xs) v = if x.0 == v then Some x.1 else numbered xs v
 
 -- a pointer's cell, and the names with it
 pub record Named : Type 0 where
@@ -124,8 +124,8 @@ full_by None v to s =
 abbrev pub named : Class → ℕ → Option (List ℕ) → ℕ → Names → Named
 named Ref to os v s = new_cell to s
 named k to None v s = record { cell = None; names = s }
-named Unique to (Some os) v s = cond (eqb v 0) (record { cell = None; names = s }) (new_cell to s)
-named Full to (Some os) v s = cond (eqb v 0) (record { cell = None; names = s }) (full_by (numbered s.numbers v) v to s)
+named Unique to (Some os) v s = if v == 0 then (record { cell = None; names = s }) else new_cell to s
+named Full to (Some os) v s = if v == 0 then (record { cell = None; names = s }) else full_by (numbered s.numbers v) v to s
 
 -- a value that was read, or several, and how far reading has come
 pub record Read : Type 0 where

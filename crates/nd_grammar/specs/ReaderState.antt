@@ -8,9 +8,8 @@ use Rattle.nd_types.specs.Kinds.{is_pipe, referent_type}
 use Rattle.nd_types.specs.Number.{AreOctets}
 use Rattle.nd_types.specs.Roots.{Root}
 use Rattle.nd_types.specs.Table.{Table, type_at}
-use Rattle.nd_value.specs.Conforms.{AllEarlier, Reached, ShareOnlyIfFull}
+use Rattle.nd_value.specs.Conforms.{AllEarlier, Reached, ShareOnlyIfFull, all_pointers}
 use Rattle.nd_value.specs.Deferral.{Pending, Placed_cells, IsPlaced, IsPlacedFull, before_pipes}
-use Rattle.nd_value.specs.Homes.{all_pointers}
 use Rattle.nd_value.specs.Setting.{Setting, Among, root_list, unread}
 use Rattle.nd_value.specs.Tree.{Tree, none, more, Referent}
 use Rattle.nd_grammar.specs.declared.reason.Reason.{Reason}

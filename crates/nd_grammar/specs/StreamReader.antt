@@ -1,5 +1,5 @@
 -- Reading a whole stream: the roots and the referents that they make due, the agreements of the parameters, the pipes.
-use Rattle.std.specs.Prelude.{ℕ, ◌+◌, suc, zero, Bool, true, false, eqb, ◌||◌, List, [], ◌∷◌, ◌++◌, length, drop, replicate, Option, Some, None}
+use Rattle.std.specs.Prelude.{ℕ, ◌+◌, suc, zero, Bool, true, false, ◌==◌, ◌||◌, List, [], ◌∷◌, ◌++◌, length, drop, replicate, Option, Some, None}
 use Rattle.std.specs.List.{slice_get}
 use Rattle.nd_base.specs.declared.octets.Order.{Order}
 use Rattle.nd_types.specs.declared.types.TypeDef.{TypeDef}
@@ -15,8 +15,7 @@ use Rattle.nd_value.specs.Tree as tree
 use Rattle.nd_value.specs.Tree.{Tree, Trees, node, none, more, Referent, node_count, joined}
 use Rattle.nd_value.specs.Setting.{Setting, root_list, unread, cell_at, cell_home, set_cell}
 use Rattle.nd_value.specs.Deferral.{Pending, Due, due_root, due_referent, due_roots, before_pipes, Placed_cells, due_of, root_type}
-use Rattle.nd_grammar.specs.Entry.{Kind, Entry, Align, Chunk}
-use Rattle.nd_grammar.specs.InPlace.{tests}
+use Rattle.nd_grammar.specs.Entry.{Kind, Entry, Align, Chunk, tests}
 use Rattle.nd_grammar.specs.Stream.{root_tests}
 use Rattle.nd_grammar.specs.Reader.{Progress, Names, Read, ReadAll, is_stopped, pass, pass_all, taken, number_in, fresh, with_cell, read_list}
 use Rattle.nd_grammar.specs.Reader.{read_in_place, read_whole}
@@ -39,7 +38,7 @@ graph_of roots s = record { roots = roots; cells = s.cells }
 
 abbrev pub stands_among : Placed_cells → ℕ → Bool
 stands_among [] c = false
-stands_among (d ∷ ds) c = eqb c d.1 || stands_among ds c
+stands_among (d ∷ ds) c = c == d.1 || stands_among ds c
 
 -- the referent of a full pointer stands once
 abbrev pub stood : Class → Placed_cells → ℕ → Bool
@@ -145,7 +144,7 @@ module _ (w : Setting) (order : Order) (octets : List ℕ) where
       let q : Progress = pass order octets (entry (Chunk k)) gap in
       let kids : ReadAll = read_list w.table (read_in_place order octets w.table h 32 0) (replicate k elem) n q s in
       let others : ReadPipe = read_chunks more_chunks h elem (n + node_count kids.trees) kids.progress kids.names in
-      elim (eqb k 0) [
+      elim (k == 0) [
         | true ↦ record { trees = none; cut = []; progress = q; names = s }
         | false ↦ record { trees = joined kids.trees others.trees; cut = k ∷ others.cut; progress = others.progress; names = others.names }
       ]

@@ -14,10 +14,9 @@ use Rattle.nd_value.specs.declared.item.Home.TheVariants as home
 use Rattle.nd_value.specs.Tree as tree
 use Rattle.nd_value.specs.Tree.{Tree, Trees, Label, node, none, more, cell_in, Referent, trees, items}
 use Rattle.nd_value.specs.Setting.{Among, root_at, or_unread, cell_at, cell_tree, cell_of_number, cell_home, unread}
-use Rattle.nd_value.specs.Canon.{target, has, number_from, canonical_number}
+use Rattle.nd_value.specs.Canon.{target, has, number_from, canonical_number, Same, renumbered, renumbered_label}
 use Rattle.nd_value.specs.Fitting.{Fitting, IsFit}
 use Rattle.nd_value.specs.Names.{AreThere, HasNames, cells_in, named_by}
-use Rattle.nd_value.specs.Same.{Same, renumbered, renumbered_label}
 use Rattle.nd_flat.specs.Building.{referent_type}
 use Rattle.nd_flat.specs.Renumbered.{renumbered_tree}
 use Rattle.nd_graph.specs.Naming.{Naming, none_due, root_due, cell_due, stands_already, AreNamed, cell_homes, root_homes}

@@ -27,17 +27,16 @@ use Rattle.nd_value.specs.declared.misfit.MisfitReason.{MisfitReason}
 use Rattle.nd_value.specs.declared.misfit.MisfitReason.TheVariants as misfit
 use Rattle.nd_value.specs.Tree as tree
 use Rattle.nd_value.specs.Tree.{Tree, Trees, Label, node, none, more, count, node_count, is_pointer, cell_in, Referent}
-use Rattle.nd_value.specs.Agreement.{Agreement, number_of, number_in, agreement, member_agreements, found_in, actual, max_of, offset_of, tag_of}
+use Rattle.nd_value.specs.Agreement.{Agreement, number_of, number_in, agreement, member_agreements, found_in, actual, max_of, offset_of, tag_of, root_agreements, starred, given_value}
 use Rattle.nd_value.specs.Nodes.{TypedNode, nodes_of, home_nodes, governed_nodes, child_types, child_agreements, first_agreements, rest_agreements}
 use Rattle.nd_value.specs.Setting.{Setting, Among, root_list, root_at, or_unread, cell_home, cell_at, cell_tree, cell_of_number}
-use Rattle.nd_value.specs.Variables.{root_agreements, starred, given_value}
 use Rattle.nd_value.specs.Deferral.{Pending, pointer, pointer_by, home_pointers}
-use Rattle.nd_value.specs.Homes.{HomeNode, in_home, root_nodes, cell_nodes, all_nodes, root_pointers, cell_pointers, all_pointers}
+use Rattle.nd_value.specs.Conforms.{HomeNode, in_home, root_nodes, cell_nodes, all_nodes, root_pointers, cell_pointers, all_pointers, Conforms, Reached, by_root, by_cell, ShareOnlyIfFull, AllEarlier}
+use Rattle.nd_value.specs.Conforms.{AgreesAt, IsAgreed, subject, subject_by, HasFewNodes, FewNodes}
 use Rattle.nd_value.specs.Misfit.{misfit_of, unless, has_shape, has_range, is_no_null_ref, names_cell, names_pointee, has_type, has_counts, is_within, has_no_zero, has_arm, arm_fits, is_bound}
 use Rattle.nd_value.specs.Misfit.{has_machine_values}
-use Rattle.nd_value.specs.Conforms.{Conforms, Reached, by_root, by_cell, ShareOnlyIfFull, AllEarlier, AgreesAt, IsAgreed, subject, subject_by, HasFewNodes, FewNodes}
 use Rattle.nd_value.specs.Names.{AreThere, HasNames, named_by}
-use Rattle.nd_value.specs.Same.{renumbered, renumbered_label}
+use Rattle.nd_value.specs.Canon.{renumbered, renumbered_label}
 use Rattle.nd_value.proofs.Apart.{all_append, all_left, all_right, all_map, all_among, among_left, among_right}
 use Rattle.nd_value.proofs.NodeFacts.{all_of_list, fit_node}
 use Rattle.nd_flat.specs.Renumbered.{renumbered_tree}

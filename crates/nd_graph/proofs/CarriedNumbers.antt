@@ -5,9 +5,8 @@ use Rattle.std.specs.List.{AllByRecursion}
 use Rattle.nd_value.specs.declared.value.Graph.{Graph}
 use Rattle.nd_value.specs.Setting.{Setting, root_list}
 use Rattle.nd_value.specs.Deferral.{Step, Deferral, due_roots, before_pipes}
-use Rattle.nd_value.specs.Canon.{named_cells, canonical_number}
+use Rattle.nd_value.specs.Canon.{named_cells, canonical_number, Same}
 use Rattle.nd_value.specs.Conforms.{Conforms}
-use Rattle.nd_value.specs.Same.{Same}
 use Rattle.nd_grammar.specs.LegalSide.{IsLegalSide}
 use Rattle.nd_grammar.proofs.ChosenRepresents.{dues, steps_within, all_members}
 use Rattle.nd_grammar.proofs.written.SameForms.{AllDue, canon_same, Alike, orders_alike}

@@ -8,7 +8,7 @@ use Rattle.std.proofs.lemmas.List.{map-append}
 use Rattle.nd_value.specs.declared.value.Graph.{Graph}
 use Rattle.nd_value.specs.Tree.{Tree, Trees, Flat, node, none, more, flat, unflat, unflat-of, Unread}
 use Rattle.nd_value.specs.Setting.{cell_at}
-use Rattle.nd_value.specs.Same.{renumbered, renumbered_label}
+use Rattle.nd_value.specs.Canon.{renumbered, renumbered_label}
 use Rattle.nd_flat.specs.Building.{referent_type}
 use Rattle.nd_flat.specs.Renumbered.{renumbered_tree}
 use Rattle.nd_graph.specs.Alike.{renumbered_flat, renumbered_flats, IsSameCell}

@@ -16,14 +16,12 @@ use Rattle.nd_value.specs.declared.item.Home.{Home}
 use Rattle.nd_value.specs.declared.item.Home.TheVariants as home
 use Rattle.nd_value.specs.Tree as tree
 use Rattle.nd_value.specs.Tree.{Tree, Trees, Label, node, none, more, count, flat, node_count, is_pointer, cell_in, Referent}
-use Rattle.nd_value.specs.Agreement.{Agreement}
+use Rattle.nd_value.specs.Agreement.{Agreement, root_agreements}
 use Rattle.nd_value.specs.Nodes.{TypedNode, nodes_of, home_nodes, child_types, child_agreements, first_agreements, rest_agreements}
 use Rattle.nd_value.specs.Setting.{Setting, Among, root_list, root_at, or_unread, cell_home, cell_at, cell_tree}
-use Rattle.nd_value.specs.Variables.{root_agreements}
 use Rattle.nd_value.specs.Deferral.{Pending, pointer, pointer_by, home_pointers}
-use Rattle.nd_value.specs.Homes.{HomeNode, in_home, root_nodes, cell_nodes, root_pointers}
+use Rattle.nd_value.specs.Conforms.{HomeNode, in_home, root_nodes, cell_nodes, root_pointers, Conforms, Reached, by_root, by_cell}
 use Rattle.nd_value.specs.Misfit.{misfit_of, names_cell}
-use Rattle.nd_value.specs.Conforms.{Conforms, Reached, by_root, by_cell}
 use Rattle.nd_value.specs.Canon.{target}
 use Rattle.nd_value.specs.Names.{AreThere, HasNames, cells_in, named_by}
 use Rattle.nd_value.proofs.Apart.{all_append, all_left, all_right, all_map, among_left, among_right}

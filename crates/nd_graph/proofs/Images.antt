@@ -8,7 +8,7 @@ use Rattle.nd_value.specs.declared.value.Graph.{Graph}
 use Rattle.nd_value.specs.Tree as tree
 use Rattle.nd_value.specs.Tree.{Tree, Trees, node, none, more, Label, Referent, trees}
 use Rattle.nd_value.specs.Setting.{Among}
-use Rattle.nd_value.specs.Same.{Same, renumbered, renumbered_label}
+use Rattle.nd_value.specs.Canon.{Same, renumbered, renumbered_label}
 use Rattle.nd_grammar.proofs.next.Counting.{Distinct, no_longer, down, among_down}
 use Rattle.nd_graph.proofs.Alike.{still as unchanged}
 

@@ -6,9 +6,8 @@ use Rattle.std.proofs.lemmas.Bool.{cases_lt}
 use Rattle.nd_value.specs.declared.value.Graph.{Graph}
 use Rattle.nd_value.specs.Tree.{Tree, none, more, Referent, trees}
 use Rattle.nd_value.specs.Setting.{Setting}
-use Rattle.nd_value.specs.Canon.{IsCanon}
+use Rattle.nd_value.specs.Canon.{IsCanon, Same, renumbered}
 use Rattle.nd_value.specs.Conforms.{Conforms}
-use Rattle.nd_value.specs.Same.{Same, renumbered}
 use Rattle.nd_grammar.specs.LegalSide.{IsLegalSide}
 use Rattle.nd_graph.proofs.Images.{first_tree, rest_trees, came_from, goes_to, carried_on}
 use Rattle.nd_graph.proofs.CarriedNumbers.{numbers_alike}

@@ -7,16 +7,14 @@ use Rattle.std.specs.List.{AllByRecursion, slice_get}
 use Rattle.std.proofs.lemmas.Bool.{eqb-false, ne_eqb, leb-true, leb-false, le-leb, not-true, and_parts}
 use Rattle.std.proofs.lemmas.Option.{same_Some, slice_get-get_or, slice_get_past as none_past}
 use Rattle.std.proofs.lemmas.List.{length-map}
-use Rattle.nd_types.specs.Roots.{roots_of}
-use Rattle.nd_types.specs.Walk.{named_root, named_roots}
+use Rattle.nd_types.specs.Roots.{roots_of, named_root, named_roots}
 use Rattle.nd_value.specs.declared.value.Graph.{Graph}
 use Rattle.nd_value.specs.Tree as tree
 use Rattle.nd_value.specs.Tree.{Tree, Trees, Label, node, none, more, cell_in, Referent, trees}
 use Rattle.nd_value.specs.Setting.{Setting, root_list, cell_tree, cell_of_number}
-use Rattle.nd_value.specs.Canon.{canonical_number, target}
+use Rattle.nd_value.specs.Canon.{canonical_number, target, Same, renumbered, renumbered_label}
 use Rattle.nd_value.specs.Fitting.{Fitting, IsFit, setting_beside}
 use Rattle.nd_value.specs.Names.{AreThere, HasNames, cells_in, named_by}
-use Rattle.nd_value.specs.Same.{Same, renumbered, renumbered_label}
 use Rattle.nd_value.proofs.Apart.{all_left, all_right}
 use Rattle.nd_value.proofs.FewRoots.{few_named_roots}
 use Rattle.nd_flat.specs.Building.{referent_type}

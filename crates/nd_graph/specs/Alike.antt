@@ -1,17 +1,17 @@
 -- Two graphs beside each other, pointers being compared by the numbers of their cells in the order of each graph.
 -- `g` and `h` are graphs, `m` and `n` the numbers of their cells, `i` is a root's index, `k` a place among the cells by their numbers, `cs` and `ds`
 -- are the cells of the two in these orders, `fs` are nodes.
-use Rattle.std.specs.Prelude.{◌≡◌, ℕ, ◌<◌, List, length, get_or, map}
+use Rattle.std.specs.Prelude.{◌≡◌, ℕ, ◌<◌, List, length, slice_index_or, map}
 use Rattle.nd_value.specs.declared.value.Graph.{Graph}
 use Rattle.nd_value.specs.Tree.{Flat}
 use Rattle.nd_value.specs.Setting.{root_at, cell_at, cell_of_number}
-use Rattle.nd_value.specs.Same.{renumbered_label}
+use Rattle.nd_value.specs.Canon.{renumbered_label}
 use Rattle.nd_flat.specs.Building.{referent_type}
 use Rattle.nd_flat.specs.Renumbered.{renumbered_tree}
 
 -- the new number of a cell; 0 if it has none
 abbrev pub number_by : List ℕ → ℕ → ℕ
-number_by numbers c = get_or numbers c 0
+number_by numbers c = slice_index_or numbers c 0
 
 -- a node with its cell renumbered, if it names one
 abbrev pub renumbered_flat : (ℕ → ℕ) → Flat → Flat
@@ -31,7 +31,7 @@ pub record IsSameCell (m n : ℕ → ℕ) (g h : Graph) (c d : ℕ) : Type 0 whe
 
 -- the cells of one number say the same
 abbrev pub AreSameCells : (m n : ℕ → ℕ) → Graph → Graph → List ℕ → List ℕ → Type 0
-AreSameCells m n g h cs ds = (k : ℕ) → k < length g.cells → IsSameCell m n g h (get_or cs k 0) (get_or ds k 0)
+AreSameCells m n g h cs ds = (k : ℕ) → k < length g.cells → IsSameCell m n g h (slice_index_or cs k 0) (slice_index_or ds k 0)
 
 -- the graphs have as many roots and cells, which say the same
 pub record AreAlike (m n : ℕ → ℕ) (g h : Graph) (cs ds : List ℕ) : Type 0 where

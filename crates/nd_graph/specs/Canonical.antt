@@ -1,9 +1,8 @@
 -- The canonical form of a fit.
 -- `f` is a fit, `c` its canonical form, `k` a cell's number.
 use Rattle.std.specs.Prelude.{◌≡◌, ℕ, ◌<◌, ◌≤◌, List, length}
-use Rattle.nd_value.specs.Canon.{canonical_number}
+use Rattle.nd_value.specs.Canon.{canonical_number, Same}
 use Rattle.nd_value.specs.Fitting.{Fitting}
-use Rattle.nd_value.specs.Same.{Same}
 use Rattle.nd_graph.specs.Naming.{AreNamed}
 
 -- The same graph, of the same side of the same operation and beside the same request, with its cells numbered from 1 in the order in

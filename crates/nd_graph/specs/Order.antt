@@ -1,6 +1,7 @@
 -- How the order of cells is found.
 -- `g` is a graph, `h` a home, `c` a cell's number, `k` a place among the cells by their new numbers, `s` how far the search has come.
-use Rattle.std.specs.Prelude.{◌≡◌, ℕ, ◌+◌, ◌-◌, ◌<◌, ◌≤◌, ◌^◌, suc, zero, Bool, true, false, not, List, [], ◌∷◌, ◌++◌, length, get_or, set, reverse}
+use Rattle.std.specs.Prelude.{◌≡◌, ℕ, ◌+◌, ◌-◌, ◌<◌, ◌≤◌, ◌^◌, suc, zero, Bool, true, false, not, List, [], ◌∷◌, ◌++◌, length, slice_index_or, set}
+use Rattle.std.specs.Prelude.{reverse}
 use Rattle.std.specs.List.{AllByRecursion}
 use Rattle.nd_value.specs.declared.value.Graph.{Graph}
 use Rattle.nd_value.specs.declared.item.Home.{Home}
@@ -27,7 +28,7 @@ name_by (suc k) c s = s
 -- cells are named one after the other
 abbrev pub name : List ℕ → Numbering → Numbering
 name [] s = s
-name (c ∷ cs) s = name cs (name_by (get_or s.numbers c 0) c s)
+name (c ∷ cs) s = name cs (name_by (slice_index_or s.numbers c 0) c s)
 
 -- how many cells have no number
 abbrev pub zeros : List ℕ → ℕ
@@ -38,13 +39,13 @@ zeros (suc k ∷ ns) = zeros ns
 -- these cells can be given numbers
 pub record HaveNumbers (numbers cells cs : List ℕ) : Type 0 where
   pub there : AllByRecursion (λ c. (0 < c) × (c < length numbers)) cs
-  pub first : get_or numbers 0 0 ≡ 0
+  pub first : slice_index_or numbers 0 0 ≡ 0
   pub few : length cells + zeros numbers ≤ 2 ^ 32
 
 -- the home is deferred still: a root, or a cell that does not stand yet
 abbrev pub is_deferred : List Bool → Home → Bool
 is_deferred stands (home.Root i) = true
-is_deferred stands (home.Cell c) = not (get_or stands (c.0 - 1) false)
+is_deferred stands (home.Cell c) = not (slice_index_or stands (c.0 - 1) false)
 
 -- the marks of the cells that stand, with this home
 abbrev pub with_mark : Home → List Bool → List Bool
@@ -87,9 +88,9 @@ IsAllNamed g = (ns : List ℕ) → AreNamed g ns → (c : ℕ) → 0 < c → c �
 pub record IsOrder (g : Graph) (numbers cells : List ℕ) : Type 0 where
   pub names : List ℕ
   pub named : AreNamed g names
-  pub canonical : (c : ℕ) → get_or numbers c 0 ≡ canonical_number names c
+  pub canonical : (c : ℕ) → slice_index_or numbers c 0 ≡ canonical_number names c
   pub all : length cells ≡ length g.cells
   pub there : AreThere (length g.cells) cells
-  pub numbered : (c : ℕ) → 0 < c → c ≤ length g.cells → 0 < get_or numbers c 0
-  pub number : (k : ℕ) → k < length cells → get_or numbers (get_or cells k 0) 0 ≡ suc k
-  pub cell : (c k : ℕ) → get_or numbers c 0 ≡ suc k → (k < length cells) × (get_or cells k 0 ≡ c)
+  pub numbered : (c : ℕ) → 0 < c → c ≤ length g.cells → 0 < slice_index_or numbers c 0
+  pub number : (k : ℕ) → k < length cells → slice_index_or numbers (slice_index_or cells k 0) 0 ≡ suc k
+  pub cell : (c k : ℕ) → slice_index_or numbers c 0 ≡ suc k → (k < length cells) × (slice_index_or cells k 0 ≡ c)

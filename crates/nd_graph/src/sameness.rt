@@ -2,7 +2,7 @@
 ghost use Rattle.std.specs.Prelude.{◌≡◌, ◌<◌, ◌≤◌, length, IfOk};
 ghost use Rattle.std.specs.Bool.{Decides};
 ghost use Rattle.nd_value.specs.Tree.{flat};
-ghost use Rattle.nd_value.specs.Same.{Same};
+ghost use Rattle.nd_value.specs.Canon.{Same};
 ghost use Rattle.nd_flat.specs.FlatForm.{flat_seen};
 ghost use Rattle.nd_graph.specs.Order.{IsOrder};
 ghost use Rattle.nd_graph.specs.Alike.{AreAlike, AreSameRoots, AreSameCells, IsSameCell, number_by as numbers_by, renumbered_flat};

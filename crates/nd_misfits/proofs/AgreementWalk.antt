@@ -11,7 +11,7 @@ use Rattle.nd_value.specs.declared.misfit.NodeMisfit.{NodeMisfit}
 use Rattle.nd_value.specs.Tree.{Tree, Trees, Label, node, none, more, trees, node_count}
 use Rattle.nd_value.specs.Agreement.{Agreement, member_agreements}
 use Rattle.nd_value.specs.Nodes.{child_types, child_agreements, first_agreements, rest_agreements}
-use Rattle.nd_value.specs.FirstMisfit.{disagreement_of}
+use Rattle.nd_value.specs.Conforms.{disagreement_of}
 use Rattle.nd_value.specs.Passes.{or_next, at_number}
 use Rattle.nd_lemmas.proofs.Lists.{drop_next as drop-get}
 use Rattle.nd_misfits.specs.Disagreeing.{subject_of, subject_in, disagreeing_in, Compared}

@@ -8,7 +8,7 @@ use Rattle.nd_value.specs.declared.misfit.MisfitReason.{MisfitReason}
 use Rattle.nd_value.specs.declared.misfit.MisfitReason.TheVariants as misfit
 use Rattle.nd_value.specs.Tree.{Tree, Trees, trees}
 use Rattle.nd_value.specs.Agreement.{Agreement, agreement, member_agreements, number_of, number_in, found_in}
-use Rattle.nd_value.specs.FirstMisfit.{disagreement, disagreement_of}
+use Rattle.nd_value.specs.Conforms.{disagreement, disagreement_of}
 use Rattle.nd_lemmas.proofs.Lists.{drop_next as drop-get}
 use Rattle.nd_misfits.specs.declared.numbers.ParamNumber.{ParamNumber}
 use Rattle.nd_misfits.specs.Numbers.{value_in, agreements_by}

@@ -3,8 +3,7 @@ use Rattle.std.proofs.Common.{◌≡◌, ℕ, ◌+◌, ◌<◌, get_or, drop, Li
 use Rattle.std.specs.List.{slice_get, AllByRecursion}
 use Rattle.std.proofs.lemmas.List.{map-append, drop_more}
 use Rattle.nd_types.specs.Table.{Table, type_at}
-use Rattle.nd_types.specs.Roots.{Root}
-use Rattle.nd_types.specs.Walk.{named_root}
+use Rattle.nd_types.specs.Roots.{Root, named_root}
 use Rattle.nd_value.specs.declared.value.Graph.{Graph}
 use Rattle.nd_value.specs.declared.item.Home.{Home}
 use Rattle.nd_value.specs.declared.item.Home.TheVariants as home
@@ -12,13 +11,10 @@ use Rattle.nd_value.specs.declared.misfit.MisfitReason.{MisfitReason}
 use Rattle.nd_value.specs.declared.misfit.NodeMisfit.{NodeMisfit}
 use Rattle.nd_value.specs.Tree as tree
 use Rattle.nd_value.specs.Tree.{Tree, Trees, Label, node, none, more, node_count, Referent}
-use Rattle.nd_value.specs.Agreement.{Agreement}
+use Rattle.nd_value.specs.Agreement.{Agreement, root_agreements}
 use Rattle.nd_value.specs.Setting.{Setting, root_list, cell_home}
 use Rattle.nd_value.specs.Nodes.{TypedNode, child_types, child_agreements, first_agreements, rest_agreements, nodes_of, governed_nodes, home_nodes}
-use Rattle.nd_value.specs.Variables.{root_agreements}
-use Rattle.nd_value.specs.Homes.{HomeNode, in_home, root_nodes, cell_nodes}
-use Rattle.nd_value.specs.Conforms.{subject}
-use Rattle.nd_value.specs.FirstMisfit.{or_later, first_node, disagreement_of, first_disagreeing}
+use Rattle.nd_value.specs.Conforms.{HomeNode, in_home, root_nodes, cell_nodes, subject, or_later, first_node, disagreement_of, first_disagreeing}
 use Rattle.nd_value.specs.Passes.{or_next, at_number, at_home}
 use Rattle.nd_value.proofs.LocalPass.{or_later-assoc, at_home-or, at_home-number, first-append}
 use Rattle.nd_misfits.specs.declared.homes.HomeValue.{HomeValue}

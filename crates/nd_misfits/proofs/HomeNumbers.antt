@@ -5,16 +5,14 @@ use Rattle.std.proofs.lemmas.Bool.{and_parts}
 use Rattle.std.specs.Cmp.Derive.{both_true}
 use Rattle.nd_types.specs.Legal.{has_small_values}
 use Rattle.nd_types.specs.Table.{Table}
-use Rattle.nd_types.specs.Walk.{NamedRoot, named_root}
+use Rattle.nd_types.specs.Roots.{NamedRoot, named_root}
 use Rattle.nd_value.specs.declared.value.Graph.{Graph}
 use Rattle.nd_value.specs.declared.item.Home.TheVariants as home
 use Rattle.nd_value.specs.Tree as tree
 use Rattle.nd_value.specs.Tree.{Tree, node, Referent}
-use Rattle.nd_value.specs.Agreement.{number_of}
+use Rattle.nd_value.specs.Agreement.{number_of, starred}
 use Rattle.nd_value.specs.Setting.{Setting, root_list, cell_tree, cell_at}
-use Rattle.nd_value.specs.Conforms.{HasFewNodes}
-use Rattle.nd_value.specs.Variables.{starred}
-use Rattle.nd_value.specs.FirstMisfit.{or_later, first_local, first_disagreeing}
+use Rattle.nd_value.specs.Conforms.{HasFewNodes, or_later, first_local, first_disagreeing}
 use Rattle.nd_value.specs.Passes.{first_in_home, first_in_roots, first_in_cells}
 use Rattle.nd_value.proofs.LocalPass.{local_first}
 use Rattle.nd_value.proofs.Misfits.{neither}

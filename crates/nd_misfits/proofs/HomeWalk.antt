@@ -5,7 +5,7 @@ use Rattle.std.specs.Option.{option_map}
 use Rattle.std.proofs.lemmas.List.{map-append, drop_more}
 use Rattle.std.proofs.lemmas.Option.{slice_get-map, slice_get-get_or, same_Some}
 use Rattle.nd_types.specs.Table.{Table}
-use Rattle.nd_types.specs.Walk.{NamedRoot}
+use Rattle.nd_types.specs.Roots.{NamedRoot}
 use Rattle.nd_value.specs.declared.item.Home.TheVariants as home
 use Rattle.nd_misfits.specs.declared.homes.HomeValue.{HomeValue}
 use Rattle.nd_misfits.specs.declared.pointers.CellPointer.{CellPointer}

@@ -14,13 +14,11 @@ use Rattle.nd_types.specs.declared.types.Side.{Side}
 use Rattle.nd_types.specs.declared.types.Side.TheVariants as side
 use Rattle.nd_types.specs.declared.TheConstants.{HANDLE}
 use Rattle.nd_types.specs.Table.{Table}
-use Rattle.nd_types.specs.Roots.{Root, roots_of, params_from, result_root, root_of, root_by, pipe_of, travels, root_index}
-use Rattle.nd_types.specs.Walk.{named_root}
+use Rattle.nd_types.specs.Roots.{Root, roots_of, params_from, result_root, root_of, root_by, pipe_of, travels, root_index, named_root}
 use Rattle.nd_value.specs.declared.value.Graph.{Graph}
 use Rattle.nd_value.specs.Tree.{Tree}
-use Rattle.nd_value.specs.Agreement.{agreement}
+use Rattle.nd_value.specs.Agreement.{agreement, starred, given_value, variable, root_agreements}
 use Rattle.nd_value.specs.Setting.{Setting, root_list, root_at, or_unread, unread}
-use Rattle.nd_value.specs.Variables.{starred, given_value, variable, root_agreements}
 use Rattle.nd_value.proofs.Apart.{all_append}
 use Rattle.nd_misfits.specs.declared.numbers.ParamNumber.{ParamNumber}
 use Rattle.nd_misfits.specs.declared.numbers.RootNumber.{RootNumber}

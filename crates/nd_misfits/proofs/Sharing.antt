@@ -11,8 +11,7 @@ use Rattle.nd_types.specs.declared.types.Class.{Class}
 use Rattle.nd_types.specs.declared.types.Class.TheVariants.{Ref, Unique, Full}
 use Rattle.nd_types.specs.declared.types.Operation.{Operation}
 use Rattle.nd_types.specs.Table.{Table, type_at}
-use Rattle.nd_types.specs.Roots.{Root}
-use Rattle.nd_types.specs.Walk.{named_root}
+use Rattle.nd_types.specs.Roots.{Root, named_root}
 use Rattle.nd_value.specs.declared.value.Graph.{Graph}
 use Rattle.nd_value.specs.declared.item.Home.{Home}
 use Rattle.nd_value.specs.declared.item.Home.TheVariants as home
@@ -28,8 +27,7 @@ use Rattle.nd_value.specs.Agreement.{Agreement}
 use Rattle.nd_value.specs.Setting.{Setting, root_list, cell_home}
 use Rattle.nd_value.specs.Nodes.{TypedNode, nodes_of, child_types, child_agreements, first_agreements, rest_agreements}
 use Rattle.nd_value.specs.Deferral.{Pending, pointer, pointer_by, home_pointers}
-use Rattle.nd_value.specs.Homes.{root_pointers, cell_pointers, all_pointers}
-use Rattle.nd_value.specs.FirstMisfit.{MisfitAt, is_full, same_cell, clashes, first_shared}
+use Rattle.nd_value.specs.Conforms.{root_pointers, cell_pointers, all_pointers, MisfitAt, is_full, same_cell, clashes, first_shared}
 use Rattle.nd_value.specs.Passes.{Tells}
 use Rattle.nd_misfits.specs.HomeList.{HomeTree, root_homes, cell_homes, homes_of}
 use Rattle.nd_misfits.specs.Pointers.{named_by, named_here, pointers_in, pointers_of_home, pointers_at, pointers_of_homes, NamesBelow, IsWalkable, naming_by, is_clash, naming_of, first_clash}

@@ -19,7 +19,7 @@ use Rattle.nd_value.specs.Tree.{Tree, Trees, Label, node, none, more, trees, cou
 use Rattle.nd_value.specs.Agreement.{Agreement, member_agreements}
 use Rattle.nd_value.specs.Nodes.{child_types, child_agreements, first_agreements, rest_agreements}
 use Rattle.nd_value.specs.Misfit.{has_shape}
-use Rattle.nd_value.specs.FirstMisfit.{disagreement_of}
+use Rattle.nd_value.specs.Conforms.{disagreement_of}
 use Rattle.nd_value.specs.Passes.{or_next, at_number}
 use Rattle.nd_misfits.specs.Pointers.{are_formed, named_here, pointers_in}
 use Rattle.nd_misfits.specs.Disagreeing.{subject_of, disagreeing_in}

@@ -7,7 +7,7 @@ use Rattle.nd_types.specs.declared.types.TypeDef.{TypeDef}
 use Rattle.nd_types.specs.declared.types.TypeDef.TheVariants as def
 use Rattle.nd_types.specs.Legal.{has_small_values}
 use Rattle.nd_types.specs.Table.{Table, type_at}
-use Rattle.nd_types.specs.Walk.{NamedRoot, named_root}
+use Rattle.nd_types.specs.Roots.{NamedRoot, named_root}
 use Rattle.nd_value.specs.declared.value.Graph.{Graph}
 use Rattle.nd_value.specs.declared.item.Home.{Home}
 use Rattle.nd_value.specs.declared.item.Home.TheVariants as home
@@ -18,8 +18,7 @@ use Rattle.nd_value.specs.Tree.{Tree, Trees, Label, node, none, more, count, nod
 use Rattle.nd_value.specs.Setting.{Setting, root_list, cell_home}
 use Rattle.nd_value.specs.Nodes.{child_types}
 use Rattle.nd_value.specs.Misfit.{misfit_by, names_cell}
-use Rattle.nd_value.specs.Conforms.{FewNodes, HasFewNodes}
-use Rattle.nd_value.specs.FirstMisfit.{first_local}
+use Rattle.nd_value.specs.Conforms.{FewNodes, HasFewNodes, first_local}
 use Rattle.nd_value.specs.Passes.{or_next, at_number, first_in, at_home, first_in_home, first_in_roots, first_in_cells}
 use Rattle.nd_misfits.specs.HomeList.{root_homes, cell_homes, homes_of}
 use Rattle.nd_misfits.specs.Pointers.{are_formed, named_here, pointers_in, NamesBelow, IsWalkable}

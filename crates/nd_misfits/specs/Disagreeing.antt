@@ -1,7 +1,7 @@
 -- How the fourth pass goes over the nodes of a graph: whether the attributes of members and parameters hold (C706 4.2.18 to 4.2.20).
 -- `g` is a graph, `t` a type's number, `l` a label, `ks` and `vs` are values, `ags` the agreements of values, `n` is a node's number,
 -- `h` a home, `o` an operation, `z` a number.
-use Rattle.std.specs.Prelude.{◌≡◌, ℕ, ◌+◌, ◌^◌, ℤ, pos, int_le, Bool, true, cond, List, [], ◌∷◌, Option, Some, None, Result, Ok, Err}
+use Rattle.std.specs.Prelude.{◌≡◌, ℕ, ◌+◌, ◌^◌, ℤ, pos, int_le, Bool, true, if◌then◌else◌, List, [], ◌∷◌, Option, Some, None, Result, Ok, Err}
 use Rattle.std.specs.List.{slice_get}
 use Rattle.std.specs.Ordering.{int_eq}
 use Rattle.nd_types.specs.declared.types.AttrVar.{AttrVar}
@@ -14,11 +14,10 @@ use Rattle.nd_value.specs.declared.misfit.MisfitReason.TheVariants as misfit
 use Rattle.nd_value.specs.declared.misfit.NodeMisfit.{NodeMisfit}
 use Rattle.nd_value.specs.Tree as tree
 use Rattle.nd_value.specs.Tree.{Tree, Trees, Label, node, none, more, trees, node_count}
-use Rattle.nd_value.specs.Agreement.{Agreement, number_in}
+use Rattle.nd_value.specs.Agreement.{Agreement, number_in, root_agreements}
 use Rattle.nd_value.specs.Setting.{Setting, cell_at}
 use Rattle.nd_value.specs.Nodes.{child_types, child_agreements, first_agreements, rest_agreements}
-use Rattle.nd_value.specs.Variables.{root_agreements}
-use Rattle.nd_value.specs.FirstMisfit.{MisfitAt, or_later, disagreement_of}
+use Rattle.nd_value.specs.Conforms.{MisfitAt, or_later, disagreement_of}
 use Rattle.nd_value.specs.Passes.{or_next, at_number, at_home}
 use Rattle.nd_misfits.specs.HomeList.{HomeTree}
 
@@ -33,7 +32,7 @@ subject_in g (node l ks) = subject_of g l ks
 
 -- a number that is found against the one that is wanted
 abbrev pub difference : ℤ → ℤ → Option MisfitReason
-difference wanted found = cond (int_eq wanted found) None (Some (misfit.Disagrees wanted found))
+difference wanted found = if int_eq wanted found then None else Some (misfit.Disagrees wanted found)
 
 -- the first node among values of these types whose agreements do not all hold, the nodes being numbered from n on
 abbrev pub disagreeing_in : Table → Graph → List ℕ → List (List Agreement) → ℕ → Trees → Option NodeMisfit

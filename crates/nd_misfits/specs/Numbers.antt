@@ -1,18 +1,17 @@
 -- The numbers of parameters, which their attributes' variables name.
 -- `v` is a variable, `r` a root or a root as a variable, `j` a parameter's place, `a` an attribute with its variable, `w` a setting, `g` a
 -- graph, `q` the graph of a request, `t` a value.
-use Rattle.std.specs.Prelude.{◌≡◌, ℕ, ℤ, Bool, true, false, ◌&&◌, eqb, List, [], ◌∷◌, ◌++◌, get_or, Option, Some, None}
+use Rattle.std.specs.Prelude.{◌≡◌, ℕ, ℤ, Bool, true, false, ◌&&◌, ◌==◌, List, [], ◌∷◌, ◌++◌, slice_index_or, Option, Some, None}
 use Rattle.std.specs.List.{list_all}
 use Rattle.nd_types.specs.declared.types.AttrVar.{AttrVar}
 use Rattle.nd_types.specs.declared.types.Operation.{Operation}
 use Rattle.nd_types.specs.declared.types.Side.TheVariants as side
 use Rattle.nd_types.specs.Table.{Table}
-use Rattle.nd_types.specs.Walk.{NamedRoot, named_roots}
+use Rattle.nd_types.specs.Roots.{NamedRoot, named_roots}
 use Rattle.nd_value.specs.declared.value.Graph.{Graph}
 use Rattle.nd_value.specs.Tree.{Tree}
-use Rattle.nd_value.specs.Agreement.{Agreement, agreement}
+use Rattle.nd_value.specs.Agreement.{Agreement, agreement, starred, variable}
 use Rattle.nd_value.specs.Setting.{Setting}
-use Rattle.nd_value.specs.Variables.{starred, variable}
 use Rattle.nd_misfits.specs.declared.numbers.ParamNumber.{ParamNumber}
 use Rattle.nd_misfits.specs.declared.numbers.RootNumber.{RootNumber}
 use Rattle.nd_misfits.specs.HomeList.{HomeTree}
@@ -44,7 +43,7 @@ given_numbers table o (Some q) = numbers_of q (named_roots table side.In o) q.ro
 -- the parameter that a root is
 abbrev pub is_param : Option ℕ → ℕ → Bool
 is_param None j = false
-is_param (Some k) j = eqb k j
+is_param (Some k) j = k == j
 
 -- the number of a parameter among roots, or another one where it is none of them
 abbrev pub number_among : List RootNumber → ℕ → ParamNumber → ParamNumber
@@ -61,7 +60,7 @@ value_by n true = n.referent
 value_by n false = n.own
 
 abbrev pub value_in : List ParamNumber → AttrVar → Option ℤ
-value_in numbers a = value_by (get_or numbers a.var no_number) a.star
+value_in numbers a = value_by (slice_index_or numbers a.var no_number) a.star
 
 -- the agreements of a parameter's attributes, by these numbers
 abbrev pub agreements_by : List ParamNumber → List AttrVar → List Agreement

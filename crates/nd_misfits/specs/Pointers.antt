@@ -20,7 +20,7 @@ use Rattle.nd_value.specs.Tree.{Tree, Trees, Label, node, none, more, node_count
 use Rattle.nd_misfits.specs.HomeList.{HomeTree}
 use Rattle.nd_value.specs.Nodes.{child_types}
 use Rattle.nd_value.specs.Misfit.{has_shape, has_range, has_arm}
-use Rattle.nd_value.specs.FirstMisfit.{MisfitAt, is_full}
+use Rattle.nd_value.specs.Conforms.{MisfitAt, is_full}
 
 -- Each node of values of these types has the form of its type, holds a number that octets of its type can hold, and selects an arm.
 abbrev pub are_formed : Table → List ℕ → Trees → Bool

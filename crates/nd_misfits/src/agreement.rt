@@ -5,7 +5,7 @@ ghost use Rattle.nd_value.specs.Tree.{trees, count};
 ghost use Rattle.nd_value.specs.Setting.{unread};
 ghost use Rattle.nd_value.specs.Seen.{tree_of, cell_number};
 ghost use Rattle.nd_value.specs.Agreement.{number_in, agreement, member_agreements, wanted_by, found_in, max_of, offset_of, actual, tag_of};
-ghost use Rattle.nd_value.specs.FirstMisfit.{disagreement, disagreement_of};
+ghost use Rattle.nd_value.specs.Conforms.{disagreement, disagreement_of};
 ghost use Rattle.nd_misfits.specs.Searched.{label_in, kids_in};
 ghost use Rattle.nd_misfits.specs.Disagreeing.{subject_in, subject_of, difference, AreSmall, is_small, is_small_or_none};
 ghost use Rattle.nd_misfits.specs.Numbers.{agreements_by, value_in, are_small_numbers, value_by};

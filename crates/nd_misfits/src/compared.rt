@@ -1,5 +1,5 @@
 // The fourth pass within a home: attributes of members that state other numbers than are there.
-ghost use Rattle.std.specs.Prelude.{◌≡◌, ℕ, ◌+◌, ◌<◌, ◌≤◌, ◌^◌, [], ◌∷◌, length, map, replicate, true, eqb};
+ghost use Rattle.std.specs.Prelude.{◌≡◌, ℕ, ◌+◌, ◌<◌, ◌≤◌, ◌^◌, [], ◌∷◌, length, map, replicate, true, ◌==◌};
 ghost use Rattle.nd_types.specs.Table.{type_at};
 ghost use Rattle.nd_types.specs.Layout.{type_list};
 ghost use Rattle.nd_value.specs.Tree.{more, none, trees, node_count, count};
@@ -106,7 +106,7 @@ fn members(
 ) -> Result<u32, NodeMisfit>
     requires few { node + node_count (trees vals.now) < 2 ^ 32 }
     requires formed { are_formed types.now (map (λ f. f.of.0) fields.now) (trees vals.now) ≡ true }
-    requires shape { eqb (count (trees vals.now)) (length fields.now) ≡ true }
+    requires shape { (count (trees vals.now) == length fields.now) ≡ true }
     ensures { Compared types.now graph.now (map (λ f. f.of.0) fields.now) (map (λ f. member_agreements (trees vals.now) f.vars) fields.now)
         node (trees vals.now) result }
 {

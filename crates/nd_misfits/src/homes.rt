@@ -1,7 +1,7 @@
 // The homes of a graph.
 ghost use Rattle.std.specs.Prelude.{◌≡◌, ◌+◌, ◌<◌, ◌^◌, length, map, slice_get, Some, IfOk};
 ghost use Rattle.nd_types.specs.declared.types.Operation.{Operation};
-ghost use Rattle.nd_types.specs.Walk.{named_roots};
+ghost use Rattle.nd_types.specs.Roots.{named_roots};
 ghost use Rattle.nd_value.specs.Seen.{cell_of};
 ghost use Rattle.nd_misfits.specs.HomeList.{home_tree, root_homes, home_of_cell};
 

@@ -2,12 +2,11 @@
 ghost use Rattle.std.specs.Prelude.{◌≡◌, ◌<◌, ◌^◌, true, length, map, slice_get, Option, Some, None, OnOk, IfErr};
 ghost use Rattle.nd_types.specs.declared.types.Operation.{Operation};
 ghost use Rattle.nd_value.specs.declared.value.Graph.{Graph as GraphValue};
-ghost use Rattle.nd_types.specs.Walk.{named_roots};
+ghost use Rattle.nd_types.specs.Roots.{named_roots};
 ghost use Rattle.nd_value.specs.Tree.{more, none, trees, node_count};
 ghost use Rattle.nd_value.specs.Seen.{tree_of};
-ghost use Rattle.nd_value.specs.Conforms.{FewNodes, HasFewNodes};
+ghost use Rattle.nd_value.specs.Conforms.{FewNodes, HasFewNodes, first_local};
 ghost use Rattle.nd_value.specs.Fitting.{setting_beside};
-ghost use Rattle.nd_value.specs.FirstMisfit.{first_local};
 ghost use Rattle.nd_value.specs.Passes.{Tells, first_in_home, first_in_roots, first_in_cells};
 ghost use Rattle.nd_misfits.specs.Searched.{have_machine_values, HasMachineValues};
 

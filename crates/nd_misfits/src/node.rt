@@ -1,5 +1,5 @@
 // Why a node has a misfit by itself, if it has one.
-ghost use Rattle.std.specs.Prelude.{◌≡◌, ℕ, ℤ, Bool, true, List, Option, ◌+◌, ◌&&◌, leb, eqb, length, Some, None};
+ghost use Rattle.std.specs.Prelude.{◌≡◌, ℕ, ℤ, Bool, true, List, Option, ◌+◌, ◌&&◌, nat_le, ◌==◌, nat_eq, length, Some, None};
 ghost use Rattle.std.specs.List.{list_all, list_any};
 ghost use Rattle.std.specs.Option.{option_copied};
 ghost use Rattle.std.specs.Ordering.{int_eq};
@@ -68,7 +68,7 @@ fn octets_within(octets: &[u8])
 // The same of an identifier, which has 16 of them.
 #[inline]
 fn identifier_within(octets: &[u8; 16])
-    ensures length { eqb (length octets.now) 16 ≡ true }
+    ensures length { (length octets.now == 16) ≡ true }
     ensures octets { list_all is_octet octets.now ≡ true }
 {
     octets_within(octets);
@@ -171,7 +171,7 @@ fn octets_misfit(bound: Option<u32>, max: u32, octets: &[u8]) -> Option<MisfitRe
 
 // Whether an octet is zero.
 fn has_zero(octets: &[u8]) -> bool
-    ensures { result ≡ list_any (eqb 0) octets.now }
+    ensures { result ≡ list_any (nat_eq 0) octets.now }
 {
     octets.iter().any(|octet| 0 == *octet)
 }
@@ -344,7 +344,7 @@ fn has_counts(bound: Option<u32>, varying: bool, max: u32, offset: u32, items: u
 
 // Whether offset and number of elements end within the maximum count.
 fn is_within(max: u32, offset: u32, items: usize) -> bool
-    ensures { result ≡ leb (offset + items) max }
+    ensures { result ≡ nat_le (offset + items) max }
 {
     offset <= max && items <= (max - offset) as usize
 }

@@ -1,5 +1,5 @@
 // The nodes of values, depth first.
-ghost use Rattle.std.specs.Prelude.{◌≡◌, ℕ, ◌+◌, ◌<◌, ◌^◌, [], ◌∷◌, length, map, replicate, true, eqb};
+ghost use Rattle.std.specs.Prelude.{◌≡◌, ℕ, ◌+◌, ◌<◌, ◌^◌, [], ◌∷◌, length, map, replicate, true, ◌==◌};
 ghost use Rattle.nd_types.specs.Table.{type_at};
 ghost use Rattle.nd_types.specs.Layout.{type_list};
 ghost use Rattle.nd_value.specs.Tree.{more, none, trees, node_count, count};
@@ -90,7 +90,7 @@ fn members(
     node: u32,
 ) -> Result<u32, NodeMisfit>
     requires few { node + node_count (trees vals.now) < 2 ^ 32 }
-    requires shape { eqb (count (trees vals.now)) (length fields.now) ≡ true }
+    requires shape { (count (trees vals.now) == length fields.now) ≡ true }
     ensures { Searched types.now graph.now (map (λ f. f.of.0) fields.now) node (trees vals.now) result }
 {
     let mut next = node;
@@ -138,7 +138,7 @@ fn arm(
     node: u32,
 ) -> Result<u32, NodeMisfit>
     requires few { node + node_count (trees arm.now) < 2 ^ 32 }
-    requires shape { eqb (count (trees arm.now)) (length (type_list of)) ≡ true }
+    requires shape { (count (trees arm.now) == length (type_list of)) ≡ true }
     ensures { Searched types.now graph.now (type_list of) node (trees arm.now) result }
 {
     match arm.get() {

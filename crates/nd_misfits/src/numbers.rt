@@ -1,10 +1,9 @@
 // The numbers of parameters, which their attributes' variables name (C706, 4.2.18).
-ghost use Rattle.std.specs.Prelude.{◌≡◌, ℕ, ◌<◌, true, false, length, map, get_or, IfOk, IfSome, IfNone, Some, None};
+ghost use Rattle.std.specs.Prelude.{◌≡◌, ℕ, ◌<◌, true, false, length, map, slice_index_or, IfOk, IfSome, IfNone, Some, None};
 ghost use Rattle.nd_value.specs.Tree as tree;
 ghost use Rattle.nd_value.specs.Seen.{tree_of, cell_of};
 ghost use Rattle.nd_value.specs.Setting.{cell_of_number};
-ghost use Rattle.nd_value.specs.Agreement.{number_of};
-ghost use Rattle.nd_value.specs.Variables.{starred};
+ghost use Rattle.nd_value.specs.Agreement.{number_of, starred};
 ghost use Rattle.nd_misfits.specs.HomeList.{home_tree};
 ghost use Rattle.nd_misfits.specs.Numbers.{number_at, no_number, is_param, number_among, home_number, replaced};
 
@@ -37,7 +36,7 @@ pub(crate) fn numbers(
 ) -> Result<Vec<ParamNumber>, Memory>
     ensures length { IfOk result (λ numbers. length numbers.items ≡ count) }
     ensures numbers { IfOk result (λ numbers. (j : ℕ) → j < count
-        → get_or numbers.items j no_number ≡ number_among own.now j (number_among given.now j no_number)) }
+        → slice_index_or numbers.items j no_number ≡ number_among own.now j (number_among given.now j no_number)) }
 {
     let mut numbers = vec![in alloc; NO_NUMBER; count]?;
     place_all(given, &mut numbers);
@@ -54,7 +53,7 @@ const NO_NUMBER: ParamNumber = ParamNumber {
 fn place_all(roots: &[RootNumber], numbers: &mut Vec<ParamNumber>)
     ensures length { length numbers.new.items ≡ length numbers.old.items }
     ensures placed { (j : ℕ) → j < length numbers.old.items
-        → get_or numbers.new.items j no_number ≡ number_among roots.now j (get_or numbers.old.items j no_number) }
+        → slice_index_or numbers.new.items j no_number ≡ number_among roots.now j (slice_index_or numbers.old.items j no_number) }
 {
     for at in (0..roots.len()).rev() {
         place(roots[at], numbers);
@@ -65,7 +64,7 @@ fn place_all(roots: &[RootNumber], numbers: &mut Vec<ParamNumber>)
 fn place(root: RootNumber, numbers: &mut Vec<ParamNumber>)
     ensures length { length numbers.new.items ≡ length numbers.old.items }
     ensures placed { (j : ℕ) → j < length numbers.old.items
-        → get_or numbers.new.items j no_number ≡ replaced root j (get_or numbers.old.items j no_number) }
+        → slice_index_or numbers.new.items j no_number ≡ replaced root j (slice_index_or numbers.old.items j no_number) }
 {
     if let Some(param) = root.param
         && (param as usize) < numbers.as_slice().len()

@@ -1,5 +1,5 @@
 // The pointers of a value that name cells, depth first.
-ghost use Rattle.std.specs.Prelude.{◌≡◌, ℕ, ◌+◌, ◌<◌, ◌^◌, ◌++◌, [], ◌∷◌, length, map, replicate, true, eqb, OnOk};
+ghost use Rattle.std.specs.Prelude.{◌≡◌, ℕ, ◌+◌, ◌<◌, ◌^◌, ◌++◌, [], ◌∷◌, length, map, replicate, true, ◌==◌, OnOk};
 ghost use Rattle.nd_types.specs.Table.{type_at};
 ghost use Rattle.nd_types.specs.Layout.{type_list};
 ghost use Rattle.nd_value.specs.Tree.{more, none, trees, node_count, count};
@@ -128,7 +128,7 @@ fn members(
 ) -> Result<u32, Memory>
     requires few { node + node_count (trees vals.now) < 2 ^ 32 }
     requires formed { are_formed types.now (map (λ f. f.of.0) fields.now) (trees vals.now) ≡ true }
-    requires shape { eqb (count (trees vals.now)) (length fields.now) ≡ true }
+    requires shape { (count (trees vals.now) == length fields.now) ≡ true }
     ensures { Collects types.now home (map (λ f. f.of.0) fields.now) node (trees vals.now) found.old.items found.new.items result }
 {
     let mut next = node;

@@ -5,11 +5,9 @@ ghost use Rattle.std.specs.List.{AllByRecursion};
 ghost use Rattle.nd_types.specs.declared.types.Operation.{Operation};
 ghost use Rattle.nd_value.specs.declared.value.Graph.{Graph as GraphValue};
 ghost use Rattle.nd_misfits.specs.declared.pointers.CellPointer.{CellPointer as CellPointerValue};
-ghost use Rattle.nd_value.specs.Homes.{all_pointers};
+ghost use Rattle.nd_value.specs.Conforms.{all_pointers, HasFewNodes, first_local, first_shared};
 ghost use Rattle.nd_misfits.specs.HomeList.{home_tree, cell_homes};
-ghost use Rattle.nd_value.specs.Conforms.{HasFewNodes};
 ghost use Rattle.nd_value.specs.Fitting.{setting_beside};
-ghost use Rattle.nd_value.specs.FirstMisfit.{first_local, first_shared};
 ghost use Rattle.nd_value.specs.Passes.{Tells};
 ghost use Rattle.nd_misfits.specs.Pointers.{NamesBelow, IsWalkable, pointers_at, pointers_of_homes, first_clash, is_clash, naming_by};
 

@@ -11,8 +11,8 @@ use Rattle.nd_types.specs.declared.types.Operation.{Operation}
 use Rattle.nd_types.specs.declared.types.Side.{Side}
 use Rattle.nd_types.specs.declared.TheConstants.{HANDLE}
 use Rattle.nd_types.specs.Table.{Table}
-use Rattle.nd_types.specs.Roots.{Root, roots_of, root_of, root_by, pipe_of, params_from, travels}
-use Rattle.nd_types.specs.Walk.{NamedRoot, named_root, named_roots, with_name, root_name, param_name, param_root, is_kind, params_left, result_left}
+use Rattle.nd_types.specs.Roots.{Root, roots_of, root_of, root_by, pipe_of, params_from, travels, NamedRoot, named_root, named_roots, with_name, root_name, param_name, param_root, is_kind}
+use Rattle.nd_types.specs.Roots.{params_left, result_left}
 
 -- a root before others, where it is of this kind
 abbrev pub kept : Bool → Option NamedRoot → List NamedRoot → List NamedRoot

@@ -1,6 +1,7 @@
 -- The numbers that octets spell (C706 14.2: integers in two's complement, in the order of the stream).
 -- `b` is an octet, `p` a primitive, `v` a number of octets, `z` a whole number, `n` how many octets.
-use Rattle.std.specs.Prelude.{ℕ, ◌+◌, ◌-◌, ◌*◌, ◌^◌, ◌<◌, ◌/◌, ◌%◌, zero, suc, ℤ, pos, negsuc, ◌-ℤ◌, Bool, true, false, cond, ltb, List, [], ◌∷◌}
+use Rattle.std.specs.Prelude.{ℕ, ◌+◌, ◌-◌, ◌*◌, ◌^◌, ◌<◌, ◌/◌, ◌%◌, zero, suc, ℤ, pos, negsuc, ◌-ℤ◌, Bool, true, false, if◌then◌else◌, nat_lt, List}
+use Rattle.std.specs.Prelude.{[], ◌∷◌}
 use Rattle.std.specs.Prelude.{reverse}
 use Rattle.std.specs.List.{AllByRecursion}
 use Rattle.nd_base.specs.declared.octets.Order.{Order}
@@ -29,7 +30,7 @@ unsigned order octets = little (in_order order octets)
 
 -- the number of n octets in two's complement, from their unsigned number
 abbrev pub as_signed : ℕ → ℕ → ℤ
-as_signed n v = cond (ltb v (2 ^ (8 * n - 1))) (pos v) (pos v -ℤ pos (2 ^ (8 * n)))
+as_signed n v = if nat_lt v (2 ^ (8 * n - 1)) then pos v else pos v -ℤ pos (2 ^ (8 * n))
 
 -- a number of n octets, signed or not
 abbrev by_sign : Bool → ℕ → ℕ → ℤ

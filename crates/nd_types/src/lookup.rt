@@ -1,6 +1,6 @@
 // Operations by name.
 ghost use Rattle.std.specs.Prelude.{◌≡◌};
-ghost use Rattle.nd_types.specs.Operations.{operation_named};
+ghost use Rattle.nd_types.specs.Roots.{operation_named};
 
 use crate::{Interface, Operation};
 

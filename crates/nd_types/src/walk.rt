@@ -2,8 +2,7 @@
 ghost use Rattle.std.specs.Prelude.{◌≡◌, ℕ, ◌<◌, ◌≤◌, length, option_map, slice_get, Some, [], ◌∷◌, MatchOption, option_to_list};
 ghost use Rattle.std.specs.Iterator.{YieldsFirstBy, item_count};
 ghost use Rattle.nd_types.specs.declared.types.Operation.{Operation as OperationValue};
-ghost use Rattle.nd_types.specs.Roots.{travels, pipe_of};
-ghost use Rattle.nd_types.specs.Walk.{root_value, named_roots, param_root, params_left, result_left, left};
+ghost use Rattle.nd_types.specs.Roots.{travels, pipe_of, root_value, named_roots, param_root, params_left, result_left, left};
 ghost use Rattle.nd_types.specs.declared.TheConstants.{PARAM_LIMIT};
 
 use crate::{Class, HANDLE, Interface, Operation, Param, Side, TypeDef, TypeId, Types, Way};
@@ -136,7 +135,7 @@ pub struct ParamWalk<'a> {
 
 impl<'a> Model for ParamWalk<'a> {
     ghost use Rattle.std.specs.Prelude.{List};
-    ghost use Rattle.nd_types.specs.Walk.{NamedRoot, left};
+    ghost use Rattle.nd_types.specs.Roots.{NamedRoot, left};
 
     ghost Value = { List NamedRoot };
 

@@ -18,15 +18,13 @@ use Rattle.nd_value.specs.declared.item.Home.{Home}
 use Rattle.nd_value.specs.declared.item.Home.TheVariants as home
 use Rattle.nd_value.specs.Tree as tree
 use Rattle.nd_value.specs.Tree.{Tree, Trees, node, none, more, Label, Referent}
-use Rattle.nd_value.specs.Agreement.{Agreement}
+use Rattle.nd_value.specs.Agreement.{Agreement, root_agreements}
 use Rattle.nd_value.specs.Setting.{Setting, Among, root_list, root_at, or_unread, cell_at, cell_tree, cell_of_number, cell_home}
 use Rattle.nd_value.specs.Nodes.{nodes_of}
 use Rattle.nd_value.specs.Deferral.{Pending, home_pointers, pointer, Due, due_root, due_referent, due_roots, Step, root_stands, referent_stands, stands_already, Deferral, none_due, at_root, at_null}
 use Rattle.nd_value.specs.Deferral.{at_standing, at_referent, IsPlaced, IsPlacedFull, Placed_cells, Standing, standing_root, standing_by, standing_cell, root_type, direct, due_of, root_cell, AreFree}
-use Rattle.nd_value.specs.Variables.{root_agreements}
-use Rattle.nd_value.specs.Homes.{root_nodes, root_pointers, cell_nodes, cell_pointers, all_nodes, all_pointers, in_home}
+use Rattle.nd_value.specs.Conforms.{root_nodes, root_pointers, cell_nodes, cell_pointers, all_nodes, all_pointers, in_home, AllEarlier, ShareOnlyIfFull}
 use Rattle.nd_value.specs.Misfit.{is_no_null_ref}
-use Rattle.nd_value.specs.Conforms.{AllEarlier, ShareOnlyIfFull}
 use Rattle.nd_value.proofs.Apart.{all_append, all_left, all_right, all_map, among_left, among_right, earlier_meets, moved}
 use Rattle.nd_value.proofs.Orderly.{Orderly, PointerFits, Pointee, Fits, pointees, pointee_of_cell, cell_pointees}
 use Rattle.nd_value.proofs.Waiting.{stands, stands-true, stands-false, waiting, parted}

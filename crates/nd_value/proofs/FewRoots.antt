@@ -13,8 +13,7 @@ use Rattle.nd_types.specs.declared.types.Operation.{Operation}
 use Rattle.nd_types.specs.declared.types.Side.{Side}
 use Rattle.nd_types.specs.declared.types.Side.TheVariants as side
 use Rattle.nd_types.specs.Table.{Table}
-use Rattle.nd_types.specs.Roots.{Root, roots_of, params_from, result_root, root_of, travels}
-use Rattle.nd_types.specs.Walk.{named_root, named_roots}
+use Rattle.nd_types.specs.Roots.{Root, roots_of, params_from, result_root, root_of, travels, named_root, named_roots}
 
 parted : (rs : List Root) → length (filter (λ r. not r.is_pipe) rs) + length (filter (λ r. r.is_pipe) rs) ≡ length rs
 parted [] = omega arith

@@ -5,8 +5,7 @@ use Rattle.std.proofs.lemmas.Bool.{ne_eqb, eq-eqb, lt-ltb, le-ltb, cond-true, co
 use Rattle.std.proofs.lemmas.List.{map-append}
 use Rattle.std.proofs.lemmas.Option.{slice_get-get_or}
 use Rattle.nd_types.specs.Table.{Table, type_at}
-use Rattle.nd_types.specs.Roots.{Root}
-use Rattle.nd_types.specs.Walk.{NamedRoot, named_root}
+use Rattle.nd_types.specs.Roots.{Root, NamedRoot, named_root}
 use Rattle.nd_value.specs.declared.value.Graph.{Graph}
 use Rattle.nd_value.specs.declared.item.Home.{Home}
 use Rattle.nd_value.specs.declared.item.Home.TheVariants as home
@@ -16,13 +15,11 @@ use Rattle.nd_value.specs.declared.misfit.Misfit.{Misfit}
 use Rattle.nd_value.specs.declared.misfit.Misfit.TheVariants as answer
 use Rattle.nd_value.specs.declared.misfit.NodeMisfit.{NodeMisfit}
 use Rattle.nd_value.specs.Tree.{Tree, Trees, node, none, more, node_count, Referent}
-use Rattle.nd_value.specs.Agreement.{Agreement}
+use Rattle.nd_value.specs.Agreement.{Agreement, root_agreements}
 use Rattle.nd_value.specs.Setting.{Setting, root_list, cell_home}
 use Rattle.nd_value.specs.Nodes.{TypedNode, child_types, child_agreements, first_agreements, rest_agreements, nodes_of, governed_nodes, home_nodes}
-use Rattle.nd_value.specs.Variables.{root_agreements}
-use Rattle.nd_value.specs.Homes.{HomeNode, in_home, root_nodes, cell_nodes}
+use Rattle.nd_value.specs.Conforms.{HomeNode, in_home, root_nodes, cell_nodes, MisfitAt, or_later, at_node, first_node, root_count, first_local}
 use Rattle.nd_value.specs.Misfit.{misfit_of}
-use Rattle.nd_value.specs.FirstMisfit.{MisfitAt, or_later, at_node, first_node, root_count, first_local}
 use Rattle.nd_value.specs.Passes.{Tells, or_next, at_number, first_in, at_home, first_in_home, first_in_roots, first_in_cells}
 use Rattle.nd_lemmas.proofs.Lists.{drop_next as drop-get, drop_past as drop-past}
 

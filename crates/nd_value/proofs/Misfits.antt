@@ -17,11 +17,10 @@ use Rattle.nd_value.specs.Agreement.{Agreement, found_in}
 use Rattle.nd_value.specs.Setting.{Setting, root_list, cell_home, cell_at}
 use Rattle.nd_value.specs.Nodes.{TypedNode}
 use Rattle.nd_value.specs.Deferral.{Pending}
-use Rattle.nd_value.specs.Homes.{HomeNode, root_nodes, cell_nodes, all_nodes, all_pointers}
+use Rattle.nd_value.specs.Conforms.{HomeNode, root_nodes, cell_nodes, all_nodes, all_pointers, Conforms, HasFewNodes, AllEarlier, ShareOnlyIfFull, Reached, subject, subject_by, IsAgreed, AgreesAt}
+use Rattle.nd_value.specs.Conforms.{MisfitAt, or_later, at_node, first_node, root_count, first_local, is_full, same_cell, clashes, first_shared, IsFirstUnreached, disagreement, disagreement_of}
+use Rattle.nd_value.specs.Conforms.{first_disagreeing, IsFirstMisfit, is_local, is_shared, is_unreached, is_disagreeing}
 use Rattle.nd_value.specs.Misfit.{misfit_of, has_machine_values}
-use Rattle.nd_value.specs.Conforms.{Conforms, HasFewNodes, AllEarlier, ShareOnlyIfFull, Reached, subject, subject_by, IsAgreed, AgreesAt}
-use Rattle.nd_value.specs.FirstMisfit.{MisfitAt, or_later, at_node, first_node, root_count, first_local, is_full, same_cell, clashes, first_shared, IsFirstUnreached, disagreement, disagreement_of}
-use Rattle.nd_value.specs.FirstMisfit.{first_disagreeing, IsFirstMisfit, is_local, is_shared, is_unreached, is_disagreeing}
 use Rattle.nd_value.proofs.LocalPass.{count_same as count-none}
 
 pub all_left : {X : Type 0} (P : X → Type 0) (xs ys : List X) → AllByRecursion P (xs ++ ys) → AllByRecursion P xs

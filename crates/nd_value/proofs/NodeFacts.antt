@@ -15,10 +15,9 @@ use Rattle.nd_value.specs.Tree as tree
 use Rattle.nd_value.specs.Tree.{Trees, node, none, Label, count}
 use Rattle.nd_value.specs.Setting.{Setting, root_list}
 use Rattle.nd_value.specs.Nodes.{TypedNode, child_types, selected_types}
-use Rattle.nd_value.specs.Homes.{all_nodes, all_pointers}
+use Rattle.nd_value.specs.Conforms.{all_nodes, all_pointers, Conforms, IsPartial, AllEarlier, ShareOnlyIfFull}
 use Rattle.nd_value.specs.Misfit.{misfit_of, unless, is_partial_node, has_shape, has_range, is_no_null_ref, names_cell, names_pointee, has_counts, is_within, has_no_zero, has_arm, has_machine_values}
 use Rattle.nd_value.specs.Misfit.{selects, arm_fits}
-use Rattle.nd_value.specs.Conforms.{Conforms, IsPartial, AllEarlier, ShareOnlyIfFull}
 use Rattle.nd_value.proofs.Apart.{all_weaker}
 use Rattle.nd_value.proofs.Orderly.{Orderly, PointerFits}
 use Rattle.nd_lemmas.proofs.Lists.{length_map as length_mapped}

@@ -18,14 +18,12 @@ use Rattle.nd_value.specs.declared.item.Home.{Home}
 use Rattle.nd_value.specs.declared.item.Home.TheVariants as home
 use Rattle.nd_value.specs.Tree as tree
 use Rattle.nd_value.specs.Tree.{Tree, Trees, node, none, more, Label, Referent, is_pointer, cell_in, node_count}
-use Rattle.nd_value.specs.Agreement.{Agreement}
+use Rattle.nd_value.specs.Agreement.{Agreement, root_agreements}
 use Rattle.nd_value.specs.Setting.{Setting, root_list, cell_of_number, cell_home}
 use Rattle.nd_value.specs.Nodes.{TypedNode, nodes_of, child_types, child_agreements, first_agreements, rest_agreements, governed_nodes, home_nodes}
 use Rattle.nd_value.specs.Deferral.{Pending, pointer, pointer_by, home_pointers}
-use Rattle.nd_value.specs.Variables.{root_agreements}
-use Rattle.nd_value.specs.Homes.{HomeNode, in_home, root_nodes, cell_nodes, all_nodes, all_pointers}
+use Rattle.nd_value.specs.Conforms.{HomeNode, in_home, root_nodes, cell_nodes, all_nodes, all_pointers, AllEarlier, ShareOnlyIfFull}
 use Rattle.nd_value.specs.Misfit.{is_no_null_ref, names_cell, names_pointee, has_type}
-use Rattle.nd_value.specs.Conforms.{AllEarlier, ShareOnlyIfFull}
 use Rattle.nd_value.proofs.Apart.{all_append, all_left, all_right, all_map, all_flat}
 
 -- a node's pointer is no null reference, and names a cell of its referent's type

@@ -5,7 +5,7 @@ use Rattle.std.proofs.lemmas.Option.{same_Some}
 use Rattle.nd_value.specs.declared.value.Graph.{Graph}
 use Rattle.nd_value.specs.Tree as tree
 use Rattle.nd_value.specs.Tree.{Tree, Trees, node, none, more, Label, Referent, trees, items}
-use Rattle.nd_value.specs.Same.{Same, renumbered, renumbered_label}
+use Rattle.nd_value.specs.Canon.{Same, renumbered, renumbered_label}
 
 module _ (m : ℕ → ℕ) (still : (c : ℕ) → m c ≡ c) where
   label_still : (l : Label) → renumbered_label m l ≡ l

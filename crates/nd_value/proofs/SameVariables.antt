@@ -3,9 +3,8 @@ use Rattle.std.proofs.Common.{◌≡◌, ℕ, ℤ, Bool, List, [], ◌∷◌, �
 use Rattle.nd_types.specs.declared.types.AttrVar.{AttrVar}
 use Rattle.nd_types.specs.Roots.{root_index}
 use Rattle.nd_value.specs.declared.value.Graph.{Graph}
-use Rattle.nd_value.specs.Agreement.{agreement}
+use Rattle.nd_value.specs.Agreement.{agreement, starred, given_value, variable, root_agreements}
 use Rattle.nd_value.specs.Setting.{Setting, root_list, root_at}
-use Rattle.nd_value.specs.Variables.{starred, given_value, variable, root_agreements}
 
 module _ (w : Setting) (g g' : Graph) (same : (i : ℕ) (star : Bool) → starred g star (root_at g i) ≡ starred g' star (root_at g' i)) where
   abbrev by_index : Graph → AttrVar → Option ℕ → Option ℤ

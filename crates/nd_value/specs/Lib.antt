@@ -6,13 +6,9 @@ pub mod Agreement
 pub mod Nodes
 pub mod Deferral
 pub mod RepeatedDeferral
-pub mod Variables
-pub mod Homes
-pub mod Misfit
 pub mod Conforms
-pub mod FirstMisfit
+pub mod Misfit
 pub mod Passes
-pub mod Same
 pub mod Canon
 pub mod Names
 pub mod Fitting

@@ -1,7 +1,8 @@
 -- What a node of a graph has to keep to by itself: the tests of one node, and its first misfit.
 -- `d` is a node's type, `l` its label, `ks` are its children, `g` is a graph, `x` a node, `c` a cell or its number, `z` a
 -- number, `v` a tag, `a` an arm.
-use Rattle.std.specs.Prelude.{ℕ, ◌+◌, ◌^◌, ℤ, Bool, true, false, not, ◌&&◌, ◌||◌, eqb, leb, ltb, List, [], ◌∷◌, length, Option, Some, None}
+use Rattle.std.specs.Prelude.{ℕ, ◌+◌, ◌^◌, ℤ, Bool, true, false, not, ◌&&◌, ◌||◌, ◌==◌, nat_eq, nat_le, nat_lt, List, [], ◌∷◌, length, Option, Some}
+use Rattle.std.specs.Prelude.{None}
 use Rattle.std.specs.List.{list_all, list_any}
 use Rattle.nd_types.specs.declared.types.TypeDef.{TypeDef}
 use Rattle.nd_types.specs.declared.types.Arm.{Arm}
@@ -21,13 +22,13 @@ use Rattle.nd_value.specs.Nodes.{child_types, TypedNode}
 -- there is not asked.)
 abbrev pub arm_fits : Option Arm → Trees → Bool
 arm_fits None ks = true
-arm_fits (Some a) ks = eqb (count ks) (length (arm_type a))
+arm_fits (Some a) ks = count ks == length (arm_type a)
 
 -- a node has the form of its type: the right variant, as many members as the struct has, an arm where one is selected
 abbrev pub has_shape : Option TypeDef → Label → Trees → Bool
 has_shape (Some (def.Prim p)) (tree.Num z) none = true
 has_shape (Some (def.Enum values)) (tree.Num z) none = true
-has_shape (Some (def.Struct members)) tree.Rec ks = eqb (count ks) (length members)
+has_shape (Some (def.Struct members)) tree.Rec ks = count ks == length members
 has_shape (Some (def.Array elem bound varying)) (tree.Arr max offset) ks = true
 has_shape (Some (def.Text elem bound)) (tree.Text max octets) none = true
 has_shape (Some (def.Union tag encapsulated arms default)) (tree.Union v) ks = arm_fits (selected arms default v) ks
@@ -49,13 +50,13 @@ is_no_null_ref _ _ = true
 
 -- a pointer names a cell that is there: cells are numbered from 1
 abbrev pub names_cell : Graph → Label → Bool
-names_cell g (tree.Ptr (Some c)) = not (eqb c 0) && leb c (length g.cells)
+names_cell g (tree.Ptr (Some c)) = not (c == 0) && nat_le c (length g.cells)
 names_cell g _ = true
 
 -- a cell, where it is there, is of this type
 abbrev pub has_type : Option Referent → ℕ → Bool
 has_type None t = true
-has_type (Some c) t = eqb c.of t
+has_type (Some c) t = c.of == t
 
 -- a pointer names a cell of its referent's type
 abbrev pub names_pointee : Graph → Option TypeDef → Label → Bool
@@ -65,25 +66,25 @@ names_pointee g _ _ = true
 -- a fixed bound is the maximum count
 abbrev pub is_bound : Option ℕ → ℕ → Bool
 is_bound None max = true
-is_bound (Some n) max = eqb max n
+is_bound (Some n) max = max == n
 
 -- The counts of a value have the form of its type: an array that does not vary has offset 0 and as many elements as its
 -- maximum count, and a fixed bound is the maximum count.
 abbrev pub has_counts : Option TypeDef → Label → Trees → Bool
 has_counts (Some (def.Array elem bound true)) (tree.Arr max offset) ks = is_bound bound max
-has_counts (Some (def.Array elem bound false)) (tree.Arr max offset) ks = is_bound bound max && eqb offset 0 && eqb (count ks) max
+has_counts (Some (def.Array elem bound false)) (tree.Arr max offset) ks = is_bound bound max && offset == 0 && count ks == max
 has_counts (Some (def.Text elem bound)) (tree.Text max octets) ks = is_bound bound max
 has_counts _ _ ks = true
 
 -- offset and actual count end within the maximum count; a text's actual count includes its terminator
 abbrev pub is_within : Label → Trees → Bool
-is_within (tree.Arr max offset) ks = leb (offset + count ks) max
-is_within (tree.Text max octets) ks = leb (length octets + 1) max
+is_within (tree.Arr max offset) ks = nat_le (offset + count ks) max
+is_within (tree.Text max octets) ks = nat_le (length octets + 1) max
 is_within _ ks = true
 
 -- a text has no zero before its terminator
 abbrev pub has_no_zero : Label → Bool
-has_no_zero (tree.Text max octets) = not (list_any (eqb 0) octets)
+has_no_zero (tree.Text max octets) = not (list_any (nat_eq 0) octets)
 has_no_zero _ = true
 
 -- an arm is selected
@@ -130,17 +131,17 @@ abbrev pub is_partial_node : Table → Graph → TypedNode → Bool
 is_partial_node table g x =
     let d = type_at table x.of in
     is_unread x.label x.kids
-    || has_shape d x.label x.kids && eqb (count x.kids) (length (child_types d x.label x.kids)) && has_range fits_octets table d x.label
+    || has_shape d x.label x.kids && count x.kids == length (child_types d x.label x.kids) && has_range fits_octets table d x.label
     && is_no_null_ref d x.label
     && names_cell g x.label && names_pointee g d x.label && has_counts d x.label x.kids
 
 -- a number of 8 bits
 abbrev pub is_octet : ℕ → Bool
-is_octet b = ltb b 256
+is_octet b = nat_lt b 256
 
 -- a number of 32 bits
 abbrev pub is_count : ℕ → Bool
-is_count n = ltb n (2 ^ 32)
+is_count n = nat_lt n (2 ^ 32)
 
 -- A node's counts and attributes fit in 32 bits, its octets in 8, and an identifier has 16 of them: so it is with every value of
 -- the program, and without it two graphs with equal octets need not be equal.
@@ -148,5 +149,5 @@ abbrev pub has_machine_values : Label → Bool
 has_machine_values (tree.Arr max offset) = is_count max && is_count offset
 has_machine_values (tree.Text max octets) = is_count max && list_all is_octet octets
 has_machine_values (tree.Ptr (Some c)) = is_count c
-has_machine_values (tree.Context attributes id) = is_count attributes && eqb (length id) 16 && list_all is_octet id
+has_machine_values (tree.Context attributes id) = is_count attributes && length id == 16 && list_all is_octet id
 has_machine_values _ = true

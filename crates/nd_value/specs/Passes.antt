@@ -4,7 +4,7 @@
 -- number, `l` a label, `ks` are children, `i` is a root's index, `c` a cell's number, `v` a value, `x` a cell.
 use Rattle.std.specs.Prelude.{◌≡◌, ℕ, ◌+◌, ◌<◌, ◌≤◌, length, List, [], ◌∷◌, Option, Some, None}
 use Rattle.nd_types.specs.Table.{Table, type_at}
-use Rattle.nd_types.specs.Walk.{NamedRoot}
+use Rattle.nd_types.specs.Roots.{NamedRoot}
 use Rattle.nd_value.specs.declared.value.Graph.{Graph}
 use Rattle.nd_value.specs.declared.item.Home.{Home}
 use Rattle.nd_value.specs.declared.item.Home.TheVariants as home
@@ -17,8 +17,7 @@ use Rattle.nd_value.specs.Tree.{Tree, Trees, node, none, more, node_count, Refer
 use Rattle.nd_value.specs.Setting.{Setting, cell_home}
 use Rattle.nd_value.specs.Nodes.{TypedNode, child_types}
 use Rattle.nd_value.specs.Misfit.{misfit_of}
-use Rattle.nd_value.specs.Conforms.{Reached}
-use Rattle.nd_value.specs.FirstMisfit.{MisfitAt, or_later, IsFirstUnreached}
+use Rattle.nd_value.specs.Conforms.{Reached, MisfitAt, or_later, IsFirstUnreached}
 
 -- an answer tells what a pass has found, with its place and reason; of running out of memory nothing is said
 abbrev pub Tells : Option MisfitAt → Misfit → Type 0

@@ -2,12 +2,11 @@
 ghost use Rattle.std.specs.Prelude.{◌≡◌, ℕ, ◌<◌, ◌≤◌, ◌^◌, true, [], length, None};
 ghost use Rattle.std.specs.List.{list_all};
 ghost use Rattle.nd_value.specs.declared.value.Graph.{Graph};
-ghost use Rattle.nd_value.specs.Same.{Same};
+ghost use Rattle.nd_value.specs.Canon.{Same};
 ghost use Rattle.nd_value.specs.Setting.{Setting};
-ghost use Rattle.nd_value.specs.Homes.{all_nodes, all_pointers};
+ghost use Rattle.nd_value.specs.Conforms.{all_nodes, all_pointers, Conforms, HasFewNodes, Reached, MisfitAt, IsFirstMisfit, first_local};
+ghost use Rattle.nd_value.specs.Conforms.{first_shared, first_disagreeing};
 ghost use Rattle.nd_value.specs.Misfit.{has_machine_values};
-ghost use Rattle.nd_value.specs.Conforms.{Conforms, HasFewNodes, Reached};
-ghost use Rattle.nd_value.specs.FirstMisfit.{MisfitAt, IsFirstMisfit, first_local, first_shared, first_disagreeing};
 
 /// A graph that has a first misfit does not conform.
 pub fn misfit_is_no_fit()

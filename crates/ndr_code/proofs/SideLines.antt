@@ -13,13 +13,12 @@ use Rattle.nd_types.specs.declared.types.Primitive.{Primitive}
 use Rattle.nd_types.specs.declared.types.Side.{Side}
 use Rattle.nd_types.specs.declared.types.Side.TheVariants as side
 use Rattle.nd_types.specs.Table.{Table, type_at}
-use Rattle.nd_types.specs.Roots.{Root, roots_of}
-use Rattle.nd_types.specs.Walk.{root_name}
+use Rattle.nd_types.specs.Roots.{Root, roots_of, root_name}
 use Rattle.ndr_code.specs.declared.lists.PlanLine.{PlanLine}
 use Rattle.ndr_code.specs.declared.lists.PlanLine.TheVariants as line
 use Rattle.ndr_code.specs.declared.lists.EnumList.{EnumList}
-use Rattle.ndr_code.specs.Code.{id, value_roots, pipe_roots, root_at, checks_at, pipe_at}
-use Rattle.ndr_code.specs.Lines.{entry_lines, side_lines, operation_lines, entries_of, line_at, sides_of, side_number, enum_list, enum_list_by, values_of, enumerators}
+use Rattle.ndr_code.specs.Code.{id, value_roots, pipe_roots, root_at, checks_at, pipe_at, entry_lines, side_lines, operation_lines, entries_of, line_at, sides_of, side_number, enum_list, enum_list_by}
+use Rattle.ndr_code.specs.Code.{values_of, enumerators}
 use Rattle.ndr_code.specs.Runs.{IsRunAt}
 use Rattle.ndr_code.proofs.Runs.{behind_at, part_at, first_at, item_at, flat_at, numbered, mapped}
 use Rattle.nd_grammar.proofs.reader.ReaderNames.{get_left as item_before}

@@ -13,11 +13,9 @@ use Rattle.nd_value.specs.declared.item.Home.{Home}
 use Rattle.nd_value.specs.declared.item.Home.TheVariants as home
 use Rattle.nd_value.specs.Tree as tree
 use Rattle.nd_value.specs.Tree.{Tree, node}
-use Rattle.nd_value.specs.Agreement.{Agreement, agreement, found_in}
+use Rattle.nd_value.specs.Agreement.{Agreement, agreement, found_in, starred, given_value, variable, root_agreements}
 use Rattle.nd_value.specs.Setting.{Setting, root_list, root_at, or_unread, cell_at, cell_home}
-use Rattle.nd_value.specs.Variables.{starred, given_value, variable, root_agreements}
-use Rattle.nd_grammar.specs.Entry.{Entry, Test}
-use Rattle.nd_grammar.specs.InPlace.{tests}
+use Rattle.nd_grammar.specs.Entry.{Entry, Test, tests}
 use Rattle.nd_grammar.specs.Stream.{root_test, root_tests}
 use Rattle.ndr_code.specs.declared.instr.Instr.{Instr}
 use Rattle.ndr_code.specs.declared.instr.Instr.TheVariants as op

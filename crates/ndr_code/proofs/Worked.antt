@@ -11,9 +11,8 @@ use Rattle.nd_types.specs.declared.types.TypeDef.TheVariants.{Array}
 use Rattle.nd_types.specs.Table.{Table}
 use Rattle.nd_types.proofs.LegalExamples.{sums, taking, operation, param, with, by}
 use Rattle.ndr_code.specs.declared.instr.Instr.TheVariants.{Void, Ret, Given, Align, Num, Context, Hoist, Call, Record, Check, Close, Conf, Pointer, Direct, Defer}
-use Rattle.ndr_code.specs.Code.{code_of, id, whole_at, place_at, root_at, checks_at, side_at, side_code}
+use Rattle.ndr_code.specs.Code.{code_of, id, whole_at, place_at, root_at, checks_at, side_at, side_code, entries_of, sides_of, line_at}
 use Rattle.ndr_code.specs.declared.lists.PlanLine.TheVariants.{Entry, Checks}
-use Rattle.ndr_code.specs.Lines.{entries_of, sides_of, line_at}
 
 -- the plan of one operation with a reference pointer to a struct that a conformant array of hypers ends
 pub sums_plan : code_of sums (taking way.In 14 []) ≡

@@ -1,9 +1,7 @@
--- The code of a plan: one list of instructions for a table of types and its operations, and the address of each run in it.
--- Each type has a place run, which is what a value of it has in its place, and a whole run, which begins with the maximum count of what hoists.
--- `t` is a type's number, `d` what it is, `place` and `whole` are the addresses of the place run and the whole run of each type,
--- `r` is a root, `i` its number, `o` an operation, `n` its number, `s` a side, `a` an attribute with its variable.
-use Rattle.std.specs.Prelude.{ℕ, ◌+◌, ◌*◌, suc, Bool, true, false, not, eqb, List, [], ◌∷◌, ◌++◌, length, map, flat_map, filter, take, Option, Some}
-use Rattle.std.specs.Prelude.{None}
+-- The code of a plan: one list of instructions for a table of types and its operations, the address of each run in it, and the lines beside it.
+use Rattle.std.specs.Prelude.{ℕ, ◌+◌, ◌*◌, suc, ℤ, Bool, true, false, ◌==◌, not, if◌then◌else◌, List, [], ◌∷◌, ◌++◌, length, map, flat_map}
+use Rattle.std.specs.Prelude.{filter, take, Option, Some, None}
+use Rattle.std.specs.List.{enumerate_from}
 use Rattle.nd_types.specs.declared.types.TypeId.{TypeId}
 use Rattle.nd_types.specs.declared.types.TypeDef.{TypeDef}
 use Rattle.nd_types.specs.declared.types.TypeDef.TheVariants as def
@@ -16,9 +14,18 @@ use Rattle.nd_types.specs.declared.types.Side.{Side}
 use Rattle.nd_types.specs.declared.types.Side.TheVariants as side
 use Rattle.nd_types.specs.Table.{Table, type_at}
 use Rattle.nd_types.specs.Layout.{align_of, hoists}
-use Rattle.nd_types.specs.Roots.{Root, roots_of, root_index}
+use Rattle.nd_types.specs.Roots.{Root, roots_of, root_index, root_name}
 use Rattle.ndr_code.specs.declared.instr.Instr.{Instr}
 use Rattle.ndr_code.specs.declared.instr.Instr.TheVariants as op
+use Rattle.ndr_code.specs.declared.lists.PlanLine.{PlanLine}
+use Rattle.ndr_code.specs.declared.lists.PlanLine.TheVariants as line
+use Rattle.ndr_code.specs.declared.lists.EnumList.{EnumList}
+
+-- ## The code
+
+-- Each type has a place run, which is what a value of it has in its place, and a whole run, which begins with the maximum count of what hoists.
+-- `t` is a type's number, `d` what it is, `place` and `whole` are the addresses of the place run and the whole run of each type, `r` is a root,
+-- `i` its number, `o` an operation, `n` its number, `s` a side, `a` an attribute with its variable.
 
 -- a number as the name of a type
 abbrev pub id : ℕ → TypeId
@@ -26,7 +33,7 @@ id t = record { 0 = t }
 
 -- a gap, left out for 1
 abbrev pub gap_run : ℕ → List Instr
-gap_run n = elim (eqb n 1) [ true ↦ [] | false ↦ op.Align n ∷ [] ]
+gap_run n = elim (n == 1) [ true ↦ [] | false ↦ op.Align n ∷ [] ]
 
 -- the run of an arm; address 0 where the arm is empty
 abbrev pub arm_run : (ℕ → ℕ) → Option TypeId → ℕ
@@ -201,3 +208,60 @@ checks_at table operations n o s = side_at table operations n o s + 3 * length (
 -- the address of the i-th pipe: each has two instructions
 abbrev pub pipe_at : Table → List Operation → ℕ → Operation → Side → ℕ → ℕ
 pipe_at table operations n o s i = checks_at table operations n o s + length (checks_run table o s) + 2 * i
+
+-- ## The lines beside the code: where the runs of each side of each operation are, and the values of the enumerated types
+
+-- `t` is a type's number, `d` what it is, `n` an operation's number, `o` the operation, `s` a side, `i` a root's number among those of its kind, `e`
+-- is an item of a list with its number.
+
+-- the entries of roots of a kind: each has its name and the address of its run
+abbrev pub entry_lines : ℕ → Operation → Side → (ℕ → ℕ) → List Root → List PlanLine
+entry_lines n o s at rs = map (λ e. line.Entry n s (root_name o e.1.param) (at e.0)) (enumerate_from 0 rs)
+
+-- the lines of a side: its roots that are no pipes, its agreements, its pipes
+abbrev pub side_lines : Table → List Operation → ℕ → Operation → Side → List PlanLine
+side_lines table operations n o s =
+    entry_lines n o s (root_at table operations n o s) (value_roots (roots_of table s o))
+    ++ (line.Checks n s (checks_at table operations n o s) ∷ entry_lines n o s (pipe_at table operations n o s) (pipe_roots (roots_of table s o)))
+
+-- the lines of an operation: those of its request, then those of its response
+abbrev pub operation_lines : Table → List Operation → ℕ × Operation → List PlanLine
+operation_lines table operations e = side_lines table operations e.0 e.1 side.In ++ side_lines table operations e.0 e.1 side.Out
+
+abbrev pub entries_of : Table → List Operation → List PlanLine
+entries_of table operations = flat_map (operation_lines table operations) (enumerate_from 0 operations)
+
+-- how many lines an operation's request has before a side
+abbrev pub lines_before : Table → List Operation → ℕ → Operation → Side → ℕ
+lines_before table operations n o side.In = 0
+lines_before table operations n o side.Out = length (side_lines table operations n o side.In)
+
+-- the number of the first line of a side
+unfoldable pub line_at : Table → List Operation → ℕ → Operation → Side → ℕ
+line_at table operations n o s =
+    length (flat_map (operation_lines table operations) (take n (enumerate_from 0 operations))) + lines_before table operations n o s
+
+abbrev pub sides_of : Table → List Operation → List ℕ
+sides_of table operations =
+    flat_map (λ e. line_at table operations e.0 e.1 side.In ∷ line_at table operations e.0 e.1 side.Out ∷ []) (enumerate_from 0 operations)
+
+-- the list of a type, if it is an enumerated one
+abbrev pub enum_list_by : ℕ → TypeDef → List EnumList
+enum_list_by t (def.Enum values) = record { of = id t; values = values } ∷ []
+enum_list_by t _ = []
+
+abbrev pub enum_list : ℕ × TypeDef → List EnumList
+enum_list e = enum_list_by e.0 e.1
+
+abbrev pub values_of : Table → List EnumList
+values_of table = flat_map enum_list (enumerate_from 0 table)
+
+-- the number of a side among those of its operation
+abbrev pub side_number : Side → ℕ
+side_number side.In = 0
+side_number side.Out = 1
+
+-- the values of the first list that is of this type
+abbrev pub enumerators : List EnumList → ℕ → Option (List ℤ)
+enumerators [] t = None
+enumerators (e ∷ es) t = if e.of.0 == t then Some e.values else enumerators es t

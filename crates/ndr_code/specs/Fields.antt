@@ -1,6 +1,6 @@
 -- Members of structs that are numbers or pointers, by the code of a plan.
 -- `code` is that of a plan, `pc` an address, `run` that of a run, `i` what is at an address, `f` a member.
-use Rattle.std.specs.Prelude.{◌≡◌, ℕ, ◌+◌, Bool, true, false, cond, eqb, List, slice_get, Option, Some, None}
+use Rattle.std.specs.Prelude.{◌≡◌, ℕ, ◌+◌, Bool, true, false, if◌then◌else◌, ◌==◌, List, slice_get, Option, Some, None}
 use Rattle.nd_types.specs.declared.types.Class.{Class}
 use Rattle.nd_types.specs.declared.types.Class.TheVariants.{Full}
 use Rattle.nd_types.specs.declared.types.Primitive.{Primitive}
@@ -16,16 +16,16 @@ use Rattle.ndr_code.specs.declared.fields.Field.{Field}
 -- the primitive of a type's number
 abbrev pub prim_of : ℕ → Primitive
 prim_of n =
-    cond (eqb n 0) Boolean (
-    cond (eqb n 1) Char (
-    cond (eqb n 2) Byte (
-    cond (eqb n 3) Small (
-    cond (eqb n 4) UnsignedSmall (
-    cond (eqb n 5) Short (
-    cond (eqb n 6) UnsignedShort (
-    cond (eqb n 7) Long (
-    cond (eqb n 8) UnsignedLong (
-    cond (eqb n 9) Hyper (
+    if n == 0 then Boolean else (
+    if n == 1 then Char else (
+    if n == 2 then Byte else (
+    if n == 3 then Small else (
+    if n == 4 then UnsignedSmall else (
+    if n == 5 then Short else (
+    if n == 6 then UnsignedShort else (
+    if n == 7 then Long else (
+    if n == 8 then UnsignedLong else (
+    if n == 9 then Hyper else (
     UnsignedHyper))))))))))
 
 -- a pointer that is not full

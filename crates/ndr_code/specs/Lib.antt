@@ -1,7 +1,6 @@
 pub mod Code
 pub mod Fields
 pub mod Lengths
-pub mod Lines
 pub mod Plan
 pub mod Runs
 pub mod Tried

@@ -2,9 +2,8 @@
 -- `w` is a setting, `g` a graph, `i` the number of the root whose attribute it is, `v` that of the root that is its variable.
 use Rattle.std.specs.Prelude.{ℕ, ℤ, Bool, List, [], Option, Some, None}
 use Rattle.nd_value.specs.declared.value.Graph.{Graph}
-use Rattle.nd_value.specs.Agreement.{agreement}
+use Rattle.nd_value.specs.Agreement.{agreement, starred}
 use Rattle.nd_value.specs.Setting.{Setting, root_at}
-use Rattle.nd_value.specs.Variables.{starred}
 use Rattle.nd_grammar.specs.Entry.{Entry}
 use Rattle.nd_grammar.specs.Stream.{root_test}
 use Rattle.ndr_code.specs.declared.instr.Instr.{Instr}

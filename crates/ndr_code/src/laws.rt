@@ -9,15 +9,14 @@ ghost use Rattle.nd_types.specs.declared.types.Operation.{Operation};
 ghost use Rattle.nd_types.specs.declared.types.Side.{Side};
 ghost use Rattle.nd_types.specs.Table.{Table, type_at};
 ghost use Rattle.nd_types.specs.Layout.{hoists};
-ghost use Rattle.nd_types.specs.Roots.{Root, roots_of};
-ghost use Rattle.nd_types.specs.Walk.{root_name};
+ghost use Rattle.nd_types.specs.Roots.{Root, roots_of, root_name};
 ghost use Rattle.ndr_code.specs.declared.instr.Instr.{Instr};
 ghost use Rattle.ndr_code.specs.declared.instr.Instr.TheVariants.{Hoist, Call, Ret};
 ghost use Rattle.ndr_code.specs.declared.lists.EnumList.{EnumList};
 ghost use Rattle.ndr_code.specs.declared.lists.PlanLine.TheVariants.{Entry, Checks};
 ghost use Rattle.ndr_code.specs.Code.{place_run, whole_run, place_at, whole_at, code_of, value_roots, pipe_roots, root_run, checks_run, pipe_run};
-ghost use Rattle.ndr_code.specs.Code.{side_code, side_at, root_at, checks_at, pipe_at};
-ghost use Rattle.ndr_code.specs.Lines.{entries_of, line_at, sides_of, side_number, values_of, enumerators};
+ghost use Rattle.ndr_code.specs.Code.{side_code, side_at, root_at, checks_at, pipe_at, entries_of, line_at, sides_of, side_number, values_of};
+ghost use Rattle.ndr_code.specs.Code.{enumerators};
 ghost use Rattle.ndr_code.specs.Runs.{IsRunAt};
 
 /// A run that is at an address begins with the instruction at that address, and is followed from the next address on. What comes after the first part

@@ -10,16 +10,14 @@ use Rattle.nd_types.specs.Table.{type_at}
 use Rattle.nd_value.specs.declared.item.Home.{Home}
 use Rattle.nd_value.specs.declared.item.Home.TheVariants as home
 use Rattle.nd_value.specs.declared.value.Graph.{Graph}
-use Rattle.nd_value.specs.Agreement.{Agreement, number_of}
-use Rattle.nd_value.specs.Conforms.{Conforms}
+use Rattle.nd_value.specs.Agreement.{Agreement, number_of, root_agreements, starred}
+use Rattle.nd_value.specs.Conforms.{Conforms, HomeNode, cell_nodes, in_home, root_nodes}
 use Rattle.nd_value.specs.Fitting.{Fitting, IsFit, setting_beside}
-use Rattle.nd_value.specs.Homes.{HomeNode, cell_nodes, in_home, root_nodes}
 use Rattle.nd_value.specs.Misfit.{misfit_of}
 use Rattle.nd_value.specs.Nodes.{first_agreements, nodes_of}
 use Rattle.nd_value.specs.Setting.{Setting, cell_at, cell_home, cell_tree, or_unread, root_at, root_list}
 use Rattle.nd_value.specs.Tree as tree
 use Rattle.nd_value.specs.Tree.{Label, Referent, Tree, Trees, more, node, none}
-use Rattle.nd_value.specs.Variables.{root_agreements, starred}
 use Rattle.nd_value.proofs.Apart.{all_left, all_right}
 use Rattle.nd_value.proofs.NodeFacts.{fit_node}
 use Rattle.nd_value.proofs.NodeFacts as facts

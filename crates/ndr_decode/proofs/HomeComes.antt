@@ -20,8 +20,7 @@ use Rattle.nd_value.specs.Setting.{Setting}
 use Rattle.nd_value.proofs.Apart.{all_append}
 use Rattle.nd_grammar.specs.declared.reason.Reason.{Reason}
 use Rattle.nd_grammar.specs.declared.reason.Reason.TheVariants as reason
-use Rattle.nd_grammar.specs.FewItems.{is_gap, but_gaps}
-use Rattle.nd_grammar.specs.Items.{items}
+use Rattle.nd_grammar.specs.Items.{is_gap, but_gaps, items}
 use Rattle.nd_grammar.specs.Reader.{Progress, Read}
 use Rattle.ndr_code.specs.declared.instr.Instr.{Instr}
 use Rattle.ndr_code.specs.declared.lists.EnumList.{EnumList}

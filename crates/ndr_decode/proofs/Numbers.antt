@@ -11,12 +11,11 @@ use Rattle.nd_types.specs.Number.{AreOctets}
 use Rattle.nd_types.specs.Roots.{Root}
 use Rattle.nd_types.specs.Table.{Table, type_at, fits_octets}
 use Rattle.nd_value.specs.declared.item.Item.{Item}
-use Rattle.nd_value.specs.Agreement.{number_of}
+use Rattle.nd_value.specs.Agreement.{number_of, starred}
 use Rattle.nd_value.specs.Misfit.{has_range}
 use Rattle.nd_value.specs.Setting.{Setting, root_list, root_at, cell_at, cell_tree, or_unread, unread}
 use Rattle.nd_value.specs.Tree as tree
 use Rattle.nd_value.specs.Tree.{Tree, Trees, Referent, Label, node, none, more}
-use Rattle.nd_value.specs.Variables.{starred}
 use Rattle.nd_flat.specs.FlatForm.{IsKeepableNumber}
 use Rattle.nd_flat.proofs.Keepables.{number_keepable}
 use Rattle.nd_grammar.specs.Entry.{EntryAt}

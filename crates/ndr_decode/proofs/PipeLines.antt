@@ -14,16 +14,14 @@ use Rattle.nd_types.specs.contracts.types.Side as row
 use Rattle.nd_types.specs.declared.types.Side.TheVariants as way
 use Rattle.nd_types.specs.declared.types.TypeDef.TheVariants as def
 use Rattle.nd_types.specs.declared.types.TypeId.{TypeId}
-use Rattle.nd_types.specs.Roots.{Root, roots_of}
+use Rattle.nd_types.specs.Roots.{Root, roots_of, root_name}
 use Rattle.nd_types.specs.Table.{Table, type_at}
-use Rattle.nd_types.specs.Walk.{root_name}
 use Rattle.nd_value.specs.Deferral.{before_pipes}
 use Rattle.nd_value.specs.Setting.{Setting, root_list}
 use Rattle.nd_value.proofs.Apart.{all_append, all_weaker}
 use Rattle.nd_lemmas.proofs.Lists.{all_at}
 use Rattle.nd_grammar.proofs.next.NextStream.{drop_at}
-use Rattle.ndr_code.specs.Code.{code_of, pipe_at, pipe_roots, place_at, value_roots}
-use Rattle.ndr_code.specs.Lines.{entries_of, entry_lines, line_at, operation_lines, side_lines}
+use Rattle.ndr_code.specs.Code.{code_of, pipe_at, pipe_roots, place_at, value_roots, entries_of, entry_lines, line_at, operation_lines, side_lines}
 use Rattle.ndr_code.specs.declared.instr.Instr.{Instr}
 use Rattle.ndr_code.specs.declared.instr.Instr.TheVariants as op
 use Rattle.ndr_code.specs.declared.lists.PlanLine.{PlanLine}

@@ -24,8 +24,7 @@ use Rattle.nd_grammar.proofs.LegalSides.{interface_side}
 use Rattle.ndr_code.specs.declared.instr.Instr.{Instr}
 use Rattle.ndr_code.specs.declared.lists.PlanLine.TheVariants as line
 use Rattle.ndr_code.specs.declared.plan.Plan.{Plan}
-use Rattle.ndr_code.specs.Code.{checks_at, root_by, value_roots}
-use Rattle.ndr_code.specs.Lines.{line_at}
+use Rattle.ndr_code.specs.Code.{checks_at, root_by, value_roots, line_at}
 use Rattle.ndr_decoder_state.specs.declared.fault.DecodeFault.{DecodeFault}
 use Rattle.nd_grammar.specs.decoded.Verdict.{DecodingSeen, decoding_seen}
 use Rattle.ndr_decoder_laws.specs.stream.Between.{Begins}

@@ -7,8 +7,7 @@ use Rattle.std.specs.Ordering.{int_eq}
 use Rattle.std.proofs.lemmas.List.{append-nil}
 use Rattle.std.proofs.lemmas.Option.{same_Some}
 use Rattle.nd_base.specs.declared.octets.Order.{Order}
-use Rattle.nd_base.specs.Counts.{Rose}
-use Rattle.nd_base.specs.Over.{SourceSeen, Count}
+use Rattle.nd_base.specs.Over.{Rose, SourceSeen, Count}
 use Rattle.nd_value.specs.Agreement.{Agreement}
 use Rattle.nd_value.specs.Deferral.{Pending}
 use Rattle.nd_value.specs.declared.item.Home.TheVariants as home

@@ -7,9 +7,8 @@ use Rattle.nd_base.specs.declared.octets.Order.{Order}
 use Rattle.nd_types.specs.declared.types.Attr.{Attr}
 use Rattle.nd_value.specs.declared.item.Item.{Item}
 use Rattle.nd_value.specs.declared.value.Graph.{Graph}
-use Rattle.nd_value.specs.Agreement.{agreement, wanted_by}
+use Rattle.nd_value.specs.Agreement.{agreement, wanted_by, starred}
 use Rattle.nd_value.specs.Setting.{Setting, root_at}
-use Rattle.nd_value.specs.Variables.{starred}
 use Rattle.nd_grammar.specs.declared.reason.Reason.{Reason}
 use Rattle.nd_grammar.specs.Entry.{Entry, EntryAt}
 use Rattle.nd_grammar.specs.LegalSide.{IsLegalSide}

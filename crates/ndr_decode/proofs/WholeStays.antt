@@ -17,7 +17,7 @@ use Rattle.nd_grammar.specs.Refusal.{is_enumerator, text_refusal}
 use Rattle.ndr_code.specs.declared.instr.Instr.{Instr}
 use Rattle.ndr_code.specs.declared.instr.Instr.TheVariants as op
 use Rattle.ndr_code.specs.declared.lists.EnumList.{EnumList}
-use Rattle.ndr_code.specs.Lines.{enumerators}
+use Rattle.ndr_code.specs.Code.{enumerators}
 use Rattle.ndr_refs.specs.declared.referents.Known.{Known}
 use Rattle.ndr_refs.specs.Known.{known}
 use Rattle.ndr_decoder_laws.specs.declared.frame.Frame.{Frame}

@@ -4,8 +4,7 @@ ghost use Rattle.std.specs.List.{slice_get};
 ghost use Rattle.nd_base.specs.Over.{source_seen};
 ghost use Rattle.nd_types.specs.declared.types.Operation.{Operation};
 ghost use Rattle.nd_types.specs.Roots.{roots_of};
-ghost use Rattle.ndr_code.specs.Code.{value_roots};
-ghost use Rattle.ndr_code.specs.Lines.{line_at};
+ghost use Rattle.ndr_code.specs.Code.{value_roots, line_at};
 ghost use Rattle.ndr_code.specs.declared.lists.PlanLine.TheVariants as plan_line;
 ghost use Rattle.nd_grammar.specs.decoded.Verdict.{decoding_seen};
 ghost use Rattle.ndr_decode.specs.Piping.{CallsPipe, ChunkReads, ElementsRun, IsAtChunk, IsAtPipe, IsAtPipes, PipeReads, StreamEnds, purpose_in};
@@ -84,6 +83,7 @@ pub fn elements_run(plan: &Plan, op: u32, side: Side, line: usize) -> Option<u32
 }
 
 // Reads the next pipe, whose elements have the run at an address.
+#[inline(never)]
 fn read_pipe<S: Source, L: Ledger>(
     plan: &Plan,
     order: Order,

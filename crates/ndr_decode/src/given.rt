@@ -1,10 +1,9 @@
 // Numbers in the graph of a request.
 ghost use Rattle.std.specs.Prelude.{◌≡◌, IfSome, option_map};
-ghost use Rattle.nd_value.specs.Agreement.{number_of};
+ghost use Rattle.nd_value.specs.Agreement.{number_of, starred};
 ghost use Rattle.nd_value.specs.Seen.{cell_number};
 ghost use Rattle.nd_value.specs.Setting.{cell_at, root_at};
 ghost use Rattle.nd_value.specs.Tree.{Tree, more, none};
-ghost use Rattle.nd_value.specs.Variables.{starred};
 ghost use Rattle.nd_flat.specs.FlatForm.{IsKeepableNumber};
 ghost use Rattle.ndr_code.specs.Tried.{given_number as number_given};
 ghost use Rattle.ndr_decoder_laws.specs.stream.Between.{pointer_cell};

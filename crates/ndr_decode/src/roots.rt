@@ -5,8 +5,7 @@ ghost use Rattle.nd_base.specs.Over.{source_seen};
 ghost use Rattle.nd_types.specs.declared.types.Operation.{Operation};
 ghost use Rattle.nd_types.specs.Roots.{roots_of};
 ghost use Rattle.nd_flat.specs.Building.{CanClose};
-ghost use Rattle.ndr_code.specs.Code.{checks_at, value_roots};
-ghost use Rattle.ndr_code.specs.Lines.{line_at, side_number};
+ghost use Rattle.ndr_code.specs.Code.{checks_at, value_roots, line_at, side_number};
 ghost use Rattle.ndr_code.specs.declared.instr.Instr.{Instr};
 ghost use Rattle.ndr_code.specs.declared.instr.Instr.TheVariants as op;
 ghost use Rattle.nd_grammar.specs.decoded.Verdict.{decoding_seen};
@@ -123,6 +122,7 @@ fn read_root<S: Source, L: Ledger>(
     }
 }
 
+#[inline(never)]
 fn read_direct<S: Source, L: Ledger>(
     plan: &Plan,
     order: Order,

@@ -58,6 +58,7 @@ fn tries(instr: Instr) -> bool
 }
 
 // Tries the agreement of one instruction.
+#[inline(never)]
 fn try_check(instr: Instr, stream: &Stream, given: Option<&Fit>) -> Result<(), DecodeFault>
     requires numbers { AreKeepable stream.now.cells.items stream.now.roots.items }
     ensures { IsTried (check_fails stream.now.cells.items stream.now.roots.items (option_map (λ f. f.now.graph) given.entry) instr) result }

@@ -154,6 +154,7 @@ fn try_all(wanted: &[Wanted], owed: Owed, kept: Kept) -> Result<(), DecodeFault>
 }
 
 // Tries agreements one after the other.
+#[inline(never)]
 fn try_each(wanted: &[Wanted], kept: Kept) -> Result<(), DecodeFault>
     ensures { AreTried (map agreement_of wanted.now) kept result }
 {

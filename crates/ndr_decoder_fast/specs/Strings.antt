@@ -1,6 +1,6 @@
 -- Strings that are read in one go, as far as their octets are at hand.
 -- `s` is a state, `left` and `left_now` are the octets of the source before and after, `run` is an address.
-use Rattle.std.specs.Prelude.{◌≡◌, ◌≤◌, ℕ, ◌+◌, eqb, if◌then◌else◌, List, [], ◌∷◌, length, drop, slice_get, Option, Some, Result, Ok, Err}
+use Rattle.std.specs.Prelude.{◌≡◌, ◌≤◌, ℕ, ◌+◌, ◌==◌, if◌then◌else◌, List, [], ◌∷◌, length, drop, slice_get, Option, Some, Result, Ok, Err}
 use Rattle.std.specs.Io.KnownBytes.{Consumes}
 use Rattle.nd_base.specs.declared.octets.Order.{Order}
 use Rattle.nd_base.specs.declared.TheConstants.{STREAM_LIMIT}
@@ -41,7 +41,7 @@ pub record MaxCame (order : Order) (left left_now : Option (List ℕ)) (gap max 
 -- the first zero among octets is at this place; their number where none is
 abbrev pub first_zero : List ℕ → ℕ
 first_zero [] = 0
-first_zero (b ∷ bs) = if eqb b 0 then 0 else first_zero bs + 1
+first_zero (b ∷ bs) = if b == 0 then 0 else first_zero bs + 1
 
 -- ## The code
 

@@ -1,6 +1,6 @@
 -- Structs of numbers and of unique and reference pointers, read in one go.
 -- `code` is that of a plan, `pc` an address, `i` what is at an address, `at` a place, `f` a member, `s` a state, `os` octets.
-use Rattle.std.specs.Prelude.{◌≡◌, ◌≤◌, ℕ, ◌+◌, Bool, true, false, eqb, List, [], ◌∷◌, ◌++◌, length, drop, Option, Some, None, Result, Ok, Err}
+use Rattle.std.specs.Prelude.{◌≡◌, ◌≤◌, ℕ, ◌+◌, Bool, true, false, ◌==◌, List, [], ◌∷◌, ◌++◌, length, drop, Option, Some, None, Result, Ok, Err}
 use Rattle.nd_base.specs.declared.octets.Memory.{Memory}
 use Rattle.nd_base.specs.declared.octets.Order.{Order}
 use Rattle.nd_types.specs.declared.types.Class.{Class}
@@ -50,7 +50,7 @@ with_part x fresh cells s = record {
 
 -- a unique pointer of the number 0 is null
 abbrev pub is_null : Class → ℕ → Bool
-is_null Unique v = eqb v 0
+is_null Unique v = v == 0
 is_null class v = false
 
 -- any other names a new cell

@@ -22,8 +22,7 @@ use Rattle.nd_value.proofs.Apart.{all_append, all_left}
 use Rattle.nd_grammar.specs.declared.reason.Reason.{Reason}
 use Rattle.nd_grammar.specs.declared.reason.Reason.TheVariants as reason
 use Rattle.nd_grammar.specs.Entry.{gap}
-use Rattle.nd_grammar.specs.FewItems.{but_gaps}
-use Rattle.nd_grammar.specs.Items.{items}
+use Rattle.nd_grammar.specs.Items.{but_gaps, items}
 use Rattle.nd_grammar.specs.Reader.{Names, Progress}
 use Rattle.nd_grammar.specs.StreamReader.{read_stream}
 use Rattle.ndr_decoder_laws.specs.reader.Around.{going, stopped}

@@ -2,8 +2,7 @@
 use Rattle.std.proofs.Common.{◌≡◌, ℕ, ◌+◌, List, ◌++◌, length, Option, Result, Ok, Err, IsErrAnd, ap, sym, ◌∙◌, subst, append_assoc, ◌≤◌}
 use Rattle.nd_base.specs.declared.octets.Order.{Order}
 use Rattle.nd_base.proofs.Rising.{rose_later}
-use Rattle.nd_base.specs.Over.{SourceSeen}
-use Rattle.nd_base.specs.Counts.{Rose}
+use Rattle.nd_base.specs.Over.{SourceSeen, Rose}
 use Rattle.nd_types.specs.declared.types.TypeId.{TypeId}
 use Rattle.nd_types.specs.Roots.{Root}
 use Rattle.nd_value.specs.declared.item.Item.{Item}

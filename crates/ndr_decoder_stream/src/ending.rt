@@ -30,6 +30,7 @@ impl Stream {
 
     /// Keeps the cell whose value was read now, and gives what is kept of it. Its pointers are not pending yet. It takes memory, and out of memory is
     /// the only refusal.
+    #[inline(never)]
     pub fn end_cell(&mut self, cell: CellId) -> Result<Kept, DecodeFault>
         requires there { 0 < cell.0 }
         requires unread { kept_at self.old.cells.items cell.0 ≡ None }

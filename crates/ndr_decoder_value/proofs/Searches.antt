@@ -7,7 +7,7 @@ use Rattle.nd_types.specs.declared.types.Primitive.{Primitive}
 use Rattle.nd_types.specs.declared.types.Primitive.TheVariants.{Short}
 use Rattle.nd_grammar.specs.Refusal.{is_enumerator as is_one_of}
 use Rattle.ndr_code.specs.declared.lists.EnumList.{EnumList}
-use Rattle.ndr_code.specs.Lines.{enumerators}
+use Rattle.ndr_code.specs.Code.{enumerators}
 use Rattle.ndr_decoder_laws.specs.steps.Steps.{form_by}
 use Rattle.ndr_code.specs.Fields.{prim_of}
 use Rattle.nd_lemmas.proofs.Lists.{drop_next as drop-get, drop_past as drop-past}

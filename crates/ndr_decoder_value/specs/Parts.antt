@@ -1,6 +1,6 @@
 -- Parts of steps, as the code has functions for them.
 -- `s` is a state, `x` what is kept of a node, `n` an offset or a pointer's number, `c` a count.
-use Rattle.std.specs.Prelude.{◌≡◌, ℕ, ◌+◌, ◌-◌, ℤ, Bool, true, false, eqb, ltb, if◌then◌else◌, List, [], ◌∷◌, ◌++◌, length, take, drop, slice_get}
+use Rattle.std.specs.Prelude.{◌≡◌, ℕ, ◌+◌, ◌-◌, ℤ, Bool, true, false, ◌==◌, nat_lt, if◌then◌else◌, List, [], ◌∷◌, ◌++◌, length, take, drop, slice_get}
 use Rattle.std.specs.Prelude.{Option, Some, None, Result, Ok, Err, option_map}
 use Rattle.std.specs.Ordering.{int_eq}
 use Rattle.nd_base.specs.declared.octets.Order.{Order}
@@ -61,18 +61,19 @@ flows op.Ret at = true
 flows (op.Record n) at = true
 flows op.Close at = true
 flows (op.Call run) at = true
-flows (op.Align n) at = eqb (gap at n) 0
+flows (op.Align n) at = gap at n == 0
 flows _ at = false
 
 -- whether it ends a run, or is a gap that is empty
 abbrev pub quick : Instr → ℕ → Bool
 quick op.Ret at = true
-quick (op.Align n) at = eqb (gap at n) 0
+quick (op.Align n) at = gap at n == 0
 quick _ at = false
 
 abbrev pub actual_read : ℕ → ℕ → ℕ → ℕ → State → Outcome
 actual_read o c limit run s =
-    if ltb limit (o + c) then refused s.at reason.PastBound else goes (elements c run (with_node (tree.Arr limit o, c) (Some s.at) (past 4 begun s)))
+    if nat_lt limit (o + c) then refused s.at reason.PastBound
+    else goes (elements c run (with_node (tree.Arr limit o, c) (Some s.at) (past 4 begun s)))
 
 -- a maximum count is four octets, after its gap
 abbrev pub IsHoisted : Phase → List ℕ → Type 0
@@ -82,11 +83,11 @@ IsHoisted _ os = Unit {0}
 -- ## Strings
 
 abbrev pub text_offset_read : ℕ → State → Outcome
-text_offset_read n s = if eqb n 0 then goes (past 4 (offset_read 0) s) else refused s.at reason.TextOffset
+text_offset_read n s = if n == 0 then goes (past 4 (offset_read 0) s) else refused s.at reason.TextOffset
 
 abbrev pub text_count_read : ℕ → ℕ → State → Outcome
 text_count_read c limit s =
-    if eqb c 0 then refused s.at reason.TextEmpty else if ltb limit c then refused s.at reason.PastBound else goes (past 4 (count_read (c - 1)) s)
+    if c == 0 then refused s.at reason.TextEmpty else if nat_lt limit c then refused s.at reason.PastBound else goes (past 4 (count_read (c - 1)) s)
 
 -- so many octets are those that a string wants next: its offset and its actual count have four
 abbrev pub TextWanted : Phase → ℕ → Type 0
@@ -127,16 +128,16 @@ with_agreement a o = record { class = o.class; to = o.to; run = o.run; cell = o.
 -- ## Arms, pointers and context handles
 
 abbrev pub arm_entered : ℕ → State → State
-arm_entered run s = if eqb run 0 then jumped 0 s else jumped run (pushed (frame.Elements 0 run 1) s)
+arm_entered run s = if run == 0 then jumped 0 s else jumped run (pushed (frame.Elements 0 run 1) s)
 
 abbrev pub arm_tried : ℤ → ℕ → State → Outcome
-arm_tried label run s = goes (if int_eq label s.tag then arm_taken (eqb run 0) run s else next s)
+arm_tried label run s = goes (if int_eq label s.tag then arm_taken (run == 0) run s else next s)
 
 abbrev pub unique_read : Class → TypeId → ℕ → ℕ → State → Outcome
-unique_read class to run n s = goes (done_after 4 (if eqb n 0 then owing class to run None s else new_cell class to run s))
+unique_read class to run n s = goes (done_after 4 (if n == 0 then owing class to run None s else new_cell class to run s))
 
 abbrev pub full_read : TypeId → ℕ → ℕ → State → Outcome
-full_read to run n s = if eqb n 0 then goes (done_after 4 (owing Full to run None s)) else full_by (known n s.numbers) n to run s
+full_read to run n s = if n == 0 then goes (done_after 4 (owing Full to run None s)) else full_by (known n s.numbers) n to run s
 
 abbrev pub context_read : Order → List ℕ → State → Outcome
 context_read order os s =

@@ -3,7 +3,7 @@ ghost use Rattle.std.specs.Prelude.{◌≡◌};
 ghost use Rattle.std.specs.List.{list_any};
 ghost use Rattle.std.specs.Ordering.{int_eq};
 ghost use Rattle.nd_grammar.specs.Refusal.{is_enumerator as is_one_of};
-ghost use Rattle.ndr_code.specs.Lines.{enumerators};
+ghost use Rattle.ndr_code.specs.Code.{enumerators};
 ghost use Rattle.ndr_decoder_laws.specs.steps.Steps.{form_by};
 
 use nd_types::{Numbers, Prim, TypeId};

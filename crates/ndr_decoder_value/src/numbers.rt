@@ -2,7 +2,7 @@
 ghost use Rattle.std.specs.Prelude.{◌≡◌, ◌<◌, ◌+◌, ◌^◌, None, length, pos, [], ◌∷◌, OnOk};
 ghost use Rattle.nd_types.specs.Table.{width};
 ghost use Rattle.nd_types.specs.declared.types.Primitive.TheVariants.{Short};
-ghost use Rattle.ndr_code.specs.Lines.{enumerators};
+ghost use Rattle.ndr_code.specs.Code.{enumerators};
 ghost use Rattle.ndr_decoder_laws.specs.steps.Steps.{number_step};
 ghost use Rattle.ndr_decoder_state.specs.Seen.{state_of, Does, outside};
 ghost use Rattle.nd_value.specs.declared.item.ItemKind.TheVariants as item;

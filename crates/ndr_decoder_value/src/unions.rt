@@ -1,7 +1,7 @@
 // Unions.
-ghost use Rattle.std.specs.Prelude.{◌≡◌, ◌<◌, ◌+◌, ◌^◌, eqb, length, OnOk};
+ghost use Rattle.std.specs.Prelude.{◌≡◌, ◌<◌, ◌+◌, ◌^◌, ◌==◌, length, OnOk};
 ghost use Rattle.nd_types.specs.Table.{width};
-ghost use Rattle.ndr_code.specs.Lines.{enumerators};
+ghost use Rattle.ndr_code.specs.Code.{enumerators};
 ghost use Rattle.ndr_decoder_laws.specs.steps.Steps.{goes, arm_taken, tag_step, form_by};
 ghost use Rattle.ndr_decoder_state.specs.Seen.{state_of, Does, outside};
 ghost use Rattle.ndr_decoder_laws.specs.steps.StepItems.{tag_items};
@@ -55,8 +55,8 @@ pub(crate) fn arm<L: Ledger>(
 ) -> Result<(), DecodeFault>
     requires fits { machine.old.at + 8 < 2 ^ 32 }
     requires few { machine.old.count + 1 < 2 ^ 32 }
-    ensures does { Does (goes (arm_taken (eqb run 0) run (state_of machine.old))) result (state_of machine.new) }
-    ensures noted { Noted (goes (arm_taken (eqb run 0) run (state_of machine.old))) (tag_items machine.old.home (state_of machine.old))
+    ensures does { Does (goes (arm_taken (run == 0) run (state_of machine.old))) result (state_of machine.new) }
+    ensures noted { Noted (goes (arm_taken (run == 0) run (state_of machine.old))) (tag_items machine.old.home (state_of machine.old))
         (notes_seen items.old items.new (L.number steps.old) (L.number steps.new) machine.old.cells machine.new.cells) result }
     ensures outside { OnOk result (outside machine.new ≡ outside machine.old) }
 {

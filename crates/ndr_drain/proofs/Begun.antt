@@ -16,7 +16,7 @@ use Rattle.nd_grammar.proofs.LegalSides.{interface_side}
 use Rattle.nd_grammar.specs.decoded.Verdict.{DecodingSeen}
 use Rattle.ndr_drain_reader.specs.Calls.{HasBegun, HasHead}
 use Rattle.ndr_drain_reader.specs.Seen.{IntakeSeen, moved_to, setting_in}
-use Rattle.ndr_drain.specs.Given.{pipe_count}
+use Rattle.ndr_drain.specs.Drained.{pipe_count}
 use Rattle.ndr_drain.specs.Turns.{OfSetting}
 
 pub legal_side : (i : Interface) (n : ℕ) (o : Operation) (s : Side) (q : Option Graph) → slice_get i.operations n ≡ Some o → IsLegalSide (setting_beside i o s q)

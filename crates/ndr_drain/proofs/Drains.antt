@@ -13,12 +13,11 @@ use Rattle.nd_value.specs.Logged.{Logged}
 use Rattle.nd_value.specs.Setting.{Setting}
 use Rattle.nd_grammar.specs.decoded.Verdict.{decoding_seen}
 use Rattle.ndr_decoder_state.specs.declared.fault.DecodeFault.{DecodeFault}
-use Rattle.ndr_pipe.specs.End.{EndSeen}
+use Rattle.ndr_pipe.specs.Ends.{EndSeen}
 use Rattle.ndr_drain_reader.specs.Calls.{HasBegun, HasHead, IsHeadCause}
 use Rattle.ndr_drain_reader.specs.Seen.{IntakeSeen}
-use Rattle.ndr_drain.specs.Drained.{IsCutInHead, IsDrainCause, IsDrained}
+use Rattle.ndr_drain.specs.Drained.{IsCutInHead, IsDrainCause, IsDrained, pipe_count}
 use Rattle.ndr_drain.specs.Faults.{fault_of}
-use Rattle.ndr_drain.specs.Given.{pipe_count}
 use Rattle.ndr_drain.specs.Turns.{IsReadToEnd, OfSetting, StopsUnderWay}
 use Rattle.ndr_drain.specs.declared.fault.DrainFault.{DrainFault}
 use Rattle.ndr_drain.proofs.Begun.{b_order, first_interface, first_op, first_side, head_of, in_setting, left_is, legal_side}

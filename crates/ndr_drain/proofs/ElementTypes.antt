@@ -5,16 +5,15 @@ use Rattle.std.specs.Prelude.{cond}
 use Rattle.std.specs.List.{slice_get}
 use Rattle.std.proofs.lemmas.Option.{same_Some, slice_get-get_or}
 use Rattle.nd_types.specs.declared.types.TypeId.{TypeId}
-use Rattle.nd_types.specs.Roots.{Root}
+use Rattle.nd_types.specs.Roots.{Root, NamedRoot, named_root, named_roots}
 use Rattle.nd_types.specs.Table.{Table, type_at}
-use Rattle.nd_types.specs.Walk.{NamedRoot, named_root, named_roots}
 use Rattle.nd_value.specs.Deferral.{before_pipes, root_type}
 use Rattle.nd_value.specs.Setting.{Setting, root_list}
 use Rattle.nd_grammar.proofs.next.NextStream.{drop_at}
 use Rattle.ndr_code.specs.Code.{pipe_roots}
 use Rattle.ndr_code.proofs.Parted.{pipes_last}
 use Rattle.ndr_drain_laws.specs.parts.Parts.{elem_at, elem_by}
-use Rattle.ndr_drain.specs.Given.{pipe_elements}
+use Rattle.ndr_drain.specs.Drained.{pipe_elements}
 use Rattle.ndr_drain.specs.Turns.{AreElements}
 
 -- ## The loop

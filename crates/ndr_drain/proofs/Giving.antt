@@ -8,12 +8,11 @@ use Rattle.std.specs.Io.KnownBytes.{append_known}
 use Rattle.std.proofs.Math.Seq.{take-append_seam}
 use Rattle.std.proofs.lemmas.List.{append-nil, take-append-drop}
 use Rattle.std.proofs.lemmas.Option.{same_Some}
-use Rattle.nd_base.specs.Counts.{Rose}
+use Rattle.nd_base.specs.Over.{Rose}
 use Rattle.nd_types.specs.Table.{Table}
 use Rattle.nd_value.specs.Tree.{Tree}
-use Rattle.ndr_pipe.specs.End.{EndSeen, with_octets, HasFailed}
-use Rattle.ndr_pipe.specs.Ends.{change_at, FailsAt, IsOpenAt}
-use Rattle.ndr_drain.specs.Lines.{line_of, lines}
+use Rattle.ndr_pipe.specs.Ends.{EndSeen, with_octets, HasFailed, change_at, FailsAt, IsOpenAt}
+use Rattle.ndr_drain.specs.Drained.{line_of, lines}
 use Rattle.ndr_drain.specs.Turns.{AreCut, AreGiven, IsPartWay}
 use Rattle.ndr_drain.specs.declared.fault.GiveFault.{GiveFault}
 use Rattle.ndr_drain.specs.declared.fault.GiveFault.TheVariants as give

@@ -12,11 +12,9 @@ use Rattle.nd_value.specs.Tree.{Tree}
 use Rattle.nd_value.specs.Setting.{Setting, root_list}
 use Rattle.nd_value.specs.Deferral.{before_pipes}
 use Rattle.nd_value.specs.Conforms.{Conforms}
-use Rattle.ndr_pipe.specs.End.{EndSeen, with_octets, ended}
-use Rattle.ndr_pipe.specs.Ends.{change_at}
+use Rattle.ndr_pipe.specs.Ends.{EndSeen, with_octets, ended, change_at}
 use Rattle.ndr_drain_laws.specs.parts.Parts.{Spot, Part, spot_after, after_all, first_spot, AreParts, HasEmptyPipes, empty_pipe, elem_at, pipes_of, pipes_by, with_pipes, without_pipes}
-use Rattle.ndr_drain.specs.Lines.{line_of, lines}
-use Rattle.ndr_drain.specs.Given.{end_of_root, end_after, ends_after, given_pipes}
+use Rattle.ndr_drain.specs.Drained.{line_of, lines, end_of_root, end_after, ends_after, given_pipes}
 use Rattle.ndr_drain.proofs.Giving.{with_nothing, with_twice}
 use Rattle.nd_value.proofs.SameCells.{back as same_items}
 use Rattle.nd_value.proofs.FewRoots.{few_before_pipes}

@@ -9,7 +9,7 @@ use Rattle.nd_types.specs.declared.interface.Interface.{Interface}
 use Rattle.nd_types.specs.declared.types.Operation.{Operation}
 use Rattle.nd_types.specs.declared.types.Side.{Side}
 use Rattle.nd_types.specs.declared.types.TypeId.{TypeId}
-use Rattle.nd_types.specs.Walk.{named_roots}
+use Rattle.nd_types.specs.Roots.{named_roots}
 use Rattle.nd_value.specs.declared.value.Graph.{Graph}
 use Rattle.nd_value.specs.Deferral.{before_pipes}
 use Rattle.nd_value.specs.Fitting.{Fitting, setting_beside}
@@ -20,7 +20,7 @@ use Rattle.nd_grammar.specs.decoded.Verdict.{DecodingSeen}
 use Rattle.ndr_drain_reader.specs.Calls.{HasBegun, HasHead}
 use Rattle.ndr_drain_reader.specs.Seen.{IntakeSeen}
 use Rattle.ndr_drain_reader.specs.declared.intake.Phase.TheVariants.{Begun, Reading}
-use Rattle.ndr_drain.specs.Given.{pipe_elements}
+use Rattle.ndr_drain.specs.Drained.{pipe_elements}
 use Rattle.ndr_drain.specs.Turns.{AreElements, OfSetting}
 use Rattle.ndr_drain.proofs.Begun.{all_left, first_interface, first_op, first_root, first_side, head_of, left_is, of_setting}
 use Rattle.ndr_drain.proofs.ElementTypes.{are_elements, as_many, numbers}

@@ -12,12 +12,10 @@ use Rattle.text_grammar.specs.Sound.{IsSound}
 use Rattle.text_printer.proofs.Fits.{sound_nodes}
 use Rattle.nd_grammar.specs.decoded.Verdict.{DecodingSeen}
 use Rattle.ndr_drain_laws.specs.parts.Parts.{IsElement, elem_at, no_graph}
-use Rattle.ndr_pipe.specs.End.{EndSeen, with_octets, ended}
-use Rattle.ndr_pipe.specs.Ends.{FailsAt, change_at}
+use Rattle.ndr_pipe.specs.Ends.{EndSeen, with_octets, ended, FailsAt, change_at}
 use Rattle.ndr_drain_reader.specs.Calls.{IsAnswered}
 use Rattle.ndr_drain_reader.specs.Seen.{IntakeSeen}
-use Rattle.ndr_drain.specs.Given.{chunk_lines, end_after, end_of_root}
-use Rattle.ndr_drain.specs.Lines.{lines}
+use Rattle.ndr_drain.specs.Drained.{chunk_lines, end_after, end_of_root, lines}
 use Rattle.ndr_drain.specs.Turns.{AreCut, HasPassed, IsStepCause}
 use Rattle.ndr_drain.specs.declared.fault.DrainFault.TheVariants as fault
 use Rattle.ndr_drain.specs.declared.fault.GiveFault.TheVariants as give

@@ -14,17 +14,15 @@ use Rattle.nd_value.specs.Logged.{Logged}
 use Rattle.nd_value.specs.Tree.{Tree, trees}
 use Rattle.nd_value.specs.Setting.{Setting, root_list}
 use Rattle.nd_value.specs.Deferral.{before_pipes}
-use Rattle.nd_grammar.specs.Entry.{Entry, end_of, size_at, gap}
-use Rattle.nd_grammar.specs.FewItems.{but_gaps}
-use Rattle.nd_grammar.specs.InPlace.{in_place}
+use Rattle.nd_grammar.specs.Entry.{Entry, end_of, size_at, gap, in_place}
+use Rattle.nd_grammar.specs.Items.{but_gaps}
 use Rattle.nd_grammar.specs.decoded.Verdict.{DecodingSeen, decoding_seen, HasNoted, with_items}
 use Rattle.ndr_drain_laws.specs.parts.Parts.{Spot, Part, after, spot_after, after_all, octets_of, IsPart, AreParts, elem_at, part_items}
 use Rattle.ndr_drain_laws.specs.joined.Entries.{parts_items}
-use Rattle.ndr_pipe.specs.End.{EndSeen, with_octets, ended}
-use Rattle.ndr_pipe.specs.Ends.{EndsSeen, AreOpen, change_at, IsOpenAt}
+use Rattle.ndr_pipe.specs.Ends.{EndSeen, with_octets, ended, EndsSeen, AreOpen, change_at, IsOpenAt}
 use Rattle.ndr_drain_reader.specs.Calls.{left_after}
 use Rattle.ndr_drain_reader.specs.Seen.{IntakeSeen, moved_to}
-use Rattle.ndr_drain.specs.Given.{end_of_root, end_after, ends_after, chunk_lines}
+use Rattle.ndr_drain.specs.Drained.{end_of_root, end_after, ends_after, chunk_lines}
 use Rattle.ndr_drain.specs.Turns.{AreNoted, AreOpenFrom, HasPassed, HavePassed, IsStepCause, IsUnderWay, StopsUnderWay}
 use Rattle.ndr_drain.specs.declared.fault.DrainFault.{DrainFault}
 use Rattle.ndr_decoder_laws.proofs.stream.Joined.{gaps_apart as but_gaps_append}

@@ -13,10 +13,9 @@ use Rattle.nd_value.specs.Setting.{Setting, root_list}
 use Rattle.nd_value.specs.Tree.{Tree}
 use Rattle.nd_grammar.specs.declared.reason.Reason.{Reason}
 use Rattle.nd_grammar.specs.declared.reason.Reason.TheVariants as reason
-use Rattle.nd_grammar.specs.Bad.{Bad}
+use Rattle.nd_grammar.specs.Refusal.{Bad}
 use Rattle.nd_grammar.specs.Entry.{EntryAt, end_to_end}
-use Rattle.nd_grammar.specs.FewItems.{but_gaps}
-use Rattle.nd_grammar.specs.Items.{items}
+use Rattle.nd_grammar.specs.Items.{but_gaps, items}
 use Rattle.nd_grammar.specs.LegalSide.{IsLegalSide}
 use Rattle.nd_grammar.specs.Stream.{head_entries}
 use Rattle.nd_grammar.specs.StreamReader.{read_stream}
@@ -32,13 +31,11 @@ use Rattle.ndr_drain_laws.proofs.joined.Alone.{joined_alone}
 use Rattle.ndr_drain_laws.proofs.joined.Noted.{items_of_all, items_through, named_more}
 use Rattle.ndr_drain_laws.proofs.joined.Stopped.{refused_chunk, read_through_chunk, read_through_parts}
 use Rattle.ndr_drain_laws.proofs.joined.Through.{place_after}
-use Rattle.ndr_pipe.specs.End.{EndSeen, with_octets}
-use Rattle.ndr_pipe.specs.Ends.{FailsAt, change_at}
+use Rattle.ndr_pipe.specs.Ends.{EndSeen, with_octets, FailsAt, change_at}
 use Rattle.ndr_drain_reader.specs.Calls.{HasChunk, HasHead, IsChunkCounted, IsChunkCut, IsChunkRefused, IsChunkUnread, IsHeadCause}
 use Rattle.ndr_drain_reader.specs.Seen.{IntakeSeen, moved_to}
-use Rattle.ndr_drain.specs.Drained.{IsChunkRead, IsCutInChunk, IsDrainCause, IsDrained, IsRefusedInChunk, IsUnreadInChunk}
+use Rattle.ndr_drain.specs.Drained.{IsChunkRead, IsCutInChunk, IsDrainCause, IsDrained, IsRefusedInChunk, IsUnreadInChunk, chunk_lines, end_of_root, ends_after, pipe_count}
 use Rattle.ndr_drain.specs.Faults.{fault_of}
-use Rattle.ndr_drain.specs.Given.{chunk_lines, end_of_root, ends_after, pipe_count}
 use Rattle.ndr_drain.specs.Turns.{IsCutAtChunk, IsReadToEnd, StopsUnderWay}
 use Rattle.ndr_drain.specs.declared.fault.DrainFault.{DrainFault}
 use Rattle.ndr_drain.specs.declared.fault.DrainFault.TheVariants as fault

@@ -11,15 +11,14 @@ use Rattle.nd_value.specs.Logged.{Logged}
 use Rattle.nd_value.specs.Tree.{Tree}
 use Rattle.nd_value.specs.Setting.{Setting, root_list}
 use Rattle.nd_value.specs.Deferral.{before_pipes}
-use Rattle.nd_grammar.specs.FewItems.{but_gaps}
+use Rattle.nd_grammar.specs.Items.{but_gaps}
 use Rattle.nd_grammar.specs.decoded.Verdict.{DecodingSeen, HasNoted}
 use Rattle.ndr_drain_laws.specs.parts.Parts.{AreParts, Part, Spot, after_all, elem_at, octets_of}
 use Rattle.ndr_drain_laws.specs.joined.Entries.{parts_items}
-use Rattle.ndr_pipe.specs.End.{EndSeen, with_octets}
-use Rattle.ndr_pipe.specs.Ends.{EndsSeen, AreAsBefore, FailsAt, IsOpenAt, change_at}
+use Rattle.ndr_pipe.specs.Ends.{EndSeen, with_octets, EndsSeen, AreAsBefore, FailsAt, IsOpenAt, change_at}
 use Rattle.ndr_drain_reader.specs.Calls.{HasChunk, IsChunkCut, IsChunkRefused, IsChunkUnread}
 use Rattle.ndr_drain_reader.specs.Seen.{IntakeSeen, moved_to, setting_in}
-use Rattle.ndr_drain.specs.Given.{chunk_lines, end_after, end_of_root, ends_after, pipe_count}
+use Rattle.ndr_drain.specs.Drained.{chunk_lines, end_after, end_of_root, ends_after, pipe_count}
 use Rattle.ndr_drain.specs.declared.fault.GiveFault.{GiveFault}
 use Rattle.ndr_drain.specs.declared.fault.GiveFault.TheVariants as give
 use Rattle.ndr_drain.specs.declared.fault.DrainFault.{DrainFault}

@@ -5,12 +5,11 @@ ghost use Rattle.nd_value.specs.Deferral.{before_pipes};
 ghost use Rattle.nd_value.specs.Setting.{root_list};
 ghost use Rattle.nd_grammar.specs.decoded.Verdict.{decoding_seen};
 ghost use Rattle.ndr_drain_laws.specs.parts.Parts.{elem_at};
-ghost use Rattle.ndr_pipe.specs.Ends.{IsOpenAt, ends_over};
-ghost use Rattle.ndr_pipe.specs.Seen.{ends_seen};
+ghost use Rattle.ndr_pipe.specs.Ends.{IsOpenAt, ends_over, ends_seen};
 ghost use Rattle.ndr_drain_reader.specs.Ready.{IsReady};
 ghost use Rattle.ndr_drain_reader.specs.Seen.{intake_seen};
 ghost use Rattle.ndr_drain_reader.specs.declared.intake.Phase.TheVariants.{Reading};
-ghost use Rattle.ndr_drain.specs.Given.{end_of_root};
+ghost use Rattle.ndr_drain.specs.Drained.{end_of_root};
 ghost use Rattle.ndr_drain.specs.Turns.{AreElements, AreOpenFrom, HasPassed, IsStepCause, IsUnderWay, StopsUnderWay, OfSetting};
 
 use crate::DrainFault;

@@ -8,13 +8,11 @@ ghost use Rattle.nd_value.specs.Fitting.{setting_beside};
 ghost use Rattle.nd_value.specs.Request.{IsRequestOf};
 ghost use Rattle.nd_value.specs.Setting.{root_list};
 ghost use Rattle.nd_grammar.specs.decoded.Verdict.{decoding_seen};
-ghost use Rattle.ndr_pipe.specs.Ends.{AreOpen, ends_over};
-ghost use Rattle.ndr_pipe.specs.Seen.{ends_seen};
+ghost use Rattle.ndr_pipe.specs.Ends.{AreOpen, ends_over, ends_seen};
 ghost use Rattle.ndr_drain_reader.specs.Ready.{IsReady};
 ghost use Rattle.ndr_drain_reader.specs.Seen.{intake_seen};
 ghost use Rattle.ndr_drain_reader.specs.declared.intake.Phase.TheVariants.{Reading};
-ghost use Rattle.ndr_drain.specs.Drained.{IsDrained, IsDrainCause, IsTooFewEnds};
-ghost use Rattle.ndr_drain.specs.Given.{pipe_count};
+ghost use Rattle.ndr_drain.specs.Drained.{IsDrained, IsDrainCause, IsTooFewEnds, pipe_count};
 ghost use Rattle.ndr_drain.specs.Turns.{AreElements, AreOpenFrom, IsReadToEnd, StopsUnderWay, OfSetting};
 
 use crate::DrainFault;

@@ -3,9 +3,9 @@ ghost use Rattle.std.specs.Prelude.{◌≡◌, ◌<◌, Some, Option, length, ma
 ghost use Rattle.std.specs.List.{slice_get};
 ghost use Rattle.nd_types.specs.declared.types.Operation.{Operation};
 ghost use Rattle.nd_types.specs.Table.{type_at};
-ghost use Rattle.nd_types.specs.Walk.{named_roots};
+ghost use Rattle.nd_types.specs.Roots.{named_roots};
 ghost use Rattle.ndr_drain_laws.specs.parts.Parts.{elem_by};
-ghost use Rattle.ndr_drain.specs.Given.{pipe_elements};
+ghost use Rattle.ndr_drain.specs.Drained.{pipe_elements};
 
 use nd_base::Memory;
 use nd_types::{Interface, Side, TypeDef, TypeId, Types};

@@ -3,9 +3,8 @@ ghost use Rattle.std.specs.Prelude.{List};
 ghost use Rattle.std.specs.List.{AllByRecursion};
 ghost use Rattle.nd_value.specs.Seen.{tree_of};
 ghost use Rattle.text_grammar.specs.Sound.{IsSound};
-ghost use Rattle.ndr_pipe.specs.Ends.{IsOpenAt};
-ghost use Rattle.ndr_pipe.specs.Seen.{ends_seen};
-ghost use Rattle.ndr_drain.specs.Lines.{line_of, lines};
+ghost use Rattle.ndr_pipe.specs.Ends.{IsOpenAt, ends_seen};
+ghost use Rattle.ndr_drain.specs.Drained.{line_of, lines};
 ghost use Rattle.ndr_drain.specs.Turns.{AreGiven};
 
 use crate::fault::GiveFault;

@@ -15,7 +15,7 @@ use Rattle.nd_value.specs.Tree as tree
 use Rattle.nd_value.specs.Tree.{Referent, Tree, Trees, flat, items, more, node, node_count, none, trees, unflat-of}
 use Rattle.nd_flat.specs.Building.{CanClose, CanCloseAt, HasNoUnread, closed, put}
 use Rattle.nd_flat.specs.Forest.{first_tree, tree_in}
-use Rattle.nd_grammar.specs.FewItems.{but_gaps}
+use Rattle.nd_grammar.specs.Items.{but_gaps}
 use Rattle.ndr_decoder_state.specs.declared.machine.Machine.{Machine}
 use Rattle.nd_grammar.specs.decoded.Verdict.{DecodingSeen, HasNoted}
 use Rattle.ndr_decode.specs.Piping.{ElementsRun}

@@ -13,8 +13,7 @@ use Rattle.nd_value.specs.Deferral.{before_pipes}
 use Rattle.nd_value.specs.Setting.{Setting, root_list}
 use Rattle.nd_flat.specs.Building.{closed}
 use Rattle.nd_grammar.specs.Entry.{end_to_end}
-use Rattle.nd_grammar.specs.FewItems.{but_gaps}
-use Rattle.nd_grammar.specs.Items.{items as items_of}
+use Rattle.nd_grammar.specs.Items.{but_gaps, items as items_of}
 use Rattle.nd_grammar.specs.LegalSide.{IsLegalSide}
 use Rattle.nd_grammar.specs.Reader.{Progress, pass_all}
 use Rattle.nd_grammar.specs.Stream.{head_entries}

@@ -7,8 +7,7 @@ use Rattle.std.proofs.KnownBytes.{Consumes-trans}
 use Rattle.std.proofs.lemmas.List.{append-nil, length-map, length-replicate}
 use Rattle.nd_base.specs.declared.octets.Order.{Order}
 use Rattle.nd_base.specs.declared.TheConstants.{STREAM_LIMIT}
-use Rattle.nd_base.specs.Counts.{Rose}
-use Rattle.nd_base.specs.Over.{SourceSeen}
+use Rattle.nd_base.specs.Over.{Rose, SourceSeen}
 use Rattle.nd_base.proofs.Rising.{rose_later}
 use Rattle.nd_types.specs.declared.types.Primitive.TheVariants as prim
 use Rattle.nd_types.specs.Number.{AreOctets}
@@ -24,7 +23,7 @@ use Rattle.nd_flat.specs.Building.{Building, raised, with_nodes}
 use Rattle.nd_grammar.specs.declared.reason.Reason.{Reason}
 use Rattle.nd_grammar.specs.declared.reason.Reason.TheVariants as reason
 use Rattle.nd_grammar.specs.Entry.{gap}
-use Rattle.nd_grammar.specs.FewItems.{but_gaps}
+use Rattle.nd_grammar.specs.Items.{but_gaps}
 use Rattle.nd_grammar.specs.LegalSide.{IsLegalSide}
 use Rattle.nd_grammar.specs.Reader.{Read}
 use Rattle.nd_grammar.specs.Stream.{kids_of}

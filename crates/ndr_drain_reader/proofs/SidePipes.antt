@@ -17,8 +17,7 @@ use Rattle.nd_grammar.specs.LegalSide.{IsLegalSide}
 use Rattle.nd_grammar.proofs.LegalSides.{interface_side, laid_out}
 use Rattle.nd_grammar.proofs.next.NextStream.{IsPipeRoot}
 use Rattle.nd_grammar.proofs.reader.ReaderStream.{roots_few}
-use Rattle.ndr_code.specs.Code.{place_at, value_roots}
-use Rattle.ndr_code.specs.Lines.{line_at}
+use Rattle.ndr_code.specs.Code.{place_at, value_roots, line_at}
 use Rattle.ndr_code.specs.declared.lists.PlanLine.{PlanLine}
 use Rattle.ndr_code.specs.declared.lists.PlanLine.TheVariants as line
 use Rattle.ndr_code.specs.declared.plan.Plan.{Plan}

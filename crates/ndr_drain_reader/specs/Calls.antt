@@ -17,8 +17,7 @@ use Rattle.nd_value.specs.Tree.{Tree}
 use Rattle.nd_grammar.specs.declared.reason.Reason.{Reason}
 use Rattle.nd_grammar.specs.declared.reason.Reason.TheVariants as reason
 use Rattle.nd_grammar.specs.Entry.{EntryAt, end_to_end}
-use Rattle.nd_grammar.specs.FewItems.{but_gaps}
-use Rattle.nd_grammar.specs.Items.{items}
+use Rattle.nd_grammar.specs.Items.{but_gaps, items}
 use Rattle.nd_grammar.specs.Stream.{head_entries}
 use Rattle.ndr_decoder_state.specs.declared.fault.DecodeFault.{DecodeFault}
 use Rattle.ndr_decoder_state.specs.declared.fault.DecodeFault.TheVariants as fault

@@ -13,7 +13,7 @@ use Rattle.nd_value.specs.Tree as tree
 use Rattle.nd_value.specs.Tree.{Tree, more, node, none, flat, trees}
 use Rattle.nd_grammar.specs.declared.reason.Reason.{Reason}
 use Rattle.nd_grammar.specs.declared.reason.Reason.TheVariants as reason
-use Rattle.nd_grammar.specs.FewItems.{but_gaps}
+use Rattle.nd_grammar.specs.Items.{but_gaps}
 use Rattle.nd_grammar.specs.LegalSide.{IsLegalSide}
 use Rattle.ndr_code.specs.declared.plan.Plan.{Plan}
 use Rattle.ndr_decoder_state.specs.declared.fault.DecodeFault.{DecodeFault}

@@ -8,8 +8,7 @@ use Rattle.nd_types.specs.Roots.{roots_of}
 use Rattle.nd_value.specs.Deferral.{before_pipes}
 use Rattle.nd_value.specs.Fitting.{IsFit}
 use Rattle.nd_flat.specs.Building.{CanClose, fitting}
-use Rattle.ndr_code.specs.Code.{value_roots}
-use Rattle.ndr_code.specs.Lines.{line_at}
+use Rattle.ndr_code.specs.Code.{value_roots, line_at}
 use Rattle.ndr_drain_reader.specs.declared.intake.Intake.{Intake}
 
 -- the pipe that is next is the one of the next root and of the next line, and so many are left

@@ -4,7 +4,7 @@ ghost use Rattle.std.specs.List.{slice_get};
 ghost use Rattle.nd_types.specs.declared.types.Operation.{Operation};
 ghost use Rattle.nd_types.specs.Roots.{roots_of};
 ghost use Rattle.nd_value.specs.Deferral.{before_pipes};
-ghost use Rattle.ndr_code.specs.Lines.{line_at};
+ghost use Rattle.ndr_code.specs.Code.{line_at};
 ghost use Rattle.ndr_drain_reader.specs.Pipes.{ArePipes, IsChecksBy};
 
 use nd_types::Side;

@@ -7,7 +7,7 @@ use Rattle.nd_types.specs.declared.types.Operation.{Operation}
 use Rattle.nd_types.specs.declared.types.Side.{Side}
 use Rattle.nd_lemmas.proofs.Lists.{item_at}
 use Rattle.ndr_code.specs.declared.plan.Plan.{Plan}
-use Rattle.ndr_code.specs.Lines.{line_at, side_number, sides_of}
+use Rattle.ndr_code.specs.Code.{line_at, side_number, sides_of}
 use Rattle.ndr_code.proofs.SideLines.{start_at}
 
 pub side_start : (plan : Plan) (op : ℕ) (s : Side) (k : ℕ) → k ≡ side_number s → (o : Operation) → slice_get plan.tie.operations op ≡ Some o

@@ -12,11 +12,9 @@ use Rattle.nd_value.specs.Conforms.{Conforms}
 use Rattle.nd_value.specs.Deferral.{Step, Deferral, due_roots, before_pipes}
 use Rattle.nd_value.specs.Setting.{Setting, root_list}
 use Rattle.nd_value.proofs.DeferralLaws.{one_order}
-use Rattle.nd_grammar.specs.Chosen.{Chosen, pipe_cuts, number_of_cell}
+use Rattle.nd_grammar.specs.Stream.{Chosen, pipe_cuts, number_of_cell, id_octets, representation}
 use Rattle.nd_grammar.specs.Entry.{end_of, gap, Context}
 use Rattle.nd_grammar.specs.LegalSide.{IsLegalSide}
-use Rattle.nd_grammar.specs.Represents.{id_octets}
-use Rattle.nd_grammar.specs.Stream.{representation}
 use Rattle.nd_grammar.proofs.written.WrittenEntries.{octets_length}
 use Rattle.ndr_encoder_laws.specs.pieces.Heads.{stream_pieces}
 use Rattle.ndr_encoder_laws.specs.pieces.Pieces.{Piece, Gap, Figure, Name, Raw, Handle, piece_octets, piece_size, pieces_octets, pieces_end}

@@ -18,8 +18,7 @@ use Rattle.nd_grammar.specs.LegalSide.{IsLegalSide}
 use Rattle.nd_grammar.proofs.reader.ReaderStream.{roots_few}
 use Rattle.ndr_code.specs.declared.instr.Instr.{Instr}
 use Rattle.ndr_code.specs.declared.plan.Plan.{Plan}
-use Rattle.ndr_code.specs.Code.{code_of, pipe_at}
-use Rattle.ndr_code.specs.Lines.{line_at}
+use Rattle.ndr_code.specs.Code.{code_of, pipe_at, line_at}
 use Rattle.ndr_code.proofs.Parted.{pipes_last}
 use Rattle.ndr_encoder_laws.specs.pieces.Pieces.{pieces_end}
 use Rattle.ndr_encoder_laws.proofs.pieces.Showing.{end_joined}

@@ -7,9 +7,8 @@ use Rattle.std.proofs.lemmas.Option.{slice_get_read}
 use Rattle.nd_types.specs.declared.interface.Interface.{Interface}
 use Rattle.nd_types.specs.declared.types.Operation.{Operation}
 use Rattle.nd_types.specs.declared.types.Side.{Side}
-use Rattle.nd_types.specs.Roots.{Root}
+use Rattle.nd_types.specs.Roots.{Root, root_name}
 use Rattle.nd_types.specs.Table.{type_at}
-use Rattle.nd_types.specs.Walk.{root_name}
 use Rattle.nd_lemmas.proofs.Lists.{item_at}
 use Rattle.nd_value.specs.Deferral.{before_pipes}
 use Rattle.nd_value.specs.Fitting.{Fitting}
@@ -19,8 +18,7 @@ use Rattle.ndr_code.specs.declared.instr.Instr.TheVariants as code
 use Rattle.ndr_code.specs.declared.lists.PlanLine.{PlanLine}
 use Rattle.ndr_code.specs.declared.lists.PlanLine.TheVariants as line
 use Rattle.ndr_code.specs.declared.plan.Plan.{Plan}
-use Rattle.ndr_code.specs.Code.{checks_at, code_of, pipe_at, pipe_roots, root_at, root_by, value_roots}
-use Rattle.ndr_code.specs.Lines.{entries_of, line_at}
+use Rattle.ndr_code.specs.Code.{checks_at, code_of, pipe_at, pipe_roots, root_at, root_by, value_roots, entries_of, line_at}
 use Rattle.ndr_code.proofs.Runs.{first_at}
 use Rattle.ndr_code.proofs.SideLines.{checks_line_at, pipe_line_at, root_line_at}
 use Rattle.ndr_code.proofs.SideRuns.{root_run_at}

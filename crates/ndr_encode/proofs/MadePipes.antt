@@ -15,8 +15,7 @@ use Rattle.nd_value.proofs.Apart.{all_append}
 use Rattle.nd_value.proofs.FewRoots.{few_before_pipes}
 use Rattle.ndr_code.specs.declared.lists.PlanLine.TheVariants as line
 use Rattle.ndr_code.specs.declared.plan.Plan.{Plan}
-use Rattle.ndr_code.specs.Code.{pipe_at}
-use Rattle.ndr_code.specs.Lines.{line_at}
+use Rattle.ndr_code.specs.Code.{pipe_at, line_at}
 use Rattle.ndr_encoder_laws.specs.pieces.Pieces.{pieces_end, pieces_names}
 use Rattle.ndr_encoder_output.specs.declared.count.Named.{Named}
 use Rattle.ndr_encoder_output.specs.Counting.{names_of}

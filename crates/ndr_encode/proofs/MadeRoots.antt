@@ -15,8 +15,7 @@ use Rattle.nd_value.specs.Setting.{root_list}
 use Rattle.nd_value.proofs.FewRoots.{few_before_pipes}
 use Rattle.ndr_code.specs.declared.lists.PlanLine.TheVariants as line
 use Rattle.ndr_code.specs.declared.plan.Plan.{Plan}
-use Rattle.ndr_code.specs.Code.{root_by as instr_by}
-use Rattle.ndr_code.specs.Lines.{line_at}
+use Rattle.ndr_code.specs.Code.{root_by as instr_by, line_at}
 use Rattle.ndr_encoder_laws.specs.turns.Turned.{Item}
 use Rattle.ndr_encoder_laws.specs.turns.Roots.{root_item, root_items}
 use Rattle.ndr_encode.specs.declared.search.Search.{Search}

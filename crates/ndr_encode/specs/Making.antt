@@ -8,8 +8,7 @@ use Rattle.nd_value.specs.Deferral.{Step, Deferral, due_roots, before_pipes}
 use Rattle.nd_value.specs.Fitting.{Fitting, IsFit}
 use Rattle.nd_value.specs.Setting.{root_list}
 use Rattle.ndr_code.specs.declared.plan.Plan.{Plan}
-use Rattle.ndr_code.specs.Code.{pipe_at}
-use Rattle.ndr_code.specs.Lines.{line_at}
+use Rattle.ndr_code.specs.Code.{pipe_at, line_at}
 use Rattle.ndr_encoder_laws.specs.pieces.Heads.{standings}
 use Rattle.ndr_encoder_laws.specs.turns.Roots.{home_turns, root_items}
 use Rattle.ndr_encoder_laws.specs.chosen.Written.{pipe_turns}

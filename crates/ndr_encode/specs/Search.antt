@@ -1,8 +1,8 @@
 -- How far the search for the homes of a graph has come.
 -- `code` is a plan's code, `g` a graph, `k` the greatest count of a chunk, `n` the number of its cells, `c` a cell's number, `s` what is known so
 -- far.
-use Rattle.std.specs.Prelude.{◌≡◌, ℕ, ◌+◌, ◌^◌, ◌<◌, ◌≤◌, suc, Bool, true, false, List, [], ◌∷◌, ◌++◌, length, get_or, reverse, replicate, Option}
-use Rattle.std.specs.Prelude.{Some, None}
+use Rattle.std.specs.Prelude.{◌≡◌, ℕ, ◌+◌, ◌^◌, ◌<◌, ◌≤◌, suc, Bool, true, false, List, [], ◌∷◌, ◌++◌, length, slice_index_or, reverse, replicate}
+use Rattle.std.specs.Prelude.{Option, Some, None}
 use Rattle.std.specs.List.{AllByRecursion}
 use Rattle.nd_value.specs.declared.value.Graph.{Graph}
 use Rattle.nd_value.specs.declared.item.Home.{Home}
@@ -32,7 +32,7 @@ AreWithin n cs = AllByRecursion (λ c. (0 < c) × (c ≤ n)) cs
 
 -- The numbers of cells by the cell, from 0, once these are named: `named` of them have one.
 pub record IsNumbered (n : ℕ) (names numbers : List ℕ) (named : ℕ) : Type 0 where
-  pub numbers_are : (c : ℕ) → get_or numbers c 0 ≡ canonical_number names c
+  pub numbers_are : (c : ℕ) → slice_index_or numbers c 0 ≡ canonical_number names c
   pub next : named + 1 ≡ next_after 1 [] names
   pub within : AreWithin n names
   pub room : length numbers ≡ n + 1
@@ -46,7 +46,7 @@ unmarked (false ∷ bs) = suc (unmarked bs)
 -- what is pending without the cells before the first that has no mark
 abbrev pub unplaced : List Bool → List (ℕ × ℕ) → List (ℕ × ℕ)
 unplaced marks [] = []
-unplaced marks (x ∷ xs) = elim (get_or marks x.0 false) [ true ↦ unplaced marks xs | false ↦ x ∷ xs ]
+unplaced marks (x ∷ xs) = elim (slice_index_or marks x.0 false) [ true ↦ unplaced marks xs | false ↦ x ∷ xs ]
 
 -- what is pending, the next first
 abbrev pub pending_names : List Named → List (ℕ × ℕ)
@@ -84,7 +84,7 @@ pub record IsSearched (code : List Instr) (k : ℕ) (g : Graph) (x : Stream) (du
   pub turns : turn_pairs s.turns.items ++ rest ≡ x.homes
   pub named : names ++ rest_names ≡ x.names
   pub numbers : IsNumbered (length g.cells) names s.numbers.items s.named
-  pub marks : (c : ℕ) → get_or s.placed.items c false ≡ has stands c
+  pub marks : (c : ℕ) → slice_index_or s.placed.items c false ≡ has stands c
   pub pending : AreCells g (pending_names s.count.names.items)
   pub counted : AreCounted code k g (length due + length x.pipes) s
 

@@ -1,6 +1,6 @@
 -- What is prepared for the encoding of a graph: the homes in the order of the stream, each with the address of its run, and the numbers of the cells.
 -- `f` is a fit, `o` its operation, `k` the greatest count of a chunk.
-use Rattle.std.specs.Prelude.{◌≡◌, ℕ, ◌≤◌, ◌<◌, List, [], drop, get_or, length, Some, refl}
+use Rattle.std.specs.Prelude.{◌≡◌, ℕ, ◌≤◌, ◌<◌, List, [], drop, slice_index_or, length, Some, refl}
 use Rattle.std.specs.List.{slice_get}
 use Rattle.std.specs.Coded.{Coded, code_by, coded×, coded_list, coded_ℕ}
 use Rattle.nd_base.specs.declared.TheConstants.{STREAM_LIMIT}
@@ -11,8 +11,7 @@ use Rattle.nd_value.specs.Deferral.{Step, Deferral, due_roots, before_pipes}
 use Rattle.nd_value.specs.Fitting.{Fitting, setting_beside}
 use Rattle.nd_value.specs.Setting.{Setting, root_list}
 use Rattle.nd_grammar.specs.Entry.{end_of}
-use Rattle.nd_grammar.specs.Stream.{representation}
-use Rattle.nd_grammar.specs.Chosen.{pipe_cuts, Chosen}
+use Rattle.nd_grammar.specs.Stream.{representation, pipe_cuts, Chosen}
 use Rattle.ndr_encoder_laws.specs.chosen.Written.{all_turns}
 use Rattle.ndr_encoder_value.specs.declared.turn.Turn.{Turn}
 use Rattle.ndr_encoder_value.specs.contracts.turn.Turn as turns
@@ -48,7 +47,7 @@ pub record IsWorkFor (f : Fitting) (k : ℕ) (work : WorkSeen) : Type 0 where
   pub steps : List Step
   pub deferral : Deferral (setting f operation) f.graph [] (due_roots 0 (before_pipes (root_list (setting f operation)))) steps
   pub turns : turn_pairs work.turns ≡ all_turns (setting f operation) f.interface.operations f.op f.graph steps
-  pub numbers : (c : ℕ) → get_or work.numbers c 0 ≡ canonical_number (named_cells (setting f operation) f.graph steps) c
+  pub numbers : (c : ℕ) → slice_index_or work.numbers c 0 ≡ canonical_number (named_cells (setting f operation) f.graph steps) c
   pub some : 1 ≤ k
   pub chunk : work.chunk ≡ k
   pub length : work.length ≡ chosen_length f operation k steps

@@ -5,10 +5,9 @@ ghost use Rattle.nd_value.specs.declared.value.Graph.{Graph};
 ghost use Rattle.nd_value.specs.Conforms.{Conforms};
 ghost use Rattle.nd_value.specs.Deferral.{before_pipes};
 ghost use Rattle.nd_value.specs.Setting.{Setting, root_list};
-ghost use Rattle.nd_grammar.specs.Chosen.{Chosen, pipe_cuts};
+ghost use Rattle.nd_grammar.specs.Stream.{Chosen, pipe_cuts, representation};
 ghost use Rattle.nd_grammar.specs.Entry.{end_of};
 ghost use Rattle.nd_grammar.specs.LegalSide.{IsLegalSide};
-ghost use Rattle.nd_grammar.specs.Stream.{representation};
 
 /// As many octets are written for a graph that conforms as its entries have, end to end: so many in either order.
 pub fn octets_end_with_entries()

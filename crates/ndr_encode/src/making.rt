@@ -5,7 +5,7 @@ ghost use Rattle.nd_base.specs.declared.TheConstants.{STREAM_LIMIT};
 ghost use Rattle.nd_types.specs.declared.types.Operation.{Operation};
 ghost use Rattle.nd_value.specs.Deferral.{before_pipes};
 ghost use Rattle.nd_value.specs.Setting.{root_list};
-ghost use Rattle.ndr_code.specs.Lines.{line_at, side_number};
+ghost use Rattle.ndr_code.specs.Code.{line_at, side_number};
 ghost use Rattle.ndr_encode.specs.declared.work.EncodeFault.TheVariants.{TooLong};
 ghost use Rattle.ndr_encode.specs.Making.{BeginsRoots, RootsTaken, BeginsPipes, PipesTaken};
 ghost use Rattle.ndr_encode.specs.Work.{HasLength, IsWorkFor, IsTooLong, setting};

@@ -1,10 +1,10 @@
 // An output that writes octets.
-ghost use Rattle.std.specs.Prelude.{◌≡◌, ◌+◌, ◌*◌, pos, ◌<◌, ◌≤◌, ◌^◌, [], ◌∷◌, ◌++◌, length, take, replicate, get_or, IsTrue};
+ghost use Rattle.std.specs.Prelude.{◌≡◌, ◌+◌, ◌*◌, pos, ◌<◌, ◌≤◌, ◌^◌, [], ◌∷◌, ◌++◌, length, take, replicate, slice_index_or, IsTrue};
 ghost use Rattle.nd_types.specs.Number.{from_signed, spelling, written};
 ghost use Rattle.nd_types.specs.Table.{width, in_range};
 ghost use Rattle.nd_value.specs.Seen.{cell_number};
 ghost use Rattle.nd_grammar.specs.Entry.{gap};
-ghost use Rattle.nd_grammar.specs.Chosen.{number_of_cell};
+ghost use Rattle.nd_grammar.specs.Stream.{number_of_cell};
 ghost use Rattle.ndr_prim.specs.Context.{context_octets};
 
 use crate::output::Output;
@@ -116,7 +116,7 @@ fn spell_eight(order: Order, value: u64, to: &mut [u8])
 // The number that is written for a pointer.
 #[inline(always)]
 fn number_of(numbers: &[u32], cell: Option<CellId>) -> u32
-    ensures { result ≡ number_of_cell (λ c. get_or numbers.now c 0) (cell_number cell) }
+    ensures { result ≡ number_of_cell (λ c. slice_index_or numbers.now c 0) (cell_number cell) }
 {
     match cell {
         None => 0,
@@ -246,12 +246,12 @@ fn write_handle(order: Order, attributes: u32, id: Uuid, at: usize, out: &mut [u
 }
 
 impl Output for Fill<'_> {
-    ghost use Rattle.std.specs.Prelude.{get_or, false};
+    ghost use Rattle.std.specs.Prelude.{slice_index_or, false};
     ghost use Rattle.ndr_encoder_output.specs.Filling.{fill_whole, FillCan};
 
     ghost can = { λ s ps. FillCan s.at s.out.now ps };
 
-    ghost whole = { λ s ps. fill_whole s.out.ghost_name s.order (λ c. get_or s.numbers.now c 0) s.at s.out.now ps };
+    ghost whole = { λ s ps. fill_whole s.out.ghost_name s.order (λ c. slice_index_or s.numbers.now c 0) s.at s.out.now ps };
 
     ghost may_fail = { false };
 

@@ -1,7 +1,7 @@
 //! Laws of the octets that are written, each the contract of a function that does nothing.
 ghost use Rattle.std.specs.Prelude.{◌≡◌, ℕ, List};
 ghost use Rattle.nd_base.specs.declared.octets.Order.{Order};
-ghost use Rattle.nd_grammar.specs.Represents.{id_octets};
+ghost use Rattle.nd_grammar.specs.Stream.{id_octets};
 ghost use Rattle.nd_grammar.specs.Reader.{identifier};
 ghost use Rattle.ndr_prim.specs.Context.{identifier_octets, identifier as read_identifier};
 

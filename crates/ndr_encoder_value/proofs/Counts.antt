@@ -26,8 +26,8 @@ use Rattle.nd_value.specs.Conforms.{Conforms}
 use Rattle.nd_value.proofs.Apart.{all_append}
 use Rattle.nd_value.proofs.NodeFacts.{all_of_list}
 use Rattle.nd_grammar.specs.LegalSide.{IsLegalSide}
-use Rattle.nd_grammar.specs.InPlace.{before_children, tag_entries, hoisted, hoisted_max}
-use Rattle.nd_grammar.specs.Chosen.{cut_of}
+use Rattle.nd_grammar.specs.Entry.{before_children, tag_entries, hoisted, hoisted_max}
+use Rattle.nd_grammar.specs.Stream.{cut_of}
 use Rattle.nd_grammar.proofs.ChosenRepresents.{w_roots, cell_within, none_inside, dues}
 use Rattle.nd_grammar.proofs.LegalSides.{laid_out}
 use Rattle.nd_grammar.proofs.next.NextStream.{IsPipeRoot, FitsPipes, drop_at}

@@ -24,8 +24,7 @@ use Rattle.nd_value.specs.Misfit.{has_shape, has_range, has_machine_values, is_w
 use Rattle.nd_value.proofs.Apart.{all_append}
 use Rattle.nd_value.proofs.NodeFacts.{IsFit}
 use Rattle.nd_value.proofs.ValueRanges.{range_fits}
-use Rattle.nd_grammar.specs.Entry.{Number}
-use Rattle.nd_grammar.specs.InPlace.{before_children, counts, tag_entries, hoisted}
+use Rattle.nd_grammar.specs.Entry.{Number, before_children, counts, tag_entries, hoisted}
 use Rattle.nd_grammar.proofs.conforming.GoodEntries.{HoldsNoPipe}
 use Rattle.nd_grammar.specs.ReaderState.{IsNoPipe}
 use Rattle.nd_grammar.proofs.written.WritableTrees.{WritableTrees, count_below}

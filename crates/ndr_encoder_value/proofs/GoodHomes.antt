@@ -17,17 +17,15 @@ use Rattle.nd_value.specs.Setting.{Setting, root_list, root_at, or_unread, cell_
 use Rattle.nd_value.specs.Nodes.{child_types}
 use Rattle.nd_value.specs.Deferral.{Pending, Due, due_roots, before_pipes, Step, Deferral, none_due, at_root, at_null, at_standing, at_referent, Placed_cells, Standing, standing_root, standing_by}
 use Rattle.nd_value.specs.Deferral.{standing_cell, direct, root_type, due_of}
-use Rattle.nd_value.specs.Homes.{HomeNode, in_home, root_nodes, cell_nodes, all_nodes}
+use Rattle.nd_value.specs.Conforms.{HomeNode, in_home, root_nodes, cell_nodes, all_nodes, Conforms}
 use Rattle.nd_value.specs.Misfit.{has_shape, misfit_of, names_cell, names_pointee, has_machine_values}
-use Rattle.nd_value.specs.Conforms.{Conforms}
 use Rattle.nd_value.proofs.Apart.{all_append, all_left, all_right, all_map}
 use Rattle.nd_value.proofs.Orderly.{pointee_of_cell}
 use Rattle.nd_value.proofs.NodeFacts.{IsFit, fit_node, all_of_list}
 use Rattle.nd_value.proofs.DeferralExists.{direct_is}
 use Rattle.nd_grammar.specs.LegalSide.{IsLegalSide}
-use Rattle.nd_grammar.specs.InPlace.{before_children, hoisted, hoisted_max}
-use Rattle.nd_grammar.specs.Stream.{standing_entries}
-use Rattle.nd_grammar.specs.Chosen.{cut_of, cut_within, pipe_cuts}
+use Rattle.nd_grammar.specs.Entry.{before_children, hoisted, hoisted_max}
+use Rattle.nd_grammar.specs.Stream.{standing_entries, cut_of, cut_within, pipe_cuts}
 use Rattle.nd_grammar.proofs.ChosenRepresents.{w_roots, cell_within, none_inside, dues}
 use Rattle.nd_grammar.proofs.LegalSides.{laid_out}
 use Rattle.nd_grammar.proofs.next.NextStream.{IsPipeRoot, drop_at}

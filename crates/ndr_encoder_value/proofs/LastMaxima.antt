@@ -1,7 +1,7 @@
 -- The nodes of a value, and its maximum count.
 use Rattle.std.proofs.Common.{◌≡◌}
 use Rattle.nd_value.specs.Tree.{Tree, none, more, flat}
-use Rattle.nd_grammar.specs.InPlace.{hoisted_max}
+use Rattle.nd_grammar.specs.Entry.{hoisted_max}
 use Rattle.ndr_encoder_laws.specs.maximum.LastPart.{last_max}
 use Rattle.ndr_encoder_laws.proofs.maximum.LastParts.{last_is}
 

@@ -15,7 +15,7 @@ use Rattle.nd_value.specs.Deferral.{Step, root_stands, referent_stands, stands_a
 use Rattle.nd_value.specs.Conforms.{Conforms, FewNodes}
 use Rattle.nd_value.proofs.Apart.{all_left, all_right}
 use Rattle.nd_grammar.specs.LegalSide.{IsLegalSide}
-use Rattle.nd_grammar.specs.InPlace.{hoisted, hoisted_max}
+use Rattle.nd_grammar.specs.Entry.{hoisted, hoisted_max}
 use Rattle.ndr_code.specs.declared.instr.Instr.{Instr}
 use Rattle.ndr_code.specs.declared.instr.Instr.TheVariants as op
 use Rattle.ndr_code.specs.Code.{whole_at, place_at, pipe_at, code_of, pipe_roots}

@@ -12,8 +12,8 @@ use Rattle.nd_types.specs.Layout.{align_of}
 use Rattle.nd_value.specs.Tree as tree
 use Rattle.nd_value.specs.Tree.{Trees, node, none, more, Label, count, node_count, take_trees, drop_trees}
 use Rattle.nd_value.specs.Nodes.{child_types}
-use Rattle.nd_grammar.specs.InPlace.{before_children, counts, tag_entries, hoisted}
-use Rattle.nd_grammar.specs.Chosen.{cut_of, cut_within}
+use Rattle.nd_grammar.specs.Entry.{before_children, counts, tag_entries, hoisted}
+use Rattle.nd_grammar.specs.Stream.{cut_of, cut_within}
 use Rattle.ndr_encoder_laws.specs.pieces.Pieces.{Piece, Gap, Figure, Name, Raw, Handle, gap_pieces, piece_size, pieces_end}
 use Rattle.ndr_encoder_laws.specs.pieces.Shown.{kinds_pieces, values_pieces, chunks_pieces}
 use Rattle.ndr_encoder_value.proofs.Fits.{Good, width_fits}

@@ -5,7 +5,7 @@ use Rattle.std.specs.List.{slice_get}
 use Rattle.nd_value.specs.declared.value.Graph.{Graph}
 use Rattle.nd_value.specs.declared.item.Home.{Home}
 use Rattle.nd_value.specs.Tree.{none, more, flat}
-use Rattle.nd_grammar.specs.InPlace.{hoisted_max}
+use Rattle.nd_grammar.specs.Entry.{hoisted_max}
 use Rattle.ndr_code.specs.declared.instr.Instr.{Instr}
 use Rattle.ndr_code.specs.declared.instr.Instr.TheVariants as op
 use Rattle.ndr_encoder_laws.specs.pieces.Pieces.{Piece}

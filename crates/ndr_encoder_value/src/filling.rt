@@ -1,5 +1,5 @@
 // Octets that are filled with the homes of a stream.
-ghost use Rattle.std.specs.Prelude.{◌≡◌, [], ◌++◌, get_or, length};
+ghost use Rattle.std.specs.Prelude.{◌≡◌, [], ◌++◌, slice_index_or, length};
 ghost use Rattle.std.specs.List.{AllByRecursion};
 ghost use Rattle.nd_flat.specs.Building.{HasHome};
 ghost use Rattle.ndr_encoder_output.specs.Filling.{FillCan};
@@ -22,7 +22,8 @@ fn fill_from(code: &[Instr], chunk: u32, turns: &[Turn], fit: &Fit, fill: &mut F
     requires long { pieces_end 0 (written_turns code.now chunk fit.now.graph (turn_pairs turns.now)) ≡ length fill.old.out.now }
     ensures same_reference { fill.new.out.ghost_name ≡ fill.old.out.ghost_name }
     ensures filled { fill.new.out.now
-        ≡ pieces_octets fill.old.order (λ c. get_or fill.old.numbers.now c 0) 0 (written_turns code.now chunk fit.now.graph (turn_pairs turns.now)) }
+        ≡ pieces_octets fill.old.order (λ c. slice_index_or fill.old.numbers.now c 0) 0
+        (written_turns code.now chunk fit.now.graph (turn_pairs turns.now)) }
 {
     let mut frames = Frames::new();
     let mut known = Known::new();
@@ -45,7 +46,8 @@ pub fn fill_turns(
     requires there { AllByRecursion (λ t. HasHome fit.now.graph t.home) turns.now }
     requires can { FillCan 0 out.old (written_turns code.now chunk fit.now.graph (turn_pairs turns.now) ++ []) }
     requires long { pieces_end 0 (written_turns code.now chunk fit.now.graph (turn_pairs turns.now)) ≡ length out.old }
-    ensures { out.new ≡ pieces_octets order (λ c. get_or numbers.now c 0) 0 (written_turns code.now chunk fit.now.graph (turn_pairs turns.now)) }
+    ensures { out.new ≡ pieces_octets order (λ c. slice_index_or numbers.now c 0) 0
+        (written_turns code.now chunk fit.now.graph (turn_pairs turns.now)) }
 {
     let mut fill = Fill {
         order,

@@ -5,9 +5,8 @@ use Rattle.std.specs.List.{slice_get}
 use Rattle.std.proofs.lemmas.Option.{same_Some, slice_get_past as get_past, slice_get_within as got_below}
 use Rattle.nd_types.specs.declared.interface.Interface.{Interface}
 use Rattle.nd_types.specs.declared.types.Operation.{Operation}
-use Rattle.nd_types.specs.Roots.{Root}
+use Rattle.nd_types.specs.Roots.{Root, NamedRoot, named_root}
 use Rattle.nd_types.specs.Table.{Table}
-use Rattle.nd_types.specs.Walk.{NamedRoot, named_root}
 use Rattle.nd_value.specs.declared.value.CellId.{CellId}
 use Rattle.nd_value.specs.declared.value.Graph.{Graph}
 use Rattle.nd_value.specs.declared.item.Home.{Home}

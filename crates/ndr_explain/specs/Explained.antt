@@ -13,7 +13,7 @@ use Rattle.nd_value.specs.Setting.{Setting}
 use Rattle.nd_value.specs.Tree as tree
 use Rattle.nd_value.specs.Tree.{Flat, Label, none, more, flat}
 use Rattle.text_grammar.specs.Paths.{home_name, home_types, home_value, node_paths}
-use Rattle.text_grammar.specs.Printed.{quoted_text}
+use Rattle.text_grammar.specs.Written.{quoted_text}
 use Rattle.text_printer.specs.Texts.{context_text}
 
 -- ## Nodes

@@ -2,7 +2,7 @@
 ghost use Rattle.std.specs.Prelude.{◌≡◌, ◌<◌, ◌++◌, length, Some, OnOk, Option, option_map};
 ghost use Rattle.std.specs.List.{slice_get};
 ghost use Rattle.nd_types.specs.declared.types.Operation.{Operation};
-ghost use Rattle.nd_types.specs.Walk.{root_value};
+ghost use Rattle.nd_types.specs.Roots.{root_value};
 ghost use Rattle.nd_value.specs.declared.value.Graph.{Graph};
 ghost use Rattle.nd_value.specs.Fitting.{setting_beside};
 ghost use Rattle.nd_value.specs.Setting.{Setting};

@@ -3,8 +3,7 @@ use Rattle.std.proofs.Common.{◌≡◌, ◌<◌, ◌∙◌, ap, sym, subst, ℕ
 use Rattle.std.specs.List.{slice_get}
 use Rattle.std.proofs.lemmas.List.{map-set, length-map}
 use Rattle.std.proofs.lemmas.Option.{slice_get-map, slice_get-get_or, slice_get_within, get_or_from_slice_get}
-use Rattle.ndr_pipe.specs.End.{EndSeen, with_octets, ended, HasTaken, HasFlushed, HasFinished}
-use Rattle.ndr_pipe.specs.Ends.{TakesAt, FlushesAt, FinishesAt, IsOpenAt, change_at}
+use Rattle.ndr_pipe.specs.Ends.{EndSeen, with_octets, ended, HasTaken, HasFlushed, HasFinished, TakesAt, FlushesAt, FinishesAt, IsOpenAt, change_at}
 
 -- what stands at a place of a list that another list shows
 pub seen_there : {X : Type 0} (f : X → EndSeen) (items : List X) (before : List EndSeen) (at : ℕ) (was : X) → map f items ≡ before → at < length items

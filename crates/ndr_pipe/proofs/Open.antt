@@ -1,8 +1,7 @@
 -- Ends that are not finished, and one more.
 use Rattle.std.proofs.Common.{◌≡◌, List, [], ◌∷◌, ◌++◌}
 use Rattle.std.specs.Prelude.{false}
-use Rattle.ndr_pipe.specs.End.{EndSeen}
-use Rattle.ndr_pipe.specs.Ends.{AreOpen}
+use Rattle.ndr_pipe.specs.Ends.{EndSeen, AreOpen}
 
 pub all_open : (ends : List EndSeen) (e : EndSeen) → AreOpen ends → e.finished ≡ false → AreOpen (ends ++ e ∷ [])
 all_open [] e all one = (one, tt)

@@ -3,7 +3,7 @@ use Rattle.std.specs.Prelude.{Bool, Some}
 use Rattle.nd_base.specs.declared.memory.MemSink.{MemSink}
 use Rattle.nd_base.specs.InMemory.{written_octets, sink_faults}
 use Rattle.ndr_pipe.specs.declared.mem_end.MemEnd.{MemEnd}
-use Rattle.ndr_pipe.specs.End.{EndSeen}
+use Rattle.ndr_pipe.specs.Ends.{EndSeen}
 
 -- where it keeps its octets
 abbrev pub end_sink : MemEnd → MemSink

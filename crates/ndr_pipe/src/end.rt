@@ -1,6 +1,6 @@
 // What the end of a pipe is: where the lines of a pipe go.
 ghost use Rattle.std.specs.Prelude.{◌≡◌, false, IfSome, IfNone, Some, None};
-ghost use Rattle.ndr_pipe.specs.End.{EndSeen, HasTaken, HasFlushed, HasFinished};
+ghost use Rattle.ndr_pipe.specs.Ends.{EndSeen, HasTaken, HasFlushed, HasFinished};
 
 use thiserror::Error;
 

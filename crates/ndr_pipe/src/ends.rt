@@ -17,7 +17,7 @@ pub struct Ends<E: Drop> {
 pub type PipeEnds = Ends<Box<dyn PipeEnd>>;
 
 impl<E: PipeEnd> Ends<E> {
-    ghost use Rattle.ndr_pipe.specs.Seen.{ends_seen};
+    ghost use Rattle.ndr_pipe.specs.Ends.{ends_seen};
 
     /// An empty list. Takes no memory.
     pub fn new(alloc: Global) -> Ends<E>

@@ -1,6 +1,6 @@
 // An end that is a file. What the operating system does is trusted: the file shows nothing.
 ghost use Rattle.std.specs.Prelude.{◌≡◌, ◌≤◌, false, true, None, IfOk};
-ghost use Rattle.nd_base.specs.Counts.{Rose};
+ghost use Rattle.nd_base.specs.Over.{Rose};
 
 use crate::{EndFailed, PipeEnd};
 use nd_base::Memory;
@@ -93,7 +93,7 @@ impl<R: rt::Files + Copy> FileEnd<R> {
 }
 
 impl<R: rt::Files + Copy> PipeEnd for FileEnd<R> {
-    ghost use Rattle.ndr_pipe.specs.End.{EndSeen};
+    ghost use Rattle.ndr_pipe.specs.Ends.{EndSeen};
 
     ghost seen = { λ e. record { taken = None; finished = e.finished; faults = e.faults } };
 

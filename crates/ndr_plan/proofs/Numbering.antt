@@ -9,8 +9,7 @@ use Rattle.std.proofs.lemmas.Option.{slice_get-get_or}
 use Rattle.nd_types.specs.declared.types.Operation.{Operation}
 use Rattle.nd_types.specs.declared.types.Side.{Side}
 use Rattle.nd_types.specs.Table.{Table}
-use Rattle.nd_types.specs.Roots.{Root, roots_of, root_index}
-use Rattle.nd_types.specs.Walk.{NamedRoot, named_root, named_roots}
+use Rattle.nd_types.specs.Roots.{Root, roots_of, root_index, NamedRoot, named_root, named_roots}
 use Rattle.ndr_plan.specs.Numbers.{found, number_in, kept, numbered, all_numbered, AreNumbers}
 use Rattle.ndr_plan.proofs.OwnParams.{IsOwn, AreOwn, roots_own}
 

@@ -12,8 +12,7 @@ use Rattle.nd_types.specs.declared.types.Side.{Side}
 use Rattle.nd_types.specs.declared.types.Side.TheVariants as side
 use Rattle.nd_types.specs.declared.TheConstants.{HANDLE}
 use Rattle.nd_types.specs.Table.{Table}
-use Rattle.nd_types.specs.Roots.{Root, roots_of, root_of, root_by, root_index, pipe_of, params_from, result_root, travels}
-use Rattle.nd_types.specs.Walk.{named_root, root_name, param_name}
+use Rattle.nd_types.specs.Roots.{Root, roots_of, root_of, root_by, root_index, pipe_of, params_from, result_root, travels, named_root, root_name, param_name}
 use Rattle.ndr_code.specs.declared.instr.Instr.{Instr}
 use Rattle.ndr_code.specs.Code.{root_checks, root_check, vars_checks}
 use Rattle.ndr_plan.specs.Parts.{name_by, own_name}

@@ -10,14 +10,13 @@ use Rattle.nd_types.specs.declared.types.Operation.{Operation}
 use Rattle.nd_types.specs.declared.types.Side.{Side}
 use Rattle.nd_types.specs.declared.types.Side.TheVariants as side
 use Rattle.nd_types.specs.Table.{Table}
-use Rattle.nd_types.specs.Roots.{Root, roots_of}
-use Rattle.nd_types.specs.Walk.{NamedRoot, named_roots}
+use Rattle.nd_types.specs.Roots.{Root, roots_of, NamedRoot, named_roots}
 use Rattle.ndr_code.specs.declared.instr.Instr.{Instr}
 use Rattle.ndr_code.specs.declared.lists.PlanLine.{PlanLine}
 use Rattle.ndr_code.specs.declared.lists.PlanLine.TheVariants as line
-use Rattle.ndr_code.specs.Code.{value_roots, pipe_roots, root_run, checks_run, side_code, operation_code, operations_code, table_code, code_of, side_at, root_at, checks_at, pipe_at}
+use Rattle.ndr_code.specs.Code.{value_roots, pipe_roots, root_run, checks_run, side_code, operation_code, operations_code, table_code, code_of, side_at, root_at, checks_at, pipe_at, entry_lines}
+use Rattle.ndr_code.specs.Code.{side_lines, operation_lines, entries_of, line_at, sides_of}
 use Rattle.ndr_code.specs.Code as code
-use Rattle.ndr_code.specs.Lines.{entry_lines, side_lines, operation_lines, entries_of, line_at, sides_of}
 use Rattle.ndr_code.proofs.Runs.{numbered}
 use Rattle.ndr_plan.specs.Parts.{value_run, value_line, pipe_run, pipe_line, lines_from, HasOperation}
 use Rattle.ndr_plan.specs.declared.side_code.Parts.{Parts}

@@ -1,8 +1,7 @@
 -- The numbers of parameters among the roots of a side as the program keeps them.
 -- `j` is the index of a parameter, `n` the number of a root.
 use Rattle.std.specs.Prelude.{◌≡◌, ℕ, ◌+◌, List, [], ◌∷◌, Option, Some, None, slice_get, slice_set}
-use Rattle.nd_types.specs.Roots.{Root, root_index}
-use Rattle.nd_types.specs.Walk.{NamedRoot}
+use Rattle.nd_types.specs.Roots.{Root, root_index, NamedRoot}
 
 -- what is found, if anything
 abbrev pub found : Option (Option ℕ) → Option ℕ

@@ -7,13 +7,12 @@ use Rattle.nd_types.specs.declared.types.Operation.{Operation}
 use Rattle.nd_types.specs.declared.types.Side.{Side}
 use Rattle.nd_types.specs.declared.types.Side.TheVariants as side
 use Rattle.nd_types.specs.Table.{Table, type_at}
-use Rattle.nd_types.specs.Walk.{NamedRoot}
+use Rattle.nd_types.specs.Roots.{NamedRoot}
 use Rattle.ndr_code.specs.declared.instr.Instr.{Instr}
 use Rattle.ndr_code.specs.declared.instr.Instr.TheVariants as op
 use Rattle.ndr_code.specs.declared.lists.PlanLine.{PlanLine}
 use Rattle.ndr_code.specs.declared.lists.PlanLine.TheVariants as line
-use Rattle.ndr_code.specs.Code.{side_code, operation_code, root_by, place_at}
-use Rattle.ndr_code.specs.Lines.{side_lines, operation_lines}
+use Rattle.ndr_code.specs.Code.{side_code, operation_code, root_by, place_at, side_lines, operation_lines}
 use Rattle.ndr_plan.specs.declared.side_code.Parts.{Parts}
 
 -- the name of a parameter, or `return`

@@ -1,7 +1,7 @@
 // The words of an instruction.
 ghost use Rattle.std.specs.Prelude.{◌≡◌, ◌++◌, ◌∷◌, [], OnOk, decimal};
 ghost use Rattle.std.specs.Fmt.{signed_decimal};
-ghost use Rattle.idl_listing.specs.Lines.{behind, class_word};
+ghost use Rattle.idl_listing.specs.Listing.{behind, class_word};
 ghost use Rattle.ndr_code.specs.declared.instr.Instr.TheVariants.{Arm, Pointer};
 ghost use Rattle.ndr_plan.specs.Listing.{attr_word, star_digit, check_words, instr_words};
 

@@ -1,8 +1,7 @@
 // The plan of an interface.
 ghost use Rattle.std.specs.Prelude.{◌≡◌, ◌++◌, ◌∷◌, [], Some, slice_get, length, IfOk, OnOk};
 ghost use Rattle.nd_types.specs.declared.types.Side.TheVariants.{In};
-ghost use Rattle.ndr_code.specs.Code.{type_runs, table_code, code_of, side_at};
-ghost use Rattle.ndr_code.specs.Lines.{enum_list_by, values_of, entries_of, sides_of};
+ghost use Rattle.ndr_code.specs.Code.{type_runs, table_code, code_of, side_at, enum_list_by, values_of, entries_of, sides_of};
 ghost use Rattle.ndr_code.specs.Plan.{IsPlanOf};
 ghost use Rattle.ndr_code.specs.declared.instr.Instr.TheVariants.{Void, Ret};
 ghost use Rattle.ndr_plan.specs.Addresses.{AreAddresses, place_in, whole_in};

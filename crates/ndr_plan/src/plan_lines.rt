@@ -2,7 +2,7 @@
 ghost use Rattle.std.specs.Prelude.{◌≡◌, ◌≤◌, ◌++◌, ◌∷◌, [], map, length, OnOk, IfOk, decimal};
 ghost use Rattle.std.specs.Fmt.{signed_decimal};
 ghost use Rattle.std.specs.List.{flat_map, enumerate_from};
-ghost use Rattle.idl_listing.specs.Lines.{behind};
+ghost use Rattle.idl_listing.specs.Listing.{behind};
 ghost use Rattle.ndr_code.specs.declared.TheConstants.{ADDRESS_LIMIT};
 ghost use Rattle.ndr_plan.specs.Listing.{instr_line, values_line, place_line, listing};
 

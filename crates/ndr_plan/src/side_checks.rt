@@ -1,7 +1,7 @@
 // The run of the agreements of a side of an operation.
 ghost use Rattle.std.specs.Prelude.{◌≡◌, ◌++◌, OnOk};
 ghost use Rattle.std.specs.List.{flat_map};
-ghost use Rattle.nd_types.specs.Walk.{named_roots};
+ghost use Rattle.nd_types.specs.Roots.{named_roots};
 ghost use Rattle.ndr_code.specs.Code.{given_check, checks_run};
 ghost use Rattle.ndr_plan.specs.Numbers.{number_in};
 ghost use Rattle.ndr_plan.specs.Checks.{check_by, checks_by, vars_at};

@@ -1,7 +1,7 @@
 // The runs of a side of an operation, with their lines.
 ghost use Rattle.std.specs.Prelude.{◌≡◌, ◌++◌, ◌∷◌, [], length, OnOk, IfOk};
 ghost use Rattle.nd_types.specs.Table.{type_at};
-ghost use Rattle.nd_types.specs.Walk.{root_value, named_roots};
+ghost use Rattle.nd_types.specs.Roots.{root_value, named_roots};
 ghost use Rattle.ndr_code.specs.Code.{root_by, side_at};
 ghost use Rattle.ndr_code.specs.declared.lists.PlanLine.TheVariants.{Entry};
 ghost use Rattle.ndr_plan.specs.Addresses.{AreAddresses};

@@ -161,7 +161,7 @@ fn push_default(code: &mut Code, addresses: &Addresses, default: &Option<Arm>) -
     }
 }
 
-// A union, after its gap.
+// A union, after the gap of its tag.
 fn push_union(
     code: &mut Code,
     addresses: &Addresses,

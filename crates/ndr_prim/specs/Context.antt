@@ -14,7 +14,8 @@ identifier_octets order id =
 -- the identifier whose octets these are
 abbrev pub identifier : Order → List ℕ → List ℕ
 identifier order os =
-    reverse (in_order order (take 4 os)) ++ (reverse (in_order order (take 2 (drop 4 os))) ++ (reverse (in_order order (take 2 (drop 6 os))) ++ drop 8 os))
+    reverse (in_order order (take 4 os))
+    ++ (reverse (in_order order (take 2 (drop 4 os))) ++ (reverse (in_order order (take 2 (drop 6 os))) ++ drop 8 os))
 
 -- the octets of a context handle
 abbrev pub context_octets : Order → ℕ → List ℕ → List ℕ

@@ -17,12 +17,11 @@ use Rattle.nd_value.specs.declared.item.Home.{Home}
 use Rattle.nd_value.specs.declared.item.Home.TheVariants as home
 use Rattle.nd_value.specs.declared.value.Graph.{Graph}
 use Rattle.nd_value.specs.Canon.{named, named_cells, own_cell, step_names as step_cells, target}
-use Rattle.nd_value.specs.Conforms.{AllEarlier, ShareOnlyIfFull}
+use Rattle.nd_value.specs.Conforms.{AllEarlier, ShareOnlyIfFull, all_pointers, cell_pointers, root_pointers}
 use Rattle.nd_value.specs.Deferral.{Deferral, Due, IsPlaced, Pending as Pointer, Placed_cells, Standing, Step, at_null, at_referent, at_root, at_standing, due_of, due_referent, due_root}
 use Rattle.nd_value.specs.Deferral.{home_pointers}
 use Rattle.nd_value.specs.Deferral.{AreFree, direct, due_roots, none_due, pointer, pointer_by, referent_stands, root_cell, root_stands, root_type, standing_by, standing_cell, standing_root}
 use Rattle.nd_value.specs.Deferral.{stands_already}
-use Rattle.nd_value.specs.Homes.{all_pointers, cell_pointers, root_pointers}
 use Rattle.nd_value.specs.Setting.{Among, Setting, cell_at, cell_home, cell_of_number, cell_tree, or_unread, root_at, root_list}
 use Rattle.nd_value.specs.Tree as tree
 use Rattle.nd_value.specs.Tree.{Referent, Tree, Trees, node}

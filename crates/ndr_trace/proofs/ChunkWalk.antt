@@ -12,8 +12,7 @@ use Rattle.nd_value.specs.Deferral.{Placed_cells}
 use Rattle.nd_value.specs.Nodes.{child_types}
 use Rattle.nd_value.specs.Tree.{Flat, Trees, count, drop_trees, flat, joined, more, node, node_count, none, take_trees}
 use Rattle.nd_flat.proofs.Forests.{flat-joined, joined-take-drop}
-use Rattle.nd_grammar.specs.Entry.{Align, Chunk, Entry, Kind}
-use Rattle.nd_grammar.specs.InPlace.{entries, in_place}
+use Rattle.nd_grammar.specs.Entry.{Align, Chunk, Entry, Kind, entries, in_place}
 use Rattle.nd_grammar.specs.Stream.{Cuts, chunk_entries, chunks}
 use Rattle.nd_grammar.proofs.next.NextPipes.{sum_first}
 use Rattle.text_grammar.specs.Paths.{element_path, node_paths}

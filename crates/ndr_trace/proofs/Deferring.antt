@@ -13,12 +13,11 @@ use Rattle.nd_value.specs.declared.value.Graph.{Graph}
 use Rattle.nd_value.specs.Agreement.{Agreement}
 use Rattle.nd_value.specs.Deferral.{AreFree, Deferral, Due, IsPlaced, IsPlacedFull, Pending as Pointer, Placed_cells, Step, at_null, at_referent, at_root, at_standing, due_of, due_referent, due_root}
 use Rattle.nd_value.specs.Deferral.{home_pointers, none_due, referent_stands, root_cell, root_stands, standing_cell, standing_root, stands_already}
-use Rattle.nd_value.specs.Homes.{all_pointers}
+use Rattle.nd_value.specs.Conforms.{all_pointers}
 use Rattle.nd_value.specs.Setting.{Among, Setting, cell_at, cell_home}
 use Rattle.nd_value.specs.Tree.{Tree}
 use Rattle.nd_value.proofs.DeferralLaws.{full_stands}
-use Rattle.nd_grammar.specs.Entry.{Entry}
-use Rattle.nd_grammar.specs.InPlace.{tests, whole_value}
+use Rattle.nd_grammar.specs.Entry.{Entry, tests, whole_value}
 use Rattle.nd_grammar.specs.Stream.{standing_entries, step_entries, step_tests}
 use Rattle.ndr_trace_value.specs.Untested.{untested}
 use Rattle.ndr_trace_value.proofs.Untested.{untested_append}

@@ -25,7 +25,7 @@ use Rattle.nd_grammar.specs.declared.reason.Reason.TheVariants as reason
 use Rattle.nd_grammar.specs.Entry.{Actual, Align, Chunk, Context, Entry, EntryAt, Kind, Max, Num, Number, Offset, Tag, Test, Text, Unread, end_to_end, gap, size_at}
 use Rattle.nd_grammar.specs.Items.{item_at, item_of, items}
 use Rattle.nd_grammar.specs.Refusal.{is_enumerator, is_long, is_max, is_selected, kind_agrees, kind_refusal, refusal, refused_if, same_home, tested_at, text_refusal}
-use Rattle.nd_grammar.specs.Represents.{piece}
+use Rattle.nd_grammar.specs.Stream.{piece}
 use Rattle.ndr_trace_value.specs.Untested.{is_test}
 use Rattle.ndr_trace_value.proofs.Gaps.{empty_gap}
 

@@ -21,7 +21,7 @@ use Rattle.nd_types.specs.Table.{type_at}
 use Rattle.nd_value.specs.declared.item.Home.{Home}
 use Rattle.nd_value.specs.declared.item.Home.TheVariants as home
 use Rattle.nd_value.specs.declared.value.Graph.{Graph}
-use Rattle.nd_value.specs.Agreement.{Agreement, agreement}
+use Rattle.nd_value.specs.Agreement.{Agreement, agreement, root_agreements, variable}
 use Rattle.nd_value.specs.Deferral.{Deferral, Due, Pending, Placed_cells, Standing, Step, at_null, at_referent, at_root, at_standing, before_pipes, direct, due_of, due_referent, due_root}
 use Rattle.nd_value.specs.Deferral.{home_pointers, none_due, referent_stands, root_stands, root_type, standing_by, standing_cell, standing_root}
 use Rattle.nd_value.specs.Misfit.{has_counts, has_shape}
@@ -29,13 +29,11 @@ use Rattle.nd_value.specs.Nodes.{TypedNode, child_agreements, child_types, nodes
 use Rattle.nd_value.specs.Setting.{Among, Setting, cell_at, cell_home, cell_of_number, or_unread, root_at, root_list}
 use Rattle.nd_value.specs.Tree as tree
 use Rattle.nd_value.specs.Tree.{Label, Referent, Tree, Trees, cell_in, count, drop_trees, more, node, node_count, none, take_trees}
-use Rattle.nd_value.specs.Variables.{root_agreements, variable}
 use Rattle.nd_value.proofs.Apart.{all_append, among_left, among_right}
 use Rattle.nd_value.proofs.DeferralExists.{direct_is}
 use Rattle.nd_value.proofs.NodeFacts.{IsSound}
 use Rattle.nd_value.proofs.FewRoots.{few_before_pipes}
-use Rattle.nd_grammar.specs.Entry.{Align, Chunk, Entry, EntryAt, Unread, end_to_end, size_at}
-use Rattle.nd_grammar.specs.InPlace.{entries, in_place, tests, whole_value}
+use Rattle.nd_grammar.specs.Entry.{Align, Chunk, Entry, EntryAt, Unread, end_to_end, size_at, entries, in_place, tests, whole_value}
 use Rattle.nd_grammar.specs.LegalSide.{IsLegalSide}
 use Rattle.nd_grammar.specs.Stream.{Cuts, AllCut, Stream, chunk_entries, chunks, pipe_entries, pipes_entries, root_test, root_tests, step_entries, step_tests}
 use Rattle.nd_grammar.specs.Tested.{IsReadAt}

@@ -24,8 +24,7 @@ use Rattle.nd_value.specs.Setting.{Among, Setting}
 use Rattle.nd_value.specs.Tree as tree
 use Rattle.nd_value.specs.Tree.{Label, Tree, Trees, count, is_pointer, more, node, node_count, none}
 use Rattle.nd_value.proofs.Apart.{all_left, all_right, among_left, among_right}
-use Rattle.nd_grammar.specs.Entry.{Entry, Kind, Test, Unread}
-use Rattle.nd_grammar.specs.InPlace.{before_children, child_tests, entries, hoisted, hoisted_max, in_place, own_tests, tests, whole_value}
+use Rattle.nd_grammar.specs.Entry.{Entry, Kind, Test, Unread, before_children, child_tests, entries, hoisted, hoisted_max, in_place, own_tests, tests, whole_value}
 use Rattle.nd_grammar.proofs.agreements.TestsFind.{AgsFit, AllFit, AreRead, AttrFits, HasSubjects, IsNoTest, IsReadKind, before_plain, child_fits, kinds_read, read_label}
 use Rattle.nd_grammar.proofs.next.HoistedMaxes.{HoistsLast, OnlyLast, children, last_of}
 use Rattle.nd_grammar.proofs.next.Matching.{Known as AreKnown}
@@ -37,7 +36,7 @@ use Rattle.ndr_trace.proofs.Parts.{front_path_in, none_before, skip_nodes}
 use Rattle.ndr_trace_value.specs.Attributes.{first_of, speaks, spoken}
 use Rattle.ndr_trace_value.specs.LastMembers.{front_variable as front_by_types}
 use Rattle.ndr_trace_value.specs.LastMembers.{counted_path, last_field, last_member, last_path, last_variable, onward, stated_by, stated_by_last, stated_in, struct_of}
-use Rattle.ndr_trace_value.specs.Variable.{OfMember, member_node, numbered_path}
+use Rattle.ndr_trace_value.specs.Traces.{OfMember, member_node, numbered_path}
 use Rattle.ndr_trace_value.proofs.Attributes.{OneEach, first_is}
 
 -- ## Attributes of members

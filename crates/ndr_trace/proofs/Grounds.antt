@@ -13,10 +13,10 @@ use Rattle.nd_value.specs.Setting.{Setting}
 use Rattle.nd_value.proofs.Apart.{all_left}
 use Rattle.nd_grammar.specs.declared.reason.Reason.{Reason}
 use Rattle.nd_grammar.specs.declared.reason.Reason.TheVariants as reason
-use Rattle.nd_grammar.specs.Bad.{Bad}
+use Rattle.nd_grammar.specs.Refusal.{Bad}
 use Rattle.nd_grammar.specs.Entry.{Actual, Align, Chunk, Context, Entry, EntryAt, Kind, Max, Num, Number, Offset, Tag, Test, Text, Unread, end_to_end, size_at}
 use Rattle.nd_grammar.specs.Items.{items}
-use Rattle.nd_grammar.specs.Represents.{IsRendered}
+use Rattle.nd_grammar.specs.Stream.{IsRendered}
 use Rattle.ndr_trace_value.specs.Untested.{is_test}
 use Rattle.ndr_trace_value.specs.declared.progress.Ground.{Ground}
 use Rattle.ndr_trace_value.specs.declared.search.Sought.{Sought}

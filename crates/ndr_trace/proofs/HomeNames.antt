@@ -13,8 +13,7 @@ use Rattle.nd_value.specs.Deferral.{Pending as Pointer, Placed_cells, home_point
 use Rattle.nd_value.specs.Nodes.{TypedNode, child_agreements, child_types, first_agreements, nodes_of, rest_agreements}
 use Rattle.nd_value.specs.Tree as tree
 use Rattle.nd_value.specs.Tree.{Label, Tree, Trees, cell_in, is_pointer, more, node, node_count, none}
-use Rattle.nd_grammar.specs.Entry.{Entry, Kind}
-use Rattle.nd_grammar.specs.InPlace.{before_children, counts, entries, hoisted, hoisted_max, in_place, tag_entries, whole_value}
+use Rattle.nd_grammar.specs.Entry.{Entry, Kind, before_children, counts, entries, hoisted, hoisted_max, in_place, tag_entries, whole_value}
 use Rattle.ndr_trace_value.specs.Untested.{kept_if, is_test, plain, untested}
 use Rattle.ndr_trace_value.proofs.Untested.{untested_append, untested_values}
 use Rattle.ndr_trace_value.specs.declared.cells.Pending.{Pending}

@@ -15,7 +15,7 @@ use Rattle.nd_value.specs.Misfit.{is_partial_node}
 use Rattle.nd_value.specs.Nodes.{TypedNode, child_agreements, child_types, first_agreements, nodes_of, rest_agreements}
 use Rattle.nd_value.specs.Tree as tree
 use Rattle.nd_value.specs.Tree.{Label, Tree, Trees, count, flat, more, node, node_count, none}
-use Rattle.nd_grammar.specs.InPlace.{hoisted_max, own_max}
+use Rattle.nd_grammar.specs.Entry.{hoisted_max, own_max}
 use Rattle.nd_grammar.proofs.LegalSides.{laid_out}
 use Rattle.nd_grammar.proofs.next.HoistedMaxes.{HoistsLast, OnlyLast, children, last_of}
 use Rattle.text_grammar.specs.Paths.{child_paths, home_name, home_types, home_value, node_paths}

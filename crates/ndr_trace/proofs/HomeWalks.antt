@@ -13,8 +13,7 @@ use Rattle.nd_value.specs.Deferral.{Placed_cells}
 use Rattle.nd_value.specs.Nodes.{child_types}
 use Rattle.nd_value.specs.Tree as tree
 use Rattle.nd_value.specs.Tree.{Label, Tree, Trees, more, node, node_count, none}
-use Rattle.nd_grammar.specs.Entry.{Align, Entry, Kind, Max, Unread}
-use Rattle.nd_grammar.specs.InPlace.{before_children, entries, hoisted, hoisted_max, whole_value}
+use Rattle.nd_grammar.specs.Entry.{Align, Entry, Kind, Max, Unread, before_children, entries, hoisted, hoisted_max, whole_value}
 use Rattle.text_grammar.specs.Paths.{home_name, home_value}
 use Rattle.ndr_explain.specs.Cursors.{level_place, name_text, path_to}
 use Rattle.ndr_explain.specs.Explained.{home_paths, path_in}

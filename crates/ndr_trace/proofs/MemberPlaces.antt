@@ -25,7 +25,7 @@ use Rattle.text_grammar.specs.Paths.{arm_paths, child_paths, element_paths, home
 use Rattle.ndr_explain.specs.Cursors.{Place, child_places, member_places}
 use Rattle.ndr_explain.specs.Explained.{home_paths, path_in}
 use Rattle.ndr_trace_value.specs.Places.{ArePlaced, home_place, kid_places}
-use Rattle.ndr_trace_value.specs.Variable.{member_node}
+use Rattle.ndr_trace_value.specs.Traces.{member_node}
 use Rattle.ndr_trace_value.proofs.Placed.{home_placed}
 use Rattle.ndr_trace.proofs.FrontTests.{HavePaths, home_have, inner_paths, later_paths, own_path}
 

@@ -13,10 +13,9 @@ use Rattle.nd_types.specs.declared.types.Field.{Field}
 use Rattle.nd_types.specs.declared.types.TypeDef.{TypeDef}
 use Rattle.nd_types.specs.declared.types.TypeDef.TheVariants as def
 use Rattle.nd_types.specs.Kinds.{pointee, pointee_by}
-use Rattle.nd_types.specs.Roots.{Root}
+use Rattle.nd_types.specs.Roots.{Root, named_roots}
 use Rattle.nd_lemmas.proofs.Lists.{all_at}
 use Rattle.nd_types.specs.Table.{Table, type_at}
-use Rattle.nd_types.specs.Walk.{named_roots}
 use Rattle.nd_value.specs.declared.item.Home.{Home}
 use Rattle.nd_value.specs.declared.item.Home.TheVariants as home
 use Rattle.nd_value.specs.declared.item.Item.{Item}
@@ -29,7 +28,7 @@ use Rattle.nd_value.specs.Tree.{more, none}
 use Rattle.nd_value.proofs.Apart.{all_among}
 use Rattle.nd_value.proofs.NodeFacts.{IsSound, sound_partial}
 use Rattle.nd_grammar.specs.declared.reason.Reason.{Reason}
-use Rattle.nd_grammar.specs.Bad.{Bad}
+use Rattle.nd_grammar.specs.Refusal.{Bad}
 use Rattle.nd_grammar.specs.Entry.{Test}
 use Rattle.nd_grammar.specs.Items.{items}
 use Rattle.nd_grammar.specs.LegalSide.{IsLegalSide}
@@ -52,8 +51,7 @@ use Rattle.ndr_trace_value.specs.LastMembers.{front_variable as front_by_types}
 use Rattle.ndr_trace_value.specs.LastMembers.{counted_variable, last_variable, stated_in, struct_of}
 use Rattle.ndr_trace_value.specs.Places.{home_place, member_variable}
 use Rattle.ndr_trace_value.specs.Tracing.{IsAt, KeptFrom, Known, kept_variable, kind_variable, pointer_variable, sought_variable, spot_of}
-use Rattle.ndr_trace_value.specs.Traces.{IsVariableOf}
-use Rattle.ndr_trace_value.specs.Variable.{IsAtRoot, IsOfReferent, IsOfRoot, IsStated, IsVariable, NamesAlone, OfMember, numbered_path}
+use Rattle.ndr_trace_value.specs.Traces.{IsVariableOf, IsAtRoot, IsOfReferent, IsOfRoot, IsStated, IsVariable, NamesAlone, OfMember, numbered_path}
 use Rattle.ndr_trace_value.proofs.Attributes.{OneEach, first_is}
 use Rattle.ndr_trace_value.proofs.Ending.{kept_whole, known_of}
 use Rattle.ndr_trace_value.proofs.Placed.{home_plain, variable_there}

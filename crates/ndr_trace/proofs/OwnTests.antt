@@ -14,16 +14,15 @@ use Rattle.nd_types.specs.Table.{Table, type_at}
 use Rattle.nd_value.specs.declared.item.Home.{Home}
 use Rattle.nd_value.specs.declared.item.Home.TheVariants as home
 use Rattle.nd_value.specs.declared.value.Graph.{Graph}
-use Rattle.nd_value.specs.Agreement.{Agreement, agreement, found_in, wanted_by}
+use Rattle.nd_value.specs.Agreement.{Agreement, agreement, found_in, wanted_by, root_agreements, variable}
 use Rattle.nd_value.specs.Deferral.{Step, before_pipes, referent_stands, root_stands, standing_cell, standing_root, stands_already}
 use Rattle.nd_value.specs.Nodes.{child_agreements, child_types, first_agreements, rest_agreements}
 use Rattle.nd_value.specs.Setting.{Among, Setting, cell_at, cell_home, root_list}
 use Rattle.nd_value.specs.Tree as tree
 use Rattle.nd_value.specs.Tree.{Label, Tree, Trees, drop_trees, is_pointer, more, node, node_count, none, take_trees}
-use Rattle.nd_value.specs.Variables.{root_agreements, variable}
 use Rattle.nd_value.proofs.Apart.{all_among, all_append, all_weaker}
-use Rattle.nd_grammar.specs.Entry.{Align, Chunk, Entry, EntryAt, Kind, Test, Unread, end_to_end, size_at}
-use Rattle.nd_grammar.specs.InPlace.{before_children, child_tests, entries, hoisted, hoisted_max, in_place, own_tests, tests, whole_value}
+use Rattle.nd_grammar.specs.Entry.{Align, Chunk, Entry, EntryAt, Kind, Test, Unread, end_to_end, size_at, before_children, child_tests, entries, hoisted, hoisted_max, in_place, own_tests, tests}
+use Rattle.nd_grammar.specs.Entry.{whole_value}
 use Rattle.nd_grammar.specs.Stream.{Stream, chunk_entries, chunks, pipe_entries, pipes_entries, root_test, root_tests, standing_entries, step_entries, step_tests}
 use Rattle.nd_grammar.proofs.Placed.{among_split}
 use Rattle.nd_grammar.proofs.agreements.TestsFind.{IsNoTest, before_plain}

@@ -15,16 +15,14 @@ use Rattle.nd_value.specs.declared.item.Home.{Home}
 use Rattle.nd_value.specs.declared.item.Home.TheVariants as home
 use Rattle.nd_value.specs.declared.value.CellId.{CellId}
 use Rattle.nd_value.specs.declared.value.Graph.{Graph}
-use Rattle.nd_value.specs.Agreement.{Agreement}
-use Rattle.nd_value.specs.Conforms.{IsPartial}
+use Rattle.nd_value.specs.Agreement.{Agreement, root_agreements}
+use Rattle.nd_value.specs.Conforms.{IsPartial, HomeNode, all_pointers, cell_nodes, in_home, root_nodes}
 use Rattle.nd_value.specs.Deferral.{Pending as Pointer, direct}
-use Rattle.nd_value.specs.Homes.{HomeNode, all_pointers, cell_nodes, in_home, root_nodes}
 use Rattle.nd_value.specs.Misfit.{has_shape, is_no_null_ref, is_partial_node, names_cell, names_pointee}
 use Rattle.nd_value.specs.Nodes.{TypedNode, child_agreements, child_types, first_agreements, governed_nodes, home_nodes, nodes_of, rest_agreements}
 use Rattle.nd_value.specs.Setting.{Among, Setting, cell_at, cell_home, cell_of_number, cell_tree, or_unread, root_at, root_list, unread}
 use Rattle.nd_value.specs.Tree as tree
 use Rattle.nd_value.specs.Tree.{Label, Referent, Tree, Trees, more, node, node_count, none}
-use Rattle.nd_value.specs.Variables.{root_agreements}
 use Rattle.nd_value.proofs.NodeFacts.{IsReadOrNot, read_node, sound_partial, unread_no_null}
 use Rattle.nd_value.proofs.DeferralExists.{direct_is}
 use Rattle.nd_value.proofs.Orderly.{pointee_of_cell}

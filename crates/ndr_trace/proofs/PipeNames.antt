@@ -15,8 +15,7 @@ use Rattle.nd_value.specs.Deferral.{before_pipes}
 use Rattle.nd_value.specs.Setting.{root_list}
 use Rattle.nd_value.specs.Tree as tree
 use Rattle.nd_value.specs.Tree.{Tree, Trees, drop_trees, node, node_count, take_trees}
-use Rattle.nd_grammar.specs.Entry.{Align, Chunk, Entry}
-use Rattle.nd_grammar.specs.InPlace.{entries, in_place}
+use Rattle.nd_grammar.specs.Entry.{Align, Chunk, Entry, entries, in_place}
 use Rattle.nd_grammar.specs.Stream.{chunk_entries, chunks, pipe_entries, pipes_entries}
 use Rattle.nd_grammar.proofs.LegalSides.{laid_out}
 use Rattle.nd_grammar.proofs.next.Mapped.{no_pointers}

@@ -18,7 +18,7 @@ use Rattle.nd_value.specs.declared.item.Home.TheVariants as home
 use Rattle.nd_value.specs.declared.value.Graph.{Graph}
 use Rattle.nd_value.specs.Agreement.{Agreement, member_agreements}
 use Rattle.nd_value.specs.Deferral.{Pending as Pointer, home_pointers, pointer, pointer_by}
-use Rattle.nd_value.specs.Homes.{all_pointers, cell_pointers, root_pointers}
+use Rattle.nd_value.specs.Conforms.{all_pointers, cell_pointers, root_pointers}
 use Rattle.nd_value.specs.Nodes.{TypedNode, child_agreements, child_types, first_agreements, home_nodes, nodes_of, rest_agreements}
 use Rattle.nd_value.specs.Setting.{Among, Setting, cell_home, cell_of_number, cell_tree, or_unread, root_list}
 use Rattle.nd_value.specs.Tree as tree
@@ -26,7 +26,7 @@ use Rattle.nd_value.specs.Tree.{Label, Referent, Tree, Trees, count, more, node,
 use Rattle.nd_value.proofs.Apart.{among_left, among_right}
 use Rattle.nd_grammar.proofs.Placed.{among_split}
 use Rattle.text_grammar.specs.Paths.{cell_types, home_types, home_value, root_types}
-use Rattle.ndr_trace_value.specs.Variable.{member_node}
+use Rattle.ndr_trace_value.specs.Traces.{member_node}
 use Rattle.ndr_trace.proofs.FrontTests.{OfStruct, SaysOf, says_of}
 use Rattle.ndr_trace.proofs.RootAttributes.{mapped_there}
 

@@ -15,21 +15,19 @@ use Rattle.nd_types.specs.Table.{Table, type_at}
 use Rattle.nd_value.specs.declared.item.Home.{Home}
 use Rattle.nd_value.specs.declared.item.Home.TheVariants as home
 use Rattle.nd_value.specs.declared.value.Graph.{Graph}
-use Rattle.nd_value.specs.Agreement.{Agreement, found_in}
+use Rattle.nd_value.specs.Agreement.{Agreement, found_in, root_agreements}
 use Rattle.nd_value.specs.Deferral.{Deferral, Due, Pending as Pointer, Placed_cells, Standing, Step, at_null, at_referent, at_root, at_standing, before_pipes, due_of, due_referent, due_root}
 use Rattle.nd_value.specs.Deferral.{due_roots, home_pointers, none_due, pointer, pointer_by, referent_stands, root_stands, standing_cell, standing_root}
-use Rattle.nd_value.specs.Homes.{all_pointers, cell_pointers, root_pointers}
+use Rattle.nd_value.specs.Conforms.{all_pointers, cell_pointers, root_pointers}
 use Rattle.nd_value.specs.Misfit.{has_counts, has_shape}
 use Rattle.nd_value.specs.Nodes.{TypedNode, child_agreements, child_types, first_agreements, nodes_of, rest_agreements}
 use Rattle.nd_value.specs.Setting.{Among, Setting, cell_at, cell_home, cell_of_number, or_unread, root_at, root_list}
 use Rattle.nd_value.specs.Tree as tree
 use Rattle.nd_value.specs.Tree.{Label, Referent, Tree, Trees, cell_in, is_pointer, more, node, node_count, none}
-use Rattle.nd_value.specs.Variables.{root_agreements}
 use Rattle.nd_value.proofs.Apart.{all_among, all_append}
 use Rattle.nd_value.proofs.NodeFacts.{IsSound}
 use Rattle.nd_value.proofs.FewRoots.{few_before_pipes}
-use Rattle.nd_grammar.specs.Entry.{Entry, Kind, Test}
-use Rattle.nd_grammar.specs.InPlace.{tests, whole_value}
+use Rattle.nd_grammar.specs.Entry.{Entry, Kind, Test, tests, whole_value}
 use Rattle.nd_grammar.specs.Stream.{Stream, pipes_entries, root_test, root_tests, standing_entries, step_entries, step_tests}
 use Rattle.nd_grammar.proofs.Placed.{among_split}
 use Rattle.nd_grammar.proofs.next.KnownNodes.{known_roots}
@@ -38,7 +36,7 @@ use Rattle.nd_grammar.proofs.next.PointerPlaces.{in_cell, in_standing, root_ther
 use Rattle.nd_grammar.proofs.next.StreamPointers.{is_good}
 use Rattle.nd_grammar.proofs.conforming.StreamConforms.{due_all}
 use Rattle.ndr_trace_value.specs.Untested.{is_test}
-use Rattle.ndr_trace_value.specs.Variable.{IsAtRoot, NamesAlone}
+use Rattle.ndr_trace_value.specs.Traces.{IsAtRoot, NamesAlone}
 use Rattle.ndr_trace.proofs.FrontStreams.{as_pointer}
 use Rattle.ndr_trace.proofs.OwnTests.{Later, OneOf, Says, pipes_later, roots_tell, same_attr, same_wanted, tests_say, tests_tell, whole_later}
 use Rattle.ndr_trace.proofs.PointerMembers.{IsPointerMember, pointer_member}

@@ -14,7 +14,7 @@ use Rattle.nd_value.specs.declared.item.Home.TheVariants as home
 use Rattle.nd_value.specs.declared.value.CellId.{CellId}
 use Rattle.nd_value.specs.Deferral.{Deferral, Due, IsPlaced, Pending as Pointer, Placed_cells, Step, due_of, due_referent, home_pointers, referent_stands}
 use Rattle.nd_value.specs.Deferral.{standing_cell, stands_already}
-use Rattle.nd_value.specs.Homes.{all_pointers}
+use Rattle.nd_value.specs.Conforms.{all_pointers}
 use Rattle.nd_value.specs.Setting.{Among}
 use Rattle.nd_value.proofs.Apart.{all_append}
 use Rattle.nd_value.proofs.DeferralLaws.{full_stands}

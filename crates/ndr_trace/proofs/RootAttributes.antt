@@ -19,9 +19,8 @@ use Rattle.nd_types.specs.declared.TheConstants.{HANDLE}
 use Rattle.nd_types.specs.Fields.{FieldAt, all_fields, are_ordered, fields_at, has_attr, members_of}
 use Rattle.nd_types.specs.Kinds.{pointee, pointee_by}
 use Rattle.nd_types.specs.Legal.{IsLegal}
-use Rattle.nd_types.specs.Roots.{Root, params_from, pipe_of, result_root, root_by, root_of, roots_of, travels}
+use Rattle.nd_types.specs.Roots.{Root, params_from, pipe_of, result_root, root_by, root_of, roots_of, travels, named_root, named_roots}
 use Rattle.nd_types.specs.Table.{Table, type_at}
-use Rattle.nd_types.specs.Walk.{named_root, named_roots}
 use Rattle.nd_types.proofs.LegalLaws.{passes_at}
 use Rattle.nd_value.specs.declared.item.Home.TheVariants as home
 use Rattle.nd_value.specs.declared.item.ItemKind.{ItemKind}

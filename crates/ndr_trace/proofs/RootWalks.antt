@@ -20,14 +20,13 @@ use Rattle.nd_value.specs.declared.item.Home.TheVariants as home
 use Rattle.nd_value.specs.declared.value.CellId.{CellId}
 use Rattle.nd_value.specs.Deferral.{AreFree, Deferral, Due, IsPlaced, Pending as Pointer, Placed_cells, Standing, Step, direct, due_of, due_root, home_pointers, root_cell, root_stands, root_type}
 use Rattle.nd_value.specs.Deferral.{standing_by, standing_root}
-use Rattle.nd_value.specs.Homes.{all_pointers}
+use Rattle.nd_value.specs.Conforms.{all_pointers}
 use Rattle.nd_value.specs.Misfit.{is_partial_node}
 use Rattle.nd_value.specs.Setting.{Among, cell_at, cell_home, root_at, root_list}
 use Rattle.nd_value.specs.Tree as tree
 use Rattle.nd_value.specs.Tree.{Label, Tree, Trees, more, node, none}
 use Rattle.nd_value.proofs.NodeFacts.{sound_partial}
-use Rattle.nd_grammar.specs.Entry.{Entry}
-use Rattle.nd_grammar.specs.InPlace.{whole_value}
+use Rattle.nd_grammar.specs.Entry.{Entry, whole_value}
 use Rattle.nd_grammar.specs.Stream.{standing_entries, step_entries}
 use Rattle.nd_grammar.proofs.next.PointerPlaces.{in_standing}
 use Rattle.text_grammar.specs.Paths.{home_value}

@@ -6,8 +6,7 @@ use Rattle.std.specs.List.{slice_get}
 use Rattle.std.proofs.lemmas.List.{length-map}
 use Rattle.std.proofs.lemmas.Option.{same_Some}
 use Rattle.nd_types.specs.declared.walk.RootDef.{RootDef}
-use Rattle.nd_types.specs.Roots.{Root, roots_of}
-use Rattle.nd_types.specs.Walk.{NamedRoot, named_root, named_roots, root_value}
+use Rattle.nd_types.specs.Roots.{Root, roots_of, NamedRoot, named_root, named_roots, root_value}
 use Rattle.nd_value.specs.declared.item.Home.TheVariants as home
 use Rattle.nd_value.specs.Setting.{Setting, root_list}
 use Rattle.text_grammar.specs.Written.{root_name}

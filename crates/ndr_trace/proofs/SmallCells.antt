@@ -16,20 +16,18 @@ use Rattle.nd_types.specs.Table.{Table, type_at}
 use Rattle.nd_value.specs.declared.item.Home.{Home}
 use Rattle.nd_value.specs.declared.item.Home.TheVariants as home
 use Rattle.nd_value.specs.declared.value.Graph.{Graph}
-use Rattle.nd_value.specs.Agreement.{Agreement}
+use Rattle.nd_value.specs.Agreement.{Agreement, root_agreements}
 use Rattle.nd_value.specs.Deferral.{Deferral, Due, Pending as Pointer, Placed_cells, Standing, Step, at_null, at_referent, at_root, at_standing, direct, due_of, due_referent, due_root, home_pointers}
 use Rattle.nd_value.specs.Deferral.{none_due, pointer, pointer_by, referent_stands, root_stands, root_type, standing_by, standing_cell, standing_root, stands_already}
-use Rattle.nd_value.specs.Homes.{all_nodes, all_pointers, cell_nodes, cell_pointers, in_home, root_nodes, root_pointers}
+use Rattle.nd_value.specs.Conforms.{all_nodes, all_pointers, cell_nodes, cell_pointers, in_home, root_nodes, root_pointers}
 use Rattle.nd_value.specs.Misfit.{has_machine_values}
 use Rattle.nd_value.specs.Nodes.{TypedNode, child_agreements, child_types, first_agreements, nodes_of, rest_agreements}
 use Rattle.nd_value.specs.Setting.{Among, Setting, cell_at, cell_home, cell_of_number, root_at, root_list}
 use Rattle.nd_value.specs.Tree as tree
 use Rattle.nd_value.specs.Tree.{Label, Referent, Tree, Trees, cell_in, is_pointer, more, node, node_count, none}
-use Rattle.nd_value.specs.Variables.{root_agreements}
 use Rattle.nd_value.proofs.Apart.{all_append, all_among, all_left, all_map, all_right, among_left, among_right}
 use Rattle.nd_value.proofs.NodeFacts.{IsSound}
-use Rattle.nd_grammar.specs.Entry.{Entry, Kind, Number, full_cell, full_cells}
-use Rattle.nd_grammar.specs.InPlace.{whole_value}
+use Rattle.nd_grammar.specs.Entry.{Entry, Kind, Number, full_cell, full_cells, whole_value}
 use Rattle.nd_grammar.specs.Stream.{step_entries, step_tests}
 use Rattle.nd_grammar.proofs.next.PointerPlaces.{in_cell, in_standing}
 use Rattle.nd_grammar.proofs.Placed.{among_split}

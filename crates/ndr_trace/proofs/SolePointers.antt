@@ -12,9 +12,8 @@ use Rattle.nd_value.specs.declared.item.Home.{Home}
 use Rattle.nd_value.specs.declared.item.Home.TheVariants as home
 use Rattle.nd_value.specs.declared.item.ItemKind.{ItemKind}
 use Rattle.nd_value.specs.declared.value.Graph.{Graph}
-use Rattle.nd_value.specs.Conforms.{AllEarlier, ShareOnlyIfFull}
+use Rattle.nd_value.specs.Conforms.{AllEarlier, ShareOnlyIfFull, all_pointers}
 use Rattle.nd_value.specs.Deferral.{Pending as Pointer, home_pointers, pointer_by}
-use Rattle.nd_value.specs.Homes.{all_pointers}
 use Rattle.nd_value.specs.Setting.{Among, Setting, cell_home, root_at, root_list}
 use Rattle.nd_value.specs.Tree as tree
 use Rattle.nd_value.specs.Tree.{Tree, Trees, node}
@@ -23,7 +22,7 @@ use Rattle.nd_grammar.proofs.next.PointerPlaces.{among_two, in_root}
 use Rattle.ndr_explain.specs.Explained.{home_paths, path_in}
 use Rattle.ndr_trace_value.specs.Naming.{only_spot}
 use Rattle.ndr_trace_value.specs.Tracing.{IsFrom, Known, kind_in, kind_variable, spot_of}
-use Rattle.ndr_trace_value.specs.Variable.{NamesAlone}
+use Rattle.ndr_trace_value.specs.Traces.{NamesAlone}
 use Rattle.ndr_trace_value.proofs.Placed.{home_plain}
 use Rattle.ndr_trace.specs.Homes.{IsPart}
 

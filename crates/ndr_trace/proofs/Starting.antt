@@ -12,20 +12,18 @@ use Rattle.nd_types.specs.Roots.{Root}
 use Rattle.nd_types.specs.Table.{type_at}
 use Rattle.nd_value.specs.declared.item.Home.TheVariants as home
 use Rattle.nd_value.specs.declared.value.Graph.{Graph}
-use Rattle.nd_value.specs.Agreement.{Agreement}
+use Rattle.nd_value.specs.Agreement.{Agreement, root_agreements}
 use Rattle.nd_value.specs.Canon.{named_cells}
 use Rattle.nd_value.specs.Deferral.{Deferral, Placed_cells, before_pipes, due_roots}
-use Rattle.nd_value.specs.Homes.{all_pointers}
+use Rattle.nd_value.specs.Conforms.{all_pointers}
 use Rattle.nd_value.specs.Setting.{Among, cell_at, cell_home, cell_of_number, root_list}
 use Rattle.nd_value.specs.Tree as tree
 use Rattle.nd_value.specs.Tree.{Referent, Tree, node}
-use Rattle.nd_value.specs.Variables.{root_agreements}
 use Rattle.nd_value.proofs.Apart.{among_left}
 use Rattle.nd_value.proofs.NodeFacts.{IsSound, sound_partial}
 use Rattle.nd_value.proofs.FewRoots.{few_before_pipes}
 use Rattle.nd_grammar.specs.Entry.{Entry, full_cell, full_cells}
-use Rattle.nd_grammar.specs.Represents.{IsNumbering}
-use Rattle.nd_grammar.specs.Stream.{Stream, pipes_entries, root_test, root_tests, step_entries}
+use Rattle.nd_grammar.specs.Stream.{IsNumbering, Stream, pipes_entries, root_test, root_tests, step_entries}
 use Rattle.nd_grammar.proofs.NamedOrder.{named_in_order}
 use Rattle.nd_grammar.proofs.next.StreamPointers.{is_good}
 use Rattle.ndr_decoder_laws.specs.verdict.InOrder.{HasOwnNumbers}

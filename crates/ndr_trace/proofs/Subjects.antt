@@ -17,12 +17,11 @@ use Rattle.nd_value.specs.Setting.{Among, Setting}
 use Rattle.nd_value.specs.Tree.{more, none}
 use Rattle.nd_value.proofs.NodeFacts.{sound_partial}
 use Rattle.nd_grammar.specs.declared.reason.Reason.{Reason}
-use Rattle.nd_grammar.specs.Bad.{Bad}
+use Rattle.nd_grammar.specs.Refusal.{Bad, tested_at}
 use Rattle.nd_grammar.specs.Entry.{Actual, EntryAt, Kind, Max, Offset, Tag, Test, Unread, size_at}
 use Rattle.nd_grammar.specs.Items.{item_at, item_node, item_of, items}
 use Rattle.nd_grammar.specs.LegalSide.{IsLegalSide}
-use Rattle.nd_grammar.specs.Refusal.{tested_at}
-use Rattle.nd_grammar.specs.Represents.{IsRendered, piece}
+use Rattle.nd_grammar.specs.Stream.{IsRendered, piece}
 use Rattle.nd_grammar.specs.Tested.{HoldsFound, IsReadAt, IsSpokenOf, node_of}
 use Rattle.nd_grammar.proofs.agreements.TestedAt.{test_finds}
 use Rattle.nd_grammar.proofs.next.Spelt.{not_spelt}
@@ -32,8 +31,7 @@ use Rattle.ndr_explain.proofs.Walks.{path_here}
 use Rattle.ndr_trace_value.specs.Untested.{is_test}
 use Rattle.ndr_trace_value.specs.Attributes.{spoken as kind_of}
 use Rattle.ndr_trace_value.specs.LastMembers.{counted_path}
-use Rattle.ndr_trace_value.specs.Variable.{OfMember}
-use Rattle.ndr_trace_value.specs.Traces.{entry_path}
+use Rattle.ndr_trace_value.specs.Traces.{OfMember, entry_path}
 use Rattle.ndr_trace_value.specs.Tracing.{sought_path}
 use Rattle.ndr_trace_value.proofs.Ending.{known_of}
 use Rattle.ndr_trace.proofs.Faults.{agreement_fault, one_item}

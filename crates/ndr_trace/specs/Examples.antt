@@ -17,9 +17,8 @@ use Rattle.nd_value.specs.Setting.{Setting, cell_home}
 use Rattle.nd_value.specs.Tree as tree
 use Rattle.nd_value.specs.Tree.{Tree, Trees, node, none}
 use Rattle.nd_grammar.specs.declared.reason.Reason.{Reason}
-use Rattle.nd_grammar.specs.Entry.{Entry, EntryAt, Test, end_to_end}
+use Rattle.nd_grammar.specs.Entry.{Entry, EntryAt, Test, end_to_end, whole_value}
 use Rattle.nd_grammar.specs.ExampleParts.{attribute, cell, four, id, null, num, one, pointer_to, request, struct_of, three, two}
-use Rattle.nd_grammar.specs.InPlace.{whole_value}
 use Rattle.nd_grammar.specs.Items.{items}
 use Rattle.nd_grammar.specs.Refusal.{refusal}
 use Rattle.nd_grammar.specs.Stream.{pipe_entries}

@@ -10,20 +10,17 @@ use Rattle.nd_types.specs.declared.types.TypeId.{TypeId}
 use Rattle.nd_types.specs.Layout.{hoists}
 use Rattle.nd_types.specs.Roots.{Root}
 use Rattle.nd_types.specs.declared.walk.RootDef.{RootDef}
-use Rattle.nd_value.specs.Conforms.{IsPartial}
-use Rattle.nd_value.specs.Homes.{all_pointers}
+use Rattle.nd_value.specs.Conforms.{IsPartial, all_pointers}
 use Rattle.nd_value.specs.declared.item.Home.{Home}
 use Rattle.nd_value.specs.declared.item.Home.TheVariants as home
 use Rattle.nd_value.specs.Deferral.{Deferral, Due, Pending as Pointer, Placed_cells, Standing, Step, due_referent, home_pointers, referent_stands}
-use Rattle.nd_value.specs.Deferral.{root_stands, standing_cell}
-use Rattle.nd_value.specs.Deferral.{standing_root, stands_already}
+use Rattle.nd_value.specs.Deferral.{root_stands, standing_cell, standing_root, stands_already}
 use Rattle.nd_value.specs.Misfit.{is_partial_node}
 use Rattle.nd_value.specs.Nodes.{home_nodes}
 use Rattle.nd_value.specs.Setting.{Among, Setting, root_list}
 use Rattle.nd_value.specs.Tree.{more, none}
 use Rattle.nd_value.specs.declared.value.Graph.{Graph}
-use Rattle.nd_grammar.specs.Entry.{Entry}
-use Rattle.nd_grammar.specs.InPlace.{hoisted_max, whole_value}
+use Rattle.nd_grammar.specs.Entry.{Entry, hoisted_max, whole_value}
 use Rattle.nd_grammar.specs.LegalSide.{IsLegalSide}
 use Rattle.nd_grammar.specs.Stream.{step_entries}
 use Rattle.text_grammar.specs.Paths.{home_name, home_types, home_value}

@@ -6,7 +6,7 @@ ghost use Rattle.nd_types.specs.Number.{AreOctets};
 ghost use Rattle.nd_value.specs.Fitting.{setting_beside};
 ghost use Rattle.nd_value.specs.Request.{IsRequestOf};
 ghost use Rattle.nd_value.specs.Setting.{Setting};
-ghost use Rattle.nd_grammar.specs.Bad.{Bad};
+ghost use Rattle.nd_grammar.specs.Refusal.{Bad};
 ghost use Rattle.nd_grammar.specs.Items.{items as items_of};
 ghost use Rattle.nd_grammar.specs.LegalSide.{IsLegalSide};
 ghost use Rattle.ndr_decoder_laws.specs.verdict.InOrder.{HasOwnNumbers};

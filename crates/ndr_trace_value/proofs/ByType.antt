@@ -22,8 +22,7 @@ use Rattle.nd_value.specs.Nodes.{child_types, selected_types}
 use Rattle.nd_value.specs.Tree as tree
 use Rattle.nd_value.specs.Tree.{Flat, Label, Trees, count}
 use Rattle.nd_value.proofs.NodeFacts.{IsRead}
-use Rattle.nd_grammar.specs.Entry.{Actual, Align, Context, Entry, Num, Number, Offset, Tag, Text}
-use Rattle.nd_grammar.specs.InPlace.{counts, entries, own_max}
+use Rattle.nd_grammar.specs.Entry.{Actual, Align, Context, Entry, Num, Number, Offset, Tag, Text, counts, entries, own_max}
 use Rattle.ndr_explain.specs.Explained.{home_flats, label_in}
 use Rattle.ndr_trace_value.specs.Untested.{untested}
 use Rattle.ndr_trace_value.specs.declared.cells.Cells.{Cells}

@@ -9,11 +9,10 @@ use Rattle.nd_value.specs.declared.item.Item.{Item}
 use Rattle.nd_value.specs.Setting.{Setting}
 use Rattle.nd_grammar.specs.declared.reason.Reason.{Reason}
 use Rattle.nd_grammar.specs.declared.reason.Reason.TheVariants as reason
-use Rattle.nd_grammar.specs.Bad.{Bad}
+use Rattle.nd_grammar.specs.Refusal.{Bad, refusal, refused_if}
 use Rattle.nd_grammar.specs.Entry.{Actual, Align, Chunk, Context, Entry, EntryAt, Kind, Max, Num, Number, Offset, Tag, Test, Text, Unread, end_to_end, gap, size_at}
 use Rattle.nd_grammar.specs.Items.{item_at, item_of, items}
-use Rattle.nd_grammar.specs.Refusal.{refusal, refused_if}
-use Rattle.nd_grammar.specs.Represents.{IsRendered, Spells, piece}
+use Rattle.nd_grammar.specs.Stream.{IsRendered, Spells, piece}
 use Rattle.ndr_trace_value.specs.Due.{CanStop, EndsBefore, NextDue, Stops}
 use Rattle.ndr_trace_value.specs.Untested.{is_test, kept_if, untested, untested_at}
 use Rattle.ndr_trace_value.proofs.Untested.{untested_all, untested_at_append, untested_ends, untested_items}

@@ -17,14 +17,14 @@ use Rattle.nd_value.specs.Tree as tree
 use Rattle.nd_value.specs.Tree.{Label}
 use Rattle.nd_grammar.specs.Entry.{Actual, Align, Chunk, Context, Entry, EntryAt, Kind, Max, Num, Number, Offset, Tag, Test, Text, Unread, end_to_end, gap, size_at}
 use Rattle.nd_grammar.specs.Items.{item_node, item_of}
-use Rattle.nd_grammar.specs.Represents.{IsNumber, IsRendered, Spells, id_octets, piece}
+use Rattle.nd_grammar.specs.Stream.{IsNumber, IsRendered, Spells, id_octets, piece}
 use Rattle.nd_grammar.proofs.next.Spelt.{piece_left}
 use Rattle.nd_grammar.proofs.reader.Ranges.{below_4}
 use Rattle.ndr_prim.specs.Context.{attributes_of, identifier, identifier_of, identifier_octets}
 use Rattle.ndr_prim.proofs.Contexts.{context_after_write}
 use Rattle.nd_lemmas.proofs.Lists.{four_parts, take_front}
 use Rattle.text_grammar.specs.Paths.{home_types}
-use Rattle.text_grammar.specs.Printed.{quoted_text}
+use Rattle.text_grammar.specs.Written.{quoted_text}
 use Rattle.text_printer.specs.Texts.{context_text}
 use Rattle.ndr_explain.specs.Cursors.{IsNoGap, level_place, name_text, path_to}
 use Rattle.ndr_explain.specs.Explained.{context_shown, explanation, home_flats, home_paths, item_head, item_line, item_rest, label_in, node_shown, path_in, string_shown, value_shown}

@@ -9,7 +9,7 @@ use Rattle.nd_value.specs.declared.item.ItemKind.TheVariants as item
 use Rattle.text_grammar.specs.Paths.{member_path}
 use Rattle.ndr_trace_value.specs.Attributes.{first_of}
 use Rattle.ndr_trace_value.specs.LastMembers.{last_field, stated_by, stated_by_last, stated_in, struct_of, variable_within}
-use Rattle.ndr_trace_value.specs.Variable.{numbered_path}
+use Rattle.ndr_trace_value.specs.Traces.{numbered_path}
 
 module _ (table : Table) where
   at_struct : (n m t : ℕ) (ms : List Field) (p : List ℕ) → n ≡ suc m → struct_of (type_at table t) ≡ Some ms

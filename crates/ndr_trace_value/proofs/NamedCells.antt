@@ -23,7 +23,7 @@ use Rattle.nd_value.specs.Tree.{Referent}
 use Rattle.nd_value.proofs.Apart.{all_among, all_weaker}
 use Rattle.nd_value.proofs.Orderly.{pointee_of_cell}
 use Rattle.nd_grammar.specs.Entry.{Entry, Kind, Number}
-use Rattle.nd_grammar.specs.Represents.{IsNumber, IsNumbering}
+use Rattle.nd_grammar.specs.Stream.{IsNumber, IsNumbering}
 use Rattle.ndr_refs.specs.declared.referents.Known.{Known as KnownNumber}
 use Rattle.ndr_refs.specs.declared.referents.RefFault.{RefFault}
 use Rattle.ndr_refs.specs.declared.referents.RefFault.TheVariants as fault

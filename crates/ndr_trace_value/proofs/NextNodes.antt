@@ -5,7 +5,7 @@ use Rattle.nd_types.specs.Table.{Table, type_at}
 use Rattle.nd_value.specs.declared.item.Home.{Home}
 use Rattle.nd_value.specs.Nodes.{child_types}
 use Rattle.nd_value.specs.Tree.{Label, Trees, count, joined, more, node, node_count, none}
-use Rattle.nd_grammar.specs.InPlace.{before_children, entries}
+use Rattle.nd_grammar.specs.Entry.{before_children, entries}
 use Rattle.ndr_trace_value.specs.Untested.{plain, untested}
 
 -- the entries of some values, and then of others

@@ -30,9 +30,8 @@ use Rattle.nd_value.specs.Setting.{cell_of_number}
 use Rattle.nd_value.specs.Tree as tree
 use Rattle.nd_value.specs.Tree.{Flat, Label, Referent, Trees, count}
 use Rattle.nd_value.proofs.NodeFacts.{IsRead, IsReadOrNot, read_node}
-use Rattle.nd_grammar.specs.Entry.{Actual, Align, Context, Entry, EntryAt, Kind, Num, Number, Offset, Tag, Text, Unread, end_to_end, size_at}
-use Rattle.nd_grammar.specs.InPlace.{before_children, counts, entries, tag_entries}
-use Rattle.nd_grammar.specs.Represents.{Spells, piece}
+use Rattle.nd_grammar.specs.Entry.{Actual, Align, Context, Entry, EntryAt, Kind, Num, Number, Offset, Tag, Text, Unread, end_to_end, size_at, before_children, counts, entries, tag_entries}
+use Rattle.nd_grammar.specs.Stream.{Spells, piece}
 use Rattle.ndr_trace_value.specs.Due.{NextDue, Stops}
 use Rattle.ndr_trace_value.specs.Untested.{is_test, untested}
 use Rattle.ndr_trace_value.proofs.Due.{never_unread, next_due}

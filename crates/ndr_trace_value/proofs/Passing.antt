@@ -11,7 +11,7 @@ use Rattle.nd_lemmas.proofs.Lists.{drop_next, drop_past, take_next}
 use Rattle.nd_value.specs.declared.item.Item.{Item}
 use Rattle.nd_value.specs.declared.item.ItemKind.{ItemKind}
 use Rattle.nd_grammar.specs.Entry.{Align, Entry, EntryAt, Kind, end_to_end, gap, size_at}
-use Rattle.nd_grammar.specs.Represents.{IsRendered}
+use Rattle.nd_grammar.specs.Stream.{IsRendered}
 use Rattle.ndr_explain.specs.Explained.{explanation, item_line}
 use Rattle.ndr_trace_value.specs.Due.{CanStop, Stops, Took, its_item}
 use Rattle.ndr_trace_value.specs.Untested.{is_test}

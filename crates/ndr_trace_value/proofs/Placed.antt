@@ -24,7 +24,7 @@ use Rattle.ndr_explain.proofs.LevelPlaces.{child_length}
 use Rattle.ndr_trace_value.specs.Places.{ArePlaced, field_variable, home_place, kid_places, member_variable, outer_path, place_at, place_variable, without_step}
 use Rattle.ndr_trace_value.specs.Attributes.{first_of}
 use Rattle.ndr_trace_value.specs.Places.{stated_beside}
-use Rattle.ndr_trace_value.specs.Variable.{field_name, numbered_path}
+use Rattle.ndr_trace_value.specs.Traces.{field_name, numbered_path}
 
 -- ## Values one after the other
 

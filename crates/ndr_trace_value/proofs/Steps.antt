@@ -5,7 +5,7 @@ use Rattle.nd_value.specs.declared.item.Item.{Item}
 use Rattle.nd_value.specs.declared.item.ItemKind.{ItemKind}
 use Rattle.nd_grammar.specs.Entry.{EntryAt, size_at}
 use Rattle.nd_grammar.specs.Items.{item_at, item_node}
-use Rattle.nd_grammar.specs.Represents.{IsRendered}
+use Rattle.nd_grammar.specs.Stream.{IsRendered}
 use Rattle.ndr_trace_value.specs.Due.{CanStop, NextDue, Stops, Took, its_item}
 use Rattle.ndr_trace_value.specs.Untested.{is_test}
 use Rattle.ndr_trace_value.proofs.Due.{next_due}

@@ -8,10 +8,10 @@ use Rattle.nd_value.specs.declared.item.Home.{Home}
 use Rattle.nd_value.specs.Agreement.{Agreement}
 use Rattle.nd_value.specs.Nodes.{child_agreements, child_types, first_agreements, rest_agreements}
 use Rattle.nd_value.specs.Tree.{Tree, Trees, is_pointer, more, node, node_count, none}
-use Rattle.nd_grammar.specs.Entry.{Actual, Align, Chunk, Context, Entry, EntryAt, Kind, Max, Num, Number, Offset, Tag, Test, Text, Unread, end_to_end, size_at}
-use Rattle.nd_grammar.specs.InPlace.{before_children, child_tests, entries, in_place, own_tests, tests}
+use Rattle.nd_grammar.specs.Entry.{Actual, Align, Chunk, Context, Entry, EntryAt, Kind, Max, Num, Number, Offset, Tag, Test, Text, Unread, end_to_end, size_at, before_children, child_tests, entries}
+use Rattle.nd_grammar.specs.Entry.{in_place, own_tests, tests}
 use Rattle.nd_grammar.specs.Items.{item_at, item_of, items}
-use Rattle.nd_grammar.specs.Represents.{piece}
+use Rattle.nd_grammar.specs.Stream.{piece}
 use Rattle.ndr_trace_value.specs.Untested.{is_test, kept_if, plain, untested, untested_at}
 
 kept_append : {X : Type 0} (b : Bool) (x : X) (xs ys : List X) → kept_if b x (xs ++ ys) ≡ kept_if b x xs ++ ys

@@ -7,7 +7,7 @@ use Rattle.nd_value.specs.declared.item.Item.{Item}
 use Rattle.nd_value.specs.declared.item.ItemKind.{ItemKind}
 use Rattle.nd_grammar.specs.Entry.{Align, EntryAt, Kind, Unread, gap, size_at}
 use Rattle.nd_grammar.specs.Items.{item_at, item_node, item_of, items}
-use Rattle.nd_grammar.specs.Represents.{IsRendered, piece}
+use Rattle.nd_grammar.specs.Stream.{IsRendered, piece}
 use Rattle.ndr_trace_value.specs.Untested.{is_test}
 
 -- the kind and value of the item that an entry is, if it is one

@@ -15,7 +15,7 @@ use Rattle.ndr_explain.specs.declared.levels.Level.TheVariants as level
 use Rattle.ndr_explain.specs.Cursors.{Place, level_place}
 use Rattle.ndr_trace_value.specs.Attributes.{first_of}
 use Rattle.ndr_trace_value.specs.Places.{member_variable, place_variable}
-use Rattle.ndr_trace_value.specs.Variable.{numbered_path}
+use Rattle.ndr_trace_value.specs.Traces.{numbered_path}
 
 -- the last of members
 abbrev pub last_field : List Field → Option Field

@@ -4,7 +4,6 @@ pub mod Tracing
 pub mod Naming
 pub mod Walking
 pub mod Attributes
-pub mod Variable
 pub mod Places
 pub mod Untested
 pub mod Due

@@ -2,7 +2,7 @@
 -- `k` are the octets with the partial graph in which they are refused, `u` the cells that are named so far, `n` is how many these are, `full` are
 -- those of them that full pointers named, `names` are the cells that are named after these, each with the class of its pointer; `c` is a cell, `x` a
 -- cell or none, `h` a home, `n` a node's number, `v` the number of a full pointer, `r` what is known of it, `t` a type's number.
-use Rattle.std.specs.Prelude.{◌≡◌, ◌⊎◌, ◌<◌, ◌≤◌, ◌^◌, ℕ, suc, List, [], ◌∷◌, ◌++◌, Bool, false, true, flat_map, get_or, Option, Some, None}
+use Rattle.std.specs.Prelude.{◌≡◌, ◌⊎◌, ◌<◌, ◌≤◌, ◌^◌, ℕ, suc, List, [], ◌∷◌, ◌++◌, Bool, false, true, flat_map, slice_index_or, Option, Some, None}
 use Rattle.std.specs.List.{AllByRecursion}
 use Rattle.nd_types.specs.declared.types.Class.{Class}
 use Rattle.nd_types.specs.declared.types.Class.TheVariants.{Full, Ref}
@@ -12,7 +12,7 @@ use Rattle.nd_value.specs.Deferral.{IsPlaced, Placed_cells}
 use Rattle.nd_value.specs.Setting.{Among, cell_of_number}
 use Rattle.nd_value.specs.Tree.{Referent}
 use Rattle.nd_grammar.specs.Entry.{Entry, Kind, Number}
-use Rattle.nd_grammar.specs.Represents.{IsNumber, IsNumbering}
+use Rattle.nd_grammar.specs.Stream.{IsNumber, IsNumbering}
 use Rattle.ndr_refs.specs.declared.referents.Known.{Known as KnownNumber}
 use Rattle.ndr_refs.specs.Known.{known}
 use Rattle.ndr_trace_value.specs.declared.cells.Cells.{Cells}
@@ -109,7 +109,7 @@ pub record HasNamed (k : Known) (before after : Cells) (due : List Entry) (names
 
 -- a cell's value was come to
 abbrev pub stands_at : List Bool → ℕ → Bool
-stands_at stands c = get_or stands c false
+stands_at stands c = slice_index_or stands c false
 
 -- it was for the cells that stand by the order of deferral, and for no others
 abbrev pub Stand : List Bool → Placed_cells → Type 0

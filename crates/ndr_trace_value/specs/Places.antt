@@ -2,7 +2,7 @@
 -- `table` are the types, `w` is a setting, `g` a partial graph, `h` a home, `m` and `n` are numbers of nodes, `t` is a type's number, `l` a label,
 -- `ks` are its children, `places` says which members values are, `x` which one a value is, `k` is the kind of an item, `p` the path of a struct or
 -- of its member.
-use Rattle.std.specs.Prelude.{◌≡◌, ◌+◌, ◌-◌, ◌==◌, ℕ, true, false, List, [], ◌∷◌, length, ltb, take, Option, None, Some}
+use Rattle.std.specs.Prelude.{◌≡◌, ◌+◌, ◌-◌, ◌==◌, ℕ, true, false, List, [], ◌∷◌, length, nat_lt, take, Option, None, Some}
 use Rattle.std.specs.List.{slice_get}
 use Rattle.nd_types.specs.declared.types.AttrVar.{AttrVar}
 use Rattle.nd_types.specs.declared.types.Field.{Field}
@@ -16,7 +16,7 @@ use Rattle.nd_value.specs.Tree.{Label, Trees, more, node, node_count, none}
 use Rattle.text_grammar.specs.Paths.{home_types, home_value}
 use Rattle.ndr_explain.specs.Cursors.{Place, child_places}
 use Rattle.ndr_trace_value.specs.Attributes.{first_of}
-use Rattle.ndr_trace_value.specs.Variable.{field_name, numbered_path}
+use Rattle.ndr_trace_value.specs.Traces.{field_name, numbered_path}
 
 -- ## Members
 
@@ -29,7 +29,7 @@ abbrev pub place_at : Table → List ℕ → List Place → ℕ → Trees → �
 place_at table (t ∷ types) (x ∷ places) n (more (node l ks) ts) m =
     elim (m == n) [
       | true ↦ x
-      | false ↦ elim (ltb m (n + 1 + node_count ks)) [
+      | false ↦ elim (nat_lt m (n + 1 + node_count ks)) [
         | true ↦ place_at table (child_types (type_at table t) l ks) (kid_places table t l ks) (n + 1) ks m
         | false ↦ place_at table types places (n + 1 + node_count ks) ts m
       ]

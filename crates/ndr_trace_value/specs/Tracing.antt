@@ -2,8 +2,7 @@
 -- `k` are the octets with the partial graph in which they are refused, `u` what the walk is given, `p` how far it came, `s` where a node is, `ms`
 -- are the entries that are due, agreements apart.
 use Rattle.std.specs.Prelude.{◌≡◌, ◌⊎◌, ◌<◌, ◌≤◌, ◌+◌, ◌-◌, ◌^◌, ℕ, ℤ, pos, Bool, true, false, List, [], ◌∷◌, ◌++◌, drop, length, reverse, take}
-use Rattle.std.specs.Prelude.{IsSome, Option, None, Some}
-use Rattle.std.specs.Prelude.{eqb, ltb, option_map}
+use Rattle.std.specs.Prelude.{IsSome, Option, None, Some, ◌==◌, nat_lt, option_map}
 use Rattle.std.specs.List.{slice_get}
 use Rattle.nd_base.specs.declared.octets.Order.{Order}
 use Rattle.nd_types.specs.Number.{AreOctets}
@@ -17,10 +16,10 @@ use Rattle.nd_value.specs.Setting.{Setting, cell_home}
 use Rattle.nd_value.specs.Tree as tree
 use Rattle.nd_value.specs.Tree.{Label}
 use Rattle.nd_grammar.specs.Entry.{Actual, Align, Chunk, Context, Entry, EntryAt, Kind, Max, Num, Number, Offset, Tag, Test, Text, Unread, end_to_end}
-use Rattle.nd_grammar.specs.Represents.{IsNumber, IsNumbering}
+use Rattle.nd_grammar.specs.Stream.{IsNumber, IsNumbering}
 use Rattle.ndr_prim.specs.Context.{attributes_of, identifier_of}
 use Rattle.text_grammar.specs.Paths.{home_types}
-use Rattle.text_grammar.specs.Printed.{quoted_text}
+use Rattle.text_grammar.specs.Written.{quoted_text}
 use Rattle.text_printer.specs.Texts.{context_text}
 use Rattle.ndr_explain.specs.Cursors.{Place, level_place, name_text, path_to}
 use Rattle.ndr_explain.specs.Explained.{context_shown, explanation, home_flats, home_paths, label_in, path_in, string_shown}
@@ -33,8 +32,7 @@ use Rattle.ndr_trace_value.specs.declared.progress.Spot.{Spot}
 use Rattle.ndr_trace_value.specs.declared.search.Sought.{Sought}
 use Rattle.ndr_trace_value.specs.LastMembers.{counted_path, counted_variable, whole_types}
 use Rattle.ndr_trace_value.specs.Places.{home_place, member_variable}
-use Rattle.ndr_trace_value.specs.Traces.{entry_path}
-use Rattle.ndr_trace_value.specs.Variable.{NamesAlone}
+use Rattle.ndr_trace_value.specs.Traces.{entry_path, NamesAlone}
 
 -- Octets that are refused at an entry of the stream of a partial graph, and the log of the items before it.
 pub record Known : Type 0 where
@@ -87,7 +85,7 @@ sought_variable k (Some i) =
 -- what is kept of the item that is sought, once it is among the first items of the log
 abbrev pub kept_by : (Option Item → List ℕ) → List Item → Option ℕ → ℕ → List ℕ
 kept_by its log None n = []
-kept_by its log (Some j) n = elim (ltb j n) [ true ↦ its (slice_get log j) | false ↦ [] ]
+kept_by its log (Some j) n = elim (nat_lt j n) [ true ↦ its (slice_get log j) | false ↦ [] ]
 
 abbrev pub kept : Known → ℕ → List ℕ
 kept k n = kept_by (sought_path k) k.log k.sought n
@@ -123,7 +121,7 @@ IsAt log n place = (i : Item) × (slice_get log n ≡ Some i) × (i.at ≡ place
 -- the next item is the one that is sought
 abbrev pub is_sought : Option Sought → ℕ → Bool
 is_sought None n = false
-is_sought (Some s) n = eqb s.item n
+is_sought (Some s) n = s.item == n
 
 abbrev pub either_path : Bool → List ℕ → List ℕ → List ℕ
 either_path true p q = p

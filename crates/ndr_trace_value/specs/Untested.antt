@@ -5,8 +5,7 @@ use Rattle.nd_types.specs.Table.{Table, type_at}
 use Rattle.nd_value.specs.declared.item.Home.{Home}
 use Rattle.nd_value.specs.Nodes.{child_types}
 use Rattle.nd_value.specs.Tree.{Trees, more, node, node_count, none}
-use Rattle.nd_grammar.specs.Entry.{Entry, EntryAt, Kind, Test}
-use Rattle.nd_grammar.specs.InPlace.{before_children, entries}
+use Rattle.nd_grammar.specs.Entry.{Entry, EntryAt, Kind, Test, before_children, entries}
 
 abbrev pub is_test : Kind → Bool
 is_test (Test a wanted found) = true

@@ -15,8 +15,7 @@ use Rattle.nd_value.specs.Tree as tree
 use Rattle.nd_value.specs.Tree.{Flat, Label, Trees, count, flat, more, node, node_count, none}
 use Rattle.nd_value.specs.Seen.{cell_number}
 use Rattle.nd_flat.specs.FlatForm.{armed_count}
-use Rattle.nd_grammar.specs.Entry.{Entry}
-use Rattle.nd_grammar.specs.InPlace.{before_children, entries, own_max}
+use Rattle.nd_grammar.specs.Entry.{Entry, before_children, entries, own_max}
 use Rattle.text_grammar.specs.Paths.{node_paths}
 use Rattle.text_printer.specs.Walks.{Begins}
 use Rattle.nd_value.specs.Deferral.{Placed_cells}

@@ -3,7 +3,7 @@ ghost use Rattle.std.specs.Prelude.{◌≡◌, ◌≤◌, ◌+◌, ◌^◌, ◌-
 ghost use Rattle.nd_types.specs.declared.types.Class.TheVariants as classes;
 ghost use Rattle.nd_value.specs.Deferral.{Placed_cells};
 ghost use Rattle.nd_grammar.specs.Entry.{Entry, Number};
-ghost use Rattle.nd_grammar.specs.Represents.{IsNumber};
+ghost use Rattle.nd_grammar.specs.Stream.{IsNumber};
 ghost use Rattle.ndr_trace_value.specs.declared.progress.Halt.TheVariants as halts;
 ghost use Rattle.ndr_trace_value.specs.Naming.{HasNamed, IsFine, IsNaming, named_by, names_of, only_spot, stands_at};
 ghost use Rattle.ndr_trace_value.specs.Tracing.{Known};

@@ -9,7 +9,7 @@ ghost use Rattle.ndr_trace_value.specs.LastMembers.{counted_path, front_variable
 ghost use Rattle.ndr_trace_value.specs.LastMembers.{last_variable as last_variable_path, last_within, struct_of};
 ghost use Rattle.ndr_trace_value.specs.LastMembers.{variable_within as variable_path_within, whole_types};
 ghost use Rattle.ndr_trace_value.specs.Places.{field_variable, place_variable};
-ghost use Rattle.ndr_trace_value.specs.Variable.{numbered_path};
+ghost use Rattle.ndr_trace_value.specs.Traces.{numbered_path};
 
 use crate::progress::{Spot, append_path};
 use crate::search::attribute;

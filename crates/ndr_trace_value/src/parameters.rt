@@ -2,7 +2,7 @@
 ghost use Rattle.std.specs.Prelude.{◌≡◌, [], ℕ, IfOk, None, Some, option_map};
 ghost use Rattle.std.specs.List.{slice_get};
 ghost use Rattle.nd_types.specs.declared.types.AttrVar.{AttrVar as AttrVarValue};
-ghost use Rattle.nd_types.specs.Walk.{named_roots, root_value};
+ghost use Rattle.nd_types.specs.Roots.{named_roots, root_value};
 ghost use Rattle.text_grammar.specs.Written.{parameter_name as name_of_param};
 ghost use Rattle.ndr_trace_value.specs.declared.pointers.PointerSpot.{PointerSpot as PointerSpotValue};
 ghost use Rattle.ndr_trace_value.specs.Attributes.{IsKeptName, IsOwnName, IsPointedName, IsPointedPath, home_attribute};

@@ -4,7 +4,7 @@ ghost use Rattle.std.specs.Prelude.{reverse};
 ghost use Rattle.nd_value.specs.Tree.{Label};
 ghost use Rattle.nd_grammar.specs.Entry.{Align, Entry, Kind};
 ghost use Rattle.ndr_prim.specs.Context.{attributes_of, identifier_of};
-ghost use Rattle.text_grammar.specs.Printed.{quoted_text};
+ghost use Rattle.text_grammar.specs.Written.{quoted_text};
 ghost use Rattle.text_printer.specs.Texts.{context_text};
 ghost use Rattle.ndr_explain.specs.Cursors.{name_text, path_to};
 ghost use Rattle.ndr_explain.specs.Explained.{value_shown};

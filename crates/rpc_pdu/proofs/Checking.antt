@@ -6,8 +6,7 @@ use Rattle.rpc_pdu.specs.declared.pdu.Wanted.{Wanted}
 use Rattle.rpc_pdu.specs.declared.pdu.Wanted.TheVariants.{Request, Response}
 use Rattle.rpc_pdu.specs.declared.pdu.PduReason.{PduReason}
 use Rattle.rpc_pdu.specs.declared.pdu.PduReason.TheVariants as why
-use Rattle.rpc_pdu.specs.Fields.{is_last, fragment_length, header_by, header_length, opening_of}
-use Rattle.rpc_pdu.specs.Checks.{Before, Check, check, first_failing, common_checks, whole_checks}
+use Rattle.rpc_pdu.specs.Checks.{is_last, fragment_length, header_by, header_length, opening_of, Before, Check, check, first_failing, common_checks, whole_checks}
 
 abbrev pub Answer : Type 0
 Answer = Option (ℕ × PduReason)

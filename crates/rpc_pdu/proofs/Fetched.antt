@@ -15,9 +15,9 @@ use Rattle.rpc_pdu.specs.declared.pdu.PduFault.TheVariants as fault
 use Rattle.rpc_pdu.specs.declared.pdu.PduReason.{PduReason}
 use Rattle.rpc_pdu.specs.declared.pdu.PduReason.TheVariants as why
 use Rattle.rpc_pdu.specs.declared.header.CommonFields.{CommonFields}
-use Rattle.rpc_pdu.specs.Fields.{short_at, is_last, has_object, order_of, call_id, fragment_length, header_length, operation_in, operation_of, part_length, part_of, opening_of}
-use Rattle.rpc_pdu.specs.Checks.{Before, before, Check, check, first_failing, common_checks, whole_by, whole_checks, refusal, opened}
-use Rattle.rpc_pdu.specs.Joined.{HasEnded, IsEnd, IsTaken, IsTakeCause, IsSeen, IsBadBy, IsStated, rest_checks, IsWholeFragment, IsBadFragment, IsFragmentCause}
+use Rattle.rpc_pdu.specs.Checks.{short_at, is_last, has_object, order_of, call_id, fragment_length, header_length, operation_in, operation_of, part_length, part_of, opening_of, Before, before, Check}
+use Rattle.rpc_pdu.specs.Checks.{check, first_failing, common_checks, whole_by, whole_checks, refusal, opened}
+use Rattle.rpc_pdu.specs.Fragments.{HasEnded, IsEnd, IsTaken, IsTakeCause, IsSeen, IsBadBy, IsStated, rest_checks, IsWholeFragment, IsBadFragment, IsFragmentCause}
 use Rattle.rpc_pdu.proofs.Checking.{passes, fails, all_pass, one_fails, common_same, header_same, length_same, last_same, whole_same, opening_same, least_header, longer}
 use Rattle.std.proofs.lemmas.Bool.{le-ltb as not_below, lt-ltb as below}
 use Rattle.rpc_pdu.proofs.Staying.{end_checks, later_checks}

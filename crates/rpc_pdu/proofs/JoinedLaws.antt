@@ -14,10 +14,8 @@ use Rattle.rpc_pdu.specs.declared.pdu.Joined.{Joined}
 use Rattle.rpc_pdu.specs.declared.pdu.PduFault.{PduFault}
 use Rattle.rpc_pdu.specs.declared.pdu.PduFault.TheVariants as fault
 use Rattle.rpc_pdu.specs.declared.pdu.PduReason.{PduReason}
-use Rattle.rpc_pdu.specs.Fields.{is_last, has_object, fragment_length, header_length, header_by, part_length, part_of, opening_of}
-use Rattle.rpc_pdu.specs.Checks.{Before, before, checks, refusal, after, opened}
-use Rattle.rpc_pdu.specs.Fragments.{IsFragment, AreEarlier, one_more, Fragments, BadPdu}
-use Rattle.rpc_pdu.specs.Joined.{IsJoined, IsRefused, IsJoinCause, IsWholeFragment, IsFragmentCause}
+use Rattle.rpc_pdu.specs.Checks.{is_last, has_object, fragment_length, header_length, header_by, part_length, part_of, opening_of, Before, before, checks, refusal, after, opened}
+use Rattle.rpc_pdu.specs.Fragments.{IsFragment, AreEarlier, one_more, Fragments, BadPdu, IsJoined, IsRefused, IsJoinCause, IsWholeFragment, IsFragmentCause}
 use Rattle.rpc_pdu.proofs.Checking.{each_passes, most_header, below_or}
 use Rattle.rpc_pdu.proofs.Staying.{IsThere, is_there}
 use Rattle.rpc_pdu.proofs.Reading.{Comes, comes}

@@ -6,8 +6,7 @@ use Rattle.rpc_pdu.specs.declared.pdu.Wanted.{Wanted}
 use Rattle.rpc_pdu.specs.declared.pdu.Joined.{Joined}
 use Rattle.rpc_pdu.specs.declared.pdu.PduReason.{PduReason}
 use Rattle.rpc_pdu.specs.declared.pdu.PduReason.TheVariants as why
-use Rattle.rpc_pdu.specs.Fragments.{BadPdu}
-use Rattle.rpc_pdu.specs.Joined.{IsEnd, IsRefused}
+use Rattle.rpc_pdu.specs.Fragments.{BadPdu, IsEnd, IsRefused}
 use Rattle.rpc_pdu.proofs.Verdicts.{bad_stays}
 
 record Rest (left_now : Option (List ℕ)) (os all : List ℕ) : Type 0 where

@@ -6,10 +6,8 @@ use Rattle.rpc_pdu.specs.declared.pdu.Wanted.{Wanted}
 use Rattle.rpc_pdu.specs.declared.pdu.Wanted.TheVariants.{Request, Response}
 use Rattle.rpc_pdu.specs.declared.pdu.Opening.{Opening}
 use Rattle.rpc_pdu.specs.declared.pdu.Joined.{Joined}
-use Rattle.rpc_pdu.specs.Fields.{short_at, order_of, operation_of, opening_of}
-use Rattle.rpc_pdu.specs.Checks.{Before, opened}
-use Rattle.rpc_pdu.specs.Fragments.{AreEarlier, none_earlier, one_more, Fragments, HasNumber}
-use Rattle.rpc_pdu.specs.Joined.{IsJoined}
+use Rattle.rpc_pdu.specs.Checks.{short_at, order_of, operation_of, opening_of, Before, opened}
+use Rattle.rpc_pdu.specs.Fragments.{AreEarlier, none_earlier, one_more, Fragments, HasNumber, IsJoined}
 
 -- one fragment
 own_number : (want : Wanted) (os : List ℕ) → HasNumber want (operation_of want os)

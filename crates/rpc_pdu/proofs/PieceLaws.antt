@@ -12,11 +12,9 @@ use Rattle.rpc_pdu.specs.declared.pdu.Head.{Head}
 use Rattle.rpc_pdu.specs.declared.pdu.Head.TheVariants as head
 use Rattle.rpc_pdu.specs.declared.pdu.Opening.{Opening}
 use Rattle.rpc_pdu.specs.declared.pdu.PduReason.{PduReason}
-use Rattle.rpc_pdu.specs.Fields.{version, pdu_type, type_of, is_first, is_last, label, order_of, fragment_length, authentication_length, call_id, header_length, operation_of, part_length, part_of}
-use Rattle.rpc_pdu.specs.Fields.{opening_of}
-use Rattle.rpc_pdu.specs.Checks.{Before, Check, check, nothing, after, opened, first_failing, wrong_first, other_order, other_call, other_operation, differ, checks, is_refused}
-use Rattle.rpc_pdu.specs.Fragments.{IsFragment, AreEarlier, none_earlier, one_more, Fragments}
-use Rattle.rpc_pdu.specs.Pieces.{want_of, opnum_of, HeadFits, flags_for, header, fragment, pieces_from, Pieces}
+use Rattle.rpc_pdu.specs.Checks.{version, pdu_type, type_of, is_first, is_last, label, order_of, fragment_length, authentication_length, call_id, header_length, operation_of, part_length, part_of}
+use Rattle.rpc_pdu.specs.Checks.{opening_of, Before, Check, check, nothing, after, opened, first_failing, wrong_first, other_order, other_call, other_operation, differ, checks, is_refused}
+use Rattle.rpc_pdu.specs.Fragments.{IsFragment, AreEarlier, none_earlier, one_more, Fragments, want_of, opnum_of, HeadFits, flags_for, header, fragment, pieces_from, Pieces}
 use Rattle.rpc_pdu.proofs.Checking.{Pass}
 use Rattle.std.proofs.lemmas.Bool.{le-ltb as not_short}
 

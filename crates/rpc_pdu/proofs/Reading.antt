@@ -8,8 +8,7 @@ use Rattle.rpc_pdu.specs.declared.pdu.Wanted.{Wanted}
 use Rattle.rpc_pdu.specs.declared.pdu.Opening.{Opening}
 use Rattle.rpc_pdu.specs.declared.pdu.PduReason.{PduReason}
 use Rattle.rpc_pdu.specs.declared.pdu.PduReason.TheVariants as why
-use Rattle.rpc_pdu.specs.Fields.{is_last, has_object, fragment_length, header_length, opening_of}
-use Rattle.rpc_pdu.specs.Checks.{Before, nothing, after, opened, refusal}
+use Rattle.rpc_pdu.specs.Checks.{is_last, has_object, fragment_length, header_length, opening_of, Before, nothing, after, opened, refusal}
 use Rattle.rpc_pdu.specs.Fragments.{IsFragment, AreEarlier, none_earlier, one_more, Fragments, BadPdu, SameCall}
 use Rattle.rpc_pdu.specs.Reader.{Verdict, found, refused_at, read_from, read}
 use Rattle.rpc_pdu.proofs.Checking.{least_header, length_same, last_same}

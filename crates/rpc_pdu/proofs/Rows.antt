@@ -5,7 +5,7 @@ use Rattle.rpc_pdu.specs.declared.pdu.Wanted.TheVariants.{Request, Response}
 use Rattle.rpc_pdu.specs.declared.pdu.Head.TheVariants as head
 use Rattle.rpc_pdu.specs.declared.pdu.PduReason.TheVariants as why
 use Rattle.rpc_pdu.specs.Reader.{read, found, refused_at}
-use Rattle.rpc_pdu.specs.Pieces.{Pieces}
+use Rattle.rpc_pdu.specs.Fragments.{Pieces}
 
 abbrev stub : List ℕ
 stub = 1 ∷ 0 ∷ 0 ∷ 0 ∷ 2 ∷ 0 ∷ 0 ∷ 0 ∷ 3 ∷ 0 ∷ 0 ∷ 0 ∷ 0 ∷ 0 ∷ 0 ∷ 0 ∷ []

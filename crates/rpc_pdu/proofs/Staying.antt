@@ -4,8 +4,7 @@ use Rattle.std.proofs.lemmas.List.{take-append-le, length-drop}
 use lib.Seq.{drop-append-le}
 use Rattle.rpc_pdu.specs.declared.pdu.Wanted.{Wanted}
 use Rattle.rpc_pdu.specs.declared.pdu.PduReason.TheVariants as why
-use Rattle.rpc_pdu.specs.Fields.{has_object, fragment_length, header_length, part_of, opening_of}
-use Rattle.rpc_pdu.specs.Checks.{Before, Check, first_failing, is_short, common_checks, whole_checks, refusal, after, opened}
+use Rattle.rpc_pdu.specs.Checks.{has_object, fragment_length, header_length, part_of, opening_of, Before, Check, first_failing, is_short, common_checks, whole_checks, refusal, after, opened}
 use Rattle.rpc_pdu.specs.Fragments.{IsFragment}
 use Rattle.rpc_pdu.proofs.Checking.{Answer, NotShort, Pass, each_passes, passes, passed, both_pass, alike_after, group_step, short_step, longer, below_or, common_same, header_same, length_same}
 use Rattle.rpc_pdu.proofs.Checking.{whole_same, opening_same, least_header}

@@ -7,8 +7,7 @@ use Rattle.rpc_pdu.specs.declared.pdu.Wanted.{Wanted}
 use Rattle.rpc_pdu.specs.declared.pdu.Opening.{Opening}
 use Rattle.rpc_pdu.specs.declared.pdu.PduReason.{PduReason}
 use Rattle.rpc_pdu.specs.declared.pdu.PduReason.TheVariants as why
-use Rattle.rpc_pdu.specs.Fields.{is_last, fragment_length, header_length, opening_of}
-use Rattle.rpc_pdu.specs.Checks.{Before, nothing, after, opened, refusal}
+use Rattle.rpc_pdu.specs.Checks.{is_last, fragment_length, header_length, opening_of, Before, nothing, after, opened, refusal}
 use Rattle.rpc_pdu.specs.Fragments.{IsFragment, AreEarlier, none_earlier, one_more, Fragments, BadPdu, BeginsWithCall}
 use Rattle.rpc_pdu.proofs.Checking.{last_same}
 use Rattle.rpc_pdu.proofs.Staying.{IsThere, is_there, first_fragment, stays}

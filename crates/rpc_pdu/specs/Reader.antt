@@ -3,8 +3,7 @@ use Rattle.std.specs.Prelude.{ℕ, ◌+◌, suc, zero, Bool, true, false, List, 
 use Rattle.rpc_pdu.specs.declared.pdu.Wanted.{Wanted}
 use Rattle.rpc_pdu.specs.declared.pdu.PduReason.{PduReason}
 use Rattle.rpc_pdu.specs.declared.pdu.PduReason.TheVariants as why
-use Rattle.rpc_pdu.specs.Fields.{is_last, fragment_length}
-use Rattle.rpc_pdu.specs.Checks.{Before, nothing, after, refusal}
+use Rattle.rpc_pdu.specs.Checks.{is_last, fragment_length, Before, nothing, after, refusal}
 
 pub data Verdict : Type 0 where
   found : Before → Verdict

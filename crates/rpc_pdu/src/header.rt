@@ -2,10 +2,9 @@
 ghost use Rattle.std.specs.Prelude.{◌≡◌, ℕ, ◌+◌, ◌-◌, ◌*◌, ◌≤◌, ◌<◌, ◌^◌, [], ◌∷◌, ◌++◌, length, List, Option, Some, None, true, false, IfOk, IfErr};
 ghost use Rattle.nd_base.specs.declared.TheConstants.{STREAM_LIMIT};
 ghost use Rattle.nd_types.specs.Number.{unsigned};
-ghost use Rattle.rpc_pdu.specs.Fields.{short_at, has, header_by, type_of, operation_in};
-ghost use Rattle.rpc_pdu.specs.Checks.{before, first_failing, common_checks, opened};
-ghost use Rattle.rpc_pdu.specs.Checks.{wrong_first, same_order, other_order, other_call, other_operation};
-ghost use Rattle.rpc_pdu.specs.Joined.{IsSeen, IsBadBy, IsStated, rest_checks};
+ghost use Rattle.rpc_pdu.specs.Checks.{short_at, has, header_by, type_of, operation_in, before, first_failing, common_checks, opened, wrong_first};
+ghost use Rattle.rpc_pdu.specs.Checks.{same_order, other_order, other_call, other_operation};
+ghost use Rattle.rpc_pdu.specs.Fragments.{IsSeen, IsBadBy, IsStated, rest_checks};
 
 use crate::pdu::{Opening, PduFault, PduReason, Wanted};
 use nd_base::{Order, STREAM_LIMIT};

@@ -4,8 +4,7 @@ ghost use Rattle.std.specs.Io.KnownBytes.{Consumes};
 ghost use Rattle.nd_base.specs.Over.{source_seen};
 ghost use Rattle.nd_base.specs.declared.TheConstants.{STREAM_LIMIT};
 ghost use Rattle.rpc_pdu.specs.Checks.{before};
-ghost use Rattle.rpc_pdu.specs.Fragments.{HasNumber};
-ghost use Rattle.rpc_pdu.specs.Joined.{IsJoined, IsJoinCause, IsTaken, IsTakeCause, IsWholeFragment, IsFragmentCause};
+ghost use Rattle.rpc_pdu.specs.Fragments.{HasNumber, IsJoined, IsJoinCause, IsTaken, IsTakeCause, IsWholeFragment, IsFragmentCause};
 
 use crate::header::{check_common_fields, check_whole_header};
 use crate::pdu::{Joined, Opening, PduFault, PduReason, Wanted};

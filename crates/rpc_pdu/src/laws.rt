@@ -7,9 +7,7 @@ ghost use Rattle.rpc_pdu.specs.declared.pdu.Wanted.{Wanted};
 ghost use Rattle.rpc_pdu.specs.declared.pdu.Head.{Head};
 ghost use Rattle.rpc_pdu.specs.declared.pdu.PduReason.{PduReason};
 ghost use Rattle.rpc_pdu.specs.declared.pdu.PduReason.TheVariants as why;
-ghost use Rattle.rpc_pdu.specs.Joined.{IsRefused};
-ghost use Rattle.rpc_pdu.specs.Fragments.{Fragments, BadPdu, BeginsWithCall, SameCall};
-ghost use Rattle.rpc_pdu.specs.Pieces.{Pieces, want_of, opnum_of, HeadFits};
+ghost use Rattle.rpc_pdu.specs.Fragments.{IsRefused, Fragments, BadPdu, BeginsWithCall, SameCall, Pieces, want_of, opnum_of, HeadFits};
 
 /// One verdict: any octets begin with the fragments of a call or are refused, and never both. There is one such call, fixed by the octets with its
 /// order, call id, operation and stub data, whatever follows it; and a refusal has one place and one reason.

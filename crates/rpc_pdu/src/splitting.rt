@@ -2,9 +2,8 @@
 ghost use Rattle.std.specs.Prelude.{◌≡◌, ℕ, ◌+◌, ◌*◌, ◌≤◌, ◌<◌, ◌^◌, [], ◌∷◌, ◌++◌, length, take, drop, IfOk, OnOk, OnErr};
 ghost use Rattle.nd_base.specs.declared.TheConstants.{STREAM_LIMIT};
 ghost use Rattle.nd_types.specs.Number.{spelling};
-ghost use Rattle.rpc_pdu.specs.Fields.{type_of};
-ghost use Rattle.rpc_pdu.specs.Fragments.{Fragments};
-ghost use Rattle.rpc_pdu.specs.Pieces.{Pieces, want_of, opnum_of, HeadFits, flags_for, head_octets, label_octets, header, fragment};
+ghost use Rattle.rpc_pdu.specs.Checks.{type_of};
+ghost use Rattle.rpc_pdu.specs.Fragments.{Fragments, Pieces, want_of, opnum_of, HeadFits, flags_for, head_octets, label_octets, header, fragment};
 
 use crate::pdu::Head;
 use nd_base::{Memory, Octets, Order};

@@ -1,7 +1,6 @@
 // A pipe of three elements in two chunks through the public call.
 ghost use Rattle.std.specs.Prelude.{◌≡◌, IfOk, false};
-ghost use Rattle.ndr_pipe.specs.Ends.{AreOpen};
-ghost use Rattle.ndr_pipe.specs.Seen.{ends_seen};
+ghost use Rattle.ndr_pipe.specs.Ends.{AreOpen, ends_seen};
 
 use crate::interface::interface;
 use nd_base::{MemSource, Memory, Order, Steps, Uncounted};

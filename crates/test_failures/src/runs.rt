@@ -1,7 +1,6 @@
 // Runs of a command in which one call fails.
 ghost use Rattle.std.specs.Prelude.{◌≡◌, ◌≤◌, false, IfOk};
-ghost use Rattle.ndr_pipe.specs.Ends.{AreOpen};
-ghost use Rattle.ndr_pipe.specs.Seen.{ends_seen};
+ghost use Rattle.ndr_pipe.specs.Ends.{AreOpen, ends_seen};
 
 use crate::commands::{Call, Command, File};
 use dceidl::{Status, Words, run};

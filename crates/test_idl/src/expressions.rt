@@ -13,11 +13,12 @@ const FRONT: &[u8] = b"[local] interface t { const long A = ";
 struct Example;
 
 impl Names for Example {
-    ghost use Rattle.std.specs.Prelude.{eqb, cond, slice_index, Some, None, pos, ◌^◌};
+    ghost use Rattle.std.specs.Prelude.{◌==◌, if◌then◌else◌, slice_index, Some, None, pos, ◌^◌};
     ghost use Rattle.idl_scope.specs.declared.meaning.Meaning.TheVariants as meaning;
 
-    ghost meanings = { λ _ name. cond (eqb (slice_index name 0) 78) (Some (meaning.Number (pos 7)))
-        (cond (eqb (slice_index name 0) 77) (Some (meaning.Number (pos (2 ^ 64)))) (cond (eqb (slice_index name 0) 84) (Some meaning.Type) None)) };
+    ghost meanings = { λ _ name. if slice_index name 0 == 78 then Some (meaning.Number (pos 7))
+        else (if slice_index name 0 == 77 then Some (meaning.Number (pos (2 ^ 64)))
+        else (if slice_index name 0 == 84 then Some meaning.Type else None)) };
 
     ghost more = { λ _. 1 };
 

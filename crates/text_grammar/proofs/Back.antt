@@ -18,13 +18,13 @@ use Rattle.nd_value.specs.Tree.{Tree, Trees, node, none, more, Label, Referent}
 use Rattle.nd_value.specs.Nodes.{child_types}
 use Rattle.nd_value.specs.Setting.{Setting, root_list, cell_home}
 use Rattle.nd_value.specs.Deferral.{Pending, home_pointers}
-use Rattle.nd_value.specs.Homes.{root_pointers}
+use Rattle.nd_value.specs.Conforms.{root_pointers}
 use Rattle.text_grammar.specs.declared.version.Version.{Version}
 use Rattle.text_grammar.specs.declared.version.Version.TheVariants as version
 use Rattle.text_grammar.specs.declared.fault.TextReason.TheVariants as reason
 use Rattle.text_grammar.specs.Tokens.{Token, Word, Number, Cell, Mark}
 use Rattle.text_grammar.specs.Written.{Piece, Name, Other, named, word, equals, value_pieces, version_number, side_word, root_name, head_lines, root_lines, cell_lines, graph_tokens}
-use Rattle.text_grammar.specs.Readable.{AreNamed, IsReadable}
+use Rattle.text_grammar.specs.Reads.{AreNamed, IsReadable}
 use Rattle.text_grammar.specs.Dues.{Due, This, AVersion, AValue, ACellLine, Reading, root_dues, nothing_read, named_type, with_name, with_line, may_end, all_read}
 use Rattle.text_grammar.specs.Values.{reading, noted_node, noted, value_tokens}
 use Rattle.text_grammar.specs.Real.{is_real}

@@ -26,8 +26,7 @@ use Rattle.text_grammar.specs.declared.fault.TextReason.TheVariants as reason
 use Rattle.text_grammar.specs.declared.TheConstants.{TEXT_LIMIT}
 use Rattle.text_grammar.specs.Tokens.{Token, Word, Number, Cell, Str, Bytes, Uuid, Mark, skip, cutting, after, IsCut, Begins}
 use Rattle.text_grammar.specs.Written.{Piece, Name, Other, token_of, comma, writes_octets, graph_pieces, graph_tokens}
-use Rattle.text_grammar.specs.Readable.{IsReadable}
-use Rattle.text_grammar.specs.Reads.{Lexeme, Cut, End, Bad, IsNext, CanGoOn, IsWhole, GoesOn, IsNameDue, IsReason, IsFirstFault}
+use Rattle.text_grammar.specs.Reads.{IsReadable, Lexeme, Cut, End, Bad, IsNext, CanGoOn, IsWhole, GoesOn, IsNameDue, IsReason, IsFirstFault}
 use Rattle.text_grammar.specs.Dues.{Due, This, AVersion, ANumber, ACount, AString, SomeBytes, AUuid, ATag, APointer, FirstElement, NextElement, AValue, ACellLine, Reading, value_dues, list_dues}
 use Rattle.text_grammar.specs.Dues.{nothing_read, named_type, is_this, is_count_token, version_of, went_on_if, with_version, with_line, taken_first, due_at, opened, closes, next_read, may_end}
 use Rattle.text_grammar.specs.Dues.{all_read}

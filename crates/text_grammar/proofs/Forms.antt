@@ -15,7 +15,7 @@ use Rattle.nd_value.specs.Tree.{Trees, none, count, Label}
 use Rattle.nd_value.specs.Nodes.{selected_types}
 use Rattle.nd_value.specs.Misfit.{is_octet, is_count}
 use Rattle.text_grammar.specs.declared.version.Version.{Version}
-use Rattle.text_grammar.specs.Readable.{has_offset, has_maximum, may_be_elements, has_text_form}
+use Rattle.text_grammar.specs.Reads.{has_offset, has_maximum, may_be_elements, has_text_form}
 
 pub data Form (v : Version) (table : Table) : Option TypeDef → Label → Trees → Type 0 where
   a_number : (p : Primitive) (z : ℤ) → Form v table (Some (def.Prim p)) (tree.Num z) none

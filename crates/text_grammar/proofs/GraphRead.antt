@@ -14,14 +14,14 @@ use Rattle.nd_value.specs.declared.item.Home.TheVariants as home
 use Rattle.nd_value.specs.Tree.{Tree, none, more, Referent}
 use Rattle.nd_value.specs.Setting.{Setting, root_list, cell_home}
 use Rattle.nd_value.specs.Deferral.{Pending, home_pointers}
-use Rattle.nd_value.specs.Homes.{root_pointers}
+use Rattle.nd_value.specs.Conforms.{root_pointers}
 use Rattle.text_grammar.specs.declared.version.Version.{Version}
 use Rattle.text_grammar.specs.declared.version.Version.TheVariants as version
 use Rattle.text_grammar.specs.declared.fault.TextReason.{TextReason}
 use Rattle.text_grammar.specs.declared.fault.TextReason.TheVariants as reason
 use Rattle.text_grammar.specs.Tokens.{Token, Word, Cell, Mark}
 use Rattle.text_grammar.specs.Written.{Piece, Name, Other, token_of, named, equals, value_pieces, side_word, root_name, head_lines, root_lines, cell_lines, graph_tokens}
-use Rattle.text_grammar.specs.Readable.{AreNamed, IsReadable}
+use Rattle.text_grammar.specs.Reads.{AreNamed, IsReadable}
 use Rattle.text_grammar.specs.Dues.{Due, This, AValue, ACellLine, Reading, root_dues, nothing_read, named_type, with_line, went_on_if, why_not, next_read, all_read}
 use Rattle.text_grammar.specs.Values.{reading, have_forms, noted, value_tokens}
 use Rattle.text_grammar.proofs.Alike.{go_on, name_read}

@@ -4,8 +4,7 @@ use Rattle.std.proofs.Common.{◌≡◌, ℕ, Option, None, Some, codes, refl}
 use Rattle.std.specs.List.{slice_get}
 use Rattle.nd_types.specs.declared.types.Param.{Param}
 use Rattle.nd_types.specs.declared.types.Operation.{Operation}
-use Rattle.nd_types.specs.Roots.{Root}
-use Rattle.nd_types.specs.Walk.{named_root, param_name, root_name as name_of}
+use Rattle.nd_types.specs.Roots.{Root, named_root, param_name, root_name as name_of}
 use Rattle.text_grammar.specs.Written.{root_name, parameter_name}
 
 -- a text's name of a root is the name that the walk over the roots gives

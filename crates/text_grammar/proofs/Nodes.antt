@@ -16,14 +16,13 @@ use Rattle.nd_value.specs.declared.item.Home.{Home}
 use Rattle.nd_value.specs.declared.item.Home.TheVariants as home
 use Rattle.nd_value.specs.Tree as tree
 use Rattle.nd_value.specs.Tree.{Tree, Trees, node, none, more, count, node_count, Label, is_pointer, cell_in, Referent}
-use Rattle.nd_value.specs.Agreement.{Agreement}
+use Rattle.nd_value.specs.Agreement.{Agreement, root_agreements}
 use Rattle.nd_value.specs.Nodes.{TypedNode, child_types, child_agreements, first_agreements, rest_agreements, nodes_of, governed_nodes, home_nodes}
 use Rattle.nd_value.specs.Setting.{Setting, root_list, cell_home}
 use Rattle.nd_value.specs.Deferral.{Pending, pointer_by, pointer, home_pointers}
-use Rattle.nd_value.specs.Homes.{HomeNode, in_home, root_nodes, cell_nodes, root_pointers}
-use Rattle.nd_value.specs.Variables.{root_agreements}
+use Rattle.nd_value.specs.Conforms.{HomeNode, in_home, root_nodes, cell_nodes, root_pointers}
 use Rattle.text_grammar.specs.declared.version.Version.{Version}
-use Rattle.text_grammar.specs.Readable.{has_text_form, is_readable_node, is_cell, first_type, AreNamed, IsReadable}
+use Rattle.text_grammar.specs.Reads.{has_text_form, is_readable_node, is_cell, first_type, AreNamed, IsReadable}
 use Rattle.text_grammar.specs.Dues.{named_type, with_name}
 use Rattle.text_grammar.specs.Values.{have_forms, noted_node, noted}
 use Rattle.text_grammar.proofs.Forms.{Form, form_of, a_number, an_enum, a_struct, an_array, a_bound_text, a_text, a_union, a_null, a_pointer, a_context, a_pipe}

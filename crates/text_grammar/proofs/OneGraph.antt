@@ -9,13 +9,12 @@ use Rattle.nd_value.specs.declared.value.Graph.{Graph}
 use Rattle.nd_value.specs.Tree.{Tree, none, more, Referent}
 use Rattle.nd_value.specs.Setting.{Setting, root_list, cell_home}
 use Rattle.nd_value.specs.Deferral.{Pending, home_pointers}
-use Rattle.nd_value.specs.Homes.{root_pointers}
+use Rattle.nd_value.specs.Conforms.{root_pointers}
 use Rattle.text_grammar.specs.declared.version.Version.{Version}
 use Rattle.text_grammar.specs.declared.version.Version.TheVariants as version
 use Rattle.text_grammar.specs.Tokens.{Token, Cell, cutting, after}
 use Rattle.text_grammar.specs.Written.{Piece, Other, token_of, named, equals, value_pieces, version_number, root_name, head_lines, root_lines, cell_lines, graph_tokens}
-use Rattle.text_grammar.specs.Readable.{AreNamed, IsReadable}
-use Rattle.text_grammar.specs.Reads.{ReadsAs}
+use Rattle.text_grammar.specs.Reads.{AreNamed, IsReadable, ReadsAs}
 use Rattle.text_grammar.specs.Values.{have_forms, value_tokens}
 use Rattle.text_grammar.proofs.Nodes.{RootsFormed, CellsFormed, readable_formed}
 use Rattle.text_grammar.proofs.OneText.{Compared, as_far, shorter, longer, compare, some_octets}

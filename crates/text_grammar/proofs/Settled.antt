@@ -6,8 +6,7 @@ use Rattle.std.proofs.lemmas.Bool.{and_left, eqb-true, not-true}
 use Rattle.text_grammar.specs.declared.version.Version.{Version}
 use Rattle.text_grammar.specs.declared.version.Version.TheVariants as version
 use Rattle.text_grammar.specs.Tokens.{Token, Word, Number, Cell, Str, Bytes, Uuid, Mark, cutting, uuid_due, is_version_two}
-use Rattle.text_grammar.specs.Written.{version_number}
-use Rattle.text_grammar.specs.Printed.{is_comma}
+use Rattle.text_grammar.specs.Written.{version_number, is_comma}
 use Rattle.text_grammar.specs.Settled.{is_two, IsCalm, has_two, IsSettled, is_simple}
 
 -- ## Where a UUID is due

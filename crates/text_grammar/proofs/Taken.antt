@@ -27,7 +27,7 @@ use Rattle.text_grammar.specs.declared.version.Version.{Version}
 use Rattle.text_grammar.specs.Tokens.{Token, Word, Number, Cell, Str, Bytes, Uuid, Mark}
 use Rattle.text_grammar.specs.Written.{Piece, Name, Other, token_of, comma, colon, equals, word, separated, members, named, octets_in, writes_octets, list_pieces, arm_pieces, node_pieces}
 use Rattle.text_grammar.specs.Written.{values_pieces, value_pieces}
-use Rattle.text_grammar.specs.Readable.{has_maximum, has_offset, are_octets, may_be_elements, has_text_form}
+use Rattle.text_grammar.specs.Reads.{has_maximum, has_offset, are_octets, may_be_elements, has_text_form}
 use Rattle.text_grammar.specs.Dues.{Due, This, ACount, AString, AUuid, FirstElement, NextElement, AValue, Reading, separated_dues, count_dues, list_dues, arm_dues, value_dues, closes, may_end}
 use Rattle.text_grammar.specs.Dues.{all_read}
 use Rattle.text_grammar.proofs.Bytes.{bytes_alone}

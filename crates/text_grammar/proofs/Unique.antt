@@ -18,7 +18,7 @@ use Rattle.text_grammar.specs.declared.version.Version.{Version}
 use Rattle.text_grammar.specs.Tokens.{Token, Mark}
 use Rattle.text_grammar.specs.Written.{Piece, Other, token_of, separated, members, named, octet_in, octets_in, writes_octets, list_pieces, array_counts, arm_pieces, node_pieces, values_pieces}
 use Rattle.text_grammar.specs.Written.{value_pieces}
-use Rattle.text_grammar.specs.Readable.{has_offset, has_maximum, may_be_elements, is_octet_number, are_octets, has_text_form}
+use Rattle.text_grammar.specs.Reads.{has_offset, has_maximum, may_be_elements, is_octet_number, are_octets, has_text_form}
 use Rattle.text_grammar.specs.Dues.{closes}
 use Rattle.text_grammar.proofs.Bytes.{bytes_alone}
 use Rattle.text_grammar.specs.Values.{have_forms, value_tokens}

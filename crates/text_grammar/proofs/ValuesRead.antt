@@ -20,7 +20,7 @@ use Rattle.text_grammar.specs.declared.version.Version.{Version}
 use Rattle.text_grammar.specs.Tokens.{Token, Word, Number, Cell, Str, Bytes, Uuid, Mark}
 use Rattle.text_grammar.specs.Written.{Piece, Name, Other, token_of, comma, colon, equals, separated, members, named, octets_in, writes_octets, list_pieces, array_counts, arm_pieces, node_pieces}
 use Rattle.text_grammar.specs.Written.{values_pieces, value_pieces}
-use Rattle.text_grammar.specs.Readable.{has_offset, has_maximum, has_text_form}
+use Rattle.text_grammar.specs.Reads.{has_offset, has_maximum, has_text_form}
 use Rattle.text_grammar.specs.Dues.{Due, This, ACount, AString, AUuid, FirstElement, NextElement, AValue, separated_dues, named_due, count_dues, list_dues, value_dues, arm_dues, closes, all_read}
 use Rattle.text_grammar.proofs.Bytes.{bytes_alone}
 use Rattle.text_grammar.specs.Values.{reading, have_forms, noted_node, noted, value_tokens}

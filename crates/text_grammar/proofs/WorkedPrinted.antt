@@ -3,7 +3,7 @@ use Rattle.std.proofs.Common.{◌≡◌, refl, sym, codes}
 use Rattle.std.specs.Fmt.{decimal}
 use Rattle.nd_types.specs.Roots.{roots_of}
 use Rattle.text_grammar.specs.declared.version.Version.TheVariants as version
-use Rattle.text_grammar.specs.Printed.{graph_text}
+use Rattle.text_grammar.specs.Written.{graph_text}
 use Rattle.text_grammar.specs.Examples.{adding, adding_text, three_numbers, ring, ring_text, ring_of_two, putting, putting_text, three_entries}
 use Rattle.text_grammar.proofs.Numerals.{is_written}
 

@@ -1,7 +1,5 @@
 pub mod Tokens
 pub mod Written
-pub mod Printed
-pub mod Readable
 pub mod Reads
 pub mod Dues
 pub mod Reader

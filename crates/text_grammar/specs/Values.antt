@@ -10,7 +10,7 @@ use Rattle.nd_value.specs.Nodes.{child_types}
 use Rattle.text_grammar.specs.declared.version.Version.{Version}
 use Rattle.text_grammar.specs.Tokens.{Token}
 use Rattle.text_grammar.specs.Written.{token_of, value_pieces}
-use Rattle.text_grammar.specs.Readable.{has_text_form}
+use Rattle.text_grammar.specs.Reads.{has_text_form}
 use Rattle.text_grammar.specs.Dues.{Due, Reading, with_name}
 
 abbrev pub reading : Version → List Due → List (ℕ × ℕ) → ℕ → Reading

@@ -3,7 +3,7 @@
 
 ghost use Rattle.std.specs.Prelude.{◌≡◌};
 ghost use Rattle.text_grammar.specs.declared.version.Version.TheVariants as version;
-ghost use Rattle.text_grammar.specs.Printed.{graph_text};
+ghost use Rattle.text_grammar.specs.Written.{graph_text};
 ghost use Rattle.text_grammar.specs.Reads.{ReadsAs};
 ghost use Rattle.text_grammar.specs.Examples.{adding, adding_text, three_numbers, ring, ring_text, ring_of_two, using, using_text, a_handle, putting};
 ghost use Rattle.text_grammar.specs.Examples.{putting_text, putting_text_one, three_entries, listing, listing_text, four_lists, bytes, bytes_text};

@@ -19,7 +19,7 @@ use Rattle.text_grammar.specs.declared.version.Version.{Version}
 use Rattle.text_grammar.specs.declared.version.Version.TheVariants as version
 use Rattle.text_grammar.specs.Tokens.{Bytes, character, escape, hex_pair, is_plain, IsQuoted, IsCut}
 use Rattle.text_grammar.specs.Written.{token_of, octets_in, list_pieces, values_pieces, writes_octets}
-use Rattle.text_grammar.specs.Readable.{are_octets, has_text_form}
+use Rattle.text_grammar.specs.Reads.{are_octets, has_text_form}
 use Rattle.text_grammar.specs.Dues.{SomeBytes, list_dues}
 use Rattle.text_grammar.proofs.Runs.{skip_less}
 use Rattle.text_grammar.specs.Values.{have_forms, noted, noted_node}

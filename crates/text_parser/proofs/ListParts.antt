@@ -10,8 +10,7 @@ use Rattle.text_grammar.specs.declared.fault.TextReason.{TextReason}
 use Rattle.text_grammar.specs.declared.fault.TextReason.TheVariants as reason
 use Rattle.text_grammar.specs.Tokens.{Token, Word, Number, Cell, Str, Bytes, Uuid, Mark, Cutting, IsCut}
 use Rattle.text_grammar.specs.Written.{Piece, Other, comma, token_of, separated, enclosed, list_pieces, values_pieces, value_pieces, writes_octets}
-use Rattle.text_grammar.specs.Readable.{are_octets}
-use Rattle.text_grammar.specs.Reads.{Lexeme, Cut, End, Bad, IsNext}
+use Rattle.text_grammar.specs.Reads.{are_octets, Lexeme, Cut, End, Bad, IsNext}
 use Rattle.text_grammar.specs.Dues.{Due, This, FirstElement, NextElement, AValue, opening_bracket, list_dues, Reading, closes, opened, taken_first, next_read, went_on_if}
 use Rattle.text_grammar.specs.Reader.{ComesTo, Stopped}
 use Rattle.text_grammar.specs.Settled.{IsSettled}

@@ -11,7 +11,7 @@ use Rattle.nd_types.specs.Table.{Table, type_at}
 use Rattle.nd_value.specs.Tree as tree
 use Rattle.nd_value.specs.Tree.{Tree, node, none, more, trees, count, node_count}
 use Rattle.nd_value.specs.Nodes.{child_types}
-use Rattle.text_grammar.specs.Readable.{has_text_form}
+use Rattle.text_grammar.specs.Reads.{has_text_form}
 use Rattle.text_grammar.specs.declared.version.Version.{Version}
 use Rattle.text_grammar.specs.Tokens.{Token, Mark, IsCut}
 use Rattle.text_grammar.specs.Written.{Piece, Other, comma, token_of, named, members, separated, values_pieces, value_pieces}

@@ -6,7 +6,7 @@ use Rattle.nd_value.specs.Tree.{Tree, node, none, more, trees, count, node_count
 use Rattle.nd_value.specs.Nodes.{child_types}
 use Rattle.text_grammar.specs.declared.version.Version.{Version}
 use Rattle.text_grammar.specs.Written.{Piece, comma, separated, node_pieces, values_pieces, value_pieces}
-use Rattle.text_grammar.specs.Readable.{has_text_form}
+use Rattle.text_grammar.specs.Reads.{has_text_form}
 use Rattle.text_grammar.specs.Dues.{Due, This, separated_dues}
 use Rattle.text_grammar.specs.Values.{have_forms, noted, noted_node}
 

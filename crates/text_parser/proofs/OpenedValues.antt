@@ -8,7 +8,7 @@ use Rattle.nd_value.specs.Nodes.{child_types}
 use Rattle.text_grammar.specs.declared.version.Version.{Version}
 use Rattle.text_grammar.specs.Tokens.{Token}
 use Rattle.text_grammar.specs.Written.{token_of, node_pieces, values_pieces}
-use Rattle.text_grammar.specs.Readable.{has_text_form}
+use Rattle.text_grammar.specs.Reads.{has_text_form}
 use Rattle.text_grammar.specs.Dues.{AValue, value_dues}
 use Rattle.text_grammar.specs.Values.{have_forms, noted, noted_node}
 use Rattle.text_parser.specs.Passing.{Named, Passes, IsValue}

@@ -17,11 +17,10 @@ use Rattle.nd_value.specs.Misfit.{is_octet, is_count}
 use Rattle.text_grammar.specs.declared.version.Version.{Version}
 use Rattle.text_grammar.specs.Tokens.{Token, Word, Number, Cell, Str, Bytes, Uuid, Mark, IsCut}
 use Rattle.text_grammar.specs.Written.{Other, colon, token_of, array_counts, list_pieces, arm_pieces, values_pieces, writes_octets}
-use Rattle.text_grammar.specs.Readable.{has_offset, has_maximum, may_be_elements, has_text_form}
+use Rattle.text_grammar.specs.Reads.{has_offset, has_maximum, may_be_elements, has_text_form, Lexeme, Cut, End, Bad}
 use Rattle.text_grammar.specs.Dues.{Due, This, ANumber, AString, ATag, APointer, AValue, count_dues, list_dues, arm_dues, with_name}
 use Rattle.text_grammar.specs.Values.{reading, have_forms}
 use Rattle.text_grammar.proofs.OneText.{cut_less}
-use Rattle.text_grammar.specs.Reads.{Lexeme, Cut, End, Bad}
 use Rattle.text_parser.specs.declared.stop.Stop.{Stop}
 use Rattle.text_parser.specs.declared.stop.Stop.TheVariants as stop
 use Rattle.text_parser.specs.Lexemes.{plain, reference_token, reference_fits}

@@ -7,20 +7,18 @@ use Rattle.std.proofs.lemmas.Grind.{flat_map-append}
 use Rattle.nd_types.specs.declared.types.Operation.{Operation}
 use Rattle.nd_types.specs.declared.types.Param.{Param}
 use Rattle.nd_types.specs.Table.{Table}
-use Rattle.nd_types.specs.Roots.{Root}
-use Rattle.nd_types.specs.Walk as walk
-use Rattle.nd_types.specs.Walk.{NamedRoot, named_root, named_roots, param_name}
+use Rattle.nd_types.specs.Roots.{Root, NamedRoot, named_root, named_roots, param_name}
+use Rattle.nd_types.specs.Roots as walk
 use Rattle.nd_value.specs.Tree.{Tree, none, more, Referent}
 use Rattle.nd_value.specs.Setting.{Setting, root_list, cell_home}
 use Rattle.nd_value.specs.Deferral.{Pending, home_pointers}
-use Rattle.nd_value.specs.Homes.{root_pointers}
+use Rattle.nd_value.specs.Conforms.{root_pointers}
 use Rattle.text_grammar.specs.declared.version.Version.{Version}
 use Rattle.text_grammar.specs.declared.TheConstants.{TEXT_LIMIT}
 use Rattle.text_grammar.specs.Tokens as tokens
 use Rattle.text_grammar.specs.Tokens.{Token, Begins}
 use Rattle.text_grammar.specs.Written.{Piece, Other, equals, token_of, named, side_word, parameter_name, root_name, head_lines, root_lines, cell_lines, graph_tokens, value_pieces}
-use Rattle.text_grammar.specs.Readable.{AreNamed}
-use Rattle.text_grammar.specs.Reads.{ReadsAs}
+use Rattle.text_grammar.specs.Reads.{AreNamed, ReadsAs}
 use Rattle.text_grammar.specs.Dues.{Due, ACellLine, root_dues, named_due, nothing_read}
 use Rattle.text_grammar.specs.Reader.{Stopped, ComesTo}
 use Rattle.text_grammar.specs.Settled.{IsSettled}

@@ -6,7 +6,7 @@ use Rattle.nd_value.specs.Tree.{Tree, Trees, more, none, count, node_count}
 use Rattle.text_grammar.specs.declared.version.Version.{Version}
 use Rattle.text_grammar.specs.Tokens.{Token, Begins, after}
 use Rattle.text_grammar.specs.Written.{token_of, writes_octets, list_pieces, values_pieces}
-use Rattle.text_grammar.specs.Readable.{may_be_elements}
+use Rattle.text_grammar.specs.Reads.{may_be_elements}
 use Rattle.text_grammar.specs.Dues.{Due, AValue, all_read, list_dues}
 use Rattle.text_grammar.specs.Reader.{ComesTo, Stopped}
 use Rattle.text_grammar.specs.Settled.{IsSettled}

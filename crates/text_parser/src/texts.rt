@@ -4,7 +4,7 @@ ghost use Rattle.std.specs.List.{AllByRecursion};
 ghost use Rattle.nd_base.specs.Text.{position as position_by};
 ghost use Rattle.nd_types.specs.declared.types.Operation.{Operation as OperationValue};
 ghost use Rattle.nd_types.specs.Table.{Table};
-ghost use Rattle.nd_types.specs.Walk.{named_roots};
+ghost use Rattle.nd_types.specs.Roots.{named_roots};
 ghost use Rattle.nd_value.specs.declared.value.Graph.{Graph as GraphValue};
 ghost use Rattle.nd_value.specs.Tree.{more, none, node_count};
 ghost use Rattle.nd_value.specs.Seen.{tree_of, cell_of};

@@ -6,7 +6,7 @@ use Rattle.nd_types.specs.declared.interface.Interface.{Interface}
 use Rattle.nd_types.specs.declared.types.Operation.{Operation}
 use Rattle.nd_types.specs.declared.types.Side.{Side}
 use Rattle.nd_types.specs.Table.{Table}
-use Rattle.nd_types.specs.Walk.{named_roots}
+use Rattle.nd_types.specs.Roots.{named_roots}
 use Rattle.nd_value.specs.declared.value.Graph.{Graph}
 use Rattle.nd_value.specs.Fitting.{Fitting, IsFit, setting_beside}
 use Rattle.nd_value.specs.Setting.{root_list}
@@ -14,7 +14,7 @@ use Rattle.nd_value.specs.Conforms.{Conforms}
 use Rattle.nd_value.specs.Canon.{IsCanon}
 use Rattle.nd_graph.specs.Canonical.{IsCanonical}
 use Rattle.nd_graph.proofs.NamingOrder.{canon_of_fit}
-use Rattle.text_grammar.specs.Printed.{IsText}
+use Rattle.text_grammar.specs.Written.{IsText}
 use Rattle.text_printer.specs.Texts.{head_text, roots_text, cells_text}
 use Rattle.text_printer.specs.Walks.{RootsBegin, CellsBegin}
 use Rattle.text_printer.proofs.Fits.{conforming_sound, roots_begin, cells_begin}

@@ -7,7 +7,7 @@ use Rattle.std.proofs.lemmas.List.Concat.{flat_map-append}
 use Rattle.std.specs.Prelude.{flat_map}
 use Rattle.nd_lemmas.proofs.Lists.{take_next}
 use Rattle.nd_base.specs.Text.{hex_digit}
-use Rattle.text_grammar.specs.Printed.{escaped, hex_text, hex_octet}
+use Rattle.text_grammar.specs.Written.{escaped, hex_text, hex_octet}
 
 get_dropped : (n m : ℕ) (xs : List ℕ) → slice_get (drop n xs) m ≡ slice_get xs (n + m)
 get_dropped zero m xs = let e : m ≡ zero + m = omega arith in ap (slice_get xs) e

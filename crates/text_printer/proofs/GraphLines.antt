@@ -6,8 +6,7 @@ use Rattle.std.proofs.lemmas.Fmt.{decimal_digit}
 use Rattle.nd_types.specs.declared.types.Side.TheVariants as side
 use Rattle.nd_types.specs.declared.types.Operation.{Operation}
 use Rattle.nd_types.specs.Table.{Table}
-use Rattle.nd_types.specs.Roots.{Root}
-use Rattle.nd_types.specs.Walk.{named_root, named_roots}
+use Rattle.nd_types.specs.Roots.{Root, named_root, named_roots}
 use Rattle.nd_value.specs.declared.value.Graph.{Graph}
 use Rattle.nd_value.specs.Tree.{Tree, node, none, more, Referent}
 use Rattle.nd_value.specs.Agreement.{Agreement}
@@ -16,8 +15,7 @@ use Rattle.nd_value.specs.Setting.{Setting, root_list}
 use Rattle.nd_value.specs.Conforms.{Conforms}
 use Rattle.text_grammar.specs.declared.version.Version.TheVariants as version
 use Rattle.text_grammar.specs.Tokens.{Cell, Mark}
-use Rattle.text_grammar.specs.Written.{Piece, Other, token_of, equals, named, value_pieces, head_lines, root_lines, cell_lines, root_name, side_word}
-use Rattle.text_grammar.specs.Printed.{line_text, graph_text}
+use Rattle.text_grammar.specs.Written.{Piece, Other, token_of, equals, named, value_pieces, head_lines, root_lines, cell_lines, root_name, side_word, line_text, graph_text}
 use Rattle.text_grammar.specs.Sound.{is_sound_node}
 use Rattle.text_grammar.proofs.Names.{names_agree}
 use Rattle.text_printer.specs.Texts.{text_of, head_text, roots_text, cell_text, cells_text}

@@ -5,8 +5,7 @@ use Rattle.std.specs.List.{slice_get}
 use Rattle.std.proofs.lemmas.Option.{same_Some}
 use Rattle.nd_types.specs.declared.types.Operation.{Operation}
 use Rattle.nd_types.specs.Table.{Table, type_at}
-use Rattle.nd_types.specs.Roots.{Root}
-use Rattle.nd_types.specs.Walk.{NamedRoot, named_root}
+use Rattle.nd_types.specs.Roots.{Root, NamedRoot, named_root}
 use Rattle.nd_value.specs.declared.value.Graph.{Graph}
 use Rattle.nd_value.specs.declared.value.CellId.{CellId}
 use Rattle.nd_value.specs.declared.item.Home.TheVariants as home

@@ -1,6 +1,6 @@
 -- The text of an identifier, group by group.
 use Rattle.std.proofs.Common.{◌≡◌, ℕ, List, [], ◌∷◌, ◌++◌, length, take, drop, refl, ap, ◌∙◌, append_assoc}
-use Rattle.text_grammar.specs.Printed.{hex_text, uuid_text}
+use Rattle.text_grammar.specs.Written.{hex_text, uuid_text}
 
 -- groups of digits with a hyphen between each two
 abbrev pub groups_text : List ℕ → List ℕ

@@ -6,8 +6,7 @@ use Rattle.std.specs.Fmt.{signed_decimal}
 use Rattle.std.proofs.lemmas.List.{map-append}
 use Rattle.nd_types.specs.declared.types.Field.{Field}
 use Rattle.text_grammar.specs.Tokens.{Token, Word, Number, Cell, Str, Bytes, Uuid, Mark}
-use Rattle.text_grammar.specs.Written.{Piece, Other, token_of, separated, enclosed, named, members, comma, colon, word, number_piece, count_piece}
-use Rattle.text_grammar.specs.Printed.{spelled, space, tokens_text}
+use Rattle.text_grammar.specs.Written.{Piece, Other, token_of, separated, enclosed, named, members, comma, colon, word, number_piece, count_piece, spelled, space, tokens_text}
 use Rattle.text_printer.specs.Texts.{listed, member_texts, context_text}
 
 abbrev pub tokens : List Piece → List Token

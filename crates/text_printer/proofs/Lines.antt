@@ -3,7 +3,7 @@ use Rattle.std.proofs.Common.{◌≡◌, ℕ, ◌+◌, ◌≤◌, zero, suc, add
 use Rattle.std.specs.List.{slice_get}
 use Rattle.std.proofs.lemmas.Option.{same_Some}
 use Rattle.nd_types.specs.Table.{Table}
-use Rattle.nd_types.specs.Walk.{NamedRoot}
+use Rattle.nd_types.specs.Roots.{NamedRoot}
 use Rattle.nd_value.specs.Tree.{Tree, Trees, node, none, more, Referent}
 use Rattle.nd_value.specs.Setting.{or_unread}
 use Rattle.nd_lemmas.proofs.Lists.{drop_next as drop-get, drop_past as drop-past}

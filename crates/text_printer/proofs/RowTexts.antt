@@ -16,7 +16,7 @@ use Rattle.nd_value.specs.Tree as tree
 use Rattle.nd_value.specs.Tree.{Trees, Flat, node, none, more, flat, joined, drop_trees, unflat-of}
 use Rattle.nd_flat.specs.FlatForm.{row_values, num_flats, num_trees}
 use Rattle.nd_flat.proofs.RowWalks.{rowed}
-use Rattle.text_grammar.specs.Printed.{hex_octet, hex_text}
+use Rattle.text_grammar.specs.Written.{hex_octet, hex_text}
 use Rattle.text_printer.specs.Texts.{separator, listed, byte_text}
 use Rattle.text_printer.specs.Walks.{Writes, WritesSome, WritesBytes, first_text, numbers_text, nodes_digits, octets_digits}
 use Rattle.text_printer.proofs.Walking.{element_then}

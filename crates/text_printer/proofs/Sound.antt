@@ -16,7 +16,7 @@ use Rattle.nd_value.specs.Nodes.{TypedNode, child_types, child_agreements, first
 use Rattle.nd_value.specs.Misfit.{has_shape, has_range, has_arm}
 use Rattle.text_grammar.specs.declared.version.Version.TheVariants as version
 use Rattle.text_grammar.specs.Written.{Piece, writes_octets, octet_in, octets_in, list_pieces, array_counts, arm_pieces, node_pieces, values_pieces, count_piece, colon, pointer_pieces, text_pieces}
-use Rattle.text_grammar.specs.Printed.{hex_octet, hex_text, quoted_text, value_text}
+use Rattle.text_grammar.specs.Written.{hex_octet, hex_text, quoted_text, value_text}
 use Rattle.text_grammar.specs.Sound.{is_sound_node, IsSound}
 use Rattle.text_printer.specs.Texts.{byte_text, bytes_text, list_text, counts_text, struct_text, array_text, pipe_text, string_text, arm_text, pointer_text, node_text, texts_of, text_of}
 use Rattle.text_printer.proofs.Items.{IsItem, AreItems, number_item, word_item, cell_item, string_item, bytes_item, numbered_item, member_items, struct_item, elements_item, context_item}

@@ -1,20 +1,19 @@
 -- The text of a value, put together from the texts of its parts: version 2 of the value text. That these are the tokens of the value
 -- with the canonical blanks between them is proved of values that break no rule by themselves.
 -- `d` is a type, `t` a type's number, `l` a node's label, `ks` are its children, `x` is a text, `i` the place of a value in a list.
-use Rattle.std.specs.Prelude.{ℕ, zero, suc, pos, Bool, true, false, ltb, if◌then◌else◌, List, [], ◌∷◌, ◌++◌, Option, None, Some, codes, decimal}
+use Rattle.std.specs.Prelude.{ℕ, zero, suc, pos, Bool, true, false, nat_lt, if◌then◌else◌, List, [], ◌∷◌, ◌++◌, Option, None, Some, codes, decimal}
 use Rattle.std.specs.Fmt.{signed_decimal}
 use Rattle.nd_types.specs.declared.types.TypeDef.{TypeDef}
 use Rattle.nd_types.specs.declared.types.TypeDef.TheVariants as def
 use Rattle.nd_types.specs.declared.types.Field.{Field}
 use Rattle.nd_types.specs.declared.types.Side.{Side}
 use Rattle.nd_types.specs.Table.{Table, type_at}
-use Rattle.nd_types.specs.Walk.{NamedRoot}
+use Rattle.nd_types.specs.Roots.{NamedRoot}
 use Rattle.nd_value.specs.Tree as tree
 use Rattle.nd_value.specs.Tree.{Tree, Trees, node, none, more, Label, Referent}
 use Rattle.nd_value.specs.Nodes.{child_types}
 use Rattle.text_grammar.specs.declared.version.Version.TheVariants as version
-use Rattle.text_grammar.specs.Written.{writes_octets, side_word}
-use Rattle.text_grammar.specs.Printed.{hex_octet, quoted_text, uuid_text}
+use Rattle.text_grammar.specs.Written.{writes_octets, side_word, hex_octet, quoted_text, uuid_text}
 
 -- ## Lists
 
@@ -35,7 +34,7 @@ member_texts _ _ = []
 
 -- a number as a byte; what is none has no digits
 abbrev pub byte_text : Label → List ℕ
-byte_text (tree.Num (pos b)) = if ltb b 256 then hex_octet b else []
+byte_text (tree.Num (pos b)) = if nat_lt b 256 then hex_octet b else []
 byte_text _ = []
 
 abbrev pub byte_of : Tree → List ℕ

@@ -6,7 +6,7 @@ use Rattle.std.specs.Fmt.{signed_decimal}
 use Rattle.nd_base.specs.declared.octets.Order.{Order}
 use Rattle.nd_types.specs.declared.types.Primitive.TheVariants.{Byte}
 use Rattle.nd_types.specs.Table.{Table, type_at}
-use Rattle.nd_types.specs.Walk.{NamedRoot}
+use Rattle.nd_types.specs.Roots.{NamedRoot}
 use Rattle.nd_value.specs.Tree.{Tree, Trees, Referent, node, none, more, count, flat, Flat, take_trees, drop_trees}
 use Rattle.nd_value.specs.Nodes.{child_types}
 use Rattle.nd_flat.specs.FlatForm.{num_flats, row_values}

@@ -2,7 +2,7 @@
 ghost use Rattle.std.specs.Prelude.{◌≡◌, ◌++◌, ◌∷◌, [], ℤ, length, OnOk, decimal, flat_map};
 ghost use Rattle.std.specs.Fmt.{signed_decimal};
 ghost use Rattle.nd_value.specs.Tree as tree;
-ghost use Rattle.text_grammar.specs.Printed.{hex_octet, hex_text, uuid_text};
+ghost use Rattle.text_grammar.specs.Written.{hex_octet, hex_text, uuid_text};
 ghost use Rattle.text_printer.specs.Texts.{byte_text};
 
 use itoa::Buffer;

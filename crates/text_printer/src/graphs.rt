@@ -2,13 +2,12 @@
 ghost use Rattle.std.specs.Prelude.{◌≡◌, ◌<◌, ◌++◌, ◌∷◌, [], Some, IfOk, OnOk, length};
 ghost use Rattle.std.specs.List.{slice_get};
 ghost use Rattle.nd_types.specs.declared.types.Operation.{Operation};
-ghost use Rattle.nd_types.specs.Walk.{named_roots, root_value};
+ghost use Rattle.nd_types.specs.Roots.{named_roots, root_value};
 ghost use Rattle.nd_value.specs.Fitting.{setting_beside};
 ghost use Rattle.nd_value.specs.Seen.{tree_of};
 ghost use Rattle.nd_value.specs.Tree.{Tree, more, none, Referent};
 ghost use Rattle.text_grammar.specs.declared.version.Version.TheVariants as version;
-ghost use Rattle.text_grammar.specs.Printed.{IsText, value_text};
-ghost use Rattle.text_grammar.specs.Written.{side_word};
+ghost use Rattle.text_grammar.specs.Written.{IsText, value_text, side_word};
 ghost use Rattle.text_grammar.specs.Sound.{IsSound};
 ghost use Rattle.text_printer.specs.Texts.{head_text, root_text, roots_text, cell_text, cells_text};
 ghost use Rattle.text_printer.specs.Walks.{Begins, RootsBegin, CellsBegin};

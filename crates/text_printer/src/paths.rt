@@ -4,7 +4,7 @@ ghost use Rattle.std.specs.Prelude.{option_copied};
 ghost use Rattle.std.specs.List.{slice_get};
 ghost use Rattle.nd_types.specs.declared.types.Operation.{Operation};
 ghost use Rattle.nd_value.specs.Fitting.{setting_of};
-ghost use Rattle.nd_types.specs.Walk.{named_roots, root_value};
+ghost use Rattle.nd_types.specs.Roots.{named_roots, root_value};
 ghost use Rattle.nd_types.specs.Table.{Table, type_at};
 ghost use Rattle.nd_value.specs.Tree as tree;
 ghost use Rattle.nd_value.specs.Tree.{Trees, more, none, trees, count, node_count};

@@ -1,6 +1,6 @@
 // Strings of a value text.
 ghost use Rattle.std.specs.Prelude.{◌≡◌, ◌++◌, ◌∷◌, [], true, flat_map, IfOk, OnOk};
-ghost use Rattle.text_grammar.specs.Printed.{escaped, quoted_text};
+ghost use Rattle.text_grammar.specs.Written.{escaped, quoted_text};
 
 use crate::digits::append_hex;
 use nd_base::{Memory, Octets};

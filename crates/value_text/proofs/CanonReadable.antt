@@ -15,13 +15,11 @@ use Rattle.nd_value.specs.Tree as tree
 use Rattle.nd_value.specs.Tree.{Tree, Trees, node, none, more, Referent, trees, count}
 use Rattle.nd_value.specs.Setting.{Setting, Among, root_list, cell_home, cell_of_number}
 use Rattle.nd_value.specs.Nodes.{TypedNode, nodes_of, governed_nodes, home_nodes}
-use Rattle.nd_value.specs.Variables.{root_agreements}
+use Rattle.nd_value.specs.Agreement.{root_agreements}
 use Rattle.nd_value.specs.Deferral.{Pending, pointer, home_pointers}
-use Rattle.nd_value.specs.Homes.{HomeNode, in_home, root_nodes, cell_nodes, all_nodes, root_pointers}
-use Rattle.nd_value.specs.Canon.{IsCanon, canonical_number, named_cells}
-use Rattle.nd_value.specs.Conforms.{Conforms}
+use Rattle.nd_value.specs.Conforms.{HomeNode, in_home, root_nodes, cell_nodes, all_nodes, root_pointers, Conforms}
+use Rattle.nd_value.specs.Canon.{IsCanon, canonical_number, named_cells, renumbered}
 use Rattle.nd_value.specs.Misfit.{misfit_of, has_machine_values}
-use Rattle.nd_value.specs.Same.{renumbered}
 use Rattle.nd_value.proofs.Apart.{all_weaker, all_left, all_right, all_append, all_map, all_among, among_left, among_right}
 use Rattle.nd_value.proofs.NodeFacts.{fit_node, all_of_list}
 use Rattle.nd_value.proofs.Orderly.{Pointee, PointerFits, pointees}
@@ -29,7 +27,7 @@ use Rattle.nd_grammar.specs.LegalSide.{IsLegalSide}
 use Rattle.nd_grammar.proofs.RenumberedEntries.{count_same, carried, PendLike, AllPend, pointers_alike}
 use Rattle.nd_grammar.proofs.PlainStreams.{Suffix, suffix_next, suffix_first, suffix_whole}
 use Rattle.text_grammar.specs.declared.version.Version.{Version}
-use Rattle.text_grammar.specs.Readable.{IsReadable, AreNamed, first_type, is_cell, has_text_form}
+use Rattle.text_grammar.specs.Reads.{IsReadable, AreNamed, first_type, is_cell, has_text_form}
 use Rattle.value_text.specs.Short.{is_short, HasShortNumbers}
 use Rattle.nd_graph.proofs.Images.{first_tree, rest_trees, CameFrom, came_from}
 use Rattle.value_text.proofs.CarriedNodes.{Fine, Stands, nodes_carried}

@@ -22,13 +22,13 @@ use Rattle.nd_value.specs.Tree.{Trees, node, none, more, count, node_count, Labe
 use Rattle.nd_value.specs.Agreement.{Agreement}
 use Rattle.nd_value.specs.Nodes.{TypedNode, nodes_of, child_types, child_agreements, rest_agreements, selected_types}
 use Rattle.nd_value.specs.Misfit.{has_shape, has_range, has_counts, has_arm, arm_fits, selects, names_cell, has_machine_values, is_octet, is_count}
-use Rattle.nd_value.specs.Same.{renumbered, renumbered_label}
+use Rattle.nd_value.specs.Canon.{renumbered, renumbered_label}
 use Rattle.nd_value.proofs.Apart.{all_left, all_right, all_append}
 use Rattle.nd_value.proofs.NodeFacts.{IsFit}
 use Rattle.nd_grammar.proofs.RenumberedEntries.{count_same, child_types_same}
 use Rattle.text_grammar.specs.declared.version.Version.{Version}
 use Rattle.text_grammar.specs.Written.{writes_octets}
-use Rattle.text_grammar.specs.Readable.{is_octet_number, are_octets, may_be_elements, has_text_form}
+use Rattle.text_grammar.specs.Reads.{is_octet_number, are_octets, may_be_elements, has_text_form}
 use Rattle.text_grammar.proofs.Bytes.{bytes_alone}
 use Rattle.value_text.specs.Short.{is_short}
 

@@ -11,8 +11,7 @@ use Rattle.text_grammar.specs.declared.version.Version.{Version}
 use Rattle.text_grammar.specs.declared.version.Version.TheVariants as version
 use Rattle.text_grammar.specs.Tokens.{Token, Word, Number, Cell, Str, Bytes, Uuid, Mark, Spells, Cutting, cutting, IsCut, Begins, is_uuid, is_bytes, begins_bytes, skip, is_mark, ends_run, uuid_due}
 use Rattle.text_grammar.specs.Tokens.{is_version_two, after}
-use Rattle.text_grammar.specs.Written.{Piece, token_of}
-use Rattle.text_grammar.specs.Printed.{is_equals, is_comma, is_run, space, spelled, tokens_text, line_text}
+use Rattle.text_grammar.specs.Written.{Piece, token_of, is_equals, is_comma, is_run, space, spelled, tokens_text, line_text}
 use Rattle.text_grammar.specs.Settled.{is_two, IsSettled, is_simple}
 use Rattle.text_grammar.proofs.Settled.{settled_next, cutting_ctx_1, cutting_ctx_2, cutting_ctx_3, cutting_ctx_4, cutting_ctx_5, settled_ctx_6}
 use Rattle.value_text.proofs.Spelled.{IsToken, no_quote_first, token_cut}

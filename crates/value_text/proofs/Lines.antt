@@ -19,10 +19,9 @@ use Rattle.nd_value.specs.declared.item.Home.TheVariants as home
 use Rattle.nd_value.specs.Tree as tree
 use Rattle.nd_value.specs.Tree.{Tree, Trees, node, none, more, node_count, Label, Referent}
 use Rattle.nd_value.specs.Setting.{Setting, root_list, cell_home}
-use Rattle.nd_value.specs.Agreement.{Agreement}
+use Rattle.nd_value.specs.Agreement.{Agreement, root_agreements}
 use Rattle.nd_value.specs.Nodes.{TypedNode, nodes_of, child_types, child_agreements, rest_agreements, governed_nodes, home_nodes}
-use Rattle.nd_value.specs.Homes.{HomeNode, in_home, root_nodes, cell_nodes}
-use Rattle.nd_value.specs.Variables.{root_agreements}
+use Rattle.nd_value.specs.Conforms.{HomeNode, in_home, root_nodes, cell_nodes}
 use Rattle.nd_value.specs.Misfit.{is_octet}
 use Rattle.nd_grammar.specs.LegalSide.{IsLegalSide}
 use Rattle.text_grammar.specs.declared.version.Version.{Version}
@@ -30,10 +29,9 @@ use Rattle.text_grammar.specs.declared.version.Version.TheVariants as version
 use Rattle.text_grammar.specs.declared.TheConstants.{TEXT_LIMIT}
 use Rattle.text_grammar.specs.Tokens.{Token, Word, Number, Cell, Str, Bytes, Mark, is_bytes, is_mark}
 use Rattle.text_grammar.specs.Written.{Piece, Name, Other, word, token_of, separated, enclosed, named, members, octet_in, octets_in, writes_octets, list_pieces, array_counts, node_pieces}
-use Rattle.text_grammar.specs.Written.{values_pieces, value_pieces, version_number, side_word, root_name, head_lines, root_lines, cell_lines, graph_lines, graph_tokens}
-use Rattle.text_grammar.specs.Printed.{is_run, tokens_text, graph_text}
-use Rattle.text_grammar.specs.Readable.{has_maximum, has_offset, may_be_elements, is_octet_number, are_octets, has_text_form, IsReadable}
-use Rattle.text_grammar.specs.Reads.{ReadsAs}
+use Rattle.text_grammar.specs.Written.{values_pieces, value_pieces, version_number, side_word, root_name, head_lines, root_lines, cell_lines, graph_lines, graph_tokens, is_run, tokens_text}
+use Rattle.text_grammar.specs.Written.{graph_text}
+use Rattle.text_grammar.specs.Reads.{has_maximum, has_offset, may_be_elements, is_octet_number, are_octets, has_text_form, IsReadable, ReadsAs}
 use Rattle.text_grammar.specs.Settled.{is_two, IsSettled, is_simple}
 use Rattle.text_grammar.specs.Values.{have_forms}
 use Rattle.text_grammar.proofs.Forms.{Form, form_of, a_number, an_enum, a_struct, an_array, a_bound_text, a_text, a_union, a_null, a_pointer, a_context, a_pipe}

@@ -16,9 +16,8 @@ use Rattle.nd_value.specs.Tree.{Tree, node, none, more, Referent}
 use Rattle.nd_value.specs.Setting.{Setting, Among, root_list, root_at, or_unread, cell_home, cell_at, cell_tree, cell_of_number}
 use Rattle.nd_value.specs.Deferral.{Pending, home_pointers, Due, due_root, due_referent, Step, Deferral, none_due, at_root, at_null, at_standing, at_referent, Placed_cells, Standing, standing_root}
 use Rattle.nd_value.specs.Deferral.{standing_by, standing_cell, direct, root_type, due_of, due_roots, before_pipes}
-use Rattle.nd_value.specs.Homes.{root_pointers}
+use Rattle.nd_value.specs.Conforms.{root_pointers, Conforms}
 use Rattle.nd_value.specs.Canon.{target, named, own_cell, named_cells, has, number_from, canonical_number}
-use Rattle.nd_value.specs.Conforms.{Conforms}
 use Rattle.nd_value.proofs.Apart.{all_append, among_left, among_right}
 use Rattle.nd_value.proofs.DeferralExists.{direct_is, direct_pointer}
 use Rattle.nd_grammar.specs.LegalSide.{IsLegalSide}

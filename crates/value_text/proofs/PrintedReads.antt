@@ -6,7 +6,7 @@ use Rattle.nd_value.specs.Conforms.{Conforms}
 use Rattle.nd_grammar.specs.LegalSide.{IsLegalSide}
 use Rattle.text_grammar.specs.declared.version.Version.TheVariants as version
 use Rattle.text_grammar.specs.declared.TheConstants.{TEXT_LIMIT}
-use Rattle.text_grammar.specs.Printed.{IsText}
+use Rattle.text_grammar.specs.Written.{IsText}
 use Rattle.text_grammar.specs.Reads.{ReadsAs}
 use Rattle.value_text.proofs.Lines.{text_reads}
 use Rattle.value_text.proofs.CanonReadable.{readable, short}

@@ -2,14 +2,12 @@
 use Rattle.std.proofs.Common.{◌≡◌, ℕ, ◌<◌, ◌^◌, List, [], length, refl, ap, sym, ◌∙◌, subst, arith}
 use Rattle.nd_value.specs.declared.value.Graph.{Graph}
 use Rattle.nd_value.specs.Setting.{Setting}
-use Rattle.nd_value.specs.Canon.{IsCanon}
+use Rattle.nd_value.specs.Canon.{IsCanon, Same}
 use Rattle.nd_value.specs.Conforms.{Conforms}
-use Rattle.nd_value.specs.Same.{Same}
 use Rattle.nd_grammar.specs.LegalSide.{IsLegalSide}
 use Rattle.text_grammar.specs.declared.version.Version.TheVariants as version
 use Rattle.text_grammar.specs.Tokens.{Token, cutting, after}
-use Rattle.text_grammar.specs.Written.{graph_tokens}
-use Rattle.text_grammar.specs.Printed.{IsText, graph_text}
+use Rattle.text_grammar.specs.Written.{graph_tokens, IsText, graph_text}
 use Rattle.text_grammar.proofs.OneText.{Compared, as_far, shorter, longer, compare, some_octets}
 use Rattle.text_grammar.proofs.OneGraph.{tokens_one}
 use Rattle.value_text.proofs.Kept.{AreRead}

@@ -12,7 +12,7 @@ use Rattle.nd_value.specs.Misfit.{is_octet}
 use Rattle.text_grammar.specs.Tokens.{Token, Word, Number, Cell, Str, Bytes, Uuid, Mark, Spells, Cutting, IsCut, is_uuid, is_bytes, begins_bytes, IsString, IsByteString, character, escape, hex_pair}
 use Rattle.text_grammar.specs.Tokens.{is_plain, skip, is_blank, is_mark, ends_run}
 use Rattle.text_grammar.specs.Tokens as tokens
-use Rattle.text_grammar.specs.Printed.{hex_octet, hex_text, uuid_text, fill, escaped, spelled, is_run}
+use Rattle.text_grammar.specs.Written.{hex_octet, hex_text, uuid_text, fill, escaped, spelled, is_run}
 use Rattle.text_grammar.proofs.Classes.{range_digit, is_no_hyphen, digit_no_hyphen}
 use Rattle.text_grammar.proofs.Numerals.{written}
 

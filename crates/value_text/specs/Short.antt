@@ -5,7 +5,7 @@ use Rattle.nd_value.specs.declared.value.Graph.{Graph}
 use Rattle.nd_value.specs.Tree as tree
 use Rattle.nd_value.specs.Tree.{Label}
 use Rattle.nd_value.specs.Setting.{Setting}
-use Rattle.nd_value.specs.Homes.{all_nodes}
+use Rattle.nd_value.specs.Conforms.{all_nodes}
 
 abbrev pub is_short : Label → Bool
 is_short (tree.Num z) = nat_lt (unsigned_abs z) (10 ^ 20)

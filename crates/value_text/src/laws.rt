@@ -3,14 +3,13 @@ ghost use Rattle.std.specs.Prelude.{◌≡◌, ◌≤◌, ◌⊎◌, ◌-◌, �
 ghost use Rattle.nd_value.specs.declared.value.Graph.{Graph};
 ghost use Rattle.nd_value.specs.Setting.{Setting};
 ghost use Rattle.nd_value.specs.Conforms.{Conforms};
-ghost use Rattle.nd_value.specs.Same.{Same};
+ghost use Rattle.nd_value.specs.Canon.{Same};
 ghost use Rattle.nd_grammar.specs.LegalSide.{IsLegalSide};
 ghost use Rattle.text_grammar.specs.declared.version.Version.{Version};
 ghost use Rattle.text_grammar.specs.declared.fault.TextReason.{TextReason};
 ghost use Rattle.text_grammar.specs.declared.TheConstants.{TEXT_LIMIT};
-ghost use Rattle.text_grammar.specs.Printed.{IsText, graph_text};
-ghost use Rattle.text_grammar.specs.Readable.{IsReadable};
-ghost use Rattle.text_grammar.specs.Reads.{ReadsAs, IsFirstFault, IsTextFault};
+ghost use Rattle.text_grammar.specs.Written.{IsText, graph_text};
+ghost use Rattle.text_grammar.specs.Reads.{IsReadable, ReadsAs, IsFirstFault, IsTextFault};
 ghost use Rattle.value_text.specs.Short.{HasShortNumbers};
 ghost use Rattle.text_grammar.specs.Dues.{Reading, nothing_read};
 ghost use Rattle.text_grammar.specs.Reader.{Ending, Whole, Stopped, ComesTo};

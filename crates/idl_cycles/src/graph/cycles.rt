@@ -1,6 +1,6 @@
 //! The first node that contains itself.
 
-ghost use Rattle.std.specs.Prelude.{◌≡◌, ℕ, ◌+◌, ◌<◌, length, [], ◌∷◌, eqb, slice_get, slice_index};
+ghost use Rattle.std.specs.Prelude.{◌≡◌, ℕ, ◌+◌, ◌<◌, length, [], ◌∷◌, ◌==◌, slice_get, slice_index};
 ghost use Rattle.std.specs.List.{list_all, list_any};
 ghost use Rattle.std.specs.Result.{IfOk, OnOk};
 ghost use Rattle.idl_cycles.specs.Graph.{parts_at, contains_itself, IsLeast};
@@ -184,7 +184,7 @@ impl Search {
 }
 
 fn is_among(parts: &[usize], node: usize) -> bool
-    ensures { result ≡ list_any (λ p. eqb p node) parts.now }
+    ensures { result ≡ list_any (λ p. p == node) parts.now }
 {
     parts.iter().any(|part| *part == node)
 }

@@ -6,7 +6,7 @@ use Rattle.nd_types.specs.Kinds as kinds
 use Rattle.nd_types.specs.Fields.{are_ordered, has_attr, has_size, has_range_attr, subject_type, all_variables}
 use Rattle.nd_types.specs.Legal as legal
 use Rattle.nd_types.specs.Legal.{implies, is_in_table, result_passes, has_other_variables, is_switch_attr, is_in, is_out_only}
-use Rattle.idl_rule_definitions.specs.World.{World}
+use Rattle.idl_rule_definitions.specs.Nodes.{World}
 use Rattle.idl_rule_definitions.specs.Scene.{scene_of}
 use Rattle.idl_rule_definitions.specs.Rules.{breaches, breaches_in}
 use Rattle.idl_rule_definitions.specs.Meaning.{types_of, operations_of}

@@ -11,9 +11,8 @@ use Rattle.nd_types.specs.Legal.{all_params}
 use Rattle.idl_grammar.specs.declared.words.Spelling.{Spelling}
 use Rattle.idl_grammar.specs.Tree.{TypeSpec}
 use Rattle.idl_grammar.specs.Tree as tree
-use Rattle.idl_rule_definitions.specs.World.{World}
-use Rattle.idl_rule_definitions.specs.Nodes.{Construct, Declared, declared_members, result_of, Node, HeaderNode, AttributeNode, SwitchNode, TagNode, BodyNode, EnumeratorNode, LabelNode, EmptyArmNode}
-use Rattle.idl_rule_definitions.specs.Nodes.{DeclaratorNode, ConstantNode, TypeNode, OperationNode}
+use Rattle.idl_rule_definitions.specs.Nodes.{World, Construct, Declared, declared_members, result_of, Node, HeaderNode, AttributeNode, SwitchNode, TagNode, BodyNode, EnumeratorNode, LabelNode}
+use Rattle.idl_rule_definitions.specs.Nodes.{EmptyArmNode, DeclaratorNode, ConstantNode, TypeNode, OperationNode}
 use Rattle.idl_rule_definitions.specs.Types.{IdlType, Void, Handle, ContextHandle, Basic, Struct, Union, Enum, Array, Text, Pointer, Pipe, Names}
 use Rattle.idl_rule_definitions.specs.Scene.{Scoped, Scene, scene_of, Body, body_by, body_among, body_of, place_of, same_place}
 use Rattle.idl_rule_definitions.specs.Rules.{breaches}

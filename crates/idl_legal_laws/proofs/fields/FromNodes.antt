@@ -7,16 +7,14 @@ use Rattle.idl_grammar.specs.declared.words.Spelling.{Spelling}
 use Rattle.idl_grammar.specs.declared.types.SwitchType.{SwitchType}
 use Rattle.idl_grammar.specs.Tree.{Attribute, Declarator, Enumerator, Parameter, Export, TypeSpec, Members, Cases, Arms, Arm}
 use Rattle.idl_grammar.specs.Tree as tree
-use Rattle.idl_scope.specs.Ended.{Ended}
+use Rattle.idl_scope.specs.Known.{Ended, Known}
 use Rattle.idl_scope.specs.Steps.{parameters_of}
-use Rattle.idl_scope.specs.Known.{Known}
-use Rattle.idl_rule_definitions.specs.World.{World}
-use Rattle.idl_rule_definitions.specs.Attributes.{switch_type_in}
-use Rattle.idl_rule_definitions.specs.Nodes.{Construct, Position, InTypedef, InTaggedType, InMember, InParameter, InArm, InCasedArm, InOperation, Declared, declared, inside, declared_members}
+use Rattle.idl_rule_definitions.specs.Nodes.{World, Construct, Position, InTypedef, InTaggedType, InMember, InParameter, InArm, InCasedArm, InOperation, Declared, declared, inside, declared_members}
 use Rattle.idl_rule_definitions.specs.Nodes.{parameter_construct, declared_parameters, attribute_nodes, attribute_nodes_from, switch_node, switch_nodes, declarator_nodes, ArmLabel, labels_of}
 use Rattle.idl_rule_definitions.specs.Nodes.{label_nodes, type_nodes, member_nodes, case_nodes, arms_nodes, arm_nodes, parameter_nodes, typedef_node, result_of, operation_nodes, export_nodes}
 use Rattle.idl_rule_definitions.specs.Nodes.{header_of, file_nodes, nodes, Node, HeaderNode, AttributeNode, SwitchNode, TagNode, BodyNode, EnumeratorNode, LabelNode, EmptyArmNode, DeclaratorNode}
 use Rattle.idl_rule_definitions.specs.Nodes.{ConstantNode, TypeNode, OperationNode}
+use Rattle.idl_rule_definitions.specs.Attributes.{switch_type_in}
 use Rattle.idl_rule_definitions.specs.Types.{Names, type_of}
 use Rattle.idl_rule_definitions.specs.Scene.{Scoped, is_typedef, names_behind, scoped_from, scene_of}
 use Rattle.idl_rule_definitions.specs.TypeRules.{is_operation}

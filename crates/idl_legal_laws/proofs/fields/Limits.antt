@@ -17,21 +17,18 @@ use Rattle.idl_grammar.specs.declared.words.Spelling.{Spelling}
 use Rattle.idl_grammar.specs.declared.types.SwitchType.{SwitchType}
 use Rattle.idl_grammar.specs.Tree.{Attribute, Declarator, Enumerator, Parameter, Export, TypeSpec, Members, Cases, Arms, Arm}
 use Rattle.idl_grammar.specs.Tree as tree
-use Rattle.idl_scope.specs.Ended.{Ended}
+use Rattle.idl_scope.specs.Known.{Ended, Known}
 use Rattle.idl_scope.specs.Steps.{parameters_of}
-use Rattle.idl_scope.specs.Known.{Known}
-use Rattle.idl_rule_definitions.specs.World.{World}
+use Rattle.idl_rule_definitions.specs.Nodes.{World, Construct, Position, InTypedef, InTaggedType, InMember, InArm, InCasedArm, InOperation, Declared, declared, inside, declared_members}
+use Rattle.idl_rule_definitions.specs.Nodes.{parameter_construct, declared_parameters, attribute_nodes, attribute_nodes_from, switch_node, switch_nodes, declarator_nodes, ArmLabel, LabelledArm}
+use Rattle.idl_rule_definitions.specs.Nodes.{arms_of, labels_of, label_nodes, type_nodes, member_nodes, case_nodes, arms_nodes, arm_nodes, parameter_nodes, typedef_node, result_of, operation_nodes}
+use Rattle.idl_rule_definitions.specs.Nodes.{export_nodes, header_of, file_nodes, nodes, Node, HeaderNode, AttributeNode, SwitchNode, TagNode, BodyNode, EnumeratorNode, LabelNode, EmptyArmNode}
+use Rattle.idl_rule_definitions.specs.Nodes.{DeclaratorNode, ConstantNode, TypeNode, OperationNode}
 use Rattle.idl_rule_definitions.specs.Attributes.{switch_type_in}
-use Rattle.idl_rule_definitions.specs.Nodes.{Construct, Position, InTypedef, InTaggedType, InMember, InArm, InCasedArm, InOperation, Declared, declared, inside, declared_members, parameter_construct}
-use Rattle.idl_rule_definitions.specs.Nodes.{declared_parameters, attribute_nodes, attribute_nodes_from, switch_node, switch_nodes, declarator_nodes, ArmLabel, LabelledArm, arms_of, labels_of}
-use Rattle.idl_rule_definitions.specs.Nodes.{label_nodes, type_nodes, member_nodes, case_nodes, arms_nodes, arm_nodes, parameter_nodes, typedef_node, result_of, operation_nodes, export_nodes}
-use Rattle.idl_rule_definitions.specs.Nodes.{header_of, file_nodes, nodes, Node, HeaderNode, AttributeNode, SwitchNode, TagNode, BodyNode, EnumeratorNode, LabelNode, EmptyArmNode, DeclaratorNode}
-use Rattle.idl_rule_definitions.specs.Nodes.{ConstantNode, TypeNode, OperationNode}
 use Rattle.idl_rule_definitions.specs.Types.{IdlType, Void, Handle, ContextHandle, Basic, Struct, Union, Enum, Array, Text, Pointer, Pipe, Names}
 use Rattle.idl_rule_definitions.specs.Scene.{Scoped, Scene, scoped_from, scene_of, names_behind, Body, body_by, body_among, bodies, body_of, place_of, same_place, type_of_body}
 use Rattle.idl_rule_definitions.specs.Rules.{breaches_in}
-use Rattle.idl_rule_definitions.specs.ValueRules.{label_value}
-use Rattle.idl_rule_definitions.specs.CountRules.{first_past, operation_in, parameters_in, part_in, types_too_many, operations_too_many, parameters_too_many, parts_too_many}
+use Rattle.idl_rule_definitions.specs.DeclarationRules.{label_value, first_past, operation_in, parameters_in, part_in, types_too_many, operations_too_many, parameters_too_many, parts_too_many}
 use Rattle.idl_rule_definitions.specs.Numbering.{Needed, needed_types, own_types, first_needed, has_own_number, same_type}
 use Rattle.idl_rule_definitions.specs.Meaning.{parameter, definition, types_of, operations_of, struct_of, defined_by, defined_at, body_if, is_struct, is_union, is_enum}
 use Rattle.idl_rule_definitions.specs.Meaning as meaning

@@ -20,8 +20,7 @@ use Rattle.idl_rule_definitions.specs.Types.{is_pointer, is_reference}
 use Rattle.idl_rule_definitions.specs.Scene.{Scene, Body, body_of, use_of}
 use Rattle.idl_rule_definitions.specs.Rules.{breaches_at, breaches_in}
 use Rattle.idl_rule_definitions.specs.DeclarationRules.{is_parameter}
-use Rattle.idl_rule_definitions.specs.TypeRules.{without_handle, is_in_alone, is_result_type}
-use Rattle.idl_rule_definitions.specs.PointerRules.{is_out_type}
+use Rattle.idl_rule_definitions.specs.TypeRules.{without_handle, is_in_alone, is_result_type, is_out_type}
 use Rattle.idl_rule_definitions.specs.Numbering.{needed, built, needed_by, number_of_type, is_numbered_or_none}
 use Rattle.idl_rule_definitions.specs.Meaning.{way_by, parameter, result_number, types_of, defined_at, body_if, is_enum}
 use Rattle.idl_legal_laws.proofs.Kept.{keeps_use}

@@ -10,12 +10,11 @@ use Rattle.nd_types.specs.Table.{type_at}
 use Rattle.nd_types.specs.Kinds.{pointee, pointee_by}
 use Rattle.idl_grammar.specs.Tree.{TypeSpec}
 use Rattle.idl_grammar.specs.Tree as tree
-use Rattle.idl_rule_definitions.specs.World.{World}
-use Rattle.idl_rule_definitions.specs.Nodes.{Position, InMember, InParameter, place_in, Declared, attribute_nodes, DeclaratorNode}
+use Rattle.idl_rule_definitions.specs.Nodes.{World, Position, InMember, InParameter, place_in, Declared, attribute_nodes, DeclaratorNode}
 use Rattle.idl_rule_definitions.specs.Types.{IdlType, Void, Handle, ContextHandle, Basic, Struct, Union, Enum, Array, Text, Pointer, Pipe, Names, type_of, is_void}
 use Rattle.idl_rule_definitions.specs.Scene.{Scoped, Scene, scene_of, use_of, Body, body_of, chain}
 use Rattle.idl_rule_definitions.specs.Rules.{Breach, breach, breaches_at, breaches_in, breaches}
-use Rattle.idl_rule_definitions.specs.CountRules.{too_many}
+use Rattle.idl_rule_definitions.specs.DeclarationRules.{too_many}
 use Rattle.idl_rule_definitions.specs.TypeRules.{without_void}
 use Rattle.idl_rule_definitions.specs.Kept.{KeepsUse}
 use Rattle.idl_rule_definitions.specs.Numbering.{needed, built, needed_by, needed_types, number_of_type, is_numbered_or_none}

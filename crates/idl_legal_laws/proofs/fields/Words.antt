@@ -19,7 +19,7 @@ use Rattle.idl_rule_definitions.specs.Nodes.{Construct, Declared, attribute_node
 use Rattle.idl_rule_definitions.specs.Types.{Names}
 use Rattle.idl_rule_definitions.specs.Scene.{Scene}
 use Rattle.idl_rule_definitions.specs.Rules.{broken_at, broken_in, breaches_at}
-use Rattle.idl_rule_definitions.specs.AttributeRules.{is_out_of_place, is_repeated, is_large_version, is_second_class}
+use Rattle.idl_rule_definitions.specs.DeclarationRules.{is_out_of_place, is_repeated, is_large_version, is_second_class}
 use Rattle.idl_rule_definitions.specs.VariableRules.{variable_if, variables}
 use Rattle.idl_rule_definitions.specs.Meaning.{attr_var, vars_of, field_vars, field}
 use Rattle.idl_legal_laws.proofs.Kept.{neither}

@@ -1,7 +1,7 @@
 -- Files that break no rule mean a legal interface.
 use Rattle.std.proofs.Common.{◌≡◌, []}
 use Rattle.nd_types.specs.Legal.{IsLegal}
-use Rattle.idl_rule_definitions.specs.World.{World}
+use Rattle.idl_rule_definitions.specs.Nodes.{World}
 use Rattle.idl_rule_definitions.specs.Scene.{scene_of}
 use Rattle.idl_rule_definitions.specs.Rules.{breaches}
 use Rattle.idl_rule_definitions.specs.Meaning.{types_of, operations_of, HasIdentifiers}

@@ -15,8 +15,7 @@ use Rattle.idl_rule_definitions.specs.Attributes.{has, switch_is_word}
 use Rattle.idl_rule_definitions.specs.Nodes.{Position, InHeader, InTypedef, InTaggedType, InMember, InParameter, InArm, InCasedArm, InOperation, Declared}
 use Rattle.idl_rule_definitions.specs.Types.{IdlType, Void, Handle, ContextHandle, Basic, Struct, Union, Enum, Array, Text, Pointer, Pipe, Names, type_of, is_pipe, is_context, is_pointer}
 use Rattle.idl_rule_definitions.specs.Scene.{Scene, Use, use_of, Body, body_of, parts_declared, chain, below, is_nonencapsulated}
-use Rattle.idl_rule_definitions.specs.TypeRules.{below_reference, without_pipe}
-use Rattle.idl_rule_definitions.specs.ArrayRules.{is_arm}
+use Rattle.idl_rule_definitions.specs.TypeRules.{below_reference, without_pipe, is_arm}
 use Rattle.idl_rule_definitions.specs.VariableRules.{may_be_switched, is_switched, below_pointer, is_switched_place}
 use Rattle.idl_rule_definitions.specs.Kept.{KeepsUse}
 use Rattle.idl_rule_definitions.specs.Numbering.{own_types, same_type, number_of_type, is_numbered}

@@ -30,7 +30,7 @@ use Rattle.idl_rule_definitions.specs.Types.{IdlType, Void, Handle, ContextHandl
 use Rattle.idl_rule_definitions.specs.Types.{is_varying_array, simple_type, tagged_type, written_type, with_stars, with_dimensions, with_declarator, outermost_class, text_of, sized, with_attributes}
 use Rattle.idl_rule_definitions.specs.Types.{pipe_or_plain, type_before, declared_from, declared_type, is_context_handle}
 use Rattle.idl_rule_definitions.specs.Scene.{Scoped, Scene, use_of, Body, body_of, chain, type_of_body, hoists}
-use Rattle.idl_rule_definitions.specs.ArrayRules.{dimensions, is_few, is_right_count, times, product, has_wrong_count, are_many, has_many_not_fixed, has_wrong_element}
+use Rattle.idl_rule_definitions.specs.TypeRules.{dimensions, is_few, is_right_count, times, product, has_wrong_count, are_many, has_many_not_fixed, has_wrong_element}
 use Rattle.idl_rule_definitions.specs.VariableRules.{is_octet, may_be_text}
 use Rattle.idl_rule_definitions.specs.Kept.{KeepsUse}
 use Rattle.idl_rule_definitions.specs.Numbering.{Needed, needed, built, needed_by, needed_types, own_types, same_type, number_of_type, is_numbered}

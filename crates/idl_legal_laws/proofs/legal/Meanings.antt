@@ -3,13 +3,12 @@ use Rattle.std.proofs.Common.{◌≡◌, [], None, subst}
 use Rattle.std.specs.Prelude.{All}
 use Rattle.std.proofs.lemmas.List.Elements.{All-map}
 use Rattle.nd_types.specs.Legal.{IsLegal}
-use Rattle.idl_rule_definitions.specs.World.{World}
-use Rattle.idl_rule_definitions.specs.FirstBroken.{first_broken, IsLeast}
+use Rattle.idl_rule_definitions.specs.Nodes.{World}
+use Rattle.idl_rule_definitions.specs.Rules.{first_broken, IsLeast, breaches}
 use Rattle.nd_types.specs.Meant.{Meant}
 use Rattle.idl_rule_definitions.specs.Meaning.{types_of, operations_of, header_meant, main_among, HasIdentifiers}
 use Rattle.idl_rule_definitions.proofs.Order.{least}
 use Rattle.idl_rule_definitions.specs.Scene.{scene_of}
-use Rattle.idl_rule_definitions.specs.Rules.{breaches}
 use Rattle.idl_rule_definitions.specs.Meaning.{meaning}
 
 -- that each file without a broken rule means a legal interface

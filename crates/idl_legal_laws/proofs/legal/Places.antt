@@ -21,7 +21,7 @@ use Rattle.nd_base.specs.declared.octets.Place.{Place}
 use Rattle.idl_rule_definitions.specs.Nodes.{Construct, InMember, inside, Declared, declared, BodyNode, declared_members, declarator_nodes}
 use Rattle.idl_rule_definitions.specs.Types.{IdlType, Void, Handle, ContextHandle, Basic, Struct, Union, Enum, Array, Text, Pointer, Pipe, Names, type_of, is_text, is_varying_array}
 use Rattle.idl_rule_definitions.specs.Scene.{Scene, use_of, Body, body_of, parts_declared, parts_of_found, in_place, nests, last_passes, hoists_within, hoists}
-use Rattle.idl_rule_definitions.specs.ArrayRules.{has_wrong_element, is_member, is_arm, is_barred_by, is_barred_within, is_barred_in_pipes, is_wrong_pipe}
+use Rattle.idl_rule_definitions.specs.TypeRules.{has_wrong_element, is_member, is_arm, is_barred_by, is_barred_within, is_barred_in_pipes, is_wrong_pipe}
 use Rattle.idl_rule_definitions.specs.Numbering.{own_types, number_of_type, is_numbered}
 use Rattle.idl_rule_definitions.specs.Meaning.{definition, types_of, number, bound, field, struct_of, defined_by, body_if, defined_at, is_struct, is_union, is_enum}
 use Rattle.idl_legal_laws.proofs.Numbers.{at_its_number}

@@ -15,11 +15,11 @@ use Rattle.nd_types.specs.Legal.{has_small_values, has_tag_labels, has_distinct_
 use Rattle.idl_grammar.specs.Tree.{TypeSpec, Enumerator}
 use Rattle.idl_grammar.specs.Tree as tree
 use Rattle.idl_scope.specs.Known.{Known}
-use Rattle.idl_rule_definitions.specs.World as world
+use Rattle.idl_rule_definitions.specs.Nodes as world
 use Rattle.idl_rule_definitions.specs.Nodes.{Construct, EnumeratorNode, LabelNode, BodyNode, ArmLabel, LabelledArm, arms_of, labels_of, label_nodes}
 use Rattle.idl_rule_definitions.specs.Types.{IdlType, Void, Handle, ContextHandle, Basic, Struct, Union, Enum, Array, Text, Pointer, Pipe, Names}
 use Rattle.idl_rule_definitions.specs.Scene.{Scene, Body, body_of, tag_type, enumerators_found, parts_declared}
-use Rattle.idl_rule_definitions.specs.ValueRules.{is_small, is_large_enumerator, same_value, label_value, is_repeated_label, is_value_of, is_label_of, is_bad_label}
+use Rattle.idl_rule_definitions.specs.DeclarationRules.{is_small, is_large_enumerator, same_value, label_value, is_repeated_label, is_value_of, is_label_of, is_bad_label}
 use Rattle.idl_rule_definitions.specs.VariableRules.{may_be_switched}
 use Rattle.idl_rule_definitions.specs.Numbering.{number_of_type}
 use Rattle.idl_rule_definitions.specs.Meaning.{definition, types_of, struct_of, defined_by, body_if, defined_at, is_union, is_enum, or_zero, or_handle, number, arm_by, labelled_arms, default_arm}

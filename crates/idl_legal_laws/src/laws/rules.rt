@@ -3,7 +3,7 @@ ghost use Rattle.std.specs.Prelude.{◌≡◌, ◌≤◌, [], length, Some, true
 ghost use Rattle.nd_types.specs.declared.TheConstants.{TYPE_LIMIT};
 ghost use Rattle.std.specs.List.{list_all};
 ghost use Rattle.nd_types.specs.Table.{type_at};
-ghost use Rattle.idl_rule_definitions.specs.World.{World};
+ghost use Rattle.idl_rule_definitions.specs.Nodes.{World};
 ghost use Rattle.idl_rule_definitions.specs.Types.{IdlType};
 ghost use Rattle.idl_rule_definitions.specs.Scene.{Scene, Use, scene_of};
 ghost use Rattle.idl_rule_definitions.specs.Kept.{KeepsUse};
@@ -11,8 +11,7 @@ ghost use Rattle.idl_legal_laws.specs.LegalFields.{HasLegalFields};
 ghost use Rattle.nd_types.specs.Legal.{refers_to_no_reference};
 ghost use Rattle.idl_rule_definitions.specs.Numbering.{is_numbered, is_numbered_or_none, needed_types, number_of_type};
 ghost use Rattle.idl_rule_definitions.specs.Meaning.{types_of, operations_of, definition};
-ghost use Rattle.idl_rule_definitions.specs.Rules.{breaches, breaches_in, breaches_of_use};
-ghost use Rattle.idl_rule_definitions.specs.FirstBroken.{first_broken, IsLeast};
+ghost use Rattle.idl_rule_definitions.specs.Rules.{breaches, breaches_in, breaches_of_use, first_broken, IsLeast};
 
 /// The rule that is reported is broken at its place, no lesser rule is broken anywhere, and this one at no earlier place. Where none is reported,
 /// none is broken.

@@ -15,14 +15,13 @@ use Rattle.nd_value.specs.declared.item.Home.{Home}
 use Rattle.nd_value.specs.declared.item.Home.TheVariants as home
 use Rattle.nd_value.specs.Tree as tree
 use Rattle.nd_value.specs.Tree.{Tree, Trees, node, none, more, Label, Flat, flat, count, node_count, take_trees, drop_trees, is_pointer}
-use Rattle.nd_value.specs.Agreement.{Agreement, offset_of, tag_of}
+use Rattle.nd_value.specs.Agreement.{Agreement, offset_of, tag_of, root_agreements}
 use Rattle.nd_value.specs.Setting.{Setting, root_list, root_at, or_unread, cell_at, cell_home}
 use Rattle.nd_value.specs.Nodes.{child_types, child_agreements, first_agreements, rest_agreements}
 use Rattle.nd_value.specs.Deferral.{Step, root_stands, referent_stands, stands_already, standing_root, standing_by, direct, root_type, before_pipes}
-use Rattle.nd_value.specs.Variables.{root_agreements}
 use Rattle.nd_value.proofs.Apart.{all_append}
-use Rattle.nd_grammar.specs.Entry.{Kind, Entry, Max, Offset, Actual, Num, Tag, Text, Context, Unread}
-use Rattle.nd_grammar.specs.InPlace.{before_children, entries, in_place, tag_entries, counts, tests, own_tests, child_tests, hoisted_max, hoisted, whole_value}
+use Rattle.nd_grammar.specs.Entry.{Kind, Entry, Max, Offset, Actual, Num, Tag, Text, Context, Unread, before_children, entries, in_place, tag_entries, counts, tests, own_tests, child_tests}
+use Rattle.nd_grammar.specs.Entry.{hoisted_max, hoisted, whole_value}
 use Rattle.nd_grammar.specs.Stream.{Stream, step_entries, root_test, root_tests, chunk_entries, chunks, pipe_entries, pipes_entries}
 use Rattle.nd_grammar.proofs.next.NextInPlace.{View, view, v_prim, v_enum, v_struct, v_array, v_text, v_union, v_pointer, v_context, v_unread}
 use Rattle.nd_grammar.proofs.next.NextStream.{drop_at}

@@ -20,18 +20,16 @@ use Rattle.nd_value.specs.declared.item.Home.{Home}
 use Rattle.nd_value.specs.declared.item.Home.TheVariants as home
 use Rattle.nd_value.specs.Tree as tree
 use Rattle.nd_value.specs.Tree.{Tree, Trees, node, none, more, Label, Referent, count, node_count, is_pointer, cell_in, take_trees, drop_trees}
-use Rattle.nd_value.specs.Agreement.{Agreement, agreement}
+use Rattle.nd_value.specs.Agreement.{Agreement, agreement, root_agreements, variable}
 use Rattle.nd_value.specs.Setting.{Setting, root_list, root_at, or_unread, cell_at, cell_tree, cell_of_number, cell_home}
 use Rattle.nd_value.specs.Nodes.{TypedNode, nodes_of, child_types, child_agreements, first_agreements, rest_agreements}
 use Rattle.nd_value.specs.Deferral.{Pending, pointer, pointer_by, home_pointers, Due, due_root, due_referent, due_roots, before_pipes, Step, Deferral, none_due, at_root, at_null, at_standing}
 use Rattle.nd_value.specs.Deferral.{at_referent, Placed_cells, IsPlacedFull, Standing, standing_root, standing_by, standing_cell, root_type, root_cell, direct, due_of}
-use Rattle.nd_value.specs.Variables.{root_agreements, variable}
 use Rattle.nd_value.proofs.Apart.{all_append, all_left, all_right}
 use Rattle.nd_value.proofs.NodeFacts.{IsSound}
 use Rattle.nd_value.proofs.DeferralExists.{direct_is}
 use Rattle.nd_value.proofs.FewRoots.{few_before_pipes}
-use Rattle.nd_grammar.specs.Entry.{Entry, Align, Chunk, Unread}
-use Rattle.nd_grammar.specs.InPlace.{entries, in_place, tests, before_children}
+use Rattle.nd_grammar.specs.Entry.{Entry, Align, Chunk, Unread, entries, in_place, tests, before_children}
 use Rattle.nd_grammar.specs.Stream.{Stream, step_entries, standing_entries, step_tests, root_test, root_tests, chunks, Cuts, pipe_entries, pipes_entries, AllCut}
 use Rattle.nd_grammar.proofs.next.Matching.{Known, NodeKnown, PointeeKnown}
 use Rattle.nd_grammar.proofs.next.HoistedMaxes.{no_children, replicate_only, replicate_last}

@@ -15,12 +15,10 @@ use Rattle.nd_value.specs.Tree.{Flat, flat, more, none}
 use Rattle.nd_value.specs.Setting.{Setting, Among}
 use Rattle.nd_value.proofs.Apart.{all_append, all_among, among_left, among_right}
 use Rattle.nd_value.proofs.NodeFacts.{IsSound}
-use Rattle.nd_grammar.specs.Entry.{Kind, Entry, Align, Max, Offset, Actual, Tag, Test, Unread, size_at, EntryAt, end_to_end}
-use Rattle.nd_grammar.specs.InPlace.{hoisted_max}
+use Rattle.nd_grammar.specs.Entry.{Kind, Entry, Align, Max, Offset, Actual, Tag, Test, Unread, size_at, EntryAt, end_to_end, hoisted_max}
 use Rattle.nd_grammar.specs.LegalSide.{IsLegalSide}
-use Rattle.nd_grammar.specs.Represents.{IsRendered}
+use Rattle.nd_grammar.specs.Stream.{IsRendered, Stream}
 use Rattle.nd_grammar.specs.Refusal.{tested_at, kind_agrees, is_max, same_home}
-use Rattle.nd_grammar.specs.Stream.{Stream}
 use Rattle.nd_grammar.specs.Tested.{HoldsFound, node_of, IsSpokenOf, IsReadAt}
 use Rattle.nd_grammar.proofs.agreements.EntriesTell.{node_at, actual_by, home_tree, Tells, TellsOf, TellsAt, stream_tells}
 use Rattle.nd_grammar.proofs.LegalSides.{laid_out}

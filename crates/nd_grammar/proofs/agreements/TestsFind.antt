@@ -20,8 +20,8 @@ use Rattle.nd_value.specs.Agreement.{Agreement, agreement, number_in, found_in, 
 use Rattle.nd_value.specs.Setting.{Among}
 use Rattle.nd_value.specs.Nodes.{child_types, child_agreements, first_agreements, rest_agreements}
 use Rattle.nd_value.proofs.Apart.{all_left, all_right, all_append, among_left, among_right}
-use Rattle.nd_grammar.specs.Entry.{Kind, Entry, Max, Offset, Actual, Num, Tag, Text, Test, Unread}
-use Rattle.nd_grammar.specs.InPlace.{before_children, entries, in_place, tag_entries, counts, tests, own_tests, child_tests, own_max, hoisted_max, hoisted, whole_value}
+use Rattle.nd_grammar.specs.Entry.{Kind, Entry, Max, Offset, Actual, Num, Tag, Text, Test, Unread, before_children, entries, in_place, tag_entries, counts, tests, own_tests, child_tests, own_max}
+use Rattle.nd_grammar.specs.Entry.{hoisted_max, hoisted, whole_value}
 use Rattle.nd_grammar.specs.Tested.{HoldsFound, node_of}
 use Rattle.nd_grammar.proofs.next.Matching.{Known}
 use Rattle.nd_grammar.proofs.next.NextInPlace.{View, view, v_prim, v_enum, v_struct, v_array, v_text, v_union, v_pointer, v_context, v_unread}

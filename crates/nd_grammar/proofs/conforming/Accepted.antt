@@ -19,7 +19,7 @@ use Rattle.nd_value.proofs.Waiting.{not_equal}
 use Rattle.nd_grammar.specs.declared.reason.Reason.{Reason}
 use Rattle.nd_grammar.specs.declared.reason.Reason.TheVariants as reason
 use Rattle.nd_grammar.specs.Entry.{Kind, Entry, Align, Max, Offset, Actual, Chunk, Number, Num, Tag, Text, Context, Test, Unread, size_at, EntryAt, end_to_end}
-use Rattle.nd_grammar.specs.Represents.{piece, Spells, IsRendered}
+use Rattle.nd_grammar.specs.Stream.{piece, Spells, IsRendered}
 use Rattle.nd_grammar.specs.Refusal.{kind_refusal, refused_if, is_long, is_enumerator, is_selected, text_refusal, is_other, other_pointee, tested_at, Accepts}
 use Rattle.nd_grammar.proofs.conforming.GoodEntries.{IsGood, GoodEntry}
 

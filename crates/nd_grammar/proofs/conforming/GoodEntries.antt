@@ -24,8 +24,8 @@ use Rattle.nd_value.specs.Misfit.{selects, has_shape, has_range, names_cell, nam
 use Rattle.nd_value.proofs.Apart.{all_append}
 use Rattle.nd_value.proofs.Orderly.{pointee_of_cell}
 use Rattle.nd_value.proofs.NodeFacts.{IsFit}
-use Rattle.nd_grammar.specs.Entry.{Kind, Entry, Offset, Actual, Number, Num, Tag, Text, Test, Unread}
-use Rattle.nd_grammar.specs.InPlace.{before_children, entries, counts, tag_entries, in_place, tests, own_tests, child_tests, hoisted, hoisted_max, whole_value}
+use Rattle.nd_grammar.specs.Entry.{Kind, Entry, Offset, Actual, Number, Num, Tag, Text, Test, Unread, before_children, entries, counts, tag_entries, in_place, tests, own_tests, child_tests, hoisted}
+use Rattle.nd_grammar.specs.Entry.{hoisted_max, whole_value}
 use Rattle.nd_grammar.specs.Refusal.{is_enumerator, is_selected}
 use Rattle.nd_grammar.proofs.conforming.GoodTrees.{Agrees, GoodTrees}
 use Rattle.nd_grammar.specs.ReaderState.{IsNoPipe}

@@ -9,13 +9,11 @@ use Rattle.nd_value.specs.declared.value.Graph.{Graph}
 use Rattle.nd_value.specs.declared.item.Home.TheVariants as home
 use Rattle.nd_value.specs.Tree as tree
 use Rattle.nd_value.specs.Tree.{Tree, Trees, node, none, more, Label, Referent, count, node_count, take_trees, drop_trees}
-use Rattle.nd_value.specs.Agreement.{Agreement}
+use Rattle.nd_value.specs.Agreement.{Agreement, root_agreements}
 use Rattle.nd_value.specs.Setting.{Setting, root_list, root_at, or_unread, cell_of_number, cell_home}
 use Rattle.nd_value.specs.Nodes.{TypedNode, nodes_of, child_types, child_agreements, first_agreements, rest_agreements}
-use Rattle.nd_value.specs.Variables.{root_agreements}
-use Rattle.nd_value.specs.Homes.{HomeNode, in_home, all_nodes, root_nodes, cell_nodes}
+use Rattle.nd_value.specs.Conforms.{HomeNode, in_home, all_nodes, root_nodes, cell_nodes, Conforms, AgreesAt}
 use Rattle.nd_value.specs.Misfit.{misfit_of}
-use Rattle.nd_value.specs.Conforms.{Conforms, AgreesAt}
 use Rattle.nd_value.proofs.Apart.{all_left, all_right, all_map}
 use Rattle.nd_value.proofs.NodeFacts.{IsFit, fit_node, fit_children}
 

@@ -21,8 +21,7 @@ use Rattle.nd_value.specs.Deferral.{Pending, pointer, pointer_by}
 use Rattle.nd_value.specs.Misfit.{misfit_of, unless, has_shape, has_range, has_counts, is_within, has_no_zero, has_arm, selects}
 use Rattle.nd_value.specs.Conforms.{IsAgreed, AgreesAt}
 use Rattle.nd_value.proofs.Apart.{all_append, all_left, all_right}
-use Rattle.nd_grammar.specs.Entry.{Kind, Entry}
-use Rattle.nd_grammar.specs.InPlace.{before_children, entries, tag_entries, in_place, tests, own_tests, child_tests}
+use Rattle.nd_grammar.specs.Entry.{Kind, Entry, before_children, entries, tag_entries, in_place, tests, own_tests, child_tests}
 use Rattle.nd_grammar.specs.Refusal.{is_selected}
 use Rattle.nd_grammar.proofs.reader.MadeTrees.{CellFits, CellKnown, label_known, all_flat_left}
 use Rattle.nd_grammar.specs.MadeTrees.{FitsAlone, MadeNode, MadeTrees}

@@ -19,20 +19,17 @@ use Rattle.nd_value.specs.declared.item.Home.{Home}
 use Rattle.nd_value.specs.declared.item.Home.TheVariants as home
 use Rattle.nd_value.specs.Tree as tree
 use Rattle.nd_value.specs.Tree.{Tree, Trees, node, none, more, Label, Referent, count, node_count, is_pointer, cell_in}
-use Rattle.nd_value.specs.Agreement.{Agreement}
+use Rattle.nd_value.specs.Agreement.{Agreement, root_agreements}
 use Rattle.nd_value.specs.Setting.{Setting, Among, root_list, or_unread, cell_home, cell_at, cell_of_number}
 use Rattle.nd_value.specs.Nodes.{TypedNode, nodes_of, child_types, child_agreements, governed_nodes, home_nodes}
 use Rattle.nd_value.specs.Deferral.{Pending, pointer, pointer_by, home_pointers, due_root, due_roots, before_pipes, Step, Deferral, Standing, standing_root, standing_by, direct, root_type}
-use Rattle.nd_value.specs.Variables.{root_agreements}
-use Rattle.nd_value.specs.Homes.{HomeNode, in_home, root_nodes, cell_nodes, all_nodes, all_pointers}
+use Rattle.nd_value.specs.Conforms.{HomeNode, in_home, root_nodes, cell_nodes, all_nodes, all_pointers, Reached, by_root, by_cell, AgreesAt, IsAgreed}
 use Rattle.nd_value.specs.Misfit.{misfit_of, has_shape}
-use Rattle.nd_value.specs.Conforms.{Reached, by_root, by_cell, AgreesAt, IsAgreed}
 use Rattle.nd_value.proofs.Apart.{all_append, all_left, all_right, all_among}
 use Rattle.nd_value.proofs.DeferralExists.{direct_is, direct_pointer, no_nodes}
 use Rattle.nd_value.proofs.FewRoots.{few_before_pipes}
 use Rattle.nd_grammar.specs.LegalSide.{IsLegalSide}
-use Rattle.nd_grammar.specs.Entry.{Entry}
-use Rattle.nd_grammar.specs.InPlace.{in_place, own_tests}
+use Rattle.nd_grammar.specs.Entry.{Entry, in_place, own_tests}
 use Rattle.nd_grammar.specs.Stream.{step_entries, root_test, root_tests, chunks, Cuts, pipe_entries, pipes_entries, AllCut, kids_of, representation}
 use Rattle.nd_grammar.proofs.LegalSides.{laid_out}
 use Rattle.nd_grammar.proofs.next.NextStream.{IsPipeRoot, IsLaidOut, drop_at}

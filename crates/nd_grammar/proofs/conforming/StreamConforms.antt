@@ -10,10 +10,9 @@ use Rattle.nd_value.specs.declared.item.Home.TheVariants as home
 use Rattle.nd_value.specs.Tree.{Tree, Trees, node, none, more, count, node_count, is_pointer, take_trees, drop_trees}
 use Rattle.nd_value.specs.Setting.{Among}
 use Rattle.nd_value.specs.Deferral.{Pending, home_pointers, Due, due_root, due_roots}
-use Rattle.nd_value.specs.Homes.{root_pointers}
+use Rattle.nd_value.specs.Conforms.{root_pointers}
 use Rattle.nd_value.proofs.Apart.{all_append, all_left, all_right}
-use Rattle.nd_grammar.specs.Entry.{Entry}
-use Rattle.nd_grammar.specs.InPlace.{entries, in_place, own_tests, child_tests, hoisted, hoisted_max, whole_value}
+use Rattle.nd_grammar.specs.Entry.{Entry, entries, in_place, own_tests, child_tests, hoisted, hoisted_max, whole_value}
 use Rattle.nd_grammar.specs.Stream.{chunk_entries, chunks}
 use Rattle.nd_grammar.proofs.next.NextPipes.{sum_first, count_drop}
 use Rattle.nd_grammar.proofs.reader.ReaderInPlace.{node_entries, value_then_others}

@@ -15,14 +15,12 @@ use Rattle.nd_value.specs.Tree.{Tree, Trees, node, none, more, Label, Referent}
 use Rattle.nd_value.specs.Setting.{Setting, Among, root_list, root_at, or_unread, cell_home, cell_at, cell_tree, cell_of_number}
 use Rattle.nd_value.specs.Deferral.{Pending, home_pointers, Due, due_root, due_referent, Step, root_stands, referent_stands, stands_already, Deferral, none_due, at_root, at_null, at_standing}
 use Rattle.nd_value.specs.Deferral.{at_referent, IsPlaced, Placed_cells, Standing, standing_root, standing_by, standing_cell, direct, root_type, due_of, root_cell}
-use Rattle.nd_value.specs.Homes.{root_pointers, cell_pointers, all_pointers}
+use Rattle.nd_value.specs.Conforms.{root_pointers, cell_pointers, all_pointers, IsAgreed}
 use Rattle.nd_value.specs.Misfit.{is_no_null_ref}
-use Rattle.nd_value.specs.Conforms.{IsAgreed}
 use Rattle.nd_value.proofs.Apart.{all_append, all_left, all_right, among_left}
 use Rattle.nd_value.proofs.DeferralExists.{direct_is, direct_pointer}
 use Rattle.nd_value.proofs.DeferralLaws.{full_stands}
-use Rattle.nd_grammar.specs.Entry.{Entry}
-use Rattle.nd_grammar.specs.InPlace.{whole_value}
+use Rattle.nd_grammar.specs.Entry.{Entry, whole_value}
 use Rattle.nd_grammar.specs.Stream.{step_entries, standing_entries, step_tests}
 use Rattle.nd_grammar.proofs.conforming.GoodStream.{same_home_number}
 use Rattle.nd_grammar.proofs.reader.MadeTrees.{CellOf, CellFits}

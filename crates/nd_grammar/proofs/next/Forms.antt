@@ -8,7 +8,7 @@ use Rattle.nd_types.specs.declared.types.Class.TheVariants.{Ref, Unique, Full}
 use Rattle.nd_grammar.specs.declared.reason.Reason.{Reason}
 use Rattle.nd_grammar.specs.declared.reason.Reason.TheVariants as reason
 use Rattle.nd_grammar.specs.Entry.{Kind, Entry, Align, Max, Offset, Actual, Chunk, Number, Num, Tag, Text, Context, Test, Unread, size_at, EntryAt}
-use Rattle.nd_grammar.specs.Represents.{piece}
+use Rattle.nd_grammar.specs.Stream.{piece}
 use Rattle.nd_grammar.specs.Refusal.{kind_refusal, refused_if, is_long}
 use Rattle.nd_grammar.specs.NextMark.{form}
 

@@ -16,7 +16,7 @@ use Rattle.nd_value.specs.Tree.{Tree, Trees, node, none, more, Label, count}
 use Rattle.nd_value.specs.Nodes.{child_types, selected_types}
 use Rattle.nd_value.specs.Agreement.{max_of}
 use Rattle.nd_value.specs.Misfit.{has_shape, has_counts}
-use Rattle.nd_grammar.specs.InPlace.{hoisted_max, own_max}
+use Rattle.nd_grammar.specs.Entry.{hoisted_max, own_max}
 use Rattle.nd_grammar.proofs.next.Matching.{Known, Maxes, SameMax}
 use Rattle.nd_grammar.proofs.next.NextWhole.{MaxesFrom}
 

@@ -11,11 +11,10 @@ use Rattle.nd_value.specs.declared.value.Graph.{Graph}
 use Rattle.nd_value.specs.declared.item.Home.TheVariants as home
 use Rattle.nd_value.specs.Tree as tree
 use Rattle.nd_value.specs.Tree.{Tree, Trees, node, none, more, Label, Referent, count, node_count, cell_in}
-use Rattle.nd_value.specs.Agreement.{Agreement}
+use Rattle.nd_value.specs.Agreement.{Agreement, root_agreements}
 use Rattle.nd_value.specs.Setting.{Setting, root_list, root_at, or_unread, cell_of_number, cell_home}
 use Rattle.nd_value.specs.Nodes.{TypedNode, nodes_of, child_types, child_agreements, rest_agreements}
-use Rattle.nd_value.specs.Variables.{root_agreements}
-use Rattle.nd_value.specs.Homes.{HomeNode, in_home, all_nodes, root_nodes, cell_nodes}
+use Rattle.nd_value.specs.Conforms.{HomeNode, in_home, all_nodes, root_nodes, cell_nodes}
 use Rattle.nd_value.specs.Misfit.{has_shape, has_counts, names_cell, names_pointee, has_machine_values}
 use Rattle.nd_value.proofs.Apart.{all_left, all_right, all_map}
 use Rattle.nd_value.proofs.Orderly.{PointerFits, pointee_of_cell}

@@ -19,7 +19,7 @@ use Rattle.nd_value.specs.Agreement.{Agreement}
 use Rattle.nd_value.specs.Setting.{Among}
 use Rattle.nd_value.specs.Nodes.{TypedNode, nodes_of, child_types, child_agreements, first_agreements, rest_agreements}
 use Rattle.nd_value.specs.Deferral.{Pending, pointer, pointer_by, home_pointers}
-use Rattle.nd_value.specs.Same.{renumbered, renumbered_label}
+use Rattle.nd_value.specs.Canon.{renumbered, renumbered_label}
 use Rattle.nd_value.proofs.NodeFacts.{all_of_list}
 use Rattle.nd_value.proofs.Apart.{all_among, all_weaker}
 use Rattle.nd_value.proofs.Waiting.{not_equal}

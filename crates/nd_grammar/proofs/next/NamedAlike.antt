@@ -11,12 +11,11 @@ use Rattle.nd_value.specs.declared.item.Home.{Home}
 use Rattle.nd_value.specs.declared.item.Home.TheVariants as home
 use Rattle.nd_value.specs.Setting.{Setting, Among}
 use Rattle.nd_value.specs.Deferral.{Pending}
-use Rattle.nd_value.specs.Homes.{all_pointers}
-use Rattle.nd_value.specs.Conforms.{ShareOnlyIfFull}
+use Rattle.nd_value.specs.Conforms.{all_pointers, ShareOnlyIfFull}
 use Rattle.nd_value.proofs.Apart.{all_append, all_among, among_left, among_right}
 use Rattle.nd_value.proofs.NodeFacts.{IsSound}
 use Rattle.nd_grammar.specs.Entry.{Kind, EntryAt, Number}
-use Rattle.nd_grammar.specs.Represents.{IsRendered, Spells, piece}
+use Rattle.nd_grammar.specs.Stream.{IsRendered, Spells, piece}
 use Rattle.nd_grammar.specs.NextMark.{form, IsOneToOne, HomesCorrespond, AllCorrespond, named_cell, CellsCorrespond, AllNameAlike}
 use Rattle.nd_grammar.proofs.next.StreamPointers.{NumberOf, KindHasPointer, HasPointer, is_good}
 use Rattle.nd_grammar.proofs.next.Matching.{CellsMatch}

@@ -10,7 +10,7 @@ use Rattle.nd_value.specs.Setting.{Among}
 use Rattle.nd_value.proofs.Apart.{among_right}
 use Rattle.nd_grammar.specs.NextMark.{form}
 use Rattle.nd_grammar.specs.Entry.{Entry, Unread, size_at}
-use Rattle.nd_grammar.specs.Represents.{IsRendered}
+use Rattle.nd_grammar.specs.Stream.{IsRendered}
 
 abbrev pub IsUnread : Entry → Type 0
 IsUnread m = m.kind ≡ Unread

@@ -10,8 +10,7 @@ use Rattle.nd_value.specs.Setting.{Setting, cell_home, cell_at, cell_of_number}
 use Rattle.nd_value.specs.Deferral.{home_pointers, Due, due_root, Step, Deferral, none_due, at_root, at_null, at_standing, at_referent, due_of, standing_root, standing_cell, root_cell, Placed_cells}
 use Rattle.nd_value.specs.Deferral.{IsPlaced, IsPlacedFull, AreFree}
 use Rattle.nd_value.proofs.DeferralLaws.{full_stands}
-use Rattle.nd_grammar.specs.Entry.{Entry}
-use Rattle.nd_grammar.specs.InPlace.{tests, whole_value}
+use Rattle.nd_grammar.specs.Entry.{Entry, tests, whole_value}
 use Rattle.nd_grammar.specs.Stream.{step_entries, standing_entries}
 use Rattle.nd_value.specs.Deferral.{Standing}
 use Rattle.nd_grammar.proofs.next.NextPending.{AllDueMatch, then_due}

@@ -22,9 +22,8 @@ use Rattle.nd_value.specs.Tree.{Referent}
 use Rattle.nd_value.specs.Tree as tree
 use Rattle.nd_value.specs.Tree.{Tree, Trees, node, none, more, count, node_count, Label, is_pointer, cell_in}
 use Rattle.nd_value.specs.Nodes.{child_types, child_agreements, first_agreements, rest_agreements}
-use Rattle.nd_grammar.specs.Entry.{Entry, Actual, Text, Test, Unread}
-use Rattle.nd_grammar.specs.InPlace.{before_children, entries, in_place, tag_entries, tests, own_tests, child_tests}
-use Rattle.nd_grammar.specs.Represents.{piece, IsNumber}
+use Rattle.nd_grammar.specs.Entry.{Entry, Actual, Text, Test, Unread, before_children, entries, in_place, tag_entries, tests, own_tests, child_tests}
+use Rattle.nd_grammar.specs.Stream.{piece, IsNumber}
 use Rattle.nd_types.specs.declared.types.Attr.{Attr}
 use Rattle.nd_value.specs.Agreement.{Agreement, found_in}
 

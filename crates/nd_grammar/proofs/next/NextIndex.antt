@@ -4,13 +4,12 @@ use Rattle.std.specs.List.{AllByRecursion, slice_get}
 use Rattle.nd_base.specs.declared.octets.Order.{Order}
 use Rattle.nd_value.specs.declared.value.Graph.{Graph}
 use Rattle.nd_value.specs.Setting.{Setting}
-use Rattle.nd_value.specs.Homes.{all_pointers}
+use Rattle.nd_value.specs.Conforms.{all_pointers}
 use Rattle.nd_value.proofs.NodeFacts.{IsSound}
 use Rattle.nd_grammar.specs.Entry.{Entry, EntryAt, size_at, end_to_end, full_cells}
 use Rattle.nd_grammar.specs.LegalSide.{IsLegalSide}
 use Rattle.nd_grammar.specs.NextMark.{NextAlike, IsOneToOne, AllCorrespond, AllNameAlike, IsReadTo}
-use Rattle.nd_grammar.specs.Represents.{IsRendered}
-use Rattle.nd_grammar.specs.Stream.{Stream}
+use Rattle.nd_grammar.specs.Stream.{IsRendered, Stream}
 use Rattle.nd_grammar.proofs.next.Next.{Pair, HomesMeet, homes_grown, Readings, Next}
 use Rattle.nd_grammar.proofs.next.Spelt.{CellsIn, cells_in, all_spelt_carried, not_spelt, same_size}
 use Rattle.nd_grammar.proofs.next.StreamPointers.{HasPointer, have_stream}

@@ -16,8 +16,7 @@ use Rattle.nd_value.specs.Tree as tree
 use Rattle.nd_value.specs.Tree.{Tree, Trees, node, none, more, Label, count, node_count, take_trees, drop_trees, cell_in}
 use Rattle.nd_value.specs.Misfit.{has_counts}
 use Rattle.nd_value.specs.Nodes.{child_types}
-use Rattle.nd_grammar.specs.Entry.{Entry, Align, Chunk, Unread}
-use Rattle.nd_grammar.specs.InPlace.{entries, in_place}
+use Rattle.nd_grammar.specs.Entry.{Entry, Align, Chunk, Unread, entries, in_place}
 use Rattle.nd_grammar.specs.Stream.{chunks, Cuts, pipe_entries, pipes_entries, AllCut}
 use Rattle.nd_grammar.proofs.next.Next.{Pair, HomesMeet, Readings, Next, unread_left, unread_right}
 use Rattle.nd_grammar.proofs.next.Matching.{bare, class_of, Matched, CellsMatch, Known, NodeKnown, matched_nodes}

@@ -8,13 +8,11 @@ use Rattle.nd_value.specs.declared.value.Graph.{Graph}
 use Rattle.nd_value.specs.declared.item.Home.TheVariants as home
 use Rattle.nd_value.specs.Tree as tree
 use Rattle.nd_value.specs.Tree.{Tree, Trees, node, none, more, Label, is_pointer, cell_in}
-use Rattle.nd_value.specs.Agreement.{Agreement, number_of}
+use Rattle.nd_value.specs.Agreement.{Agreement, number_of, starred, root_agreements}
 use Rattle.nd_value.specs.Setting.{Setting, root_at, cell_at, cell_home}
-use Rattle.nd_value.specs.Variables.{starred, root_agreements}
 use Rattle.nd_value.proofs.Apart.{all_among}
 use Rattle.nd_value.proofs.SameVariables.{agreements_same}
-use Rattle.nd_grammar.specs.Entry.{Entry}
-use Rattle.nd_grammar.specs.InPlace.{tests}
+use Rattle.nd_grammar.specs.Entry.{Entry, tests}
 use Rattle.nd_grammar.specs.Stream.{root_test, root_tests}
 use Rattle.nd_grammar.proofs.next.Next.{Pair, Readings, Next}
 use Rattle.nd_grammar.proofs.next.Matching.{class_of, Matched, CellsMatch, matched_number, through, pointer_bare}

@@ -7,8 +7,7 @@ use Rattle.nd_value.specs.Tree.{Tree, node, none, more, Referent}
 use Rattle.nd_value.specs.Agreement.{Agreement}
 use Rattle.nd_value.specs.Setting.{Setting, Among, cell_at, cell_of_number}
 use Rattle.nd_value.specs.Deferral.{Pending, home_pointers, Due, due_root, due_referent, due_of, standing_cell, root_cell, AreFree}
-use Rattle.nd_grammar.specs.Entry.{Entry}
-use Rattle.nd_grammar.specs.InPlace.{tests, whole_value}
+use Rattle.nd_grammar.specs.Entry.{Entry, tests, whole_value}
 use Rattle.nd_grammar.specs.Stream.{standing_entries}
 use Rattle.nd_value.specs.Deferral.{Standing}
 use Rattle.nd_value.specs.Setting.{cell_tree}

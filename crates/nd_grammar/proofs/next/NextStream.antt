@@ -14,7 +14,7 @@ use Rattle.nd_value.specs.declared.value.Graph.{Graph}
 use Rattle.nd_value.specs.Tree as tree
 use Rattle.nd_value.specs.Tree.{Tree, Trees, node, none, more, Label}
 use Rattle.nd_value.specs.Setting.{Setting, root_list, root_at, or_unread}
-use Rattle.nd_value.specs.Variables.{starred}
+use Rattle.nd_value.specs.Agreement.{starred}
 use Rattle.nd_value.specs.Deferral.{Step, Deferral, due_roots, before_pipes, root_type}
 use Rattle.nd_value.proofs.NodeFacts.{IsSound}
 use Rattle.nd_value.proofs.FewRoots.{few_before_pipes}

@@ -9,8 +9,7 @@ use Rattle.nd_value.specs.declared.item.Home.{Home}
 use Rattle.nd_value.specs.Tree as tree
 use Rattle.nd_value.specs.Tree.{Tree, Trees, node, none, more, Label}
 use Rattle.nd_value.specs.Nodes.{child_types, child_agreements}
-use Rattle.nd_grammar.specs.Entry.{Entry, Align, Max, Unread}
-use Rattle.nd_grammar.specs.InPlace.{before_children, entries, in_place, child_tests, hoisted, hoisted_max, whole_value}
+use Rattle.nd_grammar.specs.Entry.{Entry, Align, Max, Unread, before_children, entries, in_place, child_tests, hoisted, hoisted_max, whole_value}
 use Rattle.nd_grammar.proofs.next.Next.{Pair, HomesMeet, Readings, Next, unread_left, unread_right}
 use Rattle.nd_grammar.proofs.next.Matching.{CellsMatch, Matched, Known, Maxes}
 use Rattle.nd_grammar.proofs.next.NextInPlace.{in_place_next}

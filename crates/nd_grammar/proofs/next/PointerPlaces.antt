@@ -18,9 +18,8 @@ use Rattle.nd_value.specs.Agreement.{Agreement}
 use Rattle.nd_value.specs.Setting.{Setting, Among, root_list, root_at, or_unread, unread, cell_at, cell_tree, cell_of_number, cell_home}
 use Rattle.nd_value.specs.Nodes.{TypedNode, nodes_of, child_types, child_agreements, first_agreements, rest_agreements}
 use Rattle.nd_value.specs.Deferral.{Pending, pointer, pointer_by, home_pointers, direct, Standing, standing_by, standing_root, root_type}
-use Rattle.nd_value.specs.Homes.{root_nodes, all_nodes, root_pointers, cell_pointers, all_pointers}
+use Rattle.nd_value.specs.Conforms.{root_nodes, all_nodes, root_pointers, cell_pointers, all_pointers, AllEarlier}
 use Rattle.nd_value.specs.Misfit.{is_no_null_ref, names_cell, names_pointee}
-use Rattle.nd_value.specs.Conforms.{AllEarlier}
 use Rattle.nd_value.proofs.Apart.{all_append, all_left, all_right, all_weaker, all_among, among_left, among_right}
 use Rattle.nd_value.proofs.Orderly.{PointerFits, pointee_of_cell}
 use Rattle.nd_value.proofs.DeferralExists.{direct_is}

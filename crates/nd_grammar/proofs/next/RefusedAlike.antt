@@ -17,7 +17,7 @@ use Rattle.nd_value.proofs.Apart.{all_among}
 use Rattle.nd_value.proofs.Waiting.{not_equal}
 use Rattle.nd_grammar.specs.declared.reason.Reason.TheVariants as reason
 use Rattle.nd_grammar.specs.Entry.{Kind, Entry, Align, Max, Offset, Actual, Chunk, Number, Num, Tag, Text, Context, Test, Unread, size_at, EntryAt}
-use Rattle.nd_grammar.specs.Represents.{piece}
+use Rattle.nd_grammar.specs.Stream.{piece}
 use Rattle.nd_grammar.specs.Refusal.{refusal, kind_refusal, refused_if, is_long, tested_at, is_other, kind_agrees, is_max, same_home, other_pointee}
 use Rattle.nd_grammar.specs.NextMark.{form}
 use Rattle.nd_grammar.proofs.next.Next.{Pair, IsApart, OneToOne, HomesMeet, homes_grown, Alike}

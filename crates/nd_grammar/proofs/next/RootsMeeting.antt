@@ -16,7 +16,7 @@ use Rattle.nd_value.specs.declared.item.Home.TheVariants as home
 use Rattle.nd_value.specs.Setting.{Setting, Among, root_list, root_at, or_unread, unread, cell_at, cell_tree, cell_of_number}
 use Rattle.nd_value.specs.Nodes.{child_types}
 use Rattle.nd_value.specs.Misfit.{has_counts}
-use Rattle.nd_value.specs.Homes.{all_pointers}
+use Rattle.nd_value.specs.Conforms.{all_pointers}
 use Rattle.nd_value.specs.Deferral.{Pending, home_pointers, direct, Standing, standing_by, standing_root, root_type}
 use Rattle.nd_value.proofs.DeferralExists.{direct_pointer}
 use Rattle.nd_value.proofs.NodeFacts.{IsSound}

@@ -14,9 +14,8 @@ use Rattle.nd_value.specs.Tree as tree
 use Rattle.nd_value.specs.Tree.{Tree, Trees, node, none, more, Referent, trees}
 use Rattle.nd_value.specs.Setting.{Setting, Among, root_list, root_at, or_unread, cell_at, cell_tree, cell_of_number, cell_home}
 use Rattle.nd_value.specs.Deferral.{home_pointers, before_pipes, root_type}
-use Rattle.nd_value.specs.Homes.{root_pointers}
-use Rattle.nd_value.specs.Conforms.{Reached, by_root, by_cell}
-use Rattle.nd_value.specs.Same.{Same, renumbered}
+use Rattle.nd_value.specs.Conforms.{root_pointers, Reached, by_root, by_cell}
+use Rattle.nd_value.specs.Canon.{Same, renumbered}
 use Rattle.nd_value.proofs.Apart.{all_among}
 use Rattle.nd_value.proofs.NodeFacts.{IsSound}
 use Rattle.nd_grammar.proofs.next.Next.{Pair, IsApart, OneToOne, Readings}

@@ -11,7 +11,7 @@ use Rattle.nd_types.specs.Number.{unsigned}
 use Rattle.nd_value.specs.Setting.{Among}
 use Rattle.nd_value.proofs.Apart.{among_left, among_right}
 use Rattle.nd_grammar.specs.Entry.{Kind, Entry, Align, Max, Offset, Actual, Chunk, Number, Num, Tag, Text, Context, Test, Unread, size_at, EntryAt, end_to_end, end_of, full_cell, full_cells}
-use Rattle.nd_grammar.specs.Represents.{piece, Spells, IsRendered, IsNumber, IsNumbering}
+use Rattle.nd_grammar.specs.Stream.{piece, Spells, IsRendered, IsNumber, IsNumbering}
 use Rattle.nd_grammar.specs.NextMark.{form}
 use Rattle.nd_grammar.proofs.next.Next.{IsUnread, Pair, Readings, Next}
 use Rattle.nd_grammar.proofs.next.Forms.{size_form}

@@ -16,7 +16,7 @@ use Rattle.nd_value.specs.Deferral.{Pending, home_pointers, Due, due_root, due_r
 use Rattle.nd_value.specs.Deferral.{Standing}
 use Rattle.nd_grammar.proofs.next.NextPending.{PointersMatch, AllPointers, nodes_match}
 use Rattle.nd_types.specs.Roots.{Root}
-use Rattle.nd_value.specs.Homes.{all_pointers}
+use Rattle.nd_value.specs.Conforms.{all_pointers}
 use Rattle.nd_value.proofs.Apart.{all_append, all_weaker}
 use Rattle.nd_grammar.proofs.next.Next.{Pair, IsApart, OneToOne, HomesMeet, homes_grown, Readings}
 use Rattle.nd_grammar.proofs.next.Matching.{bare, CellsMatch, Matched, Known, matched_count, found_same}

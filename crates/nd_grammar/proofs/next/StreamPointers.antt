@@ -17,20 +17,18 @@ use Rattle.nd_value.specs.declared.item.Home.{Home}
 use Rattle.nd_value.specs.declared.item.Home.TheVariants as home
 use Rattle.nd_value.specs.Tree as tree
 use Rattle.nd_value.specs.Tree.{Tree, Trees, node, none, more, Label, Referent, node_count, is_pointer, cell_in, take_trees, drop_trees}
-use Rattle.nd_value.specs.Agreement.{Agreement}
+use Rattle.nd_value.specs.Agreement.{Agreement, root_agreements}
 use Rattle.nd_value.specs.Setting.{Setting, Among, root_list, cell_at, cell_of_number, cell_home}
 use Rattle.nd_value.specs.Nodes.{TypedNode, nodes_of, child_types, child_agreements, first_agreements, rest_agreements}
-use Rattle.nd_value.specs.Variables.{root_agreements}
 use Rattle.nd_value.specs.Deferral.{Pending, pointer, pointer_by, home_pointers, Due, due_root, due_referent, due_roots, before_pipes, Step, Deferral, none_due, at_root, at_null, at_standing}
 use Rattle.nd_value.specs.Deferral.{at_referent, Standing, standing_root, standing_cell, due_of, Placed_cells}
-use Rattle.nd_value.specs.Homes.{in_home, root_nodes, cell_nodes, all_nodes, root_pointers, cell_pointers, all_pointers}
+use Rattle.nd_value.specs.Conforms.{in_home, root_nodes, cell_nodes, all_nodes, root_pointers, cell_pointers, all_pointers}
 use Rattle.nd_value.specs.Misfit.{is_no_null_ref, names_cell, names_pointee}
 use Rattle.nd_value.proofs.Apart.{all_append, all_left, all_right, all_map, all_among, among_left, among_right}
 use Rattle.nd_value.proofs.NodeFacts.{IsSound, orderly}
 use Rattle.nd_value.proofs.Orderly.{PointerFits, Pointee, pointee_of_cell}
 use Rattle.nd_value.proofs.FewRoots.{few_before_pipes}
-use Rattle.nd_grammar.specs.Entry.{Kind, Entry, Number}
-use Rattle.nd_grammar.specs.InPlace.{before_children, entries, counts, tag_entries, in_place, tests, own_tests, child_tests, hoisted, hoisted_max, whole_value}
+use Rattle.nd_grammar.specs.Entry.{Kind, Entry, Number, before_children, entries, counts, tag_entries, in_place, tests, own_tests, child_tests, hoisted, hoisted_max, whole_value}
 use Rattle.nd_grammar.specs.Stream.{Stream, step_entries, standing_entries, step_tests, root_test, root_tests, chunk_entries, chunks, pipe_entries, pipes_entries, head_entries}
 use Rattle.nd_grammar.proofs.next.Mapped.{no_pointers}
 use Rattle.nd_grammar.proofs.next.NextInPlace.{NoNull, no_null}

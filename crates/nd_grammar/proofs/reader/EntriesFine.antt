@@ -26,8 +26,8 @@ use Rattle.nd_value.specs.Deferral.{Pending, pointer, pointer_by, home_pointers}
 use Rattle.nd_value.proofs.Apart.{all_append, all_left, all_right}
 use Rattle.nd_grammar.specs.declared.reason.Reason.{Reason}
 use Rattle.nd_grammar.specs.declared.reason.Reason.TheVariants as reason
-use Rattle.nd_grammar.specs.Entry.{Kind, Entry, Align, Max, Offset, Actual, Chunk, Number, Num, Tag, Text, Context, Test, Unread, size_at, full_cell, full_cells}
-use Rattle.nd_grammar.specs.InPlace.{before_children, entries, counts, tag_entries, in_place, tests, own_tests, child_tests, hoisted, hoisted_max, whole_value}
+use Rattle.nd_grammar.specs.Entry.{Kind, Entry, Align, Max, Offset, Actual, Chunk, Number, Num, Tag, Text, Context, Test, Unread, size_at, full_cell, full_cells, before_children, entries, counts}
+use Rattle.nd_grammar.specs.Entry.{tag_entries, in_place, tests, own_tests, child_tests, hoisted, hoisted_max, whole_value}
 use Rattle.nd_grammar.specs.Refusal.{refusal, is_long}
 use Rattle.nd_grammar.specs.Reader.{Progress, here, advanced, pass}
 use Rattle.nd_grammar.proofs.reader.ReaderNodes.{if_not}

@@ -20,8 +20,7 @@ use Rattle.nd_value.specs.Tree.{Tree, Trees, node, none, more, Label, count, nod
 use Rattle.nd_value.specs.Nodes.{child_types, child_agreements, selected_types}
 use Rattle.nd_value.specs.Misfit.{has_shape, has_counts}
 use Rattle.nd_value.proofs.Apart.{all_left, all_right}
-use Rattle.nd_grammar.specs.Entry.{Entry}
-use Rattle.nd_grammar.specs.InPlace.{before_children, entries, tag_entries, in_place, child_tests}
+use Rattle.nd_grammar.specs.Entry.{Entry, before_children, entries, tag_entries, in_place, child_tests}
 use Rattle.nd_grammar.specs.Reader.{tree_nodes}
 use Rattle.nd_grammar.proofs.next.HoistedMaxes.{HoistsLast, OnlyLast, last_of, struct_last}
 use Rattle.nd_grammar.proofs.next.Mapped.{in_parts}

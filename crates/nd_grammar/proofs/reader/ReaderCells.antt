@@ -11,8 +11,7 @@ use Rattle.nd_value.specs.declared.item.Home.TheVariants as home
 use Rattle.nd_value.specs.Tree.{Tree, none, more, Referent}
 use Rattle.nd_value.specs.Setting.{unread, cell_home}
 use Rattle.nd_value.specs.Deferral.{Pending, home_pointers}
-use Rattle.nd_value.specs.Homes.{root_pointers, cell_pointers}
-use Rattle.nd_value.specs.Conforms.{AllEarlier, ShareOnlyIfFull}
+use Rattle.nd_value.specs.Conforms.{root_pointers, cell_pointers, AllEarlier, ShareOnlyIfFull}
 use Rattle.nd_value.proofs.Apart.{all_append, all_left, all_right, all_weaker, moved}
 use Rattle.nd_grammar.specs.Entry.{EntryAt}
 use Rattle.nd_grammar.specs.Reader.{Progress, Names}

@@ -17,8 +17,7 @@ use Rattle.nd_value.specs.Tree as tree
 use Rattle.nd_value.specs.Tree.{Tree, Trees, node, none, more, Label, count, node_count}
 use Rattle.nd_value.specs.Nodes.{child_types, child_agreements}
 use Rattle.nd_grammar.specs.declared.reason.Reason.{Reason}
-use Rattle.nd_grammar.specs.Entry.{Kind, Entry, Align, Max, Offset, Actual, Tag}
-use Rattle.nd_grammar.specs.InPlace.{before_children, entries, tag_entries, in_place, child_tests, hoisted, hoisted_max, own_max, whole_value}
+use Rattle.nd_grammar.specs.Entry.{Kind, Entry, Align, Max, Offset, Actual, Tag, before_children, entries, tag_entries, in_place, child_tests, hoisted, hoisted_max, own_max, whole_value}
 use Rattle.nd_grammar.specs.Reader.{Progress, Names, Read, ReadAll, is_stopped, pass, pass_all, taken, number_in, value_in, read_if, read_list, tree_nodes, read_children, read_array, read_tagged}
 use Rattle.nd_grammar.specs.Reader.{read_by, read_in_place, read_hoisted, read_whole, bound_or}
 use Rattle.nd_grammar.proofs.next.HoistedMaxes.{HoistsLast, last_of, struct_last}

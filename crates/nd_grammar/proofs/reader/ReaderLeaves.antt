@@ -20,8 +20,7 @@ use Rattle.nd_value.specs.Agreement.{Agreement}
 use Rattle.nd_value.specs.Setting.{unread}
 use Rattle.nd_value.specs.Nodes.{TypedNode, nodes_of, child_types, child_agreements, first_agreements, rest_agreements}
 use Rattle.nd_value.specs.Deferral.{Pending, pointer, pointer_by}
-use Rattle.nd_grammar.specs.Entry.{Kind, Entry, Align, Offset, Actual, Number, Num, Tag, Text, Context}
-use Rattle.nd_grammar.specs.InPlace.{child_tests}
+use Rattle.nd_grammar.specs.Entry.{Kind, Entry, Align, Offset, Actual, Number, Num, Tag, Text, Context, child_tests}
 use Rattle.nd_grammar.specs.Reader.{Progress, Names, Read, ReadAll, is_stopped, pass, taken, number_in, value_in, text_in, attributes_in, identifier_in, read_if, read_list, tree_nodes, read_children}
 use Rattle.nd_grammar.specs.Reader.{read_array, read_text, read_tagged, read_context, read_number, read_by, read_in_place, bound_or}
 use Rattle.nd_grammar.proofs.next.Mapped.{in_parts}

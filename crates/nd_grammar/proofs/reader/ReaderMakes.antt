@@ -27,8 +27,7 @@ use Rattle.nd_value.specs.Deferral.{Pending, pointer, pointer_by}
 use Rattle.nd_value.specs.Misfit.{is_no_null_ref, is_bound, arm_fits}
 use Rattle.nd_value.proofs.Apart.{among_left, among_right}
 use Rattle.nd_grammar.specs.declared.reason.Reason.{Reason}
-use Rattle.nd_grammar.specs.Entry.{Kind, Entry, Align, Max, Offset, Actual, Number, Num, Tag, Text, Context}
-use Rattle.nd_grammar.specs.InPlace.{child_tests}
+use Rattle.nd_grammar.specs.Entry.{Kind, Entry, Align, Max, Offset, Actual, Number, Num, Tag, Text, Context, child_tests}
 use Rattle.nd_grammar.specs.Reader.{Progress, Names, Named, Read, ReadAll, is_stopped, pass, taken, number_in, value_in, text_in, attributes_in, identifier_in, named, read_if, read_list, tree_nodes}
 use Rattle.nd_grammar.specs.Reader.{read_children, read_array, read_text, read_tagged, read_context, read_number, read_by, read_in_place, read_hoisted, read_whole, bound_or}
 use Rattle.nd_grammar.proofs.next.HoistedMaxes.{HoistsLast}

@@ -17,7 +17,7 @@ use Rattle.nd_value.specs.Deferral.{Pending}
 use Rattle.nd_grammar.specs.declared.reason.Reason.{Reason}
 use Rattle.nd_grammar.specs.declared.reason.Reason.TheVariants as reason
 use Rattle.nd_grammar.specs.Entry.{Entry, Number, EntryAt}
-use Rattle.nd_grammar.specs.Represents.{piece}
+use Rattle.nd_grammar.specs.Stream.{piece}
 use Rattle.nd_grammar.specs.Refusal.{refusal, is_other, other_pointee}
 use Rattle.nd_grammar.specs.Reader.{Progress, Names, Named, here, pass, taken, taken_by, advanced, number_in, named, numbered, full_by, new_cell, fresh, with_cell}
 use Rattle.nd_grammar.proofs.reader.ReaderSteps.{same_taken}

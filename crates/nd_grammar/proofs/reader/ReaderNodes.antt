@@ -20,7 +20,7 @@ use Rattle.nd_value.proofs.Apart.{all_right}
 use Rattle.nd_grammar.specs.declared.reason.Reason.{Reason}
 use Rattle.nd_grammar.specs.declared.reason.Reason.TheVariants as reason
 use Rattle.nd_grammar.specs.Entry.{Kind, Entry, Align, Max, Offset, Actual, Number, Num, Tag, Text, Context, size_at}
-use Rattle.nd_grammar.specs.Represents.{piece, IsNumber, id_octets}
+use Rattle.nd_grammar.specs.Stream.{piece, IsNumber, id_octets}
 use Rattle.nd_grammar.specs.Refusal.{refusal, kind_refusal, refused_if, is_long, text_refusal}
 use Rattle.nd_grammar.specs.Reader.{Progress, Names, here, pass, taken, taken_by, number_in, value_in, text_in, attributes_in, identifier_in, named, numbered, full_by, new_cell, fresh}
 use Rattle.nd_grammar.proofs.reader.ReaderSteps.{Follows, same_taken}

@@ -7,7 +7,7 @@ use Rattle.nd_value.specs.Setting.{Among}
 use Rattle.nd_value.specs.Conforms.{AllEarlier}
 use Rattle.nd_value.proofs.Apart.{all_among}
 use Rattle.nd_value.proofs.Waiting.{not_equal}
-use Rattle.nd_grammar.specs.Represents.{IsNumbering}
+use Rattle.nd_grammar.specs.Stream.{IsNumbering}
 use Rattle.nd_grammar.specs.Reader.{Names}
 use Rattle.nd_grammar.proofs.reader.ReaderNodes.{Agree}
 use Rattle.nd_grammar.specs.ReaderState.{numbered_cells, NumberOk, Differ, NumbersOk}

@@ -12,7 +12,7 @@ use Rattle.nd_types.specs.Number.{AreOctets}
 use Rattle.nd_value.specs.declared.item.Home.{Home}
 use Rattle.nd_value.specs.Misfit.{is_octet}
 use Rattle.nd_grammar.specs.Entry.{Kind, size_at}
-use Rattle.nd_grammar.specs.Represents.{piece}
+use Rattle.nd_grammar.specs.Stream.{piece}
 use Rattle.nd_grammar.specs.Refusal.{refusal}
 use Rattle.nd_grammar.specs.Reader.{Progress, here, taken, number_in, value_in, text_in, attributes_in, identifier, identifier_in}
 use Rattle.nd_grammar.proofs.reader.Ranges.{value_in_range, below_4, drop_octets, take_octets}

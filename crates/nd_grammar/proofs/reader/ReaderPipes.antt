@@ -19,15 +19,13 @@ use Rattle.nd_value.specs.Tree.{Tree, Trees, node, none, more, Referent, count, 
 use Rattle.nd_value.specs.Setting.{Setting, unread}
 use Rattle.nd_value.specs.Nodes.{nodes_of}
 use Rattle.nd_value.specs.Deferral.{pointer}
-use Rattle.nd_value.specs.Homes.{root_pointers}
+use Rattle.nd_value.specs.Conforms.{root_pointers}
 use Rattle.nd_value.proofs.Apart.{all_append}
 use Rattle.nd_grammar.specs.LegalSide.{IsLegalSide}
 use Rattle.nd_grammar.specs.declared.reason.Reason.{Reason}
-use Rattle.nd_grammar.specs.Entry.{Kind, Entry, Align, Chunk, size_at}
-use Rattle.nd_grammar.specs.InPlace.{in_place}
-use Rattle.nd_grammar.specs.Represents.{piece}
+use Rattle.nd_grammar.specs.Entry.{Kind, Entry, Align, Chunk, size_at, in_place}
+use Rattle.nd_grammar.specs.Stream.{piece, chunk_entries, chunks, Cuts, pipe_entries, pipes_entries, AllCut, kids_of}
 use Rattle.nd_grammar.specs.Refusal.{refusal}
-use Rattle.nd_grammar.specs.Stream.{chunk_entries, chunks, Cuts, pipe_entries, pipes_entries, AllCut, kids_of}
 use Rattle.nd_grammar.specs.Reader.{Progress, Names, Read, ReadAll, here, advanced, taken_by, is_stopped, pass, taken, number_in, read_list, read_in_place}
 use Rattle.nd_grammar.specs.StreamReader.{ReadPipe, ReadPipes, read_chunks, read_pipe, pipe_tree, read_pipes}
 use Rattle.nd_grammar.proofs.next.Mapped.{no_pointers, pipe_pointers}

@@ -6,8 +6,7 @@ use Rattle.nd_value.specs.declared.value.Graph.{Graph}
 use Rattle.nd_value.specs.Tree.{Tree, Referent}
 use Rattle.nd_value.specs.Setting.{Setting, Among, root_list, unread, cell_home, cell_of_number}
 use Rattle.nd_value.specs.Deferral.{Pending, home_pointers}
-use Rattle.nd_value.specs.Homes.{root_pointers}
-use Rattle.nd_value.specs.Conforms.{Reached, by_root, by_cell}
+use Rattle.nd_value.specs.Conforms.{root_pointers, Reached, by_root, by_cell}
 use Rattle.nd_value.proofs.Apart.{among_left, among_right}
 use Rattle.nd_grammar.specs.Reader.{Names}
 use Rattle.nd_grammar.specs.StreamReader.{graph_of, with_value}

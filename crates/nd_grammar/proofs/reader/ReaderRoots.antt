@@ -19,13 +19,13 @@ use Rattle.nd_value.specs.Tree as tree
 use Rattle.nd_value.specs.Tree.{Tree, node, none, more, Referent}
 use Rattle.nd_value.specs.Setting.{Setting, root_list, root_at, or_unread, unread, cell_home, cell_at, cell_tree}
 use Rattle.nd_value.specs.Deferral.{Pending, Due, due_root, due_referent, due_roots, home_pointers, IsPlaced, root_stands, Standing, standing_root, standing_by, direct, root_type}
-use Rattle.nd_value.specs.Homes.{root_pointers, cell_pointers}
+use Rattle.nd_value.specs.Conforms.{root_pointers, cell_pointers}
 use Rattle.nd_value.proofs.Apart.{all_append}
 use Rattle.nd_value.proofs.DeferralExists.{direct_pointer}
 use Rattle.nd_value.proofs.FewRoots.{few_before_pipes}
 use Rattle.nd_grammar.specs.LegalSide.{IsLegalSide}
 use Rattle.nd_grammar.specs.declared.reason.Reason.{Reason}
-use Rattle.nd_grammar.specs.InPlace.{whole_value}
+use Rattle.nd_grammar.specs.Entry.{whole_value}
 use Rattle.nd_grammar.specs.Stream.{step_entries, standing_entries}
 use Rattle.nd_grammar.specs.Reader.{Read, is_stopped, fresh, with_cell, new_cell, read_hoisted, read_if, read_whole}
 use Rattle.nd_grammar.specs.StreamReader.{Reading, read_direct, read_placed, read_root, read_first, read_next, read_due}

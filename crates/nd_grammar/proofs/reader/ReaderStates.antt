@@ -10,10 +10,10 @@ use Rattle.nd_value.specs.declared.item.Home.{Home}
 use Rattle.nd_value.specs.Tree.{Tree, none, more, Referent}
 use Rattle.nd_value.specs.Setting.{Setting, Among, root_list, unread, cell_home}
 use Rattle.nd_value.specs.Deferral.{Pending, Due, home_pointers, IsPlaced, Placed_cells}
-use Rattle.nd_value.specs.Homes.{root_pointers, cell_pointers, all_pointers}
+use Rattle.nd_value.specs.Conforms.{root_pointers, cell_pointers, all_pointers}
 use Rattle.nd_value.proofs.Apart.{all_append, among_left, among_right}
 use Rattle.nd_grammar.specs.LegalSide.{IsLegalSide}
-use Rattle.nd_grammar.specs.InPlace.{tests, whole_value}
+use Rattle.nd_grammar.specs.Entry.{tests, whole_value}
 use Rattle.nd_grammar.specs.Reader.{Progress, Names, Read, read_whole}
 use Rattle.nd_grammar.specs.StreamReader.{Reading, graph_of, with_value, read_referent}
 use Rattle.nd_grammar.proofs.next.HoistedMaxes.{HoistsLast}

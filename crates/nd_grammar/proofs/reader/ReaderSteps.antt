@@ -10,10 +10,9 @@ use Rattle.nd_grammar.specs.declared.reason.Reason.{Reason}
 use Rattle.nd_grammar.specs.declared.reason.Reason.TheVariants as reason
 use Rattle.nd_base.specs.declared.TheConstants.{STREAM_LIMIT}
 use Rattle.std.specs.Prelude.{ltb}
-use Rattle.nd_grammar.specs.Entry.{Kind, Entry, Align, Max, Offset, Actual, Chunk, Number, Num, Tag, Text, Context, Test, Unread, size_at, EntryAt}
-use Rattle.nd_grammar.specs.InPlace.{tests, own_tests, child_tests}
+use Rattle.nd_grammar.specs.Entry.{Kind, Entry, Align, Max, Offset, Actual, Chunk, Number, Num, Tag, Text, Context, Test, Unread, size_at, EntryAt, tests, own_tests, child_tests}
 use Rattle.nd_grammar.specs.NextMark.{form}
-use Rattle.nd_grammar.specs.Represents.{piece, Spells}
+use Rattle.nd_grammar.specs.Stream.{piece, Spells}
 use Rattle.nd_grammar.specs.Refusal.{refusal, kind_refusal, refused_if, is_long}
 use Rattle.nd_grammar.specs.Reader.{Progress, here, advanced, taken_by, pass, pass_all, taken}
 use Rattle.nd_grammar.proofs.next.Forms.{refused_alike}

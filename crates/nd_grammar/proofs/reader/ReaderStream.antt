@@ -20,15 +20,13 @@ use Rattle.nd_value.specs.Tree.{Tree, none, more, Referent}
 use Rattle.nd_value.specs.Setting.{Setting, Among, root_list, or_unread, unread, cell_home, cell_at, cell_tree}
 use Rattle.nd_value.specs.Nodes.{TypedNode, governed_nodes, home_nodes}
 use Rattle.nd_value.specs.Deferral.{Pending, due_roots, before_pipes, home_pointers, Step, Deferral, none_due}
-use Rattle.nd_value.specs.Variables.{root_agreements}
-use Rattle.nd_value.specs.Homes.{HomeNode, in_home, root_nodes, cell_nodes, all_nodes, root_pointers, cell_pointers, all_pointers}
+use Rattle.nd_value.specs.Agreement.{root_agreements}
+use Rattle.nd_value.specs.Conforms.{HomeNode, in_home, root_nodes, cell_nodes, all_nodes, root_pointers, cell_pointers, all_pointers, IsPartial}
 use Rattle.nd_value.specs.Misfit.{is_partial_node, has_machine_values}
-use Rattle.nd_value.specs.Conforms.{IsPartial}
 use Rattle.nd_value.proofs.Apart.{all_append, all_left, all_right, all_weaker}
 use Rattle.nd_grammar.specs.LegalSide.{IsLegalSide}
 use Rattle.nd_grammar.specs.Entry.{Entry, full_cells}
-use Rattle.nd_grammar.specs.Represents.{IsNumbering}
-use Rattle.nd_grammar.specs.Stream.{Stream, step_entries, root_tests, pipes_entries, AllCut, representation}
+use Rattle.nd_grammar.specs.Stream.{IsNumbering, Stream, step_entries, root_tests, pipes_entries, AllCut, representation}
 use Rattle.nd_grammar.specs.Reader.{Progress, pass_all}
 use Rattle.nd_grammar.specs.StreamReader.{Reading, ReadPipes, graph_of, read_due, read_pipes, read_start, read_stream}
 use Rattle.nd_grammar.proofs.LegalSides.{laid_out}

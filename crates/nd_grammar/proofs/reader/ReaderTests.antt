@@ -9,15 +9,12 @@ use Rattle.nd_value.specs.declared.item.Home.{Home}
 use Rattle.nd_value.specs.declared.item.Home.TheVariants as home
 use Rattle.nd_value.specs.Tree as tree
 use Rattle.nd_value.specs.Tree.{Tree, Trees, node, none, more}
-use Rattle.nd_value.specs.Agreement.{Agreement, number_of, found_in}
+use Rattle.nd_value.specs.Agreement.{Agreement, number_of, found_in, starred, root_agreements}
 use Rattle.nd_value.specs.Setting.{Setting, root_at, cell_at, cell_home, unread}
-use Rattle.nd_value.specs.Variables.{starred, root_agreements}
 use Rattle.nd_value.proofs.Apart.{all_append}
 use Rattle.nd_value.proofs.SameVariables.{agreements_same}
-use Rattle.nd_grammar.specs.Entry.{Entry, Test}
-use Rattle.nd_grammar.specs.InPlace.{tests}
-use Rattle.nd_grammar.specs.Represents.{Spells}
-use Rattle.nd_grammar.specs.Stream.{root_test, root_tests}
+use Rattle.nd_grammar.specs.Entry.{Entry, Test, tests}
+use Rattle.nd_grammar.specs.Stream.{Spells, root_test, root_tests}
 use Rattle.nd_grammar.specs.Reader.{Progress, pass, pass_all}
 use Rattle.nd_grammar.proofs.reader.ReaderSteps.{Follows}
 use Rattle.nd_grammar.proofs.reader.EntriesFine.{IsFine, Fine}

@@ -16,8 +16,7 @@ use Rattle.nd_value.specs.Deferral.{Deferral, at_root, at_null, at_standing, at_
 use Rattle.nd_value.specs.Conforms.{ShareOnlyIfFull}
 use Rattle.nd_value.proofs.Apart.{all_append, all_left, all_among, among_left, earlier_meets}
 use Rattle.nd_grammar.specs.LegalSide.{IsLegalSide}
-use Rattle.nd_grammar.specs.Entry.{Entry}
-use Rattle.nd_grammar.specs.InPlace.{tests, whole_value}
+use Rattle.nd_grammar.specs.Entry.{Entry, tests, whole_value}
 use Rattle.nd_grammar.specs.Stream.{step_entries, standing_entries, step_tests}
 use Rattle.nd_grammar.specs.Reader.{Progress, Read, pass_all, read_whole}
 use Rattle.nd_grammar.specs.StreamReader.{Reading, graph_of, stands_among, stood, read_referent, read_pending}

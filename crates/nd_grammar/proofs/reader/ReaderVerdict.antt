@@ -12,10 +12,8 @@ use Rattle.nd_value.specs.Conforms.{IsPartial}
 use Rattle.nd_grammar.specs.declared.reason.Reason.{Reason}
 use Rattle.nd_grammar.specs.declared.reason.Reason.TheVariants as reason
 use Rattle.nd_grammar.specs.Entry.{Entry, size_at, EntryAt, end_to_end, end_of, full_cells}
-use Rattle.nd_grammar.specs.Represents.{piece, Spells, IsRendered, IsNumbering}
-use Rattle.nd_grammar.specs.Refusal.{refusal, is_long, Accepts}
-use Rattle.nd_grammar.specs.Stream.{Stream}
-use Rattle.nd_grammar.specs.Bad.{Bad}
+use Rattle.nd_grammar.specs.Stream.{piece, Spells, IsRendered, IsNumbering, Stream}
+use Rattle.nd_grammar.specs.Refusal.{refusal, is_long, Accepts, Bad}
 use Rattle.nd_grammar.specs.Reader.{Progress, here, advanced, taken_by, pass, taken}
 use Rattle.nd_grammar.proofs.reader.ReaderSteps.{Follows}
 use Rattle.nd_grammar.proofs.reader.ReaderNodes.{if_not}

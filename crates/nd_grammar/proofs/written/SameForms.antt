@@ -22,18 +22,16 @@ use Rattle.nd_value.specs.Setting.{Setting, Among, root_list, root_at, or_unread
 use Rattle.nd_value.specs.Nodes.{nodes_of}
 use Rattle.nd_value.specs.Deferral.{Pending, pointer, home_pointers, Due, due_root, due_referent, due_roots, before_pipes, Step, Deferral, none_due, at_root, at_null, at_standing, at_referent}
 use Rattle.nd_value.specs.Deferral.{IsPlaced, Placed_cells, Standing, standing_root, standing_by, standing_cell, direct, root_type, due_of, root_cell}
-use Rattle.nd_value.specs.Canon.{named, own_cell, named_cells, has, number_from, canonical_number}
+use Rattle.nd_value.specs.Canon.{named, own_cell, named_cells, has, number_from, canonical_number, Same, renumbered, renumbered_label}
 use Rattle.nd_value.specs.Conforms.{Conforms}
 use Rattle.nd_value.specs.Misfit.{is_no_null_ref}
-use Rattle.nd_value.specs.Same.{Same, renumbered, renumbered_label}
 use Rattle.nd_value.proofs.Apart.{all_append, among_left, among_right}
 use Rattle.nd_value.proofs.DeferralLaws.{full_stands}
 use Rattle.nd_value.proofs.Waiting.{not_equal}
 use Rattle.nd_grammar.specs.LegalSide.{IsLegalSide}
-use Rattle.nd_grammar.specs.Entry.{Entry, size_at}
-use Rattle.nd_grammar.specs.InPlace.{tests, in_place}
-use Rattle.nd_grammar.specs.Stream.{step_entries, standing_entries, step_tests, root_tests, chunk_entries, chunks, pipe_entries, pipes_entries, kids_of}
-use Rattle.nd_grammar.specs.Chosen.{Chosen, octets_of, octets_from, pipe_cuts, cut_of}
+use Rattle.nd_grammar.specs.Entry.{Entry, size_at, tests, in_place}
+use Rattle.nd_grammar.specs.Stream.{step_entries, standing_entries, step_tests, root_tests, chunk_entries, chunks, pipe_entries, pipes_entries, kids_of, Chosen, octets_of, octets_from, pipe_cuts}
+use Rattle.nd_grammar.specs.Stream.{cut_of}
 use Rattle.nd_grammar.proofs.conforming.GoodStream.{PendingGood, StandsGood, DueGood, standing_due, pending_cell, root_good}
 use Rattle.nd_grammar.proofs.LegalSides.{laid_out}
 use Rattle.nd_grammar.proofs.next.Mapped.{no_pointers}

@@ -22,8 +22,7 @@ use Rattle.nd_value.specs.Deferral.{Pending, pointer, pointer_by, home_pointers}
 use Rattle.nd_value.specs.Misfit.{has_shape, has_range, has_machine_values, is_within, is_count}
 use Rattle.nd_value.proofs.Apart.{all_append, all_left, all_right}
 use Rattle.nd_value.proofs.NodeFacts.{IsFit, fit_children}
-use Rattle.nd_grammar.specs.Entry.{Kind}
-use Rattle.nd_grammar.specs.InPlace.{before_children, entries, counts, tag_entries, in_place, tests, own_tests, child_tests, hoisted, hoisted_max, own_max, whole_value}
+use Rattle.nd_grammar.specs.Entry.{Kind, before_children, entries, counts, tag_entries, in_place, tests, own_tests, child_tests, hoisted, hoisted_max, own_max, whole_value}
 use Rattle.nd_value.proofs.ValueRanges.{range_fits}
 use Rattle.nd_grammar.proofs.conforming.GoodEntries.{HoldsNoPipe}
 use Rattle.nd_grammar.specs.ReaderState.{IsNoPipe}

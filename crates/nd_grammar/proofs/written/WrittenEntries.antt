@@ -12,8 +12,7 @@ use Rattle.nd_types.specs.Table.{in_range}
 use Rattle.nd_types.specs.Number.{unsigned, spelling, in_order}
 use Rattle.nd_types.proofs.NumberLaws.{unsigned-spelling, spelling-length, written-length, read_after_write}
 use Rattle.nd_grammar.specs.Entry.{Kind, Entry, Align, Max, Offset, Actual, Chunk, Number, Num, Tag, Text, Context, Test, Unread, size_at, gap, end_to_end, end_of}
-use Rattle.nd_grammar.specs.Represents.{piece, Spells, IsNumber, IsRendered, id_octets}
-use Rattle.nd_grammar.specs.Chosen.{octets_of, octets_from, number_of_cell}
+use Rattle.nd_grammar.specs.Stream.{piece, Spells, IsNumber, IsRendered, id_octets, octets_of, octets_from, number_of_cell}
 use Rattle.nd_grammar.proofs.conforming.Passed.{least_end}
 
 -- a cell has a number of 32 bits, and not 0

@@ -14,21 +14,17 @@ use Rattle.nd_types.specs.Table.{type_at}
 use Rattle.nd_types.specs.Roots.{Root}
 use Rattle.nd_value.specs.declared.value.Graph.{Graph}
 use Rattle.nd_value.specs.declared.item.Item.{Item}
-use Rattle.nd_value.specs.Canon.{IsCanon, target, has}
+use Rattle.nd_value.specs.Canon.{IsCanon, target, has, Same}
 use Rattle.nd_value.specs.Conforms.{Conforms, IsPartial}
 use Rattle.nd_value.specs.Logged.{Logged}
-use Rattle.nd_value.specs.Same.{Same}
 use Rattle.nd_value.specs.Setting.{Setting, root_list}
 use Rattle.nd_grammar.specs.declared.reason.Reason.{Reason}
 use Rattle.nd_grammar.specs.declared.reason.Reason.TheVariants as reason
-use Rattle.nd_grammar.specs.Bad.{Bad}
+use Rattle.nd_grammar.specs.Refusal.{Bad, Accepts}
 use Rattle.nd_grammar.specs.Entry.{Entry, EntryAt, end_to_end, size_at, full_cells}
-use Rattle.nd_grammar.specs.FewItems.{but_gaps, item_count}
-use Rattle.nd_grammar.specs.Items.{items}
+use Rattle.nd_grammar.specs.Items.{but_gaps, item_count, items}
 use Rattle.nd_grammar.specs.NextMark.{named_cell}
-use Rattle.nd_grammar.specs.Refusal.{Accepts}
-use Rattle.nd_grammar.specs.Represents.{Represents, IsRendered, IsNumbering}
-use Rattle.nd_grammar.specs.Stream.{Stream}
+use Rattle.nd_grammar.specs.Stream.{Represents, IsRendered, IsNumbering, Stream}
 
 -- ## The log and the steps
 

@@ -19,7 +19,7 @@ use Rattle.nd_grammar.specs.declared.reason.Reason.{Reason}
 use Rattle.nd_grammar.specs.declared.reason.Reason.TheVariants as reason
 use Rattle.nd_grammar.specs.Entry.{Entry, EntryAt, Chunk}
 use Rattle.nd_grammar.specs.Refusal.{refusal}
-use Rattle.nd_grammar.specs.Represents.{piece}
+use Rattle.nd_grammar.specs.Stream.{piece}
 use Rattle.nd_grammar.specs.Reader.{Names, Progress, pass, taken, taken_by, number_in}
 use Rattle.nd_grammar.specs.StreamReader.{ReadPipe, graph_of, read_pipes, read_stream}
 use Rattle.ndr_decoder_laws.specs.reader.Around.{going, stopped}

@@ -12,9 +12,8 @@ use Rattle.nd_value.specs.declared.item.Home.{Home}
 use Rattle.nd_value.specs.Tree as tree
 use Rattle.nd_value.specs.Tree.{Tree, Trees, node, none, more, joined, Label}
 use Rattle.nd_value.specs.Nodes.{child_agreements, child_types}
-use Rattle.nd_grammar.specs.InPlace.{child_tests}
+use Rattle.nd_grammar.specs.Entry.{child_tests, Entry, EntryAt, size_at}
 use Rattle.nd_grammar.specs.declared.reason.Reason.{Reason}
-use Rattle.nd_grammar.specs.Entry.{Entry, EntryAt, size_at}
 use Rattle.nd_grammar.specs.Refusal.{refusal}
 use Rattle.nd_grammar.specs.Reader.{Progress, Names, Read, ReadAll, advanced, pass, pass_all, read_list, read_in_place, read_children, read_tagged, read_by, read_if, tree_nodes, bound_or}
 use Rattle.ndr_decoder_laws.specs.reader.Halves.{gap_of, past_gap, after_gap, tagged_after, tag_gap}

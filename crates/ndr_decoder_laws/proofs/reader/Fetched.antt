@@ -12,7 +12,7 @@ use Rattle.nd_base.specs.declared.TheConstants.{STREAM_LIMIT}
 use Rattle.nd_types.specs.Number.{unsigned}
 use Rattle.nd_grammar.specs.declared.reason.Reason.TheVariants.{Truncated, TooLong}
 use Rattle.nd_grammar.specs.Entry.{Entry, EntryAt, size_at}
-use Rattle.nd_grammar.specs.Represents.{piece}
+use Rattle.nd_grammar.specs.Stream.{piece}
 use Rattle.nd_grammar.specs.Refusal.{refusal, kind_refusal, refused_if, is_long, is_other, other_pointee}
 use Rattle.nd_grammar.specs.Reader.{taken, taken_by}
 use Rattle.nd_grammar.proofs.next.Spelt.{piece_left}

@@ -12,8 +12,7 @@ use Rattle.nd_value.specs.Tree.{Tree}
 use Rattle.nd_value.specs.Setting.{Setting, root_list, unread, cell_home, cell_at}
 use Rattle.nd_value.specs.Deferral.{Pending, Due, due_root, due_referent, before_pipes, root_type}
 use Rattle.nd_grammar.specs.declared.reason.Reason.{Reason}
-use Rattle.nd_grammar.specs.Entry.{EntryAt}
-use Rattle.nd_grammar.specs.InPlace.{tests}
+use Rattle.nd_grammar.specs.Entry.{EntryAt, tests}
 use Rattle.nd_grammar.specs.Stream.{root_tests}
 use Rattle.nd_grammar.specs.Reader.{Progress, Names, pass_all, is_stopped}
 use Rattle.nd_grammar.specs.StreamReader.{Reading, ReadPipe, read_root, read_referent, read_pending, read_next, read_due, read_pipe, read_pipes, read_start, read_stream, graph_of, stood}

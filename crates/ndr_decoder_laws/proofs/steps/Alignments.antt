@@ -11,7 +11,7 @@ use Rattle.nd_value.specs.declared.item.Home.{Home}
 use Rattle.nd_value.specs.Deferral.{Pending}
 use Rattle.nd_value.specs.Tree as tree
 use Rattle.nd_value.specs.Tree.{node, none, more, Label}
-use Rattle.nd_grammar.specs.InPlace.{before_children, entries, tag_entries}
+use Rattle.nd_grammar.specs.Entry.{before_children, entries, tag_entries}
 use Rattle.nd_grammar.proofs.reader.EntriesFine.{Fine, FullOk, fine_in_place}
 use Rattle.ndr_decoder_laws.specs.reader.Halves.{gap_of, tag_gap}
 use Rattle.ndr_decoder_laws.specs.steps.Steps.{IsAlignment}

@@ -17,8 +17,7 @@ use Rattle.nd_value.specs.Agreement.{Agreement, agreement, wanted_by, member_agr
 use Rattle.nd_value.specs.Tree.{Tree, Trees, node, none, more, joined, Label, Flat, flat, count, node_count, is_pointer}
 use Rattle.nd_grammar.specs.declared.reason.Reason.{Reason}
 use Rattle.nd_grammar.specs.declared.reason.Reason.TheVariants as reason
-use Rattle.nd_grammar.specs.Entry.{Entry, EntryAt, Test}
-use Rattle.nd_grammar.specs.InPlace.{child_tests, own_tests, tests}
+use Rattle.nd_grammar.specs.Entry.{Entry, EntryAt, Test, child_tests, own_tests, tests}
 use Rattle.nd_grammar.specs.Refusal.{refusal, tested_at}
 use Rattle.nd_grammar.specs.Reader.{Names, Read, pass_all, tree_nodes}
 use Rattle.ndr_code.specs.declared.instr.Instr.{Instr}

@@ -13,8 +13,7 @@ use Rattle.nd_value.specs.Nodes.{child_agreements, nodes_of}
 use Rattle.nd_value.specs.Deferral.{pointer, home_pointers}
 use Rattle.nd_value.specs.Tree as tree
 use Rattle.nd_value.specs.Tree.{Tree, Trees, node, none, more, joined, Label, flat, count, node_count, is_pointer}
-use Rattle.nd_grammar.specs.Entry.{EntryAt}
-use Rattle.nd_grammar.specs.InPlace.{child_tests}
+use Rattle.nd_grammar.specs.Entry.{EntryAt, child_tests}
 use Rattle.nd_grammar.specs.Reader.{Names, Read, read_in_place, tree_nodes, pass_all}
 use Rattle.ndr_code.specs.declared.instr.Instr.{Instr}
 use Rattle.ndr_code.specs.declared.instr.Instr.TheVariants as op

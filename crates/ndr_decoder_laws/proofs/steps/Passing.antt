@@ -19,7 +19,7 @@ use Rattle.nd_value.specs.Tree.{Flat}
 use Rattle.nd_grammar.specs.Entry.{Kind, Entry, EntryAt, size_at, gap, Align, Max, Offset, Actual, Chunk, Number, Num, Tag, Text, Context, Test, Unread}
 use Rattle.nd_grammar.specs.NextMark.{named_cell}
 use Rattle.nd_grammar.specs.Items.{items, item_at, item_of as item_in}
-use Rattle.nd_grammar.specs.Represents.{piece}
+use Rattle.nd_grammar.specs.Stream.{piece}
 use Rattle.nd_grammar.specs.Reader.{Names, taken}
 use Rattle.nd_grammar.specs.Refusal.{is_other, tested_at, kind_agrees, same_home, is_max, other_pointee, refusal, kind_refusal, is_long}
 use Rattle.nd_grammar.proofs.reader.ReaderNames.{get_left as item_before}

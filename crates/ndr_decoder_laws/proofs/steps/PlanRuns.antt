@@ -13,8 +13,7 @@ use Rattle.nd_types.specs.Kinds.{prim_number, basic_types, basic_number, is_basi
 use Rattle.nd_types.specs.Legal.{IsLegal}
 use Rattle.nd_types.proofs.LegalLaws.{passes_at}
 use Rattle.nd_lemmas.proofs.Booleans.{first_true as left_true, second_true as right_true}
-use Rattle.ndr_code.specs.Code.{code_of, place_at, whole_at, type_runs, operations_code}
-use Rattle.ndr_code.specs.Lines.{values_of}
+use Rattle.ndr_code.specs.Code.{code_of, place_at, whole_at, type_runs, operations_code, values_of}
 use Rattle.ndr_code.proofs.TypeRuns.{place_run_at}
 use Rattle.ndr_code.proofs.SideLines.{type_listed, primitive_unlisted}
 use Rattle.ndr_decoder_laws.specs.steps.Spots.{IsPlanned}

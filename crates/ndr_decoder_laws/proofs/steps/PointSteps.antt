@@ -22,8 +22,7 @@ use Rattle.nd_value.specs.Agreement.{Agreement, member_agreements}
 use Rattle.nd_value.specs.Nodes.{child_agreements}
 use Rattle.nd_value.specs.Tree as tree
 use Rattle.nd_value.specs.Tree.{Tree, Trees, node, none, more, joined, count, node_count, is_pointer}
-use Rattle.nd_grammar.specs.Entry.{Entry, EntryAt}
-use Rattle.nd_grammar.specs.InPlace.{child_tests, own_tests}
+use Rattle.nd_grammar.specs.Entry.{Entry, EntryAt, child_tests, own_tests}
 use Rattle.nd_grammar.specs.Reader.{Names, Read, bound_or, tree_nodes}
 use Rattle.ndr_code.specs.declared.instr.Instr.{Instr}
 use Rattle.ndr_code.specs.declared.instr.Instr.TheVariants as op

@@ -21,7 +21,7 @@ use Rattle.nd_value.specs.Tree as tree
 use Rattle.nd_value.specs.Tree.{node, none}
 use Rattle.nd_grammar.specs.declared.reason.Reason.TheVariants as reason
 use Rattle.nd_grammar.specs.Entry.{Entry, EntryAt, Number}
-use Rattle.nd_grammar.specs.Represents.{piece}
+use Rattle.nd_grammar.specs.Stream.{piece}
 use Rattle.nd_grammar.specs.Refusal.{refusal, refused_if, is_other, other_pointee}
 use Rattle.nd_grammar.specs.Reader.{Progress, Names, Named, Read, pass, taken, number_in, named, numbered, fresh, with_cell, full_by as names_full}
 use Rattle.ndr_code.specs.declared.instr.Instr.{Instr}

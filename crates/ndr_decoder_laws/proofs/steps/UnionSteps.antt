@@ -27,7 +27,7 @@ use Rattle.nd_value.specs.Tree.{node, none, Flat}
 use Rattle.nd_grammar.specs.declared.reason.Reason.{Reason}
 use Rattle.nd_grammar.specs.declared.reason.Reason.TheVariants as reason
 use Rattle.nd_grammar.specs.Entry.{Entry, EntryAt, Tag}
-use Rattle.nd_grammar.specs.Represents.{piece}
+use Rattle.nd_grammar.specs.Stream.{piece}
 use Rattle.nd_grammar.specs.Refusal.{refusal, refused_if, is_enumerator, is_selected}
 use Rattle.nd_grammar.specs.Reader.{Progress, Names, Read, pass, taken, taken_by, value_in, read_in_place, read_children}
 use Rattle.ndr_code.specs.declared.instr.Instr.{Instr}

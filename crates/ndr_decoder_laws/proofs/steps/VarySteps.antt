@@ -20,7 +20,7 @@ use Rattle.nd_grammar.specs.declared.reason.Reason.{Reason}
 use Rattle.nd_grammar.specs.declared.reason.Reason.TheVariants as reason
 use Rattle.nd_grammar.specs.Entry.{Kind, Entry, EntryAt, Offset, Actual, Text}
 use Rattle.nd_grammar.specs.Refusal.{refusal, refused_if, text_refusal, is_max}
-use Rattle.nd_grammar.specs.Represents.{piece}
+use Rattle.nd_grammar.specs.Stream.{piece}
 use Rattle.nd_grammar.specs.Reader.{Names, Read, pass, taken, taken_by, number_in, text_in, bound_or, read_in_place, read_children}
 use Rattle.ndr_code.specs.declared.instr.Instr.{Instr}
 use Rattle.ndr_code.specs.declared.instr.Instr.TheVariants as op

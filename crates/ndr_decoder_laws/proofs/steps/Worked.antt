@@ -17,8 +17,7 @@ use Rattle.nd_grammar.specs.Refusal.{tested_at}
 use Rattle.ndr_code.specs.declared.instr.Instr.{Instr}
 use Rattle.ndr_code.specs.declared.instr.Instr.TheVariants as op
 use Rattle.ndr_code.specs.declared.lists.EnumList.{EnumList}
-use Rattle.ndr_code.specs.Code.{code_of, place_at, id}
-use Rattle.ndr_code.specs.Lines.{values_of}
+use Rattle.ndr_code.specs.Code.{code_of, place_at, id, values_of}
 use Rattle.ndr_code.specs.Runs.{IsRunAt}
 use Rattle.ndr_code.proofs.Runs.{first_at, next_at}
 use Rattle.ndr_decoder_laws.specs.reader.Around.{going}

@@ -18,8 +18,7 @@ use Rattle.nd_value.specs.Tree as tree
 use Rattle.nd_value.specs.Tree.{Tree, Trees, node, none, more, joined, Label, is_pointer, node_count}
 use Rattle.nd_value.proofs.Apart.{all_append}
 use Rattle.nd_grammar.specs.declared.reason.Reason.{Reason}
-use Rattle.nd_grammar.specs.Entry.{Kind, Entry, Align, Max, Offset, Actual, Number, Num, Tag, Text, Context}
-use Rattle.nd_grammar.specs.InPlace.{tests, own_tests, child_tests}
+use Rattle.nd_grammar.specs.Entry.{Kind, Entry, Align, Max, Offset, Actual, Number, Num, Tag, Text, Context, tests, own_tests, child_tests}
 use Rattle.nd_grammar.specs.Refusal.{refusal}
 use Rattle.nd_grammar.specs.Reader.{Progress, Names, Read, ReadAll, is_stopped, here, advanced, pass, pass_all, taken, number_in, value_in, text_in, attributes_in, identifier_in, named, read_if}
 use Rattle.nd_grammar.specs.Reader.{read_list, read_children, read_in_place, read_hoisted, read_whole, tree_nodes, bound_or}

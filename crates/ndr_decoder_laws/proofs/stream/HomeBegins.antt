@@ -12,8 +12,7 @@ use Rattle.nd_grammar.specs.Reader.{Names, read_whole}
 use Rattle.nd_grammar.specs.ReaderState.{Usable}
 use Rattle.ndr_code.specs.declared.instr.Instr.TheVariants as op
 use Rattle.ndr_code.specs.Runs.{IsRunAt}
-use Rattle.ndr_code.specs.Code.{code_of, whole_at, place_at}
-use Rattle.ndr_code.specs.Lines.{values_of}
+use Rattle.ndr_code.specs.Code.{code_of, whole_at, place_at, values_of}
 use Rattle.ndr_code.proofs.TypeRuns.{hoist_run_at, whole_is_place}
 use Rattle.ndr_decoder_laws.specs.reader.Around.{going}
 use Rattle.ndr_decoder_laws.specs.steps.Good.{Told, Good, IsBegun}

@@ -11,7 +11,7 @@ use Rattle.nd_value.specs.Logged.{Logged}
 use Rattle.nd_value.specs.Setting.{Setting}
 use Rattle.nd_grammar.specs.declared.reason.Reason.{Reason}
 use Rattle.nd_grammar.specs.declared.reason.Reason.TheVariants as reason
-use Rattle.nd_grammar.specs.FewItems.{is_gap, but_gaps}
+use Rattle.nd_grammar.specs.Items.{is_gap, but_gaps}
 use Rattle.nd_grammar.specs.decoded.Verdict.{DecodingSeen, HasNoted, with_items}
 use Rattle.ndr_decoder_laws.specs.stream.Calls.{Follows, Took, TookPart, Refused, Unread, CutOff}
 use Rattle.ndr_decoder_laws.specs.stream.Report.{Extent, StreamRefused, StreamCut}

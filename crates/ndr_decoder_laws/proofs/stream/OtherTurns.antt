@@ -14,8 +14,7 @@ use Rattle.nd_value.specs.Setting.{Setting, cell_home, cell_at}
 use Rattle.nd_value.specs.Deferral.{Pending, Due, due_referent, due_roots, IsPlaced, Placed_cells}
 use Rattle.nd_value.specs.Tree.{Tree}
 use Rattle.nd_grammar.specs.declared.reason.Reason.{Reason}
-use Rattle.nd_grammar.specs.Entry.{EntryAt}
-use Rattle.nd_grammar.specs.InPlace.{tests}
+use Rattle.nd_grammar.specs.Entry.{EntryAt, tests}
 use Rattle.nd_grammar.specs.LegalSide.{IsLegalSide}
 use Rattle.nd_grammar.specs.Reader.{Progress, pass_all}
 use Rattle.nd_grammar.specs.StreamReader.{Reading, graph_of, stands_among, stood, read_referent, read_pending, read_first, read_next}

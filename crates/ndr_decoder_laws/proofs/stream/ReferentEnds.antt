@@ -13,8 +13,7 @@ use Rattle.nd_value.specs.Deferral.{Pending, Due, due_referent, due_roots, IsPla
 use Rattle.nd_value.proofs.Apart.{all_append, all_left, earlier_meets}
 use Rattle.nd_grammar.specs.declared.reason.Reason.{Reason}
 use Rattle.nd_grammar.specs.declared.reason.Reason.TheVariants as reason
-use Rattle.nd_grammar.specs.Entry.{Entry, EntryAt}
-use Rattle.nd_grammar.specs.InPlace.{tests}
+use Rattle.nd_grammar.specs.Entry.{Entry, EntryAt, tests}
 use Rattle.nd_grammar.specs.LegalSide.{IsLegalSide}
 use Rattle.nd_grammar.specs.Reader.{Progress, Read, pass_all, read_whole}
 use Rattle.nd_grammar.specs.StreamReader.{Reading, stands_among, stood, with_value, read_referent, read_pending, read_first, read_next}

@@ -11,8 +11,7 @@ use Rattle.nd_value.specs.Setting.{Setting}
 use Rattle.nd_grammar.specs.declared.reason.Reason.{Reason}
 use Rattle.nd_grammar.specs.declared.reason.Reason.TheVariants as reason
 use Rattle.nd_grammar.specs.Entry.{EntryAt, end_to_end}
-use Rattle.nd_grammar.specs.FewItems.{but_gaps}
-use Rattle.nd_grammar.specs.Items.{items}
+use Rattle.nd_grammar.specs.Items.{but_gaps, items}
 use Rattle.nd_grammar.specs.LegalSide.{IsLegalSide}
 use Rattle.nd_grammar.specs.Reader.{Progress}
 use Rattle.nd_grammar.specs.StreamReader.{read_stream}

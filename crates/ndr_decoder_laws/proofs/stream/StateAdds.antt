@@ -9,8 +9,7 @@ use Rattle.nd_value.specs.declared.item.Item.{Item}
 use Rattle.nd_value.specs.Agreement.{Agreement, member_agreements}
 use Rattle.nd_value.specs.Tree.{Tree, node, is_pointer, node_count}
 use Rattle.nd_value.proofs.Apart.{all_append}
-use Rattle.nd_grammar.specs.Entry.{Entry}
-use Rattle.nd_grammar.specs.InPlace.{child_tests}
+use Rattle.nd_grammar.specs.Entry.{Entry, child_tests}
 use Rattle.nd_grammar.specs.Reader.{Read, tree_nodes}
 use Rattle.ndr_code.specs.declared.instr.Instr.{Instr}
 use Rattle.ndr_decoder_laws.specs.reader.Around.{Around, going, finish, nodes_around}

@@ -17,8 +17,7 @@ use Rattle.nd_value.specs.Setting.{Setting, root_list, cell_at, cell_home}
 use Rattle.nd_value.specs.Tree.{none, joined, node_count}
 use Rattle.nd_value.proofs.Apart.{all_append}
 use Rattle.nd_grammar.specs.declared.reason.Reason.{Reason}
-use Rattle.nd_grammar.specs.Entry.{Entry, Align, Chunk}
-use Rattle.nd_grammar.specs.InPlace.{tests}
+use Rattle.nd_grammar.specs.Entry.{Entry, Align, Chunk, tests}
 use Rattle.nd_grammar.specs.LegalSide.{IsLegalSide}
 use Rattle.nd_grammar.specs.Refusal.{refusal}
 use Rattle.nd_grammar.specs.Reader.{Progress, Names, Read, ReadAll, is_stopped, here, advanced, pass, pass_all, taken, number_in, fresh, with_cell, read_list, read_in_place, read_whole}

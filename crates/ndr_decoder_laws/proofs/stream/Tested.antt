@@ -16,8 +16,7 @@ use Rattle.nd_value.specs.Tree.{Tree, node, more, none, Flat, flat, count}
 use Rattle.nd_value.specs.Deferral.{Pending}
 use Rattle.nd_grammar.specs.declared.reason.Reason.{Reason}
 use Rattle.nd_grammar.specs.declared.reason.Reason.TheVariants as reason
-use Rattle.nd_grammar.specs.Entry.{Entry, EntryAt, Test}
-use Rattle.nd_grammar.specs.InPlace.{tests}
+use Rattle.nd_grammar.specs.Entry.{Entry, EntryAt, Test, tests}
 use Rattle.nd_grammar.specs.Refusal.{refusal, tested_at}
 use Rattle.nd_grammar.specs.Reader.{Names, pass_all}
 use Rattle.nd_grammar.specs.StreamReader.{Reading, graph_of}

@@ -7,10 +7,9 @@ use Rattle.nd_value.specs.Canon.{target, has}
 use Rattle.nd_value.specs.Setting.{Setting, root_list}
 use Rattle.nd_value.proofs.Apart.{all_weaker}
 use Rattle.nd_grammar.specs.Entry.{Kind, Entry, Align, Max, Offset, Actual, Chunk, Number, Num, Tag, Text, Context, Test, Unread, size_at, EntryAt, end_to_end, end_of}
-use Rattle.nd_grammar.specs.FewItems.{but_gaps}
-use Rattle.nd_grammar.specs.Items.{items}
+use Rattle.nd_grammar.specs.Items.{but_gaps, items}
 use Rattle.nd_grammar.specs.NextMark.{named_cell}
-use Rattle.nd_grammar.specs.Represents.{IsRendered}
+use Rattle.nd_grammar.specs.Stream.{IsRendered}
 use Rattle.nd_grammar.proofs.ItemSizes.{numbers, items_size}
 use Rattle.nd_grammar.specs.decoded.Verdict.{IsReadThrough, DecodingSeen, IsCounted, once, cells_named, direct_roots}
 

@@ -20,10 +20,9 @@ use Rattle.nd_value.specs.Tree.{Tree, Trees, Label, node, none, more, Referent, 
 use Rattle.nd_value.specs.Setting.{Setting, root_list, root_at, or_unread, unread, cell_home, cell_at, cell_tree}
 use Rattle.nd_value.specs.Deferral.{Pending, Due, due_root, due_referent, due_roots, due_of, before_pipes, home_pointers, IsPlaced, Placed_cells, Step, root_stands, referent_stands, stands_already}
 use Rattle.nd_value.specs.Deferral.{Deferral, none_due, at_root, at_null, at_standing, at_referent, Standing, standing_root, standing_by, standing_cell, direct, root_type, root_cell}
-use Rattle.nd_value.specs.Canon.{IsCanon, named, own_cell, named_cells}
+use Rattle.nd_value.specs.Canon.{IsCanon, named, own_cell, named_cells, Same, renumbered, renumbered_label}
 use Rattle.nd_value.proofs.DeferralLaws.{full_stands}
 use Rattle.nd_value.proofs.NodeFacts.{sound_partial}
-use Rattle.nd_value.specs.Same.{Same, renumbered, renumbered_label}
 use Rattle.nd_value.proofs.FewRoots.{few_before_pipes}
 use Rattle.nd_grammar.specs.LegalSide.{IsLegalSide}
 use Rattle.nd_grammar.specs.Reader.{Names, Read, is_stopped, fresh, with_cell, read_if, read_hoisted, read_whole}

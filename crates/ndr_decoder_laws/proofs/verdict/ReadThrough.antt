@@ -13,7 +13,7 @@ use Rattle.nd_grammar.specs.LegalSide.{IsLegalSide}
 use Rattle.nd_grammar.specs.declared.reason.Reason.{Reason}
 use Rattle.nd_grammar.specs.declared.reason.Reason.TheVariants as reason
 use Rattle.nd_grammar.specs.Entry.{Entry, size_at, EntryAt, end_to_end}
-use Rattle.nd_grammar.specs.Represents.{piece, Spells, IsRendered}
+use Rattle.nd_grammar.specs.Stream.{piece, Spells, IsRendered}
 use Rattle.nd_grammar.specs.Refusal.{refusal, is_long, Accepts}
 use Rattle.nd_grammar.specs.Reader.{Progress, here, advanced, taken_by, pass, taken}
 use Rattle.nd_grammar.specs.StreamReader.{read_stream}

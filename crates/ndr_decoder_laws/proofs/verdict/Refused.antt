@@ -18,10 +18,9 @@ use Rattle.nd_value.proofs.Apart.{all_append, all_left, all_weaker}
 use Rattle.nd_grammar.specs.LegalSide.{IsLegalSide}
 use Rattle.nd_grammar.specs.declared.reason.Reason.{Reason}
 use Rattle.nd_grammar.specs.declared.reason.Reason.TheVariants as reason
-use Rattle.nd_grammar.specs.Bad.{Bad}
+use Rattle.nd_grammar.specs.Refusal.{Bad, refusal, kind_refusal, refused_if, text_refusal, is_enumerator, is_selected, is_long, is_other, tested_at, Accepts}
 use Rattle.nd_grammar.specs.Entry.{Kind, Entry, Align, Max, Offset, Actual, Chunk, Number, Num, Tag, Text, Context, Test, Unread, size_at, EntryAt, end_to_end}
-use Rattle.nd_grammar.specs.Represents.{piece, Spells, IsRendered, Represents}
-use Rattle.nd_grammar.specs.Refusal.{refusal, kind_refusal, refused_if, text_refusal, is_enumerator, is_selected, is_long, is_other, tested_at, Accepts}
+use Rattle.nd_grammar.specs.Stream.{piece, Spells, IsRendered, Represents}
 use Rattle.nd_grammar.specs.StreamReader.{read_stream}
 use Rattle.nd_grammar.proofs.Excluded.{excluded}
 use Rattle.nd_grammar.proofs.OneRefusal.{one_bad}

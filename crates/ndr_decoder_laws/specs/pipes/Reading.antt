@@ -2,7 +2,7 @@
 -- `more` is how many chunks may come after this one, `h` the home, `elem` the elements' type, `n` the number of the first node that is still to be
 -- read, `k` the count of the chunk, `done` are the elements so far, `i` is the root's number, `rs` are the roots after it, `roots` the values of
 -- those before.
-use Rattle.std.specs.Prelude.{◌≡◌, ℕ, ◌+◌, Bool, true, false, eqb, List, [], ◌∷◌, ◌++◌, replicate}
+use Rattle.std.specs.Prelude.{◌≡◌, ℕ, ◌+◌, Bool, true, false, ◌==◌, List, [], ◌∷◌, ◌++◌, replicate}
 use Rattle.nd_base.specs.declared.octets.Order.{Order}
 use Rattle.nd_types.specs.Roots.{Root}
 use Rattle.nd_value.specs.declared.item.Home.{Home}
@@ -33,7 +33,7 @@ module _ (w : Setting) (order : Order) (octets : List ℕ) (more : ℕ) (h : Hom
   count_then gap s =
       let k : ℕ = number_in order octets (taken order octets (of_pipe h (Chunk 0)) gap) in
       let q : Progress = pass order octets (of_pipe h (Chunk k)) gap in
-      chosen (eqb k 0) (record { trees = none; cut = []; progress = q; names = s }) (elements_then k q s)
+      chosen (k == 0) (record { trees = none; cut = []; progress = q; names = s }) (elements_then k q s)
 
 -- The reader of the stream comes to what these roots give, after a pipe of which this is left.
 pub record Reads (w : Setting) (order : Order) (octets : List ℕ) (i : ℕ) (rs : List Root) (roots : List Tree) (done : Trees)

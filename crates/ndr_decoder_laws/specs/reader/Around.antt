@@ -9,8 +9,7 @@ use Rattle.nd_value.specs.Agreement.{Agreement}
 use Rattle.nd_value.specs.Nodes.{child_agreements, nodes_of}
 use Rattle.nd_value.specs.Deferral.{Pending, pointer}
 use Rattle.nd_grammar.specs.declared.reason.Reason.{Reason}
-use Rattle.nd_grammar.specs.Entry.{Entry, EntryAt}
-use Rattle.nd_grammar.specs.InPlace.{child_tests}
+use Rattle.nd_grammar.specs.Entry.{Entry, EntryAt, child_tests}
 use Rattle.nd_grammar.specs.Reader.{Progress, Names, Read, ReadAll, pass_all, read_list, read_in_place, tree_nodes}
 
 -- progress that has not stopped, and progress that has: the stop is a literal, so that what follows computes

@@ -1,6 +1,6 @@
 -- Structs of numbers, read in one go.
 -- `code` is that of a plan, `pc` an address, `at` a place, `node` how many nodes came before, `fs` are the members of a struct, `os` octets.
-use Rattle.std.specs.Prelude.{◌≡◌, ◌⊎◌, ℕ, ◌+◌, zero, suc, ltb, if◌then◌else◌, List, [], ◌∷◌, ◌++◌, length, take, drop, slice_get, Some}
+use Rattle.std.specs.Prelude.{◌≡◌, ◌⊎◌, ℕ, ◌+◌, zero, suc, nat_lt, if◌then◌else◌, List, [], ◌∷◌, ◌++◌, length, take, drop, slice_get, Some}
 use Rattle.nd_base.specs.declared.octets.Order.{Order}
 use Rattle.nd_types.specs.declared.types.Primitive.{Primitive}
 use Rattle.nd_types.specs.declared.types.TypeId.{TypeId}
@@ -155,9 +155,9 @@ record_read order fs os s = records_read (s.pc + 1 + length fs + 1) (s.at + leng
 abbrev pub slots_came : Order → Home → ℕ → ℕ → List Slot → List ℕ → List Item
 slots_came order h at node [] os = []
 slots_came order h at node (f ∷ fs) os =
-    if ltb (length os) (gap at f.to) then []
+    if nat_lt (length os) (gap at f.to) then []
     else gap_items h at (take (gap at f.to) os)
-    ++ (if ltb (length os) (gap at f.to + width f.prim) then []
+    ++ (if nat_lt (length os) (gap at f.to + width f.prim) then []
     else item_here h (at + gap at f.to) item.Num (width f.prim) (value_of_octets order f.prim (slot_octets at f os)) node
     ∷ slots_came order h (at + gap at f.to + width f.prim) (node + 1) fs (after_slot at f os))
 
@@ -166,7 +166,7 @@ abbrev pub records_came : Order → Home → ℕ → ℕ → ℕ → List Slot �
 records_came order h at node to fs zero os = slots_came order h at (node + 1) fs os
 records_came order h at node to fs (suc n) os =
     slots_came order h at (node + 1) fs (take (slots_len at fs) os)
-    ++ (if ltb (length os) (slots_len at fs + gap (at + slots_len at fs) to) then []
+    ++ (if nat_lt (length os) (slots_len at fs + gap (at + slots_len at fs) to) then []
     else gap_items h (at + slots_len at fs) (take (gap (at + slots_len at fs) to) (drop (slots_len at fs) os))
     ++ records_came order h (next_place at to fs) (node + 1 + length fs) to fs n (after_record at to fs os))
 

@@ -3,7 +3,7 @@
 -- `fetched` are the octets so far, `own` the type of the home `h`, `target` what the plain reader gives for the home, by all octets, `limit` how many
 -- values nest in place: 32, and one more within a pipe. `noted` are the items of the entries so far, `direct` is how many roots that are reference
 -- pointers have their referents so far.
-use Rattle.std.specs.Prelude.{◌≡◌, ◌≤◌, ◌<◌, ℕ, ◌+◌, ◌-◌, zero, suc, ℤ, true, false, not, eqb, List, [], ◌∷◌, ◌++◌, length, map, Option, Some, None}
+use Rattle.std.specs.Prelude.{◌≡◌, ◌≤◌, ◌<◌, ℕ, ◌+◌, ◌-◌, zero, suc, ℤ, true, false, not, ◌==◌, List, [], ◌∷◌, ◌++◌, length, map, Option, Some, None}
 use Rattle.std.specs.List.{AllByRecursion, slice_get}
 use Rattle.nd_base.specs.declared.octets.Order.{Order}
 use Rattle.nd_base.specs.declared.TheConstants.{STREAM_LIMIT}
@@ -164,7 +164,7 @@ OwnAt _ fs kept = OwnIn fs kept
 abbrev pub IsKnownAs : Order → List ℕ → List EntryAt → Names → ℕ → Option Known → Type 0
 IsKnownAs order octets seen names v None = (numbered names.numbers v ≡ None) × ((to : ℕ) → is_other order octets seen v to ≡ false)
 IsKnownAs order octets seen names v (Some k) =
-    (numbered names.numbers v ≡ Some k.cell.0) × ((to : ℕ) → is_other order octets seen v to ≡ not (eqb k.of.0 to))
+    (numbered names.numbers v ≡ Some k.cell.0) × ((to : ℕ) → is_other order octets seen v to ≡ not (k.of.0 == to))
 
 -- ## Cells
 

@@ -18,14 +18,12 @@ use Rattle.nd_value.specs.Agreement.{Agreement, member_agreements}
 use Rattle.nd_value.specs.Nodes.{selected_types}
 use Rattle.nd_value.specs.Tree as tree
 use Rattle.nd_value.specs.Tree.{Tree, Trees, none, more, node, joined, count, is_pointer, node_count}
-use Rattle.nd_grammar.specs.Entry.{Entry}
-use Rattle.nd_grammar.specs.InPlace.{child_tests, own_tests}
+use Rattle.nd_grammar.specs.Entry.{Entry, child_tests, own_tests}
 use Rattle.nd_grammar.specs.Reader.{bound_or, tree_nodes}
 use Rattle.ndr_code.specs.declared.instr.Instr.{Instr}
 use Rattle.ndr_code.specs.declared.instr.Instr.TheVariants as op
 use Rattle.ndr_code.specs.Code.{place_at, whole_at, id, array_run, text_bound, struct_run, union_run, arms_code, default_code, member_calls}
-use Rattle.ndr_code.specs.Code.{member_checks, field_checks, place_run}
-use Rattle.ndr_code.specs.Lines.{enumerators}
+use Rattle.ndr_code.specs.Code.{member_checks, field_checks, place_run, enumerators}
 use Rattle.ndr_code.specs.Runs.{IsRunAt}
 use Rattle.ndr_code.specs.declared.lists.EnumList.{EnumList}
 use Rattle.ndr_decoder_laws.specs.reader.Halves.{gap_of}

@@ -2,7 +2,8 @@
 -- which, and
 -- `step` gets the octets of it, all fetched. Where they are not all there, or would end past the limit of a stream, no step is taken.
 -- `s` is a state, `i` an instruction, `os` the octets of the step, `z` a value, `o` an offset, `c` a count, `v` a pointer's number.
-use Rattle.std.specs.Prelude.{◌≡◌, ◌⊎◌, ℕ, ◌+◌, ◌-◌, ◌-ℤ◌, zero, suc, ℤ, pos, Bool, true, false, eqb, ltb, if◌then◌else◌, List, [], ◌∷◌, ◌++◌, length}
+use Rattle.std.specs.Prelude.{◌≡◌, ◌⊎◌, ℕ, ◌+◌, ◌-◌, ◌-ℤ◌, zero, suc, ℤ, pos, Bool, true, false, ◌==◌, nat_lt, if◌then◌else◌, List, [], ◌∷◌, ◌++◌}
+use Rattle.std.specs.Prelude.{length}
 use Rattle.std.specs.Prelude.{take, drop, Option, Some, None}
 use Rattle.std.specs.List.{slice_get}
 use Rattle.std.specs.Ordering.{int_eq}
@@ -28,7 +29,7 @@ use Rattle.nd_grammar.specs.Refusal.{is_enumerator, text_refusal}
 use Rattle.ndr_code.specs.declared.instr.Instr.{Instr}
 use Rattle.ndr_code.specs.declared.instr.Instr.TheVariants as op
 use Rattle.ndr_code.specs.declared.lists.EnumList.{EnumList}
-use Rattle.ndr_code.specs.Lines.{enumerators}
+use Rattle.ndr_code.specs.Code.{enumerators}
 use Rattle.ndr_refs.specs.declared.referents.Known.{Known}
 use Rattle.ndr_refs.specs.Known.{known, first_met}
 use Rattle.ndr_decoder_laws.specs.reader.Points.{TagForm}
@@ -400,13 +401,13 @@ full_by None v to run s =
     goes (done_after 4
     (owing Full to run (Some (length s.cells + 1))
     (with_names (s.cells ++ to.0 ∷ []) (s.numbers ++ (v, first_met to (record { 0 = length s.cells + 1 })) ∷ []) s)))
-full_by (Some k) v to run s = if eqb k.of.0 to.0 then goes (done_after 4 (owing Full to run (Some k.cell.0) s)) else refused s.at reason.OtherType
+full_by (Some k) v to run s = if k.of.0 == to.0 then goes (done_after 4 (owing Full to run (Some k.cell.0) s)) else refused s.at reason.OtherType
 
 -- an embedded reference pointer has a cell of its own, whatever its number; 0 is null; a unique pointer has a cell of its own
 abbrev pub pointer_step : Class → TypeId → ℕ → ℕ → State → Outcome
 pointer_step Ref to run v s = goes (done_after 4 (new_cell Ref to run s))
-pointer_step Unique to run v s = goes (done_after 4 (if eqb v 0 then owing Unique to run None s else new_cell Unique to run s))
-pointer_step Full to run v s = if eqb v 0 then goes (done_after 4 (owing Full to run None s)) else full_by (known v s.numbers) v to run s
+pointer_step Unique to run v s = goes (done_after 4 (if v == 0 then owing Unique to run None s else new_cell Unique to run s))
+pointer_step Full to run v s = if v == 0 then goes (done_after 4 (owing Full to run None s)) else full_by (known v s.numbers) v to run s
 
 -- ## Agreements
 
@@ -520,7 +521,7 @@ module _ (values : List EnumList) (order : Order) (os : List ℕ) where
   abbrev pub vary_by : Phase → ℕ → ℕ → State → Outcome
   vary_by (offset_read o) limit run s =
       let c : ℕ = unsigned order os in
-      if ltb limit (o + c) then refused s.at reason.PastBound else goes
+      if nat_lt limit (o + c) then refused s.at reason.PastBound else goes
       (elements c run (with_node (tree.Arr limit o, c) (Some s.at) (past 4 begun s)))
   vary_by _ limit run s = goes (past 4 (offset_read (unsigned order os)) s)
 
@@ -528,8 +529,8 @@ module _ (values : List EnumList) (order : Order) (os : List ℕ) where
   text_by (count_read c) limit s = text_done (text_refusal s.at os) limit os s
   text_by (offset_read o) limit s =
       let c : ℕ = unsigned order os in
-      if eqb c 0 then refused s.at reason.TextEmpty else if ltb limit c then refused s.at reason.PastBound else goes (past 4 (count_read (c - 1)) s)
-  text_by _ limit s = if eqb (unsigned order os) 0 then goes (past 4 (offset_read 0) s) else refused s.at reason.TextOffset
+      if c == 0 then refused s.at reason.TextEmpty else if nat_lt limit c then refused s.at reason.PastBound else goes (past 4 (count_read (c - 1)) s)
+  text_by _ limit s = if unsigned order os == 0 then goes (past 4 (offset_read 0) s) else refused s.at reason.TextOffset
 
   abbrev pub hoist_by : Phase → State → Outcome
   hoist_by gap_read s = goes (done_after 4 (with_max (unsigned order os) s))
@@ -556,8 +557,8 @@ module _ (values : List EnumList) (order : Order) (os : List ℕ) where
   step (op.Text bound) s = text_by s.phase (limit_of bound s) s
   step op.Hoist s = hoist_by s.phase s
   step (op.Tag of) s = tag_step (tag_form values of) s
-  step (op.Arm label run) s = goes (if int_eq label s.tag then arm_taken (eqb run 0) run s else next s)
-  step (op.Other run) s = goes (arm_taken (eqb run 0) run s)
+  step (op.Arm label run) s = goes (if int_eq label s.tag then arm_taken (run == 0) run s else next s)
+  step (op.Other run) s = goes (arm_taken (run == 0) run s)
   step op.Noarm s = refused s.at reason.NoArm
   step (op.Pointer class to run) s = pointer_step class to run (unsigned order os) s
   step op.Context s =

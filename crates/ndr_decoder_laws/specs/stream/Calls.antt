@@ -11,7 +11,7 @@ use Rattle.nd_value.specs.Setting.{Setting}
 use Rattle.nd_grammar.specs.declared.reason.Reason.{Reason}
 use Rattle.nd_grammar.specs.declared.reason.Reason.TheVariants as reason
 use Rattle.nd_grammar.specs.Entry.{EntryAt}
-use Rattle.nd_grammar.specs.FewItems.{but_gaps}
+use Rattle.nd_grammar.specs.Items.{but_gaps}
 use Rattle.nd_grammar.specs.Reader.{Read}
 use Rattle.ndr_decoder_laws.specs.reader.Around.{stopped}
 use Rattle.nd_grammar.specs.decoded.Verdict.{DecodingSeen, HasNoted}

@@ -8,7 +8,7 @@ use Rattle.nd_value.specs.Canon.{canonical_number}
 use Rattle.nd_value.specs.Setting.{Setting}
 use Rattle.nd_grammar.specs.declared.reason.Reason.{Reason}
 use Rattle.nd_grammar.specs.Entry.{Entry}
-use Rattle.nd_grammar.specs.NamedOrder.{cells_met}
+use Rattle.nd_grammar.specs.NextMark.{cells_met}
 use Rattle.nd_grammar.specs.decoded.Verdict.{DecodingSeen, IsRefused}
 
 -- The cells of a graph with this stream have the numbers of the order in which the stream comes to them.

@@ -4,10 +4,9 @@ use Rattle.std.specs.Prelude.{map}
 use Rattle.std.specs.List.{AllByRecursion, slice_get}
 use Rattle.nd_types.specs.Table.{type_at}
 use Rattle.nd_value.specs.declared.value.Graph.{Graph}
-use Rattle.nd_value.specs.Canon.{IsCanon, canonical_number, named, named_cells, own_cell}
+use Rattle.nd_value.specs.Canon.{IsCanon, canonical_number, named, named_cells, own_cell, Same, renumbered, renumbered_label}
 use Rattle.nd_value.specs.Deferral.{Deferral, none_due, at_root, at_null, at_standing, at_referent, Due, due_referent, Pending, Step, Placed_cells, before_pipes, direct, due_roots, home_pointers}
 use Rattle.nd_value.specs.Deferral.{root_type, standing_by, standing_cell, standing_root}
-use Rattle.nd_value.specs.Same.{Same, renumbered, renumbered_label}
 use Rattle.nd_value.specs.Setting.{Setting, cell_at, cell_home, or_unread, root_at, root_list}
 use Rattle.nd_value.specs.Tree.{Tree, more, node, trees}
 use Rattle.ndr_drain_laws.specs.parts.Parts.{empty_pipe, with_pipes}

@@ -21,18 +21,16 @@ use Rattle.nd_value.specs.Canon.{IsCanon}
 use Rattle.nd_value.specs.Setting.{Setting, root_list, unread, cell_home, cell_at, cell_tree}
 use Rattle.nd_value.specs.Nodes.{TypedNode, governed_nodes, home_nodes}
 use Rattle.nd_value.specs.Deferral.{Pending, due_roots, before_pipes, home_pointers, Step, Deferral, none_due}
-use Rattle.nd_value.specs.Variables.{root_agreements}
-use Rattle.nd_value.specs.Homes.{HomeNode, in_home, root_nodes, cell_nodes, all_nodes, root_pointers, cell_pointers, all_pointers}
+use Rattle.nd_value.specs.Agreement.{root_agreements}
+use Rattle.nd_value.specs.Conforms.{HomeNode, in_home, root_nodes, cell_nodes, all_nodes, root_pointers, cell_pointers, all_pointers, AgreesAt, Conforms, IsPartial, Reached}
 use Rattle.nd_value.specs.Misfit.{is_partial_node, has_machine_values, misfit_of}
-use Rattle.nd_value.specs.Conforms.{AgreesAt, Conforms, IsPartial, Reached}
 use Rattle.nd_value.proofs.Apart.{all_append, all_left, all_right, all_weaker}
 use Rattle.nd_value.proofs.NodeFacts.{sound_partial}
 use Rattle.nd_grammar.specs.LegalSide.{IsLegalSide}
 use Rattle.nd_grammar.specs.Entry.{Kind, Entry, EntryAt, Align, Test, end_of, end_to_end, full_cells, size_at}
 use Rattle.nd_grammar.specs.declared.reason.Reason.{Reason}
 use Rattle.nd_grammar.specs.Refusal.{Accepts}
-use Rattle.nd_grammar.specs.Represents.{IsNumbering, IsRendered}
-use Rattle.nd_grammar.specs.Stream.{Stream, step_entries, root_tests, pipe_entries, pipes_entries, AllCut, representation, head_entries}
+use Rattle.nd_grammar.specs.Stream.{IsNumbering, IsRendered, Stream, step_entries, root_tests, pipe_entries, pipes_entries, AllCut, representation, head_entries}
 use Rattle.nd_grammar.specs.Tested.{IsReadAt}
 use Rattle.nd_grammar.specs.Reader.{Progress}
 use Rattle.nd_grammar.specs.StreamReader.{Reading, graph_of, read_start, read_stream}

@@ -5,18 +5,17 @@ use Rattle.nd_base.specs.declared.octets.Order.{Order}
 use Rattle.nd_types.specs.Table.{Table, type_at}
 use Rattle.nd_value.specs.declared.value.Graph.{Graph}
 use Rattle.nd_value.specs.Agreement.{Agreement}
-use Rattle.nd_value.specs.Canon.{IsCanon}
+use Rattle.nd_value.specs.Canon.{IsCanon, renumbered, renumbered_label}
 use Rattle.nd_value.specs.Conforms.{Conforms}
 use Rattle.nd_value.specs.Deferral.{before_pipes}
 use Rattle.nd_value.specs.Nodes.{child_agreements, child_types, rest_agreements}
-use Rattle.nd_value.specs.Same.{renumbered, renumbered_label}
 use Rattle.nd_value.specs.Setting.{Setting, root_list}
 use Rattle.nd_value.specs.Tree as tree
 use Rattle.nd_value.specs.Tree.{Tree, Trees, node, none, more, trees, Label}
 use Rattle.nd_value.proofs.FewRoots.{few_before_pipes}
 use Rattle.nd_grammar.specs.Entry.{end_to_end}
 use Rattle.nd_grammar.specs.LegalSide.{IsLegalSide}
-use Rattle.nd_grammar.specs.Represents.{IsNumbering, Represents}
+use Rattle.nd_grammar.specs.Stream.{IsNumbering, Represents}
 use Rattle.nd_grammar.proofs.OneGraph.{one_graph}
 use Rattle.nd_grammar.proofs.conforming.GoodTrees.{GoodTrees}
 use Rattle.nd_grammar.specs.decoded.Verdict.{RepresentsAlone}

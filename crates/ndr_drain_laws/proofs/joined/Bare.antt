@@ -19,8 +19,7 @@ use Rattle.nd_value.specs.Misfit.{is_partial_node}
 use Rattle.nd_value.specs.Nodes.{TypedNode, child_agreements, child_types, first_agreements, home_nodes, nodes_of, rest_agreements}
 use Rattle.nd_value.specs.Setting.{Setting, root_list, unread}
 use Rattle.nd_value.proofs.Apart.{all_left, all_right}
-use Rattle.nd_grammar.specs.Entry.{Entry, Number, full_cells}
-use Rattle.nd_grammar.specs.InPlace.{before_children, child_tests, counts, entries, in_place, own_tests, tag_entries, tests}
+use Rattle.nd_grammar.specs.Entry.{Entry, Number, full_cells, before_children, child_tests, counts, entries, in_place, own_tests, tag_entries, tests}
 use Rattle.nd_grammar.specs.LegalSide.{IsLegalSide}
 use Rattle.nd_grammar.specs.Stream.{pipe_entries, pipes_entries}
 use Rattle.nd_grammar.proofs.next.NextInPlace.{View, view, v_prim, v_enum, v_struct, v_array, v_text, v_union, v_pointer, v_context, v_unread}

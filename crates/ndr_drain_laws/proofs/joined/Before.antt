@@ -17,7 +17,7 @@ use Rattle.nd_grammar.specs.declared.reason.Reason.{Reason}
 use Rattle.nd_grammar.specs.declared.reason.Reason.TheVariants as reason
 use Rattle.nd_grammar.specs.Entry.{Kind, Entry, EntryAt, Align, Max, Offset, Actual, Chunk, Number, Num, Tag, Text, Context, Test, Unread, size_at, end_to_end}
 use Rattle.nd_grammar.specs.Refusal.{Accepts, is_long, is_max, is_other, kind_agrees, kind_refusal, other_pointee, refusal, refused_if, same_home, tested_at}
-use Rattle.nd_grammar.specs.Represents.{IsRendered, Spells, piece}
+use Rattle.nd_grammar.specs.Stream.{IsRendered, Spells, piece}
 use Rattle.nd_grammar.proofs.agreements.TestsFind.{IsNoTest}
 use Rattle.ndr_drain_laws.proofs.joined.Homes.{IsBefore, IsOwn}
 

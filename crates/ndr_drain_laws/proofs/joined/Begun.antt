@@ -9,8 +9,7 @@ use Rattle.nd_value.specs.Tree as tree
 use Rattle.nd_value.specs.Tree.{Tree, node, more, trees, take_trees}
 use Rattle.nd_value.specs.Setting.{Setting, root_list, unread}
 use Rattle.nd_value.specs.Deferral.{before_pipes}
-use Rattle.nd_grammar.specs.Entry.{Entry, Align, Chunk}
-use Rattle.nd_grammar.specs.InPlace.{entries}
+use Rattle.nd_grammar.specs.Entry.{Entry, Align, Chunk, entries}
 use Rattle.nd_grammar.specs.LegalSide.{IsLegalSide}
 use Rattle.nd_grammar.specs.Stream.{chunk_entries, pipes_entries, AllCut}
 use Rattle.nd_grammar.proofs.next.NextPipes.{sum_first}

@@ -20,8 +20,7 @@ use Rattle.nd_value.proofs.FewRoots.{few_before_pipes}
 use Rattle.nd_grammar.specs.Entry.{Entry, size_at, end_to_end, end_of, full_cells}
 use Rattle.nd_grammar.specs.LegalSide.{IsLegalSide}
 use Rattle.nd_grammar.specs.Refusal.{Accepts, same_home}
-use Rattle.nd_grammar.specs.Represents.{IsNumbering, IsRendered}
-use Rattle.nd_grammar.specs.Stream.{AllCut, Cuts, Stream, head_entries, kids_of, pipes_entries, representation, root_tests}
+use Rattle.nd_grammar.specs.Stream.{IsNumbering, IsRendered, AllCut, Cuts, Stream, head_entries, kids_of, pipes_entries, representation, root_tests}
 use Rattle.nd_grammar.proofs.LegalSides.{laid_out}
 use Rattle.nd_grammar.proofs.conforming.Accepted.{accepted}
 use Rattle.nd_grammar.proofs.conforming.GoodEntries.{GoodEntry, HoldsNoPipe, good_in_place}

@@ -7,7 +7,7 @@ use Rattle.nd_types.specs.declared.types.TypeDef.TheVariants as def
 use Rattle.nd_types.specs.Layout.{hoists}
 use Rattle.nd_types.specs.Roots.{Root}
 use Rattle.nd_types.specs.Table.{Table, type_at}
-use Rattle.nd_value.specs.Agreement.{Agreement}
+use Rattle.nd_value.specs.Agreement.{Agreement, root_agreements}
 use Rattle.nd_value.specs.declared.item.Home.{Home}
 use Rattle.nd_value.specs.declared.item.Home.TheVariants as home
 use Rattle.nd_value.specs.declared.value.Graph.{Graph}
@@ -17,11 +17,9 @@ use Rattle.nd_value.specs.Deferral.{Deferral, none_due, at_root, at_null, at_sta
 use Rattle.nd_value.specs.Deferral.{root_type, home_pointers}
 use Rattle.nd_value.specs.Nodes.{child_agreements, child_types, first_agreements, rest_agreements}
 use Rattle.nd_value.specs.Setting.{Setting, root_list, root_at, cell_at, cell_home}
-use Rattle.nd_value.specs.Variables.{root_agreements}
 use Rattle.nd_value.proofs.Apart.{all_append, all_weaker}
 use Rattle.nd_value.proofs.Waiting.{not_equal}
-use Rattle.nd_grammar.specs.Entry.{Kind, Entry, Align, Chunk}
-use Rattle.nd_grammar.specs.InPlace.{before_children, child_tests, counts, entries, hoisted, hoisted_max, in_place, own_tests, tag_entries, tests, whole_value}
+use Rattle.nd_grammar.specs.Entry.{Kind, Entry, Align, Chunk, before_children, child_tests, counts, entries, hoisted, hoisted_max, in_place, own_tests, tag_entries, tests, whole_value}
 use Rattle.nd_grammar.specs.Refusal.{is_max, same_home}
 use Rattle.nd_grammar.specs.Stream.{root_test, root_tests, standing_entries, step_entries, step_tests}
 use Rattle.nd_grammar.proofs.agreements.TestsFind.{IsNoTest}

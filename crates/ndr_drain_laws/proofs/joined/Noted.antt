@@ -12,8 +12,7 @@ use Rattle.nd_value.specs.Setting.{Setting}
 use Rattle.nd_grammar.specs.Entry.{EntryAt, size_at, end_to_end}
 use Rattle.nd_grammar.specs.Items.{item_at, item_of, items}
 use Rattle.nd_grammar.specs.NextMark.{named_cell}
-use Rattle.nd_grammar.specs.Represents.{IsRendered, piece}
-use Rattle.nd_grammar.specs.Stream.{head_entries}
+use Rattle.nd_grammar.specs.Stream.{IsRendered, piece, head_entries}
 use Rattle.nd_grammar.proofs.next.Spelt.{piece_left}
 use Rattle.nd_grammar.specs.decoded.Verdict.{cells_named, once}
 use Rattle.ndr_drain_laws.specs.parts.Parts.{AreParts, AreReadTo, Part, Spot, after, first_spot, octets_of, part_entries}

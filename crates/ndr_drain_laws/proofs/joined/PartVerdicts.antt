@@ -21,11 +21,9 @@ use Rattle.nd_value.specs.Setting.{Setting, root_list}
 use Rattle.nd_value.proofs.Apart.{all_left, all_weaker}
 use Rattle.nd_value.proofs.NodeFacts.{IsSound, fit_is_read, fit_node, read_node, sound_conforming, sound_partial}
 use Rattle.nd_grammar.specs.declared.reason.Reason.{Reason}
-use Rattle.nd_grammar.specs.Entry.{Entry, EntryAt, end_of, end_to_end, full_cells, size_at}
-use Rattle.nd_grammar.specs.InPlace.{in_place}
+use Rattle.nd_grammar.specs.Entry.{Entry, EntryAt, end_of, end_to_end, full_cells, size_at, in_place}
 use Rattle.nd_grammar.specs.LegalSide.{IsLegalSide}
-use Rattle.nd_grammar.specs.Represents.{IsRendered}
-use Rattle.nd_grammar.specs.Stream.{head_entries, pipes_entries, root_tests, step_entries}
+use Rattle.nd_grammar.specs.Stream.{IsRendered, head_entries, pipes_entries, root_tests, step_entries}
 use Rattle.nd_grammar.proofs.LegalSides.{laid_out}
 use Rattle.nd_grammar.proofs.OneGraph.{readings}
 use Rattle.nd_grammar.proofs.OneRefusal.{AreAccepted, IsRefused, are_accepted, is_refused, not_both, one_refusal}

@@ -12,19 +12,17 @@ use Rattle.nd_types.specs.declared.types.TypeDef.TheVariants as def
 use Rattle.nd_types.specs.Legal.{IsLegal}
 use Rattle.nd_types.specs.Roots.{Root}
 use Rattle.nd_types.specs.Table.{Table, type_at, fits_octets}
-use Rattle.nd_value.specs.Agreement.{Agreement}
+use Rattle.nd_value.specs.Agreement.{Agreement, root_agreements}
 use Rattle.nd_value.specs.declared.item.Home.{Home}
 use Rattle.nd_value.specs.declared.item.Home.TheVariants as home
 use Rattle.nd_value.specs.declared.value.Graph.{Graph}
 use Rattle.nd_value.specs.Tree as tree
 use Rattle.nd_value.specs.Tree.{Tree, Trees, node, count, trees, Label}
-use Rattle.nd_value.specs.Conforms.{AllEarlier, Conforms, IsPartial, ShareOnlyIfFull}
+use Rattle.nd_value.specs.Conforms.{AllEarlier, Conforms, IsPartial, ShareOnlyIfFull, HomeNode, in_home, root_nodes, all_nodes, cell_pointers}
 use Rattle.nd_value.specs.Deferral.{before_pipes, root_type}
-use Rattle.nd_value.specs.Homes.{HomeNode, in_home, root_nodes, all_nodes, cell_pointers}
 use Rattle.nd_value.specs.Misfit.{misfit_of, has_machine_values, has_counts, has_range, has_shape, is_no_null_ref, is_partial_node, is_unread, names_cell, names_pointee}
 use Rattle.nd_value.specs.Nodes.{TypedNode, child_agreements, child_types, governed_nodes, home_nodes, nodes_of}
 use Rattle.nd_value.specs.Setting.{Setting, root_list, unread}
-use Rattle.nd_value.specs.Variables.{root_agreements}
 use Rattle.nd_value.proofs.Apart.{all_append, all_weaker}
 use Rattle.nd_value.proofs.NodeFacts.{IsFit, IsRead, IsReadOrNot, all_of_list, fit_is_read, fit_node, read_node}
 use Rattle.nd_value.proofs.ValueRanges.{range_fits}

@@ -7,11 +7,10 @@ use Rattle.nd_base.specs.declared.octets.Order.{Order}
 use Rattle.nd_value.specs.declared.value.Graph.{Graph}
 use Rattle.nd_value.specs.Setting.{Setting, root_list}
 use Rattle.nd_grammar.specs.declared.reason.Reason.{Reason}
-use Rattle.nd_grammar.specs.Bad.{Bad}
+use Rattle.nd_grammar.specs.Refusal.{Bad, Accepts}
 use Rattle.nd_grammar.specs.Entry.{EntryAt, end_to_end}
 use Rattle.nd_grammar.specs.LegalSide.{IsLegalSide}
-use Rattle.nd_grammar.specs.Refusal.{Accepts}
-use Rattle.nd_grammar.specs.Represents.{IsNumbering, IsRendered}
+use Rattle.nd_grammar.specs.Stream.{IsNumbering, IsRendered}
 use Rattle.nd_grammar.proofs.ConformingPartial.{conforming_is_partial}
 use Rattle.nd_grammar.specs.decoded.Verdict.{IsReadThrough}
 use Rattle.ndr_drain_laws.specs.parts.Parts.{AreReadTo, BadPart, IsPartThrough, Part, after_all, first_spot, octets_of, part_entries, pipes_of, with_pipes}

@@ -12,8 +12,7 @@ use Rattle.nd_grammar.specs.declared.reason.Reason.{Reason}
 use Rattle.nd_grammar.specs.Entry.{Entry, EntryAt, end_of, end_to_end, full_cells}
 use Rattle.nd_grammar.specs.LegalSide.{IsLegalSide}
 use Rattle.nd_grammar.specs.Refusal.{Accepts, refusal}
-use Rattle.nd_grammar.specs.Represents.{IsNumbering, IsRendered}
-use Rattle.nd_grammar.specs.Stream.{Stream, head_entries}
+use Rattle.nd_grammar.specs.Stream.{IsNumbering, IsRendered, Stream, head_entries}
 use Rattle.nd_grammar.proofs.next.Spelt.{spelt_in_more}
 use Rattle.nd_grammar.proofs.reader.ReaderTests.{Top}
 use Rattle.ndr_drain_laws.specs.parts.Parts.{AreReadTo, IsPartThrough, Part, Spot, after_all, first_spot, octets_of, part_entries, with_pipes}

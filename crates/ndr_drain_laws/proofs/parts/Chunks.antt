@@ -14,8 +14,7 @@ use Rattle.nd_value.specs.Tree as tree
 use Rattle.nd_value.specs.Tree.{Tree, Trees, node, more, count, node_count, trees, take_trees, drop_trees}
 use Rattle.nd_value.specs.Setting.{Setting, root_list}
 use Rattle.nd_value.specs.Deferral.{before_pipes, root_type}
-use Rattle.nd_grammar.specs.Entry.{Entry, Align, Chunk}
-use Rattle.nd_grammar.specs.InPlace.{entries}
+use Rattle.nd_grammar.specs.Entry.{Entry, Align, Chunk, entries}
 use Rattle.nd_grammar.specs.LegalSide.{IsLegalSide}
 use Rattle.nd_grammar.specs.Stream.{chunk_entries, chunks, pipe_entries, pipes_entries, Cuts, AllCut}
 use Rattle.nd_grammar.proofs.LegalSides.{laid_out}

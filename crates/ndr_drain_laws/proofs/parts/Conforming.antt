@@ -15,13 +15,12 @@ use Rattle.nd_value.specs.declared.item.Home.TheVariants as home
 use Rattle.nd_value.specs.declared.value.Graph.{Graph}
 use Rattle.nd_value.specs.Tree as tree
 use Rattle.nd_value.specs.Tree.{Tree, Trees, node, none, more, count, node_count, trees}
-use Rattle.nd_value.specs.Conforms.{AllEarlier, Conforms, AgreesAt, FewNodes, ShareOnlyIfFull}
+use Rattle.nd_value.specs.Conforms.{AllEarlier, Conforms, AgreesAt, FewNodes, ShareOnlyIfFull, HomeNode, in_home, root_nodes, cell_nodes, all_nodes, root_pointers, cell_pointers}
 use Rattle.nd_value.specs.Deferral.{before_pipes, root_type}
-use Rattle.nd_value.specs.Homes.{HomeNode, in_home, root_nodes, cell_nodes, all_nodes, root_pointers, cell_pointers}
 use Rattle.nd_value.specs.Misfit.{misfit_by, misfit_of, has_machine_values}
 use Rattle.nd_value.specs.Nodes.{TypedNode, child_agreements, child_types, governed_nodes, home_nodes, nodes_of}
 use Rattle.nd_value.specs.Setting.{Setting, root_list, cell_of_number, Among}
-use Rattle.nd_value.specs.Variables.{root_agreements}
+use Rattle.nd_value.specs.Agreement.{root_agreements}
 use Rattle.nd_value.proofs.Apart.{all_append, all_left, all_right, all_weaker}
 use Rattle.nd_grammar.specs.LegalSide.{IsLegalSide}
 use Rattle.nd_grammar.proofs.LegalSides.{laid_out}

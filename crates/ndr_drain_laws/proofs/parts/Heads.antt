@@ -7,7 +7,7 @@ use Rattle.nd_value.specs.Tree.{Tree}
 use Rattle.nd_value.specs.Setting.{Setting, root_list, root_at, cell_at, cell_home}
 use Rattle.nd_value.specs.Deferral.{Deferral, none_due, at_root, at_null, at_standing, at_referent, Due, due_root, due_referent, due_roots, due_of, Step, standing_root, standing_cell, standing_by}
 use Rattle.nd_value.specs.Deferral.{direct, root_type, root_cell, Placed_cells, AreFree, Pending, home_pointers}
-use Rattle.nd_grammar.specs.InPlace.{tests}
+use Rattle.nd_grammar.specs.Entry.{tests}
 use Rattle.nd_grammar.specs.Stream.{step_entries, standing_entries, step_tests}
 
 -- a root that is due is before the pipes

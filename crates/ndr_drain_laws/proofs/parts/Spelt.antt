@@ -7,7 +7,7 @@ use Rattle.nd_value.specs.Setting.{Setting}
 use Rattle.nd_value.specs.Tree.{Tree}
 use Rattle.nd_value.proofs.Apart.{all_append}
 use Rattle.nd_grammar.specs.Entry.{Kind, Entry, EntryAt, Number, size_at, end_to_end, end_of, full_cell, full_cells}
-use Rattle.nd_grammar.specs.Represents.{IsRendered, Spells, piece}
+use Rattle.nd_grammar.specs.Stream.{IsRendered, Spells, piece}
 use Rattle.nd_grammar.proofs.next.Spelt.{spelt_in_more}
 use Rattle.ndr_drain_laws.specs.parts.Parts.{Part, Spot, AreParts, after, octets_of, part_entries, spot_after}
 use Rattle.ndr_drain_laws.proofs.parts.Chunks.{parts_entries}

@@ -7,7 +7,7 @@ use Rattle.nd_base.specs.declared.octets.Order.{Order}
 use Rattle.nd_base.specs.declared.TheConstants.{STREAM_LIMIT}
 use Rattle.nd_types.specs.Roots.{Root}
 use Rattle.nd_types.specs.declared.types.AttrVar.{AttrVar}
-use Rattle.nd_value.specs.Variables.{root_agreements}
+use Rattle.nd_value.specs.Agreement.{root_agreements}
 use Rattle.nd_value.specs.declared.value.Graph.{Graph}
 use Rattle.nd_value.specs.declared.item.Home.TheVariants as home
 use Rattle.nd_value.specs.Tree.{Tree, node, none, trees}
@@ -19,8 +19,7 @@ use Rattle.nd_value.proofs.FewRoots.{few_before_pipes}
 use Rattle.nd_value.proofs.SameVariables.{agreements_same}
 use Rattle.nd_grammar.specs.Entry.{Entry, end_of, end_to_end, full_cells}
 use Rattle.nd_grammar.specs.LegalSide.{IsLegalSide}
-use Rattle.nd_grammar.specs.Represents.{Represents, IsNumbering, IsRendered}
-use Rattle.nd_grammar.specs.Stream.{Stream, AllCut, Cuts, chunks, head_entries, pipes_entries, representation, root_tests}
+use Rattle.nd_grammar.specs.Stream.{Represents, IsNumbering, IsRendered, Stream, AllCut, Cuts, chunks, head_entries, pipes_entries, representation, root_tests}
 use Rattle.nd_grammar.proofs.LegalSides.{laid_out}
 use Rattle.nd_grammar.proofs.next.NextStream.{IsPipeRoot}
 use Rattle.nd_grammar.proofs.reader.ReaderTests.{SameTop, Top, tests_same, roots_starred}

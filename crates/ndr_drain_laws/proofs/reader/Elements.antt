@@ -22,8 +22,7 @@ use Rattle.nd_value.specs.Setting.{Setting, root_list}
 use Rattle.nd_value.specs.Tree.{Tree, Trees, node, none, more, Label, count, node_count, is_pointer, cell_in, items, trees}
 use Rattle.nd_value.proofs.Apart.{all_append, all_weaker}
 use Rattle.nd_value.proofs.NodeFacts.{all_of_list}
-use Rattle.nd_grammar.specs.Entry.{Kind, Entry, Align, Chunk}
-use Rattle.nd_grammar.specs.InPlace.{before_children, counts, entries, in_place, tag_entries, tests, own_tests, child_tests}
+use Rattle.nd_grammar.specs.Entry.{Kind, Entry, Align, Chunk, before_children, counts, entries, in_place, tag_entries, tests, own_tests, child_tests}
 use Rattle.nd_grammar.specs.LegalSide.{IsLegalSide}
 use Rattle.nd_grammar.specs.NextMark.{named_cell}
 use Rattle.nd_grammar.specs.Reader.{Progress, Names, Read, ReadAll, number_in, read_in_place, read_list}

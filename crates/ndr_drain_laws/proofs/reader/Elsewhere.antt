@@ -11,7 +11,7 @@ use Rattle.nd_grammar.specs.declared.reason.Reason.{Reason}
 use Rattle.nd_grammar.specs.declared.reason.Reason.TheVariants as reason
 use Rattle.nd_grammar.specs.Entry.{Kind, Entry, Offset, Number, size_at, EntryAt, end_to_end}
 use Rattle.nd_grammar.specs.Items.{items, item_at, item_of}
-use Rattle.nd_grammar.specs.Represents.{piece, Spells, IsRendered}
+use Rattle.nd_grammar.specs.Stream.{piece, Spells, IsRendered}
 use Rattle.nd_grammar.specs.Refusal.{refusal, kind_refusal, refused_if, is_long, is_other, other_pointee, Accepts}
 
 drop_both : (xs ys zs : List ℕ) (at : ℕ) → length xs ≡ length ys → length xs ≤ at → drop at (xs ++ zs) ≡ drop at (ys ++ zs)

@@ -10,10 +10,9 @@ use Rattle.nd_value.specs.declared.item.ItemKind.{ItemKind}
 use Rattle.nd_value.specs.Setting.{Setting}
 use Rattle.nd_value.proofs.Apart.{all_left}
 use Rattle.nd_grammar.specs.Entry.{EntryAt}
-use Rattle.nd_grammar.specs.FewItems.{but_gaps, is_gap}
-use Rattle.nd_grammar.specs.Items.{items, item_at, item_of}
+use Rattle.nd_grammar.specs.Items.{but_gaps, is_gap, items, item_at, item_of}
 use Rattle.nd_grammar.specs.Refusal.{Accepts}
-use Rattle.nd_grammar.specs.Represents.{IsRendered, piece}
+use Rattle.nd_grammar.specs.Stream.{IsRendered, piece}
 use Rattle.ndr_drain_laws.specs.parts.Parts.{Spot, part_entries}
 use Rattle.ndr_drain_laws.specs.reader.PartReader.{before_place, moved_item, moved_items}
 use Rattle.ndr_drain_laws.specs.reader.Outcomes.{PartCut}

@@ -19,11 +19,10 @@ use Rattle.nd_value.specs.Setting.{Setting, Among, or_unread, root_at, unread}
 use Rattle.nd_value.specs.Tree as tree
 use Rattle.nd_value.specs.Tree.{Tree, Trees, node, none, more, Label, Flat, flat, count, node_count, is_pointer}
 use Rattle.nd_value.proofs.Apart.{all_append, among_left, among_right}
-use Rattle.nd_grammar.specs.Entry.{Kind, Entry, Align, Chunk, Test, size_at, EntryAt, end_to_end}
-use Rattle.nd_grammar.specs.InPlace.{before_children, entries, in_place, tag_entries, counts, tests, own_tests, child_tests, hoisted_max}
+use Rattle.nd_grammar.specs.Entry.{Kind, Entry, Align, Chunk, Test, size_at, EntryAt, end_to_end, before_children, entries, in_place, tag_entries, counts, tests, own_tests, child_tests, hoisted_max}
 use Rattle.nd_grammar.specs.LegalSide.{IsLegalSide}
 use Rattle.nd_grammar.specs.Refusal.{tested_at}
-use Rattle.nd_grammar.specs.Represents.{IsRendered}
+use Rattle.nd_grammar.specs.Stream.{IsRendered}
 use Rattle.nd_grammar.specs.Tested.{HoldsFound, IsSpokenOf}
 use Rattle.nd_grammar.proofs.LegalSides.{laid_out}
 use Rattle.nd_grammar.proofs.agreements.EntriesTell.{node_at, actual_by, home_tree, Tells, TellsAt, flat_length, node_here}

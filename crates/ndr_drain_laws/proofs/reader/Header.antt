@@ -17,7 +17,7 @@ use Rattle.nd_grammar.specs.Entry.{Entry, EntryAt, Align, Chunk, gap}
 use Rattle.nd_grammar.specs.Items.{items}
 use Rattle.nd_grammar.specs.Reader.{Progress, ReadAll, number_in, pass, read_in_place, read_list, taken, taken_by}
 use Rattle.nd_grammar.specs.Refusal.{refusal, tested_at}
-use Rattle.nd_grammar.specs.Represents.{piece}
+use Rattle.nd_grammar.specs.Stream.{piece}
 use Rattle.ndr_drain_laws.specs.parts.Parts.{Spot, elem_at}
 use Rattle.ndr_decoder_laws.specs.reader.Around.{going, stopped}
 use Rattle.ndr_decoder_laws.proofs.reader.Continuing.{passed, refused}

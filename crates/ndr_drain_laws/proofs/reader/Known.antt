@@ -11,8 +11,7 @@ use Rattle.nd_value.specs.Nodes.{TypedNode, nodes_of}
 use Rattle.nd_value.specs.Setting.{Setting}
 use Rattle.nd_value.specs.Tree.{Trees}
 use Rattle.nd_value.proofs.NodeFacts.{read_node}
-use Rattle.nd_grammar.specs.Entry.{Entry}
-use Rattle.nd_grammar.specs.InPlace.{in_place}
+use Rattle.nd_grammar.specs.Entry.{Entry, in_place}
 use Rattle.nd_grammar.specs.LegalSide.{IsLegalSide}
 use Rattle.nd_grammar.proofs.LegalSides.{laid_out}
 use Rattle.nd_grammar.proofs.next.HoistedMaxes.{maxes_of_many}

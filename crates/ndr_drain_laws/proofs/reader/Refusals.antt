@@ -14,7 +14,7 @@ use Rattle.nd_value.proofs.Apart.{all_append}
 use Rattle.nd_grammar.specs.declared.reason.Reason.{Reason}
 use Rattle.nd_grammar.specs.declared.reason.Reason.TheVariants as reason
 use Rattle.nd_grammar.specs.Entry.{Kind, Entry, Align, Max, Offset, Actual, Chunk, Number, Num, Tag, Text, Context, Test, Unread, size_at, EntryAt}
-use Rattle.nd_grammar.specs.Represents.{piece, Spells, IsRendered}
+use Rattle.nd_grammar.specs.Stream.{piece, Spells, IsRendered}
 use Rattle.nd_grammar.specs.Refusal.{refusal, kind_refusal, refused_if, text_refusal, is_enumerator, is_selected, is_long, is_other, tested_at, Accepts}
 use Rattle.nd_grammar.proofs.StaysBad.{judged_alike}
 use Rattle.nd_grammar.proofs.next.Spelt.{piece_left}

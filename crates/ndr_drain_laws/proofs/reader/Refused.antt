@@ -14,12 +14,11 @@ use Rattle.nd_value.proofs.Apart.{all_left, all_right, all_weaker}
 use Rattle.nd_grammar.specs.declared.reason.Reason.{Reason}
 use Rattle.nd_grammar.specs.declared.reason.Reason.TheVariants as reason
 use Rattle.nd_grammar.specs.Entry.{Entry, EntryAt, size_at, end_to_end}
-use Rattle.nd_grammar.specs.FewItems.{but_gaps}
-use Rattle.nd_grammar.specs.Items.{items}
+use Rattle.nd_grammar.specs.Items.{but_gaps, items}
 use Rattle.nd_grammar.specs.LegalSide.{IsLegalSide}
 use Rattle.nd_grammar.specs.Reader.{ReadAll}
 use Rattle.nd_grammar.specs.Refusal.{refusal, refused_if, is_long, kind_refusal, Accepts}
-use Rattle.nd_grammar.specs.Represents.{IsRendered, piece}
+use Rattle.nd_grammar.specs.Stream.{IsRendered, piece}
 use Rattle.nd_grammar.proofs.OneRefusal.{IsRefused, is_refused, one_refusal}
 use Rattle.nd_grammar.proofs.StaysBad.{judged_alike}
 use Rattle.nd_grammar.proofs.next.Next.{OneToOne}

@@ -21,10 +21,10 @@ use Rattle.nd_value.specs.Setting.{Setting}
 use Rattle.nd_value.specs.Tree.{Tree, Trees, node, none, more, node_count, is_pointer, trees}
 use Rattle.nd_value.proofs.Waiting.{not_equal}
 use Rattle.nd_grammar.specs.declared.reason.Reason.TheVariants as reason
-use Rattle.nd_grammar.specs.Entry.{Kind, Entry, Align, Max, Offset, Actual, Chunk, Number, Num, Tag, Text, Context, Test, Unread, size_at, EntryAt, end_to_end, end_of}
-use Rattle.nd_grammar.specs.InPlace.{before_children, entries, in_place, tests, own_tests, child_tests}
+use Rattle.nd_grammar.specs.Entry.{Kind, Entry, Align, Max, Offset, Actual, Chunk, Number, Num, Tag, Text, Context, Test, Unread, size_at, EntryAt, end_to_end, end_of, before_children, entries}
+use Rattle.nd_grammar.specs.Entry.{in_place, tests, own_tests, child_tests}
 use Rattle.nd_grammar.specs.Items.{items, item_at, item_of, item_node}
-use Rattle.nd_grammar.specs.Represents.{piece, IsRendered}
+use Rattle.nd_grammar.specs.Stream.{piece, IsRendered}
 use Rattle.nd_grammar.specs.Refusal.{refusal, kind_refusal, refused_if, is_long, is_other, other_pointee, tested_at, kind_agrees, same_home, is_max, Accepts}
 use Rattle.ndr_drain_laws.specs.parts.Parts.{Spot, elem_at, part_entries}
 use Rattle.ndr_drain_laws.specs.reader.PartReader.{after_nodes, moved_item}

@@ -18,12 +18,11 @@ use Rattle.nd_value.specs.Tree as tree
 use Rattle.nd_value.specs.Tree.{Trees, node, none, more, trees}
 use Rattle.nd_value.proofs.Apart.{all_left, all_weaker}
 use Rattle.nd_grammar.specs.Entry.{Entry, EntryAt, size_at, end_to_end, end_of}
-use Rattle.nd_grammar.specs.FewItems.{but_gaps}
-use Rattle.nd_grammar.specs.Items.{items}
+use Rattle.nd_grammar.specs.Items.{but_gaps, items}
 use Rattle.nd_grammar.specs.LegalSide.{IsLegalSide}
 use Rattle.nd_grammar.specs.Reader.{ReadAll}
 use Rattle.nd_grammar.specs.Refusal.{Accepts}
-use Rattle.nd_grammar.specs.Represents.{IsRendered}
+use Rattle.nd_grammar.specs.Stream.{IsRendered}
 use Rattle.nd_grammar.proofs.ItemSizes.{numbers, items_size}
 use Rattle.nd_grammar.proofs.next.Mapped.{no_pointers}
 use Rattle.nd_grammar.proofs.next.NextStream.{FitsPipes}

@@ -19,12 +19,11 @@ use Rattle.nd_value.specs.Setting.{Setting}
 use Rattle.nd_value.specs.Tree as tree
 use Rattle.nd_value.specs.Tree.{Tree, Trees, node, none, more, Label, count, node_count, trees}
 use Rattle.nd_value.proofs.Apart.{all_append, all_left, all_right}
-use Rattle.nd_grammar.specs.Entry.{Entry, Align, Chunk, end_to_end, end_of}
-use Rattle.nd_grammar.specs.InPlace.{entries, in_place}
+use Rattle.nd_grammar.specs.Entry.{Entry, Align, Chunk, end_to_end, end_of, entries, in_place}
 use Rattle.nd_grammar.specs.Items.{items}
 use Rattle.nd_grammar.specs.LegalSide.{IsLegalSide}
 use Rattle.nd_grammar.specs.Reader.{ReadAll}
-use Rattle.nd_grammar.specs.Represents.{IsRendered}
+use Rattle.nd_grammar.specs.Stream.{IsRendered}
 use Rattle.nd_grammar.proofs.LegalSides.{laid_out}
 use Rattle.nd_grammar.proofs.conforming.Passed.{Passed, all_passed, least, least_append, least_end}
 use Rattle.nd_grammar.proofs.conforming.PassedTrees.{PendingAgrees, in_place_agrees, in_place_fits}

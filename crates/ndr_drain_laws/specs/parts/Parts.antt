@@ -18,12 +18,10 @@ use Rattle.nd_value.specs.Conforms.{AgreesAt, Conforms}
 use Rattle.nd_value.specs.Misfit.{misfit_of, is_partial_node, has_machine_values}
 use Rattle.nd_value.specs.Nodes.{home_nodes}
 use Rattle.nd_grammar.specs.declared.reason.Reason.{Reason}
-use Rattle.nd_grammar.specs.Bad.{Bad}
+use Rattle.nd_grammar.specs.Refusal.{Bad, Accepts, refusal}
 use Rattle.nd_grammar.specs.Entry.{Entry, EntryAt, end_to_end, end_of, full_cells}
 use Rattle.nd_grammar.specs.Items.{items}
-use Rattle.nd_grammar.specs.Refusal.{Accepts, refusal}
-use Rattle.nd_grammar.specs.Represents.{IsRendered, IsNumbering}
-use Rattle.nd_grammar.specs.Stream.{head_entries, chunk_entries}
+use Rattle.nd_grammar.specs.Stream.{IsRendered, IsNumbering, head_entries, chunk_entries}
 
 -- ## The head
 

@@ -6,7 +6,7 @@ ghost use Rattle.nd_value.specs.Canon.{IsCanon};
 ghost use Rattle.nd_value.specs.Deferral.{before_pipes};
 ghost use Rattle.nd_value.specs.Setting.{Setting, root_list};
 ghost use Rattle.nd_grammar.specs.declared.reason.Reason.{Reason};
-ghost use Rattle.nd_grammar.specs.Bad.{Bad};
+ghost use Rattle.nd_grammar.specs.Refusal.{Bad};
 ghost use Rattle.nd_grammar.specs.Entry.{EntryAt, end_to_end};
 ghost use Rattle.nd_grammar.specs.LegalSide.{IsLegalSide};
 ghost use Rattle.nd_grammar.specs.decoded.Verdict.{IsReadThrough, RepresentsAlone};

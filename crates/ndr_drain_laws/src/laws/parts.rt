@@ -5,9 +5,9 @@ ghost use Rattle.nd_value.specs.declared.value.Graph.{Graph};
 ghost use Rattle.nd_value.specs.Conforms.{Conforms};
 ghost use Rattle.nd_value.specs.Setting.{Setting, root_list};
 ghost use Rattle.nd_grammar.specs.declared.reason.Reason.{Reason};
-ghost use Rattle.nd_grammar.specs.Bad.{Bad};
+ghost use Rattle.nd_grammar.specs.Refusal.{Bad};
 ghost use Rattle.nd_grammar.specs.LegalSide.{IsLegalSide};
-ghost use Rattle.nd_grammar.specs.Represents.{Represents};
+ghost use Rattle.nd_grammar.specs.Stream.{Represents};
 ghost use Rattle.ndr_drain_laws.specs.parts.Parts.{AreReadTo, BadHead, Part, after_all, first_spot, octets_of, pipes_of, with_pipes};
 
 /// A head and the chunks after it, up to the end of every pipe, are a stream of the graph with the elements of the chunks in its pipes; and that

@@ -16,10 +16,8 @@ use Rattle.nd_value.specs.Deferral.{Step, root_stands, referent_stands, stands_a
 use Rattle.nd_value.specs.Conforms.{Conforms, FewNodes}
 use Rattle.nd_value.proofs.Apart.{all_left, all_right}
 use Rattle.nd_grammar.specs.LegalSide.{IsLegalSide}
-use Rattle.nd_grammar.specs.InPlace.{hoisted_max, whole_value}
-use Rattle.nd_grammar.specs.Entry.{end_of}
-use Rattle.nd_grammar.specs.Stream.{standing_entries, kids_of, representation}
-use Rattle.nd_grammar.specs.Chosen.{Chosen, octets_from, cut_of, pipe_cuts}
+use Rattle.nd_grammar.specs.Entry.{hoisted_max, whole_value, end_of}
+use Rattle.nd_grammar.specs.Stream.{standing_entries, kids_of, representation, Chosen, octets_from, cut_of, pipe_cuts}
 use Rattle.nd_grammar.proofs.next.NextStream.{drop_at}
 use Rattle.ndr_code.specs.declared.instr.Instr.{Instr}
 use Rattle.ndr_code.specs.declared.instr.Instr.TheVariants as op

@@ -4,7 +4,7 @@ use Rattle.std.specs.Prelude.{◌==◌}
 use Rattle.std.proofs.lemmas.Bool.{eqb-true}
 use Rattle.nd_value.specs.Tree as tree
 use Rattle.nd_value.specs.Tree.{Tree, Trees, node, none, more, count, Flat, flat}
-use Rattle.nd_grammar.specs.InPlace.{own_max, hoisted_max}
+use Rattle.nd_grammar.specs.Entry.{own_max, hoisted_max}
 use Rattle.ndr_encoder_laws.specs.maximum.LastPart.{own_count, last_max}
 
 not_one : (x : ℕ) → (suc (suc x) == 1) ≡ false

@@ -6,15 +6,13 @@ use Rattle.nd_types.specs.Table.{Table}
 use Rattle.nd_types.specs.Roots.{Root}
 use Rattle.nd_value.specs.declared.value.Graph.{Graph}
 use Rattle.nd_value.specs.declared.item.Home.TheVariants as home
-use Rattle.nd_value.specs.Agreement.{Agreement}
+use Rattle.nd_value.specs.Agreement.{Agreement, root_agreements}
 use Rattle.nd_value.specs.Setting.{Setting, root_list, cell_at, cell_home}
-use Rattle.nd_value.specs.Variables.{root_agreements}
 use Rattle.nd_value.specs.Tree as tree
 use Rattle.nd_value.specs.Tree.{Tree, Trees, node, Label}
 use Rattle.nd_value.specs.Deferral.{Step, root_stands, referent_stands, stands_already, standing_root, standing_cell, before_pipes}
 use Rattle.nd_grammar.specs.Entry.{Entry, end_of}
-use Rattle.nd_grammar.specs.Stream.{step_entries, standing_entries, step_tests, root_test, root_tests, head_entries, pipes_entries, representation}
-use Rattle.nd_grammar.specs.Chosen.{octets_from}
+use Rattle.nd_grammar.specs.Stream.{step_entries, standing_entries, step_tests, root_test, root_tests, head_entries, pipes_entries, representation, octets_from}
 use Rattle.ndr_encoder_laws.specs.pieces.Pieces.{pieces_octets, pieces_end}
 use Rattle.ndr_encoder_laws.specs.pieces.Shown.{shown}
 use Rattle.ndr_encoder_laws.specs.pieces.Heads.{standings, homes_pieces, stream_pieces}

@@ -15,10 +15,9 @@ use Rattle.nd_value.specs.Agreement.{Agreement}
 use Rattle.nd_value.specs.Tree as tree
 use Rattle.nd_value.specs.Tree.{Tree, Trees, node, none, more, node_count, Label, is_pointer, take_trees, drop_trees}
 use Rattle.nd_value.specs.Nodes.{child_types, child_agreements, first_agreements, rest_agreements}
-use Rattle.nd_grammar.specs.Entry.{Kind, Entry, Align, Max, Offset, Actual, Chunk, Number, Num, Tag, Text, Context, Test, Unread, size_at, gap, end_of}
-use Rattle.nd_grammar.specs.InPlace.{entries, tests, own_tests, child_tests, in_place, before_children, hoisted, hoisted_max, whole_value}
-use Rattle.nd_grammar.specs.Stream.{chunks, pipe_entries, pipes_entries}
-use Rattle.nd_grammar.specs.Chosen.{octets_of, octets_from}
+use Rattle.nd_grammar.specs.Entry.{Kind, Entry, Align, Max, Offset, Actual, Chunk, Number, Num, Tag, Text, Context, Test, Unread, size_at, gap, end_of, entries, tests, own_tests, child_tests}
+use Rattle.nd_grammar.specs.Entry.{in_place, before_children, hoisted, hoisted_max, whole_value}
+use Rattle.nd_grammar.specs.Stream.{chunks, pipe_entries, pipes_entries, octets_of, octets_from}
 use Rattle.ndr_encoder_laws.specs.pieces.Pieces.{Piece, Gap, four, piece_size, piece_octets, pieces_end, pieces_octets}
 use Rattle.ndr_encoder_laws.specs.pieces.Shown.{piece_of, kinds_pieces, shown, values_pieces, chunks_pieces, pipe_pieces}
 use Rattle.ndr_encoder_laws.specs.pieces.Heads.{pipes_pieces}

@@ -11,11 +11,10 @@ use Rattle.nd_types.specs.Roots.{Root}
 use Rattle.nd_value.specs.declared.value.Graph.{Graph}
 use Rattle.nd_value.specs.Tree as tree
 use Rattle.nd_value.specs.Tree.{Tree, Trees, node, none, more, count, Label}
-use Rattle.nd_value.specs.Agreement.{Agreement}
+use Rattle.nd_value.specs.Agreement.{Agreement, root_agreements}
 use Rattle.nd_value.specs.Nodes.{child_types, child_agreements}
 use Rattle.nd_value.specs.Misfit.{has_shape}
 use Rattle.nd_value.specs.Setting.{Setting, root_list, root_at}
-use Rattle.nd_value.specs.Variables.{root_agreements}
 use Rattle.nd_value.specs.Deferral.{Step, Due, due_roots, before_pipes, Deferral, none_due, at_root, at_null, at_standing, at_referent, Placed_cells, Standing, standing_root, standing_cell, due_of}
 use Rattle.nd_value.specs.Conforms.{Conforms}
 use Rattle.nd_value.proofs.Apart.{all_append}

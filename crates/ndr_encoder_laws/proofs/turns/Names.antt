@@ -14,7 +14,7 @@ use Rattle.nd_value.specs.Tree as tree
 use Rattle.nd_value.specs.Tree.{Tree, Trees, node, none, more, count, node_count, Label}
 use Rattle.nd_value.specs.Nodes.{TypedNode, nodes_of, child_types, child_agreements, first_agreements, rest_agreements}
 use Rattle.nd_value.specs.Deferral.{Pending, pointer, pointer_by, home_pointers}
-use Rattle.nd_grammar.specs.InPlace.{before_children, counts, tag_entries, hoisted}
+use Rattle.nd_grammar.specs.Entry.{before_children, counts, tag_entries, hoisted}
 use Rattle.ndr_code.specs.Code.{whole_at, code_of}
 use Rattle.ndr_encoder_laws.specs.pieces.Pieces.{Piece, Gap, Figure, gap_pieces, named_cell, piece_names, pieces_names}
 use Rattle.ndr_encoder_laws.specs.pieces.Shown.{kinds_pieces, values_pieces}

@@ -15,7 +15,7 @@ use Rattle.nd_value.specs.Tree as tree
 use Rattle.nd_value.specs.Tree.{Tree, Trees, node, none, more, node_count, Label, Referent}
 use Rattle.nd_value.specs.Setting.{Setting, Among, root_list, root_at, cell_at, cell_home}
 use Rattle.nd_value.specs.Misfit.{has_shape, is_no_null_ref}
-use Rattle.nd_value.specs.Variables.{root_agreements}
+use Rattle.nd_value.specs.Agreement.{root_agreements}
 use Rattle.nd_value.specs.Canon.{named, own_cell, named_cells}
 use Rattle.nd_value.specs.Deferral.{Pending, home_pointers, Step, Due, due_root, due_referent, due_roots, before_pipes, Deferral, none_due, at_root, at_null, at_standing, at_referent, Placed_cells}
 use Rattle.nd_value.specs.Deferral.{IsPlaced, Standing, standing_root, standing_by, standing_cell, root_type, direct, due_of, root_cell, AreFree}

@@ -11,7 +11,7 @@ use Rattle.nd_types.specs.declared.types.Primitive.{Primitive}
 use Rattle.nd_types.specs.Table.{Table, type_at}
 use Rattle.nd_value.specs.Tree as tree
 use Rattle.nd_value.specs.Tree.{Trees, node, none, more, count, node_count, Label, Flat, flat, take_trees, drop_trees}
-use Rattle.nd_grammar.specs.Chosen.{cut_within, cut_of}
+use Rattle.nd_grammar.specs.Stream.{cut_within, cut_of}
 use Rattle.ndr_code.specs.declared.instr.Instr.{Instr}
 use Rattle.ndr_code.specs.declared.instr.Instr.TheVariants as op
 use Rattle.ndr_code.specs.Code.{place_at, code_of}

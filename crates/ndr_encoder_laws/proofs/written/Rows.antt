@@ -11,7 +11,7 @@ use Rattle.nd_types.specs.Table.{Table, type_at, width}
 use Rattle.nd_types.specs.Layout.{align_of}
 use Rattle.nd_value.specs.Tree as tree
 use Rattle.nd_value.specs.Tree.{Trees, node, none, more, count, Label, Flat, flat}
-use Rattle.nd_grammar.specs.InPlace.{before_children}
+use Rattle.nd_grammar.specs.Entry.{before_children}
 use Rattle.ndr_code.specs.declared.instr.Instr.{Instr}
 use Rattle.ndr_code.specs.declared.instr.Instr.TheVariants as op
 use Rattle.ndr_code.specs.Code.{array_run, text_bound, whole_at, place_at, code_of, id, member_calls, member_checks, arms_code, default_code}

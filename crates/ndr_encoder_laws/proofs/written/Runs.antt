@@ -20,8 +20,7 @@ use Rattle.nd_types.specs.declared.types.Primitive.{Primitive}
 use Rattle.nd_value.specs.Tree as tree
 use Rattle.nd_value.specs.Tree.{Trees, node, none, more, count, node_count, Label, Flat, flat}
 use Rattle.nd_value.specs.Nodes.{child_types, selected_types}
-use Rattle.nd_grammar.specs.InPlace.{before_children, tag_entries, hoisted}
-use Rattle.nd_grammar.specs.Entry.{Align, Max}
+use Rattle.nd_grammar.specs.Entry.{before_children, tag_entries, hoisted, Align, Max}
 use Rattle.ndr_code.specs.declared.instr.Instr.{Instr}
 use Rattle.ndr_code.specs.declared.instr.Instr.TheVariants as op
 use Rattle.ndr_code.specs.Code.{gap_run, arm_run, arms_code, default_code, member_calls, member_checks, field_checks, text_bound, whole_at, place_at, code_of, id}

@@ -10,7 +10,7 @@ use Rattle.nd_value.specs.declared.item.Home.TheVariants as home
 use Rattle.nd_value.specs.Deferral.{Step, before_pipes}
 use Rattle.nd_value.specs.Setting.{Setting, root_list, root_at, cell_at}
 use Rattle.nd_value.specs.Tree.{Tree, none, more, flat}
-use Rattle.nd_grammar.specs.InPlace.{hoisted_max}
+use Rattle.nd_grammar.specs.Entry.{hoisted_max}
 use Rattle.ndr_code.specs.declared.instr.Instr.{Instr}
 use Rattle.ndr_code.specs.Code.{pipe_at}
 use Rattle.ndr_encoder_laws.specs.pieces.Pieces.{Piece}

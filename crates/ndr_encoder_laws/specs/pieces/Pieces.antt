@@ -8,8 +8,7 @@ use Rattle.nd_types.specs.declared.types.Primitive.TheVariants.{UnsignedLong}
 use Rattle.nd_types.specs.Table.{width}
 use Rattle.nd_types.specs.Number.{written, spelling}
 use Rattle.nd_grammar.specs.Entry.{gap}
-use Rattle.nd_grammar.specs.Chosen.{number_of_cell}
-use Rattle.nd_grammar.specs.Represents.{id_octets}
+use Rattle.nd_grammar.specs.Stream.{number_of_cell, id_octets}
 
 pub data Piece : Type 0 where
   -- zeros up to the next multiple

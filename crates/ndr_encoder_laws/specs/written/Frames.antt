@@ -1,11 +1,11 @@
 -- The frames of a run, the innermost first.
 -- `f` is a frame.
-use Rattle.std.specs.Prelude.{ltb, List, [], ◌∷◌, length, true, false, Option, Some, None}
+use Rattle.std.specs.Prelude.{nat_lt, List, [], ◌∷◌, length, true, false, Option, Some, None}
 use Rattle.ndr_encoder_laws.specs.declared.frames.Frame.{Frame}
 
 -- one frame more, where there is room
 abbrev pub pushed : Frame → List Frame → List Frame
-pushed f frames = elim (ltb (length frames) 256) [ true ↦ f ∷ frames | false ↦ frames ]
+pushed f frames = elim (nat_lt (length frames) 256) [ true ↦ f ∷ frames | false ↦ frames ]
 
 abbrev pub first_frame : List Frame → Option Frame
 first_frame [] = None

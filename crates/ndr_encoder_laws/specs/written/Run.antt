@@ -2,7 +2,7 @@
 -- stuck: a node that is not there is the number 0, and a run ends at what it does not know.
 -- `n` is how many steps may be taken, `pc` an address, `m` the maximum count before the home, `k` the greatest count of a chunk, `fs` are the nodes
 -- to come, `t` is a type's number, `z` a number, `p` a primitive, `G` is what is written from there on.
-use Rattle.std.specs.Prelude.{ℕ, ◌+◌, ◌-◌, suc, zero, ℤ, pos, Bool, true, false, ◌&&◌, ltb, ◌==◌, List, [], ◌∷◌, ◌++◌, length, drop, Option, Some}
+use Rattle.std.specs.Prelude.{ℕ, ◌+◌, ◌-◌, suc, zero, ℤ, pos, Bool, true, false, ◌&&◌, nat_lt, ◌==◌, List, [], ◌∷◌, ◌++◌, length, drop, Option, Some}
 use Rattle.std.specs.Prelude.{None}
 use Rattle.std.specs.List.{slice_get}
 use Rattle.std.specs.Ordering.{int_eq}
@@ -119,7 +119,7 @@ elements G (Some p) count run to frames fs = row_pieces p (numbers count fs) ++ 
 
 -- the count of the next chunk, if so many elements are left
 abbrev pub chunk_count : ℕ → ℕ → ℕ
-chunk_count k left = elim (ltb left k) [ true ↦ left | false ↦ k ]
+chunk_count k left = elim (nat_lt left k) [ true ↦ left | false ↦ k ]
 
 -- the elements of a chunk
 abbrev pub chunk_elements : Rest → Option Primitive → ℕ → ℕ → ℕ → ℕ → List Frame → List Flat → List Piece

@@ -3,7 +3,7 @@ use Rattle.std.proofs.lemmas.List.{map_push}
 use Rattle.idl_tokens.specs.declared.lexemes.Lexeme.{Lexeme}
 use Rattle.idl_tokens.specs.Lexemes.{text_of, seen_lexeme}
 use Rattle.acf_reader.specs.FromIdl.{lexeme_from}
-use Rattle.idl_grammar.specs.Lexemes.{IsFormed}
+use Rattle.idl_grammar.specs.Text.{IsFormed}
 use Rattle.acf_reader.proofs.Formed.{formed_from}
 use Rattle.acf_reader.proofs.FromIdl.{lexemes_from, one_more, none_left}
 use Rattle.acf_reader.proofs.lexemes.lexemes.Goals as goal

@@ -1,7 +1,7 @@
 use Rattle.std.proofs.Common.{◌≡◌, refl, Result}
 use Rattle.idl_grammar.specs.ReadPhrases.{Fault}
 use Rattle.acf_reader.specs.Answers.{acf_answer}
-use Rattle.acf_reader.specs.Tree as tree
+use Rattle.acf_reader.specs.Grammar as tree
 use Rattle.acf_reader.proofs.Answered.{refused_within, told_tree, told_fault}
 use Rattle.acf_reader.proofs.reading.answer.Goals as goal
 

@@ -1,12 +1,11 @@
 use Rattle.std.proofs.Common.{◌≡◌, length, sym, ap, subst, arith, ◌∙◌, Result}
 use Rattle.std.proofs.lemmas.List.{length-map}
-use Rattle.idl_grammar.specs.Text.{Text}
+use Rattle.idl_grammar.specs.Text.{Text, IsFormed}
 use Rattle.idl_grammar.specs.ReadPhrases.{Fault}
-use Rattle.idl_grammar.specs.Lexemes.{IsFormed}
 use Rattle.idl_tokens.specs.Lexemes.{text_of}
 use Rattle.acf_reader.specs.Answers.{IsAnswer, acf_answer}
-use Rattle.acf_reader.specs.Lexemes.{lexemes, lexeme_of}
-use Rattle.acf_reader.specs.Tree as tree
+use Rattle.acf_reader.specs.Symbols.{lexemes, lexeme_of}
+use Rattle.acf_reader.specs.Grammar as tree
 use Rattle.acf_reader.proofs.AcfLaws.{acf_answered, acf_answered_alone, lexemes_real}
 use Rattle.acf_reader.proofs.Answered.{told_for}
 use Rattle.acf_reader.proofs.reading.read_acf.Goals as goal

@@ -1,7 +1,6 @@
 use Rattle.std.proofs.Common.{subst}
 use Rattle.nd_base.specs.Over.{source_seen}
-use Rattle.rpc_pdu.specs.Fragments.{HasNumber}
-use Rattle.rpc_pdu.specs.Joined.{IsJoined}
+use Rattle.rpc_pdu.specs.Fragments.{HasNumber, IsJoined}
 use Rattle.command_call.proofs.calling.joined_fragments.Goals as goal
 
 pub returns-in-Ok-clause-joined : goal.returns-in-Ok-clause-joined

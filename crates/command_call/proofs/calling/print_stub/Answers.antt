@@ -2,7 +2,7 @@ use Rattle.std.proofs.Common.{Some, IfOk, IfErr, ap, subst}
 use Rattle.nd_base.specs.Over.{source_seen}
 use Rattle.nd_base.specs.contracts.plain.PlainSourceSource.TheImpl.{ghosts}
 use Rattle.nd_value.specs.Fitting.{setting_of}
-use Rattle.command_decode.specs.Printed.{IsDecoding}
+use Rattle.command_decode.specs.Decoded.{IsDecoding}
 use Rattle.command_call.specs.Called.{IsStubCause}
 use Rattle.command_call.proofs.Calls.{if_ok, stub_printed, stub_refused_by, no_rise}
 use Rattle.command_call.proofs.calling.print_stub.Goals as goal

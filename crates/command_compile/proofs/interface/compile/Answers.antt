@@ -1,8 +1,7 @@
 use Rattle.std.specs.Prelude.{option_map}
 use Rattle.std.proofs.Common.{refl, sym, subst, []}
 use Rattle.std.proofs.lemmas.Result.{err_from_is_err_and, IfOk-weaker, IfErr-weaker}
-use Rattle.nd_base.specs.Outside.{IsContent}
-use Rattle.nd_base.specs.Over.{files_seen}
+use Rattle.nd_base.specs.Over.{IsContent, files_seen}
 use Rattle.command_compile.proofs.AskedFiles.{main_asked}
 use Rattle.command_compile.proofs.Compiled.{after_load, main_not_loaded, asks_after, compiled_after}
 use Rattle.command_compile.proofs.interface.compile.Goals as goal

@@ -3,10 +3,10 @@ use Rattle.std.proofs.Common.{subst, Option, Err}
 use Rattle.std.proofs.lemmas.Result.{err_from_is_err_and}
 use Rattle.nd_base.specs.Over.{files_seen}
 use Rattle.acf_reader.specs.Seen.{seen_acf}
-use Rattle.acf_reader.specs.Tree.{Acf}
+use Rattle.acf_reader.specs.Grammar.{Acf}
 use Rattle.idl_names.specs.Seen.{seen_scope}
 use Rattle.idl_rule_definitions.specs.Checked.{world_of}
-use Rattle.idl_check.specs.SeenAcf.{AnswersBeside, IsMeaningBeside}
+use Rattle.idl_check.specs.AcfRules.{AnswersBeside, IsMeaningBeside}
 use Rattle.idl_rule_definitions.specs.declared.fault.RuleFault.TheVariants as fault
 use Rattle.command_compile.specs.Idl.{reported_beside}
 use Rattle.command_compile.specs.Loaded.{seen_beside}

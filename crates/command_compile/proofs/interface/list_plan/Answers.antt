@@ -3,8 +3,7 @@ use Rattle.nd_types.specs.declared.interface.Interface.{Interface}
 use Rattle.ndr_code.specs.declared.instr.Instr.{Instr}
 use Rattle.ndr_code.specs.declared.lists.PlanLine.{PlanLine}
 use Rattle.ndr_code.specs.declared.lists.EnumList.{EnumList}
-use Rattle.ndr_code.specs.Code.{code_of}
-use Rattle.ndr_code.specs.Lines.{entries_of, values_of}
+use Rattle.ndr_code.specs.Code.{code_of, entries_of, values_of}
 use Rattle.ndr_code.specs.Plan.{IsPlanOf}
 use Rattle.ndr_plan.specs.Listing.{listing}
 use Rattle.command_compile.proofs.interface.list_plan.Goals as goal

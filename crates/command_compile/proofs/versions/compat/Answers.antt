@@ -1,6 +1,6 @@
 use Rattle.std.proofs.Common.{option_map}
 use Rattle.nd_base.specs.Over.{files_seen}
-use Rattle.command_compile.specs.Asked.{FileNames}
+use Rattle.command_compile.specs.Compiled.{FileNames}
 use Rattle.command_compile.proofs.Parts.{compared_done, compared_refused}
 use Rattle.command_compile.proofs.versions.compat.Goals as goal
 

@@ -1,7 +1,7 @@
 use Rattle.std.proofs.Common.{option_map, refl}
 use Rattle.std.proofs.lemmas.Result.{err_from_is_err_and}
 use Rattle.nd_base.specs.Over.{files_seen}
-use Rattle.command_compile.specs.Asked.{FileNames}
+use Rattle.command_compile.specs.Compiled.{FileNames}
 use Rattle.command_compile.proofs.Parts.{Follows, both_asked, both_compiled, both_refused}
 use Rattle.command_compile.proofs.versions.compile_both.Goals as goal
 

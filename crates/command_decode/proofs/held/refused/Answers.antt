@@ -1,7 +1,7 @@
 use Rattle.std.proofs.Common.{◌∙◌, ◌++◌, ap, option_map}
 use Rattle.nd_value.specs.Fitting.{setting_beside}
 use Rattle.command_refusals.specs.declared.refusal.OctetsFault.TheVariants.{Refused}
-use Rattle.command_decode.specs.Traced.{fault_line}
+use Rattle.command_decode.specs.Decoded.{fault_line}
 use Rattle.command_decode.proofs.TraceSteps.{legal_side, refused_is}
 use Rattle.command_decode.proofs.held.refused.Goals as goal
 

@@ -1,9 +1,8 @@
 use Rattle.std.proofs.Common.{option_map, length}
 use Rattle.nd_base.specs.Over.{source_seen}
 use Rattle.nd_value.specs.Fitting.{setting_beside}
-use Rattle.ndr_pipe.specs.Ends.{ends_over}
-use Rattle.ndr_pipe.specs.Seen.{ends_seen}
-use Rattle.ndr_drain.specs.Given.{pipe_count}
+use Rattle.ndr_pipe.specs.Ends.{ends_over, ends_seen}
+use Rattle.ndr_drain.specs.Drained.{pipe_count}
 use Rattle.command_drain.proofs.Steps.{taken_is, enough_of, read_fault_is, bad_is, failed_is, too_few_is, memory_is}
 use Rattle.command_drain.proofs.draining.drain.Goals as goal
 

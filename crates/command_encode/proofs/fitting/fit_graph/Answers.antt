@@ -1,7 +1,7 @@
 use Rattle.std.proofs.Common.{option_map, sym, subst}
-use Rattle.nd_value.specs.FirstMisfit.{IsMisfit}
+use Rattle.nd_value.specs.Conforms.{IsMisfit}
 use Rattle.nd_value.specs.Fitting.{setting_beside}
-use Rattle.command_encode.specs.Fitted.{IsValueCause}
+use Rattle.command_encode.specs.Encoded.{IsValueCause}
 use Rattle.command_encode.proofs.fitting.fit_graph.Goals as goal
 
 pub returns-in-Err-clause-refused : goal.returns-in-Err-clause-refused

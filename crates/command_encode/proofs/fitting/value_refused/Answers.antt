@@ -1,6 +1,6 @@
 use Rattle.std.proofs.Common.{subst}
 use Rattle.nd_value.specs.Fitting.{setting_beside}
-use Rattle.nd_value.specs.FirstMisfit.{IsMisfit}
+use Rattle.nd_value.specs.Conforms.{IsMisfit}
 use Rattle.command_encode.proofs.Fitted.{misfit_is}
 use Rattle.command_encode.proofs.fitting.value_refused.Goals as goal
 

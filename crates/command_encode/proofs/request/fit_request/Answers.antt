@@ -1,6 +1,6 @@
 use Rattle.std.proofs.Common.{◌≤◌, length, sym, subst, arith}
 use Rattle.nd_base.specs.declared.TheConstants.{FILE_LIMIT}
-use Rattle.command_encode.specs.Fitted.{IsTextCause}
+use Rattle.command_encode.specs.Encoded.{IsTextCause}
 use Rattle.command_encode.proofs.request.fit_request.Goals as goal
 
 pub returns-in-Err-clause-refused : goal.returns-in-Err-clause-refused

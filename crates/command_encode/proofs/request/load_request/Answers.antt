@@ -1,6 +1,5 @@
 use Rattle.std.proofs.Common.{sym, subst}
-use Rattle.nd_base.specs.Outside.{IsContent}
-use Rattle.nd_base.specs.Over.{files_seen}
+use Rattle.nd_base.specs.Over.{IsContent, files_seen}
 use Rattle.command_encode.proofs.Requests.{text_held, text_refused}
 use Rattle.command_encode.proofs.request.load_request.Goals as goal
 

@@ -1,6 +1,6 @@
 use Rattle.std.proofs.Common.{◌∙◌, length, sym, ap, subst}
 use Rattle.nd_value.specs.declared.value.Graph.{Graph}
-use Rattle.nd_value.specs.Same.{Same}
+use Rattle.nd_value.specs.Canon.{Same}
 use Rattle.command_sample.specs.Nodes.{sample_graph}
 use Rattle.command_sample.specs.Values.{values_sum}
 use Rattle.command_sample.proofs.Sums.{cells_are, sum_is}

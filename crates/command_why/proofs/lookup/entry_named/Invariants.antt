@@ -1,5 +1,5 @@
 use Rattle.std.proofs.Common.{◌≡◌, length}
-use Rattle.command_why.specs.Entries.{entries, entry_of}
+use Rattle.command_why.specs.Explained.{entries, entry_of}
 use Rattle.command_why.proofs.lookup.entry_named.Given as goal
 
 abbrev pub invariant-loop-rest : goal.invariant-loop-rest

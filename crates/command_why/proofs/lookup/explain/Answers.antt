@@ -1,7 +1,6 @@
 use Rattle.std.proofs.Common.{◌≡◌, IfOk, List, ℕ, map, subst}
 use Rattle.std.specs.String.{string_bytes}
-use Rattle.command_why.specs.Entries.{entries}
-use Rattle.command_why.specs.Explained.{explained, explained_by}
+use Rattle.command_why.specs.Explained.{entries, explained, explained_by}
 use Rattle.command_why.proofs.lookup.explain.Goals as goal
 
 pub returns : goal.returns

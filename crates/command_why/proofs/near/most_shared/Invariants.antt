@@ -1,7 +1,6 @@
 use Rattle.std.proofs.Common.{◌≡◌, length}
 use Rattle.std.specs.Prelude.{max}
-use Rattle.command_why.specs.Entries.{entries}
-use Rattle.command_why.specs.Nearest.{most_shared}
+use Rattle.command_why.specs.Explained.{entries, most_shared}
 use Rattle.command_why.proofs.near.most_shared.Given as goal
 
 abbrev pub invariant-loop-rest : goal.invariant-loop-rest

@@ -1,5 +1,5 @@
 use Rattle.std.proofs.Common.{◌≡◌, ◌++◌, length}
-use Rattle.command_why.specs.Entries.{entries, names}
+use Rattle.command_why.specs.Explained.{entries, names}
 use Rattle.command_why.proofs.near.names.Given as goal
 
 abbrev pub invariant-loop-rest : goal.invariant-loop-rest

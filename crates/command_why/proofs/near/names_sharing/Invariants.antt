@@ -1,6 +1,5 @@
 use Rattle.std.proofs.Common.{◌≡◌, ◌++◌, length}
-use Rattle.command_why.specs.Entries.{entries}
-use Rattle.command_why.specs.Nearest.{names_sharing}
+use Rattle.command_why.specs.Explained.{entries, names_sharing}
 use Rattle.command_why.proofs.near.names_sharing.Given as goal
 
 abbrev pub invariant-loop-rest : goal.invariant-loop-rest

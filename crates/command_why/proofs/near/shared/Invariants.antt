@@ -1,5 +1,5 @@
 use Rattle.std.proofs.Common.{◌≡◌, ◌+◌, drop}
-use Rattle.command_why.specs.Nearest.{shared}
+use Rattle.command_why.specs.Explained.{shared}
 use Rattle.command_why.proofs.near.shared.Given as goal
 
 -- so many octets are shared, and what the names share after them

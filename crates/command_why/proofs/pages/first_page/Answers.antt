@@ -1,5 +1,5 @@
 use Rattle.std.proofs.Common.{◌∙◌, ◌∷◌, ap, ap₂, sym, List, ℕ}
-use Rattle.command_why.specs.Entries.{entries}
+use Rattle.command_why.specs.Explained.{entries}
 use Rattle.command_why.proofs.FirstEntry.{entry_before, entry_whole}
 use Rattle.command_why.proofs.pages.first_page.Goals as goal
 

@@ -1,6 +1,6 @@
 use Rattle.std.proofs.Common.{option_map}
 use Rattle.nd_base.specs.Over.{files_seen}
-use Rattle.command_compile.specs.Asked.{FileNames}
+use Rattle.command_compile.specs.Compiled.{FileNames}
 use Rattle.dceidl.proofs.compared.compared.Goals as goal
 
 pub returns-in-Err-clause-outcome : goal.returns-in-Err-clause-outcome

@@ -1,7 +1,7 @@
 use Rattle.std.proofs.Common.{option_map, subst}
 use Rattle.std.proofs.lemmas.Result.{err_from_is_err_and}
 use Rattle.nd_value.specs.Fitting.{setting_beside}
-use Rattle.dceidl.specs.Encode.{IsEncoding}
+use Rattle.dceidl.specs.Input.{IsEncoding}
 use Rattle.dceidl.proofs.encode.encode.Goals as goal
 
 pub returns-in_err-octets-clause-refused : goal.returns-in_err-octets-clause-refused

@@ -5,7 +5,7 @@ use Rattle.ndr_pipe.specs.Ends.{ends_over}
 use Rattle.command_line.specs.Commands.{command_of}
 use Rattle.command_line.specs.declared.command.Command as words
 use Rattle.dceidl.specs.Causes.{IsMade, IsCause}
-use Rattle.dceidl.specs.Seen.{seen_over}
+use Rattle.dceidl.specs.Asked.{seen_over}
 use Rattle.dceidl.proofs.perform.perform.Goals as goal
 
 pub returns-in-Call-clause-done : goal.returns-in-Call-clause-done

@@ -4,7 +4,7 @@ use Rattle.nd_base.specs.Over.{files_seen, source_seen}
 use Rattle.nd_value.specs.Fitting.{setting_of}
 use Rattle.ndr_pipe.specs.Ends.{ends_over}
 use Rattle.command_line.specs.Commands.{subject_of}
-use Rattle.dceidl.specs.Seen.{seen_over}
+use Rattle.dceidl.specs.Asked.{seen_over}
 use Rattle.dceidl.proofs.Causes.{ready_is, values_made, values_refused}
 use Rattle.dceidl.proofs.perform.perform_alone.Goals as goal
 

@@ -2,8 +2,7 @@ use Rattle.std.proofs.Common.{refl, inl, inr}
 use Rattle.std.proofs.lemmas.Result.{err_from_is_err_and}
 use Rattle.nd_base.specs.Over.{FilesSeen, files_seen, source_seen}
 use Rattle.nd_value.specs.Fitting.{setting_of}
-use Rattle.ndr_pipe.specs.Ends.{ends_over}
-use Rattle.ndr_pipe.specs.Seen.{ends_seen}
+use Rattle.ndr_pipe.specs.Ends.{ends_over, ends_seen}
 use Rattle.dceidl.specs.Asked.{drains}
 use Rattle.command_line.specs.Commands.{subject_of}
 use Rattle.dceidl.proofs.Causes.{ready_is, uncalled}

@@ -2,7 +2,7 @@ use Rattle.std.proofs.Common.{◌≡◌, ◌∙◌, List, ℕ, Some, map, option
 use Rattle.std.specs.String.{string_bytes}
 use Rattle.nd_base.specs.Over.{files_seen, source_seen}
 use Rattle.ndr_pipe.specs.Ends.{ends_over}
-use Rattle.dceidl.specs.Seen.{seen_over}
+use Rattle.dceidl.specs.Asked.{seen_over}
 use Rattle.dceidl.proofs.Explanations.{explained_outcome, explained_asks}
 use Rattle.dceidl.proofs.top.answer.Goals as goal
 

@@ -3,7 +3,7 @@ use Rattle.nd_base.specs.Over.{files_seen, source_seen}
 use Rattle.ndr_pipe.specs.Ends.{ends_over}
 use Rattle.command_line.specs.Words as words
 use Rattle.dceidl.specs.Run.{IsCommandOutcome}
-use Rattle.dceidl.specs.Seen.{seen_over}
+use Rattle.dceidl.specs.Asked.{seen_over}
 use Rattle.dceidl.proofs.Places.{compared_outcome}
 use Rattle.dceidl.proofs.top.performed_command.Goals as goal
 

@@ -4,7 +4,7 @@ use Rattle.command_line.specs.Commands.{subject_of}
 use Rattle.command_line.specs.Words.{Command, Values}
 use Rattle.command_line.specs.declared.command.Reading.TheVariants.{Trace}
 use Rattle.command_line.specs.declared.command.Task.TheVariants.{Read}
-use Rattle.dceidl.specs.Seen.{seen_over}
+use Rattle.dceidl.specs.Asked.{seen_over}
 use Rattle.dceidl.proofs.Traces.{at_ends, stopped_at, unready_stopped}
 use Rattle.dceidl.proofs.trace.traced.Goals as goal
 

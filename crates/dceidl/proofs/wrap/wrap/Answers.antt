@@ -3,9 +3,9 @@ use Rattle.std.proofs.lemmas.Result.{err_from_is_err_and}
 use Rattle.nd_base.specs.Over.{files_seen, source_seen}
 use Rattle.nd_value.specs.Fitting.{setting_of}
 use Rattle.nd_base.specs.declared.TheConstants.{STREAM_LIMIT}
-use Rattle.rpc_pdu.specs.Pieces.{Pieces}
+use Rattle.rpc_pdu.specs.Fragments.{Pieces}
 use Rattle.command_line.specs.Commands.{subject_of}
-use Rattle.dceidl.specs.Wrapped.{head_for}
+use Rattle.dceidl.specs.Input.{head_for}
 use Rattle.dceidl.specs.declared.TheConstants.{WRAP_CHUNK}
 use Rattle.dceidl.proofs.Causes.{ready_is}
 use Rattle.dceidl.proofs.Calling.{few_numbers, short_stub, wrapped_is}

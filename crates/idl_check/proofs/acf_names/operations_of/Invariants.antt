@@ -1,6 +1,6 @@
 use Rattle.std.proofs.Common.{drop, map}
 use Rattle.idl_grammar.specs.Seen.{seen_export}
-use Rattle.idl_check.specs.SeenAcf.{AreOperations}
+use Rattle.idl_check.specs.AcfRules.{AreOperations}
 use Rattle.idl_check.proofs.acf_names.operations_of.Given as goal
 
 -- the operations of the last declarations are there

@@ -1,6 +1,6 @@
 use Rattle.std.proofs.Common.{◌∙◌, sym, ap, not, map-id, arith}
 use Rattle.std.specs.List.{list_any}
-use Rattle.idl_check.specs.SeenAcf.{belongs}
+use Rattle.idl_check.specs.AcfRules.{belongs}
 use Rattle.idl_constructs.proofs.AnyFrom.{found_there, not_there, nowhere}
 use Rattle.idl_check.proofs.acf_places.is_misplaced.Goals as goal
 

@@ -1,6 +1,5 @@
 use Rattle.std.proofs.Common.{◌≡◌, not}
-use Rattle.idl_check.specs.AcfRules.{is_misplaced}
-use Rattle.idl_check.specs.SeenAcf.{belongs}
+use Rattle.idl_check.specs.AcfRules.{is_misplaced, belongs}
 use Rattle.idl_constructs.proofs.AnyFrom.{any_from}
 use Rattle.idl_check.proofs.acf_places.is_misplaced.Given as goal
 

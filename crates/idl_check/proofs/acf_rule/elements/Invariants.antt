@@ -4,7 +4,7 @@ use Rattle.idl_grammar.specs.Tree as idl
 use Rattle.idl_grammar.specs.Seen as of_idl
 use Rattle.idl_scope.specs.Seen.{seen_files, known_in}
 use Rattle.acf_reader.specs.Seen.{seen_element}
-use Rattle.idl_rule_definitions.specs.World.{World}
+use Rattle.idl_rule_definitions.specs.Nodes.{World}
 use Rattle.idl_rule_definitions.specs.Noted.{noted}
 use Rattle.idl_rule_definitions.specs.Found.{seen_breach}
 use Rattle.idl_check.specs.AcfRules.{breaches_of_element}

@@ -3,7 +3,7 @@ use Rattle.std.specs.List.{flat_map}
 use Rattle.idl_grammar.specs.Seen as of_idl
 use Rattle.idl_scope.specs.Seen.{seen_files}
 use Rattle.acf_reader.specs.Seen.{seen_parameter}
-use Rattle.idl_rule_definitions.specs.World.{World}
+use Rattle.idl_rule_definitions.specs.Nodes.{World}
 use Rattle.idl_rule_definitions.specs.Noted.{noted}
 use Rattle.idl_rule_definitions.specs.Found.{seen_breach}
 use Rattle.idl_check.specs.AcfRules.{breaches_of_parameter}

@@ -3,7 +3,7 @@ use Rattle.acf_reader.specs.Seen.{seen_acf}
 use Rattle.idl_rule_definitions.specs.declared.fault.RuleFault.{RuleFault}
 use Rattle.idl_rule_definitions.specs.Checked.{world_of}
 use Rattle.idl_rule_definitions.specs.Found.{seen_breach}
-use Rattle.idl_check.specs.SeenAcf.{AnswersBeside, IsMeaningBeside}
+use Rattle.idl_check.specs.AcfRules.{AnswersBeside, IsMeaningBeside}
 use Rattle.idl_check.proofs.AcfAnswers.{told_on, alone, last_told, kept_beside}
 use Rattle.idl_check.proofs.checking.check.Goals as goal
 

@@ -3,7 +3,7 @@ use Rattle.idl_scope.specs.Seen.{known_in}
 use Rattle.idl_rule_definitions.specs.declared.fault.RuleFault.{RuleFault}
 use Rattle.idl_rule_definitions.specs.Answers.{Answers}
 use Rattle.idl_rule_definitions.specs.Checked.{world_of}
-use Rattle.idl_rule_definitions.specs.FirstBroken.{first_broken}
+use Rattle.idl_rule_definitions.specs.Rules.{first_broken}
 use Rattle.idl_rule_definitions.specs.Found.{seen_breach}
 use Rattle.idl_rule_definitions.specs.Nodes.{nodes}
 use Rattle.idl_rule_definitions.specs.Scene.{Scene, scene_of}

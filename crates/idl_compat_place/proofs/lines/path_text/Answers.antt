@@ -1,6 +1,6 @@
 use Rattle.std.proofs.Common.{rules, ◌≡◌, ◌-◌, ◌<◌, ◌++◌, Some, drop, ap, ◌∙◌}
 use Rattle.std.specs.Prelude.{slice_get}
-use Rattle.idl_compat_place.specs.Places.{child_of}
+use Rattle.idl_compat_place.specs.Differences.{child_of}
 use Rattle.idl_compat_place.specs.Lines.{found, step_text, path_text}
 use Rattle.idl_compat_place.proofs.Paths.{path_turn, led_turn}
 use Rattle.idl_compat_place.proofs.lines.path_text.Goals as goal

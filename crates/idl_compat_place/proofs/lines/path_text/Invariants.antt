@@ -1,5 +1,5 @@
 use Rattle.std.proofs.Common.{◌≡◌, drop}
-use Rattle.idl_compat_place.specs.Places.{led}
+use Rattle.idl_compat_place.specs.Differences.{led}
 use Rattle.idl_compat_place.specs.Lines.{path_text}
 use Rattle.idl_compat_place.proofs.lines.path_text.Given as goal
 

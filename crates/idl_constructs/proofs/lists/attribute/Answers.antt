@@ -3,7 +3,7 @@ use Rattle.std.specs.List.{list_any}
 use Rattle.std.specs.Str.{bytes_eq}
 use Rattle.idl_scope.specs.Seen.{seen_files}
 use Rattle.idl_grammar.specs.Seen.{seen_kind, seen_attribute}
-use Rattle.idl_rule_definitions.specs.AttributeRules.{words_in, is_large_version_in}
+use Rattle.idl_rule_definitions.specs.DeclarationRules.{words_in, is_large_version_in}
 use Rattle.idl_rule_definitions.specs.Nodes.{place_in}
 use Rattle.idl_constructs.specs.SeenNodes.{seen_position, seen_construct}
 use Rattle.idl_rule_definitions.specs.Noted.{noted, if_broken}

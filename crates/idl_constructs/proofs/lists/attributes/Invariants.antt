@@ -1,8 +1,7 @@
 use Rattle.std.proofs.Common.{◌≡◌, map, take, option_map}
 use Rattle.idl_scope.specs.Seen.{seen_files}
 use Rattle.idl_grammar.specs.Seen.{seen_attribute}
-use Rattle.idl_rule_definitions.specs.World.{World}
-use Rattle.idl_rule_definitions.specs.Nodes.{attribute_nodes}
+use Rattle.idl_rule_definitions.specs.Nodes.{World, attribute_nodes}
 use Rattle.idl_constructs.specs.SeenNodes.{seen_construct}
 use Rattle.idl_rule_definitions.specs.Noted.{noted}
 use Rattle.idl_rule_definitions.specs.Found.{seen_breach}

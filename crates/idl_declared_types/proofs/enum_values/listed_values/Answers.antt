@@ -3,7 +3,7 @@ use Rattle.idl_grammar.specs.declared.types.Enumerator.{Enumerator}
 use Rattle.idl_grammar.specs.Seen.{seen_enumerator}
 use Rattle.idl_scope.specs.Known.{Known}
 use Rattle.idl_scope.specs.Seen.{known_in}
-use Rattle.idl_rule_definitions.specs.World.{number_of}
+use Rattle.idl_rule_definitions.specs.Nodes.{number_of}
 use Rattle.idl_declared_types.specs.LabelValues.{is_among}
 use Rattle.idl_declared_types.proofs.LabelTags.{holds_next, holds_all}
 use Rattle.idl_declared_types.proofs.enum_values.listed_values.Goals as goal

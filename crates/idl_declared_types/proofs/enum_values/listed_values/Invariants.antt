@@ -1,6 +1,6 @@
 use Rattle.std.proofs.Common.{map, take}
 use Rattle.idl_scope.specs.Seen.{known_in}
-use Rattle.idl_rule_definitions.specs.World.{number_of}
+use Rattle.idl_rule_definitions.specs.Nodes.{number_of}
 use Rattle.idl_declared_types.specs.LabelValues.{Holds}
 use Rattle.idl_declared_types.proofs.enum_values.listed_values.Given as goal
 

@@ -1,5 +1,5 @@
 use Rattle.std.proofs.Common.{◌≡◌, sym, ap, Some, ◌∙◌}
-use Rattle.idl_scope.specs.Tables.{found}
+use Rattle.idl_scope.specs.Known.{found}
 use Rattle.idl_declared_types.proofs.NameLists.{named_some, named_none}
 use Rattle.idl_declared_types.proofs.written.named.Goals as goal
 

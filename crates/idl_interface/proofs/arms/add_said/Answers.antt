@@ -4,7 +4,7 @@ use Rattle.idl_grammar.specs.Tree as tree
 use Rattle.idl_grammar.specs.Seen.{seen_expr, seen_kind}
 use Rattle.idl_scope.specs.Seen.{known_in}
 use Rattle.idl_rule_definitions.specs.Nodes.{labels_said}
-use Rattle.idl_rule_definitions.specs.ValueRules.{label_value}
+use Rattle.idl_rule_definitions.specs.DeclarationRules.{label_value}
 use Rattle.idl_interface.proofs.Making.{case_said}
 use Rattle.idl_interface.proofs.arms.add_said.Goals as goal
 

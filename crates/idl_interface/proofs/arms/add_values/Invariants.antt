@@ -1,7 +1,7 @@
 use Rattle.std.proofs.Common.{◌≡◌, ◌++◌, map, drop, Some}
 use Rattle.idl_grammar.specs.Seen.{seen_expr}
 use Rattle.idl_scope.specs.Seen.{known_in}
-use Rattle.idl_rule_definitions.specs.World.{value_in}
+use Rattle.idl_rule_definitions.specs.Nodes.{value_in}
 use Rattle.idl_interface.proofs.arms.add_values.Given as goal
 
 -- what is there, with what is left

@@ -3,7 +3,7 @@ use Rattle.std.specs.Prelude.{MatchOption}
 use Rattle.nd_types.specs.declared.types.TypeDef.TheVariants as def
 use Rattle.idl_grammar.specs.Seen.{seen_type, seen_enumerator}
 use Rattle.idl_scope.specs.Seen.{known_in}
-use Rattle.idl_rule_definitions.specs.World.{number_of}
+use Rattle.idl_rule_definitions.specs.Nodes.{number_of}
 use Rattle.idl_rule_definitions.specs.Checked.{world_of}
 use Rattle.idl_rule_definitions.specs.Scene.{body_of}
 use Rattle.idl_rule_definitions.specs.Meaning.{or_zero}

@@ -1,7 +1,7 @@
 use Rattle.std.proofs.Common.{◌≡◌, ◌++◌, map, drop}
 use Rattle.idl_grammar.specs.Seen.{seen_enumerator}
 use Rattle.idl_scope.specs.Seen.{known_in}
-use Rattle.idl_rule_definitions.specs.World.{number_of}
+use Rattle.idl_rule_definitions.specs.Nodes.{number_of}
 use Rattle.idl_rule_definitions.specs.Meaning.{or_zero}
 use Rattle.idl_interface.proofs.definitions.enum_of.Given as goal
 

@@ -1,6 +1,6 @@
 use Rattle.std.proofs.Common.{◌≡◌, ◌++◌, [], ◌∷◌, length, None, true, is_some, ap, subst}
 use Rattle.std.proofs.lemmas.Result.{on_ok_weaker}
-use Rattle.idl_scope.specs.Tables.{found, put}
+use Rattle.idl_scope.specs.Known.{found, put}
 use Rattle.idl_interface.specs.Made.{AreListed}
 use Rattle.idl_interface.proofs.Listing.{listed_old, listed_new}
 use Rattle.idl_declared_types.proofs.Numbered.{no_number as lacks}

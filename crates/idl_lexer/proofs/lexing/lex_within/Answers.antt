@@ -1,5 +1,5 @@
 use Rattle.std.proofs.Common.{List, ℕ, subst, sym}
-use Rattle.idl_lexer.specs.Lexed.{AreFormed}
+use Rattle.idl_lexer.specs.Verdict.{AreFormed}
 use Rattle.idl_lexer.proofs.Words.{tokens_formed}
 use Rattle.idl_lexer.proofs.lexing.lex_within.Goals as goal
 

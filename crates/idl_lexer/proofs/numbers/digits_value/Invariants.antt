@@ -1,5 +1,5 @@
 use Rattle.std.proofs.Common.{◌≡◌, ◌<◌, ◌^◌, drop}
-use Rattle.idl_lexer.specs.Numbers.{value_from}
+use Rattle.idl_lexer.specs.Pieces.{value_from}
 use Rattle.idl_lexer.proofs.numbers.digits_value.Given as goal
 
 abbrev pub invariant-loop-digit : goal.invariant-loop-digit

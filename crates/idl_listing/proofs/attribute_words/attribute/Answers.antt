@@ -1,6 +1,5 @@
 use Rattle.std.proofs.Common.{◌≡◌, ◌∙◌, ap, [], ◌∷◌, ◌++◌}
-use Rattle.idl_listing.specs.Lines.{behind}
-use Rattle.idl_listing.specs.Listing.{attr_word, star}
+use Rattle.idl_listing.specs.Listing.{behind, attr_word, star}
 use Rattle.idl_listing.proofs.WordByWord.{then_words, goes_on}
 use Rattle.idl_listing.proofs.attribute_words.attribute.Goals as goal
 

@@ -1,6 +1,5 @@
 use Rattle.std.proofs.Common.{◌∙◌, ap, [], ◌∷◌, ◌++◌, codes}
-use Rattle.idl_listing.specs.Lines.{behind}
-use Rattle.idl_listing.specs.Listing.{version_word, uuid_word}
+use Rattle.idl_listing.specs.Listing.{behind, version_word, uuid_word}
 use Rattle.idl_listing.proofs.WordByWord.{first_word, then_words, then_end}
 use Rattle.idl_listing.proofs.header_line.header_line.Goals as goal
 

@@ -1,6 +1,5 @@
 use Rattle.std.proofs.Common.{◌∙◌, ap, sym, [], ◌∷◌, ◌++◌}
-use Rattle.idl_listing.specs.Listing.{uuid_text, uuid_word}
-use Rattle.idl_listing.specs.Lines.{behind}
+use Rattle.idl_listing.specs.Listing.{uuid_text, uuid_word, behind}
 use Rattle.idl_listing.proofs.WordByWord.{one_behind}
 use Rattle.idl_listing.proofs.header_line.uuid_word.Goals as goal
 

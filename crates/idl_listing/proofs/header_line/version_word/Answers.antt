@@ -1,5 +1,5 @@
 use Rattle.std.proofs.Common.{◌∙◌, ap, ap₂, [], ◌∷◌, ◌++◌, codes, decimal}
-use Rattle.idl_listing.specs.Lines.{behind}
+use Rattle.idl_listing.specs.Listing.{behind}
 use Rattle.idl_listing.proofs.WordByWord.{goes_on}
 use Rattle.idl_listing.proofs.header_line.version_word.Goals as goal
 

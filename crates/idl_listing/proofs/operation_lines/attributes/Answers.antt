@@ -1,8 +1,7 @@
 use Rattle.std.proofs.Common.{◌∙◌, ◌+◌, [], ◌∷◌, ◌++◌, ap, sym, drop, arith}
 use Rattle.std.specs.List.{flat_map}
 use Rattle.nd_types.specs.Fields.{param_fields}
-use Rattle.idl_listing.specs.Lines.{behind}
-use Rattle.idl_listing.specs.Listing.{attr_word, attr_words, star}
+use Rattle.idl_listing.specs.Listing.{behind, attr_word, attr_words, star}
 use Rattle.idl_listing.proofs.ListedLines.{words_more, words_end}
 use Rattle.idl_listing.proofs.operation_lines.attributes.Goals as goal
 

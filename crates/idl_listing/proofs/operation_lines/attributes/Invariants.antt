@@ -1,8 +1,7 @@
 use Rattle.std.proofs.Common.{◌≡◌, ◌++◌, drop}
 use Rattle.std.specs.List.{flat_map}
 use Rattle.nd_types.specs.Fields.{param_fields}
-use Rattle.idl_listing.specs.Lines.{behind}
-use Rattle.idl_listing.specs.Listing.{attr_words, attrs_words}
+use Rattle.idl_listing.specs.Listing.{behind, attr_words, attrs_words}
 use Rattle.idl_listing.proofs.operation_lines.attributes.Given as goal
 
 -- what is written, with what is left

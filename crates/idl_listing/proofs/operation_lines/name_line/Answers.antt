@@ -1,5 +1,5 @@
 use Rattle.std.proofs.Common.{◌∙◌, ap, [], ◌∷◌, ◌++◌, codes, decimal}
-use Rattle.idl_listing.specs.Lines.{behind}
+use Rattle.idl_listing.specs.Listing.{behind}
 use Rattle.idl_listing.proofs.WordByWord.{first_word, then_words, then_end}
 use Rattle.idl_listing.proofs.operation_lines.name_line.Goals as goal
 

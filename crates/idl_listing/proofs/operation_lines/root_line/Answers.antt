@@ -1,8 +1,7 @@
 use Rattle.std.proofs.Common.{◌∙◌, ap, [], ◌∷◌, ◌++◌, decimal}
 use Rattle.nd_types.specs.Fields.{param_fields}
 use Rattle.idl_listing.specs.Worded.{vars_at}
-use Rattle.idl_listing.specs.Lines.{side_word}
-use Rattle.idl_listing.specs.Listing.{attrs_words}
+use Rattle.idl_listing.specs.Listing.{side_word, attrs_words}
 use Rattle.idl_listing.proofs.WordByWord.{first_word, then_words, then_end}
 use Rattle.idl_listing.proofs.operation_lines.root_line.Goals as goal
 

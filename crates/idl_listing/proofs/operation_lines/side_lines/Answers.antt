@@ -3,7 +3,7 @@ use Rattle.std.specs.List.{flat_map}
 use Rattle.std.proofs.lemmas.List.{map-append, flat_map_more}
 use Rattle.std.proofs.lemmas.Option.{slice_get_within}
 use Rattle.std.proofs.lemmas.Iterator.Consumers.{YieldsList-from_first, YieldsList-end}
-use Rattle.nd_types.specs.Walk.{root_value, named_roots}
+use Rattle.nd_types.specs.Roots.{root_value, named_roots}
 use Rattle.idl_listing.specs.Worded.{named_line}
 use Rattle.idl_listing.proofs.ListedRoots.{side_by_walk}
 use Rattle.idl_listing.proofs.operation_lines.side_lines.Goals as goal

@@ -4,8 +4,7 @@ use Rattle.std.proofs.Common.{rules}
 use mir.Val.{SFits}
 use mir.Syntax.{w128}
 use Rattle.std.specs.Fmt.{signed_decimal}
-use Rattle.idl_listing.specs.Lines.{behind}
-use Rattle.idl_listing.specs.Listing.{arm_name, arm_type}
+use Rattle.idl_listing.specs.Listing.{behind, arm_name, arm_type}
 use Rattle.idl_listing.proofs.WordByWord.{first_word, then_words, then_end}
 use Rattle.idl_listing.proofs.type_lines.arm_line.Goals as goal
 

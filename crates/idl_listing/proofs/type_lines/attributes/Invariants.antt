@@ -1,7 +1,6 @@
 use Rattle.std.proofs.Common.{◌≡◌, ◌++◌, drop}
 use Rattle.std.specs.List.{flat_map}
-use Rattle.idl_listing.specs.Lines.{behind}
-use Rattle.idl_listing.specs.Listing.{attr_words}
+use Rattle.idl_listing.specs.Listing.{behind, attr_words}
 use Rattle.idl_listing.proofs.type_lines.attributes.Given as goal
 
 -- what is written, with what is left

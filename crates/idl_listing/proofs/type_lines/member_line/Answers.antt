@@ -1,6 +1,5 @@
 use Rattle.std.proofs.Common.{◌∙◌, ap, [], ◌∷◌, ◌++◌, codes, decimal}
-use Rattle.idl_listing.specs.Lines.{behind}
-use Rattle.idl_listing.specs.Listing.{attrs_words}
+use Rattle.idl_listing.specs.Listing.{behind, attrs_words}
 use Rattle.idl_listing.proofs.WordByWord.{first_word, then_words, then_end}
 use Rattle.idl_listing.proofs.type_lines.member_line.Goals as goal
 

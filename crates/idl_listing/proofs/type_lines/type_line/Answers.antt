@@ -1,7 +1,6 @@
 use Rattle.std.proofs.Common.{◌∙◌, ap, [], ◌∷◌, ◌++◌, codes, decimal}
 use Rattle.nd_types.specs.Layout.{align_of, hoists}
-use Rattle.idl_listing.specs.Lines.{behind, word_if}
-use Rattle.idl_listing.specs.Listing.{form}
+use Rattle.idl_listing.specs.Listing.{behind, word_if, form}
 use Rattle.idl_listing.proofs.WordByWord.{first_word, then_words, then_end}
 use Rattle.idl_listing.proofs.WordLists.{type_words}
 use Rattle.idl_listing.proofs.type_lines.type_line.Goals as goal

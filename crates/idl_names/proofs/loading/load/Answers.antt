@@ -1,5 +1,5 @@
 use Rattle.std.proofs.Common.{◌≡◌, ◌∙◌, ◌+◌, refl, ap, arith, [], length, Err}
-use Rattle.idl_names.specs.Sources.{and_source}
+use Rattle.idl_names.specs.Walk.{and_source}
 use Rattle.idl_names.specs.Loads.{IsLoadFault, told_load}
 use Rattle.idl_names.proofs.Loads.{short_fault, unloaded_fault, loaded_ok, loaded_err, one_more}
 use Rattle.idl_names.proofs.Going.{at_error, one_asked}

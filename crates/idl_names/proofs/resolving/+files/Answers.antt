@@ -5,13 +5,11 @@ use Rattle.idl_grammar.specs.declared.words.Spelling.{Spelling}
 use Rattle.idl_grammar.specs.Seen.{seen_tree, seen_import}
 use Rattle.idl_scope.specs.declared.name_fault.NameFault.TheVariants as fault
 use Rattle.idl_names.specs.Going.{Point, point, Went}
-use Rattle.idl_scope.specs.Known.{place_in}
+use Rattle.idl_scope.specs.Known.{place_in, has_ended}
 use Rattle.idl_names.specs.Loads.{IsLoaded}
 use Rattle.idl_scope.specs.Seen.{seen_file, seen_files}
 use Rattle.idl_names.specs.Seen.{seen_state}
-use Rattle.idl_names.specs.Sources.{file_number, file_named}
-use Rattle.idl_scope.specs.Ended.{has_ended}
-use Rattle.idl_names.specs.Walk.{Load, End, load_of, all_of, with_known}
+use Rattle.idl_names.specs.Walk.{file_number, file_named, Load, End, load_of, all_of, with_known}
 use Rattle.idl_scope.specs.Steps.{imports_of}
 use Rattle.idl_names.proofs.Going as going
 use Rattle.idl_names.proofs.Going.{loads, loads_of, one_load, one_import, passed_on}

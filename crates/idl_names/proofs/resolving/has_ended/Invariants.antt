@@ -1,6 +1,6 @@
 use Rattle.std.proofs.Common.{◌≡◌, drop}
 use Rattle.idl_scope.specs.Seen.{seen_files}
-use Rattle.idl_scope.specs.Ended.{has_ended}
+use Rattle.idl_scope.specs.Known.{has_ended}
 use Rattle.idl_names.proofs.resolving.has_ended.Given as goal
 
 abbrev pub invariant-loop-at : goal.invariant-loop-at

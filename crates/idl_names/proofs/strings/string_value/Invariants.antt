@@ -1,5 +1,5 @@
 use Rattle.std.proofs.Common.{◌≡◌, ◌≤◌, ◌+◌, ◌-◌, ◌++◌, drop, length}
-use Rattle.idl_names.specs.Sources as sources
+use Rattle.idl_names.specs.Walk as sources
 use Rattle.idl_names.proofs.strings.string_value.Given as goal
 
 abbrev pub invariant-loop-at : goal.invariant-loop-at

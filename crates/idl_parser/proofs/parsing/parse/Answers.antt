@@ -1,10 +1,9 @@
 use Rattle.std.proofs.Common.{◌≡◌, ◌<◌, length, refl, sym, ap, subst, arith, ◌∙◌, Result}
 use Rattle.std.proofs.lemmas.List.{length-map}
-use Rattle.idl_grammar.specs.Text.{Text}
+use Rattle.idl_grammar.specs.Text.{Text, lexemes, lexeme_of, IsFormed}
 use Rattle.idl_grammar.specs.ReadPhrases.{Fault}
 use Rattle.idl_grammar.specs.Answers.{Answers, file_answer}
 use Rattle.idl_grammar.specs.Grammar.{file}
-use Rattle.idl_grammar.specs.Lexemes.{lexemes, lexeme_of, IsFormed}
 use Rattle.idl_grammar.specs.Tree as tree
 use Rattle.idl_grammar.proofs.FileLaws.{file_answered, file_answered_alone}
 use Rattle.idl_tokens.specs.Lexemes.{text_of}

@@ -1,6 +1,6 @@
 use Rattle.std.proofs.Common.{◌≡◌, ◌≢◌, ℕ, suc, ◌+◌, ◌-◌, ◌<◌, ◌≤◌, List, [], ◌∷◌, ◌++◌, map, option_map, length, arith, sym, ap, subst, refl, ◌∙◌, Ok, Option, true, false}
 use Rattle.idl_grammar.specs.Text.{symbol_at, is, is_in}
-use Rattle.idl_grammar.specs.ReadPhrases.{Read, then, turned, behind_read, separated_read, some_read, list_read}
+use Rattle.idl_grammar.specs.ReadPhrases.{Read, and_then, turned, behind_read, separated_read, some_read, list_read}
 use Rattle.idl_grammar.specs.Gives.{Gives}
 use Rattle.idl_grammar.proofs.Fails.{fails_equal, fails_is}
 use Rattle.idl_grammar.proofs.Gathered.{Gathered, gathers, gathering_fails, gathered}
@@ -13,7 +13,7 @@ use Rattle.idl_grammar.specs.Seen.{seen_arm, seen_label, seen_type, seen_member,
 use Rattle.idl_grammar.specs.declared.words.Spelling.{Spelling}
 use Rattle.idl_grammar.specs.declared.types.Discriminant.{Discriminant}
 use Rattle.idl_grammar.specs.declared.types.TagKind.TheVariants as tags
-use Rattle.idl_grammar.specs.Limits.{names}
+use Rattle.idl_grammar.specs.Expressions.{names}
 use Rattle.idl_grammar.specs.Tree as tree
 use Rattle.idl_parser.proofs.Bodies.{then_reads, then_fails, bracketed_reads, branch_first, branch_second, tagged_body}
 use Rattle.idl_tokens.proofs.Lists.{alone, some_begins}
@@ -201,7 +201,7 @@ union_body-returns-in_err-cases-clause-gives t c =
     let d : is (symbol_at c.args.parser.now c.args.at) symbol.Switch ≡ true = cc in
     let h = alone c.args.parser.now c.args.at symbol.Switch true d in
     let both : Read ((Discriminant × Option Spelling) × List (List tree.Label × tree.Arm)) =
-    then (union_switch_read c.args.parser.now c.args.depth c.args.at) (λ s m. cases_body_read c.args.nesting c.args.parser.now c.args.depth again m) in
+    and_then (union_switch_read c.args.parser.now c.args.depth c.args.at) (λ s m. cases_body_read c.args.nesting c.args.parser.now c.args.depth again m) in
     let other : Read tree.TypeSpec = turned (λ a. tree.NonEncapsulatedUnion c.args.octet c.args.tag (arms_of a)) (arms_body_read c.args.nesting c.args.parser.now c.args.depth again c.args.at) in
     let made : Read ((Discriminant × Option Spelling) × List (List tree.Label × tree.Arm)) → Read tree.TypeSpec =
     λ v. turned (λ p. tree.EncapsulatedUnion c.args.octet c.args.tag p.0.0 p.0.1 (cases_of p.1)) v in
@@ -218,7 +218,7 @@ union_body-returns-then-stands-clause-gives t c =
     let d : is (symbol_at c.args.parser.now c.args.at) symbol.Switch ≡ true = cc in
     let h = alone c.args.parser.now c.args.at symbol.Switch true d in
     let both : Read ((Discriminant × Option Spelling) × List (List tree.Label × tree.Arm)) =
-    then (union_switch_read c.args.parser.now c.args.depth c.args.at) (λ s m. cases_body_read c.args.nesting c.args.parser.now c.args.depth again m) in
+    and_then (union_switch_read c.args.parser.now c.args.depth c.args.at) (λ s m. cases_body_read c.args.nesting c.args.parser.now c.args.depth again m) in
     let other : Read tree.TypeSpec = turned (λ a. tree.NonEncapsulatedUnion c.args.octet c.args.tag (arms_of a)) (arms_body_read c.args.nesting c.args.parser.now c.args.depth again c.args.at) in
     let made : Read ((Discriminant × Option Spelling) × List (List tree.Label × tree.Arm)) → Read tree.TypeSpec =
     λ v. turned (λ p. tree.EncapsulatedUnion c.args.octet c.args.tag p.0.0 p.0.1 (cases_of p.1)) v in
@@ -237,7 +237,7 @@ union_body-returns-clause-gives t c =
     let h = alone c.args.parser.now c.args.at symbol.Switch false d in
     let first : Read tree.TypeSpec =
     turned (λ p. tree.EncapsulatedUnion c.args.octet c.args.tag p.0.0 p.0.1 (cases_of p.1))
-    (then (union_switch_read c.args.parser.now c.args.depth c.args.at) (λ s m. cases_body_read c.args.nesting c.args.parser.now c.args.depth again m)) in
+    (and_then (union_switch_read c.args.parser.now c.args.depth c.args.at) (λ s m. cases_body_read c.args.nesting c.args.parser.now c.args.depth again m)) in
     let made : Read (List tree.Arm) → Read tree.TypeSpec = λ v. turned (λ a. tree.NonEncapsulatedUnion c.args.octet c.args.tag (arms_of a)) v in
     branch_second (symbol.Switch ∷ []) c.args.parser.now c.args.at first (made (arms_body_read c.args.nesting c.args.parser.now c.args.depth again c.args.at)) h
     ∙ (ap made c.in_ok-arms.ensures.gives

@@ -1,6 +1,6 @@
 use Rattle.std.proofs.Common.{◌≡◌, ◌+◌, drop, length}
 use Rattle.idl_scope.specs.Seen.{seen_files}
-use Rattle.idl_rule_definitions.specs.FirstBroken.{rank_in}
+use Rattle.idl_rule_definitions.specs.Rules.{rank_in}
 use Rattle.idl_rule_definitions.proofs.finder.rank.Given as goal
 
 -- it is none of those before

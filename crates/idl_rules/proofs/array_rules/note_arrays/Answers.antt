@@ -1,8 +1,8 @@
 use Rattle.std.proofs.Common.{◌≡◌, ◌∙◌, ◌++◌, ap, sym}
 use Rattle.idl_scope.specs.Seen.{seen_files}
 use Rattle.idl_rule_definitions.specs.Rules.{broken_in}
-use Rattle.idl_rule_definitions.specs.ValueRules.{has_lower_bounds}
-use Rattle.idl_rule_definitions.specs.ArrayRules.{has_wrong_counts, has_wrong_dimensions, has_wrong_elements, hoists_before_last, is_hoisting_arm, holds_wrong_pipe}
+use Rattle.idl_rule_definitions.specs.DeclarationRules.{has_lower_bounds}
+use Rattle.idl_rule_definitions.specs.TypeRules.{has_wrong_counts, has_wrong_dimensions, has_wrong_elements, hoists_before_last, is_hoisting_arm, holds_wrong_pipe}
 use Rattle.idl_rules.proofs.AskedUses.{asked_is}
 use Rattle.idl_rules.proofs.array_rules.note_arrays.Goals as goal
 use Rattle.idl_rule_definitions.specs.declared.rule.TheConstants as Rule

@@ -1,7 +1,7 @@
 use Rattle.std.proofs.Common.{◌≡◌, ◌∙◌, map, option_map, refl, ap, sym}
 use Rattle.idl_scope.specs.Seen.{seen_files, known_in}
 use Rattle.idl_rule_definitions.specs.Checked.{world_of}
-use Rattle.idl_rule_definitions.specs.CountRules as rules
+use Rattle.idl_rule_definitions.specs.DeclarationRules as rules
 use Rattle.idl_rule_definitions.specs.Found.{seen_breach}
 use Rattle.idl_rule_definitions.specs.Noted.{noted}
 use Rattle.idl_rule_definitions.specs.OtherBreaches.{other_breaches}

@@ -2,8 +2,7 @@ use Rattle.std.proofs.Common.{◌≡◌, ◌∙◌, ◌++◌, ap, sym}
 use Rattle.idl_scope.specs.Seen.{seen_files}
 use Rattle.idl_rule_definitions.specs.Rules.{broken_in}
 use Rattle.idl_rule_definitions.specs.DeclarationRules.{lacks_direction}
-use Rattle.idl_rule_definitions.specs.TypeRules.{is_wrong_result}
-use Rattle.idl_rule_definitions.specs.PointerRules.{has_class_without_pointer, holds_pointer_without_class, holds_pointer_to_reference, is_nullable_out, is_wrong_out}
+use Rattle.idl_rule_definitions.specs.TypeRules.{is_wrong_result, has_class_without_pointer, holds_pointer_without_class, holds_pointer_to_reference, is_nullable_out, is_wrong_out}
 use Rattle.idl_rules.proofs.AskedUses.{asked_is}
 use Rattle.idl_rules.proofs.pointer_rules.note_pointers.Goals as goal
 use Rattle.idl_rule_definitions.specs.declared.rule.TheConstants as Rule

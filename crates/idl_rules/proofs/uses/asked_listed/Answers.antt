@@ -1,6 +1,6 @@
 use Rattle.std.proofs.Common.{◌∙◌, refl, ap, sym}
 use Rattle.idl_constructs.specs.SeenNodes.{seen_declared}
-use Rattle.idl_rule_definitions.specs.ValueRules.{has_lower_bounds}
+use Rattle.idl_rule_definitions.specs.DeclarationRules.{has_lower_bounds}
 use Rattle.idl_rules.proofs.uses.asked_listed.Goals as goal
 
 pub returns : goal.returns

@@ -1,7 +1,7 @@
 use Rattle.std.proofs.Common.{◌≡◌, ◌≢◌, ℕ, suc, ◌+◌, ◌-◌, ◌<◌, ◌≤◌, arith, length, sym, ◌∙◌, ap, Ok, true, false}
 use Rattle.std.proofs.lemmas.Result.{err_from_is_err_and}
 use Rattle.idl_grammar.specs.Text.{symbol_at}
-use Rattle.idl_grammar.specs.Limits.{symbol_level}
+use Rattle.idl_grammar.specs.Expressions.{symbol_level}
 use Rattle.idl_grammar.specs.ReadExpressions.{expr_read}
 use Rattle.idl_grammar.specs.Seen.{seen_expr}
 use Rattle.idl_tokens.proofs.Unfolds.{Behind, level_begins, stops, fails_operation, goes_on}

@@ -1,5 +1,5 @@
 use Rattle.std.proofs.Common.{◌≡◌, drop, map}
-use Rattle.idl_grammar.specs.Lexemes.{symbol_among}
+use Rattle.idl_grammar.specs.Text.{symbol_among}
 use Rattle.idl_tokens.specs.Lexemes.{seen_entry}
 use Rattle.idl_tokens.proofs.lexemes.among.Given as goal
 

@@ -2,7 +2,7 @@ use Rattle.std.proofs.Common.{◌≡◌, ◌≤◌, refl, sym, ap, subst, arith,
 use Rattle.std.proofs.lemmas.List.{map_push, take_all}
 use Rattle.idl_grammar.specs.Text as phrases
 use Rattle.idl_lexer.specs.declared.tokens.Token.{Token}
-use Rattle.idl_grammar.specs.Lexemes.{lexeme_of, lexemes, IsFormed}
+use Rattle.idl_grammar.specs.Text.{lexeme_of, lexemes, IsFormed}
 use Rattle.idl_grammar.proofs.Formed.{lexemes_formed}
 use Rattle.idl_tokens.specs.Lexemes.{text_of, seen_lexeme}
 use Rattle.idl_tokens.proofs.Taken.{one_more}

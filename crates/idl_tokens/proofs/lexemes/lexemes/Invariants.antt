@@ -1,5 +1,5 @@
 use Rattle.std.proofs.Common.{◌≡◌, ◌≤◌, take, map, length}
-use Rattle.idl_grammar.specs.Lexemes.{lexeme_of}
+use Rattle.idl_grammar.specs.Text.{lexeme_of}
 use Rattle.idl_tokens.specs.Lexemes.{text_of}
 use Rattle.idl_tokens.proofs.lexemes.lexemes.Given as goal
 

@@ -1,4 +1,4 @@
-use Rattle.idl_grammar.specs.Lexemes.{symbol_of, words}
+use Rattle.idl_grammar.specs.Text.{symbol_of, words}
 use Rattle.idl_tokens.proofs.lexemes.symbol_of.Goals as goal
 
 pub returns-in-Word : goal.returns-in-Word

@@ -1,6 +1,6 @@
 use Rattle.std.proofs.Common.{◌≡◌, ◌∙◌, sym, true, false, Some, ap}
 use Rattle.idl_grammar.specs.Text.{symbol_at}
-use Rattle.idl_grammar.specs.Limits.{level, many_operators, binary_operators}
+use Rattle.idl_grammar.specs.Expressions.{level, many_operators, binary_operators}
 use Rattle.idl_tokens.specs.Found.{found}
 use Rattle.idl_tokens.proofs.Signs.{binary_sign_is}
 use Rattle.idl_tokens.proofs.operators.binary_sign.Goals as goal

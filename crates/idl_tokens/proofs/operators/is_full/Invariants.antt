@@ -1,5 +1,5 @@
 use Rattle.std.proofs.Common.{◌≡◌, ◌≤◌}
-use Rattle.idl_grammar.specs.Limits.{operators}
+use Rattle.idl_grammar.specs.Expressions.{operators}
 use Rattle.idl_tokens.proofs.operators.is_full.Given as goal
 
 -- the operators so far

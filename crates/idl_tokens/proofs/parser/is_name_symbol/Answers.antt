@@ -1,4 +1,4 @@
-use Rattle.idl_grammar.specs.Limits.{names}
+use Rattle.idl_grammar.specs.Expressions.{names}
 use Rattle.idl_tokens.proofs.parser.is_name_symbol.Goals as goal
 
 pub returns-else-inside : goal.returns-else-inside

@@ -1,5 +1,5 @@
 use Rattle.std.proofs.Common.{◌≡◌, sym, ap, ◌∙◌, OnOk, None, Some}
-use Rattle.idl_scope.specs.Tables.{found, put}
+use Rattle.idl_scope.specs.Known.{found, put}
 use Rattle.idl_declared_types.specs.SeenNames.{and_name}
 use Rattle.idl_declared_types.proofs.NameLists.{and_name-there, and_name-new}
 use Rattle.idl_typing.proofs.NotedTypes.{on_ok_then}

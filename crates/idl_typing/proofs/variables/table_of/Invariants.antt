@@ -1,5 +1,5 @@
 use Rattle.std.proofs.Common.{◌≡◌, ℕ, List, map, take, option_map}
-use Rattle.idl_scope.specs.Tables.{found}
+use Rattle.idl_scope.specs.Known.{found}
 use Rattle.idl_constructs.specs.SeenNodes.{seen_declared}
 use Rattle.idl_rule_definitions.specs.VariableRules.{listed_from}
 use Rattle.idl_typing.proofs.variables.table_of.Given as goal

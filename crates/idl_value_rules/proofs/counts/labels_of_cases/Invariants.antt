@@ -1,6 +1,6 @@
 use Rattle.std.proofs.Common.{◌≡◌, ◌-◌, drop, option_map}
 use Rattle.idl_scope.specs.Seen.{seen_files}
-use Rattle.idl_rule_definitions.specs.World.{World}
+use Rattle.idl_rule_definitions.specs.Nodes.{World}
 use Rattle.idl_rule_definitions.specs.Noted.{noted}
 use Rattle.idl_rule_definitions.specs.Found.{seen_breach}
 use Rattle.idl_constructs.specs.SeenNodes.{seen_construct}

@@ -3,7 +3,7 @@ use Rattle.std.specs.List.{flat_map}
 use Rattle.nd_types.specs.declared.TheConstants.{TYPE_LIMIT, OPERATION_LIMIT, PARAM_LIMIT, MEMBER_LIMIT}
 use Rattle.nd_types.specs.Kinds.{basic_types}
 use Rattle.idl_scope.specs.Seen.{seen_files}
-use Rattle.idl_rule_definitions.specs.CountRules.{first_past}
+use Rattle.idl_rule_definitions.specs.DeclarationRules.{first_past}
 use Rattle.idl_rule_definitions.specs.Rules.{breach}
 use Rattle.idl_rule_definitions.specs.Noted.{noted}
 use Rattle.idl_rule_definitions.specs.Found.{seen_breach}

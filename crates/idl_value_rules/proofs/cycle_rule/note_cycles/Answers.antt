@@ -1,5 +1,5 @@
 use Rattle.std.proofs.Common.{◌∙◌, ℕ, List, length, option_map, sym, ap, subst}
-use Rattle.idl_scope.specs.Ended.{Ended}
+use Rattle.idl_scope.specs.Known.{Ended}
 use Rattle.idl_rule_definitions.specs.Scene.{Scene, bodies}
 use Rattle.idl_declared_types.specs.SeenTypes.{scene_seen}
 use Rattle.idl_rule_definitions.specs.Found.{seen_breach}

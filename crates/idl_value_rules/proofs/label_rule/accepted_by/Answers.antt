@@ -1,6 +1,6 @@
 use Rattle.std.proofs.Common.{◌∙◌, Some, sym, ap}
 use Rattle.idl_declared_types.specs.Kinds.{type_by}
-use Rattle.idl_rule_definitions.specs.ValueRules.{is_value_of}
+use Rattle.idl_rule_definitions.specs.DeclarationRules.{is_value_of}
 use Rattle.idl_declared_types.proofs.LabelTags.{none_of, in_basic, in_other}
 use Rattle.idl_value_rules.proofs.label_rule.accepted_by.Goals as goal
 

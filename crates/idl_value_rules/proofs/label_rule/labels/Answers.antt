@@ -2,7 +2,7 @@ use Rattle.std.proofs.Common.{◌∙◌, [], map, sym, ap, option_map}
 use Rattle.idl_grammar.specs.Seen.{seen_type}
 use Rattle.idl_rule_definitions.specs.Nodes.{labels_of}
 use Rattle.idl_constructs.specs.SeenNodes.{seen_construct}
-use Rattle.idl_rule_definitions.specs.ValueRules.{is_value_of}
+use Rattle.idl_rule_definitions.specs.DeclarationRules.{is_value_of}
 use Rattle.idl_value_rules.specs.AcceptedLabels.{accepts}
 use Rattle.idl_declared_types.specs.LabelValues.{valued, value_breaches}
 use Rattle.idl_rule_definitions.specs.Noted.{noted}

@@ -1,9 +1,7 @@
 use Rattle.std.proofs.Common.{◌≡◌, ◌∙◌, ◌<◌, ◌&&◌, suc, not, refl, ap, ap₂, sym, arith}
 use Rattle.idl_rule_definitions.specs.Types.{IdlType, is_void, is_handle, is_pipe, is_context}
 use Rattle.idl_rule_definitions.specs.Scene.{is_nonencapsulated}
-use Rattle.idl_rule_definitions.specs.ArrayRules.{has_wrong_element, is_wrong_pipe}
-use Rattle.idl_rule_definitions.specs.TypeRules.{is_made_of_elements, is_too_deep}
-use Rattle.idl_rule_definitions.specs.PointerRules.{has_no_class, refers_to_reference}
+use Rattle.idl_rule_definitions.specs.TypeRules.{has_wrong_element, is_wrong_pipe, is_made_of_elements, is_too_deep, has_no_class, refers_to_reference}
 use Rattle.idl_declared_types.specs.Kinds.{seen_types, is_inside}
 use Rattle.idl_value_rules.proofs.MarkSums.{inside_more}
 use Rattle.idl_value_rules.proofs.marks.own_of.Goals as goal

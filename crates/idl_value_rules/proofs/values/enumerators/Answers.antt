@@ -1,6 +1,6 @@
 use Rattle.std.proofs.Common.{◌∙◌, ap, ap₂, sym, refl, arith, option_map}
 use Rattle.idl_scope.specs.Seen.{seen_files}
-use Rattle.idl_rule_definitions.specs.ValueRules.{is_large_enumerator}
+use Rattle.idl_rule_definitions.specs.DeclarationRules.{is_large_enumerator}
 use Rattle.idl_rule_definitions.specs.Nodes.{place_in}
 use Rattle.idl_constructs.specs.SeenNodes.{seen_construct}
 use Rattle.idl_rule_definitions.specs.Noted.{noted, if_broken}

@@ -2,7 +2,7 @@ use Rattle.std.proofs.Common.{◌≡◌, map, option_map}
 use Rattle.std.specs.List.{list_any}
 use Rattle.idl_grammar.specs.Seen.{seen_bound}
 use Rattle.idl_scope.specs.Seen.{known_in}
-use Rattle.idl_rule_definitions.specs.ValueRules.{has_lower_bound}
+use Rattle.idl_rule_definitions.specs.DeclarationRules.{has_lower_bound}
 use Rattle.idl_constructs.proofs.AnyFrom.{any_from}
 use Rattle.idl_value_rules.proofs.values.has_lower_bounds.Given as goal
 

@@ -1,7 +1,7 @@
 use Rattle.std.proofs.Common.{◌∙◌, map, take, ap, ap₂, sym, refl, arith, option_map, ◌&&◌, ◌+◌}
 use Rattle.idl_grammar.specs.Seen.{seen_attribute}
 use Rattle.idl_scope.specs.Seen.{seen_files}
-use Rattle.idl_rule_definitions.specs.AttributeRules.{is_second_class}
+use Rattle.idl_rule_definitions.specs.DeclarationRules.{is_second_class}
 use Rattle.idl_rule_definitions.specs.Rules.{broken_at}
 use Rattle.idl_constructs.specs.SeenNodes.{seen_construct}
 use Rattle.idl_rule_definitions.specs.Noted.{noted, if_broken}

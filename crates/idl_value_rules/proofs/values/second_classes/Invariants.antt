@@ -1,7 +1,6 @@
 use Rattle.std.proofs.Common.{◌≡◌, option_map}
 use Rattle.idl_scope.specs.Seen.{seen_files}
-use Rattle.idl_rule_definitions.specs.World.{World}
-use Rattle.idl_rule_definitions.specs.Nodes.{attribute_nodes}
+use Rattle.idl_rule_definitions.specs.Nodes.{World, attribute_nodes}
 use Rattle.idl_rule_definitions.specs.Types.{Names}
 use Rattle.idl_rule_definitions.specs.Scene.{Scene}
 use Rattle.idl_constructs.specs.SeenNodes.{seen_construct}

@@ -3,7 +3,7 @@ use Rattle.std.proofs.lemmas.Result.{err_from_is_err_and}
 use Rattle.std.proofs.lemmas.List.{length_push}
 use Rattle.std.proofs.lemmas.Option.{slice_get-map}
 use Rattle.std.proofs.lemmas.Iterator.Consumers.{YieldsList-from_first, YieldsList-turn, YieldsList-end}
-use Rattle.nd_types.specs.Walk.{NamedRoot, named_roots, root_value}
+use Rattle.nd_types.specs.Roots.{NamedRoot, named_roots, root_value}
 use Rattle.nd_value.proofs.LocalPass.{given_root}
 use Rattle.nd_value.specs.Seen.{tree_of}
 use Rattle.nd_lemmas.proofs.Lists.{length_map}

@@ -9,7 +9,7 @@ pub loop-at-init : goal.loop-at-init
 loop-at-init c = homes_none c.args.list.now c.args.starts.now.items
 
 pub lay_home-requires : goal.lay_home-requires
-lay_home-requires c = let g = c.args.graph.now in (cell_at g (suc c.loop-at.at), c.cell_walk-walk.ensures)
+lay_home-requires c = let g = c.args.graph.now in (cell_at g (suc c.loop-at.at), c.cell_plain_walk.ensures)
 
 pub loop-at-preserved : goal.loop-at-preserved
 loop-at-preserved c =
@@ -18,4 +18,4 @@ loop-at-preserved c =
     homes_more (map (λ (x : Referent). x.val) (take c.loop-at.at g.cells)) _ (cell_at g (suc c.loop-at.at)) c.args.list.now c.loop-at.list c.lay_home.new.list
     c.args.starts.now.items c.loop-at.starts.items c.lay_home.new.starts.items
     (cell_next g c.loop-at.at l) c.loop-at.invariant c.in_ok-lay_home.ensures.starts
-    (subst (λ (w : Trees). Adds (flat w) c.loop-at.list c.lay_home.new.list) c.cell_walk-walk.ensures c.in_ok-lay_home.ensures.adds)
+    (subst (λ (w : Trees). Adds (flat w) c.loop-at.list c.lay_home.new.list) c.cell_plain_walk.ensures c.in_ok-lay_home.ensures.adds)

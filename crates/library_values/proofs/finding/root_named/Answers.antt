@@ -1,7 +1,7 @@
 use Rattle.std.proofs.Common.{◌≤◌, ◌∙◌, length, refl, arith}
 use Rattle.std.proofs.lemmas.List.{length_push}
 use Rattle.std.proofs.lemmas.Iterator.Consumers.{YieldsList-from_first, YieldsList-turn, YieldsList-end}
-use Rattle.nd_types.specs.Walk.{NamedRoot, named_roots, root_value}
+use Rattle.nd_types.specs.Roots.{NamedRoot, named_roots, root_value}
 use Rattle.nd_value.proofs.FewRoots.{few_named_roots}
 use Rattle.nd_value.proofs.LocalPass.{given_root}
 use Rattle.nd_lemmas.proofs.Lists.{item_at}

@@ -1,7 +1,7 @@
 use Rattle.std.proofs.Common.{◌≡◌, Some, length}
 use Rattle.std.specs.List.{slice_get}
 use Rattle.nd_types.specs.declared.types.Operation.{Operation}
-use Rattle.nd_types.specs.Walk.{NamedRoot, named_roots}
+use Rattle.nd_types.specs.Roots.{NamedRoot, named_roots}
 use Rattle.library_values.proofs.Searching.{NoneBefore}
 use Rattle.library_values.proofs.finding.root_named.Given as goal
 

@@ -2,7 +2,7 @@ use Rattle.std.proofs.Common.{◌≡◌, Some, ap, subst, sym, option_map}
 use Rattle.std.specs.List.{slice_get}
 use Rattle.nd_types.specs.declared.interface.Interface.{Interface}
 use Rattle.nd_value.specs.Fitting.{setting_beside}
-use Rattle.nd_grammar.specs.Bad.{Bad}
+use Rattle.nd_grammar.specs.Refusal.{Bad}
 use Rattle.library_values.proofs.Decodes.{fault_is}
 use Rattle.library_values.specs.Logged.{IsLoggedOf}
 use Rattle.library_values.proofs.Logs.{logged_is}

@@ -5,7 +5,7 @@ use Rattle.nd_types.specs.declared.interface.Interface.{Interface}
 use Rattle.nd_value.specs.Fitting.{Fitting, setting_beside}
 use Rattle.nd_value.specs.Request.{IsRequestOf}
 use Rattle.text_grammar.specs.Reads.{ReadsAs}
-use Rattle.command_encode.specs.Fitted.{IsTextCause}
+use Rattle.command_encode.specs.Encoded.{IsTextCause}
 use Rattle.command_refusals.specs.declared.refusal.Refusal.TheVariants as refusal
 use Rattle.library_values.specs.Decoded.{IsOf}
 use Rattle.library_interface.proofs.Results.{same_ok, same_err}

@@ -5,7 +5,7 @@ use Rattle.nd_types.specs.declared.interface.Interface.{Interface}
 use Rattle.nd_types.specs.declared.types.Side.TheVariants.{Out}
 use Rattle.nd_value.specs.Fitting.{setting_beside}
 use Rattle.text_grammar.specs.Reads.{ReadsAs}
-use Rattle.command_encode.specs.Fitted.{IsTextCause}
+use Rattle.command_encode.specs.Encoded.{IsTextCause}
 use Rattle.library_values.specs.Decoded.{IsOf}
 use Rattle.library_values.proofs.Requests.{request_is}
 use Rattle.library_values.proofs.reading.read_given.Goals as goal

@@ -3,7 +3,7 @@ use Rattle.std.specs.List.{slice_get}
 use Rattle.nd_types.specs.declared.interface.Interface.{Interface}
 use Rattle.nd_types.specs.declared.types.Operation.{Operation}
 use Rattle.nd_value.specs.Fitting.{setting_beside}
-use Rattle.text_grammar.specs.Printed.{IsText}
+use Rattle.text_grammar.specs.Written.{IsText}
 use Rattle.library_values.proofs.values.print_fit.Goals as goal
 
 pub returns : goal.returns

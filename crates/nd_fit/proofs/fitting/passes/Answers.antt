@@ -2,9 +2,8 @@ use Rattle.std.proofs.Common.{◌≡◌, ◌∙◌, ◌<◌, ◌^◌, length, sy
 use Rattle.std.proofs.lemmas.Result.{err_from_is_err_and}
 use Rattle.nd_types.specs.declared.types.Operation.{Operation}
 use Rattle.nd_value.specs.declared.value.Graph.{Graph}
-use Rattle.nd_value.specs.Conforms.{HasFewNodes}
+use Rattle.nd_value.specs.Conforms.{HasFewNodes, first_local}
 use Rattle.nd_value.specs.Fitting.{setting_beside}
-use Rattle.nd_value.specs.FirstMisfit.{first_local}
 use Rattle.nd_value.specs.Passes.{AreReached}
 use Rattle.nd_lemmas.proofs.Lists.{item_at}
 use Rattle.nd_value.proofs.Misfits.{passed_conforms}

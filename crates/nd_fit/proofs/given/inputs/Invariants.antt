@@ -1,7 +1,7 @@
 use Rattle.std.proofs.Common.{◌≡◌, ◌++◌, Some, length, drop, slice_get}
 use Rattle.nd_types.specs.declared.types.Operation.{Operation}
 use Rattle.nd_types.specs.declared.types.Side.TheVariants as side
-use Rattle.nd_types.specs.Walk.{named_roots}
+use Rattle.nd_types.specs.Roots.{named_roots}
 use Rattle.nd_misfits.specs.Numbers.{numbers_of}
 use Rattle.nd_fit.proofs.given.inputs.Given as goal
 

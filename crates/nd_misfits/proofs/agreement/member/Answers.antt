@@ -2,7 +2,7 @@ use Rattle.std.proofs.Common.{◌≡◌, ◌+◌, drop, None, Some, ap, sym, ◌
 use Rattle.nd_value.specs.Tree.{trees}
 use Rattle.nd_value.specs.Seen.{tree_of}
 use Rattle.nd_value.specs.Agreement.{agreement, number_in, member_agreements}
-use Rattle.nd_value.specs.FirstMisfit.{disagreement_of}
+use Rattle.nd_value.specs.Conforms.{disagreement_of}
 use Rattle.nd_misfits.specs.Disagreeing.{subject_in}
 use Rattle.nd_misfits.proofs.Attributes.{member_next, stated_holds, stated_fails}
 use Rattle.nd_misfits.proofs.agreement.member.Goals as goal

@@ -2,7 +2,7 @@ use Rattle.std.proofs.Common.{◌≡◌, drop}
 use Rattle.nd_value.specs.Tree.{trees}
 use Rattle.nd_value.specs.Seen.{tree_of}
 use Rattle.nd_value.specs.Agreement.{member_agreements}
-use Rattle.nd_value.specs.FirstMisfit.{disagreement_of}
+use Rattle.nd_value.specs.Conforms.{disagreement_of}
 use Rattle.nd_misfits.specs.Disagreeing.{subject_in}
 use Rattle.nd_misfits.proofs.agreement.member.Given as goal
 

@@ -1,7 +1,7 @@
 use Rattle.std.proofs.Common.{◌≡◌, ◌+◌, drop, None, Some, ap, sym, ◌∙◌}
 use Rattle.nd_value.specs.Seen.{tree_of}
 use Rattle.nd_value.specs.Agreement.{agreement}
-use Rattle.nd_value.specs.FirstMisfit.{disagreement_of}
+use Rattle.nd_value.specs.Conforms.{disagreement_of}
 use Rattle.nd_misfits.specs.Disagreeing.{subject_in}
 use Rattle.nd_misfits.specs.Numbers.{agreements_by, value_in}
 use Rattle.nd_misfits.proofs.Attributes.{param_next, stated_holds, stated_fails}

@@ -1,6 +1,6 @@
 use Rattle.std.proofs.Common.{◌≡◌, drop}
 use Rattle.nd_value.specs.Seen.{tree_of}
-use Rattle.nd_value.specs.FirstMisfit.{disagreement_of}
+use Rattle.nd_value.specs.Conforms.{disagreement_of}
 use Rattle.nd_misfits.specs.Disagreeing.{subject_in}
 use Rattle.nd_misfits.specs.Numbers.{agreements_by}
 use Rattle.nd_misfits.proofs.agreement.parameter.Given as goal

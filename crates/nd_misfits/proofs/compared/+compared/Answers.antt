@@ -5,7 +5,7 @@ use Rattle.nd_types.specs.declared.types.Field.{Field}
 use Rattle.nd_value.specs.Tree.{trees, count}
 use Rattle.nd_value.specs.Seen.{tree_of}
 use Rattle.nd_value.specs.Agreement.{member_agreements}
-use Rattle.nd_value.specs.FirstMisfit.{disagreement_of}
+use Rattle.nd_value.specs.Conforms.{disagreement_of}
 use Rattle.nd_lemmas.proofs.Lists.{past_end}
 use Rattle.nd_misfits.specs.Disagreeing.{subject_in}
 use Rattle.nd_misfits.proofs.NodeTests.{count_trees}

@@ -1,6 +1,6 @@
 use Rattle.std.proofs.Common.{◌∙◌, refl, ap, map}
 use Rattle.std.proofs.lemmas.Result.{err_from_is_err_and, IfErr-weaker, on_ok_weaker}
-use Rattle.nd_value.specs.FirstMisfit.{or_later}
+use Rattle.nd_value.specs.Conforms.{or_later}
 use Rattle.nd_value.proofs.LocalPass.{tells_first}
 use Rattle.nd_misfits.specs.HomeList.{home_tree, cell_homes}
 use Rattle.nd_misfits.specs.Disagreeing.{disagreeing_homes}

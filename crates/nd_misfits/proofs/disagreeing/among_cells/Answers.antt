@@ -1,7 +1,7 @@
 use Rattle.std.proofs.Common.{◌+◌, ◌∙◌, length, drop, refl, ap, subst, sym, arith}
 use Rattle.std.proofs.lemmas.Result.{err_from_is_err_and}
 use Rattle.nd_value.specs.Seen.{cell_of}
-use Rattle.nd_value.specs.FirstMisfit.{or_later}
+use Rattle.nd_value.specs.Conforms.{or_later}
 use Rattle.nd_value.proofs.LocalPass.{tells_first}
 use Rattle.nd_misfits.specs.HomeList.{cell_homes}
 use Rattle.nd_misfits.specs.Pointers.{IsWalkable}

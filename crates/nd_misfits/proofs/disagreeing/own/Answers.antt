@@ -1,7 +1,7 @@
 use Rattle.std.proofs.Common.{ap, sym, ◌∙◌}
 use Rattle.nd_value.specs.Seen.{tree_of}
-use Rattle.nd_value.specs.FirstMisfit.{disagreement_of}
-use Rattle.nd_value.specs.Variables.{root_agreements}
+use Rattle.nd_value.specs.Conforms.{disagreement_of}
+use Rattle.nd_value.specs.Agreement.{root_agreements}
 use Rattle.nd_misfits.specs.Disagreeing.{subject_in, home_vars}
 use Rattle.nd_misfits.proofs.AgreementWalk.{none_stated}
 use Rattle.nd_misfits.proofs.Numbered.{agreements_are}

@@ -1,7 +1,7 @@
 use Rattle.std.proofs.Common.{◌+◌, ◌≤◌, ◌++◌, ◌∙◌, length, drop, map, refl, ap, sym, arith}
 use Rattle.std.proofs.lemmas.List.{length_push, append-nil}
 use Rattle.std.proofs.lemmas.Iterator.Consumers.{YieldsList-from_first, YieldsList-turn, YieldsList-end}
-use Rattle.nd_types.specs.Walk.{named_roots, root_value}
+use Rattle.nd_types.specs.Roots.{named_roots, root_value}
 use Rattle.nd_value.specs.Seen.{tree_of}
 use Rattle.nd_misfits.specs.HomeList.{home_tree, root_homes}
 use Rattle.nd_value.proofs.FewRoots.{few_named_roots}

@@ -1,6 +1,6 @@
 use Rattle.std.proofs.Common.{◌≡◌, ◌++◌, Some, length, drop, map, slice_get}
 use Rattle.nd_types.specs.declared.types.Operation.{Operation}
-use Rattle.nd_types.specs.Walk.{named_roots}
+use Rattle.nd_types.specs.Roots.{named_roots}
 use Rattle.nd_misfits.specs.HomeList.{home_tree, root_homes}
 use Rattle.nd_misfits.proofs.homes.roots.Given as goal
 

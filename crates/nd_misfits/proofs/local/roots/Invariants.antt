@@ -1,6 +1,6 @@
 use Rattle.std.proofs.Common.{◌≡◌, Some, length, drop, slice_get}
 use Rattle.nd_types.specs.declared.types.Operation.{Operation}
-use Rattle.nd_types.specs.Walk.{named_roots}
+use Rattle.nd_types.specs.Roots.{named_roots}
 use Rattle.nd_value.specs.Tree.{trees}
 use Rattle.nd_value.specs.Passes.{first_in_roots}
 use Rattle.nd_misfits.specs.Searched.{have_machine_values}

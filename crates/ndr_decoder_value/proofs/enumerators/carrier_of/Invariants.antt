@@ -1,5 +1,5 @@
 use Rattle.std.proofs.Common.{◌≡◌, drop}
-use Rattle.ndr_code.specs.Lines.{enumerators}
+use Rattle.ndr_code.specs.Code.{enumerators}
 use Rattle.ndr_decoder_value.proofs.enumerators.carrier_of.Given as goal
 
 abbrev pub invariant-loop-at : goal.invariant-loop-at

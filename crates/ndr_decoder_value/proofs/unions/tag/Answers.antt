@@ -5,7 +5,7 @@ use Rattle.std.proofs.lemmas.Int.{to_z-of_z}
 use Rattle.nd_types.specs.declared.types.Primitive.{Primitive}
 use Rattle.nd_types.specs.Number.{value_of_octets}
 use Rattle.nd_grammar.specs.Refusal.{is_enumerator}
-use Rattle.ndr_code.specs.Lines.{enumerators}
+use Rattle.ndr_code.specs.Code.{enumerators}
 use Rattle.ndr_decoder_laws.specs.steps.Steps.{goes, next, with_tag, form_by}
 use Rattle.ndr_decoder_state.specs.Seen.{state_of}
 use Rattle.ndr_decoder_value.proofs.Tagged.{tag_known, form_values}

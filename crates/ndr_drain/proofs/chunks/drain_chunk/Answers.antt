@@ -2,10 +2,10 @@ use Rattle.std.proofs.Common.{ap, subst}
 use Rattle.nd_base.specs.Over.{source_seen}
 use Rattle.nd_lemmas.proofs.Lists.{item_at}
 use Rattle.nd_grammar.specs.decoded.Verdict.{decoding_seen}
-use Rattle.ndr_pipe.specs.Seen.{ends_seen}
+use Rattle.ndr_pipe.specs.Ends.{ends_seen}
 use Rattle.ndr_drain_reader.specs.Calls.{IsAnswered}
 use Rattle.ndr_drain_reader.specs.Seen.{intake_seen, setting_in}
-use Rattle.ndr_drain.specs.Lines.{lines}
+use Rattle.ndr_drain.specs.Drained.{lines}
 use Rattle.ndr_drain.specs.Turns.{AreCut}
 use Rattle.ndr_drain.proofs.Steps.{sound_for, given, finished, cut_lines, end_failed, finish_failed}
 use Rattle.ndr_drain.proofs.chunks.drain_chunk.Goals as goal

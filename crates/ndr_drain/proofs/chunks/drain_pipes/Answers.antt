@@ -7,10 +7,9 @@ use Rattle.nd_value.proofs.FewRoots.{few_before_pipes}
 use Rattle.nd_lemmas.proofs.Lists.{item_at}
 use Rattle.nd_grammar.specs.decoded.Verdict.{decoding_seen}
 use Rattle.ndr_drain_laws.specs.parts.Parts.{elem_at}
-use Rattle.ndr_pipe.specs.Ends.{ends_over}
-use Rattle.ndr_pipe.specs.Seen.{ends_seen}
+use Rattle.ndr_pipe.specs.Ends.{ends_over, ends_seen}
 use Rattle.ndr_drain_reader.specs.Seen.{intake_seen, setting_in}
-use Rattle.ndr_drain.specs.Given.{end_of_root}
+use Rattle.ndr_drain.specs.Drained.{end_of_root}
 use Rattle.ndr_drain.specs.Turns.{HasPassed, IsStepCause}
 use Rattle.ndr_drain.proofs.Begun.{of_first, of_moved}
 use Rattle.ndr_drain.proofs.ElementTypes.{as_many, element_at}

@@ -6,8 +6,7 @@ use Rattle.nd_types.specs.declared.types.TypeId.{TypeId}
 use Rattle.nd_value.specs.Fitting.{setting_beside}
 use Rattle.nd_value.specs.Setting.{Setting}
 use Rattle.nd_grammar.specs.decoded.Verdict.{decoding_seen}
-use Rattle.ndr_pipe.specs.Ends.{ends_over}
-use Rattle.ndr_pipe.specs.Seen.{ends_seen}
+use Rattle.ndr_pipe.specs.Ends.{ends_over, ends_seen}
 use Rattle.ndr_drain_reader.specs.Seen.{intake_seen}
 use Rattle.ndr_drain.specs.Drained.{IsDrained, IsDrainCause}
 use Rattle.ndr_drain.specs.Turns.{AreElements, IsReadToEnd, OfSetting, StopsUnderWay}

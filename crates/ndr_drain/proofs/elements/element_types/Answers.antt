@@ -1,4 +1,4 @@
-use Rattle.nd_types.specs.Walk.{root_value}
+use Rattle.nd_types.specs.Roots.{root_value}
 use Rattle.ndr_drain.proofs.ElementTypes.{after_pipe, after_value}
 use Rattle.ndr_drain.proofs.elements.element_types.Goals as goal
 

@@ -1,6 +1,6 @@
 use Rattle.std.proofs.Common.{◌≡◌, map}
-use Rattle.nd_types.specs.Walk.{root_value}
-use Rattle.ndr_drain.specs.Given.{pipe_elements}
+use Rattle.nd_types.specs.Roots.{root_value}
+use Rattle.ndr_drain.specs.Drained.{pipe_elements}
 use Rattle.ndr_drain.proofs.elements.element_types.Given as goal
 
 -- the pipes among the roots that were seen have given their types

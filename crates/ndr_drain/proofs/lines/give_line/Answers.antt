@@ -1,6 +1,6 @@
 use Rattle.nd_value.specs.Seen.{tree_of}
-use Rattle.ndr_pipe.specs.Seen.{ends_seen}
-use Rattle.ndr_drain.specs.Lines.{line_of}
+use Rattle.ndr_pipe.specs.Ends.{ends_seen}
+use Rattle.ndr_drain.specs.Drained.{line_of}
 use Rattle.ndr_drain.proofs.Giving.{nothing_given}
 use Rattle.ndr_drain.proofs.lines.give_line.Goals as goal
 

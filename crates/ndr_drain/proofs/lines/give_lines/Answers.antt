@@ -1,7 +1,7 @@
 use Rattle.std.proofs.Common.{arith}
 use Rattle.nd_value.specs.Seen.{tree_of}
-use Rattle.ndr_pipe.specs.Seen.{ends_seen}
-use Rattle.ndr_drain.specs.Lines.{lines}
+use Rattle.ndr_pipe.specs.Ends.{ends_seen}
+use Rattle.ndr_drain.specs.Drained.{lines}
 use Rattle.ndr_drain.proofs.Giving.{at_start, line_given, line_cut, no_line_due, failed_at_end, handed_on, is_there}
 use Rattle.ndr_drain.proofs.lines.give_lines.Goals as goal
 

@@ -1,6 +1,6 @@
 use Rattle.std.proofs.Common.{drop}
-use Rattle.ndr_pipe.specs.Seen.{ends_seen}
-use Rattle.ndr_drain.specs.Lines.{lines}
+use Rattle.ndr_pipe.specs.Ends.{ends_seen}
+use Rattle.ndr_drain.specs.Drained.{lines}
 use Rattle.ndr_drain.specs.Turns.{IsPartWay}
 use Rattle.ndr_drain.proofs.lines.give_lines.Given as goal
 

@@ -1,7 +1,7 @@
 use Rattle.std.proofs.Common.{◌≡◌, ◌<◌, ◌^◌, true, false, length, ap, sym, ◌∙◌, arith}
 use Rattle.std.specs.List.{slice_get}
 use Rattle.nd_value.specs.Tree.{Tree, none, more, flat, node_count}
-use Rattle.nd_grammar.specs.InPlace.{hoisted_max}
+use Rattle.nd_grammar.specs.Entry.{hoisted_max}
 use Rattle.ndr_encoder_laws.specs.maximum.LastPart.{last_max}
 use Rattle.ndr_encoder_laws.specs.chosen.Written.{value_at}
 use Rattle.ndr_encoder_value.specs.Turns.{is_hoist}

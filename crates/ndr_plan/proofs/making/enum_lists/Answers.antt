@@ -1,6 +1,6 @@
 use Rattle.std.proofs.Common.{◌∙◌, ◌+◌, ◌++◌, ap, sym, drop, arith}
 use Rattle.std.specs.List.{flat_map, enumerate_from}
-use Rattle.ndr_code.specs.Lines.{enum_list}
+use Rattle.ndr_code.specs.Code.{enum_list}
 use Rattle.idl_listing.proofs.ListedLines.{counted_more, counted_end}
 use Rattle.ndr_plan.proofs.making.enum_lists.Goals as goal
 

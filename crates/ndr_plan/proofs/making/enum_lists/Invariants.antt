@@ -1,6 +1,6 @@
 use Rattle.std.proofs.Common.{◌≡◌, ◌++◌, drop}
 use Rattle.std.specs.List.{flat_map, enumerate_from}
-use Rattle.ndr_code.specs.Lines.{enum_list, values_of}
+use Rattle.ndr_code.specs.Code.{enum_list, values_of}
 use Rattle.ndr_plan.proofs.making.enum_lists.Given as goal
 
 -- what is listed, with what is left

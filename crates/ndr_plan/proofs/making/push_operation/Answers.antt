@@ -1,7 +1,6 @@
 use Rattle.std.proofs.Common.{◌∙◌, ap, ap₂, [], ◌∷◌, ◌++◌, length, append_assoc}
 use Rattle.nd_types.specs.declared.types.Side.TheVariants as side
-use Rattle.ndr_code.specs.Code.{side_code}
-use Rattle.ndr_code.specs.Lines.{side_lines}
+use Rattle.ndr_code.specs.Code.{side_code, side_lines}
 use Rattle.ndr_plan.proofs.SidesAdded.{response_at}
 use Rattle.ndr_plan.proofs.making.push_operation.Goals as goal
 

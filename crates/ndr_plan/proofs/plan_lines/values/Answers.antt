@@ -3,7 +3,7 @@ use Rattle.std.proofs.lemmas.Int.{to_z-of_z}
 use mir.Val.{SFits}
 use mir.Syntax.{w128}
 use Rattle.std.specs.Fmt.{signed_decimal}
-use Rattle.idl_listing.specs.Lines.{behind}
+use Rattle.idl_listing.specs.Listing.{behind}
 use Rattle.idl_listing.proofs.ListedLines.{word_more, word_end}
 use Rattle.ndr_plan.proofs.plan_lines.values.Goals as goal
 

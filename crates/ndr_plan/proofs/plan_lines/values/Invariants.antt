@@ -1,6 +1,6 @@
 use Rattle.std.proofs.Common.{◌≡◌, ◌++◌, drop, map}
 use Rattle.std.specs.Fmt.{signed_decimal}
-use Rattle.idl_listing.specs.Lines.{behind}
+use Rattle.idl_listing.specs.Listing.{behind}
 use Rattle.ndr_plan.proofs.plan_lines.values.Given as goal
 
 -- what is written, with what is left

@@ -2,7 +2,7 @@ use Rattle.std.proofs.Common.{◌∙◌, ◌≡◌, ℕ, ◌+◌, ap, ap₂, sym
 use Rattle.std.proofs.lemmas.List.{map-append}
 use Rattle.std.proofs.lemmas.Option.{slice_get_within}
 use Rattle.std.proofs.lemmas.Iterator.Consumers.{YieldsList-from_first, YieldsList-end}
-use Rattle.nd_types.specs.Walk.{root_value, named_roots}
+use Rattle.nd_types.specs.Roots.{root_value, named_roots}
 use Rattle.ndr_plan.specs.Numbers.{numbered, all_numbered, number_in}
 use Rattle.ndr_plan.proofs.Walked.{numbers_more, one_longer}
 use Rattle.ndr_plan.proofs.Numbering.{are_numbers}

@@ -1,5 +1,5 @@
 use Rattle.std.proofs.Common.{◌≡◌, length, map, Option, None, ℕ, replicate}
-use Rattle.nd_types.specs.Walk.{root_value}
+use Rattle.nd_types.specs.Roots.{root_value}
 use Rattle.ndr_plan.specs.Numbers.{all_numbered}
 use Rattle.ndr_plan.proofs.root_numbers.root_numbers.Given as goal
 

@@ -1,8 +1,7 @@
 use Rattle.std.proofs.Common.{◌∙◌, ap, ap₂, [], ◌∷◌, ◌++◌, append_assoc}
 use mathlib.Core.Path.{fun_ext}
 use Rattle.nd_types.specs.declared.types.Side.TheVariants as side
-use Rattle.nd_types.specs.Roots.{roots_of, root_index}
-use Rattle.nd_types.specs.Walk.{named_roots}
+use Rattle.nd_types.specs.Roots.{roots_of, root_index, named_roots}
 use Rattle.ndr_code.specs.declared.instr.Instr.TheVariants as op
 use Rattle.ndr_code.specs.Code.{root_checks}
 use Rattle.ndr_plan.specs.Numbers.{number_in}

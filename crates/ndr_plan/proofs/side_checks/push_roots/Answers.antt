@@ -3,7 +3,7 @@ use Rattle.std.specs.List.{flat_map}
 use Rattle.std.proofs.lemmas.List.{map-append}
 use Rattle.std.proofs.lemmas.Option.{slice_get_within}
 use Rattle.std.proofs.lemmas.Iterator.Consumers.{YieldsList-from_first, YieldsList-end}
-use Rattle.nd_types.specs.Walk.{root_value, named_roots}
+use Rattle.nd_types.specs.Roots.{root_value, named_roots}
 use Rattle.ndr_plan.specs.Numbers.{number_in}
 use Rattle.ndr_plan.specs.Checks.{check_by, checks_by, vars_at}
 use Rattle.ndr_plan.proofs.Walked.{checks_more, one_longer}

@@ -1,5 +1,5 @@
 use Rattle.std.proofs.Common.{◌≡◌, ◌++◌, length, map}
-use Rattle.nd_types.specs.Walk.{root_value}
+use Rattle.nd_types.specs.Roots.{root_value}
 use Rattle.ndr_plan.specs.Numbers.{number_in}
 use Rattle.ndr_plan.specs.Checks.{check_by, checks_by}
 use Rattle.ndr_plan.proofs.side_checks.push_roots.Given as goal

@@ -2,7 +2,7 @@ use Rattle.std.proofs.Common.{◌≡◌, ◌≤◌, ◌∙◌, length, refl, ari
 use Rattle.std.proofs.lemmas.List.{length_push}
 use Rattle.std.proofs.lemmas.Iterator.Consumers.{YieldsList-end, YieldsList-from_first, YieldsList-turn}
 use Rattle.nd_lemmas.proofs.Lists.{item_at}
-use Rattle.nd_types.specs.Walk.{named_roots, root_value}
+use Rattle.nd_types.specs.Roots.{named_roots, root_value}
 use Rattle.nd_value.proofs.FewRoots.{few_named_roots}
 use Rattle.nd_value.proofs.LocalPass.{given_root}
 use Rattle.ndr_trace_value.specs.declared.progress.Halt.TheVariants as halts

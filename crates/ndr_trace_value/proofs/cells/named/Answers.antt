@@ -1,5 +1,5 @@
 use Rattle.std.proofs.Common.{◌++◌, subst}
-use Rattle.nd_grammar.specs.Represents.{IsNumber}
+use Rattle.nd_grammar.specs.Stream.{IsNumber}
 use Rattle.ndr_trace_value.specs.Naming.{IsFine, IsNaming, names_of}
 use Rattle.ndr_trace_value.proofs.cells.named.Goals as goal
 

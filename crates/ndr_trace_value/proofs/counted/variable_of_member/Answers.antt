@@ -1,7 +1,7 @@
 use Rattle.std.proofs.Common.{List, ℕ, ◌∙◌, reverse, sym, ap}
 use Rattle.ndr_explain.specs.Cursors.{name_text, path_to}
 use Rattle.ndr_trace_value.specs.Places.{field_variable, stated_beside}
-use Rattle.ndr_trace_value.specs.Variable.{numbered_path}
+use Rattle.ndr_trace_value.specs.Traces.{numbered_path}
 use Rattle.ndr_trace_value.proofs.counted.variable_of_member.Goals as goal
 
 pub returns-in_default : goal.returns-in_default

@@ -4,8 +4,7 @@ use Rattle.std.proofs.KnownBytes.{Consumes-nil}
 use Rattle.nd_base.specs.Over.{source_seen}
 use Rattle.nd_base.specs.declared.TheConstants.{STREAM_LIMIT}
 use Rattle.rpc_pdu.specs.Checks.{before}
-use Rattle.rpc_pdu.specs.Fragments.{AreEarlier, none_earlier}
-use Rattle.rpc_pdu.specs.Joined.{IsJoinCause}
+use Rattle.rpc_pdu.specs.Fragments.{AreEarlier, none_earlier, IsJoinCause}
 use Rattle.rpc_pdu.proofs.Fetched.{by_residual}
 use Rattle.rpc_pdu.proofs.Numbers.{joined_number}
 use Rattle.rpc_pdu.proofs.JoinedLaws.{Grown, one_more_taken, grown_by, all_taken, cause_of}

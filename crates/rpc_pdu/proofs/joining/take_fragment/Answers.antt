@@ -1,7 +1,7 @@
 use Rattle.std.proofs.Common.{◌≡◌, ◌∙◌, ◌+◌, ◌-◌, ◌++◌, List, ℕ, Some, None, ap, sym, subst, arith, length}
 use Rattle.nd_base.specs.Over.{source_seen}
 use Rattle.rpc_pdu.specs.Checks.{before, first_failing}
-use Rattle.rpc_pdu.specs.Joined.{IsBadBy, rest_checks, IsFragmentCause, IsWholeFragment}
+use Rattle.rpc_pdu.specs.Fragments.{IsBadBy, rest_checks, IsFragmentCause, IsWholeFragment}
 use Rattle.rpc_pdu.proofs.Fetched.{by_residual, seen_at, held, no_head, bad_head, no_rest, bad_whole, no_part, whole_came}
 use Rattle.rpc_pdu.proofs.joining.take_fragment.Goals as goal
 

@@ -1,6 +1,5 @@
 use Rattle.std.proofs.Common.{◌≡◌, ◌∙◌, ◌+◌, ◌-◌, ◌<◌, ◌≤◌, ◌^◌, ◌++◌, true, false, List, ℕ, length, take, drop, sym, subst, arith}
-use Rattle.rpc_pdu.specs.Fragments.{Fragments}
-use Rattle.rpc_pdu.specs.Pieces.{Pieces, want_of, opnum_of, fragment}
+use Rattle.rpc_pdu.specs.Fragments.{Fragments, Pieces, want_of, opnum_of, fragment}
 use Rattle.rpc_pdu.proofs.PieceLaws.{Left, turn_by, over, pieces_have}
 use Rattle.rpc_pdu.proofs.splitting.split.Goals as goal
 

@@ -1,7 +1,7 @@
 use Rattle.std.proofs.Common.{◌≡◌, Some, length, take}
 use Rattle.std.specs.List.{slice_get}
 use Rattle.nd_types.specs.declared.types.Operation.{Operation}
-use Rattle.nd_types.specs.Walk.{named_roots}
+use Rattle.nd_types.specs.Roots.{named_roots}
 use Rattle.text_parser.specs.Lines.{AreRoots}
 use Rattle.text_parser.proofs.texts.roots.Given as goal
 

@@ -1,5 +1,5 @@
 use Rattle.std.proofs.Common.{◌≡◌, ◌++◌, take}
-use Rattle.text_grammar.specs.Printed.{hex_text}
+use Rattle.text_grammar.specs.Written.{hex_text}
 use Rattle.text_printer.proofs.digits.append_few.Given as goal
 
 abbrev pub invariant-loop-octet : goal.invariant-loop-octet

@@ -1,6 +1,6 @@
 use Rattle.std.proofs.Common.{◌≡◌, ◌+◌, ◌-◌, ◌*◌, ◌/◌, ◌++◌, length, take, drop, ap, ◌∙◌, arith}
 use Rattle.std.proofs.lemmas.Result.{on_ok_weaker}
-use Rattle.text_grammar.specs.Printed.{hex_text}
+use Rattle.text_grammar.specs.Written.{hex_text}
 use Rattle.text_printer.proofs.Characters.{eight_more, eights_over}
 use Rattle.text_printer.proofs.digits.append_hexes.Goals as goal
 

@@ -1,6 +1,6 @@
 use Rattle.std.proofs.Common.{rules, ◌≡◌, ◌++◌, ◌∷◌, ℕ, List, length, ap, ◌∙◌, take, drop}
 use Rattle.std.proofs.lemmas.Result.{on_ok_weaker}
-use Rattle.text_grammar.specs.Printed.{hex_text, uuid_text}
+use Rattle.text_grammar.specs.Written.{hex_text, uuid_text}
 use Rattle.text_printer.proofs.Identifiers.{five, grouped}
 use Rattle.text_printer.proofs.digits.append_uuid.Goals as goal
 

@@ -1,6 +1,6 @@
 use Rattle.std.proofs.Common.{codes, decimal}
 use Rattle.std.proofs.lemmas.Result.{on_ok_weaker}
-use Rattle.text_grammar.specs.Printed.{uuid_text}
+use Rattle.text_grammar.specs.Written.{uuid_text}
 use Rattle.text_printer.proofs.Identifiers.{five}
 use Rattle.text_printer.proofs.forms.append_context.Goals as goal
 

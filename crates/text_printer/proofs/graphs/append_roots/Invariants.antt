@@ -1,7 +1,7 @@
 use Rattle.std.proofs.Common.{◌≡◌, Some, drop, length}
 use Rattle.std.specs.List.{slice_get}
 use Rattle.nd_types.specs.declared.types.Operation.{Operation}
-use Rattle.nd_types.specs.Walk.{named_roots}
+use Rattle.nd_types.specs.Roots.{named_roots}
 use Rattle.text_printer.specs.Texts.{roots_text}
 use Rattle.text_printer.specs.Walks.{RootsBegin}
 use Rattle.text_printer.proofs.Listing.{Comes}

@@ -1,7 +1,7 @@
 use Rattle.std.proofs.Common.{◌++◌, ap, ◌∙◌}
 use Rattle.nd_value.specs.Seen.{tree_of}
 use Rattle.text_grammar.specs.declared.version.Version.TheVariants as version
-use Rattle.text_grammar.specs.Printed.{value_text}
+use Rattle.text_grammar.specs.Written.{value_text}
 use Rattle.text_printer.proofs.graphs.print_value.Goals as goal
 
 pub returns : goal.returns

@@ -1,7 +1,7 @@
 use Rattle.std.proofs.Common.{◌≡◌, ◌++◌, List, ℕ, Option, Some, codes, ap, sym, ◌∙◌, option_map, subst}
 use Rattle.std.specs.List.{slice_get}
 use Rattle.std.proofs.lemmas.Result.{IfOk-weaker}
-use Rattle.nd_types.specs.Walk.{named_roots, root_value}
+use Rattle.nd_types.specs.Roots.{named_roots, root_value}
 use Rattle.nd_value.specs.Fitting.{setting_of}
 use Rattle.nd_value.specs.Seen.{tree_of}
 use Rattle.nd_value.specs.Setting.{or_unread}

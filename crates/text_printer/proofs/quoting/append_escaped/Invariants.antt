@@ -1,5 +1,5 @@
 use Rattle.std.proofs.Common.{◌≡◌, ◌≤◌, ◌++◌, take, slice_range, flat_map}
-use Rattle.text_grammar.specs.Printed.{escaped}
+use Rattle.text_grammar.specs.Written.{escaped}
 use Rattle.text_printer.proofs.quoting.append_escaped.Given as goal
 
 abbrev pub invariant-loop-at : goal.invariant-loop-at

@@ -1,6 +1,6 @@
 use Rattle.std.proofs.Common.{◌∙◌, sym, ap, map, option_map}
 use Rattle.idl_grammar.specs.Seen.{seen_parameter, seen_export}
-use Rattle.idl_check.specs.SeenAcf.{parameters_in}
+use Rattle.idl_check.specs.AcfRules.{parameters_in}
 use Rattle.idl_check.proofs.AcfOperations.{parameters_at, parameters_are}
 use Rattle.idl_check.proofs.acf_names.NamedOperations.parameters.Goals as goal
 

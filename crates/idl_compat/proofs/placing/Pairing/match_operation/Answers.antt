@@ -1,6 +1,6 @@
 use Rattle.std.proofs.Common.{rules, ◌≡◌, Some, None, true, false, length, List, sym, subst}
 use Rattle.std.specs.Prelude.{slice_get}
-use Rattle.idl_compat.specs.Alike.{IsPair, AlikeFound}
+use Rattle.idl_compat.specs.Comparison.{IsPair, AlikeFound}
 use Rattle.idl_compat.specs.Matching.{HasMet, AreExpanded}
 use Rattle.idl_compat.proofs.Matched.{met_true, met_false}
 use Rattle.idl_compat.proofs.Operating as operating

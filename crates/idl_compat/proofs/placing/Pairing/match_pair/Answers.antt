@@ -1,6 +1,6 @@
 use Rattle.std.proofs.Common.{rules, ◌≡◌, [], ◌++◌, List, Some, None, true, false}
 use Rattle.nd_types.specs.Table.{type_at}
-use Rattle.idl_compat.specs.Alike.{IsPair, AlikeTypes}
+use Rattle.idl_compat.specs.Comparison.{IsPair, AlikeTypes}
 use Rattle.idl_compat.specs.Asking.{Asks}
 use Rattle.idl_compat.proofs.AskingLaws.{from_none_true, from_none_false}
 use Rattle.idl_compat.proofs.Expanding.{no_old, no_new, pair_refused, pair_met}

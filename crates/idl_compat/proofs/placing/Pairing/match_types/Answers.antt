@@ -1,7 +1,7 @@
 use Rattle.std.proofs.Common.{rules, arith, ◌≡◌, ◌≤◌, ◌<◌, length, Some, None, true, false, List}
 use Rattle.std.specs.Prelude.{slice_get}
 use Rattle.nd_types.specs.Table.{type_at}
-use Rattle.idl_compat.specs.Alike.{IsPair, AlikeTypes}
+use Rattle.idl_compat.specs.Comparison.{IsPair, AlikeTypes}
 use Rattle.idl_compat.proofs.Matched.{met_true, met_false}
 use Rattle.idl_compat.proofs.Expanding.{start, turn, stop, over, few_pairs, past}
 use Rattle.idl_compat.proofs.placing.Pairing.match_types.Goals as goal

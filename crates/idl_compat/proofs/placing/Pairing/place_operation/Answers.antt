@@ -1,5 +1,5 @@
 use Rattle.std.proofs.Common.{rules, ◌≡◌, [], ◌++◌, List, Some, None, true, false}
-use Rattle.idl_compat.specs.Alike.{IsPair, AlikeFound}
+use Rattle.idl_compat.specs.Comparison.{IsPair, AlikeFound}
 use Rattle.idl_compat.specs.Asking.{Asks}
 use Rattle.idl_compat.proofs.AskingLaws.{from_none_true, from_none_false}
 use Rattle.idl_compat.proofs.Matched.{never_met, asked_met}

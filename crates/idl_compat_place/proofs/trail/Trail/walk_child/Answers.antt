@@ -1,7 +1,7 @@
 use Rattle.std.proofs.Common.{rules, arith, ◌≡◌, ◌≤◌, ◌<◌, length, None, Some}
 use Rattle.std.proofs.lemmas.Option.{slice_get_within}
-use Rattle.idl_compat.specs.Alike.{IsPair}
-use Rattle.idl_compat_place.specs.Places.{child}
+use Rattle.idl_compat.specs.Comparison.{IsPair}
+use Rattle.idl_compat_place.specs.Differences.{child}
 use Rattle.idl_compat_place.specs.Trails.{IsChildPaired}
 use Rattle.idl_compat_place.proofs.Walked.{stays, no_old_child, no_new_child, child_paired, child_origin, walked_as}
 use Rattle.idl_compat_place.proofs.trail.Trail.walk_child.Goals as goal

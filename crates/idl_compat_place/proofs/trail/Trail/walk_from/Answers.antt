@@ -1,5 +1,5 @@
 use Rattle.std.proofs.Common.{rules, arith, ◌≡◌, length, None}
-use Rattle.idl_compat.specs.Alike.{IsPair, AllAlike}
+use Rattle.idl_compat.specs.Comparison.{IsPair, AllAlike}
 use Rattle.idl_compat_place.proofs.Walked.{part_types, expanded_from, walked_none, walked_some}
 use Rattle.idl_compat_place.proofs.trail.Trail.walk_from.Goals as goal
 

@@ -1,6 +1,6 @@
 use Rattle.std.proofs.Common.{rules, ◌≡◌, None, Some}
 use Rattle.nd_types.specs.Table.{type_at}
-use Rattle.idl_compat.specs.Alike.{IsPair}
+use Rattle.idl_compat.specs.Comparison.{IsPair}
 use Rattle.idl_compat.proofs.Expanding.{no_old, no_new}
 use Rattle.idl_compat_place.proofs.Walked.{forms_unlike, pair_alike}
 use Rattle.idl_compat_place.proofs.trail.Trail.walk_pair.Goals as goal

@@ -1,7 +1,7 @@
 use Rattle.std.proofs.Common.{rules, arith, ◌≡◌, ◌≤◌, length, None, Some}
 use Rattle.std.specs.Prelude.{slice_get}
 use Rattle.nd_types.specs.Table.{type_at}
-use Rattle.idl_compat.specs.Alike.{IsPair, AlikeTypes}
+use Rattle.idl_compat.specs.Comparison.{IsPair, AlikeTypes}
 use Rattle.idl_compat.proofs.Expanding.{past}
 use Rattle.idl_compat_place.proofs.Walked.{types_start, types_turn, types_over, few_pairs, walked_none, walked_some}
 use Rattle.idl_compat_place.proofs.trail.Trail.walk_types.Goals as goal

@@ -1,6 +1,6 @@
 use Rattle.std.proofs.Common.{◌≡◌, ◌∙◌, refl, sym, ap, subst, get_or, string_bytes, map}
 use Rattle.idl_names.specs.declared.sources.File.{File}
-use Rattle.idl_names.specs.Sources.{source, and_source}
+use Rattle.idl_names.specs.Walk.{source, and_source}
 use Rattle.idl_names.proofs.Loads.{last_filled}
 use Rattle.idl_names.proofs.sources.Sources.fill.Goals as goal
 

@@ -1,7 +1,7 @@
 use Rattle.std.proofs.Common.{◌≡◌, ◌∙◌, sym, ap, string_bytes, position}
 use Rattle.std.specs.Str.{bytes_eq}
 use Rattle.idl_names.specs.declared.sources.File.{File}
-use Rattle.idl_names.specs.Sources.{source, file_number}
+use Rattle.idl_names.specs.Walk.{source, file_number}
 use Rattle.idl_names.proofs.Spelled.{position_of}
 use Rattle.idl_names.proofs.sources.Sources.number.Goals as goal
 

@@ -1,7 +1,7 @@
 use Rattle.std.proofs.Common.{◌≡◌, ◌+◌, ℕ, true, length, List, None, sym, ap, subst, ◌∙◌, arith}
 use Rattle.nd_base.specs.declared.octets.Place.{Place}
 use Rattle.idl_scope.specs.Small.{are_small}
-use Rattle.idl_scope.specs.Tables.{found}
+use Rattle.idl_scope.specs.Known.{found}
 use Rattle.idl_scope.proofs.Small.{all_more, put_length}
 use Rattle.idl_scope.proofs.known.NameTables.declare.Goals as goal
 

@@ -1,9 +1,8 @@
 use Rattle.std.proofs.Common.{◌≡◌, ◌+◌, ℕ, true, length, List, None, sym, ap, subst, ◌∙◌, arith}
 use Rattle.nd_base.specs.declared.octets.Place.{Place}
 use Rattle.idl_scope.specs.declared.meaning.Meaning.{Meaning}
-use Rattle.idl_scope.specs.Known.{Known}
+use Rattle.idl_scope.specs.Known.{Known, found}
 use Rattle.idl_scope.specs.Small.{is_small, are_small}
-use Rattle.idl_scope.specs.Tables.{found}
 use Rattle.idl_scope.proofs.Small.{all_more, put_small, put_length}
 use Rattle.idl_scope.proofs.known.NameTables.declare_next.Goals as goal
 

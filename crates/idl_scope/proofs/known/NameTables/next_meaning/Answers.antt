@@ -2,9 +2,8 @@ use Rattle.std.proofs.Common.{◌≡◌, ◌≤◌, ◌^◌, ◌+◌, ℤ, pos, 
 use mir.Val.{SFits}
 use mir.Syntax.{w128}
 use Rattle.idl_scope.specs.declared.meaning.Meaning.TheVariants as meaning
-use Rattle.idl_scope.specs.Known.{Known, next_meaning, next_of}
+use Rattle.idl_scope.specs.Known.{Known, next_meaning, next_of, found}
 use Rattle.idl_scope.specs.Small.{is_below}
-use Rattle.idl_scope.specs.Tables.{found}
 use Rattle.idl_scope.proofs.Small.{found_below, next_below, sum_fits, sum_is}
 use Rattle.idl_scope.proofs.known.NameTables.next_meaning.Goals as goal
 

@@ -1,5 +1,5 @@
 use Rattle.std.proofs.Common.{◌∙◌, ap}
-use Rattle.idl_scope.specs.Tables.{found}
+use Rattle.idl_scope.specs.Known.{found}
 use Rattle.idl_scope.proofs.Tables.{found_is}
 use Rattle.idl_scope.proofs.table.Table.get.Goals as goal
 

@@ -1,5 +1,5 @@
 use Rattle.std.proofs.Common.{◌∙◌, ap, refl}
-use Rattle.idl_scope.specs.Tables.{put, table}
+use Rattle.idl_scope.specs.Known.{put, table}
 use Rattle.idl_scope.proofs.Tables.{put_is}
 use Rattle.idl_scope.proofs.table.Table.insert.Goals as goal
 use Rattle.idl_scope.proofs.table.Table.insert.Goals.{in-Ok, in-Err}

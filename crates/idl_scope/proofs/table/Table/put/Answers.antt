@@ -1,5 +1,5 @@
 use Rattle.std.proofs.Common.{◌≡◌}
-use Rattle.idl_scope.specs.Tables.{put}
+use Rattle.idl_scope.specs.Known.{put}
 use Rattle.idl_scope.proofs.Tables.{where_put}
 use Rattle.idl_scope.proofs.table.Table.put.Goals as goal
 

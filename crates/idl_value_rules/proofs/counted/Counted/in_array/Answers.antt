@@ -1,6 +1,6 @@
 use Rattle.std.proofs.Common.{rules, ◌≡◌, ◌||◌, ◌&&◌, not, true, refl}
 use Rattle.std.specs.Prelude.{is_none}
-use Rattle.idl_rule_definitions.specs.ArrayRules.{is_right_count}
+use Rattle.idl_rule_definitions.specs.TypeRules.{is_right_count}
 use Rattle.idl_value_rules.proofs.CountedTypes.{array_counted}
 use Rattle.idl_value_rules.proofs.counted.Counted.in_array.Goals as goal
 

@@ -11,11 +11,11 @@ invariant_of-self-2 c =
     let e = c.as_slice-to.ensures.value in
     let er : c.close.new.roots.items ≡ closed_roots s.home (last_span s.nodes.items s.from) (s.roots.items ++ no_span ∷ []) =
     c.close.ensures.roots ∙ ap (λ zs. closed_roots s.home (last_span zs s.from) c.push.new.self.items) e
-    ∙ ap (closed_roots s.home (last_span s.nodes.items s.from)) c.in-Ok.ensures.items in
+    ∙ ap (closed_roots s.home (last_span s.nodes.items s.from)) c.in-Ok.ensures.ok in
     let ec : c.close.new.cells.items ≡ closed_cells s.home (last_span s.nodes.items s.from) s.cells.items =
     c.close.ensures.cells ∙ ap (λ zs. closed_cells s.home (last_span zs s.from) s.cells.items) e in
     root_built_as s.octets s.nodes.items s.from s.roots.items s.cells.items s.home s.op s.side s.tie s.given c.self.invariant
-    c.as_slice-to.result.now c.as_slice-next.result.now c.close.new.roots.items c.close.new.cells.items e c.as_slice-next.ensures.value er ec
+    c.as_slice-to.result.now c.as_slice-next.result.now c.close.new.roots.items c.close.new.cells.items e c.as_slice-next.ensures er ec
     (subst CanClose (sym c.self.view_is) c.requires)
 
 pub returns-clause-ok : goal.returns-clause-ok
@@ -24,9 +24,9 @@ returns-clause-ok c =
     let e = c.as_slice-to.ensures.value in
     let er : c.close.new.roots.items ≡ closed_roots s.home (last_span s.nodes.items s.from) (s.roots.items ++ no_span ∷ []) =
     c.close.ensures.roots ∙ ap (λ zs. closed_roots s.home (last_span zs s.from) c.push.new.self.items) e
-    ∙ ap (closed_roots s.home (last_span s.nodes.items s.from)) c.in-Ok.ensures.items in
+    ∙ ap (closed_roots s.home (last_span s.nodes.items s.from)) c.in-Ok.ensures.ok in
     let ec : c.close.new.cells.items ≡ closed_cells s.home (last_span s.nodes.items s.from) s.cells.items =
     c.close.ensures.cells ∙ ap (λ zs. closed_cells s.home (last_span zs s.from) s.cells.items) e in
     root_seen_as s.octets s.nodes.items s.from s.roots.items s.cells.items s.home s.op s.side s.tie s.given c.self.invariant
-    c.as_slice-to.result.now c.as_slice-next.result.now c.close.new.roots.items c.close.new.cells.items e c.as_slice-next.ensures.value er ec
+    c.as_slice-to.result.now c.as_slice-next.result.now c.close.new.roots.items c.close.new.cells.items e c.as_slice-next.ensures er ec
     ∙ ap (λ (b : Building). opened (home.Root (length b.graph.roots)) (with_root (closed b)) b) c.self.view_is

@@ -15,7 +15,7 @@ over-requires c =
     let there : HasSpan s.roots.items s.cells.items c.args.home =
     has_span s.octets s.nodes.items s.roots.items s.cells.items c.args.home (subst (λ (g : Graph). HasHome g c.args.home) (sym c.self.view_is) c.requires) in
     let e = part_is s.nodes.items s.roots.items s.cells.items c.args.home c.as_slice-nodes.result.now c.as_slice.result.now c.as_slice-2.result.now c.span_of-span.result
-    c.as_slice-nodes.ensures.value c.as_slice.ensures.value c.as_slice-2.ensures.value c.span_of-span.ensures in
+    c.as_slice-nodes.ensures.value c.as_slice.ensures c.as_slice-2.ensures.value c.span_of-span.ensures in
     subst (λ (os : List ℕ). WalkParts os no_row no_records
     (take (c.span_of-span.result.from + c.span_of-span.result.len - c.span_of-span.result.from) (drop c.span_of-span.result.from c.as_slice-nodes.result.now))) (sym c.as_slice-3.ensures)
     (subst (λ (ns : List Node). WalkParts s.octets no_row no_records ns) (sym e) (walk_parts s.octets s.nodes.items s.roots.items s.cells.items c.args.home c.self.invariant there))
@@ -26,7 +26,7 @@ returns c =
     let there : HasSpan s.roots.items s.cells.items c.args.home =
     has_span s.octets s.nodes.items s.roots.items s.cells.items c.args.home (subst (λ (g : Graph). HasHome g c.args.home) (sym c.self.view_is) c.requires) in
     let e = part_is s.nodes.items s.roots.items s.cells.items c.args.home c.as_slice-nodes.result.now c.as_slice.result.now c.as_slice-2.result.now c.span_of-span.result
-    c.as_slice-nodes.ensures.value c.as_slice.ensures.value c.as_slice-2.ensures.value c.span_of-span.ensures in
+    c.as_slice-nodes.ensures.value c.as_slice.ensures c.as_slice-2.ensures.value c.span_of-span.ensures in
     c.over.ensures
     ∙ ap₂ (λ (os : List ℕ) (ns : List Node). unflat (flats os ns)) c.as_slice-3.ensures e
     ∙ walk_seen s.octets s.nodes.items s.roots.items s.cells.items c.args.home c.self.invariant there

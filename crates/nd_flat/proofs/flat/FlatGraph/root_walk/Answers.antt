@@ -17,7 +17,7 @@ over-requires c =
     let there : HasSpan s.roots.items s.cells.items h =
     has_span s.octets s.nodes.items s.roots.items s.cells.items h (subst (λ (g : Graph). c.args.at < length g.roots) (sym c.self.view_is) c.requires) in
     let e = part_is s.nodes.items s.roots.items s.cells.items h c.as_slice-nodes.result.now c.as_slice.result.now s.cells.items c.root_span-span.result
-    c.as_slice-nodes.ensures.value c.as_slice.ensures.value refl c.root_span-span.ensures in
+    c.as_slice-nodes.ensures.value c.as_slice.ensures refl c.root_span-span.ensures in
     subst (λ (os : List ℕ). WalkParts os no_row no_records
     (take (c.root_span-span.result.from + c.root_span-span.result.len - c.root_span-span.result.from) (drop c.root_span-span.result.from c.as_slice-nodes.result.now))) (sym c.as_slice-2.ensures)
     (subst (λ (ns : List Node). WalkParts s.octets no_row no_records ns) (sym e) (walk_parts s.octets s.nodes.items s.roots.items s.cells.items h c.self.invariant there))
@@ -29,7 +29,7 @@ returns c =
     let there : HasSpan s.roots.items s.cells.items h =
     has_span s.octets s.nodes.items s.roots.items s.cells.items h (subst (λ (g : Graph). c.args.at < length g.roots) (sym c.self.view_is) c.requires) in
     let e = part_is s.nodes.items s.roots.items s.cells.items h c.as_slice-nodes.result.now c.as_slice.result.now s.cells.items c.root_span-span.result
-    c.as_slice-nodes.ensures.value c.as_slice.ensures.value refl c.root_span-span.ensures in
+    c.as_slice-nodes.ensures.value c.as_slice.ensures refl c.root_span-span.ensures in
     c.over.ensures
     ∙ ap₂ (λ (os : List ℕ) (ns : List Node). unflat (flats os ns)) c.as_slice-2.ensures e
     ∙ walk_seen s.octets s.nodes.items s.roots.items s.cells.items h c.self.invariant there

@@ -1,7 +1,7 @@
 use Rattle.std.proofs.Common.{◌≡◌, ◌∙◌, ap, get_or, ◌++◌}
 use Rattle.std.specs.Prelude.{true, false}
 use Rattle.std.proofs.lemmas.Option.{get_or_from_slice_get}
-use Rattle.nd_types.specs.Walk.{params_left, result_left}
+use Rattle.nd_types.specs.Roots.{params_left, result_left}
 use Rattle.nd_types.proofs.WalkLaws.{named_roots-is}
 use Rattle.nd_types.proofs.interface.Interface.params.Goals as goal
 

@@ -1,5 +1,5 @@
 use Rattle.std.proofs.Common.{◌≡◌, ◌∙◌, ◌<◌, length, get_or}
-use Rattle.nd_types.specs.Walk.{root_value}
+use Rattle.nd_types.specs.Roots.{root_value}
 use Rattle.nd_types.proofs.WalkLaws.{params_left-found}
 use Rattle.nd_types.proofs.walk.SideRoots.next_param.Goals as goal
 

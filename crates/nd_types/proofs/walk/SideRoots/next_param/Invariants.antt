@@ -1,5 +1,5 @@
 use Rattle.std.proofs.Common.{◌≡◌}
-use Rattle.nd_types.specs.Walk.{params_left}
+use Rattle.nd_types.specs.Roots.{params_left}
 use Rattle.nd_types.proofs.walk.SideRoots.next_param.Given as goal
 
 abbrev pub invariant-loop-at : goal.invariant-loop-at

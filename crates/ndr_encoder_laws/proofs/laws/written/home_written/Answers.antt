@@ -1,6 +1,6 @@
 use Rattle.std.proofs.Common.{sym, ◌∙◌}
 use Rattle.nd_value.specs.Tree.{none, more, node}
-use Rattle.nd_grammar.specs.InPlace.{hoisted_max}
+use Rattle.nd_grammar.specs.Entry.{hoisted_max}
 use Rattle.ndr_encoder_laws.proofs.pieces.Showing.{shown_whole}
 use Rattle.ndr_encoder_laws.proofs.written.Runs as runs
 use Rattle.ndr_encoder_laws.proofs.laws.written.home_written.Goals as goal

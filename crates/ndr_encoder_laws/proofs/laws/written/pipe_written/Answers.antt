@@ -1,7 +1,7 @@
 use Rattle.std.proofs.Common.{ap, sym, ◌∙◌}
 use Rattle.nd_value.specs.Tree as tree
 use Rattle.nd_value.specs.Tree.{node, count}
-use Rattle.nd_grammar.specs.Chosen.{cut_of}
+use Rattle.nd_grammar.specs.Stream.{cut_of}
 use Rattle.ndr_encoder_laws.specs.pieces.Shown.{pipe_pieces}
 use Rattle.ndr_encoder_laws.proofs.written.Pipes as pipes
 use Rattle.ndr_encoder_laws.proofs.laws.written.pipe_written.Goals as goal

@@ -1,5 +1,5 @@
 use Rattle.std.proofs.Common.{refl}
-use Rattle.ndr_pipe.specs.Seen.{ends_seen}
+use Rattle.ndr_pipe.specs.Ends.{ends_seen}
 use Rattle.ndr_pipe.proofs.OneEnd.{flushes_at, open_within}
 use Rattle.ndr_pipe.proofs.ends.Ends.flush.Goals as goal
 

@@ -1,5 +1,5 @@
 use Rattle.std.proofs.Common.{map}
-use Rattle.nd_types.specs.Walk.{root_value}
+use Rattle.nd_types.specs.Roots.{root_value}
 use Rattle.ndr_plan.specs.Parts.{HasRuns, pipe_run, pipe_line}
 use Rattle.ndr_plan.proofs.side_code.Parts.push_pipes.Given as goal
 

@@ -2,7 +2,7 @@ use Rattle.std.proofs.Common.{◌∙◌, sym, subst, [], ◌∷◌, map}
 use Rattle.std.proofs.lemmas.List.{map-append}
 use Rattle.std.proofs.lemmas.Option.{slice_get_within}
 use Rattle.std.proofs.lemmas.Iterator.Consumers.{YieldsList-from_first, YieldsList-end}
-use Rattle.nd_types.specs.Walk.{root_value, named_roots}
+use Rattle.nd_types.specs.Roots.{root_value, named_roots}
 use Rattle.ndr_plan.specs.Parts.{HasRuns, value_run, value_line}
 use Rattle.ndr_plan.proofs.Walked.{runs_none, runs_more}
 use Rattle.ndr_plan.proofs.side_code.Parts.push_roots.Goals as goal
